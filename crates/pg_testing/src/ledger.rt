@@ -1,0 +1,61 @@
+//! Which calls fail, and how many came.
+
+ghost use Rattle.std.specs.Prelude.{◌≡◌, ◌+◌, ◌-◌, ◌^◌, ◌||◌, min};
+ghost use Rattle.pg_testing.specs.Ledger.{fails_next, before_calls, after_call};
+
+/// Which calls fail. Calls are numbered from 0.
+#[derive(Debug, Clone, Copy, PartialEq, Eq)]
+pub enum Rule {
+    /// No call fails.
+    Never,
+    /// The call of this number fails, and each later one.
+    FromOn(u64),
+    /// The call of this number fails, and no other.
+    Only(u64),
+}
+
+/// A rule, and what is known of the calls that came.
+#[derive(Debug, Clone, Copy, PartialEq, Eq)]
+pub struct Ledger {
+    /// Which calls fail.
+    pub rule: Rule,
+    /// How many calls came. The count stops at `u64::MAX`.
+    pub calls: u64,
+    /// Whether one of them failed.
+    pub has_failed: bool,
+}
+
+impl Ledger {
+    /// The ledger before the first call.
+    pub fn new(rule: Rule) -> Ledger
+        ensures { result ≡ before_calls rule }
+    {
+        Ledger {
+            rule,
+            calls: 0,
+            has_failed: false,
+        }
+    }
+
+    /// Whether the next call fails.
+    pub fn fails_next(self) -> bool
+        ensures { result ≡ fails_next self }
+    {
+        match self.rule {
+            Rule::Never => false,
+            Rule::FromOn(first) => self.calls >= first,
+            Rule::Only(one) => self.calls == one,
+        }
+    }
+
+    /// The ledger once one more call came.
+    pub fn after_call(self) -> Ledger
+        ensures { result ≡ after_call self }
+    {
+        Ledger {
+            rule: self.rule,
+            calls: self.calls.saturating_add(1),
+            has_failed: self.has_failed || self.fails_next(),
+        }
+    }
+}

@@ -1,0 +1,83 @@
+//! An allocator that refuses requests for memory by a rule.
+
+use crate::ledger::{Ledger, Rule};
+use std::alloc::{AllocError, Allocator};
+use std::cell::Cell;
+
+/// An allocator over another one, which refuses requests for memory by a rule.
+///
+/// A request is one call of `allocate`. A `Vec` or a `String` makes one each time that it grows,
+/// and none where it has room; a `Box` makes one. Giving memory back is no request. Requests are
+/// numbered from 0.
+///
+/// It is lent: a `&Refusing` is itself an allocator and `Copy`, as in `String::new(&memory)`. All
+/// that is made with one `&memory` is counted together.
+///
+/// To refuse each request in turn, run the same work with `k` = 0, 1, 2 and so on, until
+/// [`has_refused`](Refusing::has_refused) answers `false` after it: then no request came as late
+/// as that, and each was refused once.
+pub struct Refusing<B: Allocator> {
+    inner: B,
+    ledger: Cell<Ledger>,
+}
+
+impl<B: Allocator> Refusing<B> {
+    /// Refuses every request from the `k`-th on: at 0 all of them.
+    pub fn from_on(inner: B, k: u64) -> Refusing<B> {
+        Refusing::by_rule(inner, Rule::FromOn(k))
+    }
+
+    /// Refuses the `k`-th request alone: the ones before it and after it are passed on.
+    pub fn only(inner: B, k: u64) -> Refusing<B> {
+        Refusing::by_rule(inner, Rule::Only(k))
+    }
+
+    fn by_rule(inner: B, rule: Rule) -> Refusing<B> {
+        Refusing {
+            inner,
+            ledger: Cell::new(Ledger::new(rule)),
+        }
+    }
+
+    /// How many requests came so far, refused ones among them. The count stops at `u64::MAX`.
+    pub fn requests(&self) -> u64 {
+        self.ledger.get().calls
+    }
+
+    /// Whether a request was refused so far.
+    pub fn has_refused(&self) -> bool {
+        self.ledger.get().has_failed
+    }
+}
+
+impl<B: Allocator> Drop for Refusing<B> {
+    fn drop(self) {
+        let Self {
+            inner: _,
+            ledger: _,
+        } = self;
+    }
+}
+
+// Counts a request, and says whether it is granted. No contract can say what a cell holds, so what
+// the rule means is said at `Ledger`.
+fn granted(ledger: &Cell<Ledger>) -> bool {
+    let before = ledger.get();
+    ledger.set(before.after_call());
+    !before.fails_next()
+}
+
+unsafe impl<B: Allocator> Allocator for Refusing<B> {
+    ghost dealloc_token = { λ heap ty ptr. B.dealloc_token heap.inner ty ptr };
+
+    fn allocate(&self, size: usize, align: usize) -> Result<*mut u8, AllocError> {
+        if granted(&self.ledger) {
+            return self.inner.allocate(size, align);
+        }
+        Err(AllocError)
+    }
+
+    unsafe fn deallocate(&self, ptr: *mut u8, size: usize, align: usize) {
+        self.inner.deallocate(ptr, size, align);
+    }
+}
