@@ -1,0 +1,11 @@
+-- Lemmas of this crate.
+pub mod PlacesOrder
+pub mod PlacesLookups
+pub mod PlacesInColor
+pub mod TextLines
+pub mod TextWidths
+pub mod LineNumbers
+pub mod Rows
+pub mod Given
+pub mod Computing
+mod RowsText

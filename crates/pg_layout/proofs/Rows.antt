@@ -1,0 +1,81 @@
+-- Rows in memory: what reads them gives their texts, and rows of one length.
+use Rattle.std.proofs.Common.{ℕ, zero, suc, ◌+◌, ◌<◌, ◌≤◌, nat_lt, Bool, true, false, not, ◌==◌, cond, length, map, get_or, slice_get, All, arith, ◌≡◌, List, [], ◌∷◌, Option, Some, None, refl, sym, ap, ◌∙◌, subst}
+use Rattle.std.specs.List.{position, position_or_len}
+use Rattle.std.proofs.lemmas.List.{length-map, get_or-map}
+use Rattle.std.proofs.lemmas.List.Elements.{All-map}
+use Rattle.std.proofs.lemmas.List.Sums.{prefix_len_passes}
+use Rattle.std.proofs.lemmas.Bool.{ltb-false, eqb-true}
+use Rattle.std.specs.Iterator.{YieldsFirstBy}
+use Rattle.pg_layout.specs.Records.{AlwaysGives, columns_of, ragged_row, text_at}
+use Rattle.pg_layout.specs.Text.{Text}
+use Rattle.pg_layout.specs.declared.position.Position.{Position}
+
+module _ {S A B : Type 0} (P : A → B → Type 0) (view : A → B) (rest : S → List B) (stands : (x : A) → P x (view x)) where
+  -- an iterator whose state shows its list gives that list
+  pub yields-all : (s : S) (ys : List B) → rest s ≡ ys → AlwaysGives P (YieldsFirstBy view rest) s ys
+  yields-all s [] e = λ x j step. let clash : view x ∷ rest j ≡ [] = sym step ∙ e in cc
+  yields-all s (y ∷ ys) e = (
+    λ j step. let clash : [] ≡ y ∷ ys = sym step.0 ∙ e in cc,
+    λ x j step.
+        let same : view x ∷ rest j ≡ y ∷ ys = sym step ∙ e in
+        let first : view x ≡ y = cc in
+        let others : rest j ≡ ys = cc in
+        (subst (λ (z : B). P x z) first (stands x), yields-all j ys others),
+  )
+
+-- the length of the first row, seen through a map
+pub columns-first : {X Y : Type 0} (f : X → List Y) (rows : List X) (row : X) → slice_get rows 0 ≡ Some row → columns_of (map f rows) ≡ length (f row)
+columns-first f [] row first = cc
+columns-first f (x ∷ xs) row first = let same : x ≡ row = cc in ap (λ z. length (f z)) same
+
+pub columns-none : {X Y : Type 0} (f : X → List Y) (rows : List X) → slice_get rows 0 ≡ None → columns_of (map f rows) ≡ 0
+columns-none f [] first = refl
+columns-none f (x ∷ xs) first = cc
+
+-- how many items stand before the first that passes, seen through a map
+pub position_or_len-map : {X Y : Type 0} (f : X → Y) (p : Y → Bool) (xs : List X) → position_or_len p (map f xs) ≡ position_or_len (λ x. p (f x)) xs
+position_or_len-map f p [] = refl
+position_or_len-map f p (x ∷ xs) = ap (λ n. cond (not (p (f x))) (1 + n) 0) (position_or_len-map f p xs)
+
+pub position-map : {X Y : Type 0} (f : X → Y) (p : Y → Bool) (xs : List X) → position p (map f xs) ≡ position (λ x. p (f x)) xs
+position-map f p xs = λ i. cond (nat_lt (position_or_len-map f p xs i) (length-map xs f i)) (Some (position_or_len-map f p xs i)) None
+
+chosen : {X : Type 0} (b : Bool) (x : X) → cond b (Some x) None ≡ None → b ≡ false
+chosen true x e = cc
+chosen false x e = refl
+
+equal-from : (b : Bool) → not (not b) ≡ true → b ≡ true
+equal-from true e = refl
+equal-from false e = e
+
+-- rows with no ragged one are all as long as the first
+pub even-rows : {X : Type 0} (rows : List (List X)) → ragged_row rows ≡ None → All (λ row. length row ≡ columns_of rows) rows
+even-rows rows none k d h =
+    let p : List _ → Bool = λ row. not (length row == columns_of rows) in
+    let far : length rows ≤ position_or_len p rows = ltb-false (position_or_len p rows) (length rows) (chosen (nat_lt (position_or_len p rows) (length rows)) (position_or_len p rows) none) in
+    eqb-true (length (get_or rows k d)) (columns_of rows) (equal-from (length (get_or rows k d) == columns_of rows) (prefix_len_passes (λ row. not (p row)) rows k d (omega (arith, h, far))))
+
+-- the same, of what each cell shows
+pub even-texts : {X Y : Type 0} (f : X → Y) (rows : List (List X)) → ragged_row rows ≡ None → All (λ row. length row ≡ columns_of rows) (map (λ row. map f row) rows)
+even-texts f rows none = All-map (λ row. length row ≡ columns_of rows) (λ row. map f row) rows (λ k d h. length-map (get_or rows k d) f ∙ even-rows rows none k d h)
+
+-- a row that was read, where each row is seen through a map
+pub row-at : {X Y : Type 0} (f : X → List Y) (rows : List X) (seen : List (List Y)) (i : ℕ) (row : X) → map f rows ≡ seen → i < length seen → row ≡ get_or rows i row → f row ≡ get_or seen i []
+row-at f rows seen i row e h is =
+    ap f is ∙ sym (get_or-map f rows i row [] (omega (arith, h, ap length e, length-map rows f))) ∙ ap (λ z. get_or z i []) e
+
+-- a row that was read at a place in rows of one length has the place's column
+pub row-with : {X Y Z : Type 0} (f : X → List Y) (rows : List X) (seen : List (List Y)) (shown : List Y → Z) (p : Position) (row : X)
+    → map f rows ≡ seen → ragged_row (map f rows) ≡ None → p.row < length (map shown seen) → p.col < columns_of seen → row ≡ get_or rows p.row row
+    → (f row ≡ get_or seen p.row []) × (p.row < length seen) × (p.col < length (f row))
+row-with f rows seen shown p row e none inside column is =
+    let even : ragged_row seen ≡ None = sym (ap ragged_row e) ∙ none in
+    let within : p.row < length seen = omega (arith, inside, length-map seen shown) in
+    let same : f row ≡ get_or seen p.row [] = row-at f rows seen p.row row e within is in
+    (same, within, omega (arith, column, even-rows seen even p.row [] within, ap length same))
+
+-- the text of a cell that was read
+pub cell-at : {X : Type 0} (f : X → Text) (rows : List (List X)) (p : Position) (row : List X) (cell : X) → row ≡ get_or rows p.row [] → p.row < length rows → p.col < length row → cell ≡ get_or row p.col cell → f cell ≡ text_at (map (λ row. map f row) rows) p
+cell-at f rows p row cell e h k is =
+    ap f is ∙ sym (get_or-map f row p.col cell [] k) ∙ ap (λ z. get_or (map f z) p.col []) e
+    ∙ sym (ap (λ z. get_or z p.col []) (get_or-map (λ row. map f row) rows p.row [] [] h))

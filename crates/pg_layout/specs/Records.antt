@@ -1,0 +1,50 @@
+-- What records stand for: a list of rows, each a list of texts; and what the iterators give that read them.
+use Rattle.std.specs.Prelude.{◌≡◌, ℕ, ◌==◌, not, List, [], ◌∷◌, length, All, IfSome, position, slice_index_or, Option, Some, None}
+use Rattle.std.specs.Iterator.{Count, IsFinite}
+use Rattle.pg_layout.specs.Text.{Text}
+use Rattle.pg_layout.specs.declared.position.Position.{Position}
+
+-- rows of texts
+abbrev pub Table : Type 0
+Table = List (List Text)
+
+-- calls from s give items that stand for ys, one by one, and then `None`
+abbrev pub AlwaysGives : {S A B : Type 0} → (A → B → Type 0) → (S → Option A → S → Type 0) → S → List B → Type 0
+AlwaysGives P steps s [] = (x : _) (j : _) → ¬ (steps s (Some x) j)
+AlwaysGives P steps s (y ∷ ys) = ((j : _) → ¬ (steps s None j)) × ((x : _) (j : _) → steps s (Some x) j → P x y × AlwaysGives P steps j ys)
+
+-- an iterator that may be run to its end, and gives items that stand for ys
+pub record Gives {S A B : Type 0} (P : A → B → Type 0) (can : S → Type 0) (steps : S → Option A → S → Type 0) (left : S → Count) (s : S) (ys : List B) : Type 0 where
+  pub can_next : can s
+  pub ends : IsFinite (left s)
+  pub gives : AlwaysGives P steps s ys
+
+-- whatever x becomes stands for y
+abbrev pub Becomes : {U S B : Type 0} → (U → S → Type 0) → (S → B → Type 0) → U → B → Type 0
+Becomes {S} becomes P x y = (s : S) → becomes x s → P s y
+
+-- the iterator of rows that records hold, the texts that the rows stand for, how many cells each row has, and how many rows where that is known
+pub record Given (I : Type 0) : Type 0 where
+  pub iter : I
+  pub texts : Table
+  pub columns : ℕ
+  pub hint : Option ℕ
+
+-- what holds of records that an iterator gives: it gives rows that stand for the texts, each row has as many cells as there are columns, and the hint is the number of rows
+pub record IsGiven {I : Type 0} (stands : I → Table → Type 0) (r : Given I) : Type 0 where
+  pub rows : stands r.iter r.texts
+  pub even : All (λ row. length row ≡ r.columns) r.texts
+  pub exact : IfSome r.hint (λ rows. rows ≡ length r.texts)
+
+-- the text at a place, and none outside the table
+abbrev pub text_at : Table → Position → Text
+text_at texts p = slice_index_or (slice_index_or texts p.row []) p.col []
+
+-- how many cells the first row has
+abbrev pub columns_of : {X : Type 0} → List (List X) → ℕ
+columns_of [] = 0
+columns_of (row ∷ rows) = length row
+
+-- the first row whose length differs from that of the first
+abbrev pub ragged_row : {X : Type 0} → List (List X) → Option ℕ
+ragged_row rows = position (λ row. not (length row == columns_of rows)) rows

@@ -1,0 +1,97 @@
+//! Colours that are set for places one by one.
+
+ghost use Rattle.std.specs.Prelude.{◌≡◌, ◌==◌, [], List, None, length, IsOk, IsSome, IsTrue, OnErr, OnOk};
+ghost use Rattle.pg_layout.specs.declared.position.Position.{Position};
+ghost use Rattle.pg_layout.specs.Colors.{Color};
+ghost use Rattle.pg_layout.specs.ColorsMap.{IsColored, color_at, place_key};
+ghost use Rattle.pg_layout.specs.Places.{Key, with_place};
+
+use crate::colors::{ANSIBuf, Colors};
+use crate::places::{Key, Places};
+use crate::position::Position;
+use std::alloc::{AllocError, Allocator, Global};
+use std::marker::Model;
+
+/// Colours that are set for places one by one: no place has one at first, and the latest colour of
+/// a place counts.
+#[derive(Debug, Drop)]
+pub struct ColorsMap<A: Allocator = Global> {
+    colors: Places<ANSIBuf<A>, A>,
+}
+
+impl<A: Allocator> Model for ColorsMap<A> {
+    ghost Value = { List (Key × Color) };
+
+    ghost view = { λ m. m.colors };
+}
+
+impl<A: Allocator> ColorsMap<A> {
+    /// No place has a colour. Takes no memory.
+    pub fn new(alloc: A) -> ColorsMap<A>
+        ensures { result ≡ [] }
+    {
+        ColorsMap {
+            colors: Places::new(alloc),
+        }
+    }
+
+    /// Gives the place this colour, in place of an old one.
+    ///
+    /// Asks for memory only where the place had no colour; where that is refused, nothing changes.
+    pub fn set(&mut self, pos: Position, color: ANSIBuf<A>) -> Result<(), AllocError>
+        ensures ok { OnOk result (self.new ≡ with_place (place_key pos) color self.old) }
+        ensures latest { OnOk result (IsColored pos color self.old self.new) }
+        ensures err { OnErr result (self.new ≡ self.old) }
+        ensures old_place { IsSome (color_at pos self.old) → IsOk result }
+    {
+        self.colors.set(place_key(pos), color)
+    }
+}
+
+impl<A: Allocator> Colors for ColorsMap<A> {
+    type Color = ANSIBuf<A>;
+
+    ghost color = { λ m pos. color_at pos m };
+
+    fn get_color(&self, pos: Position) -> Option<&ANSIBuf<A>> {
+        self.colors.get(place_key(pos))
+    }
+
+    /// Whether no colour was set.
+    fn is_empty(&self) -> bool
+        ensures nothing { result ≡ (length self.now == 0) }
+        ensures nowhere { IsTrue result → (pos : Position) → color_at pos self.now ≡ None }
+    {
+        self.colors.is_empty()
+    }
+}
+
+fn place_key(pos: Position) -> Key
+    ensures { result ≡ place_key pos }
+{
+    (pos.row, pos.col, 0)
+}
+
+#[cfg(test)]
+mod tests {
+    use super::*;
+    use crate::colors::ANSIFmt;
+    use std::test::Fail;
+
+    #[test]
+    fn the_latest_color_of_a_place_counts(rt: HostRuntime) -> Result<(), Fail> {
+        let mut colors = ColorsMap::new(rt.alloc());
+        assert!(rt; colors.is_empty());
+        for prefix in ["<red>", "<blue>"] {
+            colors.set(
+                Position::new(1, 2),
+                ANSIBuf::new(rt.alloc(), prefix, "</>")?,
+            )?;
+        }
+        assert!(rt; !colors.is_empty());
+        let color = colors.get_color(Position::new(1, 2));
+        assert_eq!(rt; color.map(|color| color.prefix()), Some("<blue>"));
+        assert!(rt; colors.get_color(Position::new(2, 1)).is_none());
+        Ok(())
+    }
+}

@@ -1,0 +1,61 @@
+//! The sizes of a table's columns and rows.
+
+ghost use Rattle.std.specs.Prelude.{◌≡◌, ℕ, slice_index_or};
+
+use std::alloc::{Allocator, Global};
+
+/// The widths of a table's columns and the heights of its rows.
+///
+/// Both answers depend on the value and the number alone.
+pub trait Dimension {
+    /// The width of each column, in terminal columns.
+    ghost width: { Self → ℕ → ℕ };
+
+    /// The height of each row, in lines.
+    ghost height: { Self → ℕ → ℕ };
+
+    /// The width of a column, in terminal columns.
+    fn get_width(&self, column: usize) -> usize
+        ensures { result ≡ width self.now column };
+
+    /// The height of a row, in lines.
+    fn get_height(&self, row: usize) -> usize
+        ensures { result ≡ height self.now row };
+}
+
+impl<D: Dimension> Dimension for &D {
+    ghost width = { λ d. D.width d.now };
+
+    ghost height = { λ d. D.height d.now };
+
+    fn get_width(&self, column: usize) -> usize {
+        (**self).get_width(column)
+    }
+
+    fn get_height(&self, row: usize) -> usize {
+        (**self).get_height(row)
+    }
+}
+
+/// The widths of the columns and the heights of the rows, and 0 past their ends.
+#[derive(Debug, Drop)]
+pub struct ConstantDimension<A: Allocator = Global>(
+    /// The widths of the columns, in terminal columns.
+    pub Vec<usize, A>,
+    /// The heights of the rows, in lines.
+    pub Vec<usize, A>,
+);
+
+impl<A: Allocator> Dimension for ConstantDimension<A> {
+    ghost width = { λ d column. slice_index_or d.0.items column 0 };
+
+    ghost height = { λ d row. slice_index_or d.1.items row 0 };
+
+    fn get_width(&self, column: usize) -> usize {
+        self.0.get(column).copied().unwrap_or(0)
+    }
+
+    fn get_height(&self, row: usize) -> usize {
+        self.1.get(row).copied().unwrap_or(0)
+    }
+}

@@ -1,0 +1,33 @@
+//! What tables are made of: texts and their lines, places, sides, borders, colours, sizes and records.
+#![tactic(auto)]
+
+mod alignment;
+mod borders;
+mod colors;
+mod colors_map;
+mod dimension;
+mod iter_records;
+mod line_cursor;
+mod places;
+mod position;
+mod records;
+mod sides;
+mod text;
+mod vec_records;
+
+pub use crate::alignment::{AlignmentHorizontal, AlignmentVertical, Formatting};
+pub use crate::borders::{Border, Borders, HorizontalLine};
+pub use crate::colors::{ANSIBuf, ANSIFmt, ANSIStr, Colors, NoColors, same_color};
+pub use crate::colors_map::ColorsMap;
+pub use crate::dimension::{ConstantDimension, Dimension};
+pub use crate::iter_records::{IterRecords, IterRows};
+pub use crate::line_cursor::LineCursor;
+pub use crate::places::{Key, Places, has_first, holds, put, put_some, value_at};
+pub use crate::position::{Entity, Position};
+pub use crate::records::{ExactRecords, PeekableRecords, Records};
+pub use crate::sides::{Indent, Offset, Sides};
+pub use crate::text::{
+    Lines, count_lines, first_line, get_line, get_line_width, get_lines, get_text_width, is_blank,
+    is_plain,
+};
+pub use crate::vec_records::{RecordsFault, VecColumns, VecRecords, VecRows};

@@ -1,0 +1,95 @@
+//! Rows of cells: what a table is read from.
+
+ghost use Rattle.std.specs.Prelude.{◌≡◌, ◌<◌, ℕ, [], length, slice_index_or, All, IfSome, Option, ⊤};
+ghost use Rattle.pg_layout.specs.Text.{lines_of, width_of, text_width_of};
+ghost use Rattle.pg_layout.specs.Records.{Table, Gives, text_at};
+
+use crate::position::Position;
+use std::convert::AsStr;
+
+/// Rows of cells that can be read once, from the first to the last.
+///
+/// They stand for a list of rows, each a list of as many texts as there are columns.
+pub trait Records {
+    /// A cell, which lends its text.
+    type Cell: AsStr + Drop;
+
+    /// The cells of a row, from the first to the last.
+    type Columns: Iterator<Item = Self::Cell>;
+
+    /// The rows, from the first to the last.
+    type Rows: Iterator<Item = Self::Columns>;
+
+    /// The texts of the cells, row by row.
+    ghost texts: { Self → Table };
+
+    /// How many cells each row has.
+    ghost columns: { Self → ℕ };
+
+    /// How many rows there are, where that is known.
+    ghost hint: { Self → Option ℕ };
+
+    /// Holds of records that may be read. It holds of all records in memory; of records that hold
+    /// an iterator it says that the iterator gives their texts.
+    ghost is_readable: { Self → Type 0 } = { λ _. ⊤ };
+
+    /// The rows: an iterator that gives one iterator for each row, in order, and ends. Each of them
+    /// gives the cells of its row, in order, and ends.
+    fn iter_rows(self) -> Self::Rows
+        requires { is_readable self }
+        ensures { Gives (Gives (λ x y. Self.Cell.text x ≡ y) Self.Columns.can_next Self.Columns.next_gives Self.Columns.remaining) Self.Rows.can_next Self.Rows.next_gives Self.Rows.remaining result (texts self) };
+
+    /// How many cells each row has.
+    fn count_columns(&self) -> usize
+        ensures value { result ≡ columns self.now }
+        ensures even { is_readable self.now → All (λ row. length row ≡ result) (texts self.now) };
+
+    /// How many rows there are, where that is known.
+    fn hint_count_rows(&self) -> Option<usize>
+        ensures value { result ≡ hint self.now }
+        ensures exact { is_readable self.now → IfSome result (λ rows. rows ≡ length (texts self.now)) };
+}
+
+/// Rows of cells that know how many rows there are.
+pub trait ExactRecords: Records {
+    /// How many rows there are.
+    fn count_rows(&self) -> usize
+        ensures { result ≡ length (Self.texts self.now) };
+}
+
+/// Rows of cells that can be read at any place.
+///
+/// The place that is asked for must lie in the table, and the line must be one of the text's.
+pub trait PeekableRecords: Records {
+    /// The text at a place in the table.
+    fn get_text(&self, pos: Position) -> &str
+        requires row { pos.row < length (Self.texts self.now) }
+        requires column { pos.col < Self.columns self.now }
+        ensures { result.now ≡ text_at (Self.texts self.now) pos };
+
+    /// A line of the text at a place in the table, counted from 0.
+    fn get_line(&self, pos: Position, line: usize) -> &str
+        requires row { pos.row < length (Self.texts self.now) }
+        requires column { pos.col < Self.columns self.now }
+        requires line { line < length (lines_of (text_at (Self.texts self.now) pos)) }
+        ensures { result.now ≡ slice_index_or (lines_of (text_at (Self.texts self.now) pos)) line [] };
+
+    /// How many lines the text at a place in the table has.
+    fn count_lines(&self, pos: Position) -> usize
+        requires row { pos.row < length (Self.texts self.now) }
+        requires column { pos.col < Self.columns self.now }
+        ensures { result ≡ length (lines_of (text_at (Self.texts self.now) pos)) };
+
+    /// How many terminal columns a line of the text at a place in the table takes.
+    fn get_line_width(&self, pos: Position, line: usize) -> usize
+        requires row { pos.row < length (Self.texts self.now) }
+        requires column { pos.col < Self.columns self.now }
+        requires line { line < length (lines_of (text_at (Self.texts self.now) pos)) }
+        ensures { result ≡ width_of (slice_index_or (lines_of (text_at (Self.texts self.now) pos)) line []) };
+
+    /// How many terminal columns the widest line of the text at a place in the table takes.
+    fn get_width(&self, pos: Position) -> usize
+        requires row { pos.row < length (Self.texts self.now) }
+        requires column { pos.col < Self.columns self.now }
+        ensures { result ≡ text_width_of (text_at (Self.texts self.now) pos) };
+}

@@ -1,0 +1,132 @@
+//! The lines of a text, how many terminal columns they take, and which of them are blank.
+
+ghost use Rattle.std.specs.Prelude.{◌≡◌, ◌==◌, ◌<◌, ◌∷◌, [], ℕ, length, slice_index_or, option_map};
+ghost use Rattle.std.specs.List.{list_all, position_or_len};
+ghost use Rattle.std.specs.Iterator.{YieldsFirstRef, item_count};
+ghost use Rattle.pg_layout.specs.Text.{lines_of, lines_left, width_of, text_width_of, is_blank, first_line_of, is_plain_byte};
+
+use std::marker::Model;
+use unicode_width::UnicodeWidthStr;
+
+/// The lines of a text that are left, as slices of it. [`get_lines`] makes it.
+#[derive(Debug, Drop)]
+pub struct Lines<'a> {
+    rest: Option<&'a str>,
+}
+
+impl<'a> Model for Lines<'a> {
+    ghost use Rattle.std.specs.Prelude.{List, ℕ, option_map};
+    ghost use Rattle.pg_layout.specs.Text.{lines_left};
+
+    ghost Value = { List (List ℕ) };
+
+    ghost view = { λ s. lines_left (option_map (λ x. x.now) s.rest) };
+}
+
+impl<'a> Iterator for Lines<'a> {
+    type Item = &'a str;
+
+    ghost next_gives = { YieldsFirstRef (λ lines. lines) };
+
+    ghost remaining = { item_count (λ lines. lines) };
+
+    fn next(&mut self) -> Option<&'a str> {
+        let (line, rest) = split_first_line(self.rest?);
+        self.rest = rest;
+        Some(line)
+    }
+}
+
+/// The lines of a text: it is cut at every line feed, so k line feeds make k + 1 lines, and the
+/// empty text has one empty line.
+pub fn get_lines(text: &str) -> Lines<'_>
+    ensures { result ≡ lines_of text.now }
+{
+    Lines { rest: Some(text) }
+}
+
+/// A line of a text, counted from 0. The text has more lines than this.
+pub fn get_line(text: &str, line: usize) -> &str
+    requires { line < length (lines_of text.now) }
+    ensures { result.now ≡ slice_index_or (lines_of text.now) line [] }
+{
+    get_lines(text).nth(line).unwrap()
+}
+
+/// How many bytes stand before the first line feed, or in the whole text if it has none.
+#[inline(always)]
+pub(crate) fn first_line_end(text: &str) -> usize
+    ensures { result ≡ position_or_len (λ b. b == 10) text.now }
+{
+    let end = text.as_bytes().iter().position(|b| *b == b'\n');
+    end.unwrap_or(text.len())
+}
+
+/// The first line of a text, and what follows its line feed if it has one.
+#[inline(always)]
+fn split_first_line(text: &str) -> (&str, Option<&str>)
+    ensures { lines_of text.now ≡ result.0.now ∷ lines_left (option_map (λ x. x.now) result.1) }
+{
+    let end = first_line_end(text);
+    let line = &text[..end];
+    if end == text.len() {
+        return (line, None);
+    }
+    (line, Some(&text[end + 1..]))
+}
+
+/// How many lines a text has: one more than line feeds.
+pub fn count_lines(text: &str) -> usize
+    ensures { result ≡ length (lines_of text.now) }
+{
+    text.as_bytes().iter().filter(|b| **b == b'\n').count() + 1
+}
+
+/// Whether each byte is ASCII and no line feed: a text of such bytes is one line, and takes as many
+/// columns as it has bytes.
+#[inline(always)]
+pub fn is_plain(bytes: &[u8]) -> bool
+    ensures { result ≡ list_all is_plain_byte bytes.now }
+{
+    bytes.iter().all(|b| b.is_ascii() && *b != b'\n')
+}
+
+/// How many terminal columns a line takes, by Unicode's rules of widths.
+#[inline(always)]
+pub fn get_line_width(line: &str) -> usize
+    ensures { result ≡ width_of line.now }
+{
+    if is_plain(line.as_bytes()) {
+        return line.len();
+    }
+    line.width()
+}
+
+/// How many terminal columns the widest line of a text takes.
+#[inline(always)]
+pub fn get_text_width(text: &str) -> usize
+    ensures { result ≡ text_width_of text.now }
+{
+    if is_plain(text.as_bytes()) {
+        return text.len();
+    }
+    get_lines(text).fold(0, |width, line| width.max(get_line_width(line)))
+}
+
+/// Whether a line is empty or made of (Unicode) white space alone.
+pub fn is_blank(line: &str) -> bool
+    ensures { result ≡ is_blank line.now }
+{
+    line.trim().is_empty()
+}
+
+/// The text before the first line feed, less one carriage return directly before that line feed;
+/// the whole text if it has no line feed.
+pub fn first_line(text: &str) -> &str
+    ensures { result.now ≡ first_line_of text.now }
+{
+    match split_first_line(text) {
+        (line, Some(_)) => line.strip_suffix('\r').unwrap_or(line),
+        (line, None) => line,
+    }
+}

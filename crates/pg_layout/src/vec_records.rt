@@ -1,0 +1,187 @@
+//! Rows of cells in memory.
+
+ghost use Rattle.std.specs.Prelude.{◌≡◌, ◌==◌, ◌<◌, ℕ, not, [], List, slice_index_or, map, length, position, Some, IfOk, option_map};
+ghost use Rattle.std.specs.Result.{result_err};
+ghost use Rattle.std.specs.Iterator.{YieldsFirstBy, item_count};
+ghost use Rattle.pg_layout.specs.Records.{columns_of, ragged_row, text_at};
+ghost use Rattle.pg_layout.specs.Text.{lines_of};
+ghost use Rattle.pg_layout.specs.declared.vec_records.RecordsFault.TheVariants.{Ragged};
+
+use crate::position::Position;
+use crate::records::{ExactRecords, PeekableRecords, Records};
+use crate::text::{count_lines, get_line, get_line_width, get_text_width};
+use std::alloc::{Allocator, Global};
+use std::convert::AsStr;
+use std::marker::Model;
+
+/// The cells of a row in memory, as their texts.
+#[derive(Debug, Drop)]
+pub struct VecColumns<'a, T> {
+    cells: &'a [T],
+}
+
+impl<'a, T: AsStr> Iterator for VecColumns<'a, T> {
+    type Item = &'a str;
+
+    ghost next_gives = { YieldsFirstBy (λ x. x.now) (λ s. map T.text s.cells.now) };
+
+    ghost remaining = { item_count (λ s. map T.text s.cells.now) };
+
+    fn next(&mut self) -> Option<&'a str> {
+        let (first, rest) = self.cells.split_first()?;
+        self.cells = rest;
+        Some(first.as_str())
+    }
+}
+
+/// The rows of records in memory.
+#[derive(Debug, Drop)]
+pub struct VecRows<'a, T, A: Allocator = Global> {
+    rows: &'a [Vec<T, A>],
+}
+
+impl<'a, T: AsStr, A: Allocator> Iterator for VecRows<'a, T, A> {
+    type Item = VecColumns<'a, T>;
+
+    ghost next_gives = { YieldsFirstBy (λ c. map T.text c.cells.now) (λ s. map (λ row. map T.text row.items) s.rows.now) };
+
+    ghost remaining = { item_count (λ s. map (λ row. map T.text row.items) s.rows.now) };
+
+    fn next(&mut self) -> Option<VecColumns<'a, T>> {
+        let (first, rest) = self.rows.split_first()?;
+        self.rows = rest;
+        Some(VecColumns {
+            cells: first.as_slice(),
+        })
+    }
+}
+
+/// Why rows are no records.
+#[derive(Debug, Clone, Copy, PartialEq, Eq)]
+pub enum RecordsFault {
+    /// This row, counted from 0, is the first whose length differs from that of row 0.
+    Ragged(usize),
+}
+
+/// Rows of cells in memory, all of one length.
+#[derive(Debug, Drop)]
+pub struct VecRecords<T, A: Allocator = Global> {
+    rows: Vec<Vec<T, A>, A>,
+}
+
+impl<T, A: Allocator> Model for VecRecords<T, A> {
+    ghost use Rattle.std.specs.Prelude.{◌≡◌, List, map, None};
+    ghost use Rattle.pg_layout.specs.Records.{ragged_row};
+
+    ghost Value = { List (List T) };
+
+    ghost view = { λ r. map (λ row. row.items) r.rows.items };
+
+    ghost invariant = { λ r. ragged_row (map (λ row. row.items) r.rows.items) ≡ None };
+}
+
+impl<T: AsStr + Drop, A: Allocator> VecRecords<T, A> {
+    /// The records with these rows, as they are; an error where they are not all of one length.
+    ///
+    /// It takes no memory. Rows that are refused are dropped.
+    pub fn new(rows: Vec<Vec<T, A>, A>) -> Result<VecRecords<T, A>, RecordsFault>
+        ensures rows { IfOk result (λ records. records ≡ map (λ row. row.items) rows.items) }
+        ensures exact { result_err result ≡ option_map Ragged (ragged_row (map (λ row. row.items) rows.items)) }
+    {
+        match find_ragged(&rows) {
+            Some(row) => Err(RecordsFault::Ragged(row)),
+            None => Ok(VecRecords { rows }),
+        }
+    }
+}
+
+impl<T: AsStr, A: Allocator> VecRecords<T, A> {
+    // The text at a place in the table.
+    fn text_at(&self, pos: Position) -> &str
+        requires row { pos.row < length (map (λ row. map T.text row) self.now) }
+        requires column { pos.col < columns_of self.now }
+        ensures { result.now ≡ text_at (map (λ row. map T.text row) self.now) pos }
+    {
+        self.rows[pos.row][pos.col].as_str()
+    }
+}
+
+// The length of the first row, or 0 where there are no rows.
+fn first_length<T, A: Allocator>(rows: &[Vec<T, A>]) -> usize
+    ensures { result ≡ columns_of (map (λ row. row.items) rows.now) }
+{
+    match rows.first() {
+        Some(row) => row.len(),
+        None => 0,
+    }
+}
+
+// The first row whose length is not this.
+fn find_other_length<T, A: Allocator>(rows: &[Vec<T, A>], columns: usize) -> Option<usize>
+    ensures { result ≡ position (λ row. not (length row.items == columns)) rows.now }
+{
+    rows.iter().position(|row| row.len() != columns)
+}
+
+// The first row whose length differs from that of the first.
+fn find_ragged<T, A: Allocator>(rows: &[Vec<T, A>]) -> Option<usize>
+    ensures { result ≡ ragged_row (map (λ row. row.items) rows.now) }
+{
+    find_other_length(rows, first_length(rows))
+}
+
+impl<'a, T: AsStr, A: Allocator> Records for &'a VecRecords<T, A> {
+    type Cell = &'a str;
+
+    type Columns = VecColumns<'a, T>;
+
+    type Rows = VecRows<'a, T, A>;
+
+    ghost texts = { λ r. map (λ row. map T.text row) r.now };
+
+    ghost columns = { λ r. columns_of r.now };
+
+    ghost hint = { λ r. Some (length r.now) };
+
+    fn iter_rows(self) -> VecRows<'a, T, A> {
+        VecRows {
+            rows: self.rows.as_slice(),
+        }
+    }
+
+    fn count_columns(&self) -> usize {
+        first_length(&self.rows)
+    }
+
+    fn hint_count_rows(&self) -> Option<usize> {
+        Some(self.count_rows())
+    }
+}
+
+impl<T: AsStr, A: Allocator> ExactRecords for &VecRecords<T, A> {
+    fn count_rows(&self) -> usize {
+        self.rows.len()
+    }
+}
+
+impl<T: AsStr, A: Allocator> PeekableRecords for &VecRecords<T, A> {
+    fn get_text(&self, pos: Position) -> &str {
+        self.text_at(pos)
+    }
+
+    fn get_line(&self, pos: Position, line: usize) -> &str {
+        get_line(self.text_at(pos), line)
+    }
+
+    fn count_lines(&self, pos: Position) -> usize {
+        count_lines(self.text_at(pos))
+    }
+
+    fn get_line_width(&self, pos: Position, line: usize) -> usize {
+        get_line_width(get_line(self.text_at(pos), line))
+    }
+
+    fn get_width(&self, pos: Position) -> usize {
+        get_text_width(self.text_at(pos))
+    }
+}
