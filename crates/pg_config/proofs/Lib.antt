@@ -1,0 +1,7 @@
+-- Lemmas of this crate.
+pub mod LinesLaw
+mod OverrideColumns
+mod SettingNumbers
+pub mod SettingsLaw
+pub mod Computing
+pub mod RowsConfig

@@ -1,0 +1,7 @@
+pub mod Settings
+pub mod Overrides
+pub mod Offsets
+pub mod Spans
+pub mod Config
+pub mod CompactConfig
+pub mod Laws

@@ -1,0 +1,104 @@
+-- The rectangles of cells that span rows or columns, and the one owner of each place.
+use Rattle.std.specs.Prelude.{ℕ, ◌+◌, Bool, not, ◌&&◌, ◌||◌, ◌==◌, nat_lt, nat_le, List, find, Option, Some, None, unwrap_or, if◌then◌else◌}
+use Rattle.std.specs.List.{list_any}
+use Rattle.pg_layout.specs.declared.position.Position.{Position}
+use Rattle.pg_layout.specs.Position.{at, is_at}
+use Rattle.pg_layout.specs.Places.{Key, value_at, with_place, without_place, last_up_to}
+
+-- A cell with a span: its column and its row, and how many rows and columns its rectangle has. They are kept in
+-- the order of columns and then rows.
+abbrev pub Span : Type 0
+Span = Key × (ℕ × ℕ)
+
+abbrev pub span_key : Position → Key
+span_key p = (p.col, p.row, 0)
+
+-- the top left of the rectangle
+abbrev pub corner : Span → Position
+corner s = at s.0.1 s.0.0
+
+-- how many rows and columns the rectangle of p has
+unfoldable pub size_of : List Span → Position → ℕ × ℕ
+size_of spans p = unwrap_or (value_at (span_key p) spans) (1, 1)
+
+unfoldable pub rect_rows : List Span → Position → ℕ
+rect_rows spans p = (size_of spans p).0
+
+unfoldable pub rect_columns : List Span → Position → ℕ
+rect_columns spans p = (size_of spans p).1
+
+-- a rectangle of one row and one column isn't kept
+unfoldable pub with_size : Position → ℕ × ℕ → List Span → List Span
+with_size p size spans = if (size.0 == 1) && (size.1 == 1) then without_place (span_key p) spans else with_place (span_key p) size spans
+
+unfoldable pub with_column_span : Position → ℕ → List Span → List Span
+with_column_span p n spans = with_size p (rect_rows spans p, n) spans
+
+unfoldable pub with_row_span : Position → ℕ → List Span → List Span
+with_row_span p n spans = with_size p (n, rect_columns spans p) spans
+
+-- a span of 1 isn't kept
+abbrev pub unless_one : ℕ → Option ℕ
+unless_one n = if n == 1 then None else Some n
+
+unfoldable pub get_column_span : List Span → Position → Option ℕ
+get_column_span spans p = unless_one (rect_columns spans p)
+
+unfoldable pub get_row_span : List Span → Position → Option ℕ
+get_row_span spans p = unless_one (rect_rows spans p)
+
+unfoldable pub has_column_spans : List Span → Bool
+has_column_spans spans = list_any (λ s. not (s.1.1 == 1)) spans
+
+unfoldable pub has_row_spans : List Span → Bool
+has_row_spans spans = list_any (λ s. not (s.1.0 == 1)) spans
+
+-- the place (r, c) lies in the rectangle
+abbrev pub has_row : ℕ → Span → Bool
+has_row r s = nat_le s.0.1 r && nat_lt r (s.0.1 + s.1.0)
+
+abbrev pub has_column : ℕ → Span → Bool
+has_column c s = nat_le s.0.0 c && nat_lt c (s.0.0 + s.1.1)
+
+abbrev pub in_span : ℕ → ℕ → Span → Bool
+in_span r c s = has_row r s && has_column c s
+
+abbrev pub corner_or : Position → Option Span → Position
+corner_or p None = p
+corner_or p (Some s) = corner s
+
+-- the owner of a place: the top left of the rectangle that holds it, else the place itself
+unfoldable pub owner : List Span → ℕ → ℕ → Position
+owner spans r c = corner_or (at r c) (find (in_span r c) spans)
+
+-- the owner of (r, c) begins above row r; c is its left column
+unfoldable pub begins_above : List Span → ℕ → ℕ → Bool
+begins_above spans r c = nat_lt (owner spans r c).row r
+
+unfoldable pub is_left : List Span → ℕ → ℕ → Bool
+is_left spans r c = (owner spans r c).col == c
+
+-- (r, c) and (r, d) have one owner
+unfoldable pub same_owner : List Span → ℕ → ℕ → ℕ → Bool
+same_owner spans r c d = is_at (owner spans r c) (owner spans r d).row (owner spans r d).col
+
+-- the rectangle that holds (r, c) and has c as its left column, by one search
+abbrev pub if_left : ℕ → ℕ → Option Span → Option Span
+if_left r c None = None
+if_left r c (Some s) = if (s.0.0 == c) && in_span r c s then Some s else None
+
+abbrev pub left_span : List Span → ℕ → ℕ → Option Span
+left_span spans r c = if_left r c (last_up_to (c, r, 0) spans)
+
+-- a place of another cell's rectangle is covered: in that cell's row, in its column, or elsewhere
+unfoldable pub is_covered_by_column : List Span → Position → Bool
+is_covered_by_column spans p = list_any (λ s. ((s.0.1 == p.row) && nat_lt s.0.0 p.col) && in_span p.row p.col s) spans
+
+unfoldable pub is_covered_by_row : List Span → Position → Bool
+is_covered_by_row spans p = list_any (λ s. ((s.0.0 == p.col) && nat_lt s.0.1 p.row) && in_span p.row p.col s) spans
+
+unfoldable pub is_covered_by_both : List Span → Position → Bool
+is_covered_by_both spans p = list_any (λ s. (nat_lt s.0.1 p.row && nat_lt s.0.0 p.col) && in_span p.row p.col s) spans
+
+unfoldable pub is_visible : List Span → Position → Bool
+is_visible spans p = not (is_covered_by_column spans p || (is_covered_by_row spans p || is_covered_by_both spans p))

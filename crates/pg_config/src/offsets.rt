@@ -1,0 +1,81 @@
+//! What was set for single glyphs of a horizontal or a vertical.
+
+ghost use Rattle.std.specs.Prelude.{◌≡◌, ◌<◌, option_map, OnOk, OnErr, IsOk, IsSome};
+ghost use Rattle.pg_config.specs.Offsets.{no_offsets, offset_at, with_offset, lookup_offset, is_offset_at, has_offsets};
+
+use pg_layout::{Offset, Places, Position};
+use std::alloc::{AllocError, Allocator, Global};
+use std::marker::Model;
+
+/// Values for glyphs of a horizontal or a vertical, by its place and the glyph's number from the
+/// start or from the end.
+#[derive(Debug, Drop)]
+pub struct Offsets<V, A: Allocator = Global> {
+    from_start: Places<V, A>,
+    from_end: Places<V, A>,
+}
+
+impl<V, A: Allocator> Model for Offsets<V, A> {
+    ghost use Rattle.pg_config.specs.Offsets.{Offsets as Parts};
+
+    ghost Value = { Parts V };
+
+    ghost view = { λ o. record { from_start = o.from_start; from_end = o.from_end } };
+}
+
+impl<V, A: Allocator + Copy> Offsets<V, A> {
+    /// No value. Takes no memory.
+    pub fn new(alloc: A) -> Offsets<V, A>
+        ensures { result ≡ no_offsets }
+    {
+        Offsets {
+            from_start: Places::new(alloc),
+            from_end: Places::new(alloc),
+        }
+    }
+}
+
+impl<V, A: Allocator> Offsets<V, A> {
+    /// The value of glyph `i` of `w`: counted from the start, else from the end.
+    #[tactic(auto, unfolding(crate::specs::Offsets::lookup_offset))]
+    pub fn lookup(&self, pos: Position, i: usize, w: usize) -> Option<&V>
+        requires { i < w }
+        ensures { option_map (λ x. x.now) result ≡ lookup_offset self.now pos i w }
+    {
+        if let Some(value) = self.from_start.get((pos.row, pos.col, i)) {
+            return Some(value);
+        }
+        self.from_end.get((pos.row, pos.col, w - i - 1))
+    }
+
+    /// Whether a glyph of this place has a value.
+    #[tactic(auto, unfolding(crate::specs::Offsets::is_offset_at))]
+    pub fn is_set_at(&self, pos: Position) -> bool
+        ensures { result ≡ is_offset_at self.now pos }
+    {
+        self.from_start.has_pair(pos.row, pos.col) || self.from_end.has_pair(pos.row, pos.col)
+    }
+
+    /// Whether some glyph has a value.
+    #[tactic(auto, unfolding(crate::specs::Offsets::has_offsets))]
+    pub fn is_set(&self) -> bool
+        ensures { result ≡ has_offsets self.now }
+    {
+        !self.from_start.is_empty() || !self.from_end.is_empty()
+    }
+}
+
+impl<V: Drop, A: Allocator> Offsets<V, A> {
+    /// Gives a glyph of this place a value. An error where memory is refused; then nothing changes.
+    #[tactic(auto, unfolding(crate::specs::Offsets::with_offset))]
+    pub fn set(&mut self, pos: Position, offset: Offset, value: V) -> Result<(), AllocError>
+        ensures ok { OnOk result (self.new ≡ with_offset pos offset value self.old) }
+        ensures err { OnErr result (self.new ≡ self.old) }
+        ensures again { IsSome (offset_at pos offset self.old) → IsOk result }
+    {
+        match offset {
+            Offset::Start(i) => self.from_start.set((pos.row, pos.col, i), value),
+            Offset::End(i) => self.from_end.set((pos.row, pos.col, i), value),
+        }
+    }
+}

@@ -1,0 +1,279 @@
+//! The border lines: which are there, and their glyphs and colours.
+
+ghost use Rattle.std.specs.Prelude.{◌≡◌, ◌<◌, ◌+◌, ◌^◌, true, option_map, OnOk, OnErr};
+ghost use Rattle.pg_layout.specs.Borders.{has_side, ends, horizontal_glyph, vertical_glyph, crossing_glyph};
+ghost use Rattle.pg_config.specs.Overrides.{with_border};
+ghost use Rattle.pg_config.specs.Config.{missing_if, count_horizontal, count_vertical, has_horizontal, has_vertical, get_horizontal, get_vertical, get_intersection, get_horizontal_color, get_vertical_color, get_intersection_color};
+
+use crate::spanned::SpannedConfig;
+use pg_layout::{ANSIBuf, Border, Borders, Position};
+use std::alloc::{AllocError, Allocator};
+
+impl<A: Allocator> SpannedConfig<A> {
+    /// Sets the glyphs of all border lines, in place of those before. Overrides stay.
+    pub fn set_borders(&mut self, borders: Borders<char>)
+        ensures { self.new ≡ record self.old { borders = borders } }
+    {
+        self.borders = borders;
+    }
+
+    /// The glyphs of all border lines, without overrides.
+    pub fn get_borders(&self) -> &Borders<char>
+        ensures { result.now ≡ self.now.borders }
+    {
+        &self.borders
+    }
+
+    /// Sets the glyph that stands where a line is there and has none of its own.
+    pub fn set_borders_missing(&mut self, glyph: Option<char>)
+        ensures { self.new ≡ record self.old { missing = glyph } }
+    {
+        self.missing = glyph;
+    }
+
+    /// The glyph that stands where a line is there and has none of its own.
+    pub fn get_borders_missing(&self) -> Option<char>
+        ensures { result ≡ self.now.missing }
+    {
+        self.missing
+    }
+
+    /// Overrides the glyphs of the eight places round a cell by those that this border has.
+    ///
+    /// The place is before the last row and the last column that a `usize` counts.
+    pub fn set_border(&mut self, pos: Position, border: Border<char>) -> Result<(), AllocError>
+        requires row { pos.row < usize.MAX }
+        requires col { pos.col < usize.MAX }
+        ensures ok { OnOk result (self.new ≡ record self.old { overrides = with_border pos border self.old.overrides }) }
+        ensures err { OnErr result (self.new ≡ self.old) }
+    {
+        self.overrides.set_border(pos, border)
+    }
+
+    /// Whether row line `row` of a table of `rows` rows is there.
+    #[tactic(auto, unfolding(crate::specs::Config::has_horizontal, pg_layout::specs::Borders::has_side))]
+    pub fn has_horizontal(&self, row: usize, rows: usize) -> bool
+        ensures { result ≡ has_horizontal self.now row rows }
+    {
+        row == 0 && self.borders.has_top()
+            || row == rows && self.borders.has_bottom()
+            || 0 < row && row < rows && self.borders.has_horizontal()
+            || self.overrides.has_row(row)
+    }
+
+    /// Whether column line `column` of a table of `columns` columns is there.
+    #[tactic(auto, unfolding(crate::specs::Config::has_vertical, pg_layout::specs::Borders::has_side))]
+    pub fn has_vertical(&self, column: usize, columns: usize) -> bool
+        ensures { result ≡ has_vertical self.now column columns }
+    {
+        column == 0 && self.borders.has_left()
+            || column == columns && self.borders.has_right()
+            || 0 < column && column < columns && self.borders.has_vertical()
+            || self.overrides.has_column(column)
+    }
+
+    /// The glyph of a horizontal in a table of `rows` rows: an override, else the borders' glyph,
+    /// else the missing glyph where the line is there.
+    #[tactic(auto, unfolding(crate::specs::Config::get_horizontal))]
+    pub fn get_horizontal(&self, pos: Position, rows: usize) -> Option<char>
+        ensures { result ≡ get_horizontal self.now pos rows }
+    {
+        if let Some(glyph) = self.overrides.horizontal(pos) {
+            return Some(*glyph);
+        }
+        if let Some(glyph) = horizontal_glyph(&self.borders, pos.row, rows) {
+            return Some(*glyph);
+        }
+        self.missing_if(self.has_horizontal(pos.row, rows))
+    }
+
+    /// The glyph of a vertical in a table of `columns` columns: an override, else the borders'
+    /// glyph, else the missing glyph where the line is there.
+    #[tactic(auto, unfolding(crate::specs::Config::get_vertical))]
+    pub fn get_vertical(&self, pos: Position, columns: usize) -> Option<char>
+        ensures { result ≡ get_vertical self.now pos columns }
+    {
+        if let Some(glyph) = self.overrides.vertical(pos) {
+            return Some(*glyph);
+        }
+        if let Some(glyph) = vertical_glyph(&self.borders, pos.col, columns) {
+            return Some(*glyph);
+        }
+        self.missing_if(self.has_vertical(pos.col, columns))
+    }
+
+    /// The glyph of a crossing in a table of `size` rows and columns: an override, else the
+    /// borders' glyph, else the missing glyph where both lines are there.
+    #[tactic(auto, unfolding(crate::specs::Config::get_intersection))]
+    pub fn get_intersection(&self, pos: Position, size: (usize, usize)) -> Option<char>
+        ensures { result ≡ get_intersection self.now pos size.0 size.1 }
+    {
+        let (rows, columns) = size;
+        if let Some(glyph) = self.overrides.crossing(pos) {
+            return Some(*glyph);
+        }
+        if let Some(glyph) = crossing_glyph(&self.borders, pos, rows, columns) {
+            return Some(*glyph);
+        }
+        let there = self.has_horizontal(pos.row, rows) && self.has_vertical(pos.col, columns);
+        self.missing_if(there)
+    }
+
+    /// How many row lines of a table of `rows` rows are there.
+    #[tactic(auto, unfolding(crate::specs::Config::count_horizontal))]
+    pub fn count_horizontal(&self, rows: usize) -> usize
+        requires { rows < usize.MAX }
+        ensures { result ≡ count_horizontal self.now rows }
+    {
+        (0..rows + 1)
+            .filter(|row| self.has_horizontal(*row, rows))
+            .count()
+    }
+
+    /// How many column lines of a table of `columns` columns are there.
+    #[tactic(auto, unfolding(crate::specs::Config::count_vertical))]
+    pub fn count_vertical(&self, columns: usize) -> usize
+        requires { columns < usize.MAX }
+        ensures { result ≡ count_vertical self.now columns }
+    {
+        (0..columns + 1)
+            .filter(|column| self.has_vertical(*column, columns))
+            .count()
+    }
+
+    // The missing glyph, where there is a line.
+    fn missing_if(&self, there: bool) -> Option<char>
+        ensures { result ≡ missing_if self.now there }
+    {
+        if there { self.missing } else { None }
+    }
+
+    /// Sets the colours of all border lines, in place of those before. Overrides stay.
+    pub fn set_borders_color(&mut self, colors: Borders<ANSIBuf<A>>)
+        ensures { self.new ≡ record self.old { border_colors = colors; border_colored = true } }
+    {
+        self.border_colors = colors;
+        self.border_colored = true;
+    }
+
+    /// Overrides the colours of the eight places round a cell by those that this border has.
+    ///
+    /// The place is before the last row and the last column that a `usize` counts.
+    pub fn set_border_color(
+        &mut self,
+        pos: Position,
+        border: Border<ANSIBuf<A>>,
+    ) -> Result<(), AllocError>
+        requires row { pos.row < usize.MAX }
+        requires col { pos.col < usize.MAX }
+        ensures ok { OnOk result (self.new ≡ record self.old { color_overrides = with_border pos border self.old.color_overrides; border_colored = true }) }
+        ensures err { OnErr result (self.new ≡ self.old) }
+    {
+        self.color_overrides.set_border(pos, border)?;
+        self.border_colored = true;
+        Ok(())
+    }
+
+    /// The colour of a horizontal in a table of `rows` rows: an override, else the borders' colour.
+    #[tactic(auto, unfolding(crate::specs::Config::get_horizontal_color))]
+    pub fn get_horizontal_color(&self, pos: Position, rows: usize) -> Option<&ANSIBuf<A>>
+        ensures { option_map (λ x. x.now) result ≡ get_horizontal_color self.now pos rows }
+    {
+        if let Some(color) = self.color_overrides.horizontal(pos) {
+            return Some(color);
+        }
+        horizontal_glyph(&self.border_colors, pos.row, rows)
+    }
+
+    /// The colour of a vertical in a table of `columns` columns: an override, else the borders'
+    /// colour.
+    #[tactic(auto, unfolding(crate::specs::Config::get_vertical_color))]
+    pub fn get_vertical_color(&self, pos: Position, columns: usize) -> Option<&ANSIBuf<A>>
+        ensures { option_map (λ x. x.now) result ≡ get_vertical_color self.now pos columns }
+    {
+        if let Some(color) = self.color_overrides.vertical(pos) {
+            return Some(color);
+        }
+        vertical_glyph(&self.border_colors, pos.col, columns)
+    }
+
+    /// The colour of a crossing in a table of `size` rows and columns: an override, else the
+    /// borders' colour.
+    #[tactic(auto, unfolding(crate::specs::Config::get_intersection_color))]
+    pub fn get_intersection_color(&self, pos: Position, size: (usize, usize)) -> Option<&ANSIBuf<A>>
+        ensures { option_map (λ x. x.now) result ≡ get_intersection_color self.now pos size.0 size.1 }
+    {
+        if let Some(color) = self.color_overrides.crossing(pos) {
+            return Some(color);
+        }
+        crossing_glyph(&self.border_colors, pos, size.0, size.1)
+    }
+
+    /// Whether a colour of border lines was set, also where it coloured none.
+    pub fn has_border_colors(&self) -> bool
+        ensures { result ≡ self.now.border_colored }
+    {
+        self.border_colored
+    }
+}
+
+// The value of a horizontal in row line `row` of a table of `rows` rows.
+#[tactic(auto, unfolding(pg_layout::specs::Borders::horizontal_glyph))]
+fn horizontal_glyph<G>(borders: &Borders<G>, row: usize, rows: usize) -> Option<&G>
+    ensures { option_map (λ x. x.now) result ≡ horizontal_glyph borders.now row rows }
+{
+    if row == 0 {
+        borders.top.as_ref()
+    } else if row == rows {
+        borders.bottom.as_ref()
+    } else {
+        borders.horizontal.as_ref()
+    }
+}
+
+// The value of a vertical in column line `column` of a table of `columns` columns.
+#[tactic(auto, unfolding(pg_layout::specs::Borders::vertical_glyph))]
+fn vertical_glyph<G>(borders: &Borders<G>, column: usize, columns: usize) -> Option<&G>
+    ensures { option_map (λ x. x.now) result ≡ vertical_glyph borders.now column columns }
+{
+    if column == 0 {
+        borders.left.as_ref()
+    } else if column == columns {
+        borders.right.as_ref()
+    } else {
+        borders.vertical.as_ref()
+    }
+}
+
+// The value of a crossing in a table of so many rows and columns.
+#[tactic(auto, unfolding(pg_layout::specs::Borders::crossing_glyph))]
+fn crossing_glyph<G>(borders: &Borders<G>, pos: Position, rows: usize, columns: usize) -> Option<&G>
+    ensures { option_map (λ x. x.now) result ≡ crossing_glyph borders.now pos.row pos.col rows columns }
+{
+    let (left, middle, right) = if pos.row == 0 {
+        (
+            &borders.top_left,
+            &borders.top_intersection,
+            &borders.top_right,
+        )
+    } else if pos.row == rows {
+        (
+            &borders.bottom_left,
+            &borders.bottom_intersection,
+            &borders.bottom_right,
+        )
+    } else {
+        (
+            &borders.left_intersection,
+            &borders.intersection,
+            &borders.right_intersection,
+        )
+    };
+    if pos.col == 0 {
+        left.as_ref()
+    } else if pos.col == columns {
+        right.as_ref()
+    } else {
+        middle.as_ref()
+    }
+}

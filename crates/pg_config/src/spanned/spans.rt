@@ -1,0 +1,127 @@
+//! Cells that span rows or columns.
+
+ghost use Rattle.std.specs.Prelude.{◌≡◌, OnOk, OnErr};
+ghost use Rattle.pg_layout.specs.Places.{IsAscending};
+ghost use Rattle.pg_config.specs.Spans.{rect_rows, rect_columns, with_column_span, with_row_span, get_column_span, get_row_span, has_column_spans, has_row_spans, left_span, is_visible, is_covered_by_column, is_covered_by_row, is_covered_by_both};
+
+use crate::spanned::SpannedConfig;
+use crate::spans::Span;
+use pg_layout::Position;
+use std::alloc::{AllocError, Allocator};
+
+impl<A: Allocator> SpannedConfig<A> {
+    /// Makes a cell span so many columns, itself among them; 1 takes the span away.
+    ///
+    /// Whether the spans fit a table is not asked here (`pg_picture::fits::spans_fit`).
+    pub fn set_column_span(&mut self, pos: Position, columns: usize) -> Result<(), AllocError>
+        ensures ok { OnOk result (self.new ≡ record self.old { spans = with_column_span pos columns self.old.spans }) }
+        ensures err { OnErr result (self.new ≡ self.old) }
+    {
+        self.spans.set_columns(pos, columns)
+    }
+
+    /// Makes a cell span so many rows, itself among them; 1 takes the span away.
+    pub fn set_row_span(&mut self, pos: Position, rows: usize) -> Result<(), AllocError>
+        ensures ok { OnOk result (self.new ≡ record self.old { spans = with_row_span pos rows self.old.spans }) }
+        ensures err { OnErr result (self.new ≡ self.old) }
+    {
+        self.spans.set_rows(pos, rows)
+    }
+
+    /// How many columns a cell spans, if it was told so.
+    #[tactic(auto, unfolding(crate::specs::Spans::get_column_span))]
+    pub fn get_column_span(&self, pos: Position) -> Option<usize>
+        ensures { result ≡ get_column_span self.now.spans pos }
+    {
+        let columns = self.rect_columns(pos);
+        if columns == 1 { None } else { Some(columns) }
+    }
+
+    /// How many rows a cell spans, if it was told so.
+    #[tactic(auto, unfolding(crate::specs::Spans::get_row_span))]
+    pub fn get_row_span(&self, pos: Position) -> Option<usize>
+        ensures { result ≡ get_row_span self.now.spans pos }
+    {
+        let rows = self.rect_rows(pos);
+        if rows == 1 { None } else { Some(rows) }
+    }
+
+    /// How many columns the rectangle of a place has: its span, or 1.
+    #[tactic(auto, unfolding(crate::specs::Spans::rect_columns))]
+    pub fn rect_columns(&self, pos: Position) -> usize
+        ensures { result ≡ rect_columns self.now.spans pos }
+    {
+        self.spans.size(pos).1
+    }
+
+    /// How many rows the rectangle of a place has: its span, or 1.
+    #[tactic(auto, unfolding(crate::specs::Spans::rect_rows))]
+    pub fn rect_rows(&self, pos: Position) -> usize
+        ensures { result ≡ rect_rows self.now.spans pos }
+    {
+        self.spans.size(pos).0
+    }
+
+    /// The rectangles of all cells with a span, in the order of their columns and then rows.
+    pub fn spans(&self) -> &[Span]
+        ensures all { result.now ≡ self.now.spans }
+        ensures ascending { IsAscending self.now.spans }
+    {
+        self.spans.entries()
+    }
+
+    /// The rectangle that holds a place and has its left column there, found by one search in the
+    /// order of the spans. Where the rectangles share no place it is the place's own, if the place
+    /// is in its owner's left column.
+    pub fn left_span(&self, pos: Position) -> Option<Span>
+        ensures { result ≡ left_span self.now.spans pos.row pos.col }
+    {
+        self.spans.left_span(pos)
+    }
+
+    /// Whether a cell spans columns.
+    pub fn has_column_spans(&self) -> bool
+        ensures { result ≡ has_column_spans self.now.spans }
+    {
+        self.spans.has_columns()
+    }
+
+    /// Whether a cell spans rows.
+    pub fn has_row_spans(&self) -> bool
+        ensures { result ≡ has_row_spans self.now.spans }
+    {
+        self.spans.has_rows()
+    }
+
+    /// Whether no other cell's rectangle covers the place.
+    #[tactic(auto, unfolding(crate::specs::Spans::is_visible))]
+    pub fn is_cell_visible(&self, pos: Position) -> bool
+        ensures { result ≡ is_visible self.now.spans pos }
+    {
+        let is_covered = self.is_cell_covered_by_column_span(pos)
+            || self.is_cell_covered_by_row_span(pos)
+            || self.is_cell_covered_by_both_spans(pos);
+        !is_covered
+    }
+
+    /// Whether the rectangle of a cell in the same row covers the place.
+    pub fn is_cell_covered_by_column_span(&self, pos: Position) -> bool
+        ensures { result ≡ is_covered_by_column self.now.spans pos }
+    {
+        self.spans.is_covered_by_column(pos)
+    }
+
+    /// Whether the rectangle of a cell in the same column covers the place.
+    pub fn is_cell_covered_by_row_span(&self, pos: Position) -> bool
+        ensures { result ≡ is_covered_by_row self.now.spans pos }
+    {
+        self.spans.is_covered_by_row(pos)
+    }
+
+    /// Whether the rectangle of a cell above and left of the place covers it.
+    pub fn is_cell_covered_by_both_spans(&self, pos: Position) -> bool
+        ensures { result ≡ is_covered_by_both self.now.spans pos }
+    {
+        self.spans.is_covered_by_both(pos)
+    }
+}
