@@ -1,0 +1,26 @@
+-- Lemmas of this crate.
+pub mod Appending
+pub mod Ranges
+pub mod Repeated
+pub mod MarksOfRectangles
+pub mod PlacesOfMarks
+pub mod PlainTables
+pub mod PiecesOfLines
+pub mod JoinedLines
+pub mod Margins
+pub mod CutsOfItems
+pub mod CutsOfParts
+pub mod Crossings
+pub mod Horizontals
+pub mod Verticals
+pub mod BlankEnds
+pub mod FactsOfTexts
+pub mod PlacesOfTexts
+pub mod SumsOfSizes
+pub mod Rooms
+pub mod HeightsOfRectangles
+pub mod FittingTables
+pub mod SpansByPlaces
+pub mod Computing
+pub mod RowsFits
+pub mod RowsPieces

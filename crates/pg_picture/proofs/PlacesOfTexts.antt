@@ -1,0 +1,271 @@
+-- The place of a text in its cell: shares that leave room, the lines that are shown, and the lines of the block.
+use Rattle.std.proofs.Common.{◌≡◌, ℕ, zero, suc, ◌+◌, ◌-◌, ◌<◌, ◌≤◌, ◌==◌, ◌&&◌, not, Bool, true, false, cond, nat_lt, List, [], ◌∷◌, ◌++◌, length, map, drop, get_or, slice_index_or, Option, Some, None, IfSome, unwrap_or, refl, sym, ap, ◌∙◌, arith, zero-add, append_assoc, if◌then◌else◌}
+use Rattle.std.proofs.lemmas.Bool.{and_parts}
+use Rattle.std.proofs.lemmas.Bool.Decides.{nat_tests}
+use Rattle.std.proofs.lemmas.List.{length-map, get_or-map, get_or-take, get_or-drop}
+use Rattle.std.proofs.lemmas.List.Sums.{prefix_len-le-length}
+use Rattle.pg_layout.specs.declared.alignment.Formatting.{Formatting}
+use Rattle.pg_layout.specs.declared.alignment.AlignmentHorizontal.{AlignmentHorizontal}
+use Rattle.pg_layout.specs.declared.alignment.AlignmentHorizontal.TheVariants as across
+use Rattle.pg_layout.specs.declared.alignment.AlignmentVertical.{AlignmentVertical}
+use Rattle.pg_layout.specs.declared.alignment.AlignmentVertical.TheVariants as down
+use Rattle.pg_layout.specs.Colors.{Color}
+use Rattle.pg_layout.specs.Text.{Text, lines_of, width_of, greatest, is_blank, blank_top, blank_bottom, without_blank_ends}
+use Rattle.pg_picture.specs.Pieces.{Style, Piece, words, fill, written, in_color, shares, lines_above, inner_width, trimmed_if, kept_lines, shown, widest, left_share, line_with, text_line, text_height, text_top, block_line}
+use Rattle.pg_picture.specs.Cells.{facts_of, shared_left, place_of, text_line_at, share_of, line_if, shown_line, placed_line, line_parts, shows_texts_whole}
+use Rattle.pg_picture.specs.Fits.{cell_fits}
+use Rattle.pg_picture.specs.declared.facts.TextFacts.{TextFacts}
+use Rattle.pg_picture.specs.declared.place.CellPlace.{CellPlace}
+use Rattle.pg_picture.proofs.PiecesOfLines.{written-append, written-cons}
+use Rattle.pg_picture.proofs.BlankEnds.{length-without_blank_ends}
+use Rattle.pg_picture.proofs.FactsOfTexts.{facts_of-single}
+
+-- ---- shares
+
+-- no more lines stand above than are free
+pub lines_above-le : (down : AlignmentVertical) (available real : ℕ) → lines_above down available real ≤ available - real
+unfolding lines_above
+lines_above-le down.Top available real = omega arith
+lines_above-le down.Bottom available real = omega arith
+lines_above-le down.Center available real = omega arith
+
+-- the left share leaves room for the text
+pub left_share-le : (across : AlignmentHorizontal) (got all : ℕ) → (shares across got all).0 ≤ all - got
+unfolding shares
+left_share-le across.Left got all = omega arith
+left_share-le across.Right got all = omega arith
+left_share-le across.Center got all = omega arith
+
+-- a line that is no wider than the widest one has room beside its share
+pub share-fits : (style : Style) (left : Option ℕ) (wide v w : ℕ) → left ≡ shared_left style wide w → v ≤ wide → (style.padding.left.size + style.padding.right.size) + wide ≤ w
+    → ((style.padding.left.size + style.padding.right.size) + share_of style left w v) + v ≤ w
+unfolding inner_width
+share-fits style left wide v w is narrow room =
+    let inner : ℕ = w - (style.padding.left.size + style.padding.right.size) in
+    let fits : (all : Option ℕ) → all ≡ shared_left style wide w → ((style.padding.left.size + style.padding.right.size) + unwrap_or all (shares style.across v inner).0) + v ≤ w = λ all same. rw same
+    (elim style.formatting.allow_lines_alignment as (λ b. ((style.padding.left.size + style.padding.right.size) + unwrap_or (if b then None else Some (shares style.across wide inner).0) (shares style.across v inner).0) + v ≤ w) [
+      | true ↦ omega (arith, left_share-le style.across v inner)
+      | false ↦ omega (arith, left_share-le style.across wide inner)
+    ]) in
+    fits left is
+
+-- the share of a line is that of the text
+pub share_of-text : (style : Style) (text : Text) (w v : ℕ) → share_of style (shared_left style (widest style.formatting text) w) w v ≡ left_share style text w v
+unfolding left_share
+share_of-text style text w v = elim style.formatting.allow_lines_alignment as (λ b. unwrap_or (if b then None else Some (shares style.across (widest style.formatting text) (inner_width style w)).0) (shares style.across v (inner_width style w)).0 ≡ (shares style.across (if b then v else widest style.formatting text) (inner_width style w)).0) [ true ↦ refl | false ↦ refl ]
+
+-- ---- the lines that are shown
+
+get_or-le-greatest : {X : Type 0} (f : X → ℕ) (xs : List X) (k : ℕ) (d : X) → k < length xs → f (get_or xs k d) ≤ greatest (map f xs)
+get_or-le-greatest f [] k d within = absurd (omega arith)
+get_or-le-greatest f (x ∷ xs) zero d within = omega arith
+get_or-le-greatest f (x ∷ xs) (suc k) d within = let rest : f (get_or xs k d) ≤ greatest (map f xs) = get_or-le-greatest f xs k d (omega arith) in omega arith
+
+-- no line of a text is wider than the widest
+pub line-le-widest : (f : Formatting) (text : Text) (k : ℕ) → k < length (lines_of text) → width_of (trimmed_if f.horizontal_trim (slice_index_or (lines_of text) k [])) ≤ widest f text
+unfolding widest
+line-le-widest f text k within = get_or-le-greatest (λ line. width_of (trimmed_if f.horizontal_trim line)) (lines_of text) k [] within
+
+blank_top-le : (lines : List Text) → blank_top lines ≤ length lines
+unfolding blank_top
+blank_top-le lines = prefix_len-le-length is_blank lines
+
+kept-at : (lines : List Text) (k : ℕ) → k < length (without_blank_ends lines) → get_or (without_blank_ends lines) k [] ≡ get_or lines (blank_top lines + k) []
+unfolding without_blank_ends
+kept-at lines k within =
+    get_or-take (length lines - (blank_top lines + blank_bottom lines)) (drop (blank_top lines) lines) k [] (omega (arith, length-without_blank_ends lines))
+    ∙ get_or-drop (blank_top lines) lines k []
+
+-- a text has the lines that are left out at its front, and those that are shown
+pub facts_of-lines : (f : Formatting) (text : Text) → (facts_of f text).skip + (facts_of f text).shown ≤ length (lines_of text)
+unfolding facts_of shown kept_lines
+facts_of-lines f text =
+    elim f.vertical_trim as (λ v. (if v then blank_top (lines_of text) else 0) + length (map (trimmed_if f.horizontal_trim) (if v then without_blank_ends (lines_of text) else lines_of text)) ≤ length (lines_of text)) [
+      | true ↦ omega (arith, length-map (without_blank_ends (lines_of text)) (trimmed_if f.horizontal_trim), length-without_blank_ends (lines_of text), blank_top-le (lines_of text))
+      | false ↦ omega (arith, length-map (lines_of text) (trimmed_if f.horizontal_trim))
+    ]
+
+-- a shown line is one of the text's, trimmed or not
+shown-at : (f : Formatting) (text : Text) (k : ℕ) → k < (facts_of f text).shown → slice_index_or (shown f text) k [] ≡ trimmed_if f.horizontal_trim (slice_index_or (lines_of text) ((facts_of f text).skip + k) [])
+unfolding facts_of shown kept_lines
+shown-at f text k within =
+    let trimmed : Text → Text = trimmed_if f.horizontal_trim in
+    let lines : List Text = lines_of text in
+    elim f.vertical_trim as (λ v. k < length (map trimmed (if v then without_blank_ends lines else lines)) → get_or (map trimmed (if v then without_blank_ends lines else lines)) k [] ≡ trimmed (get_or lines ((if v then blank_top lines else 0) + k) [])) [
+      | true ↦ λ h. let here : k < length (without_blank_ends lines) = omega (arith, length-map (without_blank_ends lines) trimmed) in get_or-map trimmed (without_blank_ends lines) k [] [] here ∙ ap trimmed (kept-at lines k here)
+      | false ↦ λ h. let here : k < length lines = omega (arith, length-map lines trimmed) in get_or-map trimmed lines k [] [] here ∙ ap (λ n. trimmed (get_or lines n [])) (sym (zero-add k))
+    ] within
+
+-- ---- the place of a text
+
+pub place-left : (style : Style) (text : Text) (w h : ℕ) (place : CellPlace) → place ≡ place_of (facts_of style.formatting text) style w h → place.left ≡ shared_left style (widest style.formatting text) w
+unfolding place_of facts_of
+place-left style text w h place is = ap (λ (p : CellPlace). p.left) is
+
+pub place-lines : (style : Style) (text : Text) (w h : ℕ) (place : CellPlace) → place ≡ place_of (facts_of style.formatting text) style w h → place.skip + place.shown ≤ length (lines_of text)
+unfolding place_of
+place-lines style text w h place is = omega (arith, facts_of-lines style.formatting text, ap (λ (p : CellPlace). p.skip) is, ap (λ (p : CellPlace). p.shown) is)
+
+-- the text line of a line below the top and above the bottom
+text_line_at-shown : (place : CellPlace) (i : ℕ) → place.top ≤ i → i < place.top + place.shown → text_line_at place i ≡ Some (place.skip + (i - place.top))
+text_line_at-shown place i below above =
+    let first : nat_lt i place.top ≡ false = grind (arith, nat_tests) in
+    let second : nat_lt i (place.top + place.shown) ≡ true = grind (arith, nat_tests) in
+    rw (first, second) refl
+
+both_tests : {A : Type 0} (b c : Bool) (P : A → Type 0) (x : A) → (b ≡ false → c ≡ true → P x) → IfSome (cond b None (cond c (Some x) None)) P
+both_tests true c P x here = tt
+both_tests false true P x here = here refl refl
+both_tests false false P x here = tt
+
+-- it is one of the text's lines
+pub text_line_at-within : (place : CellPlace) (i n : ℕ) → place.skip + place.shown ≤ n → IfSome (text_line_at place i) (λ k. k < n)
+text_line_at-within place i n within = both_tests (nat_lt i place.top) (nat_lt i (place.top + place.shown)) (λ k. k < n) (place.skip + (i - place.top)) (λ first second. grind (arith, nat_tests))
+
+-- and has room where the cell has room for the widest one
+pub room-of-line : (style : Style) (text : Text) (w h i : ℕ) (place : CellPlace) (line : Text) → place ≡ place_of (facts_of style.formatting text) style w h → line ≡ line_if text (text_line_at place i)
+    → (style.padding.left.size + style.padding.right.size) + widest style.formatting text ≤ w → place.top ≤ i → i < place.top + place.shown
+    → ((style.padding.left.size + style.padding.right.size) + share_of style place.left w (width_of (trimmed_if style.formatting.horizontal_trim line))) + width_of (trimmed_if style.formatting.horizontal_trim line) ≤ w
+room-of-line style text w h i place line stands is room below above =
+    let k : ℕ = place.skip + (i - place.top) in
+    let here : line ≡ slice_index_or (lines_of text) k [] = is ∙ ap (line_if text) (text_line_at-shown place i below above) in
+    let narrow : width_of (trimmed_if style.formatting.horizontal_trim line) ≤ widest style.formatting text = omega (arith, ap (λ l. width_of (trimmed_if style.formatting.horizontal_trim l)) here, line-le-widest style.formatting text k (omega (arith, place-lines style text w h place stands))) in
+    share-fits style place.left (widest style.formatting text) (width_of (trimmed_if style.formatting.horizontal_trim line)) w (place-left style text w h place stands) narrow room
+
+same-middle : {A : Type 0} (b c : Bool) (x y z : A) (y' : A) → (b ≡ false → c ≡ true → y ≡ y') → cond b x (cond c y z) ≡ cond b x (cond c y' z)
+same-middle true c x y z y' same = refl
+same-middle false true x y z y' same = same refl refl
+same-middle false false x y z y' same = refl
+
+-- a shown line of the text, by its place
+middle-line : (style : Style) (color : Option Color) (text : Text) (w h i : ℕ) → (place_of (facts_of style.formatting text) style w h).top ≤ i
+    → i < (place_of (facts_of style.formatting text) style w h).top + (place_of (facts_of style.formatting text) style w h).shown
+    → text_line style color text w (slice_index_or (shown style.formatting text) (i - (place_of (facts_of style.formatting text) style w h).top) [])
+    ≡ shown_line style color (place_of (facts_of style.formatting text) style w h).left w (line_if text (text_line_at (place_of (facts_of style.formatting text) style w h) i))
+unfolding text_line shown_line
+middle-line style color text w h i below above =
+    let f : Formatting = style.formatting in
+    let place : CellPlace = place_of (facts_of f text) style w h in
+    let k : ℕ = i - place.top in
+    let few : place.shown ≤ (facts_of f text).shown = unfold place_of in omega arith in
+    let skips : place.skip ≡ (facts_of f text).skip = unfold place_of in refl in
+    let line : Text = trimmed_if f.horizontal_trim (line_if text (text_line_at place i)) in
+    let same : slice_index_or (shown f text) k [] ≡ line =
+    shown-at f text k (omega (arith, few)) ∙ ap (λ n. trimmed_if f.horizontal_trim (slice_index_or (lines_of text) (n + k) [])) (sym skips) ∙ ap (λ o. trimmed_if f.horizontal_trim (line_if text o)) (sym (text_line_at-shown place i below above)) in
+    ap (λ l. line_with style color w (left_share style text w (width_of l)) l) same
+    ∙ ap (λ s. line_with style color w s line) (sym (share_of-text style text w (width_of line)) ∙ ap (λ o. share_of style o w (width_of line)) (sym (place-left style text w h place refl)))
+
+-- a line of the block, by the place of its text
+pub block_line-placed : (style : Style) (color : Option Color) (text : Text) (w h i : ℕ)
+    → block_line style color text w h i ≡ placed_line style color (place_of (facts_of style.formatting text) style w h) w i (line_if text (text_line_at (place_of (facts_of style.formatting text) style w h) i))
+unfolding block_line placed_line text_top text_height place_of facts_of
+block_line-placed style color text w h i =
+    let top : ℕ = text_top style text h in
+    let count : ℕ = text_height style text h in
+    same-middle (nat_lt i top) (nat_lt i (top + count)) (fill style.padding.top.fill w style.padding_color.top) _ (fill style.padding.bottom.fill w style.padding_color.bottom) _
+    (λ first second. middle-line style color text w h i (grind (arith, nat_tests)) (grind (arith, nat_tests)))
+
+-- ---- the text of a line
+
+written-line_with : (style : Style) (color : Option Color) (w share : ℕ) (line : Text) → written (line_with style color w share line) ≡ line_parts style color share (inner_width style w - share - width_of line) line
+written-line_with style color w share line =
+    let left : List Piece = fill style.padding.left.fill style.padding.left.size style.padding_color.left in
+    let before : List Piece = fill style.justification share style.justification_color in
+    let after : List Piece = fill style.justification (inner_width style w - share - width_of line) style.justification_color in
+    let right : List Piece = fill style.padding.right.fill style.padding.right.size style.padding_color.right in
+    written-append left (before ++ (words line color ∷ (after ++ right)))
+    ∙ ap (λ t. written left ++ t) (written-append before (words line color ∷ (after ++ right))
+    ∙ ap (λ t. written before ++ t) (written-cons (words line color) (after ++ right)
+    ∙ ap (λ t. in_color color line ++ t) (written-append after right)))
+    ∙ sym (append_assoc (written left) (written before) (in_color color line ++ (written after ++ written right)))
+
+-- the parts that were computed are those of the line
+pub line_parts-measured : (style : Style) (color : Option Color) (left : Option ℕ) (w inner share v : ℕ) (line : Text) → inner ≡ inner_width style w → v ≡ width_of line → share ≡ share_of style left w v
+    → line_parts style color share (inner - share - v) line ≡ written (line_with style color w (share_of style left w (width_of line)) line)
+line_parts-measured style color left w inner share v line room known is =
+    let own : share ≡ share_of style left w (width_of line) = is ∙ ap (share_of style left w) known in
+    let text : ℕ → ℕ → ℕ → Text = λ n s u. line_parts style color s (n - s - u) line in
+    let same : text inner share v ≡ text (inner_width style w) (share_of style left w (width_of line)) (width_of line) = λ i. text (room i) (own i) (known i) in
+    same ∙ sym (written-line_with style color w (share_of style left w (width_of line)) line)
+
+-- ---- a cell of height 1 whose text is one line as it is
+
+lines_above-none : (down : AlignmentVertical) (n : ℕ) → lines_above down n n ≡ 0
+lines_above-none down n = omega (arith, lines_above-le down n n)
+
+widest-single : (f : Formatting) (text : Text) → f.horizontal_trim ≡ false → f.vertical_trim ≡ false → lines_of text ≡ text ∷ [] → widest f text ≡ width_of text
+unfolding facts_of
+widest-single f text h v one = sym (ap (λ (facts : TextFacts). facts.widest) (facts_of-single f text (width_of text) h v one refl))
+
+whole-parts : (style : Style) → shows_texts_whole style ≡ true → (style.formatting.horizontal_trim ≡ false) × (style.formatting.vertical_trim ≡ false) × (style.padding.top.size ≡ 0)
+whole-parts style whole =
+    let both = and_parts (not style.formatting.horizontal_trim && not style.formatting.vertical_trim) (style.padding.top.size == 0) whole in
+    let trims = and_parts (not style.formatting.horizontal_trim) (not style.formatting.vertical_trim) both.0 in
+    (grind arith, grind arith, grind (arith, nat_tests))
+
+left_share-own : (style : Style) (text : Text) (w : ℕ) → widest style.formatting text ≡ width_of text → left_share style text w (width_of text) ≡ share_of style None w (width_of text)
+unfolding left_share
+left_share-own style text w one = elim style.formatting.allow_lines_alignment as (λ b. (shares style.across (if b then width_of text else widest style.formatting text) (inner_width style w)).0 ≡ (shares style.across (width_of text) (inner_width style w)).0) [ true ↦ refl | false ↦ ap (λ n. (shares style.across n (inner_width style w)).0) one ]
+
+single-text_line : (style : Style) (color : Option Color) (text : Text) (w : ℕ) → style.formatting.horizontal_trim ≡ false → style.formatting.vertical_trim ≡ false → style.padding.top.size ≡ 0 → lines_of text ≡ text ∷ []
+    → text_line style color text w text ≡ block_line style color text w 1 0
+unfolding block_line text_top text_height shown kept_lines trimmed_if
+single-text_line style color text w h v t one = let above : lines_above style.down 1 1 ≡ 0 = lines_above-none style.down 1 in rw (t, h, v, one, above) refl
+
+pub single-whole : (style : Style) (color : Option Color) (text : Text) (w : ℕ) → shows_texts_whole style ≡ true → lines_of text ≡ text ∷ []
+    → line_with style color w (share_of style None w (width_of text)) text ≡ block_line style color text w 1 0
+unfolding text_line
+single-whole style color text w whole one =
+    let parts = whole-parts style whole in
+    ap (λ s. line_with style color w s text) (sym (left_share-own style text w (widest-single style.formatting text parts.0 parts.1 one)))
+    ∙ single-text_line style color text w parts.0 parts.1 parts.2 one
+
+pub room-of-whole : (style : Style) (text : Text) (w v : ℕ) → shows_texts_whole style ≡ true → lines_of text ≡ text ∷ [] → v ≡ width_of text → (style.padding.left.size + style.padding.right.size) + widest style.formatting text ≤ w
+    → ((style.padding.left.size + style.padding.right.size) + share_of style None w v) + v ≤ w
+unfolding inner_width
+room-of-whole style text w v whole one known room =
+    let parts = whole-parts style whole in
+    omega (arith, widest-single style.formatting text parts.0 parts.1 one, left_share-le style.across v (w - (style.padding.left.size + style.padding.right.size)))
+
+-- ---- the lines of the block
+
+pub placed_line-top : (style : Style) (color : Option Color) (place : CellPlace) (w i : ℕ) (line : Text) → i < place.top → fill style.padding.top.fill w style.padding_color.top ≡ placed_line style color place w i line
+unfolding placed_line
+placed_line-top style color place w i line above = let test : nat_lt i place.top ≡ true = grind (arith, nat_tests) in rw test refl
+
+pub placed_line-text : (style : Style) (color : Option Color) (place : CellPlace) (w i : ℕ) (line shown : Text) → place.top ≤ i → i - place.top < place.shown → shown ≡ trimmed_if style.formatting.horizontal_trim line
+    → line_with style color w (share_of style place.left w (width_of shown)) shown ≡ placed_line style color place w i line
+unfolding placed_line shown_line
+placed_line-text style color place w i line shown below within is =
+    let first : nat_lt i place.top ≡ false = grind (arith, nat_tests) in
+    let second : nat_lt i (place.top + place.shown) ≡ true = grind (arith, nat_tests) in
+    rw (first, second) (ap (λ l. line_with style color w (share_of style place.left w (width_of l)) l) is)
+
+pub placed_line-bottom : (style : Style) (color : Option Color) (place : CellPlace) (w i : ℕ) (line : Text) → place.top ≤ i → place.shown ≤ i - place.top → fill style.padding.bottom.fill w style.padding_color.bottom ≡ placed_line style color place w i line
+unfolding placed_line
+placed_line-bottom style color place w i line below past =
+    let first : nat_lt i place.top ≡ false = grind (arith, nat_tests) in
+    let second : nat_lt i (place.top + place.shown) ≡ false = grind (arith, nat_tests) in
+    rw (first, second) refl
+
+-- the line of the block, where the line of the text was found by its place
+pub block_line-at : (style : Style) (color : Option Color) (text : Text) (w h i : ℕ) (place : CellPlace) (line : Text) → place ≡ place_of (facts_of style.formatting text) style w h → line ≡ line_if text (text_line_at place i)
+    → placed_line style color place w i line ≡ block_line style color text w h i
+block_line-at style color text w h i place line stands is =
+    ap (placed_line style color place w i) is
+    ∙ ap (λ (p : CellPlace). placed_line style color p w i (line_if text (text_line_at p i))) stands
+    ∙ sym (block_line-placed style color text w h i)
+
+pub facts_of-widest : (f : Formatting) (text : Text) → (facts_of f text).widest ≡ widest f text
+unfolding facts_of
+facts_of-widest f text = refl
+
+-- ---- the room that a cell of height above 0 has
+
+pub cell_fits-width : (style : Style) (text : Text) (w h : ℕ) → 0 < h → cell_fits style text w h ≡ true → (style.padding.left.size + style.padding.right.size) + widest style.formatting text ≤ w
+unfolding cell_fits
+cell_fits-width style text w h some fits = grind (arith, nat_tests)
+
+pub cell_fits-height : (style : Style) (text : Text) (w h : ℕ) → 0 < h → cell_fits style text w h ≡ true → style.padding.top.size ≤ h
+unfolding cell_fits
+cell_fits-height style text w h some fits = grind (arith, nat_tests)

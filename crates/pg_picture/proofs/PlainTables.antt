@@ -1,0 +1,104 @@
+-- Without spans each place is its own owner, and a line's place in its cell is its number.
+use Rattle.std.proofs.Common.{◌≡◌, ℕ, zero, suc, ◌+◌, ◌-◌, ◌<◌, true, false, ◌&&◌, ◌==◌, nat_lt, List, [], ◌++◌, map, length, refl, ap, ◌∙◌, arith, zero-add, append-nil, one-add, inl, inr, if◌then◌else◌}
+use Rattle.std.specs.List.{range_with_len}
+use Rattle.std.proofs.lemmas.List.FromFn.{length-map-range_with_len}
+use Rattle.std.proofs.lemmas.Bool.{cases_Bool}
+use Rattle.std.proofs.lemmas.Bool.Decides.{nat_tests}
+use Rattle.pg_layout.specs.declared.position.Position.{Position}
+use Rattle.pg_layout.specs.Position.{at}
+use Rattle.pg_config.specs.Config.{get_horizontal}
+use Rattle.pg_config.specs.Spans.{size_of, rect_rows, rect_columns, owner, is_left, same_owner, begins_above}
+use Rattle.pg_picture.specs.Marks.{Mark, line, place_of}
+use Rattle.pg_picture.specs.Pieces.{Piece, style_at, block_line}
+use Rattle.pg_picture.specs.Table.{Table, rect_marks, rect_height, rect_width, block_at, row_part, vertical, is_inside, is_covered, crossing, crossing_at, column_items, horizontal_items}
+use Rattle.pg_picture.proofs.MarksOfRectangles.{marks_within-run, run_of, row_lines, rows_from}
+
+-- the index of line i among the lines of its row
+place_in_lines : (r a n i : ℕ) → i < n → place_of (line r (a + i)) (map (line r) (range_with_len a n)) ≡ i
+unfolding place_of
+place_in_lines r a zero i h = absurd (omega arith)
+place_in_lines r a (suc n) zero h = let e : ((r == r) && (a + 0 == a)) ≡ true = grind (arith, nat_tests) in rw e
+place_in_lines r a (suc n) (suc i) h =
+    let e : ((r == r) && (a + suc i == a)) ≡ false = grind (arith, nat_tests) in
+    let f : (a + 1) + i ≡ a + suc i = omega arith in
+    rw e (rw one-add (ap suc (rw f at (place_in_lines r (a + 1) n i (omega arith)))))
+
+place_in_row : (r n i : ℕ) → i < n → place_of (line r i) (map (line r) (range_with_len 0 n)) ≡ i
+place_in_row r n i h = rw zero-add at (place_in_lines r 0 n i h)
+
+-- line i of a cell that is as wide as its column and as high as its row
+abbrev pub cell_line : Table → ℕ → ℕ → ℕ → List Piece
+cell_line t r x i = block_line (style_at t.config (at r x)) (t.color (at r x)) (t.text (at r x)) (t.width x) (t.height r) i
+
+module _ (t : Table) (none : t.config.spans ≡ []) where
+  owner_plain : (r c : ℕ) → owner t.config.spans r c ≡ at r c
+  unfolding owner
+  owner_plain r c = rw none refl
+
+  rect_rows_plain : (p : Position) → rect_rows t.config.spans p ≡ 1
+  unfolding rect_rows size_of
+  rect_rows_plain p = rw none refl
+
+  rect_columns_plain : (p : Position) → rect_columns t.config.spans p ≡ 1
+  unfolding rect_columns size_of
+  rect_columns_plain p = rw none refl
+
+  pub rect_width_plain : (p : Position) → rect_width t p ≡ t.width p.col
+  unfolding rect_width
+  rect_width_plain p = rw (rect_columns_plain p) (omega arith)
+
+  rect_marks_plain : (p : Position) → p.row < t.rows → rect_marks t p ≡ map (line p.row) (range_with_len 0 (t.height p.row))
+  unfolding rect_marks run_of row_lines rows_from
+  rect_marks_plain p h =
+      rw (rect_rows_plain p) (let e = marks_within-run t.config t.height p.row 0 t.rows (omega arith) in e ∙ append-nil (map (line p.row) (range_with_len 0 (t.height p.row))))
+
+  pub rect_height_plain : (p : Position) → p.row < t.rows → rect_height t p ≡ t.height p.row
+  unfolding rect_height
+  rect_height_plain p h = ap (λ (l : List Mark). length l) (rect_marks_plain p h) ∙ length-map-range_with_len (line p.row) 0 (t.height p.row)
+
+  -- line i of a row is line i of each of its cells
+  place_plain : (r x i : ℕ) → r < t.rows → i < t.height r → place_of (line r i) (rect_marks t (at r x)) ≡ i
+  place_plain r x i h k = rw (rect_marks_plain (at r x) h) (place_in_row r (t.height r) i k)
+
+  pub block_at_plain : (r x i : ℕ) → r < t.rows → i < t.height r → block_at t (at r x) (line r i) ≡ cell_line t r x i
+  unfolding block_at
+  block_at_plain r x i h k = rw (rect_width_plain (at r x), rect_height_plain (at r x) h, place_plain r x i h k)
+
+  inside_plain : (r x : ℕ) → is_inside t r x ≡ false
+  unfolding is_inside same_owner
+  inside_plain r x = rw (owner_plain r x, owner_plain r (x - 1)) (grind (arith, nat_tests))
+
+  left_plain : (r x : ℕ) → is_left t.config.spans r x ≡ true
+  unfolding is_left
+  left_plain r x = rw (owner_plain r x) (grind (arith, nat_tests))
+
+  covered_plain : (r x : ℕ) → is_covered t r x ≡ false
+  unfolding is_covered begins_above
+  covered_plain r x = rw (owner_plain r x) (grind (arith, nat_tests))
+
+  -- column x adds its vertical and its cell's line
+  pub row_part_plain : (r i x : ℕ) → r < t.rows → i < t.height r → x < t.columns → row_part t r i x ≡ vertical t r i x ++ cell_line t r x i
+  unfolding row_part
+  row_part_plain r i x h k l =
+      let e : nat_lt x t.columns ≡ true = grind (arith, nat_tests) in
+      rw (inside_plain r x, e, left_plain r x, owner_plain r x) (ap (λ l. vertical t r i x ++ l) (block_at_plain r x i h k))
+
+  -- after the last column stands the last vertical alone
+  pub row_part_plain_end : (r i : ℕ) → row_part t r i t.columns ≡ vertical t r i t.columns
+  unfolding row_part
+  row_part_plain_end r i =
+      let e : nat_lt t.columns t.columns ≡ false = grind (arith, nat_tests) in
+      rw (inside_plain r t.columns, e) (append-nil (vertical t r i t.columns))
+
+  -- no rectangle goes through a separator
+  pub crossing_plain : (r x : ℕ) → crossing t r x ≡ crossing_at t.config t.rows t.columns (at r x)
+  unfolding crossing
+  crossing_plain r x = rw (inside_plain r x) refl
+
+  pub column_items_plain : (r x : ℕ) → x < t.columns → column_items t r x ≡ horizontal_items t r x (get_horizontal t.config (at r x) t.rows)
+  unfolding column_items
+  column_items_plain r x l = let e : nat_lt x t.columns ≡ true = grind (arith, nat_tests) in rw (covered_plain r x, e) refl
+
+  pub column_items_plain_end : (r : ℕ) → column_items t r t.columns ≡ []
+  unfolding column_items
+  column_items_plain_end r = let e : nat_lt t.columns t.columns ≡ false = grind (arith, nat_tests) in rw (covered_plain r t.columns, e) refl

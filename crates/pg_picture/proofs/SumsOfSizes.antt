@@ -1,0 +1,47 @@
+-- Sums of sizes that may not fit.
+use Rattle.std.proofs.Common.{◌≡◌, ℕ, ◌+◌, ◌-◌, ◌^◌, ◌<◌, ◌≤◌, true, false, nat_lt, [], ◌∷◌, sum_by, refl, ap, ◌∙◌, arith, Some, None, zero-add, subst, inl, inr}
+use Rattle.std.specs.List.{range_with_len}
+use Rattle.std.proofs.lemmas.List.Sums.{sum_by-append}
+use Rattle.std.proofs.lemmas.Bool.{cases_lt}
+use Rattle.std.proofs.lemmas.Bool.Decides.{nat_tests}
+use Rattle.pg_picture.specs.Sizes.{if_fits}
+use Rattle.pg_picture.proofs.Ranges.{range-add}
+
+-- what is at least 2 ^ 64 doesn't fit
+pub if_fits-past : (n : ℕ) → 2 ^ 64 ≤ n → if_fits n ≡ None
+if_fits-past n h = let e : nat_lt n (2 ^ 64) ≡ false = grind (arith, nat_tests, h) in rw e refl
+
+pub if_fits-below : (n : ℕ) → n < 2 ^ 64 → if_fits n ≡ Some n
+if_fits-below n h = let e : nat_lt n (2 ^ 64) ≡ true = grind (arith, nat_tests, h) in rw e refl
+
+-- what doesn't fit leaves nothing above it that does
+pub if_fits-above : (n m : ℕ) → (n < 2 ^ 64 → ⊥) → n ≤ m → if_fits m ≡ None
+if_fits-above n m h l = elim (cases_lt n (2 ^ 64)) [ inl y ↦ absurd (h y) | inr g ↦ if_fits-past m (omega (arith, g, l)) ]
+
+-- the sum over one number more
+pub sum_by-from_more : (f : ℕ → ℕ) (a k : ℕ) → sum_by f (range_with_len a (k + 1)) ≡ sum_by f (range_with_len a k) + f (a + k)
+sum_by-from_more f a k =
+    ap (λ l. sum_by f l) (range-add a k 1)
+    ∙ sum_by-append f (range_with_len a k) ((a + k) ∷ [])
+    ∙ ap (λ n. sum_by f (range_with_len a k) + n) (zero-add (f (a + k)))
+
+-- a sum cut at a number
+pub sum_by-from_cut : (f : ℕ → ℕ) (a k n : ℕ) → k ≤ n → sum_by f (range_with_len a n) ≡ sum_by f (range_with_len a k) + sum_by f (range_with_len (a + k) (n - k))
+sum_by-from_cut f a k n h =
+    let e : k + (n - k) ≡ n = omega arith in
+    subst (λ m. sum_by f (range_with_len a m) ≡ sum_by f (range_with_len a k) + sum_by f (range_with_len (a + k) (n - k))) e
+    (ap (λ l. sum_by f l) (range-add a k (n - k)) ∙ sum_by-append f (range_with_len a k) (range_with_len (a + k) (n - k)))
+
+-- a partial sum is at most the whole one
+pub sum_by-from_le : (f : ℕ → ℕ) (a k n : ℕ) → k < n → sum_by f (range_with_len a k) + f (a + k) ≤ sum_by f (range_with_len a n)
+sum_by-from_le f a k n h = omega (arith, sum_by-from_cut f a (k + 1) n (omega arith), sum_by-from_more f a k)
+
+-- a sum over a part of the numbers is at most the whole one
+pub sum_by-part_le : (f : ℕ → ℕ) (a k n : ℕ) → a + k ≤ n → sum_by f (range_with_len a k) ≤ sum_by f (range_with_len 0 n)
+sum_by-part_le f a k n h =
+    let front = sum_by-from_cut f 0 a n (omega arith) in
+    let rest = sum_by-from_cut f (0 + a) k (n - a) (omega arith) in
+    let z : 0 + a ≡ a = omega arith in
+    let r2 = subst (λ b. sum_by f (range_with_len b (n - a)) ≡ sum_by f (range_with_len b k) + sum_by f (range_with_len (b + k) (n - a - k))) z rest in
+    let f2 = subst (λ b. sum_by f (range_with_len 0 n) ≡ sum_by f (range_with_len 0 a) + sum_by f (range_with_len b (n - a))) z front in
+    omega (arith, r2, f2)

@@ -1,0 +1,7 @@
+use Rattle.std.proofs.Common.{◌*◌}
+use Rattle.pg_picture.specs.Appending.{Gained}
+use Rattle.pg_picture.specs.Pieces.{repeated}
+use Rattle.pg_picture.proofs.fill.push_blocks.Given as goal
+
+abbrev pub invariant-loop : goal.invariant-loop
+invariant-loop g l = Gained l.fn.buf l.buf (repeated l.c (l.counter * 64))

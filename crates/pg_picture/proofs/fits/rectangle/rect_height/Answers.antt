@@ -1,0 +1,18 @@
+use Rattle.std.proofs.Common.{◌≡◌, ◌+◌, ◌-◌, ◌^◌, true, nat_lt, sum_by, count_by, refl, sym, ap, ◌∙◌, arith}
+use Rattle.std.specs.List.{range_with_len}
+use Rattle.std.proofs.lemmas.Bool.Decides.{nat_tests}
+use Rattle.pg_config.specs.Config.{has_horizontal}
+use Rattle.pg_config.specs.Spans.{rect_rows}
+use Rattle.pg_picture.specs.Sizes.{if_fits}
+use Rattle.pg_picture.proofs.HeightsOfRectangles.{height_of_rect-sum}
+use Rattle.pg_picture.proofs.fits.rectangle.rect_height.Goals as goal
+
+pub returns : goal.returns
+returns g c =
+    let count = c.rect_rows-count.ensures in
+    let fits : nat_lt (c.args.pos.row + rect_rows c.args.config.now.spans c.args.pos) (2 ^ 64) ≡ true = grind (arith, nat_tests, count, c.in_ok-end.ensures.0) in
+    let e : sum_by (g.D.Dimension.height c.args.dimension.now) (range_with_len c.args.pos.row c.rect_rows-count.result) + c.count_horizontals.result
+    ≡ sum_by (g.D.Dimension.height c.args.dimension.now) (range_with_len c.args.pos.row (rect_rows c.args.config.now.spans c.args.pos)) + count_by (λ r. has_horizontal c.args.config.now r (c.args.pos.row + rect_rows c.args.config.now.spans c.args.pos)) (range_with_len (c.args.pos.row + 1) (rect_rows c.args.config.now.spans c.args.pos - 1))
+    = rw (c.count_horizontals.ensures, c.in_ok-end.ensures.1, c.rect_rows-count.ensures) refl in
+    let whole = sym (height_of_rect-sum c.args.config.now (g.D.Dimension.height c.args.dimension.now) c.args.pos c.requires) in
+    rw fits (c.plus.ensures _ c.sum_heights.ensures ∙ ap (λ n. if_fits n) (e ∙ whole))

@@ -1,0 +1,10 @@
+pub mod Appending
+pub mod Marks
+pub mod Pieces
+pub mod Table
+pub mod CompactLines
+pub mod Fits
+pub mod Joined
+pub mod Cells
+pub mod Sizes
+pub mod FitLaws

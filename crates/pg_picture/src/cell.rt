@@ -1,0 +1,237 @@
+//! The lines of a cell: its text lines, and the fills above and below them.
+
+ghost use Rattle.std.specs.Prelude.{◌≡◌, ◌+◌, ◌<◌, ◌≤◌, ◌++◌, [], ℕ, length, IfSome, slice_index_or};
+ghost use Rattle.pg_layout.specs.Colors.{lent_color};
+ghost use Rattle.pg_layout.specs.Text.{lines_of, width_of};
+ghost use Rattle.pg_picture.specs.Appending.{Appends};
+ghost use Rattle.pg_picture.specs.Pieces.{written, fill, widest, trimmed_if, inner_width, line_with, block_line};
+ghost use Rattle.pg_picture.specs.Cells.{style_of, facts_of, place_of, share_of, line_if, line_parts, placed_line};
+
+use crate::facts::{TextFacts, single_line_width, trim_if};
+use crate::piece::{push_fill, push_words};
+use crate::place::CellPlace;
+use crate::share::calculate_indent;
+use crate::style::CellStyle;
+use pg_layout::{ANSIBuf, ANSIFmt, get_line, get_line_width};
+use std::alloc::{AllocError, Allocator};
+
+/// Appends a line of text between its cell's side paddings: the left padding, `left` columns of
+/// justification or else the line's own left share, the line in its colour, what is left of the
+/// width, and the right padding. The line is written as it is, also where the style trims.
+///
+/// The cell has room for all of them. An error comes only where the buffer's room is too small; the
+/// buffer then holds a beginning.
+#[inline(always)]
+pub fn push_text_line<C: ANSIFmt, B: Allocator, A: Allocator>(
+    buf: &mut String<A>,
+    style: &CellStyle<'_, B>,
+    color: Option<&C>,
+    line: &str,
+    left: Option<usize>,
+    width: usize,
+) -> Result<(), AllocError>
+    requires { style.now.padding.left.size + style.now.padding.right.size + share_of (style_of style.now) left width (width_of line.now) + width_of line.now ≤ width }
+    ensures { Appends buf.old buf.new result (written (line_with (style_of style.now) (lent_color C.color_of color.entry) width (share_of (style_of style.now) left width (width_of line.now)) line.now)) }
+{
+    push_line_of_width(buf, style, color, line, get_line_width(line), left, width)
+}
+
+// The same where the line's width is known.
+#[inline(always)]
+#[tactic(auto, unfolding(crate::specs::Pieces::inner_width))]
+fn push_line_of_width<C: ANSIFmt, B: Allocator, A: Allocator>(
+    buf: &mut String<A>,
+    style: &CellStyle<'_, B>,
+    color: Option<&C>,
+    line: &str,
+    line_width: usize,
+    left: Option<usize>,
+    width: usize,
+) -> Result<(), AllocError>
+    requires known { line_width ≡ width_of line.now }
+    requires room { style.now.padding.left.size + style.now.padding.right.size + share_of (style_of style.now) left width line_width + line_width ≤ width }
+    ensures { Appends buf.old buf.new result (written (line_with (style_of style.now) (lent_color C.color_of color.entry) width (share_of (style_of style.now) left width (width_of line.now)) line.now)) }
+{
+    let inner = style.inner_width(width);
+    let share = columns_left(style, left, line_width, width);
+    push_parts(buf, style, color, line, share, inner - share - line_width)
+}
+
+// How many columns stand left of a line.
+#[inline(always)]
+#[tactic(auto, unfolding(crate::specs::Pieces::inner_width))]
+fn columns_left<B: Allocator>(
+    style: &CellStyle<'_, B>,
+    left: Option<usize>,
+    line_width: usize,
+    width: usize,
+) -> usize
+    requires { style.now.padding.left.size + style.now.padding.right.size + line_width ≤ width }
+    ensures { result ≡ share_of (style_of style.now) left width line_width }
+{
+    match left {
+        Some(share) => share,
+        None => {
+            let inner = style.inner_width(width);
+            calculate_indent(style.alignment_horizontal, line_width, inner).0
+        }
+    }
+}
+
+// The parts of a line, of which the shares are known.
+#[inline(always)]
+fn push_parts<C: ANSIFmt, B: Allocator, A: Allocator>(
+    buf: &mut String<A>,
+    style: &CellStyle<'_, B>,
+    color: Option<&C>,
+    line: &str,
+    share: usize,
+    rest: usize,
+) -> Result<(), AllocError>
+    ensures { Appends buf.old buf.new result (line_parts (style_of style.now) (lent_color C.color_of color.entry) share rest line.now) }
+{
+    push_left_side(buf, style, share)?;
+    push_words(buf, line, color)?;
+    push_right_side(buf, style, rest)
+}
+
+// What stands left of a line.
+#[inline(always)]
+fn push_left_side<B: Allocator, A: Allocator>(
+    buf: &mut String<A>,
+    style: &CellStyle<'_, B>,
+    share: usize,
+) -> Result<(), AllocError>
+    ensures { Appends buf.old buf.new result (written (fill style.now.padding.left.fill style.now.padding.left.size (style_of style.now).padding_color.left) ++ written (fill style.now.justification share (style_of style.now).justification_color)) }
+{
+    let left = style.padding.left;
+    push_fill(buf, left.fill, left.size, style.padding_color.left.as_ref())?;
+    push_fill(buf, style.justification, share, style.justification_color)
+}
+
+// What stands right of a line.
+#[inline(always)]
+fn push_right_side<B: Allocator, A: Allocator>(
+    buf: &mut String<A>,
+    style: &CellStyle<'_, B>,
+    rest: usize,
+) -> Result<(), AllocError>
+    ensures { Appends buf.old buf.new result (written (fill style.now.justification rest (style_of style.now).justification_color) ++ written (fill style.now.padding.right.fill style.now.padding.right.size (style_of style.now).padding_color.right)) }
+{
+    let right = style.padding.right;
+    push_fill(buf, style.justification, rest, style.justification_color)?;
+    push_fill(
+        buf,
+        right.fill,
+        right.size,
+        style.padding_color.right.as_ref(),
+    )
+}
+
+/// Appends line `i` of a cell of so many columns, whose text stands at this place: a line of the top
+/// padding, a text line, or a line of the bottom padding. `line` is the one of the text's lines that
+/// [`CellPlace::text_line_at`] names, and any text where it names none.
+///
+/// The cell has room for the line. An error comes only where the buffer's room is too small; the
+/// buffer then holds a beginning.
+#[inline(always)]
+pub fn push_block_line_of<C: ANSIFmt, B: Allocator, A: Allocator>(
+    buf: &mut String<A>,
+    style: &CellStyle<'_, B>,
+    color: Option<&C>,
+    line: &str,
+    place: CellPlace,
+    width: usize,
+    i: usize,
+) -> Result<(), AllocError>
+    requires { place.top ≤ i → i < place.top + place.shown → style.now.padding.left.size + style.now.padding.right.size + share_of (style_of style.now) place.left width (width_of (trimmed_if style.now.formatting.horizontal_trim line.now)) + width_of (trimmed_if style.now.formatting.horizontal_trim line.now) ≤ width }
+    ensures { Appends buf.old buf.new result (written (placed_line (style_of style.now) (lent_color C.color_of color.entry) place width i line.now)) }
+{
+    if i < place.top {
+        return push_fill_line(buf, style.padding.top.fill, width, &style.padding_color.top);
+    }
+    if i - place.top < place.shown {
+        let shown = trim_if(line, style.formatting.horizontal_trim);
+        return push_text_line(buf, style, color, shown, place.left, width);
+    }
+    push_fill_line(
+        buf,
+        style.padding.bottom.fill,
+        width,
+        &style.padding_color.bottom,
+    )
+}
+
+// A line above or below a text, in the colour of that padding.
+#[inline(always)]
+fn push_fill_line<B: Allocator, A: Allocator>(
+    buf: &mut String<A>,
+    c: char,
+    width: usize,
+    color: &Option<ANSIBuf<B>>,
+) -> Result<(), AllocError>
+    ensures { Appends buf.old buf.new result (written (fill c width color.now)) }
+{
+    push_fill(buf, c, width, color.as_ref())
+}
+
+/// Appends line `i` of a cell of so many columns and lines: a line of the top padding, a line of its
+/// text, or a line of the bottom padding. `place` is that of the text in this cell.
+///
+/// The cell has room: for the side paddings and the widest line, and for the top padding. An error
+/// comes only where the buffer's room is too small; the buffer then holds a beginning.
+pub fn push_block_line<C: ANSIFmt, B: Allocator, A: Allocator>(
+    buf: &mut String<A>,
+    style: &CellStyle<'_, B>,
+    color: Option<&C>,
+    text: &str,
+    place: CellPlace,
+    width: usize,
+    height: usize,
+    i: usize,
+) -> Result<(), AllocError>
+    requires place { place ≡ place_of (facts_of style.now.formatting text.now) (style_of style.now) width height }
+    requires width { style.now.padding.left.size + style.now.padding.right.size + widest style.now.formatting text.now ≤ width }
+    ensures { Appends buf.old buf.new result (written (block_line (style_of style.now) (lent_color C.color_of color.entry) text.now width height i)) }
+{
+    let line = line_if(text, place.text_line_at(i));
+    push_block_line_of(buf, style, color, line, place, width, i)
+}
+
+// The line of this number, or an empty one.
+#[inline(always)]
+fn line_if(text: &str, line: Option<usize>) -> &str
+    requires { IfSome line (λ k. k < length (lines_of text.now)) }
+    ensures { result.now ≡ line_if text.now line }
+{
+    match line {
+        Some(line) => get_line(text, line),
+        None => "",
+    }
+}
+
+/// Appends the one line of a cell of so many columns and height 1.
+///
+/// The cell has room: for the side paddings and the widest line, and for the top padding. An error
+/// comes only where the buffer's room is too small; the buffer then holds a beginning.
+#[inline(always)]
+pub fn push_single_line<C: ANSIFmt, B: Allocator, A: Allocator>(
+    buf: &mut String<A>,
+    style: &CellStyle<'_, B>,
+    color: Option<&C>,
+    text: &str,
+    width: usize,
+) -> Result<(), AllocError>
+    requires width { style.now.padding.left.size + style.now.padding.right.size + widest style.now.formatting text.now ≤ width }
+    requires height { style.now.padding.top.size ≤ 1 }
+    ensures { Appends buf.old buf.new result (written (block_line (style_of style.now) (lent_color C.color_of color.entry) text.now width 1 0)) }
+{
+    if style.shows_texts_whole() {
+        if let Some(line_width) = single_line_width(text) {
+            return push_line_of_width(buf, style, color, text, line_width, None, width);
+        }
+    }
+    let facts = TextFacts::of_text(text, style.formatting);
+    let place = CellPlace::of(facts, style, width, 1);
+    push_block_line(buf, style, color, text, place, width, 1, 0)
+}

@@ -1,0 +1,63 @@
+//! The parts of a compact separator, and the colour that is open while they are appended.
+
+ghost use Rattle.std.specs.Prelude.{◌≡◌, Option, None, IfOk, option_map};
+ghost use Rattle.pg_layout.specs.Colors.{Color, str_color};
+ghost use Rattle.pg_picture.specs.Appending.{Appends};
+ghost use Rattle.pg_picture.specs.CompactLines.{own_or, part_after};
+ghost use Rattle.pg_picture.specs.Pieces.{cut};
+
+use crate::cut::{push_after_cut, push_cut};
+use pg_layout::ANSIStr;
+use std::alloc::{AllocError, Allocator};
+use std::marker::Model;
+
+/// The colour that is open at the end of a compact separator's parts so far.
+///
+/// Each call takes the run and hands it back with the colour that is open then; after a refusal
+/// there is no run, and the buffer holds a beginning of what the call appends.
+#[derive(Debug, Drop)]
+pub struct CompactRun<'a> {
+    open: Option<ANSIStr<'a>>,
+}
+
+impl<'a> Model for CompactRun<'a> {
+    ghost Value = { Option Color };
+
+    ghost view = { λ run. option_map str_color run.open };
+}
+
+impl<'a> CompactRun<'a> {
+    /// No part, and no colour is open.
+    pub fn new() -> CompactRun<'a>
+        ensures { result ≡ None }
+    {
+        CompactRun { open: None }
+    }
+
+    /// Appends a part: a character `count` times, in its own colour; one that has none stands in
+    /// the colour that is open.
+    #[inline(always)]
+    pub fn part<A: Allocator>(
+        self,
+        buf: &mut String<A>,
+        c: char,
+        count: usize,
+        color: Option<ANSIStr<'a>>,
+    ) -> Result<CompactRun<'a>, AllocError>
+        ensures appends { Appends buf.old buf.new result (part_after self.entry (c, count, option_map str_color color.entry)) }
+        ensures color { IfOk result (λ run. run ≡ own_or (option_map str_color color.entry) self.entry) }
+    {
+        let open = color.or(self.open);
+        push_after_cut(buf, self.open.as_ref(), c, count, open.as_ref())?;
+        Ok(CompactRun { open })
+    }
+
+    /// Closes the colour at the end of the line.
+    #[inline(always)]
+    pub fn close<A: Allocator>(self, buf: &mut String<A>) -> Result<(), AllocError>
+        ensures { Appends buf.old buf.new result (cut self.entry None) }
+    {
+        let none: Option<&ANSIStr<'a>> = None;
+        push_cut(buf, self.open.as_ref(), none)
+    }
+}

@@ -1,0 +1,169 @@
+//! What is known of a text before it is placed: its blank lines, its shown lines and its width.
+
+ghost use Rattle.std.specs.Prelude.{◌≡◌, ◌+◌, ◌<◌, ◌∷◌, [], IfSome, length, map};
+ghost use Rattle.pg_layout.specs.Text.{lines_of, width_of, greatest};
+ghost use Rattle.pg_layout.specs.Records.{text_at};
+ghost use Rattle.pg_picture.specs.Pieces.{trimmed_if};
+ghost use Rattle.pg_picture.specs.Cells.{with_line, empty_lines_of, facts_of};
+
+use pg_layout::{
+    Formatting, PeekableRecords, Position, count_lines, get_line_width, get_lines, get_text_width,
+    is_blank, is_plain,
+};
+
+/// How many of the lines read so far are blank at the front, are blank at the end, and stand
+/// between.
+#[derive(Debug, Clone, Copy)]
+struct BlankEnds {
+    shown: usize,
+    top: usize,
+    bottom: usize,
+}
+
+impl BlankEnds {
+    // The same with one line more.
+    fn with_line(self, is_blank: bool) -> BlankEnds
+        requires { self.shown + self.top + self.bottom < usize.MAX }
+        ensures { result ≡ with_line self is_blank }
+    {
+        let BlankEnds { shown, top, bottom } = self;
+        if !is_blank {
+            return BlankEnds {
+                shown: shown + bottom + 1,
+                top,
+                bottom: 0,
+            };
+        }
+        if shown == 0 {
+            return BlankEnds {
+                shown,
+                top: top + 1,
+                bottom,
+            };
+        }
+        BlankEnds {
+            shown,
+            top,
+            bottom: bottom + 1,
+        }
+    }
+}
+
+/// How many lines of a text stand from the first to the last one that isn't blank, how many blank
+/// ones before them, and how many after them. A wholly blank text of k lines gives (0, k, 0).
+pub fn count_empty_lines(text: &str) -> (usize, usize, usize)
+    ensures { result ≡ empty_lines_of (lines_of text.now) }
+{
+    let mut ends = BlankEnds {
+        shown: 0,
+        top: 0,
+        bottom: 0,
+    };
+    for line in get_lines(text) {
+        ends = ends.with_line(is_blank(line));
+    }
+    (ends.shown, ends.top, ends.bottom)
+}
+
+/// A line, trimmed of (Unicode) white space at both ends where that is wanted.
+#[inline(always)]
+#[tactic(auto, unfolding(crate::specs::Pieces::trimmed_if))]
+pub(crate) fn trim_if(line: &str, trim: bool) -> &str
+    ensures { result.now ≡ trimmed_if trim line.now }
+{
+    if trim { line.trim() } else { line }
+}
+
+/// How many terminal columns a text takes that is one line; nothing where it has more lines.
+#[inline(always)]
+pub(crate) fn single_line_width(text: &str) -> Option<usize>
+    ensures one { IfSome result (λ _. lines_of text.now ≡ text.now ∷ []) }
+    ensures width { IfSome result (λ width. width ≡ width_of text.now) }
+{
+    if is_plain(text.as_bytes()) {
+        return Some(text.len());
+    }
+    if count_lines(text) == 1 {
+        return Some(get_line_width(text));
+    }
+    None
+}
+
+/// How many terminal columns the widest line of a text takes, each line trimmed where that is
+/// wanted.
+pub fn text_width(text: &str, trim: bool) -> usize
+    ensures { result ≡ greatest (map (λ line. width_of (trimmed_if trim line)) (lines_of text.now)) }
+{
+    if !trim {
+        return get_text_width(text);
+    }
+    get_lines(text).fold(0, |width, line| width.max(get_line_width(line.trim())))
+}
+
+/// What is known of a text before it is placed in a cell.
+#[derive(Debug, Clone, Copy, PartialEq, Eq)]
+pub struct TextFacts {
+    /// How many lines can be shown.
+    pub shown: usize,
+    /// How many blank lines at the front are left out.
+    pub skip: usize,
+    /// How many terminal columns the widest of all lines takes.
+    pub widest: usize,
+}
+
+impl TextFacts {
+    /// The facts of a text, whose lines are read once.
+    pub fn of_text(text: &str, formatting: Formatting) -> TextFacts
+        ensures { result ≡ facts_of formatting text.now }
+    {
+        let Formatting {
+            horizontal_trim,
+            vertical_trim,
+            ..
+        } = formatting;
+        if !horizontal_trim && !vertical_trim {
+            if let Some(widest) = single_line_width(text) {
+                return TextFacts {
+                    shown: 1,
+                    skip: 0,
+                    widest,
+                };
+            }
+        }
+        TextFacts::of_lines(text, formatting)
+    }
+
+    // The facts of a text, line by line.
+    fn of_lines(text: &str, formatting: Formatting) -> TextFacts
+        ensures { result ≡ facts_of formatting text.now }
+    {
+        let mut ends = BlankEnds {
+            shown: 0,
+            top: 0,
+            bottom: 0,
+        };
+        let mut widest = 0;
+        for line in get_lines(text) {
+            ends = ends.with_line(formatting.vertical_trim && is_blank(line));
+            widest = widest.max(get_line_width(trim_if(line, formatting.horizontal_trim)));
+        }
+        TextFacts {
+            shown: ends.shown,
+            skip: ends.top,
+            widest,
+        }
+    }
+
+    /// The facts of the text at a place of records.
+    pub fn of_records<R: PeekableRecords>(
+        records: &R,
+        pos: Position,
+        formatting: Formatting,
+    ) -> TextFacts
+        requires row { pos.row < length (R.texts records.now) }
+        requires column { pos.col < R.columns records.now }
+        ensures { result ≡ facts_of formatting (text_at (R.texts records.now) pos) }
+    {
+        TextFacts::of_text(records.get_text(pos), formatting)
+    }
+}

@@ -1,0 +1,107 @@
+//! Texts, characters and fills: what each longer piece is appended by.
+
+ghost use Rattle.std.specs.Prelude.{◌≡◌, ◌≤◌, encode_utf8};
+ghost use Rattle.pg_picture.specs.Appending.{Appends};
+ghost use Rattle.pg_picture.specs.Pieces.{repeated};
+
+use std::alloc::{AllocError, Allocator};
+
+/// How many characters a block has.
+const BLOCK: usize = 64;
+
+const SPACES: &str = "                                                                ";
+
+const DASHES: &str = "----------------------------------------------------------------";
+
+const LINES: &str = "────────────────────────────────────────────────────────────────";
+
+/// Appends a text.
+///
+/// An `Err` comes only where the buffer has no room for the text and gets no more memory.
+#[inline(always)]
+pub fn push_text<A: Allocator>(buf: &mut String<A>, text: &str) -> Result<(), AllocError>
+    ensures { Appends buf.old buf.new result text.now }
+{
+    buf.push_str(text)
+}
+
+/// Appends a character.
+///
+/// An `Err` comes only where the buffer has no room for it and gets no more memory.
+#[inline(always)]
+pub fn push_char<A: Allocator>(buf: &mut String<A>, c: char) -> Result<(), AllocError>
+    ensures { Appends buf.old buf.new result (encode_utf8 c) }
+{
+    buf.push(c)
+}
+
+/// Appends a character `count` times.
+///
+/// An `Err` comes only where the buffer has no room for all of them and gets no more memory; then
+/// some of their bytes may stand in it.
+#[inline(always)]
+pub fn push_repeated<A: Allocator>(
+    buf: &mut String<A>,
+    c: char,
+    count: usize,
+) -> Result<(), AllocError>
+    ensures { Appends buf.old buf.new result (repeated c count) }
+{
+    if count == 1 {
+        return push_char(buf, c);
+    }
+    let is_short = c == ' ' && count <= BLOCK;
+    if is_short {
+        return push_text(buf, front_of(SPACES, ' ', count));
+    }
+    push_run(buf, c, count)
+}
+
+/// The first `count` characters of a block, which is one character over and over.
+#[inline(always)]
+fn front_of(block: &str, c: char, count: usize) -> &str
+    requires block { block.now ≡ repeated c BLOCK }
+    requires few { count ≤ BLOCK }
+    ensures { result.now ≡ repeated c count }
+{
+    &block[..count * c.len_utf8()]
+}
+
+// The rare way of `push_repeated`, kept out of line so that the usual way stays short.
+#[inline(never)]
+fn push_run<A: Allocator>(buf: &mut String<A>, c: char, count: usize) -> Result<(), AllocError>
+    ensures { Appends buf.old buf.new result (repeated c count) }
+{
+    match c {
+        ' ' => push_blocks(buf, SPACES, ' ', count),
+        '-' => push_blocks(buf, DASHES, '-', count),
+        '─' => push_blocks(buf, LINES, '─', count),
+        _ => push_each(buf, c, count),
+    }
+}
+
+// Whole blocks, and the front of one.
+fn push_blocks<A: Allocator>(
+    buf: &mut String<A>,
+    block: &str,
+    c: char,
+    count: usize,
+) -> Result<(), AllocError>
+    requires { block.now ≡ repeated c BLOCK }
+    ensures { Appends buf.old buf.new result (repeated c count) }
+{
+    for _ in 0..count / BLOCK {
+        push_text(buf, block)?;
+    }
+    push_text(buf, front_of(block, c, count % BLOCK))
+}
+
+// A character that has no block.
+fn push_each<A: Allocator>(buf: &mut String<A>, c: char, count: usize) -> Result<(), AllocError>
+    ensures { Appends buf.old buf.new result (repeated c count) }
+{
+    for _ in 0..count {
+        push_char(buf, c)?;
+    }
+    Ok(())
+}

@@ -1,0 +1,26 @@
+//! The conditions of a table, as tests that a caller can make.
+
+mod laws;
+mod rectangle;
+mod room;
+mod spans;
+mod table;
+mod totals;
+
+pub use crate::fits::laws::{heights_are_lines, no_misfit_means_fits, spans_fit_by_places};
+pub use crate::fits::rectangle::{rect_height, rect_width};
+pub use crate::fits::room::cell_fits;
+pub use crate::fits::spans::{spans_fit, spans_fit_columns};
+pub use crate::fits::table::table_fits;
+pub use crate::fits::totals::{body_height, full_width, totals_fit};
+
+/// What doesn't fit in a table.
+#[derive(Debug, Clone, Copy, PartialEq, Eq)]
+pub enum Misfit {
+    /// A span is 0, leaves the table, or shares a place with another one.
+    Spans,
+    /// A total is no number of 64 bits, or the rows or columns are too many to count.
+    Totals,
+    /// The cell in this row and this column has no room for its text and its paddings.
+    Room(usize, usize),
+}

@@ -1,0 +1,85 @@
+//! The width and the height of a rectangle.
+
+ghost use Rattle.std.specs.Prelude.{◌≡◌, ℕ, ◌+◌, ◌^◌, ◌<◌, ◌≤◌, nat_lt, count_by, None, if◌then◌else◌};
+ghost use Rattle.std.specs.List.{range_with_len};
+ghost use Rattle.pg_config.specs.Config.{has_horizontal, has_vertical};
+ghost use Rattle.pg_config.specs.Spans.{rect_rows, rect_columns};
+ghost use Rattle.pg_picture.specs.Table.{rect_width};
+ghost use Rattle.pg_picture.specs.Sizes.{if_fits, sized, height_of_rect};
+
+use crate::fits::totals::{plus, sum_heights, sum_widths};
+use pg_config::SpannedConfig;
+use pg_layout::{Dimension, Position};
+use std::alloc::Allocator;
+
+/// How many terminal columns the rectangle of a place takes in a table of so many columns: its
+/// columns and the verticals between them. None where that passes `usize::MAX`.
+///
+/// The rectangle has a column, and its columns end inside the table ([`crate::fits::spans_fit`]).
+/// Takes no memory.
+pub fn rect_width<A: Allocator, D: Dimension>(
+    config: &SpannedConfig<A>,
+    dimension: &D,
+    pos: Position,
+    columns: usize,
+) -> Option<usize>
+    requires some { 0 < rect_columns config.now.spans pos }
+    requires inside { pos.col + rect_columns config.now.spans pos ≤ columns }
+    ensures { (rows : ℕ) → result ≡ if_fits (rect_width (sized config.now (D.width dimension.now) (D.height dimension.now) rows columns) pos) }
+{
+    let count = config.rect_columns(pos);
+    plus(
+        sum_widths(dimension, pos.col, count),
+        count_verticals(config, pos.col + 1, count - 1, columns),
+    )
+}
+
+/// How many lines the rectangle of a place has in each table that it ends in: those of its rows and
+/// the separators between them. None where that or the rectangle's end passes `usize::MAX`.
+///
+/// The rectangle has a row ([`crate::fits::spans_fit_columns`]). Takes no memory.
+pub fn rect_height<A: Allocator, D: Dimension>(
+    config: &SpannedConfig<A>,
+    dimension: &D,
+    pos: Position,
+) -> Option<usize>
+    requires { 0 < rect_rows config.now.spans pos }
+    ensures { result ≡ (if nat_lt (pos.row + rect_rows config.now.spans pos) (2 ^ 64) then if_fits (height_of_rect config.now (D.height dimension.now) pos) else None) }
+{
+    let count = config.rect_rows(pos);
+    let end = pos.row.checked_add(count)?;
+    plus(
+        sum_heights(dimension, pos.row, count),
+        count_horizontals(config, pos.row + 1, count - 1, end),
+    )
+}
+
+// How many of so many column lines from a first one on are there.
+fn count_verticals<A: Allocator>(
+    config: &SpannedConfig<A>,
+    first: usize,
+    count: usize,
+    columns: usize,
+) -> usize
+    requires { first + count ≤ usize.MAX }
+    ensures { result ≡ count_by (λ c. has_vertical config.now c columns) (range_with_len first count) }
+{
+    (first..first + count)
+        .filter(|column| config.has_vertical(*column, columns))
+        .count()
+}
+
+// How many of so many row lines from a first one on are there.
+fn count_horizontals<A: Allocator>(
+    config: &SpannedConfig<A>,
+    first: usize,
+    count: usize,
+    rows: usize,
+) -> usize
+    requires { first + count ≤ usize.MAX }
+    ensures { result ≡ count_by (λ r. has_horizontal config.now r rows) (range_with_len first count) }
+{
+    (first..first + count)
+        .filter(|row| config.has_horizontal(*row, rows))
+        .count()
+}

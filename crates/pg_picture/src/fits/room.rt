@@ -1,0 +1,44 @@
+//! The room of a cell.
+
+ghost use Rattle.std.specs.Prelude.{◌≡◌, ◌+◌, ◌-◌, ◌≤◌, SomeIff};
+ghost use Rattle.pg_picture.specs.Pieces.{style_at};
+ghost use Rattle.pg_picture.specs.Fits.{cell_fits};
+
+use crate::facts::text_width;
+use pg_config::SpannedConfig;
+use pg_layout::{Indent, Position, Sides};
+use std::alloc::Allocator;
+
+// How many columns the side paddings leave, or None where they take too many.
+fn inner_width(padding: Sides<Indent>, width: usize) -> Option<usize>
+    ensures { SomeIff result (padding.left.size + padding.right.size ≤ width) (width - (padding.left.size + padding.right.size)) }
+{
+    width
+        .checked_sub(padding.left.size)?
+        .checked_sub(padding.right.size)
+}
+
+/// Whether a cell of so many columns and lines has room for its side paddings beside its widest
+/// line, and for its top padding. A cell of height 0 needs none, and its text isn't read.
+///
+/// Takes no memory.
+#[tactic(auto, unfolding(crate::specs::Fits::cell_fits, crate::specs::Pieces::style_at, crate::specs::Pieces::widest))]
+pub fn cell_fits<A: Allocator>(
+    text: &str,
+    config: &SpannedConfig<A>,
+    pos: Position,
+    width: usize,
+    height: usize,
+) -> bool
+    ensures { result ≡ cell_fits (style_at config.now pos) text.now width height }
+{
+    if height == 0 {
+        return true;
+    }
+    let padding = config.get_padding(pos);
+    let trim = config.get_formatting(pos).horizontal_trim;
+    match inner_width(padding, width) {
+        Some(inner) => padding.top.size <= height && text_width(text, trim) <= inner,
+        None => false,
+    }
+}

@@ -1,0 +1,147 @@
+//! The conditions of a whole table.
+
+ghost use Rattle.std.specs.Prelude.{◌≡◌, ◌<◌, true, length, find, option_map};
+ghost use Rattle.pg_layout.specs.Records.{text_at};
+ghost use Rattle.pg_layout.specs.Position.{at, is_at};
+ghost use Rattle.pg_config.specs.Spans.{owner, in_span};
+ghost use Rattle.pg_picture.specs.Fits.{spans_fit, totals_fit, owner_fits, misfit_of};
+ghost use Rattle.pg_picture.specs.Sizes.{table_of, unless_misfit, first_misfit, row_places, places_from};
+
+use crate::fits::Misfit;
+use crate::fits::rectangle::{rect_height, rect_width};
+use crate::fits::room::cell_fits;
+use crate::fits::spans::spans_fit;
+use crate::fits::totals::totals_fit;
+use pg_config::{Span, SpannedConfig};
+use pg_layout::{Dimension, ExactRecords, PeekableRecords, Position, Records};
+use std::alloc::Allocator;
+
+/// Whether a table of these records fits: the first of its misfits, its spans before its totals,
+/// these before the room of its cells, and the cells row by row. A table with no rows or no columns
+/// fits.
+///
+/// Takes no memory. Colours don't matter.
+#[tactic(auto, unfolding(crate::specs::Fits::misfit_of))]
+pub fn table_fits<R, A, D>(
+    records: &R,
+    config: &SpannedConfig<A>,
+    dimension: &D,
+) -> Result<(), Misfit>
+where
+    R: Records + PeekableRecords + ExactRecords,
+    A: Allocator,
+    D: Dimension,
+    ensures { result ≡ unless_misfit (misfit_of (table_of config.now (D.width dimension.now) (D.height dimension.now) (R.texts records.now) (R.columns records.now))) }
+{
+    let (rows, columns) = (records.count_rows(), records.count_columns());
+    if rows == 0 || columns == 0 {
+        return Ok(());
+    }
+    if !spans_fit(config, rows, columns) {
+        return Err(Misfit::Spans);
+    }
+    if !totals_fit(config, dimension, rows, columns) {
+        return Err(Misfit::Totals);
+    }
+    match first_misfit(records, config, dimension) {
+        Some(misfit) => Err(misfit),
+        None => Ok(()),
+    }
+}
+
+// The first cell without room.
+fn first_misfit<R, A, D>(records: &R, config: &SpannedConfig<A>, dimension: &D) -> Option<Misfit>
+where
+    R: Records + PeekableRecords + ExactRecords,
+    A: Allocator,
+    D: Dimension,
+    requires spans { spans_fit config.now.spans (length (R.texts records.now)) (R.columns records.now) ≡ true }
+    requires totals { totals_fit (table_of config.now (D.width dimension.now) (D.height dimension.now) (R.texts records.now) (R.columns records.now)) ≡ true }
+    ensures { result ≡ first_misfit (table_of config.now (D.width dimension.now) (D.height dimension.now) (R.texts records.now) (R.columns records.now)) (places_from (length (R.texts records.now)) (R.columns records.now) 0) }
+{
+    for row in 0..records.count_rows() {
+        if let Some(misfit) = misfit_in_row(records, config, dimension, row) {
+            return Some(misfit);
+        }
+    }
+    None
+}
+
+// The first cell of a row without room.
+fn misfit_in_row<R, A, D>(
+    records: &R,
+    config: &SpannedConfig<A>,
+    dimension: &D,
+    row: usize,
+) -> Option<Misfit>
+where
+    R: Records + PeekableRecords + ExactRecords,
+    A: Allocator,
+    D: Dimension,
+    requires row { row < length (R.texts records.now) }
+    requires spans { spans_fit config.now.spans (length (R.texts records.now)) (R.columns records.now) ≡ true }
+    requires totals { totals_fit (table_of config.now (D.width dimension.now) (D.height dimension.now) (R.texts records.now) (R.columns records.now)) ≡ true }
+    ensures { result ≡ first_misfit (table_of config.now (D.width dimension.now) (D.height dimension.now) (R.texts records.now) (R.columns records.now)) (row_places (R.columns records.now) row 0) }
+{
+    for column in 0..records.count_columns() {
+        if !owner_fits(records, config, dimension, Position::new(row, column)) {
+            return Some(Misfit::Room(row, column));
+        }
+    }
+    None
+}
+
+// Whether a place has room, if it owns itself.
+#[tactic(auto, unfolding(crate::specs::Fits::owner_fits))]
+fn owner_fits<R, A, D>(records: &R, config: &SpannedConfig<A>, dimension: &D, pos: Position) -> bool
+where
+    R: Records + PeekableRecords + ExactRecords,
+    A: Allocator,
+    D: Dimension,
+    requires row { pos.row < length (R.texts records.now) }
+    requires column { pos.col < R.columns records.now }
+    requires spans { spans_fit config.now.spans (length (R.texts records.now)) (R.columns records.now) ≡ true }
+    requires totals { totals_fit (table_of config.now (D.width dimension.now) (D.height dimension.now) (R.texts records.now) (R.columns records.now)) ≡ true }
+    ensures { result ≡ owner_fits (table_of config.now (D.width dimension.now) (D.height dimension.now) (R.texts records.now) (R.columns records.now)) pos }
+{
+    let owner = owner(config.spans(), pos);
+    if owner.row != pos.row || owner.col != pos.col {
+        return true;
+    }
+    let width = rect_width(config, dimension, pos, records.count_columns());
+    let height = rect_height(config, dimension, pos);
+    match (width, height) {
+        (Some(width), Some(height)) => {
+            cell_fits(records.get_text(pos), config, pos, width, height)
+        }
+        // Rectangles inside a table are no larger than its totals.
+        _ => false,
+    }
+}
+
+// The owner of a place.
+#[tactic(auto, unfolding(pg_config::specs::Spans::owner))]
+fn owner(spans: &[Span], pos: Position) -> Position
+    ensures { result ≡ owner spans.now pos.row pos.col }
+{
+    match first_at(spans, pos) {
+        Some(span) => Position::new(span.0.1, span.0.0),
+        None => pos,
+    }
+}
+
+// The first rectangle that holds a place.
+fn first_at(spans: &[Span], pos: Position) -> Option<&Span>
+    ensures { option_map (λ x. x.now) result ≡ find (in_span pos.row pos.col) spans.now }
+{
+    spans.iter().find(|span| in_span(pos, **span))
+}
+
+fn in_span(pos: Position, span: Span) -> bool
+    ensures { result ≡ in_span pos.row pos.col span }
+{
+    span.0.1 <= pos.row
+        && pos.row - span.0.1 < span.1.0
+        && span.0.0 <= pos.col
+        && pos.col - span.0.0 < span.1.1
+}

@@ -1,0 +1,29 @@
+//! The pieces of a table's picture, each appended exactly, and the conditions of a table.
+#![tactic(auto)]
+
+mod border;
+mod cell;
+mod compact_run;
+mod cut;
+mod facts;
+mod fill;
+pub mod fits;
+mod margin;
+mod piece;
+mod place;
+mod run;
+mod share;
+mod style;
+mod vertical;
+
+pub use crate::cell::{push_block_line, push_block_line_of, push_single_line, push_text_line};
+pub use crate::compact_run::CompactRun;
+pub use crate::facts::{TextFacts, count_empty_lines, text_width};
+pub use crate::fill::{push_char, push_repeated, push_text};
+pub use crate::margin::{push_feed, push_margin_lines, push_side_margin};
+pub use crate::piece::{push_fill, push_words};
+pub use crate::place::CellPlace;
+pub use crate::run::Run;
+pub use crate::share::{calculate_indent, indent_from_top};
+pub use crate::style::CellStyle;
+pub use crate::vertical::{push_vertical, push_vertical_at};

@@ -1,0 +1,80 @@
+//! Where the lines of a text stand in their cell.
+
+ghost use Rattle.std.specs.Prelude.{◌≡◌, ◌+◌, ◌≤◌};
+ghost use Rattle.pg_picture.specs.Cells.{style_of, shared_left, place_of, text_line_at};
+
+use crate::facts::TextFacts;
+use crate::share::{calculate_indent, indent_from_top};
+use crate::style::CellStyle;
+use std::alloc::Allocator;
+
+/// Where the lines of a text stand in their cell, which may be drawn over many rows.
+#[derive(Debug, Clone, Copy, PartialEq, Eq)]
+pub struct CellPlace {
+    /// How many lines of the cell stand above the first line of text.
+    pub top: usize,
+    /// How many lines of text the cell shows.
+    pub shown: usize,
+    /// How many blank lines at the front of the text are left out.
+    pub skip: usize,
+    /// How many columns stand between the left padding and each line of text; nothing where each
+    /// line is aligned by its own width.
+    pub left: Option<usize>,
+}
+
+impl CellPlace {
+    /// The place of a text with these facts, in a cell of so many columns and lines.
+    ///
+    /// The cell's width has room for the side paddings and the widest line, its height for the top
+    /// padding.
+    pub fn of<A: Allocator>(
+        facts: TextFacts,
+        style: &CellStyle<'_, A>,
+        width: usize,
+        height: usize,
+    ) -> CellPlace
+        requires width { style.now.padding.left.size + style.now.padding.right.size + facts.widest ≤ width }
+        requires height { style.now.padding.top.size ≤ height }
+        ensures { result ≡ place_of facts (style_of style.now) width height }
+    {
+        let above = style.padding.top.size;
+        let available = height - above;
+        let shown = facts.shown.min(available);
+        CellPlace {
+            top: above + indent_from_top(style.alignment_vertical, available, shown),
+            shown,
+            skip: facts.skip,
+            left: shared_left(style, facts.widest, width),
+        }
+    }
+
+    /// Which line of the text, counted from 0, stands at a line of the cell; nothing at a line that
+    /// is filled. The text has as many lines as are left out at its front and shown.
+    #[inline(always)]
+    pub fn text_line_at(&self, line: usize) -> Option<usize>
+        requires { self.now.skip + self.now.shown ≤ usize.MAX }
+        ensures { result ≡ text_line_at self.now line }
+    {
+        if line < self.top {
+            return None;
+        }
+        let below = line - self.top;
+        if below < self.shown {
+            return Some(self.skip + below);
+        }
+        None
+    }
+}
+
+// How many columns stand left of each line, where all lines stand as the widest one does.
+#[tactic(auto, unfolding(crate::specs::Pieces::inner_width))]
+fn shared_left<A: Allocator>(style: &CellStyle<'_, A>, widest: usize, width: usize) -> Option<usize>
+    requires { style.now.padding.left.size + style.now.padding.right.size + widest ≤ width }
+    ensures { result ≡ shared_left (style_of style.now) widest width }
+{
+    if style.formatting.allow_lines_alignment {
+        return None;
+    }
+    let inner = style.inner_width(width);
+    Some(calculate_indent(style.alignment_horizontal, widest, inner).0)
+}

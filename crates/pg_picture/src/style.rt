@@ -1,0 +1,66 @@
+//! How a cell is drawn: what its table's configuration answers at its place.
+
+ghost use Rattle.std.specs.Prelude.{◌≡◌, ◌+◌, ◌≤◌};
+ghost use Rattle.pg_picture.specs.Pieces.{style_at, inner_width};
+ghost use Rattle.pg_picture.specs.Cells.{style_of, shows_texts_whole};
+
+use pg_config::SpannedConfig;
+use pg_layout::{
+    ANSIBuf, AlignmentHorizontal, AlignmentVertical, Formatting, Indent, Position, Sides,
+};
+use std::alloc::{Allocator, Global};
+
+/// How a cell is drawn.
+#[derive(Debug, Drop)]
+pub struct CellStyle<'a, A: Allocator = Global> {
+    /// How the lines of its text are read and aligned.
+    pub formatting: Formatting,
+    /// What stands round its text.
+    pub padding: Sides<Indent>,
+    /// The colours of the paddings.
+    pub padding_color: &'a Sides<Option<ANSIBuf<A>>>,
+    /// Where its text stands between left and right.
+    pub alignment_horizontal: AlignmentHorizontal,
+    /// Where its text stands between top and bottom.
+    pub alignment_vertical: AlignmentVertical,
+    /// What fills the columns beside its lines.
+    pub justification: char,
+    /// The colour of these.
+    pub justification_color: Option<&'a ANSIBuf<A>>,
+}
+
+impl<'a, A: Allocator> CellStyle<'a, A> {
+    /// The style of the cell at a place.
+    #[tactic(auto, unfolding(crate::specs::Pieces::style_at))]
+    pub fn of(config: &'a SpannedConfig<A>, pos: Position) -> CellStyle<'a, A>
+        ensures { style_of result ≡ style_at config.now pos }
+    {
+        CellStyle {
+            formatting: config.get_formatting(pos),
+            padding: config.get_padding(pos),
+            padding_color: config.get_padding_color(pos),
+            alignment_horizontal: config.get_alignment_horizontal(pos),
+            alignment_vertical: config.get_alignment_vertical(pos),
+            justification: config.get_justification(pos),
+            justification_color: config.get_justification_color(pos),
+        }
+    }
+    // How many of a cell's columns the side paddings leave. The cell has room for them.
+    #[inline(always)]
+    #[tactic(auto, unfolding(crate::specs::Pieces::inner_width))]
+    pub(crate) fn inner_width(&self, width: usize) -> usize
+        requires { self.now.padding.left.size + self.now.padding.right.size ≤ width }
+        ensures { result ≡ inner_width (style_of self.now) width }
+    {
+        width - (self.padding.left.size + self.padding.right.size)
+    }
+    // Whether line 0 of a cell is line 0 of its text, as it is.
+    #[inline(always)]
+    pub(crate) fn shows_texts_whole(&self) -> bool
+        ensures { result ≡ shows_texts_whole (style_of self.now) }
+    {
+        !self.formatting.horizontal_trim
+            && !self.formatting.vertical_trim
+            && self.padding.top.size == 0
+    }
+}

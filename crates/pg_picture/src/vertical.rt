@@ -1,0 +1,54 @@
+//! A glyph between two cells.
+
+ghost use Rattle.std.specs.Prelude.{◌<◌};
+ghost use Rattle.pg_layout.specs.Colors.{lent_color};
+ghost use Rattle.pg_picture.specs.Appending.{Appends};
+ghost use Rattle.pg_picture.specs.Pieces.{glyph_piece, written};
+ghost use Rattle.pg_picture.specs.Table.{vertical_at};
+
+use crate::piece::push_fill;
+use pg_config::SpannedConfig;
+use pg_layout::{ANSIFmt, Position};
+use std::alloc::{AllocError, Allocator};
+
+/// Appends the glyph of a vertical in its colour, and nothing where there is no glyph.
+///
+/// An error comes only where the buffer's room is too small; the buffer then holds a beginning.
+#[inline(always)]
+pub fn push_vertical<C: ANSIFmt, A: Allocator>(
+    buf: &mut String<A>,
+    glyph: Option<char>,
+    color: Option<&C>,
+) -> Result<(), AllocError>
+    ensures { Appends buf.old buf.new result (written (glyph_piece glyph (lent_color C.color_of color.entry))) }
+{
+    match glyph {
+        None => Ok(()),
+        Some(glyph) => push_fill(buf, glyph, 1, color),
+    }
+}
+
+/// Appends what a configuration puts at a vertical of a table of `columns` columns, on line `line`
+/// of the `height` lines of its row: the glyph set for that line, else the border's glyph, in the
+/// border's colour, else in the colour set for that line; nothing where no glyph stands.
+///
+/// An error comes only where the buffer's room is too small; the buffer then holds a beginning.
+pub fn push_vertical_at<B: Allocator, A: Allocator>(
+    buf: &mut String<A>,
+    config: &SpannedConfig<B>,
+    columns: usize,
+    height: usize,
+    pos: Position,
+    line: usize,
+) -> Result<(), AllocError>
+    requires { line < height }
+    ensures { Appends buf.old buf.new result (written (vertical_at config.now columns height pos line)) }
+{
+    let Some(border) = config.get_vertical(pos, columns) else {
+        return Ok(());
+    };
+    let glyph = config.lookup_vertical_char(pos, line, height);
+    let own = config.get_vertical_color(pos, columns);
+    let offset = config.lookup_vertical_color(pos, line, height);
+    push_fill(buf, glyph.unwrap_or(border), 1, own.or(offset))
+}
