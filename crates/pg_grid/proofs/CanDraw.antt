@@ -1,0 +1,50 @@
+-- A table without spans in which everything fits can be drawn; its width and its height are numbers.
+use Rattle.std.proofs.Common.{◌≡◌, ℕ, ◌+◌, ◌^◌, ◌<◌, true, nat_lt, Option, Some, None, IsSome, refl, sym, ap, ◌∙◌, subst, sum_by, arith}
+use Rattle.std.specs.List.{range_with_len}
+use Rattle.std.proofs.lemmas.Bool.Decides.{nat_tests}
+use Rattle.pg_layout.specs.Position.{at}
+use Rattle.pg_config.specs.Config.{count_vertical, count_horizontal}
+use Rattle.pg_picture.specs.Table.{Table, total_width, full_width, table_body}
+use Rattle.pg_picture.specs.Fits.{misfit_of, cell_fits, body_height}
+use Rattle.pg_picture.specs.Sizes.{if_fits, sized}
+use Rattle.pg_picture.specs.FitLaws.{TableFits}
+use Rattle.pg_picture.proofs.Rooms.{fits, cell_fits_plain}
+use Rattle.pg_picture.proofs.FittingTables.{totals_facts}
+use Rattle.pg_picture.proofs.HeightsOfRectangles.{length-table_body}
+use Rattle.pg_grid.specs.Grids.{CanDraw, HasNoSpans}
+
+pub can_draw : (t : Table) → HasNoSpans t → misfit_of t ≡ None → 0 < t.rows → 0 < t.columns → CanDraw t
+can_draw t none fitting some_rows some_columns =
+    let all : TableFits t = fits t fitting some_rows some_columns in
+    let totals = totals_facts t all.totals in
+    record {
+      spans = none;
+      rows = totals.rows;
+      columns = totals.columns;
+      width = totals.width;
+      height = totals.height;
+      cells = λ r c h k. cell_fits_plain t (at r c) none h (all.rooms r c h k);
+    }
+
+-- an answer that is there
+pub some_answer : {answer : Option ℕ} (n : ℕ) → n < 2 ^ 64 → answer ≡ if_fits n → answer ≡ Some n
+some_answer n small is = let e : nat_lt n (2 ^ 64) ≡ true = grind (arith, nat_tests) in is ∙ rw e refl
+
+pub is_some_answer : {answer : Option ℕ} {n : ℕ} → answer ≡ Some n → IsSome answer
+is_some_answer {answer} is = let P : Option ℕ → Type 0 = λ o. IsSome o in subst P (sym is) refl
+
+module _ (t : Table) where
+  pub full_width-sized : (columns : ℕ) → columns ≡ t.columns → full_width (sized t.config t.width t.height 0 columns) ≡ full_width t
+  unfolding full_width total_width
+  full_width-sized columns is = ap (λ n. (t.config.margin.left.size + (sum_by t.width (range_with_len 0 n) + count_vertical t.config n)) + t.config.margin.right.size) is
+
+  pub body_height-sized : (rows : ℕ) → rows ≡ t.rows → body_height (sized t.config t.width t.height rows 0) ≡ body_height t
+  unfolding body_height
+  body_height-sized rows is = ap (λ n. sum_by t.height (range_with_len 0 n) + count_horizontal t.config n) is
+
+  -- what the calls answer that add up widths and heights
+  pub width-answer : {answer : Option ℕ} (columns : ℕ) → CanDraw t → columns ≡ t.columns → answer ≡ if_fits (full_width (sized t.config t.width t.height 0 columns)) → answer ≡ Some (full_width t)
+  width-answer columns can is answer = some_answer (full_width t) can.width (answer ∙ ap if_fits (full_width-sized columns is))
+
+  pub height-answer : {answer : Option ℕ} (rows : ℕ) → CanDraw t → rows ≡ t.rows → answer ≡ if_fits (body_height (sized t.config t.width t.height rows 0)) → answer ≡ Some (body_height t)
+  height-answer rows can is answer = some_answer (body_height t) can.height (answer ∙ ap if_fits (body_height-sized rows is))

@@ -1,0 +1,4 @@
+pub mod Picture
+pub mod Grids
+pub mod Samples
+pub mod CompactSamples

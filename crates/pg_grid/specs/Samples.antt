@@ -1,0 +1,74 @@
+-- Tables for worked examples.
+use Rattle.std.specs.Prelude.{ℕ, List, [], ◌∷◌, ◌++◌, map, slice_index_or, Option, Some, None, codes, ◌+◌}
+use Rattle.std.specs.List.{range_with_len}
+use Rattle.pg_layout.specs.declared.position.Position.{Position}
+use Rattle.pg_layout.specs.declared.borders.Borders.{Borders}
+use Rattle.pg_layout.specs.declared.sides.Indent.{Indent}
+use Rattle.pg_layout.specs.declared.sides.Sides.{Sides}
+use Rattle.pg_layout.specs.Text.{Text}
+use Rattle.pg_layout.specs.Colors.{Color}
+use Rattle.pg_config.specs.Config.{Config, default_config}
+use Rattle.pg_config.specs.Settings.{Settings}
+use Rattle.pg_picture.specs.Table.{Table}
+
+-- `-`, `|` and `+` at all places
+abbrev pub ascii : Borders ℕ
+ascii = record { top = Some 45; top_left = Some 43; top_right = Some 43; top_intersection = Some 43; bottom = Some 45; bottom_left = Some 43; bottom_right = Some 43; bottom_intersection = Some 43; horizontal = Some 45; left_intersection = Some 43; right_intersection = Some 43; intersection = Some 43; left = Some 124; right = Some 124; vertical = Some 124 }
+
+abbrev pub text_in : List (List Text) → Position → Text
+text_in texts p = slice_index_or (slice_index_or texts p.row []) p.col []
+
+abbrev pub table : Config → ℕ → ℕ → List ℕ → List ℕ → List (List Text) → Table
+table config rows columns widths heights texts = record {
+  config = config;
+  rows = rows;
+  columns = columns;
+  width = λ c. slice_index_or widths c 0;
+  height = λ r. slice_index_or heights r 0;
+  text = text_in texts;
+  color = λ p. None;
+}
+
+-- a table of so many rows and columns, whose texts tell their place as `0-1`
+abbrev pub numbered : ℕ → ℕ → List (List Text)
+numbered rows columns = map (λ r. map (λ c. (48 + r) ∷ 45 ∷ (48 + c) ∷ []) (range_with_len 0 columns)) (range_with_len 0 rows)
+
+abbrev pub grid22 : List (List Text)
+grid22 = (codes "0-0" ∷ codes "0-1" ∷ []) ∷ (codes "1-0" ∷ codes "1-1" ∷ []) ∷ []
+
+-- `plain` was told nothing, `bordered` the borders alone
+unfoldable pub plain : Config
+plain = default_config
+
+unfoldable pub bordered : Config
+bordered = record default_config { borders = ascii }
+
+abbrev pub one : Text → List (List Text)
+one text = (text ∷ []) ∷ []
+
+abbrev pub in_colors : (Position → Option Color) → Table → Table
+in_colors f t = record t { color = f }
+
+abbrev pub color_r : Color
+color_r = record { prefix = codes "<r>"; suffix = codes "</r>" }
+
+abbrev pub color_b : Color
+color_b = record { prefix = codes "<b>"; suffix = codes "</b>" }
+
+abbrev pub color_g : Color
+color_g = record { prefix = codes "<g>"; suffix = codes "</g>" }
+
+abbrev pub indent : ℕ → ℕ → Indent
+indent size fill = record { size = size; fill = fill }
+
+-- sizes at the sides left, right, top, bottom, filled by spaces
+abbrev pub spaced : ℕ → ℕ → ℕ → ℕ → Sides Indent
+spaced left right top bottom = record { left = indent left 32; right = indent right 32; top = indent top 32; bottom = indent bottom 32 }
+
+-- a setting for all places
+abbrev pub for_all : {V : Type 0} → V → Settings V
+for_all v = record { base = Some v; rows = []; columns = []; cells = [] }
+
+-- a setting for one cell
+abbrev pub for_cell : {V : Type 0} → ℕ → ℕ → V → Settings V
+for_cell r c v = record { base = None; rows = []; columns = []; cells = ((r, c, 0), v) ∷ [] }

@@ -1,0 +1,122 @@
+//! The looked-up grid: it reads its records at any place.
+
+use crate::margins::{push_bottom, push_top};
+use pg_config::SpannedConfig;
+use pg_layout::{Colors, Dimension, ExactRecords, PeekableRecords};
+use pg_picture::fits::{body_height, full_width};
+use std::alloc::{AllocError, Allocator};
+
+mod body;
+mod rows;
+mod separators;
+
+/// How many rows and columns a table has, and how many lines its body.
+#[derive(Debug, Clone, Copy)]
+struct Size {
+    rows: usize,
+    columns: usize,
+    height: usize,
+}
+
+/// A table printer over records that can be read at any place, a dimension that gives the sizes of
+/// columns and rows, and colours of cells.
+///
+/// The table is that of its parts: the rows and columns of the records, the widths and heights of
+/// the dimension, what the configuration was told, and the colours.
+#[derive(Debug, Clone, Drop)]
+pub struct PeekableGrid<R, G, D, C> {
+    records: R,
+    config: G,
+    dimension: D,
+    colors: C,
+}
+
+impl<R, G, D, C> PeekableGrid<R, G, D, C> {
+    ghost use Rattle.std.specs.Prelude.{◌≡◌};
+    ghost use Rattle.pg_grid.specs.Grids.{peekable_parts};
+
+    /// A grid of these parts.
+    pub fn new(records: R, config: G, dimension: D, colors: C) -> PeekableGrid<R, G, D, C>
+        ensures { peekable_parts result ≡ (records, config, dimension, colors) }
+    {
+        PeekableGrid {
+            records,
+            config,
+            dimension,
+            colors,
+        }
+    }
+}
+
+impl<'a, R, D, C, B> PeekableGrid<R, &'a SpannedConfig<B>, D, C>
+where
+    R: PeekableRecords + ExactRecords,
+    D: Dimension,
+    C: Colors,
+    B: Allocator,
+{
+    ghost use Rattle.std.specs.Prelude.{◌≡◌, ◌<◌, [], None, IfOk, string_bytes};
+    ghost use Rattle.pg_picture.specs.Appending.{Appends};
+    ghost use Rattle.pg_picture.specs.Fits.{misfit_of};
+    ghost use Rattle.pg_picture.specs.Joined.{joined};
+    ghost use Rattle.pg_picture.specs.Table.{Known};
+    ghost use Rattle.pg_grid.specs.Picture.{picture, picture_lines};
+    ghost use Rattle.pg_grid.specs.Grids.{peekable_table, CanDraw, HasNoSpans};
+
+    /// Appends the picture of the table, of which no cell may span rows or columns, and in which
+    /// everything fits (`pg_picture::fits::table_fits`). A table with no rows or no columns appends
+    /// nothing.
+    ///
+    /// Takes no memory but the buffer's. An error comes only where the buffer's room is too small
+    /// for the picture and it gets no more memory; the buffer then holds a beginning of the picture
+    /// behind what it held before.
+    pub fn build<A: Allocator>(&self, buf: &mut String<A>) -> Result<(), AllocError>
+        requires spans { HasNoSpans (peekable_table R.Records.texts R.Records.columns D.width D.height C.color self.now) }
+        requires fits { misfit_of (peekable_table R.Records.texts R.Records.columns D.width D.height C.color self.now) ≡ None }
+        ensures { Appends buf.old buf.new result (picture Known (peekable_table R.Records.texts R.Records.columns D.width D.height C.color self.now)) }
+    {
+        let rows = self.records.count_rows();
+        let columns = self.records.count_columns();
+        if rows == 0 || columns == 0 {
+            return Ok(());
+        }
+        self.push_picture(buf, rows, columns)
+    }
+
+    /// The picture of the table as a text of its own, under the conditions of `build`. An error
+    /// comes where no memory is found.
+    pub fn to_string<A: Allocator>(&self, alloc: A) -> Result<String<A>, AllocError>
+        requires spans { HasNoSpans (peekable_table R.Records.texts R.Records.columns D.width D.height C.color self.now) }
+        requires fits { misfit_of (peekable_table R.Records.texts R.Records.columns D.width D.height C.color self.now) ≡ None }
+        ensures { IfOk result (λ text. string_bytes text ≡ picture Known (peekable_table R.Records.texts R.Records.columns D.width D.height C.color self.now)) }
+    {
+        let mut text = String::new(alloc);
+        self.build(&mut text)?;
+        Ok(text)
+    }
+
+    // The picture of a table with rows and columns.
+    fn push_picture<A: Allocator>(
+        &self,
+        buf: &mut String<A>,
+        rows: usize,
+        columns: usize,
+    ) -> Result<(), AllocError>
+        requires can { CanDraw (peekable_table R.Records.texts R.Records.columns D.width D.height C.color self.now) }
+        requires rows { rows ≡ (peekable_table R.Records.texts R.Records.columns D.width D.height C.color self.now).rows }
+        requires columns { columns ≡ (peekable_table R.Records.texts R.Records.columns D.width D.height C.color self.now).columns }
+        ensures { Appends buf.old buf.new result (joined (picture_lines Known (peekable_table R.Records.texts R.Records.columns D.width D.height C.color self.now))) }
+    {
+        let width = full_width(self.config, &self.dimension, columns).unwrap();
+        let height = body_height(self.config, &self.dimension, rows).unwrap();
+        let size = Size {
+            rows,
+            columns,
+            height,
+        };
+        let is_first = self.config.get_margin().top.size == 0;
+        push_top(buf, self.config, width)?;
+        self.push_body(buf, size, is_first)?;
+        push_bottom(buf, self.config, width, is_first && height == 0)
+    }
+}

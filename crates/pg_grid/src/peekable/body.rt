@@ -1,0 +1,183 @@
+//! The lines of the body, one below the other.
+
+ghost use Rattle.std.specs.Prelude.{◌≡◌, ◌≤◌, ◌<◌, ◌+◌, ◌==◌, ◌++◌, [], ◌∷◌, length, map, IfOk, Some};
+ghost use Rattle.std.specs.List.{range_with_len};
+ghost use Rattle.pg_config.specs.Config.{has_horizontal};
+ghost use Rattle.pg_picture.specs.Appending.{Appends};
+ghost use Rattle.pg_picture.specs.Joined.{lines_before, feed_before};
+ghost use Rattle.pg_picture.specs.Marks.{sep, line, only_if, marks_of_row, marks_above};
+ghost use Rattle.pg_picture.specs.Pieces.{written};
+ghost use Rattle.pg_picture.specs.Table.{Known, table_body, side_margin_at};
+ghost use Rattle.pg_grid.specs.Picture.{body_text};
+ghost use Rattle.pg_grid.specs.Grids.{peekable_table, CanDraw, size_of_table};
+
+use crate::margins::{push_left, push_right};
+use crate::peekable::{PeekableGrid, Size};
+use pg_config::SpannedConfig;
+use pg_layout::{Colors, Dimension, ExactRecords, PeekableRecords};
+use pg_picture::push_feed;
+use std::alloc::{AllocError, Allocator};
+
+impl<'a, R, D, C, B> PeekableGrid<R, &'a SpannedConfig<B>, D, C>
+where
+    R: PeekableRecords + ExactRecords,
+    D: Dimension,
+    C: Colors,
+    B: Allocator,
+{
+    // The lines of the body; `is_first` tells whether no line stands before them.
+    pub(super) fn push_body<A: Allocator>(
+        &self,
+        buf: &mut String<A>,
+        size: Size,
+        is_first: bool,
+    ) -> Result<(), AllocError>
+        requires can { CanDraw (peekable_table R.Records.texts R.Records.columns D.width D.height C.color self.now) }
+        requires size { size ≡ size_of_table (peekable_table R.Records.texts R.Records.columns D.width D.height C.color self.now) }
+        ensures { Appends buf.old buf.new result (body_text Known (peekable_table R.Records.texts R.Records.columns D.width D.height C.color self.now) (lines_before is_first) 0 (table_body (peekable_table R.Records.texts R.Records.columns D.width D.height C.color self.now))) }
+    {
+        let mut index = 0;
+        for row in 0..size.rows {
+            index = self.push_row(buf, size, row, index, is_first)?;
+        }
+        self.push_last(buf, size, index, is_first)
+    }
+
+    // The separator and the lines of a row; answers how many lines of the body stand then.
+    fn push_row<A: Allocator>(
+        &self,
+        buf: &mut String<A>,
+        size: Size,
+        row: usize,
+        index: usize,
+        is_first: bool,
+    ) -> Result<usize, AllocError>
+        requires can { CanDraw (peekable_table R.Records.texts R.Records.columns D.width D.height C.color self.now) }
+        requires size { size ≡ size_of_table (peekable_table R.Records.texts R.Records.columns D.width D.height C.color self.now) }
+        requires row { row < (peekable_table R.Records.texts R.Records.columns D.width D.height C.color self.now).rows }
+        requires room { index + length (marks_of_row (peekable_table R.Records.texts R.Records.columns D.width D.height C.color self.now).config (peekable_table R.Records.texts R.Records.columns D.width D.height C.color self.now).height row) ≤ size.height }
+        ensures lines { Appends buf.old buf.new result (body_text Known (peekable_table R.Records.texts R.Records.columns D.width D.height C.color self.now) (lines_before is_first) index (marks_of_row (peekable_table R.Records.texts R.Records.columns D.width D.height C.color self.now).config (peekable_table R.Records.texts R.Records.columns D.width D.height C.color self.now).height row)) }
+        ensures index { IfOk result (λ next. next ≡ index + length (marks_of_row (peekable_table R.Records.texts R.Records.columns D.width D.height C.color self.now).config (peekable_table R.Records.texts R.Records.columns D.width D.height C.color self.now).height row)) }
+    {
+        let next = self.push_above(buf, size, row, index, is_first)?;
+        self.push_lines(buf, size, row, next, is_first)
+    }
+
+    // The separator above a row, where it is there.
+    fn push_above<A: Allocator>(
+        &self,
+        buf: &mut String<A>,
+        size: Size,
+        row: usize,
+        index: usize,
+        is_first: bool,
+    ) -> Result<usize, AllocError>
+        requires can { CanDraw (peekable_table R.Records.texts R.Records.columns D.width D.height C.color self.now) }
+        requires size { size ≡ size_of_table (peekable_table R.Records.texts R.Records.columns D.width D.height C.color self.now) }
+        requires row { row ≤ (peekable_table R.Records.texts R.Records.columns D.width D.height C.color self.now).rows }
+        requires room { index + length (only_if (has_horizontal (peekable_table R.Records.texts R.Records.columns D.width D.height C.color self.now).config row (peekable_table R.Records.texts R.Records.columns D.width D.height C.color self.now).rows) (sep row)) ≤ size.height }
+        ensures lines { Appends buf.old buf.new result (body_text Known (peekable_table R.Records.texts R.Records.columns D.width D.height C.color self.now) (lines_before is_first) index (only_if (has_horizontal (peekable_table R.Records.texts R.Records.columns D.width D.height C.color self.now).config row (peekable_table R.Records.texts R.Records.columns D.width D.height C.color self.now).rows) (sep row))) }
+        ensures index { IfOk result (λ next. next ≡ index + length (only_if (has_horizontal (peekable_table R.Records.texts R.Records.columns D.width D.height C.color self.now).config row (peekable_table R.Records.texts R.Records.columns D.width D.height C.color self.now).rows) (sep row))) }
+    {
+        if !self.config.has_horizontal(row, size.rows) {
+            return Ok(index);
+        }
+        self.push_separator_line(buf, size, row, index, is_first)?;
+        Ok(index + 1)
+    }
+
+    // The separator below the last row, where it is there.
+    fn push_last<A: Allocator>(
+        &self,
+        buf: &mut String<A>,
+        size: Size,
+        index: usize,
+        is_first: bool,
+    ) -> Result<(), AllocError>
+        requires can { CanDraw (peekable_table R.Records.texts R.Records.columns D.width D.height C.color self.now) }
+        requires size { size ≡ size_of_table (peekable_table R.Records.texts R.Records.columns D.width D.height C.color self.now) }
+        requires room { index + length (only_if (has_horizontal (peekable_table R.Records.texts R.Records.columns D.width D.height C.color self.now).config (peekable_table R.Records.texts R.Records.columns D.width D.height C.color self.now).rows (peekable_table R.Records.texts R.Records.columns D.width D.height C.color self.now).rows) (sep (peekable_table R.Records.texts R.Records.columns D.width D.height C.color self.now).rows)) ≤ size.height }
+        ensures { Appends buf.old buf.new result (body_text Known (peekable_table R.Records.texts R.Records.columns D.width D.height C.color self.now) (lines_before is_first) index (only_if (has_horizontal (peekable_table R.Records.texts R.Records.columns D.width D.height C.color self.now).config (peekable_table R.Records.texts R.Records.columns D.width D.height C.color self.now).rows (peekable_table R.Records.texts R.Records.columns D.width D.height C.color self.now).rows) (sep (peekable_table R.Records.texts R.Records.columns D.width D.height C.color self.now).rows))) }
+    {
+        self.push_above(buf, size, size.rows, index, is_first)?;
+        Ok(())
+    }
+
+    // The lines of a row.
+    fn push_lines<A: Allocator>(
+        &self,
+        buf: &mut String<A>,
+        size: Size,
+        row: usize,
+        index: usize,
+        is_first: bool,
+    ) -> Result<usize, AllocError>
+        requires can { CanDraw (peekable_table R.Records.texts R.Records.columns D.width D.height C.color self.now) }
+        requires size { size ≡ size_of_table (peekable_table R.Records.texts R.Records.columns D.width D.height C.color self.now) }
+        requires row { row < (peekable_table R.Records.texts R.Records.columns D.width D.height C.color self.now).rows }
+        requires room { index + (peekable_table R.Records.texts R.Records.columns D.width D.height C.color self.now).height row ≤ size.height }
+        ensures lines { Appends buf.old buf.new result (body_text Known (peekable_table R.Records.texts R.Records.columns D.width D.height C.color self.now) (lines_before is_first) index (map (line row) (range_with_len 0 ((peekable_table R.Records.texts R.Records.columns D.width D.height C.color self.now).height row)))) }
+        ensures index { IfOk result (λ next. next ≡ index + (peekable_table R.Records.texts R.Records.columns D.width D.height C.color self.now).height row) }
+    {
+        let height = self.dimension.get_height(row);
+        for number in 0..height {
+            self.push_line(buf, size, row, number, index + number, is_first)?;
+        }
+        Ok(index + height)
+    }
+
+    // One line of a row, between its margins.
+    fn push_line<A: Allocator>(
+        &self,
+        buf: &mut String<A>,
+        size: Size,
+        row: usize,
+        number: usize,
+        index: usize,
+        is_first: bool,
+    ) -> Result<(), AllocError>
+        requires can { CanDraw (peekable_table R.Records.texts R.Records.columns D.width D.height C.color self.now) }
+        requires size { size ≡ size_of_table (peekable_table R.Records.texts R.Records.columns D.width D.height C.color self.now) }
+        requires row { row < (peekable_table R.Records.texts R.Records.columns D.width D.height C.color self.now).rows }
+        requires number { number < (peekable_table R.Records.texts R.Records.columns D.width D.height C.color self.now).height row }
+        ensures { Appends buf.old buf.new result (body_text Known (peekable_table R.Records.texts R.Records.columns D.width D.height C.color self.now) (lines_before is_first) index (line row number ∷ [])) }
+    {
+        push_start(buf, self.config, size.height, index, is_first)?;
+        self.push_row_line(buf, size.columns, row, number)?;
+        push_right(buf, self.config, index, Some(size.height))
+    }
+
+    // A separator, between its margins.
+    fn push_separator_line<A: Allocator>(
+        &self,
+        buf: &mut String<A>,
+        size: Size,
+        row: usize,
+        index: usize,
+        is_first: bool,
+    ) -> Result<(), AllocError>
+        requires can { CanDraw (peekable_table R.Records.texts R.Records.columns D.width D.height C.color self.now) }
+        requires size { size ≡ size_of_table (peekable_table R.Records.texts R.Records.columns D.width D.height C.color self.now) }
+        requires row { row ≤ (peekable_table R.Records.texts R.Records.columns D.width D.height C.color self.now).rows }
+        ensures { Appends buf.old buf.new result (body_text Known (peekable_table R.Records.texts R.Records.columns D.width D.height C.color self.now) (lines_before is_first) index (sep row ∷ [])) }
+    {
+        push_start(buf, self.config, size.height, index, is_first)?;
+        self.push_separator(buf, size, row)?;
+        push_right(buf, self.config, index, Some(size.height))
+    }
+}
+
+// What stands before a line of a body of this height: its line feed, unless the line is the
+// picture's first, and its left margin.
+fn push_start<B: Allocator, A: Allocator>(
+    buf: &mut String<A>,
+    config: &SpannedConfig<B>,
+    height: usize,
+    index: usize,
+    is_first: bool,
+) -> Result<(), AllocError>
+    ensures { Appends buf.old buf.new result (feed_before ((lines_before is_first + index) == 0) ++ written (side_margin_at (Some height) config.now.margin.left config.now.margin_offset.left config.now.margin_color.left index)) }
+{
+    push_feed(buf, is_first && index == 0)?;
+    push_left(buf, config, index, Some(height))
+}
