@@ -1,4 +1,1 @@
-pub mod Picture
 pub mod Grids
-pub mod Samples
-pub mod CompactSamples

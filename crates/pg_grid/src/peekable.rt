@@ -1,9 +1,9 @@
 //! The looked-up grid: it reads its records at any place.
 
-use crate::margins::{push_bottom, push_top};
 use pg_config::SpannedConfig;
 use pg_layout::{Colors, Dimension, ExactRecords, PeekableRecords};
 use pg_picture::fits::{body_height, full_width};
+use pg_picture::{push_bottom_margin, push_top_margin};
 use std::alloc::{AllocError, Allocator};
 
 mod body;
@@ -60,7 +60,7 @@ where
     ghost use Rattle.pg_picture.specs.Fits.{misfit_of};
     ghost use Rattle.pg_picture.specs.Joined.{joined};
     ghost use Rattle.pg_picture.specs.Table.{Known};
-    ghost use Rattle.pg_grid.specs.Picture.{picture, picture_lines};
+    ghost use Rattle.pg_picture.specs.Picture.{picture, picture_lines};
     ghost use Rattle.pg_grid.specs.Grids.{peekable_table, CanDraw, HasNoSpans};
 
     /// Appends the picture of the table, of which no cell may span rows or columns, and in which
@@ -115,8 +115,8 @@ where
             height,
         };
         let is_first = self.config.get_margin().top.size == 0;
-        push_top(buf, self.config, width)?;
+        push_top_margin(buf, self.config, width)?;
         self.push_body(buf, size, is_first)?;
-        push_bottom(buf, self.config, width, is_first && height == 0)
+        push_bottom_margin(buf, self.config, width, is_first && height == 0)
     }
 }

@@ -24,3 +24,13 @@ pub mod SpansByPlaces
 pub mod Computing
 pub mod RowsFits
 pub mod RowsPieces
+pub mod Separators
+pub mod BodyLines
+pub mod FirstLines
+pub mod Pictures
+pub mod Room
+pub mod RowsPlain
+pub mod RowsSpans
+pub mod RowsColors
+pub mod RowsMargins
+pub mod RowsCompact

@@ -8,3 +8,6 @@ pub mod Joined
 pub mod Cells
 pub mod Sizes
 pub mod FitLaws
+pub mod Picture
+pub mod Samples
+pub mod CompactSamples

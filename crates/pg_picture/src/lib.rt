@@ -5,6 +5,7 @@ mod border;
 mod cell;
 mod compact_run;
 mod cut;
+pub mod examples;
 mod facts;
 mod fill;
 pub mod fits;
@@ -14,6 +15,7 @@ mod place;
 mod run;
 mod share;
 mod style;
+mod table_margins;
 mod vertical;
 
 pub use crate::cell::{push_block_line, push_block_line_of, push_single_line, push_text_line};
@@ -26,4 +28,7 @@ pub use crate::place::CellPlace;
 pub use crate::run::Run;
 pub use crate::share::{calculate_indent, indent_from_top};
 pub use crate::style::CellStyle;
+pub use crate::table_margins::{
+    push_bottom_margin, push_left_margin, push_right_margin, push_top_margin,
+};
 pub use crate::vertical::{push_vertical, push_vertical_at};

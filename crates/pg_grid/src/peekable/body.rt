@@ -8,14 +8,13 @@ ghost use Rattle.pg_picture.specs.Joined.{lines_before, feed_before};
 ghost use Rattle.pg_picture.specs.Marks.{sep, line, only_if, marks_of_row, marks_above};
 ghost use Rattle.pg_picture.specs.Pieces.{written};
 ghost use Rattle.pg_picture.specs.Table.{Known, table_body, side_margin_at};
-ghost use Rattle.pg_grid.specs.Picture.{body_text};
+ghost use Rattle.pg_picture.specs.Picture.{body_text};
 ghost use Rattle.pg_grid.specs.Grids.{peekable_table, CanDraw, size_of_table};
 
-use crate::margins::{push_left, push_right};
 use crate::peekable::{PeekableGrid, Size};
 use pg_config::SpannedConfig;
 use pg_layout::{Colors, Dimension, ExactRecords, PeekableRecords};
-use pg_picture::push_feed;
+use pg_picture::{push_feed, push_left_margin, push_right_margin};
 use std::alloc::{AllocError, Allocator};
 
 impl<'a, R, D, C, B> PeekableGrid<R, &'a SpannedConfig<B>, D, C>
@@ -144,7 +143,7 @@ where
     {
         push_start(buf, self.config, size.height, index, is_first)?;
         self.push_row_line(buf, size.columns, row, number)?;
-        push_right(buf, self.config, index, Some(size.height))
+        push_right_margin(buf, self.config, index, Some(size.height))
     }
 
     // A separator, between its margins.
@@ -163,7 +162,7 @@ where
     {
         push_start(buf, self.config, size.height, index, is_first)?;
         self.push_separator(buf, size, row)?;
-        push_right(buf, self.config, index, Some(size.height))
+        push_right_margin(buf, self.config, index, Some(size.height))
     }
 }
 
@@ -179,5 +178,5 @@ fn push_start<B: Allocator, A: Allocator>(
     ensures { Appends buf.old buf.new result (feed_before ((lines_before is_first + index) == 0) ++ written (side_margin_at (Some height) config.now.margin.left config.now.margin_offset.left config.now.margin_color.left index)) }
 {
     push_feed(buf, is_first && index == 0)?;
-    push_left(buf, config, index, Some(height))
+    push_left_margin(buf, config, index, Some(height))
 }

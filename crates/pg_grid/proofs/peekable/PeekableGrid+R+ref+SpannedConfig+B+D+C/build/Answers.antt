@@ -4,7 +4,7 @@ use Rattle.pg_picture.specs.Table.{Known}
 use Rattle.pg_picture.proofs.Appending.{Appends-text, Gained-none, Gained-all}
 use Rattle.pg_grid.specs.Grids.{peekable_table}
 use Rattle.pg_grid.proofs.CanDraw.{can_draw}
-use Rattle.pg_grid.proofs.Pictures.{picture-none, picture-some}
+use Rattle.pg_picture.proofs.Pictures.{picture-none, picture-some}
 use Rattle.pg_grid.proofs.peekable.PeekableGrid+R+ref+SpannedConfig+B+D+C.build.Goals as goal
 use Rattle.pg_grid.proofs.peekable.PeekableGrid+R+ref+SpannedConfig+B+D+C.build.Goals.{then-rows-eq0-via-then-rows-eq0, then-rows-eq0-via-else-rows-eq0+then-columns-eq0}
 

@@ -10,10 +10,10 @@ use Rattle.pg_picture.proofs.Appending.{Appends-text, ◌then◌, stopped}
 use Rattle.pg_picture.proofs.FittingTables.{some_is}
 use Rattle.pg_picture.proofs.HeightsOfRectangles.{length-table_body}
 use Rattle.pg_grid.specs.Grids.{peekable_table}
-use Rattle.pg_grid.specs.Picture.{body_text}
+use Rattle.pg_picture.specs.Picture.{body_text}
 use Rattle.pg_grid.specs.declared.peekable.Size.{Size}
 use Rattle.pg_grid.proofs.CanDraw.{width-answer, height-answer, is_some_answer}
-use Rattle.pg_grid.proofs.Pictures.{picture-parts}
+use Rattle.pg_picture.proofs.Pictures.{picture-parts}
 use Rattle.pg_grid.proofs.peekable.PeekableGrid+R+ref+SpannedConfig+B+D+C.push_picture.Goals as goal
 use Rattle.pg_grid.proofs.peekable.PeekableGrid+R+ref+SpannedConfig+B+D+C.push_picture.Goals.{then-is_first, else-is_first}
 
@@ -31,8 +31,8 @@ push_body-requires-clause-size g c =
     ap₂ (λ (n : ℕ) (m : ℕ). let s : Size = record { rows = n; columns = m; height = c.unwrap-height.result } in s) c.requires.rows c.requires.columns
     ∙ ap (λ (h : ℕ). let s : Size = record { rows = t.rows; columns = t.columns; height = h } in s) height
 
-pub returns-in_err-push_top : goal.returns-in_err-push_top
-returns-in_err-push_top g c =
+pub returns-in_err-push_top_margin : goal.returns-in_err-push_top_margin
+returns-in_err-push_top_margin g c =
     let t = (peekable_table g.R.Records.texts g.R.Records.columns g.D.Dimension.width g.D.Dimension.height g.C.Colors.color c.args.self.now) in
     let wide = some_is c.unwrap-width.result (full_width t) (sym c.unwrap-width.ensures ∙ width-answer t c.args.columns c.requires.can c.requires.columns c.full_width.ensures) in
     let high = some_is c.unwrap-height.result (body_height t) (sym c.unwrap-height.ensures ∙ height-answer t c.args.rows c.requires.can c.requires.rows c.body_height.ensures) ∙ sym (length-table_body t) in
@@ -42,7 +42,7 @@ returns-in_err-push_top g c =
     (stopped
     (body_text Known t (lines_before first) 0 (table_body t)
     ++ continued (lines_before last) (replicate t.config.margin.bottom.size (written (margin_line t.config.margin.bottom t.config.margin_offset.bottom t.config.margin_color.bottom c.unwrap-width.result))))
-    c.from_residual.ensures.0 c.in_err-push_top.ensures)
+    c.from_residual.ensures.0 c.in_err-push_top_margin.ensures)
 
 pub returns-in_err-push_body : goal.returns-in_err-push_body
 returns-in_err-push_body g c =
@@ -52,7 +52,7 @@ returns-in_err-push_body g c =
     let first : Bool = c.get_margin.result.top.size == 0 in
     let last : Bool = first && (c.unwrap-height.result == 0) in
     Appends-text (picture-parts Known t c.unwrap-width.result c.unwrap-height.result {is_first = first} {is_last = last} wide high (ap (λ (m : Sides Indent). m.top.size == 0) c.get_margin.ensures) refl)
-    (c.in_ok-push_top.ensures then stopped
+    (c.in_ok-push_top_margin.ensures then stopped
     (continued (lines_before last) (replicate t.config.margin.bottom.size (written (margin_line t.config.margin.bottom t.config.margin_offset.bottom t.config.margin_color.bottom c.unwrap-width.result))))
     c.from_residual-in_err-push_body.ensures.0 c.in_err-push_body.ensures)
 
@@ -62,10 +62,10 @@ returns g c =
     let wide = some_is c.unwrap-width.result (full_width t) (sym c.unwrap-width.ensures ∙ width-answer t c.args.columns c.requires.can c.requires.columns c.full_width.ensures) in
     let high = some_is c.unwrap-height.result (body_height t) (sym c.unwrap-height.ensures ∙ height-answer t c.args.rows c.requires.can c.requires.rows c.body_height.ensures) ∙ sym (length-table_body t) in
     let first : Bool = c.get_margin.result.top.size == 0 in
-    let last : c.if-is_first.push_bottom ≡ (first && (c.unwrap-height.result == 0)) =
+    let last : c.if-is_first.push_bottom_margin ≡ (first && (c.unwrap-height.result == 0)) =
     elim c.if-is_first.branch [
-      | then-is_first w ↦ (let e : first ≡ true = grind (arith, nat_tests, w.if-is_first.true) in w.push_bottom-is ∙ ap (λ b. b && (c.unwrap-height.result == 0)) (sym e))
-      | else-is_first w ↦ (let e : first ≡ false = grind (arith, nat_tests, w.if-is_first.false) in w.push_bottom-is ∙ e ∙ ap (λ b. b && (c.unwrap-height.result == 0)) (sym e))
+      | then-is_first w ↦ (let e : first ≡ true = grind (arith, nat_tests, w.if-is_first.true) in w.push_bottom_margin-is ∙ ap (λ b. b && (c.unwrap-height.result == 0)) (sym e))
+      | else-is_first w ↦ (let e : first ≡ false = grind (arith, nat_tests, w.if-is_first.false) in w.push_bottom_margin-is ∙ e ∙ ap (λ b. b && (c.unwrap-height.result == 0)) (sym e))
     ] in
-    Appends-text (picture-parts Known t c.unwrap-width.result c.unwrap-height.result {is_first = first} {is_last = c.if-is_first.push_bottom} wide high (ap (λ (m : Sides Indent). m.top.size == 0) c.get_margin.ensures) last)
-    (c.in_ok-push_top.ensures then (c.in_ok-push_body.ensures then c.push_bottom.ensures))
+    Appends-text (picture-parts Known t c.unwrap-width.result c.unwrap-height.result {is_first = first} {is_last = c.if-is_first.push_bottom_margin} wide high (ap (λ (m : Sides Indent). m.top.size == 0) c.get_margin.ensures) last)
+    (c.in_ok-push_top_margin.ensures then (c.in_ok-push_body.ensures then c.push_bottom_margin.ensures))

@@ -19,4 +19,4 @@ returns g c =
     let margin = c.args.config.now.margin.left in
     let left = written (side_margin_at (Some c.args.height) margin c.args.config.now.margin_offset.left c.args.config.now.margin_color.left c.args.index) in
     let first : c.if-is_first.push_feed ≡ ((lines_before c.args.is_first + c.args.index) == 0) = first-of c.args.is_first c.if-is_first.push_feed c.args.index (elim c.if-is_first.branch [ then-is_first w ↦ inl (w.if-is_first.true, w.push_feed-is) | else-is_first w ↦ inr (w.if-is_first.false, w.push_feed-is ∙ w.if-is_first.false) ]) in
-    Appends-text (ap (λ b. feed_before b ++ left) first) (c.in_ok-push_feed.ensures then c.push_left.ensures)
+    Appends-text (ap (λ b. feed_before b ++ left) first) (c.in_ok-push_feed.ensures then c.push_left_margin.ensures)

@@ -2,7 +2,7 @@ use Rattle.std.proofs.Common.{◌≡◌, ◌<◌, ap, arith}
 use Rattle.pg_picture.specs.declared.facts.TextFacts.{TextFacts}
 use Rattle.pg_picture.specs.Pieces.{widest}
 use Rattle.pg_picture.specs.Cells.{style_of, facts_of}
-use Rattle.pg_grid.proofs.Room.{cell_fits-room}
+use Rattle.pg_picture.proofs.Room.{cell_fits-room}
 use Rattle.pg_grid.proofs.peekable.rows.push_cell_line.Goals as goal
 
 pub push_single_line-requires-clause-width : goal.push_single_line-requires-clause-width

@@ -3,7 +3,7 @@ use Rattle.pg_picture.specs.Joined.{lines_before}
 use Rattle.pg_picture.proofs.Appending.{Gained-none, Gained-all, Appends-text}
 use Rattle.pg_grid.specs.declared.peekable.Size.{Size}
 use Rattle.pg_grid.specs.Grids.{peekable_table}
-use Rattle.pg_grid.proofs.BodyLines.{absent-text}
+use Rattle.pg_picture.proofs.BodyLines.{absent-text}
 use Rattle.pg_grid.proofs.peekable.body.PeekableGrid+R+ref+SpannedConfig+B+D+C.push_above.Goals as goal
 
 pub returns-then-not-has_horizontal-clause-lines : goal.returns-then-not-has_horizontal-clause-lines

@@ -3,7 +3,7 @@ use Rattle.pg_picture.specs.Joined.{lines_before}
 use Rattle.pg_picture.proofs.Appending.{Gained-none, Gained-text, Gained-more, gained-then, refused, Appends-text}
 use Rattle.pg_grid.specs.declared.peekable.Size.{Size}
 use Rattle.pg_grid.specs.Grids.{peekable_table}
-use Rattle.pg_grid.proofs.BodyLines.{above-none, above-none-text, above-length, above-text, row-room, body-text-cut, last-room, last-text}
+use Rattle.pg_picture.proofs.BodyLines.{above-none, above-none-text, above-length, above-text, row-room, body-text-cut, last-room, last-text}
 use Rattle.pg_grid.proofs.peekable.body.PeekableGrid+R+ref+SpannedConfig+B+D+C.push_body.Goals as goal
 
 pub loop-row-init : goal.loop-row-init

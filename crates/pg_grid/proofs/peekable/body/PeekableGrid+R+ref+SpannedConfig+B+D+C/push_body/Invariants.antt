@@ -3,7 +3,7 @@ use Rattle.pg_picture.specs.Appending.{Gained}
 use Rattle.pg_picture.specs.Marks.{marks_above}
 use Rattle.pg_picture.specs.Table.{Known}
 use Rattle.pg_picture.specs.Joined.{lines_before}
-use Rattle.pg_grid.specs.Picture.{body_text}
+use Rattle.pg_picture.specs.Picture.{body_text}
 use Rattle.pg_grid.specs.Grids.{peekable_table}
 use Rattle.pg_grid.proofs.peekable.body.PeekableGrid+R+ref+SpannedConfig+B+D+C.push_body.Given as goal
 

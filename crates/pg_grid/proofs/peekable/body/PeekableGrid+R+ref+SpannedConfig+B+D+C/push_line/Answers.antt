@@ -4,7 +4,7 @@ use Rattle.pg_picture.specs.Table.{mark_text}
 use Rattle.pg_picture.proofs.Appending.{Appends-text, ◌then◌, stopped}
 use Rattle.pg_grid.specs.declared.peekable.Size.{Size}
 use Rattle.pg_grid.specs.Grids.{peekable_table}
-use Rattle.pg_grid.proofs.FirstLines.{end_of, line-text}
+use Rattle.pg_picture.proofs.FirstLines.{end_of, line-text}
 use Rattle.pg_grid.proofs.peekable.body.PeekableGrid+R+ref+SpannedConfig+B+D+C.push_line.Goals as goal
 
 pub returns-in_err-push_start : goal.returns-in_err-push_start
@@ -26,4 +26,4 @@ unfolding mark_text
 returns g c =
     let t = (peekable_table g.R.Records.texts g.R.Records.columns g.D.Dimension.width g.D.Dimension.height g.C.Colors.color c.args.self.now) in
     Appends-text (line-text t c.args.size.height c.args.is_first c.args.index (line c.args.row c.args.number) (ap (λ (s : Size). s.height) c.requires.size))
-    (c.in_ok-push_start.ensures then (c.in_ok-push_row_line.ensures then c.push_right.ensures))
+    (c.in_ok-push_start.ensures then (c.in_ok-push_row_line.ensures then c.push_right_margin.ensures))

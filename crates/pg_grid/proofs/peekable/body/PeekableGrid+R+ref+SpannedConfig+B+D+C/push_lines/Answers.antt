@@ -3,7 +3,7 @@ use Rattle.pg_picture.specs.Joined.{lines_before}
 use Rattle.pg_picture.specs.Table.{Known}
 use Rattle.pg_picture.proofs.Appending.{Gained-none, Gained-text, Gained-more, refused}
 use Rattle.pg_grid.specs.Grids.{peekable_table}
-use Rattle.pg_grid.proofs.BodyLines.{body_text-nil, row-more, row-cut}
+use Rattle.pg_picture.proofs.BodyLines.{body_text-nil, row-more, row-cut}
 use Rattle.pg_grid.proofs.peekable.body.PeekableGrid+R+ref+SpannedConfig+B+D+C.push_lines.Goals as goal
 
 pub loop-number-init : goal.loop-number-init

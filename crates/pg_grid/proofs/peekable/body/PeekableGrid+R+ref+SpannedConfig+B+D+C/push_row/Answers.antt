@@ -2,9 +2,9 @@ use Rattle.std.proofs.Common.{◌+◌, length, refl}
 use Rattle.pg_picture.specs.Joined.{lines_before}
 use Rattle.pg_picture.specs.Table.{Known}
 use Rattle.pg_picture.proofs.Appending.{Appends-text, ◌then◌, stopped}
-use Rattle.pg_grid.specs.Picture.{body_text}
+use Rattle.pg_picture.specs.Picture.{body_text}
 use Rattle.pg_grid.specs.Grids.{peekable_table}
-use Rattle.pg_grid.proofs.BodyLines.{IfOk-at, lines_of, separator_of, separator-room, lines-room, row-end, row-text}
+use Rattle.pg_picture.proofs.BodyLines.{IfOk-at, lines_of, separator_of, separator-room, lines-room, row-end, row-text}
 use Rattle.pg_grid.proofs.peekable.body.PeekableGrid+R+ref+SpannedConfig+B+D+C.push_row.Goals as goal
 
 pub push_above-requires-clause-room : goal.push_above-requires-clause-room

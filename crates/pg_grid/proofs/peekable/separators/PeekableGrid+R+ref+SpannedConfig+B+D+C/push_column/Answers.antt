@@ -5,7 +5,7 @@ use Rattle.pg_picture.specs.Table.{crossing_at, border_items}
 use Rattle.pg_picture.proofs.Appending.{Appends-text, ◌then◌, stopped}
 use Rattle.pg_grid.specs.declared.peekable.Size.{Size}
 use Rattle.pg_grid.specs.Grids.{peekable_table}
-use Rattle.pg_grid.proofs.Separators.{column-items, items_after-two, last_color-two, IfOk-same}
+use Rattle.pg_picture.proofs.Separators.{column-items, items_after-two, last_color-two, IfOk-same}
 use Rattle.pg_grid.proofs.peekable.separators.PeekableGrid+R+ref+SpannedConfig+B+D+C.push_column.Goals as goal
 
 pub returns-in_err-run-clause-appends : goal.returns-in_err-run-clause-appends

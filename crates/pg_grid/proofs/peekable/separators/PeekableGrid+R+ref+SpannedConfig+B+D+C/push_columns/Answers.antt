@@ -5,7 +5,7 @@ use Rattle.pg_picture.specs.Table.{separator_part}
 use Rattle.pg_picture.proofs.Appending.{Gained-none, Gained-text, Gained-more, Gained-all, refused, Appends-text}
 use Rattle.pg_grid.specs.declared.peekable.Size.{Size}
 use Rattle.pg_grid.specs.Grids.{peekable_table}
-use Rattle.pg_grid.proofs.Separators.{items_after-columns, last_color-columns, items_after-columns_cut}
+use Rattle.pg_picture.proofs.Separators.{items_after-columns, last_color-columns, items_after-columns_cut}
 use Rattle.pg_grid.proofs.peekable.separators.PeekableGrid+R+ref+SpannedConfig+B+D+C.push_columns.Goals as goal
 
 pub loop-column-init : goal.loop-column-init

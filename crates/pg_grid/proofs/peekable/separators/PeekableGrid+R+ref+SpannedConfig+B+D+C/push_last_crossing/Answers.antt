@@ -4,7 +4,7 @@ use Rattle.pg_picture.specs.Table.{crossing_at}
 use Rattle.pg_picture.proofs.Appending.{Appends-text}
 use Rattle.pg_grid.specs.declared.peekable.Size.{Size}
 use Rattle.pg_grid.specs.Grids.{peekable_table}
-use Rattle.pg_grid.proofs.Separators.{end-items, IfOk-same}
+use Rattle.pg_picture.proofs.Separators.{end-items, IfOk-same}
 use Rattle.pg_grid.proofs.peekable.separators.PeekableGrid+R+ref+SpannedConfig+B+D+C.push_last_crossing.Goals as goal
 
 pub returns-clause-appends : goal.returns-clause-appends

@@ -4,7 +4,7 @@ use Rattle.pg_picture.specs.Pieces.{items_after, last_color, cut}
 use Rattle.pg_picture.specs.Table.{separator_part}
 use Rattle.pg_picture.proofs.Appending.{Appends-text, ◌then◌, stopped}
 use Rattle.pg_grid.specs.Grids.{peekable_table}
-use Rattle.pg_grid.proofs.Separators.{separator-text_from}
+use Rattle.pg_picture.proofs.Separators.{separator-text_from}
 use Rattle.pg_grid.proofs.peekable.separators.PeekableGrid+R+ref+SpannedConfig+B+D+C.push_separator.Goals as goal
 
 pub returns-in_err-run : goal.returns-in_err-run

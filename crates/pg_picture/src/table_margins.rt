@@ -6,12 +6,12 @@ ghost use Rattle.pg_picture.specs.Pieces.{written};
 ghost use Rattle.pg_picture.specs.Joined.{continued, lines_before};
 ghost use Rattle.pg_picture.specs.Table.{margin_line, side_margin_at};
 
+use crate::margin::{push_margin_lines, push_side_margin};
 use pg_config::SpannedConfig;
-use pg_picture::{push_margin_lines, push_side_margin};
 use std::alloc::{AllocError, Allocator};
 
 /// Appends the left margin at a line of the body, of which `height` is the number of lines.
-pub(crate) fn push_left<B: Allocator, A: Allocator>(
+pub fn push_left_margin<B: Allocator, A: Allocator>(
     buf: &mut String<A>,
     config: &SpannedConfig<B>,
     line: usize,
@@ -32,7 +32,7 @@ pub(crate) fn push_left<B: Allocator, A: Allocator>(
 }
 
 /// Appends the right margin at a line of the body, of which `height` is the number of lines.
-pub(crate) fn push_right<B: Allocator, A: Allocator>(
+pub fn push_right_margin<B: Allocator, A: Allocator>(
     buf: &mut String<A>,
     config: &SpannedConfig<B>,
     line: usize,
@@ -53,7 +53,7 @@ pub(crate) fn push_right<B: Allocator, A: Allocator>(
 }
 
 /// Appends the lines of the top margin, each of so many columns.
-pub(crate) fn push_top<B: Allocator, A: Allocator>(
+pub fn push_top_margin<B: Allocator, A: Allocator>(
     buf: &mut String<A>,
     config: &SpannedConfig<B>,
     width: usize,
@@ -74,7 +74,7 @@ pub(crate) fn push_top<B: Allocator, A: Allocator>(
 
 /// Appends the lines of the bottom margin, each of so many columns; `is_first` tells whether no line
 /// stands before them.
-pub(crate) fn push_bottom<B: Allocator, A: Allocator>(
+pub fn push_bottom_margin<B: Allocator, A: Allocator>(
     buf: &mut String<A>,
     config: &SpannedConfig<B>,
     width: usize,

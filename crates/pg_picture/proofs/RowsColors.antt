@@ -14,9 +14,9 @@ use Rattle.pg_config.specs.Overrides.{with_border, no_overrides}
 use Rattle.pg_config.specs.Spans.{with_row_span}
 use Rattle.pg_picture.specs.Table.{Known}
 use Rattle.pg_picture.specs.Joined.{joined}
-use Rattle.pg_grid.specs.Picture.{picture}
-use Rattle.pg_grid.specs.Samples.{table, plain, bordered, one, in_colors, color_r, color_b, color_g, indent, for_all}
-use Rattle.pg_grid.proofs.Computing.{grid_words}
+use Rattle.pg_picture.specs.Picture.{picture}
+use Rattle.pg_picture.specs.Samples.{table, plain, bordered, one, in_colors, color_r, color_b, color_g, indent, for_all}
+use Rattle.pg_picture.proofs.Computing.{grid_words}
 
 -- ---- cells
 

@@ -15,7 +15,7 @@ use Rattle.pg_picture.proofs.Ranges.{range-add}
 use Rattle.pg_picture.proofs.MarksOfRectangles.{rows_from, marks_above-add}
 use Rattle.pg_picture.specs.Joined.{continued, joined, lines_before, feed_before}
 use Rattle.pg_picture.proofs.JoinedLines.{continued-append, continued-nil, continued-line}
-use Rattle.pg_grid.specs.Picture.{body_lines, body_text}
+use Rattle.pg_picture.specs.Picture.{body_lines, body_text}
 
 enumerate_from-append : {X : Type 0} (n : ℕ) (xs ys : List X) → enumerate_from n (xs ++ ys) ≡ enumerate_from n xs ++ enumerate_from (n + length xs) ys
 enumerate_from-append n [] ys = ap (λ k. enumerate_from k ys) (sym (add-zero n))

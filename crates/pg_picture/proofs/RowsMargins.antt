@@ -9,9 +9,9 @@ use Rattle.pg_layout.specs.Borders.{no_borders}
 use Rattle.pg_config.specs.Config.{filled}
 use Rattle.pg_picture.specs.Table.{Table, Hint, Known, Unknown}
 use Rattle.pg_picture.specs.Joined.{joined}
-use Rattle.pg_grid.specs.Picture.{picture}
-use Rattle.pg_grid.specs.Samples.{table, plain, bordered, one, color_g, color_b, indent}
-use Rattle.pg_grid.proofs.Computing.{grid_words}
+use Rattle.pg_picture.specs.Picture.{picture}
+use Rattle.pg_picture.specs.Samples.{table, plain, bordered, one, color_g, color_b, indent}
+use Rattle.pg_picture.proofs.Computing.{grid_words}
 
 -- a top and a bottom margin of `^` and `v`
 abbrev above_and_below : ℕ → ℕ → Sides Indent

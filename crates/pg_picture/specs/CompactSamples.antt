@@ -7,7 +7,7 @@ use Rattle.pg_layout.specs.Text.{Text}
 use Rattle.pg_config.specs.CompactConfig.{CompactSettings}
 use Rattle.pg_config.specs.Config.{filled, no_indents}
 use Rattle.pg_picture.specs.CompactLines.{CompactTable}
-use Rattle.pg_grid.specs.Samples.{text_in}
+use Rattle.pg_picture.specs.Samples.{text_in}
 
 -- an empty colour
 abbrev pub no_color : Color

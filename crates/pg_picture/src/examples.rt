@@ -21,10 +21,10 @@ ghost use Rattle.pg_config.specs.Spans.{with_column_span, with_row_span};
 ghost use Rattle.pg_picture.specs.declared.fits.Misfit.TheVariants.{Room, Spans, Totals};
 ghost use Rattle.pg_picture.specs.Fits.{misfit_of};
 ghost use Rattle.pg_picture.specs.Table.{Known, Table, Unknown};
-ghost use Rattle.pg_grid.specs.CompactSamples.{plain_compact, compact_table};
+ghost use Rattle.pg_picture.specs.CompactSamples.{plain_compact, compact_table};
 ghost use Rattle.pg_picture.specs.Joined.{joined};
-ghost use Rattle.pg_grid.specs.Picture.{compact_picture, picture};
-ghost use Rattle.pg_grid.specs.Samples.{ascii, bordered, color_b, color_g, color_r, for_all, for_cell, grid22, indent, one, plain, spaced, table};
+ghost use Rattle.pg_picture.specs.Picture.{compact_picture, picture};
+ghost use Rattle.pg_picture.specs.Samples.{ascii, bordered, color_b, color_g, color_r, for_all, for_cell, grid22, indent, one, plain, spaced, table};
 
 /// Two rows and two columns with borders at all places.
 ///

@@ -9,8 +9,8 @@ use Rattle.pg_picture.specs.Table.{Table, Hint, margin_line, margin_lines, full_
 use Rattle.pg_picture.specs.Pieces.{written}
 use Rattle.pg_picture.specs.Fits.{misfit_of}
 use Rattle.pg_picture.proofs.JoinedLines.{continued-append}
-use Rattle.pg_grid.specs.Picture.{top_lines, bottom_lines, body_lines, body_text, picture_lines, picture}
-use Rattle.pg_grid.proofs.BodyLines.{length-body_lines}
+use Rattle.pg_picture.specs.Picture.{top_lines, bottom_lines, body_lines, body_text, picture_lines, picture}
+use Rattle.pg_picture.proofs.BodyLines.{length-body_lines}
 
 -- of the lines that stand already it counts only whether there are any
 continued-any : (n : ℕ) (b : Bool) (xs : List Text) → b ≡ (n == 0) → continued n xs ≡ continued (lines_before b) xs

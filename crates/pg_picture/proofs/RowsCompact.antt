@@ -6,10 +6,10 @@ use Rattle.pg_layout.specs.Borders.{no_borders}
 use Rattle.pg_layout.specs.Text.{Text}
 use Rattle.pg_config.specs.Config.{filled}
 use Rattle.pg_picture.specs.Joined.{joined}
-use Rattle.pg_grid.specs.Picture.{compact_picture}
-use Rattle.pg_grid.specs.Samples.{ascii, grid22, one, color_r, color_b, color_g, indent, spaced}
-use Rattle.pg_grid.specs.CompactSamples.{no_color, plain_compact, compact_table}
-use Rattle.pg_grid.proofs.Computing.{grid_words}
+use Rattle.pg_picture.specs.Picture.{compact_picture}
+use Rattle.pg_picture.specs.Samples.{ascii, grid22, one, color_r, color_b, color_g, indent, spaced}
+use Rattle.pg_picture.specs.CompactSamples.{no_color, plain_compact, compact_table}
+use Rattle.pg_picture.proofs.Computing.{grid_words}
 
 abbrev a_over_b : List (List Text)
 a_over_b = (codes "a" ∷ []) ∷ (codes "b" ∷ []) ∷ []

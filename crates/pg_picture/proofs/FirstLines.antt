@@ -5,8 +5,8 @@ use Rattle.pg_picture.specs.Marks.{Mark}
 use Rattle.pg_picture.specs.Pieces.{written}
 use Rattle.pg_picture.specs.Table.{Table, Known, side_margin_at, mark_text, body_line, table_body}
 use Rattle.pg_picture.specs.Joined.{lines_before, feed_before}
-use Rattle.pg_grid.specs.Picture.{body_text}
-use Rattle.pg_grid.proofs.BodyLines.{body_text-one}
+use Rattle.pg_picture.specs.Picture.{body_text}
+use Rattle.pg_picture.proofs.BodyLines.{body_text-one}
 
 module _ (t : Table) (height : ℕ) where
   -- the line feed and the left margin of a line

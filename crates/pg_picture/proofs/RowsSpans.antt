@@ -10,9 +10,9 @@ use Rattle.pg_config.specs.Config.{filled}
 use Rattle.pg_config.specs.Spans.{with_column_span, with_row_span}
 use Rattle.pg_picture.specs.Table.{Known, Unknown}
 use Rattle.pg_picture.specs.Joined.{joined}
-use Rattle.pg_grid.specs.Picture.{picture}
-use Rattle.pg_grid.specs.Samples.{table, numbered, grid22, plain, bordered, indent, spaced, for_all, for_cell}
-use Rattle.pg_grid.proofs.Computing.{grid_words}
+use Rattle.pg_picture.specs.Picture.{picture}
+use Rattle.pg_picture.specs.Samples.{table, numbered, grid22, plain, bordered, indent, spaced, for_all, for_cell}
+use Rattle.pg_picture.proofs.Computing.{grid_words}
 
 -- a first column whose one cell spans all three rows, beside three texts
 abbrev beside_a_b_c : Text → List (List Text)

@@ -14,9 +14,9 @@ use Rattle.pg_config.specs.Overrides.{with_border, no_overrides}
 use Rattle.pg_config.specs.Settings.{with_setting}
 use Rattle.pg_picture.specs.Table.{Hint, Known, Unknown}
 use Rattle.pg_picture.specs.Joined.{joined, continued}
-use Rattle.pg_grid.specs.Picture.{picture}
-use Rattle.pg_grid.specs.Samples.{table, grid22, plain, bordered, one, indent, spaced, for_all}
-use Rattle.pg_grid.proofs.Computing.{grid_words}
+use Rattle.pg_picture.specs.Picture.{picture}
+use Rattle.pg_picture.specs.Samples.{table, grid22, plain, bordered, one, indent, spaced, for_all}
+use Rattle.pg_picture.proofs.Computing.{grid_words}
 
 abbrev one_column : List Text → List (List Text)
 one_column texts = map (λ text. text ∷ []) texts
