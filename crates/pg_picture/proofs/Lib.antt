@@ -34,3 +34,6 @@ pub mod RowsSpans
 pub mod RowsColors
 pub mod RowsMargins
 pub mod RowsCompact
+mod LinesOfPictures
+mod WidthsOfBlocks
+mod BlocksOfRectangles

@@ -1,0 +1,30 @@
+//! Laws of the picture. The functions do nothing: their contracts are the laws.
+
+ghost use Rattle.pg_picture.specs.Laws.{NothingToDraw, NothingCompactToDraw, LinesAreJoined, CompactLinesAreJoined, LinesAreCounted, BlocksAreDrawn, BlocksFill};
+
+/// A table with no rows or no columns has the empty picture, whatever else it was told.
+pub fn no_rows_or_columns_draw_nothing()
+    ensures table { NothingToDraw }
+    ensures compact { NothingCompactToDraw }
+{}
+
+/// Any other picture is its lines, with one line feed between each two: none before the first
+/// line, none after the last.
+pub fn lines_are_joined_by_one_feed()
+    ensures table { LinesAreJoined }
+    ensures compact { CompactLinesAreJoined }
+{}
+
+/// A picture has as many lines as its top margin, its body and its bottom margin together. The body
+/// has the heights of all rows, and one line for each row line that is there.
+pub fn lines_are_those_of_body_and_margins()
+    ensures { LinesAreCounted }
+{}
+
+/// The marks of a cell's rectangle draw the lines of its block, each of them once and in their
+/// order. So a shown cell has as many lines as its rectangle is high; and where it has room for its
+/// text and its fills are one column wide, the pieces of each line add up to the rectangle's width.
+pub fn a_block_fills_its_rectangle()
+    ensures drawn { BlocksAreDrawn }
+    ensures filled { BlocksFill }
+{}
