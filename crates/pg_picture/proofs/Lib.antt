@@ -37,3 +37,4 @@ pub mod RowsCompact
 mod LinesOfPictures
 mod WidthsOfBlocks
 mod BlocksOfRectangles
+mod ColorsOfLines

@@ -1,11 +1,14 @@
 -- Laws of the picture, in words of their own.
 use Rattle.std.specs.Prelude.{◌≡◌, ℕ, ◌+◌, ◌-◌, ◌*◌, ◌<◌, ◌≤◌, ◌⊎◌, true, false, List, [], ◌∷◌, ◌++◌, map, flat_map, length, sum_by, Option, Some, None, IsSome, IfSome, encode_utf8, All}
 use Rattle.std.specs.List.{range_with_len, enumerate_from, join_with_byte, Contains}
+use Rattle.std.specs.Option.{option_to_list}
 use Rattle.pg_layout.specs.declared.position.Position.{Position}
-use Rattle.pg_layout.specs.Text.{width_of}
-use Rattle.pg_picture.specs.Pieces.{Piece, Style, style_at, block_line, pieces_width}
-use Rattle.pg_picture.specs.Table.{Table, Hint, rect_marks, rect_width, rect_height, block_at}
-use Rattle.pg_picture.specs.CompactLines.{CompactTable, compact_lines}
+use Rattle.pg_layout.specs.Text.{Text, width_of}
+use Rattle.pg_layout.specs.Colors.{Color}
+use Rattle.pg_picture.specs.Marks.{Mark, sep, line}
+use Rattle.pg_picture.specs.Pieces.{Piece, run, words, in_color, repeated, written, pieces_width, Style, style_at, block_line, Item, glyph, spaces, block, separator_text}
+use Rattle.pg_picture.specs.Table.{Table, Hint, rect_marks, rect_width, rect_height, block_at, row_line, separator_items, side_margin, body_line}
+use Rattle.pg_picture.specs.CompactLines.{CompactTable, Part, parts_after, compact_lines}
 use Rattle.pg_picture.specs.Fits.{body_height, cell_fits}
 use Rattle.pg_picture.specs.Picture.{picture_lines, picture, compact_picture}
 
@@ -59,3 +62,69 @@ pub record Fills (w h : ℕ) (lines : List (List Piece)) : Type 0 where
 -- Where a cell has room and its fills are narrow, its block is as wide and as high as its rectangle.
 abbrev pub BlocksFill : Type 0
 BlocksFill = (t : Table) (p : Position) → HasNarrowFills (style_at t.config p) → cell_fits (style_at t.config p) (t.text p) (rect_width t p) (rect_height t p) ≡ true → Fills (rect_width t p) (rect_height t p) (map (block_at t p) (rect_marks t p))
+
+-- ---- colours
+
+-- what stands in a piece and in an item, without colours
+abbrev pub plain_piece : Piece → Text
+plain_piece (run c k color) = repeated c k
+plain_piece (words text color) = text
+
+abbrev pub plain_item : Item → Text
+plain_item (glyph g own offset) = encode_utf8 g
+plain_item (spaces k) = repeated 32 k
+plain_item (block pieces) = flat_map plain_piece pieces
+
+-- the colours of a piece and of an item
+abbrev pub colors_of_piece : Piece → List Color
+colors_of_piece (run c k color) = option_to_list color
+colors_of_piece (words text color) = option_to_list color
+
+abbrev pub colors_of_item : Item → List Color
+colors_of_item (glyph g own offset) = option_to_list own ++ option_to_list offset
+colors_of_item (spaces k) = []
+colors_of_item (block pieces) = flat_map colors_of_piece pieces
+
+-- The text is made of parts, each of which stands alone, or between the prefix and the suffix of one of the colours.
+-- Without prefixes and suffixes they are the plain text. So each prefix is followed by its suffix, and by no other
+-- prefix before it.
+pub record ClosesColors (colors : List Color) (plain text : Text) : Type 0 where
+  pub parts : List (Option Color × Text)
+  pub written : text ≡ flat_map (λ part. in_color part.0 part.1) parts
+  pub uncolored : plain ≡ flat_map (λ part. part.1) parts
+  pub among : All (λ part. IfSome part.0 (Contains colors)) parts
+
+-- Pieces close their colours, and so does a separator.
+abbrev pub PiecesCloseColors : Type 0
+PiecesCloseColors = (pieces : List Piece) → ClosesColors (flat_map colors_of_piece pieces) (flat_map plain_piece pieces) (written pieces)
+
+abbrev pub SeparatorsCloseColors : Type 0
+SeparatorsCloseColors = (items : List Item) → ClosesColors (flat_map colors_of_item items) (flat_map plain_item items) (separator_text items)
+
+-- the pieces of the side margins at line i of h
+abbrev pub left_margin : Hint → Table → ℕ → ℕ → List Piece
+left_margin hint t i h = side_margin hint t.config.margin.left t.config.margin_offset.left t.config.margin_color.left i h
+
+abbrev pub right_margin : Hint → Table → ℕ → ℕ → List Piece
+right_margin hint t i h = side_margin hint t.config.margin.right t.config.margin_offset.right t.config.margin_color.right i h
+
+-- what stands in the line of a mark without colours, and its colours
+abbrev pub plain_mark : Table → Mark → Text
+plain_mark t (line r i) = flat_map plain_piece (row_line t r i)
+plain_mark t (sep r) = flat_map plain_item (separator_items t r)
+
+abbrev pub colors_of_mark : Table → Mark → List Color
+colors_of_mark t (line r i) = flat_map colors_of_piece (row_line t r i)
+colors_of_mark t (sep r) = flat_map colors_of_item (separator_items t r)
+
+-- Each line of the body closes its colours, the margins beside it too.
+abbrev pub LinesCloseColors : Type 0
+LinesCloseColors =
+    (hint : Hint) (t : Table) (i h : ℕ) (mark : Mark)
+    → ClosesColors (flat_map colors_of_piece (left_margin hint t i h) ++ (colors_of_mark t mark ++ flat_map colors_of_piece (right_margin hint t i h)))
+    (flat_map plain_piece (left_margin hint t i h) ++ (plain_mark t mark ++ flat_map plain_piece (right_margin hint t i h)))
+    (body_line hint t h (i, mark))
+
+-- A separator of a compact table closes its colours.
+abbrev pub PartsCloseColors : Type 0
+PartsCloseColors = (parts : List Part) → ClosesColors (flat_map (λ part. option_to_list part.2) parts) (flat_map (λ part. repeated part.0 part.1) parts) (parts_after None parts)

@@ -1,6 +1,6 @@
 //! Laws of the picture. The functions do nothing: their contracts are the laws.
 
-ghost use Rattle.pg_picture.specs.Laws.{NothingToDraw, NothingCompactToDraw, LinesAreJoined, CompactLinesAreJoined, LinesAreCounted, BlocksAreDrawn, BlocksFill};
+ghost use Rattle.pg_picture.specs.Laws.{NothingToDraw, NothingCompactToDraw, LinesAreJoined, CompactLinesAreJoined, LinesAreCounted, BlocksAreDrawn, BlocksFill, PiecesCloseColors, SeparatorsCloseColors, LinesCloseColors, PartsCloseColors};
 
 /// A table with no rows or no columns has the empty picture, whatever else it was told.
 pub fn no_rows_or_columns_draw_nothing()
@@ -27,4 +27,14 @@ pub fn lines_are_those_of_body_and_margins()
 pub fn a_block_fills_its_rectangle()
     ensures drawn { BlocksAreDrawn }
     ensures filled { BlocksFill }
+{}
+
+/// Each colour prefix in a line is followed by its suffix in the same line, before another prefix
+/// comes: a line is made of parts that stand alone or between the prefix and the suffix of one of
+/// its colours. Without prefixes and suffixes the line is its glyphs, texts and fills.
+pub fn colors_are_closed_in_their_line()
+    ensures pieces { PiecesCloseColors }
+    ensures separators { SeparatorsCloseColors }
+    ensures lines { LinesCloseColors }
+    ensures compact_separators { PartsCloseColors }
 {}
