@@ -38,3 +38,5 @@ mod LinesOfPictures
 mod WidthsOfBlocks
 mod BlocksOfRectangles
 mod ColorsOfLines
+mod MarksOfBodies
+mod FullCells

@@ -197,7 +197,7 @@ line_parts-measured style color left w inner share v line room known is =
 
 -- ---- a cell of height 1 whose text is one line as it is
 
-lines_above-none : (down : AlignmentVertical) (n : ℕ) → lines_above down n n ≡ 0
+pub lines_above-none : (down : AlignmentVertical) (n : ℕ) → lines_above down n n ≡ 0
 lines_above-none down n = omega (arith, lines_above-le down n n)
 
 widest-single : (f : Formatting) (text : Text) → f.horizontal_trim ≡ false → f.vertical_trim ≡ false → lines_of text ≡ text ∷ [] → widest f text ≡ width_of text

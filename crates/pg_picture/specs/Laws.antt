@@ -3,10 +3,15 @@ use Rattle.std.specs.Prelude.{◌≡◌, ℕ, ◌+◌, ◌-◌, ◌*◌, ◌<◌
 use Rattle.std.specs.List.{range_with_len, enumerate_from, join_with_byte, Contains}
 use Rattle.std.specs.Option.{option_to_list}
 use Rattle.pg_layout.specs.declared.position.Position.{Position}
-use Rattle.pg_layout.specs.Text.{Text, width_of}
+use Rattle.pg_layout.specs.declared.alignment.AlignmentVertical.{AlignmentVertical}
+use Rattle.pg_layout.specs.Text.{Text, lines_of, width_of}
+use Rattle.pg_layout.specs.Position.{at}
 use Rattle.pg_layout.specs.Colors.{Color}
+use Rattle.pg_config.specs.Settings.{Settings}
+use Rattle.pg_config.specs.Config.{get_padding, get_formatting}
+use Rattle.pg_config.specs.Spans.{has_row_spans}
 use Rattle.pg_picture.specs.Marks.{Mark, sep, line}
-use Rattle.pg_picture.specs.Pieces.{Piece, run, words, in_color, repeated, written, pieces_width, Style, style_at, block_line, Item, glyph, spaces, block, separator_text}
+use Rattle.pg_picture.specs.Pieces.{Piece, run, words, in_color, repeated, written, pieces_width, Style, style_at, shown, block_line, Item, glyph, spaces, block, separator_text}
 use Rattle.pg_picture.specs.Table.{Table, Hint, rect_marks, rect_width, rect_height, block_at, row_line, separator_items, side_margin, body_line}
 use Rattle.pg_picture.specs.CompactLines.{CompactTable, Part, parts_after, compact_lines}
 use Rattle.pg_picture.specs.Fits.{body_height, cell_fits}
@@ -128,3 +133,31 @@ LinesCloseColors =
 -- A separator of a compact table closes its colours.
 abbrev pub PartsCloseColors : Type 0
 PartsCloseColors = (parts : List Part) → ClosesColors (flat_map (λ part. option_to_list part.2) parts) (flat_map (λ part. repeated part.0 part.1) parts) (parts_after None parts)
+
+-- ---- vertical alignment
+
+-- the table with these vertical alignments in the place of its own
+abbrev pub aligned_down : Settings AlignmentVertical → Table → Table
+aligned_down down t = record t { config = record t.config { alignment_vertical = down } }
+
+-- The text of p has at least as many lines as its cell has below the top padding: there is nothing to align.
+abbrev pub IsFull : Table → Position → Type 0
+IsFull t p = rect_height t p - (get_padding t.config p).top.size ≤ length (shown (get_formatting t.config p) (t.text p))
+
+-- Where each cell is full, vertical alignment changes nothing.
+abbrev pub FullCellsIgnoreAlignment : Type 0
+FullCellsIgnoreAlignment =
+    (hint : Hint) (t : Table) (down : Settings AlignmentVertical)
+    → ((r c : ℕ) → r < t.rows → c < t.columns → IsFull t (at r c))
+    → picture hint (aligned_down down t) ≡ picture hint t
+
+-- no row spans, rows of one line, and texts of one line, which vertical trim doesn't take away
+pub record HasSingleLines (t : Table) : Type 0 where
+  pub spans : has_row_spans t.config.spans ≡ false
+  pub heights : (r : ℕ) → r < t.rows → t.height r ≡ 1
+  pub texts : (r c : ℕ) → r < t.rows → c < t.columns → length (lines_of (t.text (at r c))) ≡ 1
+  pub trims : (r c : ℕ) → r < t.rows → c < t.columns → (get_formatting t.config (at r c)).vertical_trim ≡ false
+
+-- Then each cell is full, whatever its top padding, and so vertical alignment changes nothing.
+abbrev pub SingleLinesIgnoreAlignment : Type 0
+SingleLinesIgnoreAlignment = (hint : Hint) (t : Table) (down : Settings AlignmentVertical) → HasSingleLines t → picture hint (aligned_down down t) ≡ picture hint t

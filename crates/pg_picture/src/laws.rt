@@ -1,6 +1,6 @@
 //! Laws of the picture. The functions do nothing: their contracts are the laws.
 
-ghost use Rattle.pg_picture.specs.Laws.{NothingToDraw, NothingCompactToDraw, LinesAreJoined, CompactLinesAreJoined, LinesAreCounted, BlocksAreDrawn, BlocksFill, PiecesCloseColors, SeparatorsCloseColors, LinesCloseColors, PartsCloseColors};
+ghost use Rattle.pg_picture.specs.Laws.{NothingToDraw, NothingCompactToDraw, LinesAreJoined, CompactLinesAreJoined, LinesAreCounted, BlocksAreDrawn, BlocksFill, PiecesCloseColors, SeparatorsCloseColors, LinesCloseColors, PartsCloseColors, FullCellsIgnoreAlignment, SingleLinesIgnoreAlignment};
 
 /// A table with no rows or no columns has the empty picture, whatever else it was told.
 pub fn no_rows_or_columns_draw_nothing()
@@ -37,4 +37,12 @@ pub fn colors_are_closed_in_their_line()
     ensures separators { SeparatorsCloseColors }
     ensures lines { LinesCloseColors }
     ensures compact_separators { PartsCloseColors }
+{}
+
+/// Vertical alignment changes nothing where each text has as many lines as its cell has below the
+/// top padding, or more. So it is without row spans where rows have one line and texts too, and no
+/// blank text is taken away by vertical trim.
+pub fn full_cells_ignore_vertical_alignment()
+    ensures full { FullCellsIgnoreAlignment }
+    ensures single_lines { SingleLinesIgnoreAlignment }
 {}
