@@ -1,3 +1,5 @@
 -- Lemmas of this crate.
 pub mod Computing
 pub mod RowsPrinting
+pub mod DrawnLines
+pub mod Steps
