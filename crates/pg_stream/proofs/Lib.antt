@@ -3,3 +3,5 @@ pub mod Computing
 pub mod RowsPrinting
 pub mod DrawnLines
 pub mod Steps
+pub mod TextsOfRows
+pub mod RowsOfTables
