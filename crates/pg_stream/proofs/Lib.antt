@@ -5,3 +5,4 @@ pub mod DrawnLines
 pub mod Steps
 pub mod TextsOfRows
 pub mod RowsOfTables
+pub mod WholePictures
