@@ -45,4 +45,3 @@ module _ (config : Config) (height : ℕ → ℕ) where
       = ap (λ (l : List Mark). length l) (filter-append (stands_within p.row b) (marks_above config height k) (marks_of_row config height k)
       ∙ ap (λ (y : List Mark). filter (stands_within p.row b) (marks_above config height k) ++ y) (row_inside config height p.row b k above some)) in
       rw add-one (omega (arith, e, f, g))
-

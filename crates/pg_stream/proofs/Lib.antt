@@ -6,3 +6,8 @@ pub mod Steps
 pub mod TextsOfRows
 pub mod RowsOfTables
 pub mod WholePictures
+pub mod PlacesInRows
+pub mod LinesOfSlots
+pub mod SeparatorsOfSlots
+pub mod Printers
+pub mod TextsOfCalls

@@ -8,7 +8,7 @@ use Rattle.pg_layout.specs.Text.{Text}
 use Rattle.pg_config.specs.Config.{Config}
 use Rattle.pg_config.specs.Spans.{rect_rows, owner}
 use Rattle.pg_picture.specs.Table.{Table}
-use Rattle.pg_picture.proofs.Owners.{HasOwners, LiesIn}
+use Rattle.pg_picture.proofs.Owners.{HasOwners}
 use Rattle.pg_stream.specs.Open.{Slot, drawn_before, open_at_row}
 use Rattle.pg_stream.specs.Slots.{begin_at, separator_height, next_slot}
 use Rattle.pg_stream.proofs.DrawnLines.{drawn-first, drawn-more}

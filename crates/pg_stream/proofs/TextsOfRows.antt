@@ -1,5 +1,5 @@
 -- A row, and the separator above it, ask only the texts of their owners.
-use Rattle.std.proofs.Common.{◌≡◌, ℕ, ◌+◌, ◌<◌, true, false, ◌&&◌, nat_lt, List, [], ◌++◌, flat_map, refl, ap, ◌∙◌, arith, Option, Some, None, inl, inr, if◌then◌else◌}
+use Rattle.std.proofs.Common.{◌≡◌, ℕ, ◌+◌, ◌<◌, true, false, ◌&&◌, nat_lt, List, [], ◌++◌, flat_map, refl, ap, arith, inl, inr, if◌then◌else◌}
 use mathlib.Core.Path.{fun_ext}
 use Rattle.std.specs.List.{range_with_len}
 use Rattle.std.proofs.lemmas.Bool.{cases_Bool, ltb-true, and_parts}

@@ -12,7 +12,7 @@ use Rattle.pg_config.specs.Spans.{rect_rows, owner, is_left}
 use Rattle.pg_picture.specs.Fits.{spans_fit}
 use Rattle.pg_picture.specs.Marks.{Mark, sep, only_if, marks_of_row, marks_above, body}
 use Rattle.pg_picture.specs.Pieces.{separator_text}
-use Rattle.pg_picture.specs.Table.{Table, Hint, Known, Unknown, mark_text, body_line, table_body, margin_lines, full_width, total_width}
+use Rattle.pg_picture.specs.Table.{Table, Hint, Known, Unknown, mark_text, table_body, margin_lines, full_width, total_width}
 use Rattle.pg_picture.specs.Picture.{top_lines, bottom_lines, body_lines, picture_lines}
 use Rattle.pg_picture.proofs.BodyLines.{body_lines-append}
 use Rattle.pg_picture.proofs.Owners.{Apart, HasOwners, owners_of, owner-ends}
