@@ -6,14 +6,11 @@ use Rattle.std.proofs.lemmas.Bool.Decides.{nat_tests}
 use Rattle.pg_layout.specs.declared.position.Position.{Position}
 use Rattle.pg_layout.specs.Places.{same, value_at}
 use Rattle.pg_layout.specs.Position.{at}
-use Rattle.pg_config.specs.Spans.{Span, corner, corner_or, span_key, size_of, rect_rows, rect_columns, in_span, owner}
+use Rattle.pg_config.specs.Spans.{Span, StandAtPlaces, corner, corner_or, span_key, size_of, rect_rows, rect_columns, in_span, owner}
+use Rattle.pg_picture.proofs.OwnersOfPlaces.{Among}
 use Rattle.pg_picture.specs.Fits.{are_apart, all_apart, span_fits_columns, span_fits, spans_fit, spans_fit_columns}
 
 -- ---- rectangles of a list
-
-abbrev pub Among : List Span → Span → Type 0
-Among [] s = ⊥
-Among (x ∷ xs) s = (x ≡ s) ⊎ Among xs s
 
 -- each rectangle has a size, a key that ends in 0, and shares no place with another
 pub record Apart (spans : List Span) : Type 0 where
@@ -40,14 +37,19 @@ alone_of (x ∷ xs) s u r c h (inr m) (inl f) hs hu =
     absurd (share_none x s r c apart (subst (λ y. in_span r c y ≡ true) (sym f) hu) hs)
 alone_of (x ∷ xs) s u r c h (inr m) (inr n) hs hu = alone_of xs s u r c (and_parts (list_all (are_apart x) xs) (all_apart xs) h).1 m n hs hu
 
+keys_of : (spans : List Span) (s : Span) → StandAtPlaces spans → Among spans s → s.0.2 ≡ 0
+keys_of [] s h m = absurd m
+keys_of (x ∷ xs) s h (inl e) = sym (ap (λ (u : Span). u.0.2) e) ∙ h.0
+keys_of (x ∷ xs) s h (inr m) = keys_of xs s h.1 m
+
 -- spans that fit a number of columns are apart
-pub apart_from : (spans : List Span) (columns : ℕ) → spans_fit_columns spans columns ≡ true → ((s : Span) → Among spans s → s.0.2 ≡ 0) → Apart spans
+pub apart_from : (spans : List Span) (columns : ℕ) → spans_fit_columns spans columns ≡ true → StandAtPlaces spans → Apart spans
 unfolding spans_fit_columns
-apart_from spans columns h keys =
+apart_from spans columns h places =
     let parts = and_parts (list_all (span_fits_columns columns) spans) (all_apart spans) h in
     record {
       sizes = λ s m. let e : span_fits_columns columns s ≡ true = all_pass (span_fits_columns columns) spans s parts.0 m in (grind (arith, nat_tests, e), grind (arith, nat_tests, e));
-      keys = keys;
+      keys = λ s m. keys_of spans s places m;
       alone = λ s u r c. alone_of spans s u r c parts.1;
     }
 

@@ -18,7 +18,8 @@ use Rattle.pg_picture.specs.Pieces.{Item, written, separator_text}
 use Rattle.pg_picture.specs.Table.{Table, Hint, Known, Unknown, rect_marks, rect_height, rect_width, block_at, row_part, row_line, is_inside, vertical, separator_part, separator_items, column_items, crossing_at, crossing, is_covered, border_glyph, horizontal_items, is_blank_at, side_margin, mark_text, body_line, table_body, margin_lines, full_width, total_width}
 use Rattle.pg_picture.specs.Picture.{top_lines, body_lines}
 use Rattle.pg_picture.proofs.MarksOfRectangles.{rows_from, marks_above-add, marks_within-rows}
-use Rattle.pg_picture.proofs.Owners.{Among, Apart, owner_cases}
+use Rattle.pg_picture.proofs.OwnersOfPlaces.{Among}
+use Rattle.pg_picture.proofs.Owners.{Apart, owner_cases}
 use Rattle.pg_stream.specs.Printing.{row_end, rows_reached, lines_at}
 use Rattle.pg_stream.proofs.TextsOfRows.{SameTexts, row_line-told, separator_items-told}
 
