@@ -2,6 +2,7 @@
 pub mod LinesLaw
 mod OverrideColumns
 mod SettingNumbers
+mod SpansAtPlaces
 pub mod SettingsLaw
 pub mod Computing
 pub mod RowsConfig

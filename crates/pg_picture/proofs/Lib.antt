@@ -21,6 +21,9 @@ pub mod Rooms
 pub mod HeightsOfRectangles
 pub mod FittingTables
 pub mod SpansByPlaces
+pub mod OwnersOfPlaces
+pub mod WalksOfRows
+pub mod Owners
 pub mod Computing
 pub mod RowsFits
 pub mod RowsPieces
