@@ -43,3 +43,6 @@ mod BlocksOfRectangles
 mod ColorsOfLines
 mod MarksOfBodies
 mod FullCells
+mod GlyphsOfLines
+mod ReachOfRectangles
+mod StraightColumns

@@ -8,13 +8,14 @@ use Rattle.pg_layout.specs.Text.{Text, lines_of, width_of}
 use Rattle.pg_layout.specs.Position.{at}
 use Rattle.pg_layout.specs.Colors.{Color}
 use Rattle.pg_config.specs.Settings.{Settings}
-use Rattle.pg_config.specs.Config.{get_padding, get_formatting}
-use Rattle.pg_config.specs.Spans.{has_row_spans}
+use Rattle.pg_config.specs.Config.{has_horizontal, has_vertical, get_horizontal, get_vertical, get_intersection, get_padding, get_formatting}
+use Rattle.pg_config.specs.Offsets.{lookup_offset}
+use Rattle.pg_config.specs.Spans.{StandAtPlaces, owner, has_row_spans}
 use Rattle.pg_picture.specs.Marks.{Mark, sep, line}
 use Rattle.pg_picture.specs.Pieces.{Piece, run, words, in_color, repeated, written, pieces_width, Style, style_at, shown, block_line, Item, glyph, spaces, block, separator_text}
-use Rattle.pg_picture.specs.Table.{Table, Hint, rect_marks, rect_width, rect_height, block_at, row_line, separator_items, side_margin, body_line}
+use Rattle.pg_picture.specs.Table.{Table, Hint, rect_marks, rect_width, rect_height, block_at, row_line, separator_items, side_margin, body_line, margin_line, table_body, total_width, full_width}
 use Rattle.pg_picture.specs.CompactLines.{CompactTable, Part, parts_after, compact_lines}
-use Rattle.pg_picture.specs.Fits.{body_height, cell_fits}
+use Rattle.pg_picture.specs.Fits.{body_height, spans_fit, cell_fits, owner_fits}
 use Rattle.pg_picture.specs.Picture.{picture_lines, picture, compact_picture}
 
 -- ---- lines
@@ -161,3 +162,64 @@ pub record HasSingleLines (t : Table) : Type 0 where
 -- Then each cell is full, whatever its top padding, and so vertical alignment changes nothing.
 abbrev pub SingleLinesIgnoreAlignment : Type 0
 SingleLinesIgnoreAlignment = (hint : Hint) (t : Table) (down : Settings AlignmentVertical) → HasSingleLines t → picture hint (aligned_down down t) ≡ picture hint t
+
+-- ---- straight columns
+
+-- the columns of an item: of a glyph, of spaces, and of a line of a block piece by piece
+abbrev pub item_width : Item → ℕ
+item_width (glyph g own offset) = width_of (encode_utf8 g)
+item_width (spaces k) = k * width_of (encode_utf8 32)
+item_width (block pieces) = pieces_width pieces
+
+-- the columns of the line of a mark, piece by piece
+abbrev pub mark_width : Table → Mark → ℕ
+mark_width t (line r i) = pieces_width (row_line t r i)
+mark_width t (sep r) = sum_by item_width (separator_items t r)
+
+-- spans that stand at places and fit, and room for each shown cell
+pub record CellsFit (t : Table) : Type 0 where
+  pub places : StandAtPlaces t.config.spans
+  pub spans : spans_fit t.config.spans t.rows t.columns ≡ true
+  pub rooms : (r c : ℕ) → r < t.rows → c < t.columns → owner_fits t (at r c) ≡ true
+
+-- each fill of a shown cell takes one column, and so does each glyph of a border line, offset or not
+pub record HasNarrowGlyphs (t : Table) : Type 0 where
+  pub fills : (r c : ℕ) → r < t.rows → c < t.columns → owner t.config.spans r c ≡ at r c → HasNarrowFills (style_at t.config (at r c))
+  pub verticals : (r c : ℕ) → r < t.rows → c ≤ t.columns → IfSome (get_vertical t.config (at r c) t.columns) IsNarrow
+  pub vertical_offsets : (r c i : ℕ) → r < t.rows → c ≤ t.columns → i < t.height r → IfSome (lookup_offset t.config.vertical_chars (at r c) i (t.height r)) IsNarrow
+  pub horizontals : (r c : ℕ) → r ≤ t.rows → c < t.columns → IfSome (get_horizontal t.config (at r c) t.rows) IsNarrow
+  pub horizontal_offsets : (r c i : ℕ) → r ≤ t.rows → c < t.columns → i < t.width c → IfSome (lookup_offset t.config.horizontal_chars (at r c) i (t.width c)) IsNarrow
+  pub crossings : (r c : ℕ) → r ≤ t.rows → c ≤ t.columns → IfSome (get_intersection t.config (at r c) t.rows t.columns) IsNarrow
+
+-- a column line that is there has a glyph in each row, and at each crossing with a row line that is there
+pub record HasNoGaps (t : Table) : Type 0 where
+  pub verticals : (r c : ℕ) → r < t.rows → c ≤ t.columns → has_vertical t.config c t.columns ≡ true → IsSome (get_vertical t.config (at r c) t.columns)
+  pub crossings : (r c : ℕ) → r ≤ t.rows → c ≤ t.columns → has_horizontal t.config r t.rows ≡ true → has_vertical t.config c t.columns ≡ true → IsSome (get_intersection t.config (at r c) t.rows t.columns)
+
+-- It has no gaps where a missing glyph is set.
+abbrev pub MissingGlyphFillsGaps : Type 0
+MissingGlyphFillsGaps = (t : Table) → IsSome t.config.missing → HasNoGaps t
+
+-- All lines of the body are as wide as the table, side margins aside.
+abbrev pub ColumnsAreStraight : Type 0
+ColumnsAreStraight = (t : Table) → CellsFit t → HasNarrowGlyphs t → HasNoGaps t → All (λ mark. mark_width t mark ≡ total_width t) (table_body t)
+
+-- each fill of a margin takes one column
+pub record HasNarrowMargins (t : Table) : Type 0 where
+  pub left : IsNarrow t.config.margin.left.fill
+  pub right : IsNarrow t.config.margin.right.fill
+  pub top : IsNarrow t.config.margin.top.fill
+  pub bottom : IsNarrow t.config.margin.bottom.fill
+
+-- the columns of line i of the body with its side margins, where it has h lines
+abbrev pub body_line_width : Hint → Table → ℕ → ℕ × Mark → ℕ
+body_line_width hint t h (i, mark) = (pieces_width (left_margin hint t i h) + mark_width t mark) + pieces_width (right_margin hint t i h)
+
+-- With the side margins they are as wide as the full width, and so are the lines of the top and the bottom margin.
+pub record HasStraightMargins (hint : Hint) (t : Table) : Type 0 where
+  pub body : All (λ line. body_line_width hint t (length (table_body t)) line ≡ full_width t) (enumerate_from 0 (table_body t))
+  pub top : pieces_width (margin_line t.config.margin.top t.config.margin_offset.top t.config.margin_color.top (full_width t)) ≡ full_width t
+  pub bottom : pieces_width (margin_line t.config.margin.bottom t.config.margin_offset.bottom t.config.margin_color.bottom (full_width t)) ≡ full_width t
+
+abbrev pub MarginsAreStraight : Type 0
+MarginsAreStraight = (hint : Hint) (t : Table) → CellsFit t → HasNarrowGlyphs t → HasNoGaps t → HasNarrowMargins t → HasStraightMargins hint t

@@ -1,6 +1,6 @@
 //! Laws of the picture. The functions do nothing: their contracts are the laws.
 
-ghost use Rattle.pg_picture.specs.Laws.{NothingToDraw, NothingCompactToDraw, LinesAreJoined, CompactLinesAreJoined, LinesAreCounted, BlocksAreDrawn, BlocksFill, PiecesCloseColors, SeparatorsCloseColors, LinesCloseColors, PartsCloseColors, FullCellsIgnoreAlignment, SingleLinesIgnoreAlignment};
+ghost use Rattle.pg_picture.specs.Laws.{NothingToDraw, NothingCompactToDraw, LinesAreJoined, CompactLinesAreJoined, LinesAreCounted, BlocksAreDrawn, BlocksFill, PiecesCloseColors, SeparatorsCloseColors, LinesCloseColors, PartsCloseColors, FullCellsIgnoreAlignment, SingleLinesIgnoreAlignment, ColumnsAreStraight, MissingGlyphFillsGaps, MarginsAreStraight};
 
 /// A table with no rows or no columns has the empty picture, whatever else it was told.
 pub fn no_rows_or_columns_draw_nothing()
@@ -45,4 +45,14 @@ pub fn colors_are_closed_in_their_line()
 pub fn full_cells_ignore_vertical_alignment()
     ensures full { FullCellsIgnoreAlignment }
     ensures single_lines { SingleLinesIgnoreAlignment }
+{}
+
+/// Columns are straight where all fills and glyphs are one column wide and no glyph of a column
+/// line is missing: the pieces of each line of the body add up to the widths of all columns, and
+/// one for each column line that is there. With the side margins each line of the picture is as
+/// wide as the full width. No glyph is missing where the missing glyph is set.
+pub fn columns_are_straight()
+    ensures body { ColumnsAreStraight }
+    ensures no_gaps { MissingGlyphFillsGaps }
+    ensures margins { MarginsAreStraight }
 {}
