@@ -1,6 +1,7 @@
 -- Lemmas of this crate.
 pub mod LinesLaw
 mod OverrideColumns
+mod KeptSpans
 mod SettingNumbers
 pub mod SettingsLaw
 pub mod Computing
