@@ -10,6 +10,7 @@ pub mod JoinedLines
 pub mod Margins
 pub mod CutsOfItems
 pub mod CutsOfParts
+pub mod CompactPieces
 pub mod Crossings
 pub mod Horizontals
 pub mod Verticals

@@ -10,4 +10,5 @@ pub mod Sizes
 pub mod FitLaws
 pub mod Picture
 pub mod Samples
+pub mod CompactSizes
 pub mod CompactSamples
