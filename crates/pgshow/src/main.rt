@@ -1,10 +1,9 @@
 //! The program `pgshow`: it prints the table that a script on standard input tells of.
 #![tactic(auto)]
 
-use std::env;
-use std::io;
 use std::process::ExitCode;
 use std::rt::Env;
+use std::{env, io};
 
 // The arguments behind the program's name.
 fn arguments(rt: &(impl Env + AllocGlobal)) -> io::Result<Vec<String>> {
@@ -15,11 +14,5 @@ fn arguments(rt: &(impl Env + AllocGlobal)) -> io::Result<Vec<String>> {
 // Arguments that can't be read are wrong arguments, as none are.
 fn main(rt: HostRuntime) -> ExitCode {
     let words = arguments(&rt).unwrap_or(Vec::new(rt.alloc()));
-    ExitCode::from(pg_show::run(
-        rt.alloc(),
-        &words,
-        rt.stdin(),
-        rt.stdout(),
-        rt.stderr(),
-    ))
+    ExitCode::from(pg_show::run(rt.alloc(), &words, rt.stdin(), rt.stdout(), rt.stderr()))
 }
