@@ -1,5 +1,5 @@
 -- The rectangles of cells that span rows or columns, and the one owner of each place.
-use Rattle.std.specs.Prelude.{ℕ, ◌+◌, Bool, not, ◌&&◌, ◌||◌, ◌==◌, nat_lt, nat_le, List, find, Option, Some, None, unwrap_or, if◌then◌else◌}
+use Rattle.std.specs.Prelude.{◌≡◌, ℕ, ◌+◌, Bool, not, ◌&&◌, ◌||◌, ◌==◌, nat_lt, nat_le, List, [], ◌∷◌, find, Option, Some, None, unwrap_or, if◌then◌else◌}
 use Rattle.std.specs.List.{list_any}
 use Rattle.pg_layout.specs.declared.position.Position.{Position}
 use Rattle.pg_layout.specs.Position.{at, is_at}
@@ -9,6 +9,11 @@ use Rattle.pg_layout.specs.Places.{Key, value_at, with_place, without_place, las
 -- the order of columns and then rows.
 abbrev pub Span : Type 0
 Span = Key × (ℕ × ℕ)
+
+-- the key of a cell with a span is a place: its third number is 0
+abbrev pub StandAtPlaces : List Span → Type 0
+StandAtPlaces [] = Unit {0}
+StandAtPlaces (s ∷ ss) = (s.0.2 ≡ 0) × StandAtPlaces ss
 
 abbrev pub span_key : Position → Key
 span_key p = (p.col, p.row, 0)
@@ -89,6 +94,14 @@ if_left r c (Some s) = if (s.0.0 == c) && in_span r c s then Some s else None
 
 abbrev pub left_span : List Span → ℕ → ℕ → Option Span
 left_span spans r c = if_left r c (last_up_to (c, r, 0) spans)
+
+-- the same, where the rectangle begins above row r
+abbrev pub if_above : ℕ → Option Span → Option Span
+if_above r None = None
+if_above r (Some s) = if nat_lt s.0.1 r then Some s else None
+
+abbrev pub span_above : List Span → ℕ → ℕ → Option Span
+span_above spans r c = if_above r (left_span spans r c)
 
 -- a place of another cell's rectangle is covered: in that cell's row, in its column, or elsewhere
 unfoldable pub is_covered_by_column : List Span → Position → Bool

@@ -2,7 +2,7 @@
 
 ghost use Rattle.std.specs.Prelude.{◌≡◌, ℕ, [], List, OnOk, OnErr, IsOk, IsSome, option_map};
 ghost use Rattle.pg_layout.specs.Places.{IsAscending, value_at};
-ghost use Rattle.pg_config.specs.Spans.{Span, span_key, size_of, with_size, with_column_span, with_row_span, has_column_spans, has_row_spans, in_span, if_left, left_span, is_covered_by_column, is_covered_by_row, is_covered_by_both};
+ghost use Rattle.pg_config.specs.Spans.{Span, StandAtPlaces, span_key, size_of, with_size, with_column_span, with_row_span, has_column_spans, has_row_spans, in_span, if_left, left_span, is_covered_by_column, is_covered_by_row, is_covered_by_both};
 
 use pg_layout::{Key, Places, Position};
 use std::alloc::{AllocError, Allocator, Global};
@@ -21,6 +21,8 @@ impl<A: Allocator> Model for Spans<A> {
     ghost Value = { List Span };
 
     ghost view = { λ s. s.sizes };
+
+    ghost invariant = { λ s. StandAtPlaces s.sizes };
 }
 
 impl<A: Allocator> Spans<A> {
@@ -37,6 +39,7 @@ impl<A: Allocator> Spans<A> {
     pub fn entries(&self) -> &[Span]
         ensures all { result.now ≡ self.now }
         ensures ascending { IsAscending self.now }
+        ensures places { StandAtPlaces self.now }
     {
         self.sizes.entries()
     }

@@ -22,6 +22,9 @@ pub mod Rooms
 pub mod HeightsOfRectangles
 pub mod FittingTables
 pub mod SpansByPlaces
+pub mod OwnersOfPlaces
+pub mod WalksOfRows
+pub mod Owners
 pub mod Computing
 pub mod RowsFits
 pub mod RowsPieces
@@ -35,3 +38,12 @@ pub mod RowsSpans
 pub mod RowsColors
 pub mod RowsMargins
 pub mod RowsCompact
+mod LinesOfPictures
+mod WidthsOfBlocks
+mod BlocksOfRectangles
+mod ColorsOfLines
+mod MarksOfBodies
+mod FullCells
+mod GlyphsOfLines
+mod ReachOfRectangles
+mod StraightColumns

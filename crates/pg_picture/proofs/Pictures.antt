@@ -20,7 +20,7 @@ none-of-two : (a b : ℕ) → ((a == 0) && (b == 0)) ≡ ((a + b) == 0)
 none-of-two zero b = ap (λ n. n == 0) (sym (zero-add b))
 none-of-two (suc a) b = let e : (suc a == 0) ≡ false = grind (arith, nat_tests) in let f : ((suc a + b) == 0) ≡ false = grind (arith, nat_tests) in rw (e, f) refl
 
-length-top : (t : Table) → length (top_lines t) ≡ t.config.margin.top.size
+pub length-top : (t : Table) → length (top_lines t) ≡ t.config.margin.top.size
 unfolding top_lines margin_lines
 length-top t = length-replicate t.config.margin.top.size _
 

@@ -29,6 +29,15 @@ place_in_row r n i h = rw zero-add at (place_in_lines r 0 n i h)
 abbrev pub cell_line : Table → ℕ → ℕ → ℕ → List Piece
 cell_line t r x i = block_line (style_at t.config (at r x)) (t.color (at r x)) (t.text (at r x)) (t.width x) (t.height r) i
 
+-- a rectangle of one row has that row's lines
+rect_marks-one_row : (t : Table) (p : Position) → rect_rows t.config.spans p ≡ 1 → p.row < t.rows → rect_marks t p ≡ map (line p.row) (range_with_len 0 (t.height p.row))
+unfolding rect_marks run_of row_lines rows_from
+rect_marks-one_row t p one h = rw one (let e = marks_within-run t.config t.height p.row 0 t.rows (omega arith) in e ∙ append-nil (map (line p.row) (range_with_len 0 (t.height p.row))))
+
+pub rect_height-one_row : (t : Table) (p : Position) → rect_rows t.config.spans p ≡ 1 → p.row < t.rows → rect_height t p ≡ t.height p.row
+unfolding rect_height
+rect_height-one_row t p one h = ap (λ (l : List Mark). length l) (rect_marks-one_row t p one h) ∙ length-map-range_with_len (line p.row) 0 (t.height p.row)
+
 module _ (t : Table) (none : t.config.spans ≡ []) where
   owner_plain : (r c : ℕ) → owner t.config.spans r c ≡ at r c
   unfolding owner
@@ -47,13 +56,10 @@ module _ (t : Table) (none : t.config.spans ≡ []) where
   rect_width_plain p = rw (rect_columns_plain p) (omega arith)
 
   rect_marks_plain : (p : Position) → p.row < t.rows → rect_marks t p ≡ map (line p.row) (range_with_len 0 (t.height p.row))
-  unfolding rect_marks run_of row_lines rows_from
-  rect_marks_plain p h =
-      rw (rect_rows_plain p) (let e = marks_within-run t.config t.height p.row 0 t.rows (omega arith) in e ∙ append-nil (map (line p.row) (range_with_len 0 (t.height p.row))))
+  rect_marks_plain p h = rect_marks-one_row t p (rect_rows_plain p) h
 
   pub rect_height_plain : (p : Position) → p.row < t.rows → rect_height t p ≡ t.height p.row
-  unfolding rect_height
-  rect_height_plain p h = ap (λ (l : List Mark). length l) (rect_marks_plain p h) ∙ length-map-range_with_len (line p.row) 0 (t.height p.row)
+  rect_height_plain p h = rect_height-one_row t p (rect_rows_plain p) h
 
   -- line i of a row is line i of each of its cells
   place_plain : (r x i : ℕ) → r < t.rows → i < t.height r → place_of (line r i) (rect_marks t (at r x)) ≡ i

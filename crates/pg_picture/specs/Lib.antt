@@ -8,6 +8,7 @@ pub mod Joined
 pub mod Cells
 pub mod Sizes
 pub mod FitLaws
+pub mod Laws
 pub mod Picture
 pub mod Samples
 pub mod CompactSizes

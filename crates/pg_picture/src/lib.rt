@@ -11,6 +11,7 @@ pub mod examples;
 mod facts;
 mod fill;
 pub mod fits;
+pub mod laws;
 mod margin;
 mod piece;
 mod place;

@@ -2,7 +2,7 @@
 
 ghost use Rattle.std.specs.Prelude.{◌≡◌, OnOk, OnErr, IsOk, IsSome};
 ghost use Rattle.pg_layout.specs.Places.{IsAscending, value_at};
-ghost use Rattle.pg_config.specs.Spans.{span_key, rect_rows, rect_columns, with_column_span, with_row_span, get_column_span, get_row_span, has_column_spans, has_row_spans, left_span, is_visible, is_covered_by_column, is_covered_by_row, is_covered_by_both};
+ghost use Rattle.pg_config.specs.Spans.{StandAtPlaces, span_key, rect_rows, rect_columns, with_column_span, with_row_span, get_column_span, get_row_span, has_column_spans, has_row_spans, left_span, span_above, is_visible, is_covered_by_column, is_covered_by_row, is_covered_by_both};
 
 use crate::spanned::SpannedConfig;
 use crate::spans::Span;
@@ -72,6 +72,7 @@ impl<A: Allocator> SpannedConfig<A> {
     pub fn spans(&self) -> &[Span]
         ensures all { result.now ≡ self.now.spans }
         ensures ascending { IsAscending self.now.spans }
+        ensures places { StandAtPlaces self.now.spans }
     {
         self.spans.entries()
     }
@@ -83,6 +84,14 @@ impl<A: Allocator> SpannedConfig<A> {
         ensures { result ≡ left_span self.now.spans pos.row pos.col }
     {
         self.spans.left_span(pos)
+    }
+
+    /// The rectangle that [`SpannedConfig::left_span`] finds, where it begins above the place.
+    pub fn span_above(&self, pos: Position) -> Option<Span>
+        ensures { result ≡ span_above self.now.spans pos.row pos.col }
+    {
+        let span = self.left_span(pos)?;
+        if span.0.1 < pos.row { Some(span) } else { None }
     }
 
     /// Whether a cell spans columns.

@@ -1,0 +1,58 @@
+//! Laws of the picture. The functions do nothing: their contracts are the laws.
+
+ghost use Rattle.pg_picture.specs.Laws.{NothingToDraw, NothingCompactToDraw, LinesAreJoined, CompactLinesAreJoined, LinesAreCounted, BlocksAreDrawn, BlocksFill, PiecesCloseColors, SeparatorsCloseColors, LinesCloseColors, PartsCloseColors, FullCellsIgnoreAlignment, SingleLinesIgnoreAlignment, ColumnsAreStraight, MissingGlyphFillsGaps, MarginsAreStraight};
+
+/// A table with no rows or no columns has the empty picture, whatever else it was told.
+pub fn no_rows_or_columns_draw_nothing()
+    ensures table { NothingToDraw }
+    ensures compact { NothingCompactToDraw }
+{}
+
+/// Any other picture is its lines, with one line feed between each two: none before the first
+/// line, none after the last.
+pub fn lines_are_joined_by_one_feed()
+    ensures table { LinesAreJoined }
+    ensures compact { CompactLinesAreJoined }
+{}
+
+/// A picture has as many lines as its top margin, its body and its bottom margin together. The body
+/// has the heights of all rows, and one line for each row line that is there.
+pub fn lines_are_those_of_body_and_margins()
+    ensures { LinesAreCounted }
+{}
+
+/// The marks of a cell's rectangle draw the lines of its block, each of them once and in their
+/// order. So a shown cell has as many lines as its rectangle is high; and where it has room for its
+/// text and its fills are one column wide, the pieces of each line add up to the rectangle's width.
+pub fn a_block_fills_its_rectangle()
+    ensures drawn { BlocksAreDrawn }
+    ensures filled { BlocksFill }
+{}
+
+/// Each colour prefix in a line is followed by its suffix in the same line, before another prefix
+/// comes: a line is made of parts that stand alone or between the prefix and the suffix of one of
+/// its colours. Without prefixes and suffixes the line is its glyphs, texts and fills.
+pub fn colors_are_closed_in_their_line()
+    ensures pieces { PiecesCloseColors }
+    ensures separators { SeparatorsCloseColors }
+    ensures lines { LinesCloseColors }
+    ensures compact_separators { PartsCloseColors }
+{}
+
+/// Vertical alignment changes nothing where each text has as many lines as its cell has below the
+/// top padding, or more. So it is without row spans where rows have one line and texts too, and no
+/// blank text is taken away by vertical trim.
+pub fn full_cells_ignore_vertical_alignment()
+    ensures full { FullCellsIgnoreAlignment }
+    ensures single_lines { SingleLinesIgnoreAlignment }
+{}
+
+/// Columns are straight where all fills and glyphs are one column wide and no glyph of a column
+/// line is missing: the pieces of each line of the body add up to the widths of all columns, and
+/// one for each column line that is there. With the side margins each line of the picture is as
+/// wide as the full width. No glyph is missing where the missing glyph is set.
+pub fn columns_are_straight()
+    ensures body { ColumnsAreStraight }
+    ensures no_gaps { MissingGlyphFillsGaps }
+    ensures margins { MarginsAreStraight }
+{}

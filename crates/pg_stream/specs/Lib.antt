@@ -1,0 +1,3 @@
+pub mod Open
+pub mod Printing
+pub mod Slots

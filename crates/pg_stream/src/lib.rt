@@ -1,0 +1,3 @@
+//! The streaming printer: it prints a table row by row, and keeps the cells that go on below the
+//! last printed row.
+#![tactic(auto)]
