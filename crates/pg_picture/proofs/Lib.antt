@@ -23,6 +23,8 @@ pub mod FittingTables
 pub mod SpansByPlaces
 pub mod OwnersOfPlaces
 pub mod WalksOfRows
+pub mod PlacesInRectangles
+pub mod DrawnRectangles
 pub mod Computing
 pub mod RowsFits
 pub mod RowsPieces

@@ -11,3 +11,4 @@ pub mod FitLaws
 pub mod Picture
 pub mod Samples
 pub mod CompactSamples
+pub mod Rectangles
