@@ -25,6 +25,8 @@ pub mod SpansByPlaces
 pub mod OwnersOfPlaces
 pub mod WalksOfRows
 pub mod Owners
+pub mod PlacesInRectangles
+pub mod DrawnRectangles
 pub mod Computing
 pub mod RowsFits
 pub mod RowsPieces

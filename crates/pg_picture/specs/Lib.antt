@@ -13,3 +13,4 @@ pub mod Picture
 pub mod Samples
 pub mod CompactSizes
 pub mod CompactSamples
+pub mod Rectangles
