@@ -1,3 +1,4 @@
 pub mod Open
 pub mod Printing
 pub mod Slots
+pub mod Placed
