@@ -3,3 +3,4 @@
 #![tactic(auto)]
 
 mod open_cell;
+mod frame;
