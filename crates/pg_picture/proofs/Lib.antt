@@ -10,6 +10,7 @@ pub mod JoinedLines
 pub mod Margins
 pub mod CutsOfItems
 pub mod CutsOfParts
+pub mod CompactPieces
 pub mod Crossings
 pub mod Horizontals
 pub mod Verticals
@@ -24,6 +25,8 @@ pub mod SpansByPlaces
 pub mod OwnersOfPlaces
 pub mod WalksOfRows
 pub mod Owners
+pub mod PlacesInRectangles
+pub mod DrawnRectangles
 pub mod Computing
 pub mod RowsFits
 pub mod RowsPieces

@@ -9,17 +9,13 @@ use Rattle.pg_layout.specs.Position.{at, is_at}
 use Rattle.pg_layout.specs.Places.{Key, same, before, comes, value_at, last_up_to, Each, IsAscending}
 use Rattle.pg_layout.proofs.PlacesOrder.{before-comes}
 use Rattle.pg_config.specs.Spans.{Span, StandAtPlaces, corner, in_span, owner, is_left, begins_above, same_owner, left_span, size_of, span_key}
+use Rattle.pg_picture.specs.Rectangles.{columns_or_one}
 use Rattle.pg_picture.specs.Fits.{are_apart, all_apart, span_fits, spans_fit}
 
 -- a span is among these
 abbrev pub Among : List Span → Span → Type 0
 Among [] s = ⊥
 Among (t ∷ ts) s = (t ≡ s) ⊎ Among ts s
-
--- how many columns a search that found this takes
-abbrev pub columns_or_one : Option Span → ℕ
-columns_or_one None = 1
-columns_or_one (Some s) = s.1.1
 
 -- spans in their order, of which each has a size and ends inside the table, and no two share a place
 pub record InOrder (spans : List Span) (rows columns : ℕ) : Type 0 where
@@ -134,12 +130,20 @@ find_none test (t ∷ ts) s e m h =
       | inr n ↦ elim m [ inl same_one ↦ false≢true (sym n ∙ subst (λ x. test x ≡ true) (sym same_one) h) | inr more ↦ find_none test ts s (rw n at e) more h ]
     ]
 
-value_among : (k : Key) (spans : List Span) (v : ℕ × ℕ) → value_at k spans ≡ Some v → (s : Span) × Among spans s × (same s.0 k ≡ true)
+value_among : (k : Key) (spans : List Span) (v : ℕ × ℕ) → value_at k spans ≡ Some v → (s : Span) × Among spans s × (same s.0 k ≡ true) × (s.1 ≡ v)
 value_among k [] v e = absurd (false≢true (ap (λ (o : Option (ℕ × ℕ)). is_some o) e))
 value_among k (t ∷ ts) v e =
     elim (cases_Bool (same t.0 k)) [
-      | inl y ↦ (t, inl refl, y)
-      | inr n ↦ let more = value_among k ts v (rw n at e) in (more.0, inr more.1, more.2)
+      | inl y ↦ (t, inl refl, y, ap (λ (o : Option (ℕ × ℕ)). unwrap_or o v) (rw y at e))
+      | inr n ↦ let more = value_among k ts v (rw n at e) in (more.0, inr more.1, more.2, more.3)
+    ]
+
+none_among : (k : Key) (spans : List Span) (s : Span) → value_at k spans ≡ None → Among spans s → same s.0 k ≡ true → ⊥
+none_among k [] s e m h = m
+none_among k (t ∷ ts) s e m h =
+    elim (cases_Bool (same t.0 k)) [
+      | inl y ↦ false≢true (sym (ap (λ (o : Option (ℕ × ℕ)). is_some o) (rw y at e)))
+      | inr n ↦ elim m [ inl same_one ↦ false≢true (sym n ∙ subst (λ (x : Span). same x.0 k ≡ true) (sym same_one) h) | inr more ↦ none_among k ts s (rw n at e) more h ]
     ]
 
 size_cases : (o : Option (ℕ × ℕ)) → (o ≡ None) ⊎ ((v : ℕ × ℕ) × (o ≡ Some v))
@@ -345,3 +349,21 @@ module _ (spans : List Span) (rows columns : ℕ) (order : InOrder spans rows co
       let own = left_of r x left in
       let other : (owner spans r (x - 1)).col ≤ x - 1 = owner_col-le spans r (x - 1) in
       grind (arith, nat_tests, own, other, h)
+
+  -- the size of a rectangle is found at its corner
+  pub size_of_corner : (s : Span) → Among spans s → size_of spans (corner s) ≡ s.1
+  unfolding size_of
+  size_of_corner s m =
+      let third = place_among spans s order.places m in
+      let its : same s.0 (span_key (corner s)) ≡ true = grind (arith, nat_tests, third) in
+      elim (size_cases (value_at (span_key (corner s)) spans)) [
+        | inl nothing ↦ absurd (none_among (span_key (corner s)) spans s nothing m its)
+        | inr v ↦
+            let u = value_among (span_key (corner s)) spans v.0 v.1 in
+            let mine = room_among s m in
+            let other = room_among u.0 u.1 in
+            let in_s : in_span s.0.1 s.0.0 s ≡ true = grind (arith, nat_tests, mine.some_rows, mine.some_columns) in
+            let in_u : in_span s.0.1 s.0.0 u.0 ≡ true = grind (arith, nat_tests, other.some_rows, other.some_columns, u.2) in
+            let one : u.0 ≡ s = apart u.0 s s.0.1 s.0.0 u.1 m in_u in_s in
+            rw v.1 (sym u.3 ∙ ap (λ (x : Span). x.1) one)
+      ]

@@ -1,13 +1,11 @@
 -- The picture as its parts: the top margin, the body and the bottom margin.
-use Rattle.std.proofs.Common.{◌≡◌, ℕ, zero, suc, ◌+◌, ◌<◌, Bool, true, false, ◌&&◌, ◌||◌, ◌==◌, List, [], ◌∷◌, ◌++◌, Option, None, length, replicate, refl, sym, ap, ap₂, ◌∙◌, zero-add, add-zero, arith}
+use Rattle.std.proofs.Common.{◌≡◌, ℕ, zero, suc, ◌+◌, Bool, true, false, ◌&&◌, ◌||◌, ◌==◌, List, [], ◌++◌, length, replicate, refl, sym, ap, ap₂, ◌∙◌, zero-add, add-zero, arith}
 use Rattle.std.proofs.lemmas.List.{length-replicate}
 use Rattle.std.proofs.lemmas.Bool.Decides.{nat_tests}
 use Rattle.pg_layout.specs.Text.{Text}
-use Rattle.pg_layout.specs.Position.{at}
 use Rattle.pg_picture.specs.Joined.{joined, continued, lines_before}
 use Rattle.pg_picture.specs.Table.{Table, Hint, margin_line, margin_lines, full_width, table_body}
 use Rattle.pg_picture.specs.Pieces.{written}
-use Rattle.pg_picture.specs.Fits.{misfit_of}
 use Rattle.pg_picture.proofs.JoinedLines.{continued-append}
 use Rattle.pg_picture.specs.Picture.{top_lines, bottom_lines, body_lines, body_text, picture_lines, picture}
 use Rattle.pg_picture.proofs.BodyLines.{length-body_lines}

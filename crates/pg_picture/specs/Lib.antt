@@ -11,4 +11,6 @@ pub mod FitLaws
 pub mod Laws
 pub mod Picture
 pub mod Samples
+pub mod CompactSizes
 pub mod CompactSamples
+pub mod Rectangles

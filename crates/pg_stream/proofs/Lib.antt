@@ -11,3 +11,4 @@ pub mod LinesOfSlots
 pub mod SeparatorsOfSlots
 pub mod Printers
 pub mod TextsOfCalls
+pub mod CellLines
