@@ -7,7 +7,8 @@ use Rattle.pg_picture.specs.Pieces.{Piece, written, style_at, block_line}
 use Rattle.pg_picture.specs.Table.{Table, vertical, vertical_at, row_part}
 use Rattle.pg_picture.proofs.PiecesOfLines.{written-append}
 use Rattle.pg_picture.proofs.Ranges.{range-more, range-cut}
-use Rattle.pg_picture.proofs.PlainTables.{row_part_plain, row_part_plain_end, cell_line}
+use Rattle.pg_picture.specs.Laws.{cell_line}
+use Rattle.pg_picture.proofs.PlainTables.{row_part_plain, row_part_plain_end}
 
 module _ (t : Table) (none : t.config.spans ≡ []) where
   -- its vertical and its cell

@@ -48,4 +48,7 @@ mod MarksOfBodies
 mod FullCells
 mod GlyphsOfLines
 mod ReachOfRectangles
+mod PartsOfColumns
 mod StraightColumns
+mod DrawnCells
+mod LittleTold

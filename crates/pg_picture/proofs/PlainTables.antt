@@ -10,6 +10,7 @@ use Rattle.pg_config.specs.Spans.{size_of, rect_rows, rect_columns, owner, is_le
 use Rattle.pg_picture.specs.Marks.{Mark, line, place_of}
 use Rattle.pg_picture.specs.Pieces.{Piece, style_at, block_line}
 use Rattle.pg_picture.specs.Table.{Table, rect_marks, rect_height, rect_width, block_at, row_part, vertical, is_inside, is_covered, crossing, crossing_at, column_items, horizontal_items}
+use Rattle.pg_picture.specs.Laws.{cell_line}
 use Rattle.pg_picture.proofs.MarksOfRectangles.{marks_within-run, run_of, row_lines, rows_from}
 
 -- the index of line i among the lines of its row
@@ -24,10 +25,6 @@ place_in_lines r a (suc n) (suc i) h =
 
 place_in_row : (r n i : ℕ) → i < n → place_of (line r i) (map (line r) (range_with_len 0 n)) ≡ i
 place_in_row r n i h = rw zero-add at (place_in_lines r 0 n i h)
-
--- line i of a cell that is as wide as its column and as high as its row
-abbrev pub cell_line : Table → ℕ → ℕ → ℕ → List Piece
-cell_line t r x i = block_line (style_at t.config (at r x)) (t.color (at r x)) (t.text (at r x)) (t.width x) (t.height r) i
 
 -- a rectangle of one row has that row's lines
 rect_marks-one_row : (t : Table) (p : Position) → rect_rows t.config.spans p ≡ 1 → p.row < t.rows → rect_marks t p ≡ map (line p.row) (range_with_len 0 (t.height p.row))

@@ -31,6 +31,7 @@ use Rattle.pg_picture.proofs.WidthsOfBlocks.{pieces_width-append, pieces_width-f
 use Rattle.pg_picture.proofs.WalksOfRows.{row_part_end, separator_part_end}
 use Rattle.pg_picture.proofs.FittingTables.{rect_inside, owner_fits-own}
 use Rattle.pg_picture.proofs.GlyphsOfLines.{get_vertical-none}
+use Rattle.pg_picture.proofs.PartsOfColumns.{left-there, row-begins, row-inside, covered-row, no-crossing, crossing-begins, crossing-open, column-inside, column-begins, column-open}
 use Rattle.pg_picture.proofs.ReachOfRectangles.{sum_by-flat_map, all_reached, total_width-columns, there, column_at, end_of, ahead, hanging, inside-facts, begins, ahead-begins, ahead-end, ahead-inside, step-begins, step-inside, covered-before, hanging-inside, hanging-begins, hanging-step, step-open, hanging-end}
 
 -- ---- glyphs
@@ -108,25 +109,20 @@ record PartsOf (t : Table) : Type 0 where
   horizontals : (r c : ℕ) → r ≤ t.rows → c < t.columns → sum_by item_width (horizontal_items t r c (get_horizontal t.config (at r c) t.rows)) ≡ t.width c
 
 module _ (t : Table) (parts : PartsOf t) where
-  left-there : (r k : ℕ) → (owner t.config.spans r k).col ≡ k → is_left t.config.spans r k ≡ true
-  unfolding is_left
-  left-there r k h = grind (arith, nat_tests, h)
-
   -- the parts of a row's line
   row_part-step : (r i k : ℕ) → r < t.rows → i < t.height r → k < t.columns
       → pieces_width (row_part t r i k) + sum_by (column_at t) (range_with_len k (ahead t parts.owners r k)) ≡ column_at t k + sum_by (column_at t) (range_with_len (k + 1) (ahead t parts.owners r (k + 1)))
-  unfolding row_part
   row_part-step r i k h l here =
-      let within : nat_lt k t.columns ≡ true = grind (arith, nat_tests, here) in
       elim (cases_Bool (is_inside t r k)) [
         | inl y ↦
             let facts = inside-facts t parts.owners r k y in
-            step-inside t parts.owners r k (pieces_width (row_part t r i k)) y (rw (y, within, facts.2) (unfold pieces_width in refl))
+            step-inside t parts.owners r k (pieces_width (row_part t r i k)) y (ap pieces_width (row-inside t r i k here y facts.2) ∙ unfold pieces_width in refl)
         | inr n ↦
             let own : Position = owner t.config.spans r k in
-            let left = left-there r k (begins t parts.owners r k here n) in
+            let left = left-there t r k (begins t parts.owners r k here n) in
             step-begins t parts.owners r k (pieces_width (row_part t r i k)) here n
-            (rw (n, within, left) (pieces_width-append (vertical t r i k) (block_at t own (line r i)) ∙ ap₂ (λ (a b : ℕ). a + b) (parts.verticals r k i h (omega (arith, here)) l) (parts.blocks r k (line r i) h here)))
+            (ap pieces_width (row-begins t r i k here n left) ∙ pieces_width-append (vertical t r i k) (block_at t own (line r i))
+            ∙ ap₂ (λ (a b : ℕ). a + b) (parts.verticals r k i h (omega (arith, here)) l) (parts.blocks r k (line r i) h here))
       ]
 
   row_line-width : (r i : ℕ) → r < t.rows → i < t.height r → pieces_width (row_line t r i) ≡ total_width t
@@ -142,34 +138,6 @@ module _ (t : Table) (parts : PartsOf t) where
   items : ℕ → ℕ → ℕ
   items r k = sum_by item_width (separator_part t r k)
 
-  covered-row : (r k : ℕ) → is_covered t r k ≡ true → r < t.rows
-  unfolding is_covered
-  covered-row r k h = let one = (and_parts (nat_lt r t.rows && nat_lt k t.columns) (begins_above t.config.spans r k) h).0 in grind (arith, nat_tests, one)
-
-  no-crossing : (r k : ℕ) → is_inside t r k ≡ true → is_covered t r k ≡ true → crossing t r k ≡ []
-  unfolding crossing
-  no-crossing r k y covered = rw (y, covered) refl
-
-  crossing-begins : (r k : ℕ) → is_inside t r k ≡ false → crossing t r k ≡ crossing_at t.config t.rows t.columns (at r k)
-  unfolding crossing
-  crossing-begins r k n = rw n refl
-
-  crossing-open : (r k : ℕ) → is_covered t r k ≡ false → crossing t r k ≡ crossing_at t.config t.rows t.columns (at r k)
-  unfolding crossing
-  crossing-open r k n = elim (cases_Bool (is_inside t r k)) [ inl y ↦ rw (y, n) refl | inr m ↦ rw m refl ]
-
-  column-inside : (r k : ℕ) → is_covered t r k ≡ true → is_left t.config.spans r k ≡ false → column_items t r k ≡ []
-  unfolding column_items
-  column-inside r k covered n = rw (covered, n) refl
-
-  column-begins : (r k : ℕ) → is_covered t r k ≡ true → is_left t.config.spans r k ≡ true → column_items t r k ≡ block (block_at t (owner t.config.spans r k) (sep r)) ∷ []
-  unfolding column_items
-  column-begins r k covered y = rw (covered, y) refl
-
-  column-open : (r k : ℕ) → k < t.columns → is_covered t r k ≡ false → column_items t r k ≡ horizontal_items t r k (get_horizontal t.config (at r k) t.rows)
-  unfolding column_items
-  column-open r k h n = let within : nat_lt k t.columns ≡ true = grind (arith, nat_tests, h) in rw (n, within) refl
-
   items-two : (r k : ℕ) (xs ys : List Item) → crossing t r k ≡ xs → column_items t r k ≡ ys → items r k ≡ sum_by item_width xs + sum_by item_width ys
   unfolding items separator_part
   items-two r k xs ys a b = ap₂ (λ (x y : List Item). sum_by item_width (x ++ y)) a b ∙ sum_by-append item_width xs ys
@@ -181,21 +149,21 @@ module _ (t : Table) (parts : PartsOf t) where
         | inl covered ↦ elim (cases_Bool (is_inside t r k)) [
           | inl y ↦
               let facts = inside-facts t parts.owners r k y in
-              let none : items r k ≡ 0 = items-two r k [] [] (no-crossing r k y covered) (column-inside r k covered facts.2) in
+              let none : items r k ≡ 0 = items-two r k [] [] (no-crossing t r k y covered) (column-inside t r k covered facts.2) in
               hanging-step t parts.owners r k (items r k) (hanging-inside t parts.owners r k y ∙ ap (λ b. cond b (ahead t parts.owners r k) 0) covered) covered
               (step-inside t parts.owners r k (items r k) y none)
           | inr n ↦
-              let left = left-there r k (begins t parts.owners r k here n) in
+              let left = left-there t r k (begins t parts.owners r k here n) in
               let own : Position = owner t.config.spans r k in
               let one : List Item = block (block_at t own (sep r)) ∷ [] in
-              let both = items-two r k (crossing_at t.config t.rows t.columns (at r k)) one (crossing-begins r k n) (column-begins r k covered left) in
-              let wide = parts.blocks r k (sep r) (covered-row r k covered) here in
+              let both = items-two r k (crossing_at t.config t.rows t.columns (at r k)) one (crossing-begins t r k n) (column-begins t r k covered left) in
+              let wide = parts.blocks r k (sep r) (covered-row t r k covered) here in
               hanging-step t parts.owners r k (items r k) (hanging-begins t parts.owners r k here n ∙ sym (ahead-begins t parts.owners r k here n)) covered
               (step-begins t parts.owners r k (items r k) here n (omega (arith, both, wide, parts.crossings r k h (omega (arith, here)) drawn)))
         ]
         | inr out ↦
             let glyphs : List Item = horizontal_items t r k (get_horizontal t.config (at r k) t.rows) in
-            let both = items-two r k (crossing_at t.config t.rows t.columns (at r k)) glyphs (crossing-open r k out) (column-open r k here out) in
+            let both = items-two r k (crossing_at t.config t.rows t.columns (at r k)) glyphs (crossing-open t r k out) (column-open t r k here out) in
             step-open t parts.owners r k (items r k) here out (omega (arith, both, parts.crossings r k h (omega (arith, here)) drawn, parts.horizontals r k h here))
       ]
 
@@ -209,7 +177,7 @@ module _ (t : Table) (parts : PartsOf t) where
 
 -- ---- tables whose cells fit
 
-fits-columns : (spans : List Span) (rows columns : ℕ) → spans_fit spans rows columns ≡ true → spans_fit_columns spans columns ≡ true
+pub fits-columns : (spans : List Span) (rows columns : ℕ) → spans_fit spans rows columns ≡ true → spans_fit_columns spans columns ≡ true
 unfolding spans_fit spans_fit_columns
 fits-columns spans rows columns h =
     let parts = and_parts (list_all (span_fits rows columns) spans) (all_apart spans) h in

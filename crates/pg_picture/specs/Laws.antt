@@ -3,6 +3,8 @@ use Rattle.std.specs.Prelude.{◌≡◌, ℕ, ◌+◌, ◌-◌, ◌*◌, ◌<◌
 use Rattle.std.specs.List.{range_with_len, enumerate_from, join_with_byte, Contains}
 use Rattle.std.specs.Option.{option_to_list}
 use Rattle.pg_layout.specs.declared.position.Position.{Position}
+use Rattle.pg_layout.specs.declared.sides.Offset.{Offset}
+use Rattle.pg_layout.specs.declared.sides.Offset.TheVariants.{Start, End}
 use Rattle.pg_layout.specs.declared.alignment.AlignmentVertical.{AlignmentVertical}
 use Rattle.pg_layout.specs.Text.{Text, lines_of, width_of}
 use Rattle.pg_layout.specs.Position.{at}
@@ -10,10 +12,11 @@ use Rattle.pg_layout.specs.Colors.{Color}
 use Rattle.pg_config.specs.Settings.{Settings}
 use Rattle.pg_config.specs.Config.{has_horizontal, has_vertical, get_horizontal, get_vertical, get_intersection, get_padding, get_formatting}
 use Rattle.pg_config.specs.Offsets.{lookup_offset}
-use Rattle.pg_config.specs.Spans.{StandAtPlaces, owner, has_row_spans}
+use Rattle.pg_config.specs.Spans.{StandAtPlaces, owner, rect_rows, rect_columns, has_row_spans}
 use Rattle.pg_picture.specs.Marks.{Mark, sep, line}
 use Rattle.pg_picture.specs.Pieces.{Piece, run, words, in_color, repeated, written, pieces_width, Style, style_at, shown, block_line, Item, glyph, spaces, block, separator_text}
-use Rattle.pg_picture.specs.Table.{Table, Hint, rect_marks, rect_width, rect_height, block_at, row_line, separator_items, side_margin, body_line, margin_line, table_body, total_width, full_width}
+use Rattle.pg_picture.specs.Table.{Table, Hint, Known, Unknown, rect_marks, rect_width, rect_height, block_at, vertical, row_part, row_line, crossing_at, horizontal_items, column_items, separator_part, separator_items, mark_text, side_margin, body_line, margin_line, table_body, total_width, full_width}
+use Rattle.pg_picture.specs.Rectangles.{IsOwner}
 use Rattle.pg_picture.specs.CompactLines.{CompactTable, Part, parts_after, compact_lines}
 use Rattle.pg_picture.specs.Fits.{body_height, spans_fit, cell_fits, owner_fits}
 use Rattle.pg_picture.specs.Picture.{picture_lines, picture, compact_picture}
@@ -223,3 +226,70 @@ pub record HasStraightMargins (hint : Hint) (t : Table) : Type 0 where
 
 abbrev pub MarginsAreStraight : Type 0
 MarginsAreStraight = (hint : Hint) (t : Table) → CellsFit t → HasNarrowGlyphs t → HasNoGaps t → HasNarrowMargins t → HasStraightMargins hint t
+
+-- ---- where a cell is drawn
+
+-- The line of a mark has the line of p's block at the first column of its rectangle, and nothing at the others.
+abbrev pub IsDrawn : Table → Position → Mark → Type 0
+IsDrawn t p (line r i) =
+    (row_part t r i p.col ≡ vertical t r i p.col ++ block_at t p (line r i))
+    × ((c : ℕ) → p.col < c → c < p.col + rect_columns t.config.spans p → row_part t r i c ≡ [])
+IsDrawn t p (sep r) =
+    (column_items t r p.col ≡ block (block_at t p (sep r)) ∷ [])
+    × ((c : ℕ) → p.col < c → c < p.col + rect_columns t.config.spans p → separator_part t r c ≡ [])
+
+-- A shown cell is drawn in the line of each mark of its rectangle.
+abbrev pub ShownCellsAreDrawn : Type 0
+ShownCellsAreDrawn =
+    (t : Table) → StandAtPlaces t.config.spans → spans_fit t.config.spans t.rows t.columns ≡ true
+    → (p : Position) → IsOwner t p → All (IsDrawn t p) (rect_marks t p)
+
+-- these marks stand one after another in those
+pub record StandTogether (some all : List Mark) : Type 0 where
+  pub before : List Mark
+  pub after : List Mark
+  pub is : all ≡ before ++ (some ++ after)
+
+-- The marks of a rectangle that ends inside the table stand one after another in the body.
+abbrev pub RectanglesStandTogether : Type 0
+RectanglesStandTogether = (t : Table) (p : Position) → 0 < rect_rows t.config.spans p → p.row + rect_rows t.config.spans p ≤ t.rows → StandTogether (rect_marks t p) (table_body t)
+
+-- ---- tables that were told little
+
+-- line i of a cell that is as wide as its column and as high as its row
+abbrev pub cell_line : Table → ℕ → ℕ → ℕ → List Piece
+cell_line t r x i = block_line (style_at t.config (at r x)) (t.color (at r x)) (t.text (at r x)) (t.width x) (t.height r) i
+
+-- Without spans a line of a row is a vertical and a cell for each column, and the last vertical.
+abbrev pub PlainRows : Type 0
+PlainRows =
+    (t : Table) (r i : ℕ) → t.config.spans ≡ [] → r < t.rows → i < t.height r
+    → row_line t r i ≡ flat_map (λ x. vertical t r i x ++ cell_line t r x i) (range_with_len 0 t.columns) ++ vertical t r i t.columns
+
+-- A separator is a crossing and a horizontal for each column, and the last crossing.
+abbrev pub PlainSeparators : Type 0
+PlainSeparators =
+    (t : Table) (r : ℕ) → t.config.spans ≡ []
+    → separator_items t r
+    ≡ flat_map (λ x. crossing_at t.config t.rows t.columns (at r x) ++ horizontal_items t r x (get_horizontal t.config (at r x) t.rows)) (range_with_len 0 t.columns)
+    ++ crossing_at t.config t.rows t.columns (at r t.columns)
+
+-- all margins have size 0
+pub record HasNoMargins (t : Table) : Type 0 where
+  pub left : t.config.margin.left.size ≡ 0
+  pub right : t.config.margin.right.size ≡ 0
+  pub top : t.config.margin.top.size ≡ 0
+  pub bottom : t.config.margin.bottom.size ≡ 0
+
+-- Then a picture is the lines of its body alone, whatever the margins' fills, colours and offsets.
+abbrev pub BodiesStandAlone : Type 0
+BodiesStandAlone = (hint : Hint) (t : Table) → 0 < t.rows → 0 < t.columns → HasNoMargins t → picture hint t ≡ join_with_byte 10 (map (mark_text t) (table_body t))
+
+-- an offset from the start
+abbrev pub IsFromStart : Offset → Type 0
+IsFromStart (Start n) = Unit {0}
+IsFromStart (End n) = ⊥
+
+-- Where the side margins have offsets from the start, it doesn't matter whether the number of lines is known.
+abbrev pub HintsAreIdle : Type 0
+HintsAreIdle = (t : Table) → IsFromStart t.config.margin_offset.left → IsFromStart t.config.margin_offset.right → picture Unknown t ≡ picture Known t

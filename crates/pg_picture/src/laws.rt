@@ -1,6 +1,6 @@
 //! Laws of the picture. The functions do nothing: their contracts are the laws.
 
-ghost use Rattle.pg_picture.specs.Laws.{NothingToDraw, NothingCompactToDraw, LinesAreJoined, CompactLinesAreJoined, LinesAreCounted, BlocksAreDrawn, BlocksFill, PiecesCloseColors, SeparatorsCloseColors, LinesCloseColors, PartsCloseColors, FullCellsIgnoreAlignment, SingleLinesIgnoreAlignment, ColumnsAreStraight, MissingGlyphFillsGaps, MarginsAreStraight};
+ghost use Rattle.pg_picture.specs.Laws.{NothingToDraw, NothingCompactToDraw, LinesAreJoined, CompactLinesAreJoined, LinesAreCounted, BlocksAreDrawn, BlocksFill, PiecesCloseColors, SeparatorsCloseColors, LinesCloseColors, PartsCloseColors, FullCellsIgnoreAlignment, SingleLinesIgnoreAlignment, ColumnsAreStraight, MissingGlyphFillsGaps, MarginsAreStraight, ShownCellsAreDrawn, RectanglesStandTogether};
 
 /// A table with no rows or no columns has the empty picture, whatever else it was told.
 pub fn no_rows_or_columns_draw_nothing()
@@ -55,4 +55,12 @@ pub fn columns_are_straight()
     ensures body { ColumnsAreStraight }
     ensures no_gaps { MissingGlyphFillsGaps }
     ensures margins { MarginsAreStraight }
+{}
+
+/// Where spans fit, a shown cell is drawn in each line of its rectangle: the line has the block's
+/// line at the rectangle's first column, and nothing at its other columns, border glyphs neither.
+/// The lines of a rectangle stand one after another in the body.
+pub fn shown_cells_are_drawn_in_their_rectangles()
+    ensures drawn { ShownCellsAreDrawn }
+    ensures together { RectanglesStandTogether }
 {}
