@@ -41,7 +41,7 @@ pub compact_lines_are_joined : CompactLinesAreJoined
 unfolding compact_picture
 compact_lines_are_joined t h k = rw (some-at t.rows t.columns h k) (joined-with_byte (compact_lines t))
 
-length-bottom : (t : Table) → length (bottom_lines t) ≡ t.config.margin.bottom.size
+pub length-bottom : (t : Table) → length (bottom_lines t) ≡ t.config.margin.bottom.size
 unfolding bottom_lines margin_lines
 length-bottom t = length-replicate t.config.margin.bottom.size _
 
