@@ -1,5 +1,5 @@
 -- Tables that were told little: without spans, without margins, or without offsets from the end of a side.
-use Rattle.std.proofs.Common.{◌≡◌, ℕ, zero, suc, ◌+◌, ◌<◌, ◌≤◌, Bool, true, false, ◌||◌, ◌==◌, List, [], ◌∷◌, ◌++◌, map, flat_map, length, replicate, refl, sym, ap, ap₂, ◌∙◌, arith, append-nil, zero-add, Option, inl, inr, if◌then◌else◌}
+use Rattle.std.proofs.Common.{◌≡◌, ℕ, zero, suc, ◌+◌, ◌<◌, ◌≤◌, ◌||◌, ◌==◌, List, [], ◌∷◌, ◌++◌, map, flat_map, length, refl, ap, ap₂, ◌∙◌, arith, append-nil, zero-add, Option, inl, inr, if◌then◌else◌}
 use mathlib.Core.Path.{fun_ext}
 use Rattle.std.specs.List.{range_with_len, enumerate_from, join_with_byte}
 use Rattle.std.proofs.lemmas.Bool.{cases_Bool}
@@ -12,7 +12,7 @@ use Rattle.pg_layout.specs.Position.{at}
 use Rattle.pg_config.specs.Config.{get_horizontal}
 use Rattle.pg_picture.specs.Marks.{Mark}
 use Rattle.pg_picture.specs.Pieces.{fill, written}
-use Rattle.pg_picture.specs.Table.{Table, Hint, Known, Unknown, vertical, row_part, row_line, crossing_at, horizontal_items, separator_part, separator_items, margin_lines, is_blank_at, side_margin, mark_text, body_line, table_body}
+use Rattle.pg_picture.specs.Table.{Table, Hint, Known, Unknown, vertical, row_part, row_line, crossing_at, horizontal_items, separator_part, separator_items, is_blank_at, side_margin, mark_text, body_line, table_body}
 use Rattle.pg_picture.specs.Joined.{joined}
 use Rattle.pg_picture.specs.Picture.{top_lines, bottom_lines, body_lines, picture_lines, picture}
 use Rattle.pg_picture.specs.Laws.{cell_line, PlainRows, PlainSeparators, HasNoMargins, BodiesStandAlone, IsFromStart, HintsAreIdle}
