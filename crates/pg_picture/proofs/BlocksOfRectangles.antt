@@ -1,10 +1,9 @@
 -- The marks of a rectangle are all different, so they draw each line of its block once.
-use Rattle.std.proofs.Common.{◌≡◌, ℕ, zero, suc, ◌+◌, ◌<◌, ◌≤◌, Bool, true, false, not, List, [], ◌∷◌, ◌++◌, map, length, filter, refl, sym, ap, ap₂, ◌∙◌, arith, append_assoc, append-nil, length-append, zero-add, one-add, slice_index_or, subst, inl, inr}
-use Rattle.std.specs.List.{All, range_with_len, position_or_len}
+use Rattle.std.proofs.Common.{◌≡◌, ℕ, zero, suc, ◌+◌, ◌≤◌, Bool, true, false, List, [], ◌∷◌, ◌++◌, map, length, filter, refl, sym, ap, ap₂, ◌∙◌, arith, append_assoc, append-nil, length-append, one-add, slice_index_or, subst, inl, inr}
+use Rattle.std.specs.List.{range_with_len}
 use Rattle.std.proofs.lemmas.List.{length-map}
 use Rattle.std.proofs.lemmas.Simd.{map-map}
 use Rattle.std.proofs.lemmas.List.Elements.{All-map, All-same, filter-append}
-use Rattle.std.proofs.lemmas.List.FromFn.{length-map-range_with_len}
 use Rattle.std.proofs.lemmas.Bool.{cases_Bool}
 use Rattle.std.proofs.lemmas.Bool.Decides.{nat_tests}
 use Rattle.pg_layout.specs.declared.position.Position.{Position}
@@ -13,10 +12,9 @@ use Rattle.pg_config.specs.Spans.{rect_rows}
 use Rattle.pg_picture.specs.Marks.{Mark, sep, line, same_mark, only_if, marks_of_row, marks_above, body, stands_within, marks_within, place_of}
 use Rattle.pg_picture.specs.Pieces.{Piece, style_at, block_line, pieces_width}
 use Rattle.pg_picture.specs.Table.{Table, rect_marks, rect_height, rect_width, block_at}
-use Rattle.pg_picture.specs.Fits.{cell_fits}
-use Rattle.pg_picture.specs.Laws.{HasNarrowFills, BlocksAreDrawn, BlocksFill, Fills, block_of}
+use Rattle.pg_picture.specs.Laws.{BlocksAreDrawn, BlocksFill, block_of}
 use Rattle.pg_picture.proofs.MarksOfRectangles.{NonePasses}
-use Rattle.pg_picture.proofs.PlacesOfMarks.{NonePasses-append, none_sep, none_lines, sep_lines, line_not_above, range-split}
+use Rattle.pg_picture.proofs.PlacesOfMarks.{NonePasses-append, none_sep, sep_lines, line_not_above}
 use Rattle.pg_picture.proofs.WidthsOfBlocks.{block_line-width}
 
 -- no mark of the list stands before it already, nor among those before the list
@@ -48,11 +46,10 @@ AllNew-filter p before (x ∷ xs) h =
 lines-new : (before : List Mark) (r a k : ℕ) → ((i : ℕ) → a ≤ i → NonePasses (same_mark (line r i)) before) → AllNew before (map (line r) (range_with_len a k))
 unfolding AllNew
 lines-new before r a zero h = tt
-lines-new before r a (suc k) h =
-    (
-      h a (omega arith),
-      lines-new (before ++ line r a ∷ []) r (a + 1) k (λ i l. NonePasses-append (same_mark (line r i)) before (line r a ∷ []) (h i (omega arith)) (grind (arith, nat_tests), tt)),
-    )
+lines-new before r a (suc k) h = (
+  h a (omega arith),
+  lines-new (before ++ line r a ∷ []) r (a + 1) k (λ i l. NonePasses-append (same_mark (line r i)) before (line r a ∷ []) (h i (omega arith)) (grind (arith, nat_tests), tt)),
+)
 
 sep-new : (before : List Mark) (b : Bool) (r : ℕ) → NonePasses (same_mark (sep r)) before → AllNew before (only_if b (sep r))
 unfolding AllNew
@@ -128,5 +125,5 @@ blocks_fill t p narrow fits =
     record {
       high = unfold rect_height in length-map (rect_marks t p) (block_at t p);
       wide = All-same wide (map (block_at t p) (rect_marks t p)) (block_of t p) (blocks_are_drawn t p)
-      (All-map wide lines (range_with_len 0 (rect_height t p)) (λ k d l. block_line-width (style_at t.config p) (t.color p) (rect_width t p) narrow (t.text p) (rect_height t p) (slice_index_or (range_with_len 0 (rect_height t p)) k d) fits));
+          (All-map wide lines (range_with_len 0 (rect_height t p)) (λ k d l. block_line-width (style_at t.config p) (t.color p) (rect_width t p) narrow (t.text p) (rect_height t p) (slice_index_or (range_with_len 0 (rect_height t p)) k d) fits));
     }

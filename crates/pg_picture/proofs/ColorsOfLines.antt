@@ -1,6 +1,6 @@
 -- Each prefix in a line is followed by its suffix: a line as parts that stand alone or in one colour.
-use Rattle.std.proofs.Common.{◌≡◌, ℕ, Bool, true, false, List, [], ◌∷◌, ◌++◌, flat_map, refl, sym, ap, ap₂, ◌∙◌, append_assoc, append-nil, arith, encode_utf8, Option, Some, None, IfSome, inl, inr, subst}
-use Rattle.std.specs.List.{All, Contains}
+use Rattle.std.proofs.Common.{◌≡◌, true, List, [], ◌∷◌, ◌++◌, flat_map, refl, sym, ap, ap₂, ◌∙◌, append_assoc, append-nil, arith, encode_utf8, Option, Some, None, IfSome, inl, inr}
+use Rattle.std.specs.List.{Contains}
 use Rattle.std.specs.Option.{option_to_list}
 use Rattle.std.specs.Str.{bytes_eq}
 use Rattle.std.specs.Cmp.Lexicographic.{same_text}
@@ -8,10 +8,10 @@ use Rattle.std.proofs.lemmas.Bool.{cases_Bool, and_parts, false≢true}
 use Rattle.std.proofs.lemmas.List.Concat.{flat_map-append}
 use Rattle.std.proofs.lemmas.List.Elements.{All-nil, All-cons, All-append, All-weaker, Contains-append_left, Contains-append_right}
 use Rattle.pg_layout.specs.Text.{Text}
-use Rattle.pg_layout.specs.Colors.{Color, same_color, color_eq}
+use Rattle.pg_layout.specs.Colors.{Color, same_color}
 use Rattle.pg_picture.specs.Marks.{Mark, sep, line}
 use Rattle.pg_picture.specs.Pieces.{Piece, run, words, in_color, piece_text, repeated, written, prefix_of, suffix_of, cut, Item, glyph, spaces, block, color_after, item_text, with_cuts, separator_text}
-use Rattle.pg_picture.specs.Table.{Table, Hint, row_line, separator_items, side_margin, mark_text, body_line}
+use Rattle.pg_picture.specs.Table.{Table, row_line, separator_items, mark_text, body_line}
 use Rattle.pg_picture.specs.CompactLines.{Part, own_or, parts_after}
 use Rattle.pg_picture.specs.Laws.{plain_piece, plain_item, colors_of_piece, colors_of_item, ClosesColors, PiecesCloseColors, SeparatorsCloseColors, LinesCloseColors, PartsCloseColors, left_margin, right_margin, plain_mark, colors_of_mark}
 
@@ -102,11 +102,11 @@ module _ (colors : List Color) where
       elim (cases_Bool (same_color c d)) [
         | inl y ↦ closes-same refl (rw y (ap (λ t. t ++ (x ++ rest)) (prefix-same c d y))) (next x)
         | inr n ↦ closes-same refl
-          (rw n (ap (λ t. prefix_of c ++ (x ++ t)) (append_assoc (suffix_of c) (prefix_of d) rest)
-          ∙ ap (λ t. prefix_of c ++ t) (sym (append_assoc x (suffix_of c) (prefix_of d ++ rest)))
-          ∙ sym (append_assoc (prefix_of c) (x ++ suffix_of c) (prefix_of d ++ rest))
-          ∙ ap (λ t. t ++ (prefix_of d ++ rest)) (sym (in_color-parts c x))))
-          (closes-cons c x among (next []))
+            (rw n (ap (λ t. prefix_of c ++ (x ++ t)) (append_assoc (suffix_of c) (prefix_of d) rest)
+            ∙ ap (λ t. prefix_of c ++ t) (sym (append_assoc x (suffix_of c) (prefix_of d ++ rest)))
+            ∙ sym (append_assoc (prefix_of c) (x ++ suffix_of c) (prefix_of d ++ rest))
+            ∙ ap (λ t. t ++ (prefix_of d ++ rest)) (sym (in_color-parts c x))))
+            (closes-cons c x among (next []))
       ]
 
   after-among : (c : Option Color) (item : Item) → IsAmong c colors → Among (colors_of_item item) colors → IsAmong (color_after c item) colors

@@ -1,18 +1,16 @@
 -- A shown cell is drawn in each line of its rectangle, and these lines stand together.
-use Rattle.std.proofs.Common.{◌≡◌, ℕ, zero, suc, ◌+◌, ◌-◌, ◌<◌, ◌≤◌, Bool, true, false, ◌&&◌, ◌==◌, nat_lt, List, [], ◌∷◌, ◌++◌, map, filter, refl, sym, ap, ap₂, ◌∙◌, arith, append_assoc, append-nil, subst, inl, inr}
+use Rattle.std.proofs.Common.{◌≡◌, ℕ, suc, ◌+◌, ◌-◌, ◌<◌, ◌≤◌, Bool, true, false, ◌&&◌, nat_lt, List, [], ◌∷◌, ◌++◌, map, filter, refl, sym, ap, ap₂, ◌∙◌, arith, append_assoc, subst, inl, inr}
 use Rattle.std.specs.List.{All, range_with_len}
 use Rattle.std.proofs.lemmas.List.Elements.{All-nil, All-cons, All-head, All-tail}
-use Rattle.std.proofs.lemmas.Bool.{cases_Bool, and_parts}
+use Rattle.std.proofs.lemmas.Bool.{cases_Bool}
 use Rattle.std.proofs.lemmas.Bool.Decides.{nat_tests}
 use Rattle.pg_layout.specs.declared.position.Position.{Position}
 use Rattle.pg_layout.specs.Position.{at, is_at}
 use Rattle.pg_config.specs.Config.{Config, has_horizontal}
-use Rattle.pg_config.specs.Spans.{Span, StandAtPlaces, owner, rect_rows, rect_columns, is_left, same_owner, begins_above}
+use Rattle.pg_config.specs.Spans.{owner, rect_rows, rect_columns, is_left, same_owner, begins_above}
 use Rattle.pg_picture.specs.Marks.{Mark, sep, line, only_if, marks_of_row, marks_above, body, stands_within, marks_within}
 use Rattle.pg_picture.specs.Pieces.{block}
-use Rattle.pg_picture.specs.Table.{Table, rect_marks, block_at, is_inside, is_covered, vertical, row_part, crossing, column_items, separator_part, table_body}
-use Rattle.pg_picture.specs.Fits.{spans_fit}
-use Rattle.pg_picture.specs.Rectangles.{IsOwner}
+use Rattle.pg_picture.specs.Table.{Table, rect_marks, block_at, is_inside, is_covered, vertical, crossing, column_items, separator_part, table_body}
 use Rattle.pg_picture.specs.Laws.{IsDrawn, ShownCellsAreDrawn, StandTogether, RectanglesStandTogether}
 use Rattle.pg_picture.proofs.Owners.{HasOwners, apart_from, owners_of}
 use Rattle.pg_picture.proofs.FittingTables.{RectInside, rect_inside}
@@ -86,8 +84,7 @@ module _ (t : Table) (owners : HasOwners t.config.spans) (p : Position) (own : o
   drawn (line r i) stands =
       let h : p.row ≤ r = grind (arith, nat_tests, stands) in
       let k : r < p.row + rect_rows t.config.spans p = grind (arith, nat_tests, stands) in
-      let this = owns r p.col h k (omega arith) (omega (arith, inside.some_columns)) in
-      (
+      let this = owns r p.col h k (omega arith) (omega (arith, inside.some_columns)) in (
         row-begins t r i p.col (omega (arith, inside.some_columns, inside.columns_end)) (first-out r h k) (first-left r h k) ∙ ap (λ q. vertical t r i p.col ++ block_at t q (line r i)) this,
         λ c l m. row-inside t r i c (omega (arith, m, inside.columns_end)) (inner-in r c h k l m) (inner-left r c h k l m),
       )
@@ -95,12 +92,11 @@ module _ (t : Table) (owners : HasOwners t.config.spans) (p : Position) (own : o
       let h : p.row < r = grind (arith, nat_tests, stands) in
       let k : r < p.row + rect_rows t.config.spans p = grind (arith, nat_tests, stands) in
       let le : p.row ≤ r = omega (arith, h) in
-      let this = owns r p.col le k (omega arith) (omega (arith, inside.some_columns)) in
-      (
+      let this = owns r p.col le k (omega arith) (omega (arith, inside.some_columns)) in (
         column-begins t r p.col (above r p.col h k (omega arith) (omega (arith, inside.some_columns))) (first-left r le k) ∙ ap (λ q. block (block_at t q (sep r)) ∷ []) this,
         λ c l m.
-          let covered = above r c h k (omega (arith, l)) m in
-          two r c (no-crossing t r c (inner-in r c le k l m) covered) (column-inside t r c covered (inner-left r c le k l m)),
+            let covered = above r c h k (omega (arith, l)) m in
+            two r c (no-crossing t r c (inner-in r c le k l m) covered) (column-inside t r c covered (inner-left r c le k l m)),
       )
 
 is_at-own : (p q : Position) → is_at q p.row p.col ≡ true → q ≡ p
@@ -147,7 +143,7 @@ module _ (config : Config) (height : ℕ → ℕ) where
         before = front;
         after = rest ++ last;
         is = ap (λ l. l ++ last) above_all ∙ append_assoc (front ++ run) rest last ∙ append_assoc front run (rest ++ last)
-        ∙ ap (λ l. front ++ (l ++ (rest ++ last))) (sym (marks_within-run config height a k rows h));
+            ∙ ap (λ l. front ++ (l ++ (rest ++ last))) (sym (marks_within-run config height a k rows h));
       }
 
 pub rectangles_stand_together : RectanglesStandTogether

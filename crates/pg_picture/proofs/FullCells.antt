@@ -1,7 +1,7 @@
 -- Where nothing is free below a text, its vertical alignment changes nothing.
-use Rattle.std.proofs.Common.{◌≡◌, ℕ, zero, suc, ◌+◌, ◌-◌, ◌<◌, ◌≤◌, min, Bool, true, false, cond, not, ◌&&◌, ◌||◌, ◌==◌, nat_lt, List, [], ◌∷◌, ◌++◌, map, flat_map, length, filter, refl, sym, ap, ap₂, ◌∙◌, arith, Option, Some, None, unwrap_or, inl, inr}
+use Rattle.std.proofs.Common.{◌≡◌, ℕ, zero, suc, ◌+◌, ◌-◌, ◌<◌, ◌≤◌, min, Bool, true, false, cond, not, ◌&&◌, ◌||◌, ◌==◌, nat_lt, List, [], ◌∷◌, ◌++◌, map, flat_map, length, filter, refl, sym, ap, ap₂, ◌∙◌, arith, Option, unwrap_or, inl, inr}
 use mathlib.Core.Path.{fun_ext}
-use Rattle.std.specs.List.{All, range_with_len, enumerate_from}
+use Rattle.std.specs.List.{range_with_len, enumerate_from}
 use Rattle.std.specs.List.{list_any}
 use Rattle.std.proofs.lemmas.List.{length-map}
 use Rattle.std.proofs.lemmas.List.Elements.{All-weaker}
@@ -15,8 +15,8 @@ use Rattle.pg_layout.specs.Position.{at}
 use Rattle.pg_layout.specs.Colors.{Color}
 use Rattle.pg_layout.specs.Text.{Text, lines_of}
 use Rattle.pg_config.specs.Settings.{Settings}
-use Rattle.pg_config.specs.Config.{Config, has_horizontal, has_vertical, count_vertical, get_horizontal, get_vertical, get_intersection, get_horizontal_color, get_vertical_color, get_intersection_color, get_padding, get_padding_color, get_alignment_horizontal, get_alignment_vertical, get_formatting, get_justification, get_justification_color}
-use Rattle.pg_config.specs.Spans.{Span, span_key, in_span, has_row_spans, size_of, owner, rect_rows, rect_columns, is_left, begins_above}
+use Rattle.pg_config.specs.Config.{has_horizontal, has_vertical, count_vertical, get_horizontal, get_vertical, get_intersection, get_horizontal_color, get_vertical_color, get_intersection_color, get_padding, get_padding_color, get_alignment_horizontal, get_alignment_vertical, get_formatting, get_justification, get_justification_color}
+use Rattle.pg_config.specs.Spans.{Span, span_key, in_span, has_row_spans, size_of, owner, rect_rows, is_left, begins_above}
 use Rattle.pg_picture.specs.Marks.{Mark, sep, line, only_if, marks_of_row, marks_above, body, marks_within, stands_within, place_of}
 use Rattle.pg_picture.specs.Pieces.{Style, style_at, Piece, written, separator_text, block, trimmed_if, shown, kept_lines, lines_above, inner_width, left_share, text_line, text_height, text_top, block_line}
 use Rattle.pg_picture.specs.Table.{Table, Hint, rect_marks, rect_height, rect_width, block_at, is_inside, vertical_at, row_part, row_line, is_covered, crossing_at, crossing, column_items, separator_part, separator_items, total_width, full_width, side_margin, margin_lines, mark_text, body_line, table_body}

@@ -1,17 +1,16 @@
 -- The glyphs of column lines: none where the line isn't there, and one where it is and nothing is missing.
-use Rattle.std.proofs.Common.{◌≡◌, ℕ, zero, suc, ◌+◌, ◌-◌, ◌<◌, ◌≤◌, Bool, true, false, cond, ◌&&◌, ◌||◌, ◌==◌, nat_lt, List, [], ◌∷◌, refl, sym, ap, ◌∙◌, arith, Option, Some, None, is_some, inl, inr}
+use Rattle.std.proofs.Common.{◌≡◌, ℕ, ◌≤◌, Bool, true, false, ◌&&◌, ◌||◌, ◌==◌, nat_lt, List, [], ◌∷◌, refl, sym, arith, Option, Some, None, is_some, inl, inr}
 use Rattle.std.specs.Option.{option_or}
 use Rattle.std.proofs.lemmas.Bool.{cases_Bool, false≢true}
 use Rattle.std.proofs.lemmas.Bool.Decides.{nat_tests}
 use Rattle.pg_layout.specs.declared.position.Position.{Position}
 use Rattle.pg_layout.specs.declared.borders.Borders.{Borders}
-use Rattle.pg_layout.specs.Borders.{any_of, has_left, has_right, has_inner_vertical, has_side, ends, vertical_glyph, crossing_glyph}
+use Rattle.pg_layout.specs.Borders.{any_of, has_left, has_right, has_inner_vertical, has_side, vertical_glyph, crossing_glyph}
 use Rattle.pg_layout.specs.Places.{Key, same, begins, has_first, value_at}
 use Rattle.pg_layout.specs.Position.{at}
-use Rattle.pg_config.specs.Overrides.{Overrides, vertical_override, crossing_override, overrides_column, has_second}
+use Rattle.pg_config.specs.Overrides.{vertical_override, crossing_override, overrides_column, has_second}
 use Rattle.pg_config.specs.Config.{Config, missing_if, has_horizontal, has_vertical, get_vertical, get_intersection}
-use Rattle.pg_picture.specs.Table.{Table}
-use Rattle.pg_picture.specs.Laws.{HasNoGaps, MissingGlyphFillsGaps}
+use Rattle.pg_picture.specs.Laws.{MissingGlyphFillsGaps}
 
 -- ---- glyphs that stand in for missing ones
 
@@ -31,11 +30,11 @@ pub missing_glyph_fills_gaps : MissingGlyphFillsGaps
 unfolding get_vertical get_intersection
 missing_glyph_fills_gaps t missing = record {
   verticals = λ r c h k there.
-  last-there (vertical_override t.config.overrides (at r c)) (vertical_glyph t.config.borders c t.columns) (missing_if t.config (has_vertical t.config c t.columns))
-  (missing-some t.config (has_vertical t.config c t.columns) missing there);
+      last-there (vertical_override t.config.overrides (at r c)) (vertical_glyph t.config.borders c t.columns) (missing_if t.config (has_vertical t.config c t.columns))
+      (missing-some t.config (has_vertical t.config c t.columns) missing there);
   crossings = λ r c h k row column.
-  last-there (crossing_override t.config.overrides (at r c)) (crossing_glyph t.config.borders r c t.rows t.columns) (missing_if t.config (has_horizontal t.config r t.rows && has_vertical t.config c t.columns))
-  (missing-some t.config (has_horizontal t.config r t.rows && has_vertical t.config c t.columns) missing (both (has_horizontal t.config r t.rows) (has_vertical t.config c t.columns) row column));
+      last-there (crossing_override t.config.overrides (at r c)) (crossing_glyph t.config.borders r c t.rows t.columns) (missing_if t.config (has_horizontal t.config r t.rows && has_vertical t.config c t.columns))
+      (missing-some t.config (has_horizontal t.config r t.rows && has_vertical t.config c t.columns) missing (both (has_horizontal t.config r t.rows) (has_vertical t.config c t.columns) row column));
 }
 
 -- ---- column lines that aren't there

@@ -1,14 +1,14 @@
 -- The picture as its lines: how they are joined, and how many there are.
-use Rattle.std.proofs.Common.{◌≡◌, ℕ, ◌+◌, ◌<◌, true, false, ◌||◌, ◌==◌, List, [], ◌∷◌, ◌++◌, length, refl, sym, ap, ap₂, ◌∙◌, append-nil, length-append, add_assoc, arith, ◌⊎◌, inl, inr}
+use Rattle.std.proofs.Common.{◌≡◌, ℕ, ◌<◌, true, false, ◌||◌, ◌==◌, List, [], ◌∷◌, ◌++◌, length, refl, ap, ◌∙◌, append-nil, length-append, arith, ◌⊎◌, inl, inr}
 use Rattle.std.specs.List.{join_with_byte}
 use Rattle.std.proofs.lemmas.List.{length-replicate}
 use Rattle.std.proofs.lemmas.Bool.Decides.{nat_tests}
 use Rattle.pg_layout.specs.Text.{Text}
-use Rattle.pg_picture.specs.Table.{Table, Hint, margin_lines, table_body}
-use Rattle.pg_picture.specs.CompactLines.{CompactTable, compact_lines}
+use Rattle.pg_picture.specs.Table.{Table, margin_lines, table_body}
+use Rattle.pg_picture.specs.CompactLines.{compact_lines}
 use Rattle.pg_picture.specs.Joined.{joined}
 use Rattle.pg_picture.specs.Fits.{body_height}
-use Rattle.pg_picture.specs.Picture.{top_lines, bottom_lines, body_lines, picture_lines, picture, compact_picture}
+use Rattle.pg_picture.specs.Picture.{top_lines, bottom_lines, body_lines, picture_lines, compact_picture}
 use Rattle.pg_picture.specs.Laws.{NothingToDraw, NothingCompactToDraw, LinesAreJoined, CompactLinesAreJoined, LinesAreCounted}
 use Rattle.pg_picture.proofs.BodyLines.{length-body_lines}
 use Rattle.pg_picture.proofs.HeightsOfRectangles.{length-table_body}
@@ -41,7 +41,7 @@ pub compact_lines_are_joined : CompactLinesAreJoined
 unfolding compact_picture
 compact_lines_are_joined t h k = rw (some-at t.rows t.columns h k) (joined-with_byte (compact_lines t))
 
-length-bottom : (t : Table) → length (bottom_lines t) ≡ t.config.margin.bottom.size
+pub length-bottom : (t : Table) → length (bottom_lines t) ≡ t.config.margin.bottom.size
 unfolding bottom_lines margin_lines
 length-bottom t = length-replicate t.config.margin.bottom.size _
 

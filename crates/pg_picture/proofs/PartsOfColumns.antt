@@ -1,12 +1,12 @@
 -- What a column adds to a line, by whether it begins its owner's rectangle and whether that comes from above.
-use Rattle.std.proofs.Common.{◌≡◌, ℕ, ◌<◌, Bool, true, false, ◌&&◌, ◌==◌, nat_lt, List, [], ◌∷◌, ◌++◌, refl, arith, inl, inr}
+use Rattle.std.proofs.Common.{◌≡◌, ℕ, ◌<◌, true, false, ◌&&◌, nat_lt, [], ◌∷◌, ◌++◌, refl, arith, inl, inr}
 use Rattle.std.proofs.lemmas.Bool.{cases_Bool, and_parts}
 use Rattle.std.proofs.lemmas.Bool.Decides.{nat_tests}
 use Rattle.pg_layout.specs.Position.{at}
 use Rattle.pg_config.specs.Config.{get_horizontal}
 use Rattle.pg_config.specs.Spans.{owner, is_left, begins_above}
 use Rattle.pg_picture.specs.Marks.{sep, line}
-use Rattle.pg_picture.specs.Pieces.{Item, block}
+use Rattle.pg_picture.specs.Pieces.{block}
 use Rattle.pg_picture.specs.Table.{Table, block_at, is_inside, is_covered, vertical, row_part, crossing, crossing_at, column_items, horizontal_items}
 
 module _ (t : Table) where

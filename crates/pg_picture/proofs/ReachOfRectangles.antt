@@ -1,22 +1,17 @@
 -- Sums along a row, rectangle by rectangle: what stands before a column is as wide as the columns before it and those
 -- that the last rectangle reaches over.
-use Rattle.std.proofs.Common.{◌≡◌, ℕ, zero, suc, ◌+◌, ◌-◌, ◌*◌, ◌<◌, ◌≤◌, min, Bool, true, false, cond, not, ◌&&◌, ◌==◌, nat_lt, List, [], ◌∷◌, ◌++◌, map, flat_map, length, sum_by, count_by, refl, sym, ap, ap₂, ◌∙◌, arith, zero-add, subst, Option, Some, None, IfSome, is_some, unwrap_or, encode_utf8, inl, inr}
-use Rattle.std.specs.List.{All, range_with_len, enumerate_from, list_all}
-use Rattle.std.specs.Option.{option_or}
+use Rattle.std.proofs.Common.{◌≡◌, ℕ, zero, suc, ◌+◌, ◌-◌, ◌<◌, ◌≤◌, Bool, true, false, cond, ◌&&◌, nat_lt, List, [], ◌∷◌, flat_map, sum_by, count_by, refl, sym, ap, ap₂, ◌∙◌, arith, zero-add, subst, inl, inr}
+use Rattle.std.specs.List.{range_with_len}
 use Rattle.std.proofs.lemmas.List.Sums.{sum_by-append, sum_by-cons}
-use Rattle.std.proofs.lemmas.List.Elements.{All-weaker}
 use Rattle.std.proofs.lemmas.Bool.{cases_Bool, cases_lt, and_parts, false≢true}
 use Rattle.std.proofs.lemmas.Bool.Decides.{nat_tests}
 use Rattle.pg_layout.specs.declared.position.Position.{Position}
 use Rattle.pg_layout.specs.Position.{at, is_at}
-use Rattle.pg_config.specs.Config.{has_horizontal, has_vertical, count_vertical}
-use Rattle.pg_config.specs.Spans.{Span, owner, rect_columns, is_left, same_owner, begins_above}
-use Rattle.pg_picture.specs.Marks.{Mark, sep, line}
-use Rattle.pg_picture.specs.Pieces.{Piece, pieces_width, piece_width}
-use Rattle.pg_picture.specs.Table.{Table, rect_width, block_at, is_inside, is_covered, total_width}
-use Rattle.pg_picture.specs.Laws.{item_width, ColumnsAreStraight, MarginsAreStraight}
+use Rattle.pg_config.specs.Config.{has_vertical, count_vertical}
+use Rattle.pg_config.specs.Spans.{owner, rect_columns, is_left, same_owner, begins_above}
+use Rattle.pg_picture.specs.Table.{Table, rect_width, is_inside, is_covered, total_width}
 use Rattle.pg_picture.proofs.SumsOfSizes.{sum_by-from_more}
-use Rattle.pg_picture.proofs.Owners.{HasOwners, LiesIn}
+use Rattle.pg_picture.proofs.Owners.{HasOwners}
 
 -- ---- sums
 

@@ -1,11 +1,10 @@
 -- Straight columns: where glyphs and fills are narrow and no glyph is missing, each line of the body is as wide as the
 -- table.
-use Rattle.std.proofs.Common.{◌≡◌, ℕ, zero, suc, ◌+◌, ◌-◌, ◌*◌, ◌<◌, ◌≤◌, min, Bool, true, false, cond, not, ◌&&◌, ◌==◌, nat_lt, nat_le, List, [], ◌∷◌, ◌++◌, map, flat_map, length, sum_by, refl, sym, ap, ap₂, ◌∙◌, arith, zero-add, mul-one, append-nil, subst, Option, Some, None, IfSome, is_some, unwrap_or, encode_utf8, inl, inr}
-use Rattle.std.specs.List.{All, range_with_len, enumerate_from, list_all}
+use Rattle.std.proofs.Common.{◌≡◌, ℕ, zero, suc, ◌+◌, ◌-◌, ◌*◌, ◌<◌, ◌≤◌, min, true, cond, nat_lt, nat_le, List, [], ◌∷◌, ◌++◌, map, length, sum_by, refl, sym, ap, ap₂, ◌∙◌, arith, zero-add, mul-one, Option, Some, None, IfSome, is_some, unwrap_or, encode_utf8, inl, inr}
+use Rattle.std.specs.List.{range_with_len, enumerate_from, list_all}
 use Rattle.std.specs.Option.{option_or}
 use Rattle.std.proofs.lemmas.List.Sums.{sum_by-append, sum_by-cons}
 use Rattle.std.proofs.lemmas.List.Elements.{All-weaker}
-use Rattle.std.proofs.lemmas.List.FromFn.{length-range_with_len, get_or-range_with_len}
 use Rattle.std.proofs.lemmas.Bool.{cases_Bool, and_parts, and_from, false≢true}
 use Rattle.std.proofs.lemmas.Bool.Decides.{nat_tests}
 use Rattle.pg_layout.specs.declared.position.Position.{Position}
@@ -16,14 +15,14 @@ use Rattle.pg_layout.specs.Position.{at, is_at}
 use Rattle.pg_layout.specs.Text.{width_of}
 use Rattle.pg_layout.specs.Colors.{Color}
 use Rattle.pg_layout.proofs.Computing.{text_words}
-use Rattle.pg_config.specs.Config.{Config, has_horizontal, has_vertical, get_horizontal, get_horizontal_color, get_vertical, get_vertical_color, get_intersection, get_intersection_color}
+use Rattle.pg_config.specs.Config.{Config, has_horizontal, has_vertical, get_horizontal, get_vertical, get_intersection, get_intersection_color}
 use Rattle.pg_config.specs.Offsets.{lookup_offset}
-use Rattle.pg_config.specs.Spans.{Span, StandAtPlaces, owner, rect_columns, is_left, same_owner, begins_above}
+use Rattle.pg_config.specs.Spans.{Span, owner}
 use Rattle.pg_picture.specs.Marks.{Mark, sep, line, only_if, place_of}
-use Rattle.pg_picture.specs.Pieces.{Piece, Item, glyph, spaces, block, fill, style_at, pieces_width, piece_width}
+use Rattle.pg_picture.specs.Pieces.{Item, spaces, block, fill, style_at, pieces_width, piece_width}
 use Rattle.pg_picture.specs.Table.{Table, Hint, rect_width, rect_height, block_at, is_inside, is_covered, vertical, vertical_at, row_part, row_line, crossing_at, crossing_item, crossing, border_items, horizontal_items, column_items, separator_part, separator_items, total_width, full_width, table_body, rect_marks, is_blank_at, side_margin, margin_line}
-use Rattle.pg_picture.specs.Fits.{all_apart, span_fits_columns, span_fits, spans_fit, spans_fit_columns, cell_fits, owner_fits}
-use Rattle.pg_picture.specs.Laws.{IsNarrow, HasNarrowFills, CellsFit, HasNarrowGlyphs, HasNoGaps, item_width, mark_width, body_line_width, ColumnsAreStraight, MarginsAreStraight}
+use Rattle.pg_picture.specs.Fits.{all_apart, span_fits_columns, span_fits, spans_fit, spans_fit_columns, cell_fits}
+use Rattle.pg_picture.specs.Laws.{IsNarrow, CellsFit, HasNarrowGlyphs, HasNoGaps, item_width, mark_width, body_line_width, ColumnsAreStraight, MarginsAreStraight}
 use Rattle.pg_picture.proofs.SumsOfSizes.{sum_by-from_more}
 use Rattle.pg_picture.proofs.Owners.{HasOwners, apart_from, owners_of, owner-own}
 use Rattle.pg_picture.proofs.MarksOfBodies.{All-body, All-enumerate_from}
@@ -32,7 +31,7 @@ use Rattle.pg_picture.proofs.WalksOfRows.{row_part_end, separator_part_end}
 use Rattle.pg_picture.proofs.FittingTables.{rect_inside, owner_fits-own}
 use Rattle.pg_picture.proofs.GlyphsOfLines.{get_vertical-none}
 use Rattle.pg_picture.proofs.PartsOfColumns.{left-there, row-begins, row-inside, covered-row, no-crossing, crossing-begins, crossing-open, column-inside, column-begins, column-open}
-use Rattle.pg_picture.proofs.ReachOfRectangles.{sum_by-flat_map, all_reached, total_width-columns, there, column_at, end_of, ahead, hanging, inside-facts, begins, ahead-begins, ahead-end, ahead-inside, step-begins, step-inside, covered-before, hanging-inside, hanging-begins, hanging-step, step-open, hanging-end}
+use Rattle.pg_picture.proofs.ReachOfRectangles.{sum_by-flat_map, all_reached, total_width-columns, there, column_at, end_of, ahead, hanging, inside-facts, begins, ahead-begins, ahead-end, step-begins, step-inside, hanging-inside, hanging-begins, hanging-step, step-open, hanging-end}
 
 -- ---- glyphs
 
@@ -97,6 +96,7 @@ horizontal-width config p rows w None narrow offsets = spaces-width w
         rw some (omega (arith, one))
 horizontal-width config p rows w (Some g) narrow offsets =
     sum_by-ones item_width _ 0 w (λ i l m. narrow-other (lookup_offset config.horizontal_chars p i w) g (offsets i (omega arith)) narrow)
+
 -- ---- lines of the body
 
 -- what each part of a line takes
@@ -253,11 +253,11 @@ margins_are_straight hint t fit narrow whole margins =
     let Straight : Mark → Type 0 = λ mark. mark_width t mark ≡ total_width t in
     record {
       body = All-weaker (λ (e : ℕ × Mark). Straight e.1) (λ e. body_line_width hint t h e ≡ (t.config.margin.left.size + total_width t) + t.config.margin.right.size)
-      (λ e straight.
-      let left = side_margin-width hint t.config.margin.left t.config.margin_offset.left t.config.margin_color.left e.0 h margins.left in
-      let right = side_margin-width hint t.config.margin.right t.config.margin_offset.right t.config.margin_color.right e.0 h margins.right in
-      omega (arith, left, right, straight))
-      (enumerate_from 0 marks) (All-enumerate_from Straight 0 marks (columns_are_straight t fit narrow whole));
+          (λ e straight.
+          let left = side_margin-width hint t.config.margin.left t.config.margin_offset.left t.config.margin_color.left e.0 h margins.left in
+          let right = side_margin-width hint t.config.margin.right t.config.margin_offset.right t.config.margin_color.right e.0 h margins.right in
+          omega (arith, left, right, straight))
+          (enumerate_from 0 marks) (All-enumerate_from Straight 0 marks (columns_are_straight t fit narrow whole));
       top = margin_line-width t.config.margin.top t.config.margin_offset.top t.config.margin_color.top _ margins.top;
       bottom = margin_line-width t.config.margin.bottom t.config.margin_offset.bottom t.config.margin_color.bottom _ margins.bottom;
     }

@@ -1,14 +1,10 @@
 -- Where fills are one column wide, each line of a block is as wide as its cell, piece by piece.
-use Rattle.std.proofs.Common.{◌≡◌, ℕ, zero, suc, ◌+◌, ◌-◌, ◌*◌, ◌<◌, ◌≤◌, Bool, true, false, cond, nat_lt, List, [], ◌∷◌, ◌++◌, length, map, slice_index_or, refl, sym, ap, ap₂, ◌∙◌, arith, Option, zero-add, mul-one, encode_utf8}
-use Rattle.std.specs.List.{All, range_with_len}
-use Rattle.std.proofs.lemmas.List.{length-map}
+use Rattle.std.proofs.Common.{◌≡◌, ℕ, zero, suc, ◌+◌, ◌-◌, ◌*◌, ◌<◌, ◌≤◌, Bool, true, false, cond, nat_lt, List, [], ◌∷◌, ◌++◌, length, slice_index_or, refl, ◌∙◌, arith, Option, zero-add, mul-one}
 use Rattle.std.proofs.lemmas.List.Sums.{sum_by-append, sum_by-cons}
 use Rattle.std.proofs.lemmas.Bool.Decides.{nat_tests}
-use Rattle.pg_layout.specs.declared.alignment.Formatting.{Formatting}
-use Rattle.pg_layout.specs.declared.alignment.AlignmentHorizontal.{AlignmentHorizontal}
 use Rattle.pg_layout.specs.Colors.{Color}
-use Rattle.pg_layout.specs.Text.{Text, lines_of, width_of}
-use Rattle.pg_picture.specs.Pieces.{Style, Piece, words, piece_width, pieces_width, fill, shares, inner_width, trimmed_if, shown, widest, left_share, line_with, text_line, text_top, text_height, block_line}
+use Rattle.pg_layout.specs.Text.{Text, width_of}
+use Rattle.pg_picture.specs.Pieces.{Style, Piece, words, piece_width, pieces_width, fill, shares, inner_width, shown, widest, left_share, line_with, text_line, text_top, text_height, block_line}
 use Rattle.pg_picture.specs.Fits.{cell_fits}
 use Rattle.pg_picture.specs.Laws.{IsNarrow, HasNarrowFills}
 use Rattle.pg_picture.proofs.PlacesOfTexts.{left_share-le, shown-le-widest, cell_fits-width}

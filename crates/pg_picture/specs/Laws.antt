@@ -1,5 +1,5 @@
 -- Laws of the picture, in words of their own.
-use Rattle.std.specs.Prelude.{◌≡◌, ℕ, ◌+◌, ◌-◌, ◌*◌, ◌<◌, ◌≤◌, ◌⊎◌, true, false, List, [], ◌∷◌, ◌++◌, map, flat_map, length, sum_by, Option, Some, None, IsSome, IfSome, encode_utf8, All}
+use Rattle.std.specs.Prelude.{◌≡◌, ℕ, ◌+◌, ◌-◌, ◌*◌, ◌<◌, ◌≤◌, ◌⊎◌, true, false, List, [], ◌∷◌, ◌++◌, map, flat_map, length, sum_by, Option, None, IsSome, IfSome, encode_utf8, All}
 use Rattle.std.specs.List.{range_with_len, enumerate_from, join_with_byte, Contains}
 use Rattle.std.specs.Option.{option_to_list}
 use Rattle.pg_layout.specs.declared.position.Position.{Position}

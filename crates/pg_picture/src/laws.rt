@@ -1,6 +1,6 @@
 //! Laws of the picture. The functions do nothing: their contracts are the laws.
 
-ghost use Rattle.pg_picture.specs.Laws.{NothingToDraw, NothingCompactToDraw, LinesAreJoined, CompactLinesAreJoined, LinesAreCounted, BlocksAreDrawn, BlocksFill, PiecesCloseColors, SeparatorsCloseColors, LinesCloseColors, PartsCloseColors, FullCellsIgnoreAlignment, SingleLinesIgnoreAlignment, ColumnsAreStraight, MissingGlyphFillsGaps, MarginsAreStraight, ShownCellsAreDrawn, RectanglesStandTogether};
+ghost use Rattle.pg_picture.specs.Laws.{NothingToDraw, NothingCompactToDraw, LinesAreJoined, CompactLinesAreJoined, LinesAreCounted, BlocksAreDrawn, BlocksFill, PiecesCloseColors, SeparatorsCloseColors, LinesCloseColors, PartsCloseColors, FullCellsIgnoreAlignment, SingleLinesIgnoreAlignment, ColumnsAreStraight, MissingGlyphFillsGaps, MarginsAreStraight, ShownCellsAreDrawn, RectanglesStandTogether, PlainRows, PlainSeparators, BodiesStandAlone, HintsAreIdle};
 
 /// A table with no rows or no columns has the empty picture, whatever else it was told.
 pub fn no_rows_or_columns_draw_nothing()
@@ -63,4 +63,24 @@ pub fn columns_are_straight()
 pub fn shown_cells_are_drawn_in_their_rectangles()
     ensures drawn { ShownCellsAreDrawn }
     ensures together { RectanglesStandTogether }
+{}
+
+/// Without spans each cell is as wide as its column and as high as its row: a line of a row is a
+/// vertical and the cell's line for each column, and the last vertical; a separator is a crossing
+/// and a horizontal for each column, and the last crossing.
+pub fn tables_without_spans_are_drawn_cell_by_cell()
+    ensures rows { PlainRows }
+    ensures separators { PlainSeparators }
+{}
+
+/// Margins of size 0 add nothing, whatever their fills, colours and offsets: the picture is the
+/// lines of its body alone.
+pub fn margins_of_size_0_add_nothing()
+    ensures { BodiesStandAlone }
+{}
+
+/// Whether the number of lines is known when a line is drawn matters to side margins with an offset
+/// from the end alone.
+pub fn hints_matter_to_offsets_from_the_end_alone()
+    ensures { HintsAreIdle }
 {}
