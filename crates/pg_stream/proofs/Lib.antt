@@ -12,3 +12,6 @@ pub mod SeparatorsOfSlots
 pub mod Printers
 pub mod TextsOfCalls
 pub mod CellLines
+pub mod CellsBegun
+pub mod OpenLists
+pub mod PartsOfLines

@@ -1,6 +1,7 @@
 pub mod Open
 pub mod Printing
 pub mod Slots
+pub mod Conditions
 pub mod Placed
 pub mod Frames
 pub mod Drawing

@@ -47,3 +47,7 @@ pub record IsPlaced (t : Table) (x : ℕ) (cell : Placed) : Type 0 where
 -- each open cell, by its column
 abbrev pub AllOpen : (ℕ → Placed → Type 0) → List (Option Placed) → Type 0
 AllOpen P cells = (x : ℕ) → IfSome (slice_index_or cells x None) (P x)
+
+-- the rectangle of the cell has a line
+abbrev pub IsTall : Table → ℕ → Placed → Type 0
+IsTall t x cell = 0 < height_of_rect t.config t.height (at cell.begun x)

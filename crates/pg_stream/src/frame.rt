@@ -1,6 +1,13 @@
 //! What a printer was told: the table's configuration, its sizes and its colours.
 
-ghost use Rattle.std.specs.Prelude.{◌≡◌, ◌<◌, Some};
+ghost use Rattle.std.specs.Prelude.{◌≡◌, ◌+◌, ◌<◌, ◌≤◌, ◌++◌, ◌&&◌, ◌==◌, true, length, Some};
+ghost use Rattle.pg_picture.specs.Joined.{feed_before};
+ghost use Rattle.pg_picture.specs.Table.{vertical, side_margin_at};
+ghost use Rattle.pg_config.specs.Spans.{rect_rows, rect_columns};
+ghost use Rattle.pg_layout.specs.Text.{lines_of};
+ghost use Rattle.pg_picture.specs.Cells.{style_of, facts_of, place_of};
+ghost use Rattle.pg_picture.specs.Fits.{cell_fits};
+ghost use Rattle.pg_stream.specs.Conditions.{HasRoom};
 ghost use Rattle.pg_layout.specs.Position.{at};
 ghost use Rattle.pg_picture.specs.Appending.{Appends};
 ghost use Rattle.pg_picture.specs.Pieces.{written};
@@ -11,7 +18,11 @@ ghost use Rattle.pg_stream.specs.Slots.{slot_block};
 use crate::open_cell::OpenCell;
 use pg_config::SpannedConfig;
 use pg_layout::{Colors, Dimension, Position};
-use pg_picture::{CellStyle, push_block_line_of};
+use pg_picture::fits::{rect_height, rect_width};
+use pg_picture::{
+    CellPlace, CellStyle, TextFacts, push_block_line_of, push_feed, push_left_margin,
+    push_vertical_at,
+};
 use std::alloc::{AllocError, Allocator, Global};
 use std::convert::AsStr;
 
@@ -54,4 +65,71 @@ impl<'a, D: Dimension, C: Colors, B: Allocator> Frame<'a, D, C, B> {
             cell.drawn(),
         )
     }
+
+    // The glyph of a vertical, on a line of its row.
+    pub(crate) fn push_vertical<A: Allocator>(
+        &self,
+        buf: &mut String<A>,
+        pos: Position,
+        line: usize,
+    ) -> Result<(), AllocError>
+        requires { line < (frame_table D.width D.height C.color self.now).height pos.row }
+        ensures { Appends buf.old buf.new result (written (vertical (frame_table D.width D.height C.color self.now) pos.row line pos.col)) }
+    {
+        let height = self.dimension.get_height(pos.row);
+        push_vertical_at(buf, self.config, self.columns, height, pos, line)
+    }
+
+    // What stands before a line of the body: its line feed, unless the line is the picture's first,
+    // and its left margin.
+    pub(crate) fn push_start<A: Allocator>(
+        &self,
+        buf: &mut String<A>,
+        is_first: bool,
+        index: usize,
+    ) -> Result<(), AllocError>
+        ensures { Appends buf.old buf.new result (feed_before (is_first && (index == 0)) ++ written (side_margin_at self.now.height self.now.config.now.margin.left self.now.config.now.margin_offset.left self.now.config.now.margin_color.left index)) }
+    {
+        push_feed(buf, is_first && index == 0)?;
+        push_left_margin(buf, self.config, index, self.height)
+    }
+
+    // A cell that begins at a place and has room there.
+    pub(crate) fn begin_cell<S: AsStr>(&self, value: S, pos: Position) -> OpenCell<S>
+        requires rows { 0 < rect_rows (frame_table D.width D.height C.color self.now).config.spans pos }
+        requires columns { 0 < rect_columns (frame_table D.width D.height C.color self.now).config.spans pos }
+        requires inside { pos.col + rect_columns (frame_table D.width D.height C.color self.now).config.spans pos ≤ (frame_table D.width D.height C.color self.now).columns }
+        requires room { HasRoom (frame_table D.width D.height C.color self.now) pos (S.text value) }
+        ensures begins { slot_of (Some result) ≡ Some (record { begun = pos.row; text = S.text value; drawn = 0 }) }
+        ensures placed { IsPlaced (frame_table D.width D.height C.color self.now) pos.col result }
+    {
+        let width = rect_width(self.config, self.dimension, pos, self.columns).unwrap();
+        let height = rect_height(self.config, self.dimension, pos).unwrap();
+        let style = CellStyle::of(self.config, pos);
+        let place = place_in(value.as_str(), &style, width, height);
+        OpenCell::new(value, pos.row, width, place)
+    }
+}
+
+// Where a text stands in a cell of so many columns and lines; anywhere in one of no line.
+fn place_in<B: Allocator>(
+    text: &str,
+    style: &CellStyle<'_, B>,
+    width: usize,
+    height: usize,
+) -> CellPlace
+    requires { cell_fits (style_of style.now) text.now width height ≡ true }
+    ensures place { 0 < height → result ≡ place_of (facts_of style.now.formatting text.now) (style_of style.now) width height }
+    ensures lines { result.skip + result.shown ≤ length (lines_of text.now) }
+{
+    if height == 0 {
+        return CellPlace {
+            top: 0,
+            shown: 0,
+            skip: 0,
+            left: None,
+        };
+    }
+    let facts = TextFacts::of_text(text, style.formatting);
+    CellPlace::of(facts, style, width, height)
 }

@@ -2,5 +2,8 @@
 //! last printed row.
 #![tactic(auto)]
 
-mod open_cell;
 mod frame;
+mod open_cell;
+mod open_cells;
+
+pub use crate::open_cells::OpenCells;
