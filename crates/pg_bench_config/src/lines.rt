@@ -1,18 +1,20 @@
 //! Border lines: which are there, and which of several glyphs or colours counts.
 
 use pg_config::SpannedConfig;
-use pg_layout::{ANSIBuf, ANSIFmt, Border, Borders, Offset, Position};
+use pg_layout::{Border, Borders, Position};
 use std::alloc::Global;
 use std::test::Fail;
 
 const FIRST: Position = Position { row: 0, col: 0 };
 
-// The corners of the first cell, of the row below it and of the column beside it.
-const CORNERS: [Position; 3] = [
-    Position { row: 0, col: 0 },
-    Position { row: 1, col: 0 },
-    Position { row: 0, col: 1 },
-];
+// The glyphs of the top left corner of the first cell, of its top and of its left side.
+fn first_glyphs(config: &SpannedConfig<Global>) -> [Option<char>; 3] {
+    [
+        config.get_intersection(FIRST, (2, 2)),
+        config.get_horizontal(FIRST, 2),
+        config.get_vertical(FIRST, 2),
+    ]
+}
 
 #[test]
 fn an_override_comes_before_the_glyph_of_the_borders(rt: HostRuntime) -> Result<(), Fail> {
@@ -22,28 +24,16 @@ fn an_override_comes_before_the_glyph_of_the_borders(rt: HostRuntime) -> Result<
     borders.left = Some('|');
     borders.top_left = Some('+');
     config.set_borders(borders);
-    assert_eq!(rt; config.get_horizontal(FIRST, 2), Some('-'));
-    assert_eq!(rt; config.get_vertical(FIRST, 2), Some('|'));
-    assert_eq!(rt; config.get_intersection(FIRST, (2, 2)), Some('+'));
+    assert_eq!(rt; first_glyphs(&config), [Some('+'), Some('-'), Some('|')]);
     let full = Border::full('t', 'b', 'l', 'r', '1', '2', '3', '4');
     config.set_border(FIRST, full)?;
-    assert_eq!(rt; config.get_horizontal(FIRST, 2), Some('t'));
+    assert_eq!(rt; first_glyphs(&config), [Some('1'), Some('t'), Some('l')]);
     assert_eq!(rt; config.get_horizontal(Position::new(1, 0), 2), Some('b'));
-    assert_eq!(rt; config.get_vertical(FIRST, 2), Some('l'));
     assert_eq!(rt; config.get_vertical(Position::new(0, 1), 2), Some('r'));
-    assert_eq!(rt; config.get_intersection(FIRST, (2, 2)), Some('1'));
-    assert_eq!(rt;
-        config.get_intersection(Position::new(0, 1), (2, 2)),
-        Some('2')
-    );
-    assert_eq!(rt;
-        config.get_intersection(Position::new(1, 0), (2, 2)),
-        Some('3')
-    );
-    assert_eq!(rt;
-        config.get_intersection(Position::new(1, 1), (2, 2)),
-        Some('4')
-    );
+    for (row, col, glyph) in [(0usize, 1usize, '2'), (1, 0, '3'), (1, 1, '4')] {
+        let crossing = config.get_intersection(Position::new(row, col), (2, 2));
+        assert_eq!(rt; crossing, Some(glyph), "at {row}, {col}");
+    }
     Ok(())
 }
 

@@ -2,8 +2,7 @@
 
 use pg_config::SpannedConfig;
 use pg_layout::{
-    ANSIBuf, ANSIFmt, AlignmentHorizontal, AlignmentVertical, Border, Borders, Entity, Indent,
-    Offset, Position, Sides,
+    ANSIBuf, ANSIFmt, AlignmentHorizontal, AlignmentVertical, Entity, Indent, Position, Sides,
 };
 use std::alloc::Global;
 use std::process::Abort;

@@ -3,8 +3,8 @@
 use crate::answers::answers;
 use pg_config::SpannedConfig;
 use pg_layout::{
-    ANSIBuf, ANSIFmt, AlignmentHorizontal, AlignmentVertical, Border, Colors, ColorsMap, Entity,
-    Indent, Offset, Position, Sides,
+    ANSIBuf, AlignmentHorizontal, AlignmentVertical, Border, Entity, Indent, Offset, Position,
+    Sides,
 };
 use pg_testing::refusing::Refusing;
 use std::alloc::{AllocError, Allocator, Global};

@@ -94,17 +94,26 @@ fn tell<A: Allocator>(config: &mut SpannedConfig<A>, glyph: char) -> Result<(), 
     config.set_row_span(pos, 2)
 }
 
+// Tells it the same again and again.
+fn tell_often<A: Allocator>(
+    config: &mut SpannedConfig<A>,
+    glyph: char,
+    rounds: u64,
+) -> Result<(), AllocError> {
+    for _ in 0..rounds {
+        tell(config, glyph)?;
+    }
+    Ok(())
+}
+
 #[test]
 fn what_is_told_again_takes_no_more_memory(rt: HostRuntime) -> Result<(), Fail> {
     let memory = Refusing::from_on(rt.alloc(), u64::MAX);
     let mut config = SpannedConfig::new(&memory);
     // A border asks for room before it is known which of its places are new: so twice.
-    tell(&mut config, 'a')?;
-    tell(&mut config, 'a')?;
+    tell_often(&mut config, 'a', 2)?;
     let requests = memory.requests();
-    for _ in 0..ROUNDS {
-        tell(&mut config, 'b')?;
-    }
+    tell_often(&mut config, 'b', ROUNDS)?;
     assert_eq!(rt; memory.requests(), requests);
     assert_eq!(rt; config.get_justification(Position::new(1, 2)), 'b');
     assert_eq!(rt; config.spans().len(), 1);
