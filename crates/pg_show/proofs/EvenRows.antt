@@ -1,5 +1,5 @@
 -- Rows of one length are records.
-use Rattle.std.proofs.Common.{◌≡◌, ◌==◌, ◌∙◌, ℕ, not, List, [], ◌∷◌, length, map, All, Option, Some, None, Result, Ok, Err, is_some, arith, refl, sym, ap}
+use Rattle.std.proofs.Common.{◌≡◌, ◌==◌, ◌∙◌, ℕ, not, List, [], ◌∷◌, length, map, All, Option, None, Result, Ok, Err, is_some, arith, refl, sym, ap}
 use Rattle.std.specs.List.{position, position_or_len}
 use Rattle.std.specs.Result.{IsOk, result_err}
 use Rattle.std.proofs.lemmas.Bool.Decides.{nat_tests}

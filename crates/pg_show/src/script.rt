@@ -11,7 +11,7 @@ use crate::lines::Lines;
 use crate::statement::{Size, Statement};
 use crate::words::Words;
 use pg_config::SpannedConfig;
-use pg_layout::{ConstantDimension, VecRecords};
+use pg_layout::{ColorsMap, ConstantDimension, VecRecords};
 use std::alloc::{AllocError, Allocator, Global};
 
 /// Why a script tells of no table.
@@ -38,6 +38,8 @@ pub struct Script<A: Allocator = Global> {
     pub records: VecRecords<String<A>, A>,
     /// The widths of the columns and the heights of the rows.
     pub dimension: ConstantDimension<A>,
+    /// The colours of the cells.
+    pub colors: ColorsMap<A>,
     /// The settings of the table. No statement of a script sets a span.
     pub config: SpannedConfig<A>,
     ghost plain: { config.spans ≡ [] },
@@ -49,6 +51,7 @@ struct Draft<A: Allocator> {
     size: Size,
     texts: CellTexts<A>,
     dimension: ConstantDimension<A>,
+    colors: ColorsMap<A>,
     config: SpannedConfig<A>,
     ghost sized: { texts.size ≡ size },
     ghost plain: { config.spans ≡ [] },
@@ -65,6 +68,7 @@ impl<A: Allocator + Copy> Draft<A> {
                 vec![in alloc; 0; size.columns]?,
                 vec![in alloc; 1; size.rows]?,
             ),
+            colors: ColorsMap::new(alloc),
             config: SpannedConfig::new(alloc),
         })
     }
@@ -85,6 +89,13 @@ impl<A: Allocator + Copy> Draft<A> {
                 self.config.set_alignment_vertical(entity, alignment)?;
             }
             Statement::Padding(entity, padding) => self.config.set_padding(entity, padding)?,
+            Statement::Trim(entity, horizontal, vertical) => {
+                self.config.set_trim_horizontal(entity, horizontal)?;
+                self.config.set_trim_vertical(entity, vertical)?;
+            }
+            Statement::Lines(entity, aligns) => self.config.set_line_alignment(entity, aligns)?,
+            Statement::Margin(margin) => self.config.set_margin(margin),
+            Statement::Color(place, color) => self.colors.set(place, color)?,
         }
         Ok(())
     }
@@ -93,6 +104,7 @@ impl<A: Allocator + Copy> Draft<A> {
         Script {
             records: self.texts.into_records(),
             dimension: self.dimension,
+            colors: self.colors,
             config: self.config,
         }
     }

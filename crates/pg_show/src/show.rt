@@ -3,6 +3,7 @@
 ghost use Rattle.std.specs.Prelude.{◌≡◌, ◌↔◌, Some, None, Err};
 ghost use Rattle.pg_picture.specs.Appending.{Appends};
 ghost use Rattle.pg_picture.specs.Fits.{misfit_of};
+ghost use Rattle.pg_picture.specs.Sizes.{unless_misfit};
 ghost use Rattle.pg_picture.specs.Table.{Known};
 ghost use Rattle.pg_picture.specs.Picture.{picture};
 ghost use Rattle.pg_show.specs.Show.{table_of_script};
@@ -12,7 +13,6 @@ ghost use Rattle.pg_show.specs.declared.show.ShowFault.TheVariants as variants;
 use crate::mode::Mode;
 use crate::script::Script;
 use pg_grid::PeekableGrid;
-use pg_layout::NoColors;
 use pg_picture::fits::{Misfit, table_fits};
 use std::alloc::{AllocError, Allocator};
 
@@ -54,11 +54,18 @@ pub fn print_script<A: Allocator, B: Allocator>(
     ensures kept { (m : _) → result ≡ Err (ShowFault.Misfit m) → buf.new ≡ buf.old }
     ensures printed { misfit_of (table_of_script script.now) ≡ None → Appends buf.old buf.new result (picture Known (table_of_script script.now)) }
 {
-    table_fits(&&script.records, &script.config, &script.dimension)?;
+    script_fits(script)?;
     match mode {
         Mode::Peek => print_peekable(script, buf)?,
     }
     Ok(())
+}
+
+// Whether the table of a script fits. Colours don't matter.
+fn script_fits<A: Allocator>(script: &Script<A>) -> Result<(), Misfit>
+    ensures { result ≡ unless_misfit (misfit_of (table_of_script script.now)) }
+{
+    table_fits(&&script.records, &script.config, &script.dimension)
 }
 
 // Appends the table of a script, as the looked-up grid prints it.
@@ -69,6 +76,6 @@ fn print_peekable<A: Allocator, B: Allocator>(
     requires { misfit_of (table_of_script script.now) ≡ None }
     ensures { Appends buf.old buf.new result (picture Known (table_of_script script.now)) }
 {
-    let dimension = &script.dimension;
-    PeekableGrid::new(&script.records, &script.config, dimension, NoColors).build(buf)
+    let (dimension, colors) = (&script.dimension, &script.colors);
+    PeekableGrid::new(&script.records, &script.config, dimension, colors).build(buf)
 }

@@ -4,12 +4,17 @@ ghost use Rattle.std.specs.Prelude.{◌≡◌, ◌≤◌, ◌<◌, length, IfSom
 ghost use Rattle.pg_show.specs.Statement.{FitsSize};
 ghost use Rattle.pg_show.specs.declared.statement.Size.{Size};
 
-use crate::words::{Words, text_of};
-use pg_layout::{AlignmentHorizontal, AlignmentVertical, Borders, Entity, Indent, Position, Sides};
+use crate::words::{Words, char_of, text_of};
+use pg_layout::{
+    ANSIBuf, AlignmentHorizontal, AlignmentVertical, Borders, Entity, Indent, Position, Sides,
+};
 use std::alloc::{AllocError, Allocator};
 
 /// The most rows of a script's table, and the most columns.
 const MOST: usize = 1000;
+
+/// The greatest number of a colour.
+const GREATEST_CODE: usize = 107;
 
 /// How many rows and columns the table of a script has.
 #[derive(Debug, Clone, Copy)]
@@ -53,9 +58,17 @@ pub(crate) enum Statement<A: Allocator> {
     VerticalAlignment(Entity, AlignmentVertical),
     /// The space round texts.
     Padding(Entity, Sides<Indent>),
+    /// Whether the spaces round texts are trimmed, and whether blank lines are.
+    Trim(Entity, bool, bool),
+    /// Whether the lines of a text are aligned one by one.
+    Lines(Entity, bool),
+    /// The margin of the table.
+    Margin(Sides<Indent>),
+    /// The colour of a cell.
+    Color(Position, ANSIBuf<A>),
 }
 
-impl<A: Allocator> Statement<A> {
+impl<A: Allocator + Copy> Statement<A> {
     /// The statement of a line for a table of this size, or `None` where the line is bad.
     pub(crate) fn read(
         alloc: A,
@@ -73,6 +86,10 @@ impl<A: Allocator> Statement<A> {
             "halign" => Ok(horizontal_alignment(words)),
             "valign" => Ok(vertical_alignment(words)),
             "pad" => Ok(padding(words)),
+            "trim" => Ok(trim(words)),
+            "lines" => Ok(line_alignment(words)),
+            "margin" => Ok(margin(words)),
+            "color" => color(alloc, words, size),
             _ => Ok(None),
         }
     }
@@ -167,12 +184,98 @@ fn padding<A: Allocator>(mut words: Words<'_>) -> Option<Statement<A>>
     ensures { (size : Size) → IfSome result (FitsSize size) }
 {
     let entity = words.entity()?;
-    let left = Indent::spaced(words.number()?);
-    let right = Indent::spaced(words.number()?);
-    let top = Indent::spaced(words.number()?);
-    let bottom = Indent::spaced(words.number()?);
+    let [left, right, top, bottom] = four_numbers(&mut words)?;
     words.end()?;
-    Some(Statement::Padding(entity, Sides::new(left, right, top, bottom)))
+    Some(Statement::Padding(entity, sides([left, right, top, bottom], ' ')))
+}
+
+fn trim<A: Allocator>(mut words: Words<'_>) -> Option<Statement<A>>
+    ensures { (size : Size) → IfSome result (FitsSize size) }
+{
+    let entity = words.entity()?;
+    let (horizontal, vertical) = match words.next_word()? {
+        "none" => (false, false),
+        "h" => (true, false),
+        "v" => (false, true),
+        "hv" => (true, true),
+        _ => return None,
+    };
+    words.end()?;
+    Some(Statement::Trim(entity, horizontal, vertical))
+}
+
+fn line_alignment<A: Allocator>(mut words: Words<'_>) -> Option<Statement<A>>
+    ensures { (size : Size) → IfSome result (FitsSize size) }
+{
+    let entity = words.entity()?;
+    let aligns = match words.next_word()? {
+        "on" => true,
+        "off" => false,
+        _ => return None,
+    };
+    words.end()?;
+    Some(Statement::Lines(entity, aligns))
+}
+
+fn margin<A: Allocator>(mut words: Words<'_>) -> Option<Statement<A>>
+    ensures { (size : Size) → IfSome result (FitsSize size) }
+{
+    let sizes = four_numbers(&mut words)?;
+    let fill = char_of(words.next_word()?)?;
+    words.end()?;
+    Some(Statement::Margin(sides(sizes, fill)))
+}
+
+// The sizes of the left, the right, the top and the bottom side.
+fn four_numbers(words: &mut Words<'_>) -> Option<[usize; 4]> {
+    let left = words.number()?;
+    let right = words.number()?;
+    let top = words.number()?;
+    let bottom = words.number()?;
+    Some([left, right, top, bottom])
+}
+
+// Sides of these sizes, all with one fill.
+fn sides([left, right, top, bottom]: [usize; 4], fill: char) -> Sides<Indent> {
+    Sides::new(
+        Indent::new(left, fill),
+        Indent::new(right, fill),
+        Indent::new(top, fill),
+        Indent::new(bottom, fill),
+    )
+}
+
+// A place of the table and the colour of its cell.
+fn color<A: Allocator + Copy>(
+    alloc: A,
+    mut words: Words<'_>,
+    size: Size,
+) -> Result<Option<Statement<A>>, AllocError>
+    ensures { IfOk result (λ read. IfSome read (FitsSize size)) }
+{
+    let Some((place, code)) = color_code(&mut words, size) else {
+        return Ok(None);
+    };
+    Ok(Some(Statement::Color(place, color_of(alloc, code)?)))
+}
+
+// A place of the table and the number of a colour, and nothing behind them.
+fn color_code(words: &mut Words<'_>, size: Size) -> Option<(Position, usize)>
+    ensures { IfSome result (λ read. (read.0.row < size.rows) × (read.0.col < size.columns)) }
+{
+    let place = position(words, size)?;
+    let code = words.number()?;
+    words.end()?;
+    if code > GREATEST_CODE {
+        return None;
+    }
+    Some((place, code))
+}
+
+// The colour that a terminal knows by this number.
+fn color_of<A: Allocator + Copy>(alloc: A, code: usize) -> Result<ANSIBuf<A>, AllocError> {
+    let prefix = format!(in alloc; "\u{1b}[{code}m")?;
+    ANSIBuf::new(alloc, prefix.as_str(), "\u{1b}[0m")
 }
 
 // ASCII glyphs at all fifteen places.

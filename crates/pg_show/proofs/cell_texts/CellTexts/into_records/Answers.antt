@@ -1,6 +1,5 @@
-use Rattle.std.proofs.Common.{◌≡◌, ◌∙◌, None, ap}
+use Rattle.std.proofs.Common.{◌∙◌, ap}
 use Rattle.std.specs.Option.{option_map}
-use Rattle.std.specs.Result.{result_err}
 use Rattle.pg_layout.specs.declared.vec_records.RecordsFault.TheVariants.{Ragged}
 use Rattle.pg_show.proofs.EvenRows.{even-not_ragged, no_error-is_ok}
 use Rattle.pg_show.proofs.cell_texts.CellTexts.into_records.Goals as goal

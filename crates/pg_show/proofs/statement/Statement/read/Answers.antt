@@ -11,3 +11,12 @@ returns-in-valign g c = c.vertical_alignment.ensures c.args.size
 
 pub returns-in-pad : goal.returns-in-pad
 returns-in-pad g c = c.padding.ensures c.args.size
+
+pub returns-in-trim : goal.returns-in-trim
+returns-in-trim g c = c.trim.ensures c.args.size
+
+pub returns-in-lines : goal.returns-in-lines
+returns-in-lines g c = c.line_alignment.ensures c.args.size
+
+pub returns-in-margin : goal.returns-in-margin
+returns-in-margin g c = c.margin.ensures c.args.size
