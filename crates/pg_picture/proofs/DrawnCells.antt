@@ -17,6 +17,7 @@ use Rattle.pg_picture.proofs.FittingTables.{RectInside, rect_inside}
 use Rattle.pg_picture.proofs.MarksOfBodies.{All-body}
 use Rattle.pg_picture.proofs.MarksOfRectangles.{rows_from, row_lines, run_of, marks_above-add, marks_within-run}
 use Rattle.pg_picture.proofs.PartsOfColumns.{row-begins, row-inside, no-crossing, column-inside, column-begins}
+use Rattle.pg_picture.proofs.ReachOfRectangles.{is_at-same}
 use Rattle.pg_picture.proofs.StraightColumns.{fits-columns}
 
 -- ---- the lines of a rectangle
@@ -99,19 +100,13 @@ module _ (t : Table) (owners : HasOwners t.config.spans) (p : Position) (own : o
             two r c (no-crossing t r c (inner-in r c le k l m) covered) (column-inside t r c covered (inner-left r c le k l m)),
       )
 
-is_at-own : (p q : Position) → is_at q p.row p.col ≡ true → q ≡ p
-is_at-own p q h =
-    let row : q.row ≡ p.row = grind (arith, nat_tests, h) in
-    let col : q.col ≡ p.col = grind (arith, nat_tests, h) in
-    ap₂ (λ r c. at r c) row col
-
 pub shown_cells_are_drawn : ShownCellsAreDrawn
 unfolding rect_marks marks_within
 shown_cells_are_drawn t places fit p o =
     let owners : HasOwners t.config.spans = owners_of t.config.spans (apart_from t.config.spans t.columns (fits-columns t.config.spans t.rows t.columns fit) places) in
     let inside = rect_inside t.config.spans t.rows t.columns p fit o.row o.column in
     let test : Mark → Bool = stands_within p.row (p.row + rect_rows t.config.spans p) in
-    let one : (mark : Mark) → test mark ≡ true → IsDrawn t p mark = drawn t owners p (is_at-own p (owner t.config.spans p.row p.col) o.own) inside in
+    let one : (mark : Mark) → test mark ≡ true → IsDrawn t p mark = drawn t owners p (is_at-same (owner t.config.spans p.row p.col) p o.own) inside in
     All-filtered (IsDrawn t p) test (body t.config t.height t.rows)
     (All-body (λ mark. test mark ≡ true → IsDrawn t p mark) t.config t.height t.rows (λ r i h k. one (line r i)) (λ r h there. one (sep r)))
 

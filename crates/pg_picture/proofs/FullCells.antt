@@ -5,7 +5,7 @@ use Rattle.std.specs.List.{range_with_len, enumerate_from}
 use Rattle.std.specs.List.{list_any}
 use Rattle.std.proofs.lemmas.List.{length-map}
 use Rattle.std.proofs.lemmas.List.Elements.{All-weaker}
-use Rattle.std.proofs.lemmas.Bool.{cases_Bool, and_parts, false≢true}
+use Rattle.std.proofs.lemmas.Bool.{cases_Bool, and_parts, false≢true, or_parts}
 use Rattle.std.proofs.lemmas.Bool.Decides.{nat_tests}
 use Rattle.pg_layout.specs.declared.position.Position.{Position}
 use Rattle.pg_layout.specs.declared.alignment.AlignmentVertical.{AlignmentVertical}
@@ -140,16 +140,12 @@ full_cells_ignore_alignment hint t down full = picture-aligned down t full hint
 
 -- ---- rows of one line
 
-or_none : (a b : Bool) → (a || b) ≡ false → (a ≡ false) × (b ≡ false)
-or_none true b h = absurd (false≢true (sym h))
-or_none false b h = (refl, h)
-
 -- without row spans a rectangle has one row
 one_row : (spans : List Span) (k : Key) → has_row_spans spans ≡ false → (unwrap_or (value_at k spans) (1, 1)).0 ≡ 1
 unfolding has_row_spans
 one_row [] k none = refl
 one_row (s ∷ ss) k none =
-    let parts = or_none (not (s.1.0 == 1)) (list_any (λ (u : Span). not (u.1.0 == 1)) ss) none in
+    let parts = or_parts (not (s.1.0 == 1)) (list_any (λ (u : Span). not (u.1.0 == 1)) ss) none in
     elim (cases_Bool (same s.0 k)) [ inl y ↦ rw y (grind (arith, nat_tests, parts.0)) | inr n ↦ rw n (one_row ss k parts.1) ]
 
 length-shown : (f : Formatting) (text : Text) → f.vertical_trim ≡ false → length (shown f text) ≡ length (lines_of text)

@@ -1,7 +1,7 @@
 -- The glyphs of column lines: none where the line isn't there, and one where it is and nothing is missing.
 use Rattle.std.proofs.Common.{◌≡◌, ℕ, ◌≤◌, Bool, true, false, ◌&&◌, ◌||◌, ◌==◌, nat_lt, List, [], ◌∷◌, refl, sym, arith, Option, Some, None, is_some, inl, inr}
 use Rattle.std.specs.Option.{option_or}
-use Rattle.std.proofs.lemmas.Bool.{cases_Bool, false≢true}
+use Rattle.std.proofs.lemmas.Bool.{cases_Bool, false≢true, or_parts}
 use Rattle.std.proofs.lemmas.Bool.Decides.{nat_tests}
 use Rattle.pg_layout.specs.declared.position.Position.{Position}
 use Rattle.pg_layout.specs.declared.borders.Borders.{Borders}
@@ -39,10 +39,6 @@ missing_glyph_fills_gaps t missing = record {
 
 -- ---- column lines that aren't there
 
-or_none : (a b : Bool) → (a || b) ≡ false → (a ≡ false) × (b ≡ false)
-or_none true b h = absurd (false≢true (sym h))
-or_none false b h = (refl, h)
-
 is_none : {A : Type 0} (o : Option A) → is_some o ≡ false → o ≡ None
 is_none None h = refl
 is_none (Some a) h = absurd (false≢true (sym h))
@@ -50,19 +46,19 @@ is_none (Some a) h = absurd (false≢true (sym h))
 value_at-none : {V : Type 0} (c r : ℕ) (es : List (Key × V)) → has_first c es ≡ false → value_at (c, r, 0) es ≡ None
 value_at-none c r [] h = refl
 value_at-none c r (e ∷ es) h =
-    let parts = or_none (begins c e.0) (has_first c es) h in
+    let parts = or_parts (begins c e.0) (has_first c es) h in
     let other : same e.0 (c, r, 0) ≡ false = grind (arith, nat_tests, parts.0) in
     rw other (value_at-none c r es parts.1)
 
 -- of four values that none of which is set, the first
 first_none : {G : Type 0} (a b c d : Option G) → any_of a b c d ≡ false → a ≡ None
-first_none a b c d h = is_none a (or_none (is_some a) (is_some b) (or_none (is_some a || is_some b) (is_some c || is_some d) h).0).0
+first_none a b c d h = is_none a (or_parts (is_some a) (is_some b) (or_parts (is_some a || is_some b) (is_some c || is_some d) h).0).0
 
 vertical_glyph-none : {G : Type 0} (b : Borders G) (c columns : ℕ) → c ≤ columns → has_side (has_left b) (has_inner_vertical b) (has_right b) c columns ≡ false → vertical_glyph b c columns ≡ None
 unfolding vertical_glyph has_side has_left has_right has_inner_vertical
 vertical_glyph-none b c columns h none =
-    let parts = or_none ((c == 0) && any_of b.left b.top_left b.bottom_left b.left_intersection) _ none in
-    let rest = or_none ((c == columns) && any_of b.right b.top_right b.bottom_right b.right_intersection) _ parts.1 in
+    let parts = or_parts ((c == 0) && any_of b.left b.top_left b.bottom_left b.left_intersection) _ none in
+    let rest = or_parts ((c == columns) && any_of b.right b.top_right b.bottom_right b.right_intersection) _ parts.1 in
     elim (cases_Bool (c == 0)) [
       | inl first ↦ rw first (first_none b.left b.top_left b.bottom_left b.left_intersection (rw first at parts.0))
       | inr n ↦ elim (cases_Bool (c == columns)) [
@@ -77,6 +73,6 @@ vertical_glyph-none b c columns h none =
 pub get_vertical-none : (config : Config) (p : Position) (columns : ℕ) → p.col ≤ columns → has_vertical config p.col columns ≡ false → get_vertical config p columns ≡ None
 unfolding get_vertical has_vertical vertical_override overrides_column
 get_vertical-none config p columns h none =
-    let parts = or_none (has_side (has_left config.borders) (has_inner_vertical config.borders) (has_right config.borders) p.col columns) (overrides_column config.overrides p.col) none in
-    let column = or_none (has_first p.col config.overrides.verticals) (has_second p.col config.overrides.crossings) parts.1 in
+    let parts = or_parts (has_side (has_left config.borders) (has_inner_vertical config.borders) (has_right config.borders) p.col columns) (overrides_column config.overrides p.col) none in
+    let column = or_parts (has_first p.col config.overrides.verticals) (has_second p.col config.overrides.crossings) parts.1 in
     rw (value_at-none p.col p.row config.overrides.verticals column.0, vertical_glyph-none config.borders p.col columns h parts.0, none) refl

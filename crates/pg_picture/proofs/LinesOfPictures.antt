@@ -1,15 +1,17 @@
 -- The picture as its lines: how they are joined, and how many there are.
 use Rattle.std.proofs.Common.{◌≡◌, ℕ, ◌<◌, true, false, ◌||◌, ◌==◌, List, [], ◌∷◌, ◌++◌, length, refl, ap, ◌∙◌, append-nil, length-append, arith, ◌⊎◌, inl, inr}
-use Rattle.std.specs.List.{join_with_byte}
+use Rattle.std.specs.List.{All, join_with_byte}
 use Rattle.std.proofs.lemmas.List.{length-replicate}
+use Rattle.std.proofs.lemmas.List.Elements.{All-head, All-tail}
+use Rattle.std.proofs.lemmas.List.Splits.{slice_split_none, slice_split_at}
 use Rattle.std.proofs.lemmas.Bool.Decides.{nat_tests}
-use Rattle.pg_layout.specs.Text.{Text}
+use Rattle.pg_layout.specs.Text.{Text, lines_of}
 use Rattle.pg_picture.specs.Table.{Table, margin_lines, table_body}
 use Rattle.pg_picture.specs.CompactLines.{compact_lines}
 use Rattle.pg_picture.specs.Joined.{joined}
 use Rattle.pg_picture.specs.Fits.{body_height}
 use Rattle.pg_picture.specs.Picture.{top_lines, bottom_lines, body_lines, picture_lines, compact_picture}
-use Rattle.pg_picture.specs.Laws.{NothingToDraw, NothingCompactToDraw, LinesAreJoined, CompactLinesAreJoined, LinesAreCounted}
+use Rattle.pg_picture.specs.Laws.{NothingToDraw, NothingCompactToDraw, LinesAreJoined, CompactLinesAreJoined, IsOneLine, LinesAreCut, CompactLinesAreCut, LinesAreCounted}
 use Rattle.pg_picture.proofs.BodyLines.{length-body_lines}
 use Rattle.pg_picture.proofs.HeightsOfRectangles.{length-table_body}
 use Rattle.pg_picture.proofs.Pictures.{length-top, picture-none, picture-some}
@@ -53,3 +55,20 @@ lines_are_counted hint t =
     let rest = length-append body (bottom_lines t) in
     let drawn : length body ≡ body_height t = length-body_lines hint t 0 (table_body t) ∙ length-table_body t in
     omega (arith, all, rest, drawn, length-top t, length-bottom t)
+
+-- ---- cut at line feeds
+
+joined-cut : (lines : List Text) → 0 < length lines → All IsOneLine lines → lines_of (join_with_byte 10 lines) ≡ lines
+unfolding lines_of
+joined-cut [] some one = absurd (omega arith)
+joined-cut (x ∷ []) some one = slice_split_none (λ b. b == 10) x (All-head IsOneLine x [] one)
+joined-cut (x ∷ y ∷ lines) some one =
+    let feed : (10 == 10) ≡ true = grind (arith, nat_tests) in
+    slice_split_at (λ b. b == 10) x 10 (join_with_byte 10 (y ∷ lines)) (All-head IsOneLine x (y ∷ lines) one) feed
+    ∙ ap (λ l. x ∷ l) (joined-cut (y ∷ lines) (omega arith) (All-tail IsOneLine x (y ∷ lines) one))
+
+pub lines_are_cut : LinesAreCut
+lines_are_cut hint t h k some one = ap lines_of (lines_are_joined hint t h k) ∙ joined-cut (picture_lines hint t) some one
+
+pub compact_lines_are_cut : CompactLinesAreCut
+compact_lines_are_cut t h k some one = ap lines_of (compact_lines_are_joined t h k) ∙ joined-cut (compact_lines t) some one

@@ -42,6 +42,13 @@ module _ (part column ahead : ℕ → ℕ) (n : ℕ) (first : ahead 0 ≡ 0) (st
   pub all_reached : ahead n ≡ 0 → sum_by part (range_with_len 0 n) ≡ sum_by column (range_with_len 0 n)
   all_reached last = let whole = reached n (omega arith) in rw last at whole ∙ omega arith
 
+-- a place, by its row and its column
+pub is_at-same : (p q : Position) → is_at p q.row q.col ≡ true → p ≡ q
+is_at-same p q h =
+    let row : p.row ≡ q.row = grind (arith, nat_tests, h) in
+    let col : p.col ≡ q.col = grind (arith, nat_tests, h) in
+    ap₂ (λ r c. at r c) row col
+
 -- ---- rectangles along a row
 
 module _ (t : Table) where
@@ -72,12 +79,6 @@ module _ (t : Table) where
   end_of r c = (owner t.config.spans r c).col + rect_columns t.config.spans (owner t.config.spans r c)
 
   module _ (owners : HasOwners t.config.spans) where
-    pub is_at-same : (p q : Position) → is_at p q.row q.col ≡ true → p ≡ q
-    is_at-same p q h =
-        let row : p.row ≡ q.row = grind (arith, nat_tests, h) in
-        let col : p.col ≡ q.col = grind (arith, nat_tests, h) in
-        ap₂ (λ r c. at r c) row col
-
     -- a column inside a rectangle: not the first one, and of the rectangle of the column before
     pub inside-facts : (r k : ℕ) → is_inside t r k ≡ true → (0 < k) × (owner t.config.spans r (k - 1) ≡ owner t.config.spans r k) × (is_left t.config.spans r k ≡ false)
     unfolding is_inside same_owner is_left

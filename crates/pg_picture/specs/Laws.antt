@@ -1,5 +1,5 @@
 -- Laws of the picture, in words of their own.
-use Rattle.std.specs.Prelude.{◌≡◌, ℕ, ◌+◌, ◌-◌, ◌*◌, ◌<◌, ◌≤◌, ◌⊎◌, true, false, List, [], ◌∷◌, ◌++◌, map, flat_map, length, sum_by, Option, None, IsSome, IfSome, encode_utf8, All}
+use Rattle.std.specs.Prelude.{◌≡◌, ℕ, ◌+◌, ◌-◌, ◌*◌, ◌<◌, ◌≤◌, ◌⊎◌, ◌==◌, true, false, List, [], ◌∷◌, ◌++◌, map, flat_map, length, sum_by, Option, None, IsSome, IfSome, encode_utf8, All}
 use Rattle.std.specs.List.{range_with_len, enumerate_from, join_with_byte, Contains}
 use Rattle.std.specs.Option.{option_to_list}
 use Rattle.pg_layout.specs.declared.position.Position.{Position}
@@ -36,6 +36,17 @@ LinesAreJoined = (hint : Hint) (t : Table) → 0 < t.rows → 0 < t.columns → 
 
 abbrev pub CompactLinesAreJoined : Type 0
 CompactLinesAreJoined = (t : CompactTable) → 0 < t.rows → 0 < t.columns → compact_picture t ≡ join_with_byte 10 (compact_lines t)
+
+-- a text without line feed
+abbrev pub IsOneLine : Text → Type 0
+IsOneLine text = All (λ b. (b == 10) ≡ false) text
+
+-- Where no line has a line feed of its own, a picture of some lines is cut into its lines at its line feeds.
+abbrev pub LinesAreCut : Type 0
+LinesAreCut = (hint : Hint) (t : Table) → 0 < t.rows → 0 < t.columns → 0 < length (picture_lines hint t) → All IsOneLine (picture_lines hint t) → lines_of (picture hint t) ≡ picture_lines hint t
+
+abbrev pub CompactLinesAreCut : Type 0
+CompactLinesAreCut = (t : CompactTable) → 0 < t.rows → 0 < t.columns → 0 < length (compact_lines t) → All IsOneLine (compact_lines t) → lines_of (compact_picture t) ≡ compact_lines t
 
 -- The lines are those of the top margin, of the body and of the bottom margin.
 abbrev pub LinesAreCounted : Type 0

@@ -1,6 +1,6 @@
 //! Laws of the picture. The functions do nothing: their contracts are the laws.
 
-ghost use Rattle.pg_picture.specs.Laws.{NothingToDraw, NothingCompactToDraw, LinesAreJoined, CompactLinesAreJoined, LinesAreCounted, BlocksAreDrawn, BlocksFill, PiecesCloseColors, SeparatorsCloseColors, LinesCloseColors, PartsCloseColors, FullCellsIgnoreAlignment, SingleLinesIgnoreAlignment, ColumnsAreStraight, MissingGlyphFillsGaps, MarginsAreStraight, ShownCellsAreDrawn, RectanglesStandTogether, PlainRows, PlainSeparators, BodiesStandAlone, HintsAreIdle};
+ghost use Rattle.pg_picture.specs.Laws.{NothingToDraw, NothingCompactToDraw, LinesAreJoined, CompactLinesAreJoined, LinesAreCut, CompactLinesAreCut, LinesAreCounted, BlocksAreDrawn, BlocksFill, PiecesCloseColors, SeparatorsCloseColors, LinesCloseColors, PartsCloseColors, FullCellsIgnoreAlignment, SingleLinesIgnoreAlignment, ColumnsAreStraight, MissingGlyphFillsGaps, MarginsAreStraight, ShownCellsAreDrawn, RectanglesStandTogether, PlainRows, PlainSeparators, BodiesStandAlone, HintsAreIdle};
 
 /// A table with no rows or no columns has the empty picture, whatever else it was told.
 pub fn no_rows_or_columns_draw_nothing()
@@ -9,10 +9,13 @@ pub fn no_rows_or_columns_draw_nothing()
 {}
 
 /// Any other picture is its lines, with one line feed between each two: none before the first
-/// line, none after the last.
+/// line, none after the last. Where no line has a line feed of its own, in a glyph or a colour, a
+/// picture of some lines is cut into them at its line feeds.
 pub fn lines_are_joined_by_one_feed()
     ensures table { LinesAreJoined }
     ensures compact { CompactLinesAreJoined }
+    ensures cut { LinesAreCut }
+    ensures compact_cut { CompactLinesAreCut }
 {}
 
 /// A picture has as many lines as its top margin, its body and its bottom margin together. The body
