@@ -15,3 +15,4 @@ pub mod CellLines
 pub mod CellsBegun
 pub mod OpenLists
 pub mod PartsOfLines
+pub mod PartsOfSeparators

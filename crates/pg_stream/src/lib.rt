@@ -7,3 +7,5 @@ mod open_cell;
 mod open_cells;
 
 pub use crate::open_cells::OpenCells;
+
+mod separators;

@@ -75,7 +75,7 @@ impl<S: AsStr + Drop, A: Allocator> OpenCells<S, A> {
         Some(self.open_at(column)?.drawn())
     }
 
-    fn open_at(&self, column: usize) -> Option<&OpenCell<S>>
+    pub(crate) fn open_at(&self, column: usize) -> Option<&OpenCell<S>>
         ensures { option_map (λ x. x.now) result ≡ slice_index_or self.now column None }
     {
         self.slots.get(column)?.as_ref()
