@@ -1,30 +1,38 @@
--- A table without spans in which everything fits can be drawn; its width and its height are numbers.
-use Rattle.std.proofs.Common.{◌≡◌, ℕ, ◌+◌, ◌^◌, ◌<◌, true, nat_lt, Option, Some, None, IsSome, refl, sym, ap, ◌∙◌, subst, sum_by, arith}
+-- A table in which everything fits can be drawn; its width and its height are numbers.
+use Rattle.std.proofs.Common.{◌≡◌, ℕ, ◌+◌, ◌^◌, ◌<◌, ◌==◌, not, true, false, nat_lt, List, [], ◌∷◌, length, Option, Some, None, IsSome, refl, sym, ap, ◌∙◌, subst, sum_by, arith}
+use Rattle.std.proofs.lemmas.Bool.{false≢true}
 use Rattle.std.specs.List.{range_with_len}
 use Rattle.std.proofs.lemmas.Bool.Decides.{nat_tests}
-use Rattle.pg_layout.specs.Position.{at}
+use Rattle.pg_layout.specs.declared.position.Position.{Position}
+use Rattle.pg_layout.specs.Places.{IsAscending}
 use Rattle.pg_config.specs.Config.{count_vertical, count_horizontal}
-use Rattle.pg_picture.specs.Table.{Table, total_width, full_width, table_body}
+use Rattle.pg_config.specs.Spans.{Span, StandAtPlaces}
+use Rattle.pg_picture.specs.Pieces.{style_at}
+use Rattle.pg_picture.specs.Table.{Table, total_width, full_width}
 use Rattle.pg_picture.specs.Fits.{misfit_of, cell_fits, body_height}
 use Rattle.pg_picture.specs.Sizes.{if_fits, sized}
-use Rattle.pg_picture.specs.FitLaws.{TableFits}
 use Rattle.pg_picture.proofs.Rooms.{fits, cell_fits_plain}
 use Rattle.pg_picture.proofs.FittingTables.{totals_facts}
-use Rattle.pg_picture.proofs.HeightsOfRectangles.{length-table_body}
+use Rattle.pg_picture.proofs.OwnersOfPlaces.{InOrder}
 use Rattle.pg_grid.specs.Grids.{CanDraw, HasNoSpans}
 
-pub can_draw : (t : Table) → HasNoSpans t → misfit_of t ≡ None → 0 < t.rows → 0 < t.columns → CanDraw t
-can_draw t none fitting some_rows some_columns =
-    let all : TableFits t = fits t fitting some_rows some_columns in
-    let totals = totals_facts t all.totals in
-    record {
-      spans = none;
-      rows = totals.rows;
-      columns = totals.columns;
-      width = totals.width;
-      height = totals.height;
-      cells = λ r c h k. cell_fits_plain t (at r c) none h (all.rooms r c h k);
-    }
+none_of : (spans : List Span) → not (length spans == 0) ≡ false → spans ≡ []
+none_of [] none = refl
+none_of (s ∷ ss) none = let some : not (length (s ∷ ss) == 0) ≡ true = grind (arith, nat_tests) in absurd (false≢true (sym none ∙ some))
+
+pub can_draw : (t : Table) → IsAscending t.config.spans → StandAtPlaces t.config.spans → misfit_of t ≡ None → 0 < t.rows → 0 < t.columns → CanDraw t
+can_draw t ascending places fitting some_rows some_columns = record { ascending = ascending; places = places; fits = fits t fitting some_rows some_columns }
+
+pub in_order : (t : Table) → CanDraw t → InOrder t.config.spans t.rows t.columns
+in_order t can = record { ascending = can.ascending; places = can.places; fit = can.fits.spans }
+
+-- no span is no spans
+pub no_spans : (t : Table) → not (length t.config.spans == 0) ≡ false → HasNoSpans t
+no_spans t none = none_of t.config.spans none
+
+-- without spans a cell has room in its column and its row
+pub plain_room : (t : Table) → CanDraw t → HasNoSpans t → (p : Position) → p.row < t.rows → p.col < t.columns → cell_fits (style_at t.config p) (t.text p) (t.width p.col) (t.height p.row) ≡ true
+plain_room t can none p h k = cell_fits_plain t p none h (can.fits.rooms p.row p.col h k)
 
 -- an answer that is there
 pub some_answer : {answer : Option ℕ} (n : ℕ) → n < 2 ^ 64 → answer ≡ if_fits n → answer ≡ Some n
@@ -44,7 +52,7 @@ module _ (t : Table) where
 
   -- what the calls answer that add up widths and heights
   pub width-answer : {answer : Option ℕ} (columns : ℕ) → CanDraw t → columns ≡ t.columns → answer ≡ if_fits (full_width (sized t.config t.width t.height 0 columns)) → answer ≡ Some (full_width t)
-  width-answer columns can is answer = some_answer (full_width t) can.width (answer ∙ ap if_fits (full_width-sized columns is))
+  width-answer columns can is answer = some_answer (full_width t) (totals_facts t can.fits.totals).width (answer ∙ ap if_fits (full_width-sized columns is))
 
   pub height-answer : {answer : Option ℕ} (rows : ℕ) → CanDraw t → rows ≡ t.rows → answer ≡ if_fits (body_height (sized t.config t.width t.height rows 0)) → answer ≡ Some (body_height t)
-  height-answer rows can is answer = some_answer (body_height t) can.height (answer ∙ ap if_fits (body_height-sized rows is))
+  height-answer rows can is answer = some_answer (body_height t) (totals_facts t can.fits.totals).height (answer ∙ ap if_fits (body_height-sized rows is))

@@ -1,29 +1,64 @@
--- What a column adds to a line of a row, in a table without spans.
-use Rattle.std.proofs.Common.{◌≡◌, ℕ, ◌+◌, ◌-◌, ◌<◌, List, [], ◌++◌, flat_map, sym, ap, ap₂, ◌∙◌, zero-add}
+-- What a column adds to a line of a row.
+use Rattle.std.proofs.Common.{◌≡◌, ℕ, ◌+◌, ◌-◌, ◌<◌, true, List, [], ◌++◌, flat_map, sym, ap, ap₂, ◌∙◌, zero-add, Some, None, ◌≤◌, arith, subst}
 use Rattle.std.specs.List.{range_with_len}
 use Rattle.pg_layout.specs.declared.position.Position.{Position}
 use Rattle.pg_layout.specs.Position.{at}
+use Rattle.pg_config.specs.Spans.{Span, corner, owner, is_left, left_span}
+use Rattle.pg_picture.specs.Marks.{line}
 use Rattle.pg_picture.specs.Pieces.{Piece, written, style_at, block_line}
-use Rattle.pg_picture.specs.Table.{Table, vertical, vertical_at, row_part}
+use Rattle.pg_picture.specs.Table.{Table, vertical, vertical_at, block_at, row_part}
+use Rattle.pg_picture.specs.Fits.{cell_fits}
+use Rattle.pg_picture.specs.FitLaws.{TableFits}
+use Rattle.pg_picture.specs.Rectangles.{columns_or_one}
 use Rattle.pg_picture.proofs.PiecesOfLines.{written-append}
 use Rattle.pg_picture.proofs.Ranges.{range-more, range-cut}
 use Rattle.pg_picture.specs.Laws.{cell_line}
-use Rattle.pg_picture.proofs.PlainTables.{row_part_plain, row_part_plain_end}
+use Rattle.pg_picture.proofs.PlainTables.{row_part_plain}
+use Rattle.pg_picture.proofs.OwnersOfPlaces.{InOrder, owner_alone, owner_found, size_alone, step, step_positive, step_inside, next_left}
+use Rattle.pg_picture.proofs.WalksOfRows.{walk_step, row_part_end, row_part_left, row_part_inner}
+use Rattle.pg_picture.proofs.DrawnRectangles.{single_line, single_room}
 
 module _ (t : Table) (none : t.config.spans ≡ []) where
-  -- its vertical and its cell
+  -- its vertical and its cell, in a table without spans
   pub part-text : (columns h : ℕ) (p : Position) (i : ℕ) → columns ≡ t.columns → h ≡ t.height p.row → p.row < t.rows → p.col < t.columns → i < t.height p.row
       → written (vertical_at t.config columns h p i) ++ written (block_line (style_at t.config p) (t.color p) (t.text p) (t.width p.col) h i) ≡ written (row_part t p.row i p.col)
   part-text columns h p i c e r l k =
       ap₂ (λ n m. written (vertical_at t.config n m p i) ++ written (block_line (style_at t.config p) (t.color p) (t.text p) (t.width p.col) m i)) c e
       ∙ sym (ap written (row_part_plain t none p.row i p.col r k l) ∙ written-append (vertical t p.row i p.col) (cell_line t p.row p.col i))
 
-  -- behind the last column its vertical alone
-  pub end-text : (columns h r i : ℕ) → columns ≡ t.columns → h ≡ t.height r
-      → written (vertical_at t.config columns h (at r columns) i) ≡ written (row_part t r i columns)
-  end-text columns h r i c e =
-      ap₂ (λ n m. written (vertical_at t.config n m (at r n) i)) c e
-      ∙ sym (ap written (ap (row_part t r i) c ∙ row_part_plain_end t none r i))
+-- behind the last column its vertical alone
+pub end-text : (t : Table) (columns h r i : ℕ) → columns ≡ t.columns → h ≡ t.height r
+    → written (vertical_at t.config columns h (at r columns) i) ≡ written (row_part t r i columns)
+end-text t columns h r i c e =
+    ap₂ (λ n m. written (vertical_at t.config n m (at r n) i)) c e
+    ∙ sym (ap written (ap (row_part t r i) c ∙ row_part_end t r i))
+
+-- what a left column adds where cells span rows or columns: its vertical and the line of its owner
+module _ (t : Table) (order : InOrder t.config.spans t.rows t.columns) (columns : ℕ) (p : Position) (i : ℕ) (c : columns ≡ t.columns) (r : p.row < t.rows) (l : p.col < t.columns) (k : i < t.height p.row) (left : is_left t.config.spans p.row p.col ≡ true) where
+  left-text : (owned : List Piece) → block_at t (owner t.config.spans p.row p.col) (line p.row i) ≡ owned
+      → written (vertical_at t.config columns (t.height p.row) p i) ++ written owned ≡ written (row_part t p.row i p.col)
+  left-text owned is =
+      ap₂ (λ n b. written (vertical_at t.config n (t.height p.row) p i) ++ written b) c (sym is)
+      ∙ sym (ap written (row_part_left t order p.row i p.col left l) ∙ written-append (vertical t p.row i p.col) (block_at t (owner t.config.spans p.row p.col) (line p.row i)))
+
+  -- of a cell of one row and one column
+  pub single-text : left_span t.config.spans p.row p.col ≡ None
+      → written (vertical_at t.config columns (t.height p.row) p i) ++ written (block_line (style_at t.config p) (t.color p) (t.text p) (t.width p.col) (t.height p.row) i) ≡ written (row_part t p.row i p.col)
+  single-text none =
+      let own = owner_alone t.config.spans t.rows t.columns order p.row p.col left none in
+      let one = size_alone t.config.spans t.rows t.columns order p.row p.col none in
+      left-text (block_line (style_at t.config p) (t.color p) (t.text p) (t.width p.col) (t.height p.row) i) (ap (λ q. block_at t q (line p.row i)) own ∙ single_line t p.row p.col one r i k)
+
+  -- of a rectangle
+  pub rectangle-text : (s : Span) → left_span t.config.spans p.row p.col ≡ Some s
+      → written (vertical_at t.config columns (t.height p.row) p i) ++ written (block_at t (corner s) (line p.row i)) ≡ written (row_part t p.row i p.col)
+  rectangle-text s some =
+      left-text (block_at t (corner s) (line p.row i)) (ap (λ q. block_at t q (line p.row i)) (owner_found t.config.spans t.rows t.columns order p.row p.col s some))
+
+  -- the cell has room in its column and its row
+  pub single-room : TableFits t → left_span t.config.spans p.row p.col ≡ None → cell_fits (style_at t.config p) (t.text p) (t.width p.col) (t.height p.row) ≡ true
+  single-room fits none =
+      single_room t p.row p.col (size_alone t.config.spans t.rows t.columns order p.row p.col none) fits r l (owner_alone t.config.spans t.rows t.columns order p.row p.col left none)
 
 -- the parts of k columns and of one more
 pub written-columns : (f : ℕ → List Piece) (k : ℕ) → written (flat_map f (range_with_len 0 (k + 1))) ≡ written (flat_map f (range_with_len 0 k)) ++ written (f k)
@@ -40,3 +75,25 @@ written-columns_cut f k n here =
     ∙ written-append (flat_map f (range_with_len 0 k)) (f (0 + k) ++ flat_map f (range_with_len (0 + k + 1) (n - (k + 1))))
     ∙ ap (λ t. written (flat_map f (range_with_len 0 k)) ++ t) (written-append (f (0 + k)) (flat_map f (range_with_len (0 + k + 1) (n - (k + 1)))))
     ∙ ap (λ m. written (flat_map f (range_with_len 0 k)) ++ (written (f m) ++ written (flat_map f (range_with_len (0 + k + 1) (n - (k + 1)))))) (zero-add k)
+
+-- the parts of x + w columns, of which those after x add nothing
+written-walk : (f : ℕ → List Piece) (x w : ℕ) → 0 < w → ((y : ℕ) → x < y → y < x + w → f y ≡ [])
+    → written (flat_map f (range_with_len 0 (x + w))) ≡ written (flat_map f (range_with_len 0 x)) ++ written (f x)
+written-walk f x w some quiet = ap written (walk_step f x w some quiet) ∙ written-append (flat_map f (range_with_len 0 x)) (f x)
+
+-- a step along a row, from a left column to the next one
+module _ (t : Table) (order : InOrder t.config.spans t.rows t.columns) (r x w : ℕ) (is : w ≡ columns_or_one (left_span t.config.spans r x)) (left : is_left t.config.spans r x ≡ true) (here : x < t.columns) where
+  step_is : w ≡ step t.config.spans t.rows t.columns order r x
+  step_is = is
+
+  pub step-some : 0 < w
+  step-some = omega (arith, step_positive t.config.spans t.rows t.columns order r x, step_is)
+
+  pub step-inside : x + w ≤ t.columns
+  step-inside = omega (arith, step_inside t.config.spans t.rows t.columns order r x here, step_is)
+
+  pub step-left : is_left t.config.spans r (x + w) ≡ true
+  step-left = subst (λ (k : ℕ). is_left t.config.spans r (x + k) ≡ true) (sym step_is) (next_left t.config.spans t.rows t.columns order r x left)
+
+  pub step-text : (i : ℕ) → written (flat_map (row_part t r i) (range_with_len 0 (x + w))) ≡ written (flat_map (row_part t r i) (range_with_len 0 x)) ++ written (row_part t r i x)
+  step-text i = written-walk (row_part t r i) x w step-some (λ y h k. row_part_inner t order r i x y left here h (omega (arith, k, step_is)))

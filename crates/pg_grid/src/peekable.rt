@@ -9,13 +9,16 @@ use std::alloc::{AllocError, Allocator};
 mod body;
 mod rows;
 mod separators;
+mod spanned;
 
-/// How many rows and columns a table has, and how many lines its body.
+/// How many rows and columns a table has, how many lines its body, and whether a cell spans rows or
+/// columns.
 #[derive(Debug, Clone, Copy)]
-struct Size {
+struct Shape {
     rows: usize,
     columns: usize,
     height: usize,
+    is_spanned: bool,
 }
 
 /// A table printer over records that can be read at any place, a dimension that gives the sizes of
@@ -55,23 +58,21 @@ where
     C: Colors,
     B: Allocator,
 {
-    ghost use Rattle.std.specs.Prelude.{◌≡◌, ◌<◌, [], None, IfOk, string_bytes};
+    ghost use Rattle.std.specs.Prelude.{◌≡◌, ◌<◌, ◌==◌, not, length, [], None, IfOk, string_bytes};
     ghost use Rattle.pg_picture.specs.Appending.{Appends};
     ghost use Rattle.pg_picture.specs.Fits.{misfit_of};
     ghost use Rattle.pg_picture.specs.Joined.{joined};
     ghost use Rattle.pg_picture.specs.Table.{Known};
     ghost use Rattle.pg_picture.specs.Picture.{picture, picture_lines};
-    ghost use Rattle.pg_grid.specs.Grids.{peekable_table, CanDraw, HasNoSpans};
+    ghost use Rattle.pg_grid.specs.Grids.{peekable_table, CanDraw};
 
-    /// Appends the picture of the table, of which no cell may span rows or columns, and in which
-    /// everything fits (`pg_picture::fits::table_fits`). A table with no rows or no columns appends
-    /// nothing.
+    /// Appends the picture of the table, in which everything fits (`pg_picture::fits::table_fits`). A
+    /// table with no rows or no columns appends nothing.
     ///
     /// Takes no memory but the buffer's. An error comes only where the buffer's room is too small
     /// for the picture and it gets no more memory; the buffer then holds a beginning of the picture
     /// behind what it held before.
     pub fn build<A: Allocator>(&self, buf: &mut String<A>) -> Result<(), AllocError>
-        requires spans { HasNoSpans (peekable_table R.Records.texts R.Records.columns D.width D.height C.color self.now) }
         requires fits { misfit_of (peekable_table R.Records.texts R.Records.columns D.width D.height C.color self.now) ≡ None }
         ensures { Appends buf.old buf.new result (picture Known (peekable_table R.Records.texts R.Records.columns D.width D.height C.color self.now)) }
     {
@@ -80,13 +81,13 @@ where
         if rows == 0 || columns == 0 {
             return Ok(());
         }
-        self.push_picture(buf, rows, columns)
+        let is_spanned = !self.config.spans().is_empty();
+        self.push_picture(buf, rows, columns, is_spanned)
     }
 
     /// The picture of the table as a text of its own, under the conditions of `build`. An error
     /// comes where no memory is found.
     pub fn to_string<A: Allocator>(&self, alloc: A) -> Result<String<A>, AllocError>
-        requires spans { HasNoSpans (peekable_table R.Records.texts R.Records.columns D.width D.height C.color self.now) }
         requires fits { misfit_of (peekable_table R.Records.texts R.Records.columns D.width D.height C.color self.now) ≡ None }
         ensures { IfOk result (λ text. string_bytes text ≡ picture Known (peekable_table R.Records.texts R.Records.columns D.width D.height C.color self.now)) }
     {
@@ -101,22 +102,25 @@ where
         buf: &mut String<A>,
         rows: usize,
         columns: usize,
+        is_spanned: bool,
     ) -> Result<(), AllocError>
         requires can { CanDraw (peekable_table R.Records.texts R.Records.columns D.width D.height C.color self.now) }
         requires rows { rows ≡ (peekable_table R.Records.texts R.Records.columns D.width D.height C.color self.now).rows }
         requires columns { columns ≡ (peekable_table R.Records.texts R.Records.columns D.width D.height C.color self.now).columns }
+        requires spanned { is_spanned ≡ not (length (peekable_table R.Records.texts R.Records.columns D.width D.height C.color self.now).config.spans == 0) }
         ensures { Appends buf.old buf.new result (joined (picture_lines Known (peekable_table R.Records.texts R.Records.columns D.width D.height C.color self.now))) }
     {
         let width = full_width(self.config, &self.dimension, columns).unwrap();
         let height = body_height(self.config, &self.dimension, rows).unwrap();
-        let size = Size {
+        let shape = Shape {
             rows,
             columns,
             height,
+            is_spanned,
         };
         let is_first = self.config.get_margin().top.size == 0;
         push_top_margin(buf, self.config, width)?;
-        self.push_body(buf, size, is_first)?;
+        self.push_body(buf, shape, is_first)?;
         push_bottom_margin(buf, self.config, width, is_first && height == 0)
     }
 }

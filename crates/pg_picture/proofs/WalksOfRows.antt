@@ -1,6 +1,6 @@
 -- Walks along a row, from rectangle to rectangle: what a column adds to a line of the row, or to the separator above it,
 -- is all at the left columns of rectangles.
-use Rattle.std.proofs.Common.{◌≡◌, ℕ, zero, suc, ◌+◌, ◌-◌, ◌<◌, ◌≤◌, Bool, true, false, not, ◌&&◌, ◌||◌, ◌==◌, nat_lt, List, [], ◌∷◌, ◌++◌, flat_map, find, refl, sym, ap, ap₂, ◌∙◌, arith, subst, Option, Some, None, is_some, ◌⊎◌, inl, inr, append-nil, zero-add, if◌then◌else◌}
+use Rattle.std.proofs.Common.{◌≡◌, ℕ, zero, suc, ◌+◌, ◌-◌, ◌<◌, ◌≤◌, Bool, true, false, not, ◌&&◌, ◌||◌, ◌==◌, nat_lt, List, [], ◌∷◌, ◌++◌, flat_map, find, refl, sym, ap, ap₂, ◌∙◌, arith, subst, Option, Some, None, is_some, unwrap_or, ◌⊎◌, inl, inr, append-nil, zero-add, if◌then◌else◌}
 use Rattle.std.specs.List.{range_with_len}
 use Rattle.std.proofs.lemmas.Bool.{cases_Bool, false≢true, and_from}
 use Rattle.std.proofs.lemmas.Bool.Decides.{nat_tests}
@@ -295,3 +295,17 @@ module _ (t : Table) (order : InOrder t.config.spans t.rows t.columns) where
   unfolding separator_part
   separator_part_border r x start here none =
       ap₂ (λ (p q : List Item). p ++ q) (crossing_start r x start here) (column_border r x (covered-is r x here ∙ above_none r x start none) here)
+
+-- what begins above a row has its corner there
+pub span_above-below : (spans : List Span) (r x : ℕ) (s : Span) → span_above spans r x ≡ Some s → s.0.1 < r
+span_above-below spans r x s e =
+    elim (option_cases (left_span spans r x)) [
+      | inl nothing ↦ absurd (false≢true (ap (λ (o : Option Span). is_some o) (rw nothing at e)))
+      | inr some ↦ elim (cases_Bool (nat_lt some.0.0.1 r)) [
+        | inr n ↦ absurd (false≢true (ap (λ (o : Option Span). is_some o) (rw (some.1, n) at e)))
+        | inl y ↦
+            let its : Some some.0 ≡ Some s = (rw (some.1, y) at e) in
+            let same : some.0 ≡ s = ap (λ (o : Option Span). unwrap_or o s) its in
+            subst (λ (u : Span). u.0.1 < r) same (grind (arith, nat_tests, y))
+      ]
+    ]

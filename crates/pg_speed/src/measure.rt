@@ -1,8 +1,8 @@
 //! Tables, built over and over into one buffer.
 
-ghost use Rattle.std.specs.Prelude.{◌≡◌, [], None};
+ghost use Rattle.std.specs.Prelude.{◌≡◌, None};
 ghost use Rattle.pg_picture.specs.Fits.{misfit_of};
-ghost use Rattle.pg_grid.specs.Grids.{peekable_table, HasNoSpans};
+ghost use Rattle.pg_grid.specs.Grids.{peekable_table};
 
 use crate::case::Case;
 use crate::checksum::checksum;
@@ -60,9 +60,7 @@ fn looked_up<A: Allocator + Copy, C: Colors>(
     config: &SpannedConfig<A>,
     colors: &C,
     times: usize,
-) -> Result<String<A>, Failure>
-    requires { config.now.spans ≡ [] }
-{
+) -> Result<String<A>, Failure> {
     table_fits(&records, config, &dimension)?;
     let grid = PeekableGrid::new(records, config, dimension, colors);
     Ok(rebuilt(alloc, &grid, times)?)
@@ -79,8 +77,7 @@ where
     D: Dimension,
     C: Colors,
     A: Allocator + Copy,
-    requires spans { HasNoSpans (peekable_table R.Records.texts R.Records.columns D.width D.height C.color grid.now) }
-    requires fits { misfit_of (peekable_table R.Records.texts R.Records.columns D.width D.height C.color grid.now) ≡ None }
+    requires { misfit_of (peekable_table R.Records.texts R.Records.columns D.width D.height C.color grid.now) ≡ None }
 {
     let mut text = String::new(alloc);
     for _ in 0..times {

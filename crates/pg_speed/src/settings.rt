@@ -1,7 +1,5 @@
 //! The settings of the tables.
 
-ghost use Rattle.std.specs.Prelude.{◌≡◌, [], IfOk};
-
 use crate::case::{Case, Size};
 use pg_config::SpannedConfig;
 use pg_layout::{
@@ -14,9 +12,7 @@ use std::alloc::{AllocError, Allocator};
 pub(crate) fn settings<A: Allocator + Copy>(
     alloc: A,
     case: Case,
-) -> Result<SpannedConfig<A>, AllocError>
-    ensures { IfOk result (λ config. config.spans ≡ []) }
-{
+) -> Result<SpannedConfig<A>, AllocError> {
     let mut config = SpannedConfig::new(alloc);
     set(alloc, case, &mut config)?;
     Ok(config)
@@ -27,9 +23,7 @@ fn set<A: Allocator + Copy>(
     alloc: A,
     case: Case,
     config: &mut SpannedConfig<A>,
-) -> Result<(), AllocError>
-    ensures { config.new.spans ≡ config.old.spans }
-{
+) -> Result<(), AllocError> {
     config.set_borders(if case.is_boxed() { boxed() } else { ascii() });
     config.set_padding(Entity::Global, side_spaces())?;
     if case.is_trimmed() {
@@ -52,9 +46,7 @@ fn side_spaces() -> Sides<Indent> {
 }
 
 // Texts stand trimmed in the middle of their cells.
-fn trim<A: Allocator>(config: &mut SpannedConfig<A>) -> Result<(), AllocError>
-    ensures { config.new.spans ≡ config.old.spans }
-{
+fn trim<A: Allocator>(config: &mut SpannedConfig<A>) -> Result<(), AllocError> {
     config.set_trim_horizontal(Entity::Global, true)?;
     config.set_trim_vertical(Entity::Global, true)?;
     config.set_alignment_horizontal(Entity::Global, AlignmentHorizontal::Center)?;
@@ -102,9 +94,7 @@ fn boxed() -> Borders<char> {
 }
 
 // Borders, margins of dots, and their colours.
-fn color<A: Allocator + Copy>(alloc: A, config: &mut SpannedConfig<A>) -> Result<(), AllocError>
-    ensures { config.new.spans ≡ config.old.spans }
-{
+fn color<A: Allocator + Copy>(alloc: A, config: &mut SpannedConfig<A>) -> Result<(), AllocError> {
     config.set_borders_color(blue_borders(alloc)?);
     let dots = |size| Indent::new(size, '.');
     config.set_margin(Sides::new(dots(2), dots(2), dots(1), dots(1)));

@@ -1,6 +1,6 @@
 //! The lines of the body, one below the other.
 
-ghost use Rattle.std.specs.Prelude.{◌≡◌, ◌≤◌, ◌<◌, ◌+◌, ◌==◌, ◌++◌, [], ◌∷◌, length, map, IfOk, Some};
+ghost use Rattle.std.specs.Prelude.{◌≡◌, ◌≤◌, ◌<◌, ◌+◌, ◌==◌, ◌++◌, [], ◌∷◌, true, length, map, IfOk, Some};
 ghost use Rattle.std.specs.List.{range_with_len};
 ghost use Rattle.pg_config.specs.Config.{has_horizontal};
 ghost use Rattle.pg_picture.specs.Appending.{Appends};
@@ -9,9 +9,9 @@ ghost use Rattle.pg_picture.specs.Marks.{sep, line, only_if, marks_of_row, marks
 ghost use Rattle.pg_picture.specs.Pieces.{written};
 ghost use Rattle.pg_picture.specs.Table.{Known, table_body, side_margin_at};
 ghost use Rattle.pg_picture.specs.Picture.{body_text};
-ghost use Rattle.pg_grid.specs.Grids.{peekable_table, CanDraw, size_of_table};
+ghost use Rattle.pg_grid.specs.Grids.{peekable_table, CanDraw, shape_of_table};
 
-use crate::peekable::{PeekableGrid, Size};
+use crate::peekable::{PeekableGrid, Shape};
 use pg_config::SpannedConfig;
 use pg_layout::{Colors, Dimension, ExactRecords, PeekableRecords};
 use pg_picture::{push_feed, push_left_margin, push_right_margin};
@@ -28,60 +28,60 @@ where
     pub(super) fn push_body<A: Allocator>(
         &self,
         buf: &mut String<A>,
-        size: Size,
+        shape: Shape,
         is_first: bool,
     ) -> Result<(), AllocError>
         requires can { CanDraw (peekable_table R.Records.texts R.Records.columns D.width D.height C.color self.now) }
-        requires size { size ≡ size_of_table (peekable_table R.Records.texts R.Records.columns D.width D.height C.color self.now) }
+        requires shape { shape ≡ shape_of_table (peekable_table R.Records.texts R.Records.columns D.width D.height C.color self.now) }
         ensures { Appends buf.old buf.new result (body_text Known (peekable_table R.Records.texts R.Records.columns D.width D.height C.color self.now) (lines_before is_first) 0 (table_body (peekable_table R.Records.texts R.Records.columns D.width D.height C.color self.now))) }
     {
         let mut index = 0;
-        for row in 0..size.rows {
-            index = self.push_row(buf, size, row, index, is_first)?;
+        for row in 0..shape.rows {
+            index = self.push_row(buf, shape, row, index, is_first)?;
         }
-        self.push_last(buf, size, index, is_first)
+        self.push_last(buf, shape, index, is_first)
     }
 
     // The separator and the lines of a row; answers how many lines of the body stand then.
     fn push_row<A: Allocator>(
         &self,
         buf: &mut String<A>,
-        size: Size,
+        shape: Shape,
         row: usize,
         index: usize,
         is_first: bool,
     ) -> Result<usize, AllocError>
         requires can { CanDraw (peekable_table R.Records.texts R.Records.columns D.width D.height C.color self.now) }
-        requires size { size ≡ size_of_table (peekable_table R.Records.texts R.Records.columns D.width D.height C.color self.now) }
+        requires shape { shape ≡ shape_of_table (peekable_table R.Records.texts R.Records.columns D.width D.height C.color self.now) }
         requires row { row < (peekable_table R.Records.texts R.Records.columns D.width D.height C.color self.now).rows }
-        requires room { index + length (marks_of_row (peekable_table R.Records.texts R.Records.columns D.width D.height C.color self.now).config (peekable_table R.Records.texts R.Records.columns D.width D.height C.color self.now).height row) ≤ size.height }
+        requires room { index + length (marks_of_row (peekable_table R.Records.texts R.Records.columns D.width D.height C.color self.now).config (peekable_table R.Records.texts R.Records.columns D.width D.height C.color self.now).height row) ≤ shape.height }
         ensures lines { Appends buf.old buf.new result (body_text Known (peekable_table R.Records.texts R.Records.columns D.width D.height C.color self.now) (lines_before is_first) index (marks_of_row (peekable_table R.Records.texts R.Records.columns D.width D.height C.color self.now).config (peekable_table R.Records.texts R.Records.columns D.width D.height C.color self.now).height row)) }
         ensures index { IfOk result (λ next. next ≡ index + length (marks_of_row (peekable_table R.Records.texts R.Records.columns D.width D.height C.color self.now).config (peekable_table R.Records.texts R.Records.columns D.width D.height C.color self.now).height row)) }
     {
-        let next = self.push_above(buf, size, row, index, is_first)?;
-        self.push_lines(buf, size, row, next, is_first)
+        let next = self.push_above(buf, shape, row, index, is_first)?;
+        self.push_lines(buf, shape, row, next, is_first)
     }
 
     // The separator above a row, where it is there.
     fn push_above<A: Allocator>(
         &self,
         buf: &mut String<A>,
-        size: Size,
+        shape: Shape,
         row: usize,
         index: usize,
         is_first: bool,
     ) -> Result<usize, AllocError>
         requires can { CanDraw (peekable_table R.Records.texts R.Records.columns D.width D.height C.color self.now) }
-        requires size { size ≡ size_of_table (peekable_table R.Records.texts R.Records.columns D.width D.height C.color self.now) }
+        requires shape { shape ≡ shape_of_table (peekable_table R.Records.texts R.Records.columns D.width D.height C.color self.now) }
         requires row { row ≤ (peekable_table R.Records.texts R.Records.columns D.width D.height C.color self.now).rows }
-        requires room { index + length (only_if (has_horizontal (peekable_table R.Records.texts R.Records.columns D.width D.height C.color self.now).config row (peekable_table R.Records.texts R.Records.columns D.width D.height C.color self.now).rows) (sep row)) ≤ size.height }
+        requires room { index + length (only_if (has_horizontal (peekable_table R.Records.texts R.Records.columns D.width D.height C.color self.now).config row (peekable_table R.Records.texts R.Records.columns D.width D.height C.color self.now).rows) (sep row)) ≤ shape.height }
         ensures lines { Appends buf.old buf.new result (body_text Known (peekable_table R.Records.texts R.Records.columns D.width D.height C.color self.now) (lines_before is_first) index (only_if (has_horizontal (peekable_table R.Records.texts R.Records.columns D.width D.height C.color self.now).config row (peekable_table R.Records.texts R.Records.columns D.width D.height C.color self.now).rows) (sep row))) }
         ensures index { IfOk result (λ next. next ≡ index + length (only_if (has_horizontal (peekable_table R.Records.texts R.Records.columns D.width D.height C.color self.now).config row (peekable_table R.Records.texts R.Records.columns D.width D.height C.color self.now).rows) (sep row))) }
     {
-        if !self.config.has_horizontal(row, size.rows) {
+        if !self.config.has_horizontal(row, shape.rows) {
             return Ok(index);
         }
-        self.push_separator_line(buf, size, row, index, is_first)?;
+        self.push_separator_line(buf, shape, row, index, is_first)?;
         Ok(index + 1)
     }
 
@@ -89,16 +89,16 @@ where
     fn push_last<A: Allocator>(
         &self,
         buf: &mut String<A>,
-        size: Size,
+        shape: Shape,
         index: usize,
         is_first: bool,
     ) -> Result<(), AllocError>
         requires can { CanDraw (peekable_table R.Records.texts R.Records.columns D.width D.height C.color self.now) }
-        requires size { size ≡ size_of_table (peekable_table R.Records.texts R.Records.columns D.width D.height C.color self.now) }
-        requires room { index + length (only_if (has_horizontal (peekable_table R.Records.texts R.Records.columns D.width D.height C.color self.now).config (peekable_table R.Records.texts R.Records.columns D.width D.height C.color self.now).rows (peekable_table R.Records.texts R.Records.columns D.width D.height C.color self.now).rows) (sep (peekable_table R.Records.texts R.Records.columns D.width D.height C.color self.now).rows)) ≤ size.height }
+        requires shape { shape ≡ shape_of_table (peekable_table R.Records.texts R.Records.columns D.width D.height C.color self.now) }
+        requires room { index + length (only_if (has_horizontal (peekable_table R.Records.texts R.Records.columns D.width D.height C.color self.now).config (peekable_table R.Records.texts R.Records.columns D.width D.height C.color self.now).rows (peekable_table R.Records.texts R.Records.columns D.width D.height C.color self.now).rows) (sep (peekable_table R.Records.texts R.Records.columns D.width D.height C.color self.now).rows)) ≤ shape.height }
         ensures { Appends buf.old buf.new result (body_text Known (peekable_table R.Records.texts R.Records.columns D.width D.height C.color self.now) (lines_before is_first) index (only_if (has_horizontal (peekable_table R.Records.texts R.Records.columns D.width D.height C.color self.now).config (peekable_table R.Records.texts R.Records.columns D.width D.height C.color self.now).rows (peekable_table R.Records.texts R.Records.columns D.width D.height C.color self.now).rows) (sep (peekable_table R.Records.texts R.Records.columns D.width D.height C.color self.now).rows))) }
     {
-        self.push_above(buf, size, size.rows, index, is_first)?;
+        self.push_above(buf, shape, shape.rows, index, is_first)?;
         Ok(())
     }
 
@@ -106,21 +106,21 @@ where
     fn push_lines<A: Allocator>(
         &self,
         buf: &mut String<A>,
-        size: Size,
+        shape: Shape,
         row: usize,
         index: usize,
         is_first: bool,
     ) -> Result<usize, AllocError>
         requires can { CanDraw (peekable_table R.Records.texts R.Records.columns D.width D.height C.color self.now) }
-        requires size { size ≡ size_of_table (peekable_table R.Records.texts R.Records.columns D.width D.height C.color self.now) }
+        requires shape { shape ≡ shape_of_table (peekable_table R.Records.texts R.Records.columns D.width D.height C.color self.now) }
         requires row { row < (peekable_table R.Records.texts R.Records.columns D.width D.height C.color self.now).rows }
-        requires room { index + (peekable_table R.Records.texts R.Records.columns D.width D.height C.color self.now).height row ≤ size.height }
+        requires room { index + (peekable_table R.Records.texts R.Records.columns D.width D.height C.color self.now).height row ≤ shape.height }
         ensures lines { Appends buf.old buf.new result (body_text Known (peekable_table R.Records.texts R.Records.columns D.width D.height C.color self.now) (lines_before is_first) index (map (line row) (range_with_len 0 ((peekable_table R.Records.texts R.Records.columns D.width D.height C.color self.now).height row)))) }
         ensures index { IfOk result (λ next. next ≡ index + (peekable_table R.Records.texts R.Records.columns D.width D.height C.color self.now).height row) }
     {
         let height = self.dimension.get_height(row);
         for number in 0..height {
-            self.push_line(buf, size, row, number, index + number, is_first)?;
+            self.push_line(buf, shape, row, number, index + number, is_first)?;
         }
         Ok(index + height)
     }
@@ -129,40 +129,41 @@ where
     fn push_line<A: Allocator>(
         &self,
         buf: &mut String<A>,
-        size: Size,
+        shape: Shape,
         row: usize,
         number: usize,
         index: usize,
         is_first: bool,
     ) -> Result<(), AllocError>
         requires can { CanDraw (peekable_table R.Records.texts R.Records.columns D.width D.height C.color self.now) }
-        requires size { size ≡ size_of_table (peekable_table R.Records.texts R.Records.columns D.width D.height C.color self.now) }
+        requires shape { shape ≡ shape_of_table (peekable_table R.Records.texts R.Records.columns D.width D.height C.color self.now) }
         requires row { row < (peekable_table R.Records.texts R.Records.columns D.width D.height C.color self.now).rows }
         requires number { number < (peekable_table R.Records.texts R.Records.columns D.width D.height C.color self.now).height row }
         ensures { Appends buf.old buf.new result (body_text Known (peekable_table R.Records.texts R.Records.columns D.width D.height C.color self.now) (lines_before is_first) index (line row number ∷ [])) }
     {
-        push_start(buf, self.config, size.height, index, is_first)?;
-        self.push_row_line(buf, size.columns, row, number)?;
-        push_right_margin(buf, self.config, index, Some(size.height))
+        push_start(buf, self.config, shape.height, index, is_first)?;
+        self.push_row_line(buf, shape, row, number)?;
+        push_right_margin(buf, self.config, index, Some(shape.height))
     }
 
     // A separator, between its margins.
     fn push_separator_line<A: Allocator>(
         &self,
         buf: &mut String<A>,
-        size: Size,
+        shape: Shape,
         row: usize,
         index: usize,
         is_first: bool,
     ) -> Result<(), AllocError>
         requires can { CanDraw (peekable_table R.Records.texts R.Records.columns D.width D.height C.color self.now) }
-        requires size { size ≡ size_of_table (peekable_table R.Records.texts R.Records.columns D.width D.height C.color self.now) }
+        requires shape { shape ≡ shape_of_table (peekable_table R.Records.texts R.Records.columns D.width D.height C.color self.now) }
         requires row { row ≤ (peekable_table R.Records.texts R.Records.columns D.width D.height C.color self.now).rows }
+        requires there { has_horizontal (peekable_table R.Records.texts R.Records.columns D.width D.height C.color self.now).config row (peekable_table R.Records.texts R.Records.columns D.width D.height C.color self.now).rows ≡ true }
         ensures { Appends buf.old buf.new result (body_text Known (peekable_table R.Records.texts R.Records.columns D.width D.height C.color self.now) (lines_before is_first) index (sep row ∷ [])) }
     {
-        push_start(buf, self.config, size.height, index, is_first)?;
-        self.push_separator(buf, size, row)?;
-        push_right_margin(buf, self.config, index, Some(size.height))
+        push_start(buf, self.config, shape.height, index, is_first)?;
+        self.push_separator(buf, shape, row)?;
+        push_right_margin(buf, self.config, index, Some(shape.height))
     }
 }
 

@@ -1,15 +1,16 @@
 //! The lines of rows.
 
-ghost use Rattle.std.specs.Prelude.{◌≡◌, ◌<◌, ◌+◌, true, length};
+ghost use Rattle.std.specs.Prelude.{◌≡◌, ◌<◌, ◌++◌, true, flat_map};
+ghost use Rattle.std.specs.List.{range_with_len};
 ghost use Rattle.pg_layout.specs.Colors.{lent_color};
 ghost use Rattle.pg_picture.specs.Appending.{Appends};
 ghost use Rattle.pg_picture.specs.Pieces.{written, style_at, block_line};
 ghost use Rattle.pg_picture.specs.Cells.{style_of};
-ghost use Rattle.pg_picture.specs.Table.{row_part, row_line};
+ghost use Rattle.pg_picture.specs.Table.{row_part, row_line, vertical_at};
 ghost use Rattle.pg_picture.specs.Fits.{cell_fits};
-ghost use Rattle.pg_grid.specs.Grids.{peekable_table, CanDraw};
+ghost use Rattle.pg_grid.specs.Grids.{peekable_table, CanDraw, HasNoSpans, shape_of_table};
 
-use crate::peekable::PeekableGrid;
+use crate::peekable::{PeekableGrid, Shape};
 use pg_config::SpannedConfig;
 use pg_layout::{ANSIFmt, Colors, Dimension, ExactRecords, PeekableRecords, Position};
 use pg_picture::{
@@ -28,40 +29,79 @@ where
     pub(super) fn push_row_line<A: Allocator>(
         &self,
         buf: &mut String<A>,
+        shape: Shape,
+        row: usize,
+        line: usize,
+    ) -> Result<(), AllocError>
+        requires can { CanDraw (peekable_table R.Records.texts R.Records.columns D.width D.height C.color self.now) }
+        requires shape { shape ≡ shape_of_table (peekable_table R.Records.texts R.Records.columns D.width D.height C.color self.now) }
+        requires row { row < (peekable_table R.Records.texts R.Records.columns D.width D.height C.color self.now).rows }
+        requires line { line < D.height self.now.dimension row }
+        ensures { Appends buf.old buf.new result (written (row_line (peekable_table R.Records.texts R.Records.columns D.width D.height C.color self.now) row line)) }
+    {
+        self.push_parts(buf, shape, row, line)?;
+        self.push_end(buf, shape.columns, row, line)
+    }
+
+    // What all columns add to a line of a row, by the path that the table takes.
+    fn push_parts<A: Allocator>(
+        &self,
+        buf: &mut String<A>,
+        shape: Shape,
+        row: usize,
+        line: usize,
+    ) -> Result<(), AllocError>
+        requires can { CanDraw (peekable_table R.Records.texts R.Records.columns D.width D.height C.color self.now) }
+        requires shape { shape ≡ shape_of_table (peekable_table R.Records.texts R.Records.columns D.width D.height C.color self.now) }
+        requires row { row < (peekable_table R.Records.texts R.Records.columns D.width D.height C.color self.now).rows }
+        requires line { line < D.height self.now.dimension row }
+        ensures { Appends buf.old buf.new result (written (flat_map (row_part (peekable_table R.Records.texts R.Records.columns D.width D.height C.color self.now) row line) (range_with_len 0 (peekable_table R.Records.texts R.Records.columns D.width D.height C.color self.now).columns))) }
+    {
+        if shape.is_spanned {
+            return self.push_spanned_parts(buf, shape, row, line);
+        }
+        self.push_plain_parts(buf, shape.columns, row, line)
+    }
+
+    // The same where no cell spans rows or columns.
+    fn push_plain_parts<A: Allocator>(
+        &self,
+        buf: &mut String<A>,
         columns: usize,
         row: usize,
         line: usize,
     ) -> Result<(), AllocError>
         requires can { CanDraw (peekable_table R.Records.texts R.Records.columns D.width D.height C.color self.now) }
+        requires plain { HasNoSpans (peekable_table R.Records.texts R.Records.columns D.width D.height C.color self.now) }
         requires columns { columns ≡ (peekable_table R.Records.texts R.Records.columns D.width D.height C.color self.now).columns }
         requires row { row < (peekable_table R.Records.texts R.Records.columns D.width D.height C.color self.now).rows }
         requires line { line < D.height self.now.dimension row }
-        ensures { Appends buf.old buf.new result (written (row_line (peekable_table R.Records.texts R.Records.columns D.width D.height C.color self.now) row line)) }
+        ensures { Appends buf.old buf.new result (written (flat_map (row_part (peekable_table R.Records.texts R.Records.columns D.width D.height C.color self.now) row line) (range_with_len 0 (peekable_table R.Records.texts R.Records.columns D.width D.height C.color self.now).columns))) }
     {
         for column in 0..columns {
             self.push_part(buf, columns, Position::new(row, column), line)?;
         }
-        self.push_end(buf, columns, row, line)
+        Ok(())
     }
 
-    // The vertical left of a cell, and the cell's line.
-    fn push_part<A: Allocator>(
+    // The vertical left of a cell of one row and one column, and the cell's line.
+    pub(super) fn push_part<A: Allocator>(
         &self,
         buf: &mut String<A>,
         columns: usize,
         pos: Position,
         line: usize,
     ) -> Result<(), AllocError>
-        requires can { CanDraw (peekable_table R.Records.texts R.Records.columns D.width D.height C.color self.now) }
-        requires columns { columns ≡ (peekable_table R.Records.texts R.Records.columns D.width D.height C.color self.now).columns }
         requires row { pos.row < (peekable_table R.Records.texts R.Records.columns D.width D.height C.color self.now).rows }
         requires column { pos.col < (peekable_table R.Records.texts R.Records.columns D.width D.height C.color self.now).columns }
         requires line { line < D.height self.now.dimension pos.row }
-        ensures { Appends buf.old buf.new result (written (row_part (peekable_table R.Records.texts R.Records.columns D.width D.height C.color self.now) pos.row line pos.col)) }
+        requires room { cell_fits (style_at (peekable_table R.Records.texts R.Records.columns D.width D.height C.color self.now).config pos) ((peekable_table R.Records.texts R.Records.columns D.width D.height C.color self.now).text pos) (D.width self.now.dimension pos.col) (D.height self.now.dimension pos.row) ≡ true }
+        ensures { Appends buf.old buf.new result (written (vertical_at (peekable_table R.Records.texts R.Records.columns D.width D.height C.color self.now).config columns (D.height self.now.dimension pos.row) pos line) ++ written (block_line (style_at (peekable_table R.Records.texts R.Records.columns D.width D.height C.color self.now).config pos) ((peekable_table R.Records.texts R.Records.columns D.width D.height C.color self.now).color pos) ((peekable_table R.Records.texts R.Records.columns D.width D.height C.color self.now).text pos) (D.width self.now.dimension pos.col) (D.height self.now.dimension pos.row) line)) }
     {
         let height = self.dimension.get_height(pos.row);
+        let width = self.dimension.get_width(pos.col);
         push_vertical_at(buf, self.config, columns, height, pos, line)?;
-        self.push_cell(buf, pos, height, line)
+        self.push_cell(buf, pos, width, height, line)
     }
 
     // The vertical behind the last column.
@@ -72,7 +112,6 @@ where
         row: usize,
         line: usize,
     ) -> Result<(), AllocError>
-        requires can { CanDraw (peekable_table R.Records.texts R.Records.columns D.width D.height C.color self.now) }
         requires columns { columns ≡ (peekable_table R.Records.texts R.Records.columns D.width D.height C.color self.now).columns }
         requires line { line < D.height self.now.dimension row }
         ensures { Appends buf.old buf.new result (written (row_part (peekable_table R.Records.texts R.Records.columns D.width D.height C.color self.now) row line columns)) }
@@ -88,23 +127,22 @@ where
         )
     }
 
-    // The line of a cell that is as high as its row.
-    fn push_cell<A: Allocator>(
+    // Line `line` of a cell of so many columns and lines, which has room for its text.
+    pub(super) fn push_cell<A: Allocator>(
         &self,
         buf: &mut String<A>,
         pos: Position,
+        width: usize,
         height: usize,
         line: usize,
     ) -> Result<(), AllocError>
-        requires can { CanDraw (peekable_table R.Records.texts R.Records.columns D.width D.height C.color self.now) }
         requires row { pos.row < (peekable_table R.Records.texts R.Records.columns D.width D.height C.color self.now).rows }
         requires column { pos.col < (peekable_table R.Records.texts R.Records.columns D.width D.height C.color self.now).columns }
-        requires height { height ≡ D.height self.now.dimension pos.row }
+        requires room { cell_fits (style_at (peekable_table R.Records.texts R.Records.columns D.width D.height C.color self.now).config pos) ((peekable_table R.Records.texts R.Records.columns D.width D.height C.color self.now).text pos) width height ≡ true }
         requires line { line < height }
-        ensures { Appends buf.old buf.new result (written (block_line (style_at (peekable_table R.Records.texts R.Records.columns D.width D.height C.color self.now).config pos) ((peekable_table R.Records.texts R.Records.columns D.width D.height C.color self.now).color pos) ((peekable_table R.Records.texts R.Records.columns D.width D.height C.color self.now).text pos) (D.width self.now.dimension pos.col) height line)) }
+        ensures { Appends buf.old buf.new result (written (block_line (style_at (peekable_table R.Records.texts R.Records.columns D.width D.height C.color self.now).config pos) ((peekable_table R.Records.texts R.Records.columns D.width D.height C.color self.now).color pos) ((peekable_table R.Records.texts R.Records.columns D.width D.height C.color self.now).text pos) width height line)) }
     {
         let style = CellStyle::of(self.config, pos);
-        let width = self.dimension.get_width(pos.col);
         let text = self.records.get_text(pos);
         push_cell_line(
             buf,

@@ -1,13 +1,14 @@
 //! Separators.
 
-ghost use Rattle.std.specs.Prelude.{◌≡◌, ◌≤◌, ◌<◌, IfOk, flat_map};
+ghost use Rattle.std.specs.Prelude.{◌≡◌, ◌≤◌, ◌<◌, ◌++◌, true, IfOk, flat_map};
 ghost use Rattle.std.specs.List.{range_with_len};
+ghost use Rattle.pg_config.specs.Config.{has_horizontal, get_horizontal};
 ghost use Rattle.pg_picture.specs.Appending.{Appends};
 ghost use Rattle.pg_picture.specs.Pieces.{separator_text, items_after, last_color};
-ghost use Rattle.pg_picture.specs.Table.{separator_items, separator_part};
-ghost use Rattle.pg_grid.specs.Grids.{peekable_table, CanDraw, size_of_table};
+ghost use Rattle.pg_picture.specs.Table.{separator_items, separator_part, crossing_at, border_items};
+ghost use Rattle.pg_grid.specs.Grids.{peekable_table, CanDraw, HasNoSpans, shape_of_table};
 
-use crate::peekable::{PeekableGrid, Size};
+use crate::peekable::{PeekableGrid, Shape};
 use pg_config::SpannedConfig;
 use pg_layout::{ANSIBuf, Colors, Dimension, ExactRecords, PeekableRecords, Position};
 use pg_picture::Run;
@@ -24,55 +25,73 @@ where
     pub(super) fn push_separator<A: Allocator>(
         &self,
         buf: &mut String<A>,
-        size: Size,
+        shape: Shape,
         row: usize,
     ) -> Result<(), AllocError>
         requires can { CanDraw (peekable_table R.Records.texts R.Records.columns D.width D.height C.color self.now) }
-        requires size { size ≡ size_of_table (peekable_table R.Records.texts R.Records.columns D.width D.height C.color self.now) }
+        requires shape { shape ≡ shape_of_table (peekable_table R.Records.texts R.Records.columns D.width D.height C.color self.now) }
         requires row { row ≤ (peekable_table R.Records.texts R.Records.columns D.width D.height C.color self.now).rows }
+        requires there { has_horizontal (peekable_table R.Records.texts R.Records.columns D.width D.height C.color self.now).config row (peekable_table R.Records.texts R.Records.columns D.width D.height C.color self.now).rows ≡ true }
         ensures { Appends buf.old buf.new result (separator_text (separator_items (peekable_table R.Records.texts R.Records.columns D.width D.height C.color self.now) row)) }
     {
-        let run = self.push_columns(Run::new(), buf, size, row)?;
-        let run = self.push_last_crossing(run, buf, size, row)?;
+        let run = self.push_columns(Run::new(), buf, shape, row)?;
+        let run = self.push_last_crossing(run, buf, shape, row)?;
         run.close(buf)
     }
 
-    // The crossings and horizontals of all columns.
+    // What all columns add to a separator, by the path that the table takes.
     fn push_columns<A: Allocator>(
         &self,
-        mut run: Run<'a, ANSIBuf<B>>,
+        run: Run<'a, ANSIBuf<B>>,
         buf: &mut String<A>,
-        size: Size,
+        shape: Shape,
         row: usize,
     ) -> Result<Run<'a, ANSIBuf<B>>, AllocError>
         requires can { CanDraw (peekable_table R.Records.texts R.Records.columns D.width D.height C.color self.now) }
-        requires size { size ≡ size_of_table (peekable_table R.Records.texts R.Records.columns D.width D.height C.color self.now) }
+        requires shape { shape ≡ shape_of_table (peekable_table R.Records.texts R.Records.columns D.width D.height C.color self.now) }
+        requires there { has_horizontal (peekable_table R.Records.texts R.Records.columns D.width D.height C.color self.now).config row (peekable_table R.Records.texts R.Records.columns D.width D.height C.color self.now).rows ≡ true }
         ensures appends { Appends buf.old buf.new result (items_after run.entry (flat_map (separator_part (peekable_table R.Records.texts R.Records.columns D.width D.height C.color self.now) row) (range_with_len 0 (peekable_table R.Records.texts R.Records.columns D.width D.height C.color self.now).columns))) }
         ensures color { IfOk result (λ after. after ≡ last_color run.entry (flat_map (separator_part (peekable_table R.Records.texts R.Records.columns D.width D.height C.color self.now) row) (range_with_len 0 (peekable_table R.Records.texts R.Records.columns D.width D.height C.color self.now).columns))) }
     {
-        for column in 0..size.columns {
-            run = self.push_column(run, buf, size, Position::new(row, column))?;
+        if shape.is_spanned {
+            return self.push_spanned_columns(run, buf, shape, row);
+        }
+        self.push_plain_columns(run, buf, shape, row)
+    }
+
+    // The same where no cell spans rows or columns.
+    fn push_plain_columns<A: Allocator>(
+        &self,
+        mut run: Run<'a, ANSIBuf<B>>,
+        buf: &mut String<A>,
+        shape: Shape,
+        row: usize,
+    ) -> Result<Run<'a, ANSIBuf<B>>, AllocError>
+        requires plain { HasNoSpans (peekable_table R.Records.texts R.Records.columns D.width D.height C.color self.now) }
+        requires shape { shape ≡ shape_of_table (peekable_table R.Records.texts R.Records.columns D.width D.height C.color self.now) }
+        ensures appends { Appends buf.old buf.new result (items_after run.entry (flat_map (separator_part (peekable_table R.Records.texts R.Records.columns D.width D.height C.color self.now) row) (range_with_len 0 (peekable_table R.Records.texts R.Records.columns D.width D.height C.color self.now).columns))) }
+        ensures color { IfOk result (λ after. after ≡ last_color run.entry (flat_map (separator_part (peekable_table R.Records.texts R.Records.columns D.width D.height C.color self.now) row) (range_with_len 0 (peekable_table R.Records.texts R.Records.columns D.width D.height C.color self.now).columns))) }
+    {
+        for column in 0..shape.columns {
+            run = self.push_column(run, buf, shape, Position::new(row, column))?;
         }
         Ok(run)
     }
 
     // The crossing left of a column, and the column's horizontal.
-    fn push_column<A: Allocator>(
+    pub(super) fn push_column<A: Allocator>(
         &self,
         run: Run<'a, ANSIBuf<B>>,
         buf: &mut String<A>,
-        size: Size,
+        shape: Shape,
         pos: Position,
     ) -> Result<Run<'a, ANSIBuf<B>>, AllocError>
-        requires can { CanDraw (peekable_table R.Records.texts R.Records.columns D.width D.height C.color self.now) }
-        requires size { size ≡ size_of_table (peekable_table R.Records.texts R.Records.columns D.width D.height C.color self.now) }
-        requires column { pos.col < (peekable_table R.Records.texts R.Records.columns D.width D.height C.color self.now).columns }
-        ensures appends { Appends buf.old buf.new result (items_after run.entry (separator_part (peekable_table R.Records.texts R.Records.columns D.width D.height C.color self.now) pos.row pos.col)) }
-        ensures color { IfOk result (λ after. after ≡ last_color run.entry (separator_part (peekable_table R.Records.texts R.Records.columns D.width D.height C.color self.now) pos.row pos.col)) }
+        ensures appends { Appends buf.old buf.new result (items_after run.entry (crossing_at (peekable_table R.Records.texts R.Records.columns D.width D.height C.color self.now).config shape.rows shape.columns pos ++ border_items (peekable_table R.Records.texts R.Records.columns D.width D.height C.color self.now).config pos shape.rows (D.width self.now.dimension pos.col) (get_horizontal (peekable_table R.Records.texts R.Records.columns D.width D.height C.color self.now).config pos shape.rows))) }
+        ensures color { IfOk result (λ after. after ≡ last_color run.entry (crossing_at (peekable_table R.Records.texts R.Records.columns D.width D.height C.color self.now).config shape.rows shape.columns pos ++ border_items (peekable_table R.Records.texts R.Records.columns D.width D.height C.color self.now).config pos shape.rows (D.width self.now.dimension pos.col) (get_horizontal (peekable_table R.Records.texts R.Records.columns D.width D.height C.color self.now).config pos shape.rows))) }
     {
         let width = self.dimension.get_width(pos.col);
-        let run = run.crossing(buf, self.config, pos, (size.rows, size.columns))?;
-        run.border(buf, self.config, pos, width, size.rows)
+        let run = run.crossing(buf, self.config, pos, (shape.rows, shape.columns))?;
+        run.border(buf, self.config, pos, width, shape.rows)
     }
 
     // The crossing behind the last column.
@@ -80,15 +99,14 @@ where
         &self,
         run: Run<'a, ANSIBuf<B>>,
         buf: &mut String<A>,
-        size: Size,
+        shape: Shape,
         row: usize,
     ) -> Result<Run<'a, ANSIBuf<B>>, AllocError>
-        requires can { CanDraw (peekable_table R.Records.texts R.Records.columns D.width D.height C.color self.now) }
-        requires size { size ≡ size_of_table (peekable_table R.Records.texts R.Records.columns D.width D.height C.color self.now) }
+        requires shape { shape ≡ shape_of_table (peekable_table R.Records.texts R.Records.columns D.width D.height C.color self.now) }
         ensures appends { Appends buf.old buf.new result (items_after run.entry (separator_part (peekable_table R.Records.texts R.Records.columns D.width D.height C.color self.now) row (peekable_table R.Records.texts R.Records.columns D.width D.height C.color self.now).columns)) }
         ensures color { IfOk result (λ after. after ≡ last_color run.entry (separator_part (peekable_table R.Records.texts R.Records.columns D.width D.height C.color self.now) row (peekable_table R.Records.texts R.Records.columns D.width D.height C.color self.now).columns)) }
     {
-        let pos = Position::new(row, size.columns);
-        run.crossing(buf, self.config, pos, (size.rows, size.columns))
+        let pos = Position::new(row, shape.columns);
+        run.crossing(buf, self.config, pos, (shape.rows, shape.columns))
     }
 }

@@ -1,4 +1,4 @@
-use Rattle.std.proofs.Common.{◌≡◌, ◌<◌, ◌||◌, ◌==◌, true, false, sym, ap, ◌∙◌, arith, length}
+use Rattle.std.proofs.Common.{◌≡◌, ◌<◌, ◌||◌, ◌==◌, true, false, sym, ◌∙◌, arith}
 use Rattle.std.proofs.lemmas.Bool.Decides.{nat_tests}
 use Rattle.pg_picture.specs.Table.{Known}
 use Rattle.pg_picture.proofs.Appending.{Appends-text, Gained-none, Gained-all}
@@ -23,7 +23,7 @@ push_picture-requires-clause-can g c =
     let t = (peekable_table g.R.Records.texts g.R.Records.columns g.D.Dimension.width g.D.Dimension.height g.C.Colors.color c.args.self.now) in
     let rows : 0 < t.rows = omega (arith, c.count_rows-rows.ensures) in
     let columns : 0 < t.columns = omega (arith, c.count_columns-columns.ensures.value) in
-    can_draw t c.requires.spans c.requires.fits rows columns
+    can_draw t c.spans.ensures.ascending c.spans.ensures.places c.requires.fits rows columns
 
 pub returns : goal.returns
 returns g c =

@@ -1,4 +1,4 @@
-use Rattle.std.proofs.Common.{◌≡◌, ℕ, Bool, true, false, arith, ◌&&◌, ◌==◌, ◌++◌, sym, ap, ap₂, ◌∙◌, Some, refl, replicate, length}
+use Rattle.std.proofs.Common.{◌≡◌, ℕ, Bool, true, false, arith, ◌&&◌, ◌==◌, ◌++◌, sym, ap, ap₂, ◌∙◌, refl, replicate, length}
 use Rattle.std.proofs.lemmas.Bool.Decides.{nat_tests}
 use Rattle.pg_layout.specs.declared.sides.Sides.{Sides}
 use Rattle.pg_layout.specs.declared.sides.Indent.{Indent}
@@ -7,15 +7,21 @@ use Rattle.pg_picture.specs.Pieces.{written}
 use Rattle.pg_picture.specs.Table.{Known, margin_line, table_body, full_width}
 use Rattle.pg_picture.specs.Fits.{body_height}
 use Rattle.pg_picture.proofs.Appending.{Appends-text, ◌then◌, stopped}
-use Rattle.pg_picture.proofs.FittingTables.{some_is}
+use Rattle.pg_picture.proofs.FittingTables.{some_is, totals_facts}
 use Rattle.pg_picture.proofs.HeightsOfRectangles.{length-table_body}
 use Rattle.pg_grid.specs.Grids.{peekable_table}
 use Rattle.pg_picture.specs.Picture.{body_text}
-use Rattle.pg_grid.specs.declared.peekable.Size.{Size}
+use Rattle.pg_grid.specs.declared.peekable.Shape.{Shape}
 use Rattle.pg_grid.proofs.CanDraw.{width-answer, height-answer, is_some_answer}
 use Rattle.pg_picture.proofs.Pictures.{picture-parts}
 use Rattle.pg_grid.proofs.peekable.PeekableGrid+R+ref+SpannedConfig+B+D+C.push_picture.Goals as goal
 use Rattle.pg_grid.proofs.peekable.PeekableGrid+R+ref+SpannedConfig+B+D+C.push_picture.Goals.{then-is_first, else-is_first}
+
+pub full_width-requires : goal.full_width-requires
+full_width-requires g c = omega (arith, c.requires.columns, (totals_facts (peekable_table g.R.Records.texts g.R.Records.columns g.D.Dimension.width g.D.Dimension.height g.C.Colors.color c.args.self.now) c.requires.can.fits.totals).columns)
+
+pub body_height-requires : goal.body_height-requires
+body_height-requires g c = omega (arith, c.requires.rows, (totals_facts (peekable_table g.R.Records.texts g.R.Records.columns g.D.Dimension.width g.D.Dimension.height g.C.Colors.color c.args.self.now) c.requires.can.fits.totals).rows)
 
 pub unwrap-width-requires : goal.unwrap-width-requires
 unwrap-width-requires g c = is_some_answer (width-answer (peekable_table g.R.Records.texts g.R.Records.columns g.D.Dimension.width g.D.Dimension.height g.C.Colors.color c.args.self.now) c.args.columns c.requires.can c.requires.columns c.full_width.ensures)
@@ -23,13 +29,13 @@ unwrap-width-requires g c = is_some_answer (width-answer (peekable_table g.R.Rec
 pub unwrap-height-requires : goal.unwrap-height-requires
 unwrap-height-requires g c = is_some_answer (height-answer (peekable_table g.R.Records.texts g.R.Records.columns g.D.Dimension.width g.D.Dimension.height g.C.Colors.color c.args.self.now) c.args.rows c.requires.can c.requires.rows c.body_height.ensures)
 
-pub push_body-requires-clause-size : goal.push_body-requires-clause-size
-push_body-requires-clause-size g c =
+pub push_body-requires-clause-shape : goal.push_body-requires-clause-shape
+push_body-requires-clause-shape g c =
     let t = (peekable_table g.R.Records.texts g.R.Records.columns g.D.Dimension.width g.D.Dimension.height g.C.Colors.color c.args.self.now) in
     let height : c.unwrap-height.result ≡ length (table_body t) =
     some_is c.unwrap-height.result (body_height t) (sym c.unwrap-height.ensures ∙ height-answer t c.args.rows c.requires.can c.requires.rows c.body_height.ensures) ∙ sym (length-table_body t) in
-    ap₂ (λ (n : ℕ) (m : ℕ). let s : Size = record { rows = n; columns = m; height = c.unwrap-height.result } in s) c.requires.rows c.requires.columns
-    ∙ ap (λ (h : ℕ). let s : Size = record { rows = t.rows; columns = t.columns; height = h } in s) height
+    ap₂ (λ (n : ℕ) (m : ℕ). let s : Shape = record { rows = n; columns = m; height = c.unwrap-height.result; is_spanned = c.args.is_spanned } in s) c.requires.rows c.requires.columns
+    ∙ ap₂ (λ (h : ℕ) (b : Bool). let s : Shape = record { rows = t.rows; columns = t.columns; height = h; is_spanned = b } in s) height c.requires.spanned
 
 pub returns-in_err-push_top_margin : goal.returns-in_err-push_top_margin
 returns-in_err-push_top_margin g c =

@@ -11,7 +11,7 @@ pub push_above-requires-clause-room : goal.push_above-requires-clause-room
 push_above-requires-clause-room g c =
     let t = (peekable_table g.R.Records.texts g.R.Records.columns g.D.Dimension.width g.D.Dimension.height g.C.Colors.color c.args.self.now) in
     let n = lines_before c.args.is_first in
-    separator-room t n c.args.index c.args.row c.args.size.height c.requires.row c.requires.room
+    separator-room t n c.args.index c.args.row c.args.shape.height c.requires.row c.requires.room
 
 pub returns-in_err-next-clause-lines : goal.returns-in_err-next-clause-lines
 returns-in_err-next-clause-lines g c =
@@ -25,7 +25,7 @@ pub push_lines-requires-clause-room : goal.push_lines-requires-clause-room
 push_lines-requires-clause-room g c =
     let t = (peekable_table g.R.Records.texts g.R.Records.columns g.D.Dimension.width g.D.Dimension.height g.C.Colors.color c.args.self.now) in
     let n = lines_before c.args.is_first in
-    lines-room t n c.args.index _ c.args.row c.args.size.height c.in_ok-next.ensures.index c.requires.row c.requires.room
+    lines-room t n c.args.index _ c.args.row c.args.shape.height c.in_ok-next.ensures.index c.requires.row c.requires.room
 
 pub returns-clause-lines : goal.returns-clause-lines
 returns-clause-lines g c =

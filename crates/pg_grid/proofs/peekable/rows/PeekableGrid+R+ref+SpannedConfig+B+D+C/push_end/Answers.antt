@@ -10,4 +10,4 @@ pub returns : goal.returns
 returns g c =
     let t = (peekable_table g.R.Records.texts g.R.Records.columns g.D.Dimension.width g.D.Dimension.height g.C.Colors.color c.args.self.now) in
     let place = ap (λ p. written (vertical_at c.args.self.now.config.now c.args.columns c.get_height-height.result p c.args.line)) c.new.ensures in
-    Appends-text (place ∙ end-text t c.requires.can.spans c.args.columns c.get_height-height.result c.args.row c.args.line c.requires.columns c.get_height-height.ensures) c.push_vertical_at.ensures
+    Appends-text (place ∙ end-text t c.args.columns c.get_height-height.result c.args.row c.args.line c.requires.columns c.get_height-height.ensures) c.push_vertical_at.ensures

@@ -1,22 +1,24 @@
 use Rattle.std.proofs.Common.{sym, ap, ◌∙◌}
+use Rattle.pg_layout.specs.Position.{at}
 use Rattle.pg_picture.specs.Pieces.{items_after, last_color}
 use Rattle.pg_picture.specs.Table.{crossing_at}
 use Rattle.pg_picture.proofs.Appending.{Appends-text}
-use Rattle.pg_grid.specs.declared.peekable.Size.{Size}
+use Rattle.pg_picture.proofs.Separators.{IfOk-same}
+use Rattle.pg_picture.proofs.WalksOfRows.{separator_part_end}
+use Rattle.pg_grid.specs.declared.peekable.Shape.{Shape}
 use Rattle.pg_grid.specs.Grids.{peekable_table}
-use Rattle.pg_picture.proofs.Separators.{end-items, IfOk-same}
 use Rattle.pg_grid.proofs.peekable.separators.PeekableGrid+R+ref+SpannedConfig+B+D+C.push_last_crossing.Goals as goal
 
 pub returns-clause-appends : goal.returns-clause-appends
 returns-clause-appends g c =
     let t = (peekable_table g.R.Records.texts g.R.Records.columns g.D.Dimension.width g.D.Dimension.height g.C.Colors.color c.args.self.now) in
-    let place = ap (λ p. crossing_at t.config c.args.size.rows c.args.size.columns p) c.new-pos.ensures in
-    let is = end-items t c.requires.can.spans c.args.size.rows c.args.size.columns c.args.row (ap (λ (s : Size). s.rows) c.requires.size) (ap (λ (s : Size). s.columns) c.requires.size) in
-    Appends-text (ap (items_after c.args.run) (place ∙ sym is)) c.crossing.ensures.appends
+    let place = ap (λ p. crossing_at t.config c.args.shape.rows c.args.shape.columns p) c.new-pos.ensures in
+    let size = ap (λ (s : Shape). crossing_at t.config s.rows s.columns (at c.args.row s.columns)) c.requires.shape in
+    Appends-text (ap (items_after c.args.run) (place ∙ size ∙ sym (separator_part_end t c.args.row))) c.crossing.ensures.appends
 
 pub returns-clause-color : goal.returns-clause-color
 returns-clause-color g c =
     let t = (peekable_table g.R.Records.texts g.R.Records.columns g.D.Dimension.width g.D.Dimension.height g.C.Colors.color c.args.self.now) in
-    let place = ap (λ p. crossing_at t.config c.args.size.rows c.args.size.columns p) c.new-pos.ensures in
-    let is = end-items t c.requires.can.spans c.args.size.rows c.args.size.columns c.args.row (ap (λ (s : Size). s.rows) c.requires.size) (ap (λ (s : Size). s.columns) c.requires.size) in
-    IfOk-same (ap (last_color c.args.run) (place ∙ sym is)) c.crossing.result c.crossing.ensures.color
+    let place = ap (λ p. crossing_at t.config c.args.shape.rows c.args.shape.columns p) c.new-pos.ensures in
+    let size = ap (λ (s : Shape). crossing_at t.config s.rows s.columns (at c.args.row s.columns)) c.requires.shape in
+    IfOk-same (ap (last_color c.args.run) (place ∙ size ∙ sym (separator_part_end t c.args.row))) c.crossing.result c.crossing.ensures.color

@@ -4,7 +4,7 @@ use Rattle.pg_picture.specs.Appending.{Gained}
 use Rattle.pg_picture.specs.Pieces.{written}
 use Rattle.pg_picture.specs.Table.{row_part}
 use Rattle.pg_grid.specs.Grids.{peekable_table}
-use Rattle.pg_grid.proofs.peekable.rows.PeekableGrid+R+ref+SpannedConfig+B+D+C.push_row_line.Given as goal
+use Rattle.pg_grid.proofs.peekable.rows.PeekableGrid+R+ref+SpannedConfig+B+D+C.push_plain_parts.Given as goal
 
 abbrev pub invariant-loop-column : goal.invariant-loop-column
 invariant-loop-column g l =

@@ -4,7 +4,7 @@ use Rattle.pg_picture.specs.Appending.{Gained}
 use Rattle.pg_picture.specs.Pieces.{items_after, last_color}
 use Rattle.pg_picture.specs.Table.{separator_part}
 use Rattle.pg_grid.specs.Grids.{peekable_table}
-use Rattle.pg_grid.proofs.peekable.separators.PeekableGrid+R+ref+SpannedConfig+B+D+C.push_columns.Given as goal
+use Rattle.pg_grid.proofs.peekable.separators.PeekableGrid+R+ref+SpannedConfig+B+D+C.push_plain_columns.Given as goal
 
 abbrev pub invariant-loop-column : goal.invariant-loop-column
 invariant-loop-column g l =

@@ -1,0 +1,232 @@
+//! Rows and separators of tables in which cells span rows or columns.
+
+ghost use Rattle.std.specs.Prelude.{◌≡◌, ◌≤◌, ◌<◌, ◌+◌, ◌-◌, ◌++◌, [], ◌∷◌, true, Some, IfOk, flat_map, cond};
+ghost use Rattle.std.specs.List.{range_with_len};
+ghost use Rattle.pg_config.specs.Config.{has_horizontal};
+ghost use Rattle.pg_config.specs.Spans.{corner, is_left, left_span, span_above};
+ghost use Rattle.pg_picture.specs.Appending.{Appends};
+ghost use Rattle.pg_picture.specs.Pieces.{written, style_at, block_line, block, items_after, last_color};
+ghost use Rattle.pg_picture.specs.Marks.{sep, line};
+ghost use Rattle.pg_picture.specs.Table.{row_part, separator_part, vertical_at, block_at, rect_width, rect_height, crossing_at};
+ghost use Rattle.pg_picture.specs.Rectangles.{IsOwner, columns_or_one, rows_height};
+ghost use Rattle.pg_grid.specs.Grids.{peekable_table, CanDraw, shape_of_table, starts};
+
+use crate::peekable::{PeekableGrid, Shape};
+use pg_config::{Span, SpannedConfig};
+use pg_layout::{ANSIBuf, Colors, Dimension, ExactRecords, PeekableRecords, Position};
+use pg_picture::fits::{rect_height, rect_width};
+use pg_picture::{Run, push_vertical_at};
+use std::alloc::{AllocError, Allocator};
+
+impl<'a, R, D, C, B> PeekableGrid<R, &'a SpannedConfig<B>, D, C>
+where
+    R: PeekableRecords + ExactRecords,
+    D: Dimension,
+    C: Colors,
+    B: Allocator,
+{
+    // What all columns add to a line of a row, from rectangle to rectangle.
+    pub(super) fn push_spanned_parts<A: Allocator>(
+        &self,
+        buf: &mut String<A>,
+        shape: Shape,
+        row: usize,
+        number: usize,
+    ) -> Result<(), AllocError>
+        requires can { CanDraw (peekable_table R.Records.texts R.Records.columns D.width D.height C.color self.now) }
+        requires shape { shape ≡ shape_of_table (peekable_table R.Records.texts R.Records.columns D.width D.height C.color self.now) }
+        requires row { row < (peekable_table R.Records.texts R.Records.columns D.width D.height C.color self.now).rows }
+        requires number { number < D.height self.now.dimension row }
+        ensures { Appends buf.old buf.new result (written (flat_map (row_part (peekable_table R.Records.texts R.Records.columns D.width D.height C.color self.now) row number) (range_with_len 0 (peekable_table R.Records.texts R.Records.columns D.width D.height C.color self.now).columns))) }
+    {
+        let mut column = 0;
+        while column < shape.columns {
+            let pos = Position::new(row, column);
+            let span = self.config.left_span(pos);
+            self.push_spanned_part(buf, shape, pos, span, number)?;
+            column += columns_of(span);
+        }
+        Ok(())
+    }
+
+    // The vertical left of a cell or a rectangle, and its line.
+    fn push_spanned_part<A: Allocator>(
+        &self,
+        buf: &mut String<A>,
+        shape: Shape,
+        pos: Position,
+        span: Option<Span>,
+        number: usize,
+    ) -> Result<(), AllocError>
+        requires can { CanDraw (peekable_table R.Records.texts R.Records.columns D.width D.height C.color self.now) }
+        requires shape { shape ≡ shape_of_table (peekable_table R.Records.texts R.Records.columns D.width D.height C.color self.now) }
+        requires row { pos.row < (peekable_table R.Records.texts R.Records.columns D.width D.height C.color self.now).rows }
+        requires column { pos.col < (peekable_table R.Records.texts R.Records.columns D.width D.height C.color self.now).columns }
+        requires number { number < D.height self.now.dimension pos.row }
+        requires left { is_left (peekable_table R.Records.texts R.Records.columns D.width D.height C.color self.now).config.spans pos.row pos.col ≡ true }
+        requires span { span ≡ left_span (peekable_table R.Records.texts R.Records.columns D.width D.height C.color self.now).config.spans pos.row pos.col }
+        ensures { Appends buf.old buf.new result (written (row_part (peekable_table R.Records.texts R.Records.columns D.width D.height C.color self.now) pos.row number pos.col)) }
+    {
+        match span {
+            None => self.push_part(buf, shape.columns, pos, number),
+            Some(span) => self.push_rectangle_part(buf, shape, pos, span, number),
+        }
+    }
+
+    // The vertical left of a rectangle, and its line.
+    fn push_rectangle_part<A: Allocator>(
+        &self,
+        buf: &mut String<A>,
+        shape: Shape,
+        pos: Position,
+        span: Span,
+        number: usize,
+    ) -> Result<(), AllocError>
+        requires can { CanDraw (peekable_table R.Records.texts R.Records.columns D.width D.height C.color self.now) }
+        requires shape { shape ≡ shape_of_table (peekable_table R.Records.texts R.Records.columns D.width D.height C.color self.now) }
+        requires row { pos.row < (peekable_table R.Records.texts R.Records.columns D.width D.height C.color self.now).rows }
+        requires number { number < D.height self.now.dimension pos.row }
+        requires span { left_span (peekable_table R.Records.texts R.Records.columns D.width D.height C.color self.now).config.spans pos.row pos.col ≡ Some span }
+        ensures { Appends buf.old buf.new result (written (vertical_at (peekable_table R.Records.texts R.Records.columns D.width D.height C.color self.now).config shape.columns (D.height self.now.dimension pos.row) pos number) ++ written (block_at (peekable_table R.Records.texts R.Records.columns D.width D.height C.color self.now) (corner span) (line pos.row number))) }
+    {
+        let height = self.dimension.get_height(pos.row);
+        push_vertical_at(buf, self.config, shape.columns, height, pos, number)?;
+        let corner = corner_of(span);
+        let above = self.lines_above(shape, corner.row, pos.row);
+        self.push_rectangle(buf, shape, corner, above + number)
+    }
+
+    // What all columns add to a separator, from rectangle to rectangle from above.
+    pub(super) fn push_spanned_columns<A: Allocator>(
+        &self,
+        mut run: Run<'a, ANSIBuf<B>>,
+        buf: &mut String<A>,
+        shape: Shape,
+        row: usize,
+    ) -> Result<Run<'a, ANSIBuf<B>>, AllocError>
+        requires can { CanDraw (peekable_table R.Records.texts R.Records.columns D.width D.height C.color self.now) }
+        requires shape { shape ≡ shape_of_table (peekable_table R.Records.texts R.Records.columns D.width D.height C.color self.now) }
+        requires there { has_horizontal (peekable_table R.Records.texts R.Records.columns D.width D.height C.color self.now).config row (peekable_table R.Records.texts R.Records.columns D.width D.height C.color self.now).rows ≡ true }
+        ensures appends { Appends buf.old buf.new result (items_after run.entry (flat_map (separator_part (peekable_table R.Records.texts R.Records.columns D.width D.height C.color self.now) row) (range_with_len 0 (peekable_table R.Records.texts R.Records.columns D.width D.height C.color self.now).columns))) }
+        ensures color { IfOk result (λ after. after ≡ last_color run.entry (flat_map (separator_part (peekable_table R.Records.texts R.Records.columns D.width D.height C.color self.now) row) (range_with_len 0 (peekable_table R.Records.texts R.Records.columns D.width D.height C.color self.now).columns))) }
+    {
+        let mut column = 0;
+        while column < shape.columns {
+            let pos = Position::new(row, column);
+            let span = self.config.span_above(pos);
+            run = self.push_spanned_column(run, buf, shape, pos, span)?;
+            column += columns_of(span);
+        }
+        Ok(run)
+    }
+
+    // A crossing, and the rectangle's line or the horizontal behind it.
+    fn push_spanned_column<A: Allocator>(
+        &self,
+        run: Run<'a, ANSIBuf<B>>,
+        buf: &mut String<A>,
+        shape: Shape,
+        pos: Position,
+        span: Option<Span>,
+    ) -> Result<Run<'a, ANSIBuf<B>>, AllocError>
+        requires can { CanDraw (peekable_table R.Records.texts R.Records.columns D.width D.height C.color self.now) }
+        requires shape { shape ≡ shape_of_table (peekable_table R.Records.texts R.Records.columns D.width D.height C.color self.now) }
+        requires column { pos.col < (peekable_table R.Records.texts R.Records.columns D.width D.height C.color self.now).columns }
+        requires there { has_horizontal (peekable_table R.Records.texts R.Records.columns D.width D.height C.color self.now).config pos.row (peekable_table R.Records.texts R.Records.columns D.width D.height C.color self.now).rows ≡ true }
+        requires starts { starts (peekable_table R.Records.texts R.Records.columns D.width D.height C.color self.now).config.spans pos.row pos.col ≡ true }
+        requires span { span ≡ span_above (peekable_table R.Records.texts R.Records.columns D.width D.height C.color self.now).config.spans pos.row pos.col }
+        ensures appends { Appends buf.old buf.new result (items_after run.entry (separator_part (peekable_table R.Records.texts R.Records.columns D.width D.height C.color self.now) pos.row pos.col)) }
+        ensures color { IfOk result (λ after. after ≡ last_color run.entry (separator_part (peekable_table R.Records.texts R.Records.columns D.width D.height C.color self.now) pos.row pos.col)) }
+    {
+        match span {
+            None => self.push_column(run, buf, shape, pos),
+            Some(span) => self.push_block(run, buf, shape, pos, span),
+        }
+    }
+
+    // A crossing, and the line of the rectangle behind it, with no colour open.
+    fn push_block<A: Allocator>(
+        &self,
+        run: Run<'a, ANSIBuf<B>>,
+        buf: &mut String<A>,
+        shape: Shape,
+        pos: Position,
+        span: Span,
+    ) -> Result<Run<'a, ANSIBuf<B>>, AllocError>
+        requires can { CanDraw (peekable_table R.Records.texts R.Records.columns D.width D.height C.color self.now) }
+        requires shape { shape ≡ shape_of_table (peekable_table R.Records.texts R.Records.columns D.width D.height C.color self.now) }
+        requires there { has_horizontal (peekable_table R.Records.texts R.Records.columns D.width D.height C.color self.now).config pos.row (peekable_table R.Records.texts R.Records.columns D.width D.height C.color self.now).rows ≡ true }
+        requires span { span_above (peekable_table R.Records.texts R.Records.columns D.width D.height C.color self.now).config.spans pos.row pos.col ≡ Some span }
+        ensures appends { Appends buf.old buf.new result (items_after run.entry (crossing_at (peekable_table R.Records.texts R.Records.columns D.width D.height C.color self.now).config shape.rows shape.columns pos ++ block (block_at (peekable_table R.Records.texts R.Records.columns D.width D.height C.color self.now) (corner span) (sep pos.row)) ∷ [])) }
+        ensures color { IfOk result (λ after. after ≡ last_color run.entry (crossing_at (peekable_table R.Records.texts R.Records.columns D.width D.height C.color self.now).config shape.rows shape.columns pos ++ block (block_at (peekable_table R.Records.texts R.Records.columns D.width D.height C.color self.now) (corner span) (sep pos.row)) ∷ [])) }
+    {
+        let run = run.crossing(buf, self.config, pos, (shape.rows, shape.columns))?;
+        let run = run.close_for_block(buf)?;
+        let corner = corner_of(span);
+        let above = self.lines_above(shape, corner.row, pos.row);
+        self.push_rectangle(buf, shape, corner, above - 1)?;
+        Ok(run)
+    }
+
+    // How many lines the rows from a first one up to another have, with the separator below each.
+    fn lines_above(&self, shape: Shape, first: usize, row: usize) -> usize
+        requires can { CanDraw (peekable_table R.Records.texts R.Records.columns D.width D.height C.color self.now) }
+        requires shape { shape ≡ shape_of_table (peekable_table R.Records.texts R.Records.columns D.width D.height C.color self.now) }
+        requires first { first ≤ row }
+        requires row { row < (peekable_table R.Records.texts R.Records.columns D.width D.height C.color self.now).rows }
+        ensures { result ≡ rows_height (peekable_table R.Records.texts R.Records.columns D.width D.height C.color self.now) first (row - first) }
+    {
+        let mut lines = 0;
+        for above in first..row {
+            lines += self.dimension.get_height(above) + self.separators_at(shape, above + 1);
+        }
+        lines
+    }
+
+    // How many lines the separator above a row is.
+    fn separators_at(&self, shape: Shape, row: usize) -> usize
+        ensures { result ≡ cond (has_horizontal (peekable_table R.Records.texts R.Records.columns D.width D.height C.color self.now).config row shape.rows) 1 0 }
+    {
+        if self.config.has_horizontal(row, shape.rows) {
+            1
+        } else {
+            0
+        }
+    }
+
+    // Line `number` of the rectangle of a place that owns it.
+    fn push_rectangle<A: Allocator>(
+        &self,
+        buf: &mut String<A>,
+        shape: Shape,
+        corner: Position,
+        number: usize,
+    ) -> Result<(), AllocError>
+        requires can { CanDraw (peekable_table R.Records.texts R.Records.columns D.width D.height C.color self.now) }
+        requires shape { shape ≡ shape_of_table (peekable_table R.Records.texts R.Records.columns D.width D.height C.color self.now) }
+        requires owner { IsOwner (peekable_table R.Records.texts R.Records.columns D.width D.height C.color self.now) corner }
+        requires number { number < rect_height (peekable_table R.Records.texts R.Records.columns D.width D.height C.color self.now) corner }
+        ensures { Appends buf.old buf.new result (written (block_line (style_at (peekable_table R.Records.texts R.Records.columns D.width D.height C.color self.now).config corner) ((peekable_table R.Records.texts R.Records.columns D.width D.height C.color self.now).color corner) ((peekable_table R.Records.texts R.Records.columns D.width D.height C.color self.now).text corner) (rect_width (peekable_table R.Records.texts R.Records.columns D.width D.height C.color self.now) corner) (rect_height (peekable_table R.Records.texts R.Records.columns D.width D.height C.color self.now) corner) number)) }
+    {
+        let width = rect_width(self.config, &self.dimension, corner, shape.columns).unwrap();
+        let height = rect_height(self.config, &self.dimension, corner).unwrap();
+        self.push_cell(buf, corner, width, height, number)
+    }
+}
+
+// How many columns a rectangle takes that a search found, and a cell where it found none.
+fn columns_of(span: Option<Span>) -> usize
+    ensures { result ≡ columns_or_one span }
+{
+    match span {
+        None => 1,
+        Some(span) => span.1.1,
+    }
+}
+
+// The top left of a rectangle.
+fn corner_of(span: Span) -> Position
+    ensures { result ≡ corner span }
+{
+    Position::new(span.0.1, span.0.0)
+}
