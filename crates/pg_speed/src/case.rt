@@ -4,20 +4,26 @@
 #[derive(Debug, Clone, Copy, PartialEq, Eq)]
 pub(crate) enum Case {
     PeekBasic,
+    PeekSpans,
     PeekColored,
     PeekMultiline,
     PeekUnicode,
     PeekBox,
+    PeekSpans1000,
+    PeekTallspan,
     PeekLongcell,
 }
 
 /// The tables by name.
-pub(crate) const CASES: [(&str, Case); 6] = [
+pub(crate) const CASES: [(&str, Case); 9] = [
     ("peek_basic", Case::PeekBasic),
+    ("peek_spans", Case::PeekSpans),
     ("peek_colored", Case::PeekColored),
     ("peek_multiline", Case::PeekMultiline),
     ("peek_unicode", Case::PeekUnicode),
     ("peek_box", Case::PeekBox),
+    ("peek_spans1000", Case::PeekSpans1000),
+    ("peek_tallspan", Case::PeekTallspan),
     ("peek_longcell", Case::PeekLongcell),
 ];
 
@@ -32,6 +38,17 @@ pub(crate) enum Words {
     Wide,
     /// The same line a thousand times.
     Long,
+}
+
+/// Which cells span others.
+#[derive(Debug, Clone, Copy, PartialEq, Eq)]
+pub(crate) enum Spanning {
+    /// No cell.
+    Nothing,
+    /// A cell of two rows and three columns in each fourth row.
+    Blocks,
+    /// The first cell, down to the last row.
+    Tall,
 }
 
 /// How many rows and columns a table has, and how many lines each row.
@@ -55,9 +72,11 @@ impl Case {
 
     pub(crate) fn size(self) -> Size {
         let (rows, columns, height) = match self {
-            Case::PeekBasic | Case::PeekColored | Case::PeekUnicode | Case::PeekBox => (100, 10, 1),
             Case::PeekMultiline => (100, 10, 3),
+            Case::PeekSpans1000 => (1000, 10, 1),
+            Case::PeekTallspan => (1000, 2, 1),
             Case::PeekLongcell => (1, 1, 1000),
+            _ => (100, 10, 1),
         };
         Size {
             rows,
@@ -68,10 +87,10 @@ impl Case {
 
     pub(crate) fn words(self) -> Words {
         match self {
-            Case::PeekBasic | Case::PeekColored => Words::Letters,
             Case::PeekMultiline => Words::Lines,
             Case::PeekUnicode | Case::PeekBox => Words::Wide,
             Case::PeekLongcell => Words::Long,
+            _ => Words::Letters,
         }
     }
 
@@ -88,5 +107,14 @@ impl Case {
     /// Whether the borders are lines of a box.
     pub(crate) fn is_boxed(self) -> bool {
         self == Case::PeekBox
+    }
+
+    /// How many rows and columns cells span.
+    pub(crate) fn spans(self) -> Spanning {
+        match self {
+            Case::PeekSpans | Case::PeekSpans1000 => Spanning::Blocks,
+            Case::PeekTallspan => Spanning::Tall,
+            _ => Spanning::Nothing,
+        }
     }
 }

@@ -1,6 +1,6 @@
 //! The settings of the tables.
 
-use crate::case::{Case, Size};
+use crate::case::{Case, Size, Spanning};
 use pg_config::SpannedConfig;
 use pg_layout::{
     ANSIBuf, AlignmentHorizontal, AlignmentVertical, Borders, ColorsMap, Entity, Indent, Position,
@@ -32,7 +32,38 @@ fn set<A: Allocator + Copy>(
     if case.is_colored() {
         color(alloc, config)?;
     }
+    span(config, case)
+}
+
+// Lets cells span others.
+fn span<A: Allocator>(config: &mut SpannedConfig<A>, case: Case) -> Result<(), AllocError> {
+    let rows = case.size().rows;
+    match case.spans() {
+        Spanning::Nothing => Ok(()),
+        Spanning::Blocks => span_blocks(config, rows),
+        Spanning::Tall => config.set_row_span(Position::new(0, 0), rows),
+    }
+}
+
+// Each fourth row begins a block in the middle of which the text stands.
+fn span_blocks<A: Allocator>(config: &mut SpannedConfig<A>, rows: usize) -> Result<(), AllocError> {
+    for row in 0..rows {
+        if row % 4 == 0 {
+            span_block(config, Position::new(row, 3 * ((row / 4) % 3)))?;
+        }
+    }
     Ok(())
+}
+
+fn span_block<A: Allocator>(
+    config: &mut SpannedConfig<A>,
+    pos: Position,
+) -> Result<(), AllocError> {
+    let cell = Entity::Cell(pos.row, pos.col);
+    config.set_row_span(pos, 2)?;
+    config.set_column_span(pos, 3)?;
+    config.set_alignment_horizontal(cell, AlignmentHorizontal::Center)?;
+    config.set_alignment_vertical(cell, AlignmentVertical::Center)
 }
 
 // One space left and right of each text.
