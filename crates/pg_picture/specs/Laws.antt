@@ -3,6 +3,7 @@ use Rattle.std.specs.Prelude.{◌≡◌, ℕ, ◌+◌, ◌-◌, ◌*◌, ◌<◌
 use Rattle.std.specs.List.{AllZip, range_with_len, enumerate_from, join_with_byte, Contains}
 use Rattle.std.specs.Option.{option_to_list}
 use Rattle.pg_layout.specs.declared.position.Position.{Position}
+use Rattle.pg_layout.specs.declared.sides.Sides.{Sides}
 use Rattle.pg_layout.specs.declared.sides.Offset.{Offset}
 use Rattle.pg_layout.specs.declared.sides.Offset.TheVariants.{Start, End}
 use Rattle.pg_layout.specs.declared.alignment.AlignmentVertical.{AlignmentVertical}
@@ -11,9 +12,10 @@ use Rattle.pg_layout.specs.Position.{at}
 use Rattle.pg_layout.specs.Colors.{Color}
 use Rattle.pg_layout.specs.Borders.{no_borders}
 use Rattle.pg_config.specs.CompactConfig.{CompactSettings, empty_color}
-use Rattle.pg_config.specs.Settings.{Settings}
+use Rattle.pg_config.specs.Overrides.{no_overrides}
+use Rattle.pg_config.specs.Settings.{Settings, no_settings}
 use Rattle.pg_config.specs.Config.{filled, has_horizontal, has_vertical, get_horizontal, get_vertical, get_intersection, get_padding, get_formatting}
-use Rattle.pg_config.specs.Offsets.{lookup_offset}
+use Rattle.pg_config.specs.Offsets.{no_offsets, lookup_offset}
 use Rattle.pg_config.specs.Spans.{StandAtPlaces, owner, rect_rows, rect_columns, has_row_spans}
 use Rattle.pg_picture.specs.Marks.{Mark, sep, line}
 use Rattle.pg_picture.specs.Pieces.{Piece, run, words, in_color, repeated, written, pieces_width, Style, style_at, shown, block_line, Item, glyph, spaces, block, separator_text}
@@ -151,6 +153,32 @@ LinesCloseColors =
 abbrev pub PartsCloseColors : Type 0
 PartsCloseColors = (parts : List Part) → ClosesColors (flat_map (λ part. option_to_list part.2) parts) (flat_map (λ part. repeated part.0 part.1) parts) (parts_after None parts)
 
+-- the same table without colours
+abbrev pub without_colors : Table → Table
+without_colors t = record t {
+  color = λ p. None;
+  config = record t.config {
+    border_colors = no_borders;
+    color_overrides = no_overrides;
+    horizontal_colors = no_offsets;
+    vertical_colors = no_offsets;
+    margin_color = filled None;
+    padding_color = no_settings;
+    justification_color = no_settings;
+  };
+}
+
+-- the colours of all lines of a picture
+abbrev pub margin_colors : Sides (Option Color) → List Color
+margin_colors c = option_to_list c.left ++ (option_to_list c.right ++ (option_to_list c.top ++ option_to_list c.bottom))
+
+abbrev pub picture_colors : Table → List Color
+picture_colors t = margin_colors t.config.margin_color ++ flat_map (colors_of_mark t) (table_body t)
+
+-- Each line of a picture closes its colours, and without them it is the line of the table without colours.
+abbrev pub PictureLinesCloseColors : Type 0
+PictureLinesCloseColors = (hint : Hint) (t : Table) → AllZip (ClosesColors (picture_colors t)) (picture_lines hint (without_colors t)) (picture_lines hint t)
+
 -- the colours that a compact table was told, where it was told one, and those of its texts
 abbrev pub told_colors : CompactSettings → List (Option Color)
 told_colors c =
@@ -168,15 +196,15 @@ abbrev pub compact_colors : CompactTable → List Color
 compact_colors t = flat_map option_to_list (told_colors t.config) ++ flat_map (colors_of_row t) (range_with_len 0 t.rows)
 
 -- the same table without colours
-abbrev pub without_colors : CompactTable → CompactTable
-without_colors t = record t {
+abbrev pub compact_without_colors : CompactTable → CompactTable
+compact_without_colors t = record t {
   color = λ p. None;
   config = record t.config { margin_color = filled empty_color; padding_color = filled empty_color; borders_color = no_borders };
 }
 
 -- Each line of a compact table closes its colours, and without them it is the line of the table without colours.
 abbrev pub CompactLinesCloseColors : Type 0
-CompactLinesCloseColors = (t : CompactTable) → AllZip (ClosesColors (compact_colors t)) (compact_lines (without_colors t)) (compact_lines t)
+CompactLinesCloseColors = (t : CompactTable) → AllZip (ClosesColors (compact_colors t)) (compact_lines (compact_without_colors t)) (compact_lines t)
 
 -- ---- vertical alignment
 
