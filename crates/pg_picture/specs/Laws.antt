@@ -45,7 +45,8 @@ CompactLinesAreJoined = (t : CompactTable) → 0 < t.rows → 0 < t.columns → 
 abbrev pub IsOneLine : Text → Type 0
 IsOneLine text = All (λ b. (b == 10) ≡ false) text
 
--- Where no line has a line feed of its own, a picture of some lines is cut into its lines at its line feeds.
+-- Where no line has a line feed of its own, a picture of some lines is cut into its lines at its line feeds. A glyph, a
+-- fill or a colour may be a line feed; and a text without line feed is cut into one line, never into none.
 abbrev pub LinesAreCut : Type 0
 LinesAreCut = (hint : Hint) (t : Table) → 0 < t.rows → 0 < t.columns → 0 < length (picture_lines hint t) → All IsOneLine (picture_lines hint t) → lines_of (picture hint t) ≡ picture_lines hint t
 
@@ -83,7 +84,8 @@ pub record Fills (w h : ℕ) (lines : List (List Piece)) : Type 0 where
   pub high : length lines ≡ h
   pub wide : All (λ pieces. pieces_width pieces ≡ w) lines
 
--- Where a cell has room and its fills are narrow, its block is as wide and as high as its rectangle.
+-- Where a cell has room and its fills are narrow, its block is as wide and as high as its rectangle. A line that is wider
+-- than its room is written whole, and a fill has so many characters as it is to have columns.
 abbrev pub BlocksFill : Type 0
 BlocksFill = (t : Table) (p : Position) → HasNarrowFills (style_at t.config p) → cell_fits (style_at t.config p) (t.text p) (rect_width t p) (rect_height t p) ≡ true → Fills (rect_width t p) (rect_height t p) (map (block_at t p) (rect_marks t p))
 
@@ -223,7 +225,8 @@ FullCellsIgnoreAlignment =
     → ((r c : ℕ) → r < t.rows → c < t.columns → IsFull t (at r c))
     → picture hint (aligned_down down t) ≡ picture hint t
 
--- no row spans, rows of one line, and texts of one line, which vertical trim doesn't take away
+-- No row spans, rows of one line, and texts of one line. Vertical trim would take away a blank one, and then vertical
+-- alignment chooses between the fills of the top and the bottom padding.
 pub record HasSingleLines (t : Table) : Type 0 where
   pub spans : has_row_spans t.config.spans ≡ false
   pub heights : (r : ℕ) → r < t.rows → t.height r ≡ 1
@@ -247,7 +250,9 @@ abbrev pub mark_width : Table → Mark → ℕ
 mark_width t (line r i) = pieces_width (row_line t r i)
 mark_width t (sep r) = sum_by item_width (separator_items t r)
 
--- spans that stand at places and fit, and room for each shown cell
+-- Spans that stand at places and fit, and room for each shown cell: a rectangle that another one covers in part, or that
+-- leaves the table, takes columns that aren't its own, and a text without room makes its line longer. A configuration
+-- keeps its spans at places.
 pub record CellsFit (t : Table) : Type 0 where
   pub places : StandAtPlaces t.config.spans
   pub spans : spans_fit t.config.spans t.rows t.columns ≡ true
@@ -262,7 +267,8 @@ pub record HasNarrowGlyphs (t : Table) : Type 0 where
   pub horizontal_offsets : (r c i : ℕ) → r ≤ t.rows → c < t.columns → i < t.width c → IfSome (lookup_offset t.config.horizontal_chars (at r c) i (t.width c)) IsNarrow
   pub crossings : (r c : ℕ) → r ≤ t.rows → c ≤ t.columns → IfSome (get_intersection t.config (at r c) t.rows t.columns) IsNarrow
 
--- a column line that is there has a glyph in each row, and at each crossing with a row line that is there
+-- A column line that is there has a glyph in each row, and at each crossing with a row line that is there. The total width
+-- counts it also where nothing stands; spaces stand for a horizontal without glyph, so those need none.
 pub record HasNoGaps (t : Table) : Type 0 where
   pub verticals : (r c : ℕ) → r < t.rows → c ≤ t.columns → has_vertical t.config c t.columns ≡ true → IsSome (get_vertical t.config (at r c) t.columns)
   pub crossings : (r c : ℕ) → r ≤ t.rows → c ≤ t.columns → has_horizontal t.config r t.rows ≡ true → has_vertical t.config c t.columns ≡ true → IsSome (get_intersection t.config (at r c) t.rows t.columns)
@@ -306,7 +312,7 @@ IsDrawn t p (sep r) =
     (column_items t r p.col ≡ block (block_at t p (sep r)) ∷ [])
     × ((c : ℕ) → p.col < c → c < p.col + rect_columns t.config.spans p → separator_part t r c ≡ [])
 
--- A shown cell is drawn in the line of each mark of its rectangle.
+-- A shown cell is drawn in the line of each mark of its rectangle. Where rectangles share places, one of them loses lines.
 abbrev pub ShownCellsAreDrawn : Type 0
 ShownCellsAreDrawn =
     (t : Table) → StandAtPlaces t.config.spans → spans_fit t.config.spans t.rows t.columns ≡ true
