@@ -18,11 +18,11 @@ use Rattle.pg_picture.specs.Laws.{plain_piece, plain_item, colors_of_piece, colo
 -- ---- parts
 
 -- all of these colours are among those
-abbrev Among : List Color → List Color → Type 0
+abbrev pub Among : List Color → List Color → Type 0
 Among xs ys = (x : Color) → Contains xs x → Contains ys x
 
 -- the colour, if there is one
-abbrev IsAmong : Option Color → List Color → Type 0
+abbrev pub IsAmong : Option Color → List Color → Type 0
 IsAmong c colors = IfSome c (Contains colors)
 
 IsAmong-more : (c : Option Color) (few many : List Color) → Among few many → IsAmong c few → IsAmong c many
@@ -57,14 +57,14 @@ module _ (colors : List Color) where
   Among-right : (xs ys : List Color) → Among (xs ++ ys) colors → Among ys colors
   Among-right xs ys h x m = h x (Contains-append_right xs ys x m)
 
-  closes-same : {plain plain' text text' : Text} → plain' ≡ plain → text' ≡ text → ClosesColors colors plain text → ClosesColors colors plain' text'
+  pub closes-same : {plain plain' text text' : Text} → plain' ≡ plain → text' ≡ text → ClosesColors colors plain text → ClosesColors colors plain' text'
   closes-same p e h = record { parts = h.parts; written = e ∙ h.written; uncolored = p ∙ h.uncolored; among = h.among }
 
-  closes-nil : ClosesColors colors [] []
+  pub closes-nil : ClosesColors colors [] []
   closes-nil = record { parts = []; written = refl; uncolored = refl; among = All-nil (λ (part : Option Color × Text). IfSome part.0 (Contains colors)) }
 
   -- one part more
-  closes-cons : {plain text : Text} (c : Option Color) (x : Text) → IsAmong c colors → ClosesColors colors plain text → ClosesColors colors (x ++ plain) (in_color c x ++ text)
+  pub closes-cons : {plain text : Text} (c : Option Color) (x : Text) → IsAmong c colors → ClosesColors colors plain text → ClosesColors colors (x ++ plain) (in_color c x ++ text)
   closes-cons c x mine h = record {
     parts = (c, x) ∷ h.parts;
     written = ap (λ t. in_color c x ++ t) h.written;
@@ -72,7 +72,7 @@ module _ (colors : List Color) where
     among = All-cons (λ (part : Option Color × Text). IfSome part.0 (Contains colors)) (c, x) h.parts mine h.among;
   }
 
-  closes-append : {plain more text rest : Text} → ClosesColors colors plain text → ClosesColors colors more rest → ClosesColors colors (plain ++ more) (text ++ rest)
+  pub closes-append : {plain more text rest : Text} → ClosesColors colors plain text → ClosesColors colors more rest → ClosesColors colors (plain ++ more) (text ++ rest)
   closes-append h k = record {
     parts = h.parts ++ k.parts;
     written = ap₂ (λ (a b : Text). a ++ b) h.written k.written ∙ sym (flat_map-append (λ (part : Option Color × Text). in_color part.0 part.1) h.parts k.parts);
@@ -167,7 +167,7 @@ separators_close_colors items = closes-items (flat_map colors_of_item items) Non
 
 -- ---- lines between margins
 
-more-colors : {few many : List Color} {plain text : Text} → Among few many → ClosesColors few plain text → ClosesColors many plain text
+pub more-colors : {few many : List Color} {plain text : Text} → Among few many → ClosesColors few plain text → ClosesColors many plain text
 more-colors {few} {many} inside h = record {
   parts = h.parts;
   written = h.written;

@@ -44,6 +44,7 @@ mod LinesOfPictures
 mod WidthsOfBlocks
 mod BlocksOfRectangles
 mod ColorsOfLines
+mod CompactColors
 mod MarksOfBodies
 mod FullCells
 mod GlyphsOfLines

@@ -1,6 +1,6 @@
 -- Laws of the picture, in words of their own.
-use Rattle.std.specs.Prelude.{◌≡◌, ℕ, ◌+◌, ◌-◌, ◌*◌, ◌<◌, ◌≤◌, ◌⊎◌, ◌==◌, true, false, List, [], ◌∷◌, ◌++◌, map, flat_map, length, sum_by, Option, None, IsSome, IfSome, encode_utf8, All}
-use Rattle.std.specs.List.{range_with_len, enumerate_from, join_with_byte, Contains}
+use Rattle.std.specs.Prelude.{◌≡◌, ℕ, ◌+◌, ◌-◌, ◌*◌, ◌<◌, ◌≤◌, ◌⊎◌, ◌==◌, true, false, List, [], ◌∷◌, ◌++◌, map, flat_map, length, sum_by, Option, Some, None, IsSome, IfSome, encode_utf8, All}
+use Rattle.std.specs.List.{AllZip, range_with_len, enumerate_from, join_with_byte, Contains}
 use Rattle.std.specs.Option.{option_to_list}
 use Rattle.pg_layout.specs.declared.position.Position.{Position}
 use Rattle.pg_layout.specs.declared.sides.Offset.{Offset}
@@ -9,8 +9,10 @@ use Rattle.pg_layout.specs.declared.alignment.AlignmentVertical.{AlignmentVertic
 use Rattle.pg_layout.specs.Text.{Text, lines_of, width_of}
 use Rattle.pg_layout.specs.Position.{at}
 use Rattle.pg_layout.specs.Colors.{Color}
+use Rattle.pg_layout.specs.Borders.{no_borders}
+use Rattle.pg_config.specs.CompactConfig.{CompactSettings, empty_color}
 use Rattle.pg_config.specs.Settings.{Settings}
-use Rattle.pg_config.specs.Config.{has_horizontal, has_vertical, get_horizontal, get_vertical, get_intersection, get_padding, get_formatting}
+use Rattle.pg_config.specs.Config.{filled, has_horizontal, has_vertical, get_horizontal, get_vertical, get_intersection, get_padding, get_formatting}
 use Rattle.pg_config.specs.Offsets.{lookup_offset}
 use Rattle.pg_config.specs.Spans.{StandAtPlaces, owner, rect_rows, rect_columns, has_row_spans}
 use Rattle.pg_picture.specs.Marks.{Mark, sep, line}
@@ -148,6 +150,33 @@ LinesCloseColors =
 -- A separator of a compact table closes its colours.
 abbrev pub PartsCloseColors : Type 0
 PartsCloseColors = (parts : List Part) → ClosesColors (flat_map (λ part. option_to_list part.2) parts) (flat_map (λ part. repeated part.0 part.1) parts) (parts_after None parts)
+
+-- the colours that a compact table was told, where it was told one, and those of its texts
+abbrev pub told_colors : CompactSettings → List (Option Color)
+told_colors c =
+    Some c.margin_color.left ∷ Some c.margin_color.right ∷ Some c.margin_color.top ∷ Some c.margin_color.bottom
+    ∷ Some c.padding_color.left ∷ Some c.padding_color.right ∷ Some c.padding_color.top ∷ Some c.padding_color.bottom
+    ∷ c.borders_color.top ∷ c.borders_color.top_left ∷ c.borders_color.top_right ∷ c.borders_color.top_intersection
+    ∷ c.borders_color.bottom ∷ c.borders_color.bottom_left ∷ c.borders_color.bottom_right ∷ c.borders_color.bottom_intersection
+    ∷ c.borders_color.horizontal ∷ c.borders_color.left_intersection ∷ c.borders_color.right_intersection ∷ c.borders_color.intersection
+    ∷ c.borders_color.left ∷ c.borders_color.right ∷ c.borders_color.vertical ∷ []
+
+abbrev pub colors_of_row : CompactTable → ℕ → List Color
+colors_of_row t r = flat_map (λ x. option_to_list (t.color (at r x))) (range_with_len 0 t.columns)
+
+abbrev pub compact_colors : CompactTable → List Color
+compact_colors t = flat_map option_to_list (told_colors t.config) ++ flat_map (colors_of_row t) (range_with_len 0 t.rows)
+
+-- the same table without colours
+abbrev pub without_colors : CompactTable → CompactTable
+without_colors t = record t {
+  color = λ p. None;
+  config = record t.config { margin_color = filled empty_color; padding_color = filled empty_color; borders_color = no_borders };
+}
+
+-- Each line of a compact table closes its colours, and without them it is the line of the table without colours.
+abbrev pub CompactLinesCloseColors : Type 0
+CompactLinesCloseColors = (t : CompactTable) → AllZip (ClosesColors (compact_colors t)) (compact_lines (without_colors t)) (compact_lines t)
 
 -- ---- vertical alignment
 
