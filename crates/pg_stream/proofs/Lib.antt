@@ -16,3 +16,4 @@ pub mod CellsBegun
 pub mod OpenLists
 pub mod PartsOfLines
 pub mod PartsOfSeparators
+pub mod PartsOfLists
