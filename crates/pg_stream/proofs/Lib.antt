@@ -17,3 +17,6 @@ pub mod OpenLists
 pub mod PartsOfLines
 pub mod PartsOfSeparators
 pub mod PartsOfLists
+pub mod Closing
+pub mod Reaches
+pub mod Beginning

@@ -1,5 +1,5 @@
 -- What becomes of the open cells in one row: cells begin and cells end.
-use Rattle.std.specs.Prelude.{ℕ, ◌+◌, ◌==◌, nat_lt, List, [], ◌∷◌, slice_index_or, Option, Some, None, if◌then◌else◌}
+use Rattle.std.specs.Prelude.{◌≡◌, ℕ, ◌+◌, ◌<◌, ◌==◌, Bool, false, not, nat_lt, List, [], ◌∷◌, slice_index_or, Option, Some, None, if◌then◌else◌}
 use Rattle.pg_layout.specs.declared.position.Position.{Position}
 use Rattle.pg_layout.specs.Position.{at, is_at}
 use Rattle.pg_layout.specs.Text.{Text}
@@ -10,6 +10,13 @@ use Rattle.pg_picture.specs.Sizes.{height_of_rect}
 use Rattle.pg_picture.specs.Table.{Table, rect_width}
 use Rattle.pg_picture.specs.declared.place.CellPlace.{CellPlace}
 use Rattle.pg_stream.specs.Placed.{Placed}
+
+-- A column without an open cell isn't the left one of an owner that begins above row k; an open cell is its owner, and
+-- begins above.
+pub record IsOwnerAbove (spans : List Span) (k x : ℕ) (cell : Option Placed) : Type 0 where
+  pub none : cell ≡ None → (owner spans k x).row < k → (owner spans k x).col ≡ x → ⊥
+  pub some : (c : Placed) → cell ≡ Some c → owner spans k x ≡ at c.begun x
+  pub above : (c : Placed) → cell ≡ Some c → c.begun < k
 
 -- where the lines of a text stand in a cell of so many columns and lines; one of no line shows none
 abbrev pub place_in : Style → Text → ℕ → ℕ → CellPlace
@@ -34,6 +41,11 @@ begin_cell t k text x cell = if is_at (owner t.config.spans k x) k x then Some (
 abbrev pub close_cell : List Span → ℕ → ℕ → Option Placed → Option Placed
 close_cell spans k x None = None
 close_cell spans k x (Some cell) = if nat_lt (k + 1) (cell.begun + rect_rows spans (at cell.begun x)) then Some cell else None
+
+-- it is such a cell
+abbrev pub is_done : List Span → ℕ → ℕ → Option Placed → Bool
+is_done spans k x None = false
+is_done spans k x (Some cell) = not (nat_lt (k + 1) (cell.begun + rect_rows spans (at cell.begun x)))
 
 -- each element by its index, the first of which is c
 abbrev pub mapped : {A : Type 0} → (ℕ → A → A) → ℕ → List A → List A
