@@ -40,9 +40,8 @@ pub struct Script<A: Allocator = Global> {
     pub dimension: ConstantDimension<A>,
     /// The colours of the cells.
     pub colors: ColorsMap<A>,
-    /// The settings of the table. No statement of a script sets a span.
+    /// The settings of the table.
     pub config: SpannedConfig<A>,
-    ghost plain: { config.spans ≡ [] },
 }
 
 /// A table as far as a script has told of it.
@@ -54,7 +53,6 @@ struct Draft<A: Allocator> {
     colors: ColorsMap<A>,
     config: SpannedConfig<A>,
     ghost sized: { texts.size ≡ size },
-    ghost plain: { config.spans ≡ [] },
 }
 
 impl<A: Allocator + Copy> Draft<A> {
@@ -96,6 +94,10 @@ impl<A: Allocator + Copy> Draft<A> {
             Statement::Lines(entity, aligns) => self.config.set_line_alignment(entity, aligns)?,
             Statement::Margin(margin) => self.config.set_margin(margin),
             Statement::Color(place, color) => self.colors.set(place, color)?,
+            Statement::Span(place, rows, columns) => {
+                self.config.set_row_span(place, rows)?;
+                self.config.set_column_span(place, columns)?;
+            }
         }
         Ok(())
     }

@@ -66,6 +66,8 @@ pub(crate) enum Statement<A: Allocator> {
     Margin(Sides<Indent>),
     /// The colour of a cell.
     Color(Position, ANSIBuf<A>),
+    /// How many rows and columns a cell spans, in the table or outside it.
+    Span(Position, usize, usize),
 }
 
 impl<A: Allocator + Copy> Statement<A> {
@@ -90,6 +92,7 @@ impl<A: Allocator + Copy> Statement<A> {
             "lines" => Ok(line_alignment(words)),
             "margin" => Ok(margin(words)),
             "color" => color(alloc, words, size),
+            "span" => Ok(span(words)),
             _ => Ok(None),
         }
     }
@@ -226,16 +229,23 @@ fn margin<A: Allocator>(mut words: Words<'_>) -> Option<Statement<A>>
     Some(Statement::Margin(sides(sizes, fill)))
 }
 
-// The sizes of the left, the right, the top and the bottom side.
-fn four_numbers(words: &mut Words<'_>) -> Option<[usize; 4]> {
-    let left = words.number()?;
-    let right = words.number()?;
-    let top = words.number()?;
-    let bottom = words.number()?;
-    Some([left, right, top, bottom])
+fn span<A: Allocator>(mut words: Words<'_>) -> Option<Statement<A>>
+    ensures { (size : Size) → IfSome result (FitsSize size) }
+{
+    let [row, col, rows, columns] = four_numbers(&mut words)?;
+    words.end()?;
+    Some(Statement::Span(Position::new(row, col), rows, columns))
 }
 
-// Sides of these sizes, all with one fill.
+fn four_numbers(words: &mut Words<'_>) -> Option<[usize; 4]> {
+    let first = words.number()?;
+    let second = words.number()?;
+    let third = words.number()?;
+    let fourth = words.number()?;
+    Some([first, second, third, fourth])
+}
+
+// Sides of these sizes, left, right, top and bottom, all with one fill.
 fn sides([left, right, top, bottom]: [usize; 4], fill: char) -> Sides<Indent> {
     Sides::new(
         Indent::new(left, fill),

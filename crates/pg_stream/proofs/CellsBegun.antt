@@ -1,5 +1,5 @@
 -- A cell that begins at a place: its width, its height and the place of its text.
-use Rattle.std.proofs.Common.{◌≡◌, ℕ, ◌+◌, ◌^◌, ◌<◌, true, nat_lt, sym, ap, ◌∙◌, arith, Option, Some, None, subst, if◌then◌else◌}
+use Rattle.std.proofs.Common.{◌≡◌, ℕ, ◌+◌, ◌^◌, ◌<◌, true, false, ◌==◌, nat_lt, refl, sym, ap, ◌∙◌, arith, Option, Some, None, subst, if◌then◌else◌}
 use Rattle.std.proofs.lemmas.Bool.Decides.{nat_tests}
 use Rattle.pg_layout.specs.declared.position.Position.{Position}
 use Rattle.pg_layout.specs.Text.{Text}
@@ -12,7 +12,8 @@ use Rattle.pg_picture.specs.Table.{Table, rect_width}
 use Rattle.pg_picture.specs.declared.place.CellPlace.{CellPlace}
 use Rattle.pg_picture.proofs.Room.{cell_fits-room}
 use Rattle.pg_picture.proofs.SumsOfSizes.{if_fits-below}
-use Rattle.pg_stream.specs.Placed.{Placed, IsPlaced}
+use Rattle.pg_stream.specs.Placed.{IsPlaced}
+use Rattle.pg_stream.specs.Turns.{new_cell}
 
 module _ (t : Table) (p : Position) where
   -- the sizes that are asked are numbers of 64 bits
@@ -26,14 +27,10 @@ module _ (t : Table) (p : Position) where
       let inside : nat_lt (p.row + rect_rows t.config.spans p) (2 ^ 64) ≡ true = grind (arith, nat_tests, end) in
       is ∙ (rw inside (if_fits-below (height_of_rect t.config t.height p) few))
 
-  -- such a cell is placed
-  pub placed-new : (text : Text) (style : Style) (width height : ℕ) (place : CellPlace) → style ≡ style_at t.config p → width ≡ rect_width t p → height ≡ height_of_rect t.config t.height p
-      → cell_fits style text width height ≡ true → (0 < height → place ≡ place_of (facts_of style.formatting text) style width height)
-      → IsPlaced t p.col (record { begun = p.row; text = text; drawn = 0; width = width; place = place })
-  placed-new text style width height place same wide high fits stands =
-      let F : Style → Type 0 = λ s. cell_fits s text width height ≡ true → (0 < height → place ≡ place_of (facts_of s.formatting text) s width height) → IsPlaced t p.col (record { begun = p.row; text = text; drawn = 0; width = width; place = place }) in
-      subst F (sym same) (λ fits stands. record {
-        width = wide;
-        place = λ some. subst (λ n. place ≡ place_of (facts_of (style_at t.config p).formatting text) (style_at t.config p) width n) high (stands (omega (arith, some, high)));
-        room = λ some. (cell_fits-room (style_at t.config p) text width height fits (omega (arith, some, high))).0;
-      }) fits stands
+  -- such a cell is placed, where its text has room
+  pub placed-new : (text : Text) → cell_fits (style_at t.config p) text (rect_width t p) (height_of_rect t.config t.height p) ≡ true → IsPlaced t p.col (new_cell t p text)
+  placed-new text fits = record {
+    width = refl;
+    place = λ some. let tall : (height_of_rect t.config t.height p == 0) ≡ false = grind (arith, nat_tests, some) in (rw tall refl);
+    room = λ some. (cell_fits-room (style_at t.config p) text (rect_width t p) (height_of_rect t.config t.height p) fits some).0;
+  }

@@ -16,3 +16,7 @@ pub mod CellsBegun
 pub mod OpenLists
 pub mod PartsOfLines
 pub mod PartsOfSeparators
+pub mod PartsOfLists
+pub mod Closing
+pub mod Reaches
+pub mod Beginning

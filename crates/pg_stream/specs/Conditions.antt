@@ -20,6 +20,10 @@ pub record HasRoom (t : Table) (p : Position) (text : Text) : Type 0 where
   pub height : height_of_rect t.config t.height p < 2 ^ 64
   pub room : cell_fits (style_at t.config p) text (rect_width t p) (height_of_rect t.config t.height p) ≡ true
 
+-- each cell of row k that is its own owner has room for its text
+abbrev pub HaveRoom : Table → ℕ → List Text → Type 0
+HaveRoom t k texts = (c : ℕ) → c < t.columns → is_at (owner t.config.spans k c) k c ≡ true → HasRoom t (at k c) (slice_index_or texts c [])
+
 -- What a table may be printed with, row by row: a column at least, spans that fit the columns, and a total width that
 -- is a number of 64 bits; and where the number of rows is known, spans and totals that fit them.
 pub record PrinterFits (s : Printing) : Type 0 where
@@ -37,5 +41,5 @@ pub record RowFits (s : Printing) (cells : List Text) (is_last : Bool) : Type 0 
   pub rows : s.rows < 2 ^ 64 - 2
   pub hint : IfSome s.hint (λ rows. (s.rows < rows) × (is_last ≡ ((s.rows + 1) == rows)))
   pub spans : is_last ≡ true → spans_fit s.config.spans (s.rows + 1) s.columns ≡ true
-  pub rooms : (c : ℕ) → c < s.columns → is_at (owner s.config.spans s.rows c) s.rows c ≡ true → HasRoom (table_known s 0 []) (at s.rows c) (slice_index_or cells c [])
+  pub rooms : HaveRoom (table_known s 0 []) s.rows cells
   pub lines : s.lines + length (marks_of_row s.config s.height s.rows) < 2 ^ 64

@@ -3,5 +3,6 @@ pub mod Printing
 pub mod Slots
 pub mod Conditions
 pub mod Placed
+pub mod Turns
 pub mod Frames
 pub mod Drawing

@@ -5,7 +5,7 @@ ghost use Rattle.pg_picture.specs.Joined.{feed_before};
 ghost use Rattle.pg_picture.specs.Table.{vertical, side_margin_at};
 ghost use Rattle.pg_config.specs.Spans.{rect_rows, rect_columns};
 ghost use Rattle.pg_layout.specs.Text.{lines_of};
-ghost use Rattle.pg_picture.specs.Cells.{style_of, facts_of, place_of};
+ghost use Rattle.pg_picture.specs.Cells.{style_of};
 ghost use Rattle.pg_picture.specs.Fits.{cell_fits};
 ghost use Rattle.pg_stream.specs.Conditions.{HasRoom};
 ghost use Rattle.pg_layout.specs.Position.{at};
@@ -14,6 +14,7 @@ ghost use Rattle.pg_picture.specs.Pieces.{written};
 ghost use Rattle.pg_picture.specs.Sizes.{height_of_rect};
 ghost use Rattle.pg_stream.specs.Placed.{slot_of, IsPlaced};
 ghost use Rattle.pg_stream.specs.Slots.{slot_block};
+ghost use Rattle.pg_stream.specs.Turns.{place_in, new_cell};
 
 use crate::open_cell::OpenCell;
 use pg_config::SpannedConfig;
@@ -100,26 +101,25 @@ impl<'a, D: Dimension, C: Colors, B: Allocator> Frame<'a, D, C, B> {
         requires columns { 0 < rect_columns (frame_table D.width D.height C.color self.now).config.spans pos }
         requires inside { pos.col + rect_columns (frame_table D.width D.height C.color self.now).config.spans pos ≤ (frame_table D.width D.height C.color self.now).columns }
         requires room { HasRoom (frame_table D.width D.height C.color self.now) pos (S.text value) }
-        ensures begins { slot_of (Some result) ≡ Some (record { begun = pos.row; text = S.text value; drawn = 0 }) }
-        ensures placed { IsPlaced (frame_table D.width D.height C.color self.now) pos.col result }
+        ensures { result ≡ new_cell (frame_table D.width D.height C.color self.now) pos (S.text value) }
     {
         let width = rect_width(self.config, self.dimension, pos, self.columns).unwrap();
         let height = rect_height(self.config, self.dimension, pos).unwrap();
         let style = CellStyle::of(self.config, pos);
-        let place = place_in(value.as_str(), &style, width, height);
+        let place = place_of_text(value.as_str(), &style, width, height);
         OpenCell::new(value, pos.row, width, place)
     }
 }
 
-// Where a text stands in a cell of so many columns and lines; anywhere in one of no line.
-fn place_in<B: Allocator>(
+// Where a text stands in a cell of so many columns and lines; one of no line shows none.
+fn place_of_text<B: Allocator>(
     text: &str,
     style: &CellStyle<'_, B>,
     width: usize,
     height: usize,
 ) -> CellPlace
     requires { cell_fits (style_of style.now) text.now width height ≡ true }
-    ensures place { 0 < height → result ≡ place_of (facts_of style.now.formatting text.now) (style_of style.now) width height }
+    ensures place { result ≡ place_in (style_of style.now) text.now width height }
     ensures lines { result.skip + result.shown ≤ length (lines_of text.now) }
 {
     if height == 0 {

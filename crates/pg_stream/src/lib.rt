@@ -9,3 +9,4 @@ mod open_cells;
 pub use crate::open_cells::OpenCells;
 
 mod separators;
+mod turns;

@@ -89,6 +89,14 @@ impl<S: AsStr + Drop, A: Allocator> OpenCells<S, A> {
         self.slots[column] = Some(cell);
     }
 
+    // No cell is open in a column.
+    pub(crate) fn clear(&mut self, column: usize)
+        requires { column < length self.old }
+        ensures { self.new ≡ slice_set self.old column None }
+    {
+        self.slots[column] = None;
+    }
+
     // One more line of each cell is drawn.
     pub(crate) fn draw_line(&mut self)
         requires { AllOpen (λ x cell. cell.drawn + 1 < 2 ^ 64) self.old }

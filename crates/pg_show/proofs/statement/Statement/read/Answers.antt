@@ -20,3 +20,6 @@ returns-in-lines g c = c.line_alignment.ensures c.args.size
 
 pub returns-in-margin : goal.returns-in-margin
 returns-in-margin g c = c.margin.ensures c.args.size
+
+pub returns-in-span : goal.returns-in-span
+returns-in-span g c = c.span.ensures c.args.size

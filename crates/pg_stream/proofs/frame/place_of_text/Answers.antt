@@ -4,7 +4,7 @@ use Rattle.pg_picture.specs.Pieces.{widest}
 use Rattle.pg_picture.specs.Cells.{style_of, facts_of, place_of}
 use Rattle.pg_picture.proofs.PlacesOfTexts.{place-lines}
 use Rattle.pg_picture.proofs.Room.{cell_fits-room}
-use Rattle.pg_stream.proofs.frame.place_in.Goals as goal
+use Rattle.pg_stream.proofs.frame.place_of_text.Goals as goal
 
 pub of-requires-clause-width : goal.of-requires-clause-width
 unfolding facts_of
