@@ -54,3 +54,4 @@ mod PartsOfColumns
 mod StraightColumns
 mod DrawnCells
 mod PlainPictures
+mod FirstMisfits

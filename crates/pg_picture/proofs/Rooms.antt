@@ -39,7 +39,7 @@ module _ (t : Table) where
       ]
 
   -- where no place of a row misfits, each has room
-  none_in_row : (r a k c : ℕ) → first_misfit t (map (at r) (range_with_len a k)) ≡ None → a ≤ c → c < a + k → owner_fits t (at r c) ≡ true
+  pub none_in_row : (r a k c : ℕ) → first_misfit t (map (at r) (range_with_len a k)) ≡ None → a ≤ c → c < a + k → owner_fits t (at r c) ≡ true
   none_in_row r a zero c e h l = absurd (omega (arith, h, l))
   none_in_row r a (suc k) c e h l =
       elim (cases_Bool (owner_fits t (at r a))) [

@@ -22,7 +22,10 @@ use Rattle.pg_picture.specs.Pieces.{Piece, run, words, in_color, repeated, writt
 use Rattle.pg_picture.specs.Table.{Table, Hint, Known, Unknown, rect_marks, rect_width, rect_height, block_at, vertical, row_part, row_line, crossing_at, horizontal_items, column_items, separator_part, separator_items, mark_text, side_margin, body_line, margin_line, table_body, total_width, full_width}
 use Rattle.pg_picture.specs.Rectangles.{IsOwner}
 use Rattle.pg_picture.specs.CompactLines.{CompactTable, Part, parts_after, compact_lines}
-use Rattle.pg_picture.specs.Fits.{body_height, spans_fit, cell_fits, owner_fits}
+use Rattle.pg_picture.specs.Fits.{body_height, spans_fit, totals_fit, cell_fits, owner_fits, misfit_of}
+use Rattle.pg_picture.specs.FitLaws.{TableFits}
+use Rattle.pg_picture.specs.declared.fits.Misfit.{Misfit}
+use Rattle.pg_picture.specs.declared.fits.Misfit.TheVariants.{Spans, Totals, Room}
 use Rattle.pg_picture.specs.Picture.{picture_lines, picture, compact_picture}
 
 -- ---- lines
@@ -367,3 +370,29 @@ IsFromStart (End n) = ⊥
 -- Where the side margins have offsets from the start, it doesn't matter whether the number of lines is known.
 abbrev pub HintsAreIdle : Type 0
 HintsAreIdle = (t : Table) → IsFromStart t.config.margin_offset.left → IsFromStart t.config.margin_offset.right → picture Unknown t ≡ picture Known t
+
+-- ---- misfits
+
+-- the first place without room, going row by row, in a table whose spans and totals fit
+pub record IsFirstWithoutRoom (t : Table) (r c : ℕ) : Type 0 where
+  pub spans : spans_fit t.config.spans t.rows t.columns ≡ true
+  pub totals : totals_fit t ≡ true
+  pub row : r < t.rows
+  pub column : c < t.columns
+  pub room : owner_fits t (at r c) ≡ false
+  pub rows_before : (s d : ℕ) → s < r → d < t.columns → owner_fits t (at s d) ≡ true
+  pub columns_before : (d : ℕ) → d < c → owner_fits t (at r d) ≡ true
+
+-- what a misfit tells of a table with rows and columns
+abbrev pub Tells : Table → Option Misfit → Type 0
+Tells t None = TableFits t
+Tells t (Some Spans) = spans_fit t.config.spans t.rows t.columns ≡ false
+Tells t (Some Totals) = (spans_fit t.config.spans t.rows t.columns ≡ true) × (totals_fit t ≡ false)
+Tells t (Some (Room r c)) = IsFirstWithoutRoom t r c
+
+-- The misfit is the first that applies, and there is none where everything fits.
+abbrev pub MisfitsAreFirst : Type 0
+MisfitsAreFirst = (t : Table) → 0 < t.rows → 0 < t.columns → Tells t (misfit_of t)
+
+abbrev pub FittingTablesHaveNone : Type 0
+FittingTablesHaveNone = (t : Table) → TableFits t → misfit_of t ≡ None

@@ -1,6 +1,6 @@
 //! Laws of the picture. The functions do nothing: their contracts are the laws.
 
-ghost use Rattle.pg_picture.specs.Laws.{NothingToDraw, NothingCompactToDraw, LinesAreJoined, CompactLinesAreJoined, LinesAreCut, CompactLinesAreCut, LinesAreCounted, BlocksAreDrawn, BlocksFill, PiecesCloseColors, SeparatorsCloseColors, LinesCloseColors, PictureLinesCloseColors, PartsCloseColors, CompactLinesCloseColors, FullCellsIgnoreAlignment, SingleLinesIgnoreAlignment, ColumnsAreStraight, MissingGlyphFillsGaps, MarginsAreStraight, ShownCellsAreDrawn, RectanglesStandTogether, PlainRows, PlainSeparators, BodiesStandAlone, HintsAreIdle};
+ghost use Rattle.pg_picture.specs.Laws.{NothingToDraw, NothingCompactToDraw, LinesAreJoined, CompactLinesAreJoined, LinesAreCut, CompactLinesAreCut, LinesAreCounted, BlocksAreDrawn, BlocksFill, PiecesCloseColors, SeparatorsCloseColors, LinesCloseColors, PictureLinesCloseColors, PartsCloseColors, CompactLinesCloseColors, FullCellsIgnoreAlignment, SingleLinesIgnoreAlignment, ColumnsAreStraight, MissingGlyphFillsGaps, MarginsAreStraight, ShownCellsAreDrawn, RectanglesStandTogether, PlainRows, PlainSeparators, BodiesStandAlone, HintsAreIdle, MisfitsAreFirst, FittingTablesHaveNone};
 
 /// A table with no rows or no columns has the empty picture, whatever else it was told.
 pub fn no_rows_or_columns_draw_nothing()
@@ -89,4 +89,11 @@ pub fn margins_of_size_0_add_nothing()
 /// from the end alone.
 pub fn hints_matter_to_offsets_from_the_end_alone()
     ensures { HintsAreIdle }
+{}
+
+/// A misfit is the first that applies: spans before totals, totals before room, and room by the
+/// first cell without it, going row by row. A table that fits has none.
+pub fn a_misfit_is_the_first_that_applies()
+    ensures first { MisfitsAreFirst }
+    ensures none { FittingTablesHaveNone }
 {}
