@@ -1,3 +1,7 @@
 -- Lemmas of this crate.
 pub mod RowParts
 pub mod CanDraw
+pub mod CompactRows
+pub mod CompactSeparators
+pub mod CompactBodies
+pub mod CompactPictures
