@@ -13,7 +13,7 @@ use Rattle.pg_layout.specs.Colors.{Color}
 use Rattle.pg_config.specs.CompactConfig.{empty_color}
 use Rattle.pg_picture.specs.Pieces.{in_color, repeated, shares, cut}
 use Rattle.pg_picture.specs.CompactLines.{CompactTable, Part, color_if, compact_indent, colored_glyph, compact_cell_of, compact_width, compact_full_width, with_margins, between_sides, compact_cell, text_row, padding_row, part_if, main_part, top_line, bottom_line, inner_line, parts, own_or, parts_after, separator_row, compact_margin, line_if, row_lines, compact_lines}
-use Rattle.pg_picture.specs.Laws.{ClosesColors, told_colors, colors_of_row, compact_colors, without_colors, CompactLinesCloseColors}
+use Rattle.pg_picture.specs.Laws.{ClosesColors, told_colors, colors_of_row, compact_colors, compact_without_colors, CompactLinesCloseColors}
 use Rattle.pg_picture.proofs.CutsOfItems.{cut-same}
 use Rattle.pg_picture.proofs.ColorsOfLines.{Among, IsAmong, closes-same, closes-nil, closes-cons, closes-append, more-colors, parts_close_colors}
 
@@ -62,17 +62,17 @@ parts-among colors (p ∷ ps) all x m =
 -- ---- lists of lines
 
 module _ {A B : Type 0} (R : A → B → Type 0) where
-  zip-append : (xs : List A) (ys : List B) (us : List A) (vs : List B) → AllZip R xs ys → AllZip R us vs → AllZip R (xs ++ us) (ys ++ vs)
+  pub zip-append : (xs : List A) (ys : List B) (us : List A) (vs : List B) → AllZip R xs ys → AllZip R us vs → AllZip R (xs ++ us) (ys ++ vs)
   zip-append [] [] us vs h k = k
   zip-append [] (y ∷ ys) us vs h k = absurd h
   zip-append (x ∷ xs) [] us vs h k = absurd h
   zip-append (x ∷ xs) (y ∷ ys) us vs h k = (h.0, zip-append xs ys us vs h.1 k)
 
-  zip-replicate : (n : ℕ) (x : A) (y : B) → R x y → AllZip R (replicate n x) (replicate n y)
+  pub zip-replicate : (n : ℕ) (x : A) (y : B) → R x y → AllZip R (replicate n x) (replicate n y)
   zip-replicate zero x y h = tt
   zip-replicate (suc n) x y h = (h, zip-replicate n x y h)
 
-  zip-flat_map : (f : ℕ → List A) (g : ℕ → List B) (a n : ℕ) → ((x : ℕ) → a ≤ x → x < a + n → AllZip R (f x) (g x)) → AllZip R (flat_map f (range_with_len a n)) (flat_map g (range_with_len a n))
+  pub zip-flat_map : (f : ℕ → List A) (g : ℕ → List B) (a n : ℕ) → ((x : ℕ) → a ≤ x → x < a + n → AllZip R (f x) (g x)) → AllZip R (flat_map f (range_with_len a n)) (flat_map g (range_with_len a n))
   zip-flat_map f g a zero h = tt
   zip-flat_map f g a (suc n) h = zip-append (f a) (g a) (flat_map f (range_with_len (a + 1) n)) (flat_map g (range_with_len (a + 1) n)) (h a (omega arith) (omega arith)) (zip-flat_map f g (a + 1) n (λ x l m. h x (omega arith) (omega arith)))
 
@@ -112,7 +112,7 @@ parts-plain (p ∷ ps) all =
     ap (λ c. (cut None (own_or c None) ++ repeated p.0 p.1) ++ parts_after (own_or c None) ps) own
     ∙ ap₂ (λ (a b : Text). (a ++ repeated p.0 p.1) ++ b) (cut-same None) (parts-plain ps (All-tail (λ (q : Part). q.2 ≡ None) p ps all))
 
-All-flat_map : {A : Type 0} (P : A → Type 0) (f : ℕ → List A) (xs : List ℕ) → ((x : ℕ) → All P (f x)) → All P (flat_map f xs)
+pub All-flat_map : {A : Type 0} (P : A → Type 0) (f : ℕ → List A) (xs : List ℕ) → ((x : ℕ) → All P (f x)) → All P (flat_map f xs)
 All-flat_map P f [] h = All-nil P
 All-flat_map P f (x ∷ xs) h = All-append P (f x) (flat_map f xs) (h x) (All-flat_map P f xs h)
 
@@ -202,7 +202,7 @@ module _ (t : CompactTable) where
   Closes plain text = ClosesColors (compact_colors t) plain text
 
   abbrev plain : CompactTable
-  plain = without_colors t
+  plain = compact_without_colors t
 
   closes-margins : (x y : Text) → Closes x y → Closes (with_margins plain x) (with_margins t y)
   unfolding with_margins
@@ -285,7 +285,7 @@ compact_lines_close_colors t =
     let R = ClosesColors (compact_colors t) in
     let b = t.config.borders in
     let c = t.config.borders_color in
-    let plain : CompactTable = without_colors t in
+    let plain : CompactTable = compact_without_colors t in
     let none : HorizontalLine Color = record { main = None; intersection = None; left = None; right = None } in
     let top = zip-if t (has_top t.config.borders) (separator_row plain (top_line b) none) (separator_row t (top_line b) (top_line c)) (closes-separator t (top_line b) (top_line c) (told t 8 (lit< tt)) (told t 11 (lit< tt)) (told t 9 (lit< tt)) (told t 10 (lit< tt))) in
     let bottom = zip-if t (has_bottom t.config.borders) (separator_row plain (bottom_line b) none) (separator_row t (bottom_line b) (bottom_line c)) (closes-separator t (bottom_line b) (bottom_line c) (told t 12 (lit< tt)) (told t 15 (lit< tt)) (told t 13 (lit< tt)) (told t 14 (lit< tt))) in

@@ -1,5 +1,5 @@
 -- Where nothing is free below a text, its vertical alignment changes nothing.
-use Rattle.std.proofs.Common.{◌≡◌, ℕ, zero, suc, ◌+◌, ◌-◌, ◌<◌, ◌≤◌, min, Bool, true, false, cond, not, ◌&&◌, ◌||◌, ◌==◌, nat_lt, List, [], ◌∷◌, ◌++◌, map, flat_map, length, filter, refl, ap, ap₂, ◌∙◌, arith, Option, unwrap_or, inl, inr}
+use Rattle.std.proofs.Common.{◌≡◌, ℕ, ◌+◌, ◌-◌, ◌<◌, ◌≤◌, min, Bool, true, false, cond, not, ◌&&◌, ◌||◌, ◌==◌, nat_lt, List, [], ◌∷◌, ◌++◌, map, flat_map, length, filter, refl, ap, ap₂, ◌∙◌, arith, Option, unwrap_or, inl, inr}
 use mathlib.Core.Path.{fun_ext}
 use Rattle.std.specs.List.{range_with_len, enumerate_from}
 use Rattle.std.specs.List.{list_any}
@@ -17,14 +17,14 @@ use Rattle.pg_layout.specs.Text.{Text, lines_of}
 use Rattle.pg_config.specs.Settings.{Settings}
 use Rattle.pg_config.specs.Config.{has_horizontal, has_vertical, count_vertical, get_horizontal, get_vertical, get_intersection, get_horizontal_color, get_vertical_color, get_intersection_color, get_padding, get_padding_color, get_alignment_horizontal, get_alignment_vertical, get_formatting, get_justification, get_justification_color}
 use Rattle.pg_config.specs.Spans.{Span, span_key, in_span, has_row_spans, size_of, owner, rect_rows, is_left, begins_above}
-use Rattle.pg_picture.specs.Marks.{Mark, sep, line, only_if, marks_of_row, marks_above, body, marks_within, stands_within, place_of}
+use Rattle.pg_picture.specs.Marks.{Mark, sep, line, only_if, body, marks_within, stands_within, place_of}
 use Rattle.pg_picture.specs.Pieces.{Style, style_at, Piece, written, separator_text, block, trimmed_if, shown, kept_lines, lines_above, inner_width, left_share, text_line, text_height, text_top, block_line}
 use Rattle.pg_picture.specs.Table.{Table, Hint, rect_marks, rect_height, rect_width, block_at, is_inside, vertical_at, row_part, row_line, is_covered, crossing_at, crossing, column_items, separator_part, separator_items, total_width, full_width, side_margin, margin_lines, mark_text, body_line, table_body}
 use Rattle.pg_picture.specs.Joined.{joined}
 use Rattle.pg_picture.specs.Picture.{top_lines, bottom_lines, body_lines, picture_lines, picture}
 use Rattle.pg_picture.specs.Laws.{aligned_down, IsFull, FullCellsIgnoreAlignment, HasSingleLines, SingleLinesIgnoreAlignment}
 use Rattle.pg_picture.proofs.PlacesOfTexts.{lines_above-none}
-use Rattle.pg_picture.proofs.MarksOfBodies.{All-body, All-enumerate_from, map-same}
+use Rattle.pg_picture.proofs.MarksOfBodies.{All-body, All-enumerate_from, body-same, map-same}
 use Rattle.pg_picture.proofs.PlainTables.{rect_height-one_row}
 
 -- ---- a cell
@@ -56,14 +56,9 @@ module _ (down : Settings AlignmentVertical) (t : Table) where
   unfolding style_at get_padding get_padding_color get_alignment_horizontal get_formatting get_justification get_justification_color
   style-aligned p = refl
 
-  above-aligned : (r : ℕ) → marks_above (aligned_down down t).config t.height r ≡ marks_above t.config t.height r
-  unfolding marks_above marks_of_row has_horizontal
-  above-aligned zero = refl
-  above-aligned (suc r) = ap (λ l. l ++ marks_of_row t.config t.height r) (above-aligned r)
-
   body-aligned : body (aligned_down down t).config t.height t.rows ≡ body t.config t.height t.rows
-  unfolding body has_horizontal
-  body-aligned = ap (λ l. l ++ only_if (has_horizontal t.config t.rows t.rows) (sep t.rows)) (above-aligned t.rows)
+  unfolding has_horizontal
+  body-aligned = body-same (aligned_down down t).config t.config t.height (λ r n. refl) t.rows
 
   rect_marks-aligned : (p : Position) → rect_marks (aligned_down down t) p ≡ rect_marks t p
   unfolding rect_marks marks_within

@@ -45,6 +45,7 @@ mod WidthsOfBlocks
 mod BlocksOfRectangles
 mod ColorsOfLines
 mod CompactColors
+mod PictureColors
 mod MarksOfBodies
 mod FullCells
 mod GlyphsOfLines
@@ -52,4 +53,4 @@ mod ReachOfRectangles
 mod PartsOfColumns
 mod StraightColumns
 mod DrawnCells
-mod LittleTold
+mod PlainPictures

@@ -35,6 +35,17 @@ module _ (P : Mark → Type 0) (config : Config) (height : ℕ → ℕ) where
         All-append P (marks_above config height rows) (only_if (has_horizontal config rows rows) (sep rows)) (All-marks_above rows (omega arith))
         (All-only_if (has_horizontal config rows rows) rows (separators rows (omega arith)))
 
+-- configurations with the same row lines have the same bodies
+module _ (c d : Config) (height : ℕ → ℕ) (same : (r n : ℕ) → has_horizontal c r n ≡ has_horizontal d r n) where
+  above-same : (r : ℕ) → marks_above c height r ≡ marks_above d height r
+  unfolding marks_above marks_of_row
+  above-same zero = refl
+  above-same (suc r) = ap₂ (λ (l : List Mark) (b : Bool). l ++ (only_if b (sep r) ++ map (line r) (range_with_len 0 (height r)))) (above-same r) (same r (r + 1))
+
+  pub body-same : (rows : ℕ) → body c height rows ≡ body d height rows
+  unfolding body
+  body-same rows = ap₂ (λ (l : List Mark) (b : Bool). l ++ only_if b (sep rows)) (above-same rows) (same rows rows)
+
 -- the same at each number
 pub All-enumerate_from : {X : Type 0} (P : X → Type 0) (i : ℕ) (xs : List X) → All P xs → All (λ (e : ℕ × X). P e.1) (enumerate_from i xs)
 All-enumerate_from P i [] h = All-nil (λ (e : _ × _). P e.1)

@@ -3,6 +3,7 @@ use Rattle.std.specs.Prelude.{◌≡◌, ℕ, ◌+◌, ◌-◌, ◌*◌, ◌<◌
 use Rattle.std.specs.List.{AllZip, range_with_len, enumerate_from, join_with_byte, Contains}
 use Rattle.std.specs.Option.{option_to_list}
 use Rattle.pg_layout.specs.declared.position.Position.{Position}
+use Rattle.pg_layout.specs.declared.sides.Sides.{Sides}
 use Rattle.pg_layout.specs.declared.sides.Offset.{Offset}
 use Rattle.pg_layout.specs.declared.sides.Offset.TheVariants.{Start, End}
 use Rattle.pg_layout.specs.declared.alignment.AlignmentVertical.{AlignmentVertical}
@@ -11,9 +12,10 @@ use Rattle.pg_layout.specs.Position.{at}
 use Rattle.pg_layout.specs.Colors.{Color}
 use Rattle.pg_layout.specs.Borders.{no_borders}
 use Rattle.pg_config.specs.CompactConfig.{CompactSettings, empty_color}
-use Rattle.pg_config.specs.Settings.{Settings}
+use Rattle.pg_config.specs.Overrides.{no_overrides}
+use Rattle.pg_config.specs.Settings.{Settings, no_settings}
 use Rattle.pg_config.specs.Config.{filled, has_horizontal, has_vertical, get_horizontal, get_vertical, get_intersection, get_padding, get_formatting}
-use Rattle.pg_config.specs.Offsets.{lookup_offset}
+use Rattle.pg_config.specs.Offsets.{no_offsets, lookup_offset}
 use Rattle.pg_config.specs.Spans.{StandAtPlaces, owner, rect_rows, rect_columns, has_row_spans}
 use Rattle.pg_picture.specs.Marks.{Mark, sep, line}
 use Rattle.pg_picture.specs.Pieces.{Piece, run, words, in_color, repeated, written, pieces_width, Style, style_at, shown, block_line, Item, glyph, spaces, block, separator_text}
@@ -43,7 +45,8 @@ CompactLinesAreJoined = (t : CompactTable) → 0 < t.rows → 0 < t.columns → 
 abbrev pub IsOneLine : Text → Type 0
 IsOneLine text = All (λ b. (b == 10) ≡ false) text
 
--- Where no line has a line feed of its own, a picture of some lines is cut into its lines at its line feeds.
+-- Where no line has a line feed of its own, a picture of some lines is cut into its lines at its line feeds. A glyph, a
+-- fill or a colour may be a line feed; and a text without line feed is cut into one line, never into none.
 abbrev pub LinesAreCut : Type 0
 LinesAreCut = (hint : Hint) (t : Table) → 0 < t.rows → 0 < t.columns → 0 < length (picture_lines hint t) → All IsOneLine (picture_lines hint t) → lines_of (picture hint t) ≡ picture_lines hint t
 
@@ -81,7 +84,8 @@ pub record Fills (w h : ℕ) (lines : List (List Piece)) : Type 0 where
   pub high : length lines ≡ h
   pub wide : All (λ pieces. pieces_width pieces ≡ w) lines
 
--- Where a cell has room and its fills are narrow, its block is as wide and as high as its rectangle.
+-- Where a cell has room and its fills are narrow, its block is as wide and as high as its rectangle. A line that is wider
+-- than its room is written whole, and a fill has so many characters as it is to have columns.
 abbrev pub BlocksFill : Type 0
 BlocksFill = (t : Table) (p : Position) → HasNarrowFills (style_at t.config p) → cell_fits (style_at t.config p) (t.text p) (rect_width t p) (rect_height t p) ≡ true → Fills (rect_width t p) (rect_height t p) (map (block_at t p) (rect_marks t p))
 
@@ -151,6 +155,32 @@ LinesCloseColors =
 abbrev pub PartsCloseColors : Type 0
 PartsCloseColors = (parts : List Part) → ClosesColors (flat_map (λ part. option_to_list part.2) parts) (flat_map (λ part. repeated part.0 part.1) parts) (parts_after None parts)
 
+-- the same table without colours
+abbrev pub without_colors : Table → Table
+without_colors t = record t {
+  color = λ p. None;
+  config = record t.config {
+    border_colors = no_borders;
+    color_overrides = no_overrides;
+    horizontal_colors = no_offsets;
+    vertical_colors = no_offsets;
+    margin_color = filled None;
+    padding_color = no_settings;
+    justification_color = no_settings;
+  };
+}
+
+-- the colours of all lines of a picture
+abbrev pub margin_colors : Sides (Option Color) → List Color
+margin_colors c = option_to_list c.left ++ (option_to_list c.right ++ (option_to_list c.top ++ option_to_list c.bottom))
+
+abbrev pub picture_colors : Table → List Color
+picture_colors t = margin_colors t.config.margin_color ++ flat_map (colors_of_mark t) (table_body t)
+
+-- Each line of a picture closes its colours, and without them it is the line of the table without colours.
+abbrev pub PictureLinesCloseColors : Type 0
+PictureLinesCloseColors = (hint : Hint) (t : Table) → AllZip (ClosesColors (picture_colors t)) (picture_lines hint (without_colors t)) (picture_lines hint t)
+
 -- the colours that a compact table was told, where it was told one, and those of its texts
 abbrev pub told_colors : CompactSettings → List (Option Color)
 told_colors c =
@@ -168,15 +198,15 @@ abbrev pub compact_colors : CompactTable → List Color
 compact_colors t = flat_map option_to_list (told_colors t.config) ++ flat_map (colors_of_row t) (range_with_len 0 t.rows)
 
 -- the same table without colours
-abbrev pub without_colors : CompactTable → CompactTable
-without_colors t = record t {
+abbrev pub compact_without_colors : CompactTable → CompactTable
+compact_without_colors t = record t {
   color = λ p. None;
   config = record t.config { margin_color = filled empty_color; padding_color = filled empty_color; borders_color = no_borders };
 }
 
 -- Each line of a compact table closes its colours, and without them it is the line of the table without colours.
 abbrev pub CompactLinesCloseColors : Type 0
-CompactLinesCloseColors = (t : CompactTable) → AllZip (ClosesColors (compact_colors t)) (compact_lines (without_colors t)) (compact_lines t)
+CompactLinesCloseColors = (t : CompactTable) → AllZip (ClosesColors (compact_colors t)) (compact_lines (compact_without_colors t)) (compact_lines t)
 
 -- ---- vertical alignment
 
@@ -195,7 +225,8 @@ FullCellsIgnoreAlignment =
     → ((r c : ℕ) → r < t.rows → c < t.columns → IsFull t (at r c))
     → picture hint (aligned_down down t) ≡ picture hint t
 
--- no row spans, rows of one line, and texts of one line, which vertical trim doesn't take away
+-- No row spans, rows of one line, and texts of one line. Vertical trim would take away a blank one, and then vertical
+-- alignment chooses between the fills of the top and the bottom padding.
 pub record HasSingleLines (t : Table) : Type 0 where
   pub spans : has_row_spans t.config.spans ≡ false
   pub heights : (r : ℕ) → r < t.rows → t.height r ≡ 1
@@ -219,7 +250,9 @@ abbrev pub mark_width : Table → Mark → ℕ
 mark_width t (line r i) = pieces_width (row_line t r i)
 mark_width t (sep r) = sum_by item_width (separator_items t r)
 
--- spans that stand at places and fit, and room for each shown cell
+-- Spans that stand at places and fit, and room for each shown cell: a rectangle that another one covers in part, or that
+-- leaves the table, takes columns that aren't its own, and a text without room makes its line longer. A configuration
+-- keeps its spans at places.
 pub record CellsFit (t : Table) : Type 0 where
   pub places : StandAtPlaces t.config.spans
   pub spans : spans_fit t.config.spans t.rows t.columns ≡ true
@@ -234,7 +267,8 @@ pub record HasNarrowGlyphs (t : Table) : Type 0 where
   pub horizontal_offsets : (r c i : ℕ) → r ≤ t.rows → c < t.columns → i < t.width c → IfSome (lookup_offset t.config.horizontal_chars (at r c) i (t.width c)) IsNarrow
   pub crossings : (r c : ℕ) → r ≤ t.rows → c ≤ t.columns → IfSome (get_intersection t.config (at r c) t.rows t.columns) IsNarrow
 
--- a column line that is there has a glyph in each row, and at each crossing with a row line that is there
+-- A column line that is there has a glyph in each row, and at each crossing with a row line that is there. The total width
+-- counts it also where nothing stands; spaces stand for a horizontal without glyph, so those need none.
 pub record HasNoGaps (t : Table) : Type 0 where
   pub verticals : (r c : ℕ) → r < t.rows → c ≤ t.columns → has_vertical t.config c t.columns ≡ true → IsSome (get_vertical t.config (at r c) t.columns)
   pub crossings : (r c : ℕ) → r ≤ t.rows → c ≤ t.columns → has_horizontal t.config r t.rows ≡ true → has_vertical t.config c t.columns ≡ true → IsSome (get_intersection t.config (at r c) t.rows t.columns)
@@ -278,7 +312,7 @@ IsDrawn t p (sep r) =
     (column_items t r p.col ≡ block (block_at t p (sep r)) ∷ [])
     × ((c : ℕ) → p.col < c → c < p.col + rect_columns t.config.spans p → separator_part t r c ≡ [])
 
--- A shown cell is drawn in the line of each mark of its rectangle.
+-- A shown cell is drawn in the line of each mark of its rectangle. Where rectangles share places, one of them loses lines.
 abbrev pub ShownCellsAreDrawn : Type 0
 ShownCellsAreDrawn =
     (t : Table) → StandAtPlaces t.config.spans → spans_fit t.config.spans t.rows t.columns ≡ true

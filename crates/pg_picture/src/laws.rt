@@ -1,6 +1,6 @@
 //! Laws of the picture. The functions do nothing: their contracts are the laws.
 
-ghost use Rattle.pg_picture.specs.Laws.{NothingToDraw, NothingCompactToDraw, LinesAreJoined, CompactLinesAreJoined, LinesAreCut, CompactLinesAreCut, LinesAreCounted, BlocksAreDrawn, BlocksFill, PiecesCloseColors, SeparatorsCloseColors, LinesCloseColors, PartsCloseColors, CompactLinesCloseColors, FullCellsIgnoreAlignment, SingleLinesIgnoreAlignment, ColumnsAreStraight, MissingGlyphFillsGaps, MarginsAreStraight, ShownCellsAreDrawn, RectanglesStandTogether, PlainRows, PlainSeparators, BodiesStandAlone, HintsAreIdle};
+ghost use Rattle.pg_picture.specs.Laws.{NothingToDraw, NothingCompactToDraw, LinesAreJoined, CompactLinesAreJoined, LinesAreCut, CompactLinesAreCut, LinesAreCounted, BlocksAreDrawn, BlocksFill, PiecesCloseColors, SeparatorsCloseColors, LinesCloseColors, PictureLinesCloseColors, PartsCloseColors, CompactLinesCloseColors, FullCellsIgnoreAlignment, SingleLinesIgnoreAlignment, ColumnsAreStraight, MissingGlyphFillsGaps, MarginsAreStraight, ShownCellsAreDrawn, RectanglesStandTogether, PlainRows, PlainSeparators, BodiesStandAlone, HintsAreIdle};
 
 /// A table with no rows or no columns has the empty picture, whatever else it was told.
 pub fn no_rows_or_columns_draw_nothing()
@@ -34,12 +34,13 @@ pub fn a_block_fills_its_rectangle()
 
 /// Each colour prefix in a line is followed by its suffix in the same line, before another prefix
 /// comes: a line is made of parts that stand alone or between the prefix and the suffix of one of
-/// its colours. Without prefixes and suffixes the line is its glyphs, texts and fills; a line of a
-/// compact table is that of the same table without colours.
+/// its colours. Without prefixes and suffixes the line is its glyphs, texts and fills, and so the
+/// line of the same table without colours.
 pub fn colors_are_closed_in_their_line()
     ensures pieces { PiecesCloseColors }
     ensures separators { SeparatorsCloseColors }
     ensures lines { LinesCloseColors }
+    ensures pictures { PictureLinesCloseColors }
     ensures compact_separators { PartsCloseColors }
     ensures compact_lines { CompactLinesCloseColors }
 {}

@@ -1,4 +1,4 @@
-use Rattle.pg_picture.proofs.LittleTold.{bodies_stand_alone}
+use Rattle.pg_picture.proofs.PlainPictures.{bodies_stand_alone}
 use Rattle.pg_picture.proofs.laws.margins_of_size_0_add_nothing.Goals as goal
 
 pub returns : goal.returns
