@@ -11,7 +11,7 @@ use Rattle.pg_picture.specs.Picture.{top_lines, bottom_lines, body_lines, body_t
 use Rattle.pg_picture.proofs.BodyLines.{length-body_lines}
 
 -- of the lines that stand already it counts only whether there are any
-continued-any : (n : ℕ) (b : Bool) (xs : List Text) → b ≡ (n == 0) → continued n xs ≡ continued (lines_before b) xs
+pub continued-any : (n : ℕ) (b : Bool) (xs : List Text) → b ≡ (n == 0) → continued n xs ≡ continued (lines_before b) xs
 unfolding continued
 continued-any zero b xs is = rw is refl
 continued-any (suc n) b xs is = let some : (suc n == 0) ≡ false = grind (arith, nat_tests) in rw (is, some) refl
