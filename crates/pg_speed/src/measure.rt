@@ -4,7 +4,7 @@ ghost use Rattle.std.specs.Prelude.{◌≡◌, None};
 ghost use Rattle.pg_picture.specs.Fits.{misfit_of};
 ghost use Rattle.pg_grid.specs.Grids.{peekable_table};
 
-use crate::case::Case;
+use crate::case::{Case, Size};
 use crate::checksum::checksum;
 use crate::failure::Failure;
 use crate::settings::{colors, settings};
@@ -27,29 +27,79 @@ pub(crate) struct Measured {
     pub(crate) checksum: u64,
 }
 
+/// The texts, the sizes and the settings of a table.
+#[derive(Drop)]
+struct Bench<A: Allocator> {
+    records: VecRecords<String<A>, A>,
+    dimension: ConstantDimension<A>,
+    config: SpannedConfig<A>,
+}
+
+impl<A: Allocator + Copy> Bench<A> {
+    // The table of a case.
+    fn new(alloc: A, case: Case) -> Result<Bench<A>, Failure> {
+        let size = case.size();
+        Ok(Bench {
+            records: records(alloc, size, case.words())?,
+            dimension: dimension(alloc, size)?,
+            config: settings(alloc, case)?,
+        })
+    }
+
+    // Its text, built so many times.
+    fn text(&self, alloc: A, case: Case, times: usize) -> Result<String<A>, Failure> {
+        if case.is_colored() {
+            return self.colored_text(alloc, case.size(), times);
+        }
+        self.text_in(alloc, &NoColors, times)
+    }
+
+    // Its text with colours of cells.
+    fn colored_text(&self, alloc: A, size: Size, times: usize) -> Result<String<A>, Failure> {
+        let colors = colors(alloc, size)?;
+        self.text_in(alloc, &colors, times)
+    }
+
+    // Its text in these colours.
+    fn text_in<C: Colors>(&self, alloc: A, colors: &C, times: usize) -> Result<String<A>, Failure> {
+        looked_up(
+            alloc,
+            &self.records,
+            &self.dimension,
+            &self.config,
+            colors,
+            times,
+        )
+    }
+}
+
+// Columns and rows of one size each.
+fn dimension<A: Allocator + Copy>(
+    alloc: A,
+    size: Size,
+) -> Result<ConstantDimension<A>, AllocError> {
+    Ok(ConstantDimension(
+        vec![in alloc; WIDTH; size.columns]?,
+        vec![in alloc; size.height; size.rows]?,
+    ))
+}
+
 /// Builds the table of a case so many times.
 pub(crate) fn measure<A: Allocator + Copy>(
     alloc: A,
     case: Case,
     times: usize,
 ) -> Result<Measured, Failure> {
-    let size = case.size();
-    let records = records(alloc, size, case.words())?;
-    let dimension = ConstantDimension(
-        vec![in alloc; WIDTH; size.columns]?,
-        vec![in alloc; size.height; size.rows]?,
-    );
-    let config = settings(alloc, case)?;
-    let text = if case.is_colored() {
-        let colors = colors(alloc, size)?;
-        looked_up(alloc, &records, &dimension, &config, &colors, times)?
-    } else {
-        looked_up(alloc, &records, &dimension, &config, &NoColors, times)?
-    };
+    let text = text_of(alloc, case, times)?;
     Ok(Measured {
         bytes: text.len(),
         checksum: checksum(text.as_bytes()),
     })
+}
+
+fn text_of<A: Allocator + Copy>(alloc: A, case: Case, times: usize) -> Result<String<A>, Failure> {
+    let bench = Bench::new(alloc, case)?;
+    bench.text(alloc, case, times)
 }
 
 // The text of a table as the looked-up grid prints it, built so many times.

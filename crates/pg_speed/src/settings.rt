@@ -147,23 +147,47 @@ fn blue<A: Allocator + Copy>(alloc: A) -> Result<Option<ANSIBuf<A>>, AllocError>
 }
 
 fn blue_borders<A: Allocator + Copy>(alloc: A) -> Result<Borders<ANSIBuf<A>>, AllocError> {
-    Ok(Borders {
-        top: blue(alloc)?,
-        top_left: blue(alloc)?,
-        top_right: blue(alloc)?,
-        top_intersection: blue(alloc)?,
-        bottom: blue(alloc)?,
-        bottom_left: blue(alloc)?,
-        bottom_right: blue(alloc)?,
-        bottom_intersection: blue(alloc)?,
-        horizontal: blue(alloc)?,
-        left_intersection: blue(alloc)?,
-        right_intersection: blue(alloc)?,
-        intersection: blue(alloc)?,
-        left: blue(alloc)?,
-        right: blue(alloc)?,
-        vertical: blue(alloc)?,
-    })
+    let mut borders = Borders::empty();
+    color_top_and_bottom(alloc, &mut borders)?;
+    color_between_rows(alloc, &mut borders)?;
+    color_columns(alloc, &mut borders)?;
+    Ok(borders)
+}
+
+fn color_top_and_bottom<A: Allocator + Copy>(
+    alloc: A,
+    borders: &mut Borders<ANSIBuf<A>>,
+) -> Result<(), AllocError> {
+    borders.top = blue(alloc)?;
+    borders.top_left = blue(alloc)?;
+    borders.top_right = blue(alloc)?;
+    borders.top_intersection = blue(alloc)?;
+    borders.bottom = blue(alloc)?;
+    borders.bottom_left = blue(alloc)?;
+    borders.bottom_right = blue(alloc)?;
+    borders.bottom_intersection = blue(alloc)?;
+    Ok(())
+}
+
+fn color_between_rows<A: Allocator + Copy>(
+    alloc: A,
+    borders: &mut Borders<ANSIBuf<A>>,
+) -> Result<(), AllocError> {
+    borders.horizontal = blue(alloc)?;
+    borders.left_intersection = blue(alloc)?;
+    borders.right_intersection = blue(alloc)?;
+    borders.intersection = blue(alloc)?;
+    Ok(())
+}
+
+fn color_columns<A: Allocator + Copy>(
+    alloc: A,
+    borders: &mut Borders<ANSIBuf<A>>,
+) -> Result<(), AllocError> {
+    borders.left = blue(alloc)?;
+    borders.right = blue(alloc)?;
+    borders.vertical = blue(alloc)?;
+    Ok(())
 }
 
 /// The colours of the cells: each third cell has one of seven.
