@@ -1,6 +1,7 @@
 -- Lemmas of this crate.
 pub mod LinesLaw
 mod OverrideColumns
+mod KeptSpans
 mod SettingNumbers
 mod SpansAtPlaces
 pub mod SettingsLaw

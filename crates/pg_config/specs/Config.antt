@@ -1,5 +1,5 @@
 -- What a table was told, one part for each kind of setting, and what the getters answer.
-use Rattle.std.specs.Prelude.{ℕ, ◌+◌, Bool, false, true, ◌&&◌, ◌||◌, List, [], count_by, Option, Some, None, unwrap_or, if◌then◌else◌}
+use Rattle.std.specs.Prelude.{ℕ, ◌+◌, Bool, false, ◌&&◌, ◌||◌, List, [], count_by, Option, Some, None, unwrap_or, if◌then◌else◌}
 use Rattle.std.specs.List.{range_with_len}
 use Rattle.std.specs.Option.{option_or}
 use Rattle.pg_layout.specs.declared.position.Position.{Position}

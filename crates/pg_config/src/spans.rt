@@ -1,8 +1,8 @@
 //! The rectangles of cells that span rows or columns.
 
-ghost use Rattle.std.specs.Prelude.{◌≡◌, ℕ, [], List, OnOk, OnErr, option_map};
-ghost use Rattle.pg_layout.specs.Places.{IsAscending};
-ghost use Rattle.pg_config.specs.Spans.{Span, StandAtPlaces, size_of, with_size, with_column_span, with_row_span, has_column_spans, has_row_spans, in_span, if_left, left_span, is_covered_by_column, is_covered_by_row, is_covered_by_both};
+ghost use Rattle.std.specs.Prelude.{◌≡◌, ℕ, [], List, OnOk, OnErr, IsOk, IsSome, option_map};
+ghost use Rattle.pg_layout.specs.Places.{IsAscending, value_at};
+ghost use Rattle.pg_config.specs.Spans.{Span, StandAtPlaces, span_key, size_of, with_size, with_column_span, with_row_span, has_column_spans, has_row_spans, in_span, if_left, left_span, is_covered_by_column, is_covered_by_row, is_covered_by_both};
 
 use pg_layout::{Key, Places, Position};
 use std::alloc::{AllocError, Allocator, Global};
@@ -59,6 +59,8 @@ impl<A: Allocator> Spans<A> {
     fn set_size(&mut self, pos: Position, size: (usize, usize)) -> Result<(), AllocError>
         ensures ok { OnOk result (self.new ≡ with_size pos size self.old) }
         ensures err { OnErr result (self.new ≡ self.old) }
+        ensures again { IsSome (value_at (span_key pos) self.old) → IsOk result }
+        ensures one { size ≡ (1, 1) → IsOk result }
     {
         if size.0 == 1 && size.1 == 1 {
             self.sizes.remove(key_of(pos));
@@ -72,6 +74,8 @@ impl<A: Allocator> Spans<A> {
     pub fn set_columns(&mut self, pos: Position, columns: usize) -> Result<(), AllocError>
         ensures ok { OnOk result (self.new ≡ with_column_span pos columns self.old) }
         ensures err { OnErr result (self.new ≡ self.old) }
+        ensures again { IsSome (value_at (span_key pos) self.old) → IsOk result }
+        ensures one { columns ≡ 1 → IsOk result }
     {
         let rows = self.size(pos).0;
         self.set_size(pos, (rows, columns))
@@ -82,6 +86,8 @@ impl<A: Allocator> Spans<A> {
     pub fn set_rows(&mut self, pos: Position, rows: usize) -> Result<(), AllocError>
         ensures ok { OnOk result (self.new ≡ with_row_span pos rows self.old) }
         ensures err { OnErr result (self.new ≡ self.old) }
+        ensures again { IsSome (value_at (span_key pos) self.old) → IsOk result }
+        ensures one { rows ≡ 1 → IsOk result }
     {
         let columns = self.size(pos).1;
         self.set_size(pos, (rows, columns))

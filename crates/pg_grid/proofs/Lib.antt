@@ -3,3 +3,7 @@ pub mod RowParts
 pub mod CanDraw
 pub mod RectangleParts
 pub mod SeparatorParts
+pub mod CompactRows
+pub mod CompactSeparators
+pub mod CompactBodies
+pub mod CompactPictures

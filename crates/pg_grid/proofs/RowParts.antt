@@ -12,7 +12,8 @@ use Rattle.pg_picture.specs.FitLaws.{TableFits}
 use Rattle.pg_picture.specs.Rectangles.{columns_or_one}
 use Rattle.pg_picture.proofs.PiecesOfLines.{written-append}
 use Rattle.pg_picture.proofs.Ranges.{range-more, range-cut}
-use Rattle.pg_picture.proofs.PlainTables.{row_part_plain, cell_line}
+use Rattle.pg_picture.specs.Laws.{cell_line}
+use Rattle.pg_picture.proofs.PlainTables.{row_part_plain}
 use Rattle.pg_picture.proofs.OwnersOfPlaces.{InOrder, owner_alone, owner_found, size_alone, step, step_positive, step_inside, next_left}
 use Rattle.pg_picture.proofs.WalksOfRows.{walk_step, row_part_end, row_part_left, row_part_inner}
 use Rattle.pg_picture.proofs.DrawnRectangles.{single_line, single_room}

@@ -1,6 +1,8 @@
 //! The table printers.
 #![tactic(auto)]
 
+mod compact;
 mod peekable;
 
+pub use crate::compact::CompactGrid;
 pub use crate::peekable::PeekableGrid;

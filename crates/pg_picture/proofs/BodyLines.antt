@@ -1,10 +1,8 @@
 -- The lines of the body: of no marks, of some and of some more, and as they continue a text.
-use Rattle.std.proofs.Common.{length-append, Result, IfOk, ◌≡◌, ℕ, zero, suc, ◌+◌, ◌-◌, ◌<◌, ◌≤◌, ◌==◌, Bool, true, false, cond, List, [], ◌∷◌, ◌++◌, map, length, refl, sym, ap, ap₂, ◌∙◌, append_assoc, append-nil, add_assoc, add-zero, add-suc, zero-add, one-add, arith, subst, inl, inr, if◌then◌else◌}
+use Rattle.std.proofs.Common.{length-append, Result, IfOk, ◌≡◌, ℕ, zero, suc, ◌+◌, ◌-◌, ◌<◌, ◌≤◌, ◌==◌, Bool, false, List, [], ◌∷◌, ◌++◌, map, length, refl, sym, ap, ap₂, ◌∙◌, append_assoc, add_assoc, add-zero, zero-add, arith, subst}
 use Rattle.std.specs.List.{enumerate_from, range_with_len}
 use Rattle.std.proofs.lemmas.List.{map-append, length-map}
 use Rattle.std.proofs.lemmas.List.FromFn.{length-enumerate_from, length-map-range_with_len}
-use Rattle.std.proofs.lemmas.Bool.{cases_Bool}
-use Rattle.std.proofs.lemmas.Bool.Decides.{nat_tests}
 use Rattle.pg_layout.specs.Text.{Text}
 use Rattle.pg_config.specs.Config.{Config, has_horizontal}
 use Rattle.pg_config.proofs.LinesLaw.{rows_stay}
@@ -13,7 +11,7 @@ use Rattle.pg_picture.specs.Marks.{Mark, sep, line, only_if, marks_of_row, marks
 use Rattle.pg_picture.specs.Table.{Table, Hint, Known, body_line, table_body}
 use Rattle.pg_picture.proofs.Ranges.{range-add}
 use Rattle.pg_picture.proofs.MarksOfRectangles.{rows_from, marks_above-add}
-use Rattle.pg_picture.specs.Joined.{continued, joined, lines_before, feed_before}
+use Rattle.pg_picture.specs.Joined.{continued, feed_before}
 use Rattle.pg_picture.proofs.JoinedLines.{continued-append, continued-nil, continued-line}
 use Rattle.pg_picture.specs.Picture.{body_lines, body_text}
 

@@ -1,5 +1,5 @@
 -- The crossing of two lines, where nothing stands.
-use Rattle.std.proofs.Common.{◌≡◌, ℕ, false, List, [], Option, None, refl, sym, ap, ◌∙◌, inl, inr}
+use Rattle.std.proofs.Common.{◌≡◌, ℕ, false, List, [], Option, None, refl, inl, inr}
 use Rattle.std.proofs.lemmas.Bool.{cases_Bool}
 use Rattle.pg_layout.specs.declared.position.Position.{Position}
 use Rattle.pg_layout.specs.Colors.{Color}

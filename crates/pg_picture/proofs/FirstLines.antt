@@ -1,5 +1,5 @@
 -- A line of the body and its margins, as the texts that are appended for it.
-use Rattle.std.proofs.Common.{◌≡◌, ℕ, ◌+◌, ◌==◌, Bool, List, [], ◌∷◌, ◌++◌, length, sym, ap, ◌∙◌, append_assoc, Some}
+use Rattle.std.proofs.Common.{◌≡◌, ℕ, ◌+◌, ◌==◌, Bool, [], ◌∷◌, ◌++◌, length, sym, ap, ◌∙◌, append_assoc, Some}
 use Rattle.pg_layout.specs.Text.{Text}
 use Rattle.pg_picture.specs.Marks.{Mark}
 use Rattle.pg_picture.specs.Pieces.{written}

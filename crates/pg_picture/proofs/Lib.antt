@@ -10,6 +10,7 @@ pub mod JoinedLines
 pub mod Margins
 pub mod CutsOfItems
 pub mod CutsOfParts
+pub mod CompactPieces
 pub mod Crossings
 pub mod Horizontals
 pub mod Verticals
@@ -23,6 +24,7 @@ pub mod FittingTables
 pub mod SpansByPlaces
 pub mod OwnersOfPlaces
 pub mod WalksOfRows
+pub mod Owners
 pub mod PlacesInRectangles
 pub mod DrawnRectangles
 pub mod Computing
@@ -38,3 +40,17 @@ pub mod RowsSpans
 pub mod RowsColors
 pub mod RowsMargins
 pub mod RowsCompact
+mod LinesOfPictures
+mod WidthsOfBlocks
+mod BlocksOfRectangles
+mod ColorsOfLines
+mod CompactColors
+mod PictureColors
+mod MarksOfBodies
+mod FullCells
+mod GlyphsOfLines
+mod ReachOfRectangles
+mod PartsOfColumns
+mod StraightColumns
+mod DrawnCells
+mod PlainPictures

@@ -1,19 +1,17 @@
 -- The picture as its parts: the top margin, the body and the bottom margin.
-use Rattle.std.proofs.Common.{◌≡◌, ℕ, zero, suc, ◌+◌, ◌<◌, Bool, true, false, ◌&&◌, ◌||◌, ◌==◌, List, [], ◌∷◌, ◌++◌, Option, None, length, replicate, refl, sym, ap, ap₂, ◌∙◌, zero-add, add-zero, arith}
+use Rattle.std.proofs.Common.{◌≡◌, ℕ, zero, suc, ◌+◌, Bool, true, false, ◌&&◌, ◌||◌, ◌==◌, List, [], ◌++◌, length, replicate, refl, sym, ap, ap₂, ◌∙◌, zero-add, add-zero, arith}
 use Rattle.std.proofs.lemmas.List.{length-replicate}
 use Rattle.std.proofs.lemmas.Bool.Decides.{nat_tests}
 use Rattle.pg_layout.specs.Text.{Text}
-use Rattle.pg_layout.specs.Position.{at}
 use Rattle.pg_picture.specs.Joined.{joined, continued, lines_before}
 use Rattle.pg_picture.specs.Table.{Table, Hint, margin_line, margin_lines, full_width, table_body}
 use Rattle.pg_picture.specs.Pieces.{written}
-use Rattle.pg_picture.specs.Fits.{misfit_of}
 use Rattle.pg_picture.proofs.JoinedLines.{continued-append}
 use Rattle.pg_picture.specs.Picture.{top_lines, bottom_lines, body_lines, body_text, picture_lines, picture}
 use Rattle.pg_picture.proofs.BodyLines.{length-body_lines}
 
 -- of the lines that stand already it counts only whether there are any
-continued-any : (n : ℕ) (b : Bool) (xs : List Text) → b ≡ (n == 0) → continued n xs ≡ continued (lines_before b) xs
+pub continued-any : (n : ℕ) (b : Bool) (xs : List Text) → b ≡ (n == 0) → continued n xs ≡ continued (lines_before b) xs
 unfolding continued
 continued-any zero b xs is = rw is refl
 continued-any (suc n) b xs is = let some : (suc n == 0) ≡ false = grind (arith, nat_tests) in rw (is, some) refl
@@ -22,7 +20,7 @@ none-of-two : (a b : ℕ) → ((a == 0) && (b == 0)) ≡ ((a + b) == 0)
 none-of-two zero b = ap (λ n. n == 0) (sym (zero-add b))
 none-of-two (suc a) b = let e : (suc a == 0) ≡ false = grind (arith, nat_tests) in let f : ((suc a + b) == 0) ≡ false = grind (arith, nat_tests) in rw (e, f) refl
 
-length-top : (t : Table) → length (top_lines t) ≡ t.config.margin.top.size
+pub length-top : (t : Table) → length (top_lines t) ≡ t.config.margin.top.size
 unfolding top_lines margin_lines
 length-top t = length-replicate t.config.margin.top.size _
 

@@ -96,6 +96,13 @@ shown-at f text k within =
       | false ↦ λ h. let here : k < length lines = omega (arith, length-map lines trimmed) in get_or-map trimmed lines k [] [] here ∙ ap (λ n. trimmed (get_or lines n [])) (sym (zero-add k))
     ] within
 
+-- and no wider than the widest
+pub shown-le-widest : (f : Formatting) (text : Text) (k : ℕ) → k < length (shown f text) → width_of (slice_index_or (shown f text) k []) ≤ widest f text
+shown-le-widest f text k within =
+    let skip : ℕ = (facts_of f text).skip in
+    let count : (facts_of f text).shown ≡ length (shown f text) = unfold facts_of in refl in
+    omega (arith, ap width_of (shown-at f text k (omega (arith, count, within))), line-le-widest f text (skip + k) (omega (arith, facts_of-lines f text, count, within)))
+
 -- ---- the place of a text
 
 pub place-left : (style : Style) (text : Text) (w h : ℕ) (place : CellPlace) → place ≡ place_of (facts_of style.formatting text) style w h → place.left ≡ shared_left style (widest style.formatting text) w
@@ -190,7 +197,7 @@ line_parts-measured style color left w inner share v line room known is =
 
 -- ---- a cell of height 1 whose text is one line as it is
 
-lines_above-none : (down : AlignmentVertical) (n : ℕ) → lines_above down n n ≡ 0
+pub lines_above-none : (down : AlignmentVertical) (n : ℕ) → lines_above down n n ≡ 0
 lines_above-none down n = omega (arith, lines_above-le down n n)
 
 widest-single : (f : Formatting) (text : Text) → f.horizontal_trim ≡ false → f.vertical_trim ≡ false → lines_of text ≡ text ∷ [] → widest f text ≡ width_of text

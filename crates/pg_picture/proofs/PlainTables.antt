@@ -1,16 +1,15 @@
 -- Without spans each place is its own owner, and a line's place in its cell is its number.
-use Rattle.std.proofs.Common.{◌≡◌, ℕ, zero, suc, ◌+◌, ◌-◌, ◌<◌, true, false, ◌&&◌, ◌==◌, nat_lt, List, [], ◌++◌, map, length, refl, ap, ◌∙◌, arith, zero-add, append-nil, one-add, inl, inr, if◌then◌else◌}
+use Rattle.std.proofs.Common.{◌≡◌, ℕ, zero, suc, ◌+◌, ◌-◌, ◌<◌, true, false, ◌&&◌, ◌==◌, nat_lt, List, [], ◌++◌, map, length, refl, ap, ◌∙◌, arith, zero-add, append-nil, one-add}
 use Rattle.std.specs.List.{range_with_len}
 use Rattle.std.proofs.lemmas.List.FromFn.{length-map-range_with_len}
-use Rattle.std.proofs.lemmas.Bool.{cases_Bool}
 use Rattle.std.proofs.lemmas.Bool.Decides.{nat_tests}
 use Rattle.pg_layout.specs.declared.position.Position.{Position}
 use Rattle.pg_layout.specs.Position.{at}
 use Rattle.pg_config.specs.Config.{get_horizontal}
 use Rattle.pg_config.specs.Spans.{size_of, rect_rows, rect_columns, owner, is_left, same_owner, begins_above}
 use Rattle.pg_picture.specs.Marks.{Mark, line, place_of}
-use Rattle.pg_picture.specs.Pieces.{Piece, style_at, block_line}
 use Rattle.pg_picture.specs.Table.{Table, rect_marks, rect_height, rect_width, block_at, row_part, vertical, is_inside, is_covered, crossing, crossing_at, column_items, horizontal_items}
+use Rattle.pg_picture.specs.Laws.{cell_line}
 use Rattle.pg_picture.proofs.MarksOfRectangles.{marks_within-run, run_of, row_lines, rows_from}
 
 -- the index of line i among the lines of its row
@@ -26,9 +25,14 @@ place_in_lines r a (suc n) (suc i) h =
 place_in_row : (r n i : ℕ) → i < n → place_of (line r i) (map (line r) (range_with_len 0 n)) ≡ i
 place_in_row r n i h = rw zero-add at (place_in_lines r 0 n i h)
 
--- line i of a cell that is as wide as its column and as high as its row
-abbrev pub cell_line : Table → ℕ → ℕ → ℕ → List Piece
-cell_line t r x i = block_line (style_at t.config (at r x)) (t.color (at r x)) (t.text (at r x)) (t.width x) (t.height r) i
+-- a rectangle of one row has that row's lines
+rect_marks-one_row : (t : Table) (p : Position) → rect_rows t.config.spans p ≡ 1 → p.row < t.rows → rect_marks t p ≡ map (line p.row) (range_with_len 0 (t.height p.row))
+unfolding rect_marks run_of row_lines rows_from
+rect_marks-one_row t p one h = rw one (let e = marks_within-run t.config t.height p.row 0 t.rows (omega arith) in e ∙ append-nil (map (line p.row) (range_with_len 0 (t.height p.row))))
+
+pub rect_height-one_row : (t : Table) (p : Position) → rect_rows t.config.spans p ≡ 1 → p.row < t.rows → rect_height t p ≡ t.height p.row
+unfolding rect_height
+rect_height-one_row t p one h = ap (λ (l : List Mark). length l) (rect_marks-one_row t p one h) ∙ length-map-range_with_len (line p.row) 0 (t.height p.row)
 
 module _ (t : Table) (none : t.config.spans ≡ []) where
   owner_plain : (r c : ℕ) → owner t.config.spans r c ≡ at r c
@@ -48,13 +52,10 @@ module _ (t : Table) (none : t.config.spans ≡ []) where
   rect_width_plain p = rw (rect_columns_plain p) (omega arith)
 
   rect_marks_plain : (p : Position) → p.row < t.rows → rect_marks t p ≡ map (line p.row) (range_with_len 0 (t.height p.row))
-  unfolding rect_marks run_of row_lines rows_from
-  rect_marks_plain p h =
-      rw (rect_rows_plain p) (let e = marks_within-run t.config t.height p.row 0 t.rows (omega arith) in e ∙ append-nil (map (line p.row) (range_with_len 0 (t.height p.row))))
+  rect_marks_plain p h = rect_marks-one_row t p (rect_rows_plain p) h
 
   pub rect_height_plain : (p : Position) → p.row < t.rows → rect_height t p ≡ t.height p.row
-  unfolding rect_height
-  rect_height_plain p h = ap (λ (l : List Mark). length l) (rect_marks_plain p h) ∙ length-map-range_with_len (line p.row) 0 (t.height p.row)
+  rect_height_plain p h = rect_height-one_row t p (rect_rows_plain p) h
 
   -- line i of a row is line i of each of its cells
   place_plain : (r x i : ℕ) → r < t.rows → i < t.height r → place_of (line r i) (rect_marks t (at r x)) ≡ i

@@ -1,5 +1,5 @@
 -- The items of a separator, one column after the other.
-use Rattle.std.proofs.Common.{◌≡◌, ℕ, ◌+◌, ◌-◌, ◌<◌, List, [], ◌∷◌, ◌++◌, flat_map, Option, None, Result, Ok, Err, IfOk, refl, sym, ap, ap₂, ◌∙◌, append_assoc, append-nil, zero-add, arith}
+use Rattle.std.proofs.Common.{◌≡◌, ℕ, ◌+◌, ◌-◌, ◌<◌, List, [], ◌++◌, flat_map, Option, None, Result, Ok, Err, IfOk, sym, ap, ap₂, ◌∙◌, append_assoc, append-nil, zero-add, arith}
 use Rattle.std.specs.List.{range_with_len}
 use Rattle.std.proofs.lemmas.List.Concat.{flat_map-append}
 use Rattle.pg_layout.specs.declared.position.Position.{Position}

@@ -1,5 +1,5 @@
 -- The glyph of a vertical, where there is one and where there is none.
-use Rattle.std.proofs.Common.{◌≡◌, ℕ, List, [], Option, Some, None, refl}
+use Rattle.std.proofs.Common.{◌≡◌, ℕ, [], Option, Some, None, refl}
 use Rattle.std.specs.Prelude.{unwrap_or}
 use Rattle.std.specs.Option.{option_or}
 use Rattle.pg_layout.specs.declared.position.Position.{Position}
@@ -7,7 +7,7 @@ use Rattle.std.specs.Borrow.{Bor}
 use Rattle.pg_layout.specs.Colors.{Color, lent_color}
 use Rattle.pg_config.specs.Config.{Config, get_vertical, get_vertical_color}
 use Rattle.pg_config.specs.Offsets.{lookup_offset}
-use Rattle.pg_picture.specs.Pieces.{Piece, fill, written}
+use Rattle.pg_picture.specs.Pieces.{fill, written}
 use Rattle.pg_picture.specs.Table.{vertical_at}
 use Rattle.pg_picture.proofs.PiecesOfLines.{written-nil}
 

@@ -59,19 +59,20 @@ between_sides t cell =
     ++ flat_map (λ x. (if x == 0 then [] else colored_glyph b.vertical c.vertical) ++ cell x) (range_with_len 0 t.columns))
     ++ colored_glyph b.right c.right
 
-unfoldable pub compact_cell : CompactTable → ℕ → ℕ → Text
-compact_cell t r x =
-    let p = t.config.padding in
-    let c = t.config.padding_color in
-    let first = first_line_of (t.text (at r x)) in
-    let room : ℕ = t.width x - (p.left.size + p.right.size) in
-    let fits = nat_le (width_of first) room in
-    let share = shares t.config.alignment (width_of first) room in
-    ((compact_indent p.left.fill p.left.size c.left
-    ++ (if fits then repeated 32 share.0 else []))
-    ++ in_color (t.color (at r x)) first)
-    ++ ((if fits then repeated 32 share.1 else [])
-    ++ compact_indent p.right.fill p.right.size c.right)
+-- a cell of a column so wide: the first line of its text, with the shares of what it leaves free; a line that is wider has none
+unfoldable pub compact_cell_of : CompactSettings → ℕ → Option Color → Text → Text
+compact_cell_of config w color text =
+    let p = config.padding in
+    let c = config.padding_color in
+    let first = first_line_of text in
+    let room : ℕ = w - (p.left.size + p.right.size) in
+    let share = if nat_le (width_of first) room then shares config.alignment (width_of first) room else (0, 0) in
+    (compact_indent p.left.fill p.left.size c.left ++ repeated 32 share.0)
+    ++ (in_color color first
+    ++ (repeated 32 share.1 ++ compact_indent p.right.fill p.right.size c.right))
+
+abbrev pub compact_cell : CompactTable → ℕ → ℕ → Text
+compact_cell t r x = compact_cell_of t.config (t.width x) (t.color (at r x)) (t.text (at r x))
 
 unfoldable pub text_row : CompactTable → ℕ → Text
 text_row t r = with_margins t (between_sides t (compact_cell t r))

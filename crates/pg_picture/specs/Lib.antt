@@ -8,7 +8,9 @@ pub mod Joined
 pub mod Cells
 pub mod Sizes
 pub mod FitLaws
+pub mod Laws
 pub mod Picture
 pub mod Samples
+pub mod CompactSizes
 pub mod CompactSamples
 pub mod Rectangles

@@ -3,7 +3,7 @@
 ghost use Rattle.std.specs.Prelude.{◌≡◌, Option, None, IfOk, option_map};
 ghost use Rattle.pg_layout.specs.Colors.{Color, str_color};
 ghost use Rattle.pg_picture.specs.Appending.{Appends};
-ghost use Rattle.pg_picture.specs.CompactLines.{own_or, part_after};
+ghost use Rattle.pg_picture.specs.CompactLines.{own_or, part_after, part_if, main_part, open_parts, open_color};
 ghost use Rattle.pg_picture.specs.Pieces.{cut};
 
 use crate::cut::{push_after_cut, push_cut};
@@ -50,6 +50,42 @@ impl<'a> CompactRun<'a> {
         let open = color.or(self.open);
         push_after_cut(buf, self.open.as_ref(), c, count, open.as_ref())?;
         Ok(CompactRun { open })
+    }
+
+    /// Appends an end or a crossing, which is no part where no glyph is set.
+    #[inline(always)]
+    pub fn part_if<A: Allocator>(
+        self,
+        buf: &mut String<A>,
+        glyph: Option<char>,
+        color: Option<ANSIStr<'a>>,
+    ) -> Result<CompactRun<'a>, AllocError>
+        ensures appends { Appends buf.old buf.new result (open_parts self.entry (part_if glyph (option_map str_color color.entry))) }
+        ensures color { IfOk result (λ run. run ≡ open_color self.entry (part_if glyph (option_map str_color color.entry))) }
+    {
+        match glyph {
+            None => Ok(self),
+            Some(glyph) => self.part(buf, glyph, 1, color),
+        }
+    }
+
+    /// Appends the glyph of a column's horizontal, once for each of its `width` terminal columns;
+    /// spaces where none is set. A column of width 0 has no part.
+    #[inline(always)]
+    pub fn main<A: Allocator>(
+        self,
+        buf: &mut String<A>,
+        glyph: Option<char>,
+        width: usize,
+        color: Option<ANSIStr<'a>>,
+    ) -> Result<CompactRun<'a>, AllocError>
+        ensures appends { Appends buf.old buf.new result (open_parts self.entry (main_part glyph (option_map str_color color.entry) width)) }
+        ensures color { IfOk result (λ run. run ≡ open_color self.entry (main_part glyph (option_map str_color color.entry) width)) }
+    {
+        if width == 0 {
+            return Ok(self);
+        }
+        self.part(buf, glyph.unwrap_or(' '), width, color)
     }
 
     /// Closes the colour at the end of the line.

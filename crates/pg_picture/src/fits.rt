@@ -1,5 +1,6 @@
 //! The conditions of a table, as tests that a caller can make.
 
+mod compact;
 mod laws;
 mod rectangle;
 mod room;
@@ -7,6 +8,7 @@ mod spans;
 mod table;
 mod totals;
 
+pub use crate::fits::compact::{compact_fits, compact_full_width};
 pub use crate::fits::laws::{heights_are_lines, no_misfit_means_fits, spans_fit_by_places};
 pub use crate::fits::rectangle::{rect_height, rect_width};
 pub use crate::fits::room::cell_fits;

@@ -3,12 +3,15 @@
 
 mod border;
 mod cell;
+mod compact_cell;
+mod compact_margin;
 mod compact_run;
 mod cut;
 pub mod examples;
 mod facts;
 mod fill;
 pub mod fits;
+pub mod laws;
 mod margin;
 mod piece;
 mod place;
@@ -19,6 +22,8 @@ mod table_margins;
 mod vertical;
 
 pub use crate::cell::{push_block_line, push_block_line_of, push_single_line, push_text_line};
+pub use crate::compact_cell::{push_border_glyph, push_compact_cell, push_compact_indent};
+pub use crate::compact_margin::push_compact_margin;
 pub use crate::compact_run::CompactRun;
 pub use crate::facts::{TextFacts, count_empty_lines, text_width};
 pub use crate::fill::{push_char, push_repeated, push_text};

@@ -33,7 +33,7 @@ pub fn push_fill<C: ANSIFmt, A: Allocator>(
 }
 
 // The characters between the colour's prefix and suffix.
-fn push_colored_run<C: ANSIFmt, A: Allocator>(
+pub(crate) fn push_colored_run<C: ANSIFmt, A: Allocator>(
     buf: &mut String<A>,
     c: char,
     size: usize,

@@ -1,8 +1,8 @@
 //! Cells that span rows or columns.
 
-ghost use Rattle.std.specs.Prelude.{◌≡◌, OnOk, OnErr};
-ghost use Rattle.pg_layout.specs.Places.{IsAscending};
-ghost use Rattle.pg_config.specs.Spans.{StandAtPlaces, rect_rows, rect_columns, with_column_span, with_row_span, get_column_span, get_row_span, has_column_spans, has_row_spans, left_span, span_above, is_visible, is_covered_by_column, is_covered_by_row, is_covered_by_both};
+ghost use Rattle.std.specs.Prelude.{◌≡◌, OnOk, OnErr, IsOk, IsSome};
+ghost use Rattle.pg_layout.specs.Places.{IsAscending, value_at};
+ghost use Rattle.pg_config.specs.Spans.{StandAtPlaces, span_key, rect_rows, rect_columns, with_column_span, with_row_span, get_column_span, get_row_span, has_column_spans, has_row_spans, left_span, span_above, is_visible, is_covered_by_column, is_covered_by_row, is_covered_by_both};
 
 use crate::spanned::SpannedConfig;
 use crate::spans::Span;
@@ -10,20 +10,26 @@ use pg_layout::Position;
 use std::alloc::{AllocError, Allocator};
 
 impl<A: Allocator> SpannedConfig<A> {
-    /// Makes a cell span so many columns, itself among them; 1 takes the span away.
+    /// Makes a cell span so many columns, itself among them; 1 takes the span away. Asks for memory
+    /// only for a cell without a span.
     ///
     /// Whether the spans fit a table is not asked here (`pg_picture::fits::spans_fit`).
     pub fn set_column_span(&mut self, pos: Position, columns: usize) -> Result<(), AllocError>
         ensures ok { OnOk result (self.new ≡ record self.old { spans = with_column_span pos columns self.old.spans }) }
         ensures err { OnErr result (self.new ≡ self.old) }
+        ensures again { IsSome (value_at (span_key pos) self.old.spans) → IsOk result }
+        ensures one { columns ≡ 1 → IsOk result }
     {
         self.spans.set_columns(pos, columns)
     }
 
-    /// Makes a cell span so many rows, itself among them; 1 takes the span away.
+    /// Makes a cell span so many rows, itself among them; 1 takes the span away. Asks for memory only
+    /// for a cell without a span.
     pub fn set_row_span(&mut self, pos: Position, rows: usize) -> Result<(), AllocError>
         ensures ok { OnOk result (self.new ≡ record self.old { spans = with_row_span pos rows self.old.spans }) }
         ensures err { OnErr result (self.new ≡ self.old) }
+        ensures again { IsSome (value_at (span_key pos) self.old.spans) → IsOk result }
+        ensures one { rows ≡ 1 → IsOk result }
     {
         self.spans.set_rows(pos, rows)
     }

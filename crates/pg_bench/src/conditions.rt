@@ -1,0 +1,51 @@
+//! Conditions of tables and records, and indents, at single values.
+
+use crate::drawing::{Setting, tell_all};
+use pg_config::SpannedConfig;
+use pg_layout::{AlignmentVertical, Entity, Position, RecordsFault, VecRecords};
+use pg_picture::fits::cell_fits;
+use pg_picture::indent_from_top;
+use std::process::Abort;
+use std::test::Fail;
+
+#[test]
+fn the_first_row_of_another_length_is_named(rt: HostRuntime) -> Result<(), Fail> {
+    let mut rows = Vec::new(rt.alloc());
+    for length in [2, 2, 1, 3] {
+        rows.push(vec![in rt.alloc(); "a"; length]?)?;
+    }
+    assert_eq!(rt; VecRecords::new(rows).err(), Some(RecordsFault::Ragged(2)));
+    Ok(())
+}
+
+// `abc` has room in cells of width 4, or of height 0, but not of width 3.
+fn assert_room(rt: &impl Abort, config: &SpannedConfig) {
+    let pos = Position::new(0, 0);
+    assert!(rt; !cell_fits("abc", config, pos, 3, 1));
+    assert!(rt; cell_fits("abc", config, pos, 4, 1));
+    assert!(rt; cell_fits("abc", config, pos, 0, 0));
+}
+
+#[test]
+fn a_cell_has_room_for_its_text_and_paddings(rt: HostRuntime) -> Result<(), Fail> {
+    let mut config = SpannedConfig::new(rt.alloc());
+    let is_told = tell_all(
+        &mut config,
+        &[Setting::Padding(Entity::Global, [1, 0, 0, 0])],
+    );
+    assert_room(&rt, &config);
+    drop(config);
+    is_told?;
+    Ok(())
+}
+
+#[test]
+fn lines_stand_by_the_vertical_alignment(rt: HostRuntime) {
+    assert_eq!(rt; indent_from_top(AlignmentVertical::Bottom, 1, 1), 0);
+    assert_eq!(rt; indent_from_top(AlignmentVertical::Top, 1, 1), 0);
+    assert_eq!(rt; indent_from_top(AlignmentVertical::Center, 1, 1), 0);
+    assert_eq!(rt; indent_from_top(AlignmentVertical::Bottom, 3, 1), 2);
+    assert_eq!(rt; indent_from_top(AlignmentVertical::Top, 3, 1), 0);
+    assert_eq!(rt; indent_from_top(AlignmentVertical::Center, 3, 1), 1);
+    assert_eq!(rt; indent_from_top(AlignmentVertical::Center, 4, 1), 1);
+}

@@ -1,0 +1,196 @@
+//! How the tests draw a table.
+
+ghost use Rattle.std.specs.Prelude.{◌≡◌, []};
+
+use pg_config::SpannedConfig;
+use pg_grid::PeekableGrid;
+use pg_layout::{
+    AlignmentHorizontal, AlignmentVertical, Borders, ConstantDimension, Entity, Indent, NoColors,
+    Sides, VecRecords,
+};
+use pg_picture::fits::table_fits;
+use std::alloc::{AllocError, Allocator, Global};
+use std::process::Abort;
+use std::test::Fail;
+
+/// What a table is told.
+#[derive(Debug, Clone, Copy)]
+pub(crate) enum Setting {
+    /// ASCII glyphs at all fifteen places.
+    Ascii,
+    /// Glyphs of one's own.
+    Borders(Borders<char>),
+    /// Spaces at the left, the right, the top and the bottom of texts.
+    Padding(Entity, [usize; 4]),
+    /// Where texts stand between left and right.
+    Horizontal(Entity, AlignmentHorizontal),
+    /// Where texts stand between top and bottom.
+    Vertical(Entity, AlignmentVertical),
+}
+
+/// The texts of a table, the widths of its columns, the heights of its rows, and what it is told.
+#[derive(Debug, Clone, Copy)]
+pub(crate) struct Sample<'a> {
+    pub(crate) texts: &'a [&'a [&'a str]],
+    pub(crate) widths: &'a [usize],
+    pub(crate) heights: &'a [usize],
+    pub(crate) settings: &'a [Setting],
+}
+
+/// The texts `0-0` to `1-1` in cells of width 3 and height 1, with ASCII borders.
+pub(crate) const FOUR: Sample<'static> = Sample {
+    texts: &[&["0-0", "0-1"], &["1-0", "1-1"]],
+    widths: &[3, 3],
+    heights: &[1, 1],
+    settings: &[Setting::Ascii],
+};
+
+// ASCII glyphs at all fifteen places.
+fn ascii_borders() -> Borders<char> {
+    Borders {
+        top: Some('-'),
+        top_left: Some('+'),
+        top_right: Some('+'),
+        top_intersection: Some('+'),
+        bottom: Some('-'),
+        bottom_left: Some('+'),
+        bottom_right: Some('+'),
+        bottom_intersection: Some('+'),
+        horizontal: Some('-'),
+        left_intersection: Some('+'),
+        right_intersection: Some('+'),
+        intersection: Some('+'),
+        left: Some('|'),
+        right: Some('|'),
+        vertical: Some('|'),
+    }
+}
+
+// Spaces at the four sides of a text.
+fn spaces([left, right, top, bottom]: [usize; 4]) -> Sides<Indent> {
+    Sides::new(
+        Indent::spaced(left),
+        Indent::spaced(right),
+        Indent::spaced(top),
+        Indent::spaced(bottom),
+    )
+}
+
+// Tells a table one thing.
+fn tell<A: Allocator>(config: &mut SpannedConfig<A>, setting: Setting) -> Result<(), AllocError>
+    ensures { config.new.spans ≡ config.old.spans }
+{
+    match setting {
+        Setting::Ascii => config.set_borders(ascii_borders()),
+        Setting::Borders(borders) => config.set_borders(borders),
+        Setting::Padding(entity, sizes) => config.set_padding(entity, spaces(sizes))?,
+        Setting::Horizontal(entity, alignment) => {
+            config.set_alignment_horizontal(entity, alignment)?;
+        }
+        Setting::Vertical(entity, alignment) => config.set_alignment_vertical(entity, alignment)?,
+    }
+    Ok(())
+}
+
+/// Tells a table these things, one after the other.
+pub(crate) fn tell_all<A: Allocator>(
+    config: &mut SpannedConfig<A>,
+    settings: &[Setting],
+) -> Result<(), AllocError>
+    ensures { config.new.spans ≡ config.old.spans }
+{
+    for setting in settings {
+        tell(config, *setting)?;
+    }
+    Ok(())
+}
+
+// The texts as records.
+fn records<'a, A: Allocator + Copy>(
+    alloc: A,
+    texts: &[&[&'a str]],
+) -> Result<VecRecords<&'a str, A>, Fail> {
+    let mut rows = Vec::new(alloc);
+    for row in texts {
+        rows.push(row.to_vec(alloc)?)?;
+    }
+    Ok(VecRecords::new(rows)?)
+}
+
+// The sizes of the sample.
+fn dimension<A: Allocator + Copy>(
+    alloc: A,
+    sample: &Sample<'_>,
+) -> Result<ConstantDimension<A>, AllocError> {
+    let widths = sample.widths.to_vec(alloc)?;
+    let heights = sample.heights.to_vec(alloc)?;
+    Ok(ConstantDimension(widths, heights))
+}
+
+// Appends the sample as the looked-up grid draws it by a configuration that is told the settings,
+// and tells whether there was memory for all of it.
+fn draw_by<B: Allocator>(
+    alloc: Global,
+    sample: &Sample<'_>,
+    config: &mut SpannedConfig,
+    buf: &mut String<B>,
+) -> Result<bool, Fail>
+    requires { config.old.spans ≡ [] }
+{
+    tell_all(config, sample.settings)?;
+    let records = records(alloc, sample.texts)?;
+    let dimension = dimension(alloc, sample)?;
+    table_fits(&&records, &*config, &dimension)?;
+    let grid = PeekableGrid::new(&records, &*config, &dimension, NoColors);
+    Ok(grid.build(buf).is_ok())
+}
+
+/// Appends the sample as the looked-up grid draws it, and tells whether there was memory for all
+/// of it.
+#[tactic(auto, unfolding(pg_config::specs::Config::default_config))]
+pub(crate) fn draw<B: Allocator>(
+    alloc: Global,
+    sample: &Sample<'_>,
+    buf: &mut String<B>,
+) -> Result<bool, Fail> {
+    let mut config = SpannedConfig::new(alloc);
+    let is_whole = draw_by(alloc, sample, &mut config, buf);
+    drop(config);
+    is_whole
+}
+
+// The text of the sample, as the looked-up grid gives it by a configuration that is told the
+// settings.
+fn text_by(alloc: Global, sample: &Sample<'_>, config: &mut SpannedConfig) -> Result<String, Fail>
+    requires { config.old.spans ≡ [] }
+{
+    tell_all(config, sample.settings)?;
+    let records = records(alloc, sample.texts)?;
+    let dimension = dimension(alloc, sample)?;
+    table_fits(&&records, &*config, &dimension)?;
+    let grid = PeekableGrid::new(&records, &*config, &dimension, NoColors);
+    Ok(grid.to_string(alloc)?)
+}
+
+// The text of the sample, as the looked-up grid gives it.
+#[tactic(auto, unfolding(pg_config::specs::Config::default_config))]
+fn text_of(alloc: Global, sample: &Sample<'_>) -> Result<String, Fail> {
+    let mut config = SpannedConfig::new(alloc);
+    let text = text_by(alloc, sample, &mut config);
+    drop(config);
+    text
+}
+
+/// The looked-up grid gives this text, and appends it.
+pub(crate) fn assert_drawn(
+    rt: &impl Abort,
+    alloc: Global,
+    sample: &Sample<'_>,
+    text: &str,
+) -> Result<(), Fail> {
+    let mut buf = String::new(alloc);
+    assert!(rt; draw(alloc, sample, &mut buf)?);
+    assert_eq!(rt; buf.as_str(), text);
+    assert_eq!(rt; text_of(alloc, sample)?.as_str(), text);
+    Ok(())
+}

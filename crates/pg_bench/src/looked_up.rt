@@ -1,0 +1,224 @@
+//! Tables of the looked-up grid.
+
+use crate::drawing::{FOUR, Sample, Setting, assert_drawn, draw};
+use pg_layout::{AlignmentHorizontal, AlignmentVertical, Borders, Entity};
+use std::alloc::Global;
+use std::process::Abort;
+use std::test::Fail;
+
+/// The two lines of a frame round nothing.
+const EMPTY_FRAME: &str = "\
+++
+++";
+
+#[test]
+fn no_rows_have_no_picture(rt: HostRuntime) -> Result<(), Fail> {
+    let sample = Sample {
+        texts: &[],
+        widths: &[],
+        heights: &[],
+        settings: &[
+            Setting::Ascii,
+            Setting::Padding(Entity::Global, [2, 2, 2, 2]),
+        ],
+    };
+    assert_drawn(&rt, rt.alloc(), &sample, "")
+}
+
+#[test]
+fn a_cell_without_size_has_a_frame(rt: HostRuntime) -> Result<(), Fail> {
+    let sample = Sample {
+        texts: &[&[""]],
+        widths: &[0],
+        heights: &[0],
+        settings: &[Setting::Ascii],
+    };
+    assert_drawn(&rt, rt.alloc(), &sample, EMPTY_FRAME)
+}
+
+#[test]
+fn corners_make_the_sides_of_the_outer_lines(rt: HostRuntime) -> Result<(), Fail> {
+    let mut borders = Borders::empty();
+    borders.top = Some('─');
+    borders.bottom = Some('─');
+    borders.top_left = Some('┌');
+    borders.top_right = Some('┐');
+    borders.bottom_left = Some('└');
+    borders.bottom_right = Some('┘');
+    let sample = Sample {
+        texts: &[&[""]],
+        widths: &[10],
+        heights: &[0],
+        settings: &[Setting::Borders(borders)],
+    };
+    assert_drawn(&rt, rt.alloc(), &sample, "┌──────────┐\n└──────────┘")
+}
+
+#[test]
+fn four_cells_in_ascii(rt: HostRuntime) -> Result<(), Fail> {
+    let text = "\
++---+---+
+|0-0|0-1|
++---+---+
+|1-0|1-1|
++---+---+";
+    assert_drawn(&rt, rt.alloc(), &FOUR, text)
+}
+
+#[test]
+fn a_table_stands_behind_what_the_buffer_holds(rt: HostRuntime) -> Result<(), Fail> {
+    let mut buf = String::from_str(rt.alloc(), "log:")?;
+    assert!(rt; draw(rt.alloc(), &FOUR, &mut buf)?);
+    let text = "log:+---+---+
+|0-0|0-1|
++---+---+
+|1-0|1-1|
++---+---+";
+    assert_eq!(rt; buf.as_str(), text);
+    Ok(())
+}
+
+#[test]
+fn carriage_returns_take_no_columns(rt: HostRuntime) -> Result<(), Fail> {
+    let sample = Sample {
+        texts: &[&["0-0", "123\r\r\r567"], &["1-0", "12345678"]],
+        widths: &[3, 9],
+        heights: &[1, 1],
+        settings: &[Setting::Ascii],
+    };
+    let text = "\
++---+---------+
+|0-0|123\r\r\r567|
++---+---------+
+|1-0|12345678 |
++---+---------+";
+    assert_drawn(&rt, rt.alloc(), &sample, text)
+}
+
+#[test]
+fn a_row_of_height_0_has_no_line(rt: HostRuntime) -> Result<(), Fail> {
+    let sample = Sample {
+        texts: &[&["a"], &["b"], &["c"]],
+        widths: &[1],
+        heights: &[1, 0, 1],
+        settings: &[],
+    };
+    assert_drawn(&rt, rt.alloc(), &sample, "a\nc")
+}
+
+#[test]
+fn lines_below_the_cell_are_cut(rt: HostRuntime) -> Result<(), Fail> {
+    let sample = Sample {
+        texts: &[&["1\n2\n3"]],
+        widths: &[1],
+        heights: &[2],
+        settings: &[
+            Setting::Padding(Entity::Global, [0, 0, 1, 0]),
+            Setting::Vertical(Entity::Global, AlignmentVertical::Bottom),
+        ],
+    };
+    assert_drawn(&rt, rt.alloc(), &sample, " \n1")
+}
+
+#[test]
+fn a_cell_of_height_0_needs_no_room(rt: HostRuntime) -> Result<(), Fail> {
+    let sample = Sample {
+        texts: &[&["abc"]],
+        widths: &[0],
+        heights: &[0],
+        settings: &[
+            Setting::Ascii,
+            Setting::Padding(Entity::Global, [2, 2, 2, 2]),
+        ],
+    };
+    assert_drawn(&rt, rt.alloc(), &sample, EMPTY_FRAME)
+}
+
+#[test]
+fn a_table_without_lines_is_empty(rt: HostRuntime) -> Result<(), Fail> {
+    let sample = Sample {
+        texts: &[&["a"]],
+        widths: &[2],
+        heights: &[0],
+        settings: &[],
+    };
+    assert_drawn(&rt, rt.alloc(), &sample, "")
+}
+
+// A text in a cell of width 5, aligned so, is drawn as this.
+fn assert_aligned(
+    rt: &impl Abort,
+    alloc: Global,
+    alignment: AlignmentHorizontal,
+    (cell, drawn): (&str, &str),
+) -> Result<(), Fail> {
+    let sample = Sample {
+        texts: &[&[cell]],
+        widths: &[5],
+        heights: &[drawn.split('\n').count()],
+        settings: &[Setting::Horizontal(Entity::Global, alignment)],
+    };
+    assert_drawn(rt, alloc, &sample, drawn)
+}
+
+#[test]
+fn wide_characters_take_two_columns(rt: HostRuntime) -> Result<(), Fail> {
+    assert_aligned(&rt, rt.alloc(), AlignmentHorizontal::Left, ("日本", "日本 "))?;
+    assert_aligned(&rt, rt.alloc(), AlignmentHorizontal::Right, ("日本", " 日本"))
+}
+
+#[test]
+fn an_odd_space_stands_behind_a_centred_text(rt: HostRuntime) -> Result<(), Fail> {
+    assert_aligned(
+        &rt,
+        rt.alloc(),
+        AlignmentHorizontal::Center,
+        ("ab", " ab  "),
+    )
+}
+
+#[test]
+fn lines_stand_as_the_widest_one_does(rt: HostRuntime) -> Result<(), Fail> {
+    let alignment = AlignmentHorizontal::Right;
+    assert_aligned(&rt, rt.alloc(), alignment, ("a\nbbb", "  a  \n  bbb"))
+}
+
+#[test]
+fn paddings_of_a_column_come_before_those_of_all(rt: HostRuntime) -> Result<(), Fail> {
+    let sample = Sample {
+        texts: FOUR.texts,
+        widths: &[3, 5],
+        heights: &[3, 3],
+        settings: &[
+            Setting::Ascii,
+            Setting::Padding(Entity::Global, [1, 1, 1, 1]),
+            Setting::Padding(Entity::Column(0), [0, 0, 0, 0]),
+        ],
+    };
+    let text = "\
++---+-----+
+|0-0|     |
+|   | 0-1 |
+|   |     |
++---+-----+
+|1-0|     |
+|   | 1-1 |
+|   |     |
++---+-----+";
+    assert_drawn(&rt, rt.alloc(), &sample, text)
+}
+
+#[test]
+fn paddings_and_alignments_share_a_cell(rt: HostRuntime) -> Result<(), Fail> {
+    let sample = Sample {
+        texts: &[&["ab"]],
+        widths: &[6],
+        heights: &[3],
+        settings: &[
+            Setting::Padding(Entity::Global, [1, 1, 1, 0]),
+            Setting::Horizontal(Entity::Global, AlignmentHorizontal::Center),
+            Setting::Vertical(Entity::Global, AlignmentVertical::Bottom),
+        ],
+    };
+    assert_drawn(&rt, rt.alloc(), &sample, "      \n      \n  ab  ")
+}

@@ -1,0 +1,108 @@
+//! The compact grid: it reads its records once, row by row, and shows the first line of each text.
+
+use pg_config::CompactConfig;
+use pg_layout::{Colors, Dimension, Records};
+use std::alloc::{AllocError, Allocator};
+
+mod body;
+mod rows;
+mod separators;
+
+/// A table printer over records that are read once, a dimension that gives the widths of columns,
+/// and colours of cells.
+///
+/// Each cell shows the first line of its text, and each row has one text line. The heights of the
+/// dimension aren't used, and there are no spans.
+#[derive(Debug, Clone, Drop)]
+pub struct CompactGrid<R, D, G, C> {
+    records: R,
+    dimension: D,
+    config: G,
+    colors: C,
+}
+
+// What a compact table's lines are drawn by, whatever the texts of its rows.
+#[derive(Drop)]
+struct CompactPrinter<'a, D, C> {
+    config: &'a CompactConfig,
+    dimension: D,
+    colors: C,
+    columns: usize,
+}
+
+impl<R, D, G, C> CompactGrid<R, D, G, C> {
+    ghost use Rattle.std.specs.Prelude.{◌≡◌};
+    ghost use Rattle.pg_grid.specs.CompactGrids.{compact_parts};
+
+    /// A grid of these parts.
+    pub fn new(records: R, config: G, dimension: D, colors: C) -> CompactGrid<R, D, G, C>
+        ensures { compact_parts result ≡ (records, dimension, config, colors) }
+    {
+        CompactGrid {
+            records,
+            dimension,
+            config,
+            colors,
+        }
+    }
+}
+
+impl<R, D, G, C: Drop> CompactGrid<R, D, G, C> {
+    ghost use Rattle.std.specs.Prelude.{◌≡◌};
+    ghost use Rattle.pg_grid.specs.CompactGrids.{compact_parts};
+
+    /// The same grid with these colours in place of its own.
+    pub fn with_colors<Colors>(self, colors: Colors) -> CompactGrid<R, D, G, Colors>
+        ensures { compact_parts result ≡ ((compact_parts self).0, (compact_parts self).1, (compact_parts self).2, colors) }
+    {
+        CompactGrid::new(self.records, self.config, self.dimension, colors)
+    }
+}
+
+impl<'a, R, D, C> CompactGrid<R, D, &'a CompactConfig, C>
+where
+    R: Records,
+    D: Dimension + Drop,
+    C: Colors + Drop,
+{
+    ghost use Rattle.std.specs.Prelude.{◌≡◌, ◌≤◌, length, IfOk, string_bytes};
+    ghost use Rattle.pg_picture.specs.Appending.{Appends};
+    ghost use Rattle.pg_picture.specs.Picture.{compact_picture};
+    ghost use Rattle.pg_grid.specs.CompactGrids.{compact_table, CompactFits};
+
+    /// Appends the picture of the table, whose records may be read (all records in memory may), have
+    /// at most `usize::MAX` rows, and in which the columns fit where there are rows
+    /// (`pg_picture::fits::compact_fits`). A table with no rows or no columns appends nothing.
+    ///
+    /// The rows are read once, each as it is printed. Takes no memory but the buffer's. An error
+    /// comes only where the buffer's room is too small for the picture and it gets no more memory;
+    /// the buffer then holds a beginning of the picture behind what it held before.
+    pub fn build<A: Allocator>(self, buf: &mut String<A>) -> Result<(), AllocError>
+        requires readable { R.is_readable self.records }
+        requires rows { length (R.texts self.records) ≤ usize.MAX }
+        requires fits { CompactFits (compact_table R.texts R.columns D.width C.color self) }
+        ensures { Appends buf.old buf.new result (compact_picture (compact_table R.texts R.columns D.width C.color self.entry)) }
+    {
+        let columns = self.records.count_columns();
+        let printer = CompactPrinter {
+            config: self.config,
+            dimension: self.dimension,
+            colors: self.colors,
+            columns,
+        };
+        printer.push_table(buf, self.records.iter_rows())
+    }
+
+    /// The picture of the table as a text of its own, under the conditions of `build`. An error
+    /// comes where no memory is found.
+    pub fn to_string<A: Allocator>(self, alloc: A) -> Result<String<A>, AllocError>
+        requires readable { R.is_readable self.records }
+        requires rows { length (R.texts self.records) ≤ usize.MAX }
+        requires fits { CompactFits (compact_table R.texts R.columns D.width C.color self) }
+        ensures { IfOk result (λ text. string_bytes text ≡ compact_picture (compact_table R.texts R.columns D.width C.color self.entry)) }
+    {
+        let mut text = String::new(alloc);
+        self.build(&mut text)?;
+        Ok(text)
+    }
+}

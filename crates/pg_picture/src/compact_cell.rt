@@ -1,0 +1,121 @@
+//! The cells of a compact table, and what stands between them.
+
+ghost use Rattle.std.specs.Prelude.{◌≡◌, ◌≤◌, ◌+◌, ◌-◌, ◌++◌, nat_le, option_map, if◌then◌else◌};
+ghost use Rattle.pg_layout.specs.Text.{width_of};
+ghost use Rattle.pg_layout.specs.Colors.{str_color, lent_color};
+ghost use Rattle.pg_config.specs.CompactConfig.{settings_of};
+ghost use Rattle.pg_picture.specs.Appending.{Appends};
+ghost use Rattle.pg_picture.specs.CompactLines.{compact_indent, colored_glyph, compact_cell_of};
+ghost use Rattle.pg_picture.specs.Pieces.{repeated, shares};
+
+use crate::fill::push_repeated;
+use crate::piece::{push_colored_run, push_words};
+use crate::share::calculate_indent;
+use crate::vertical::push_vertical;
+use pg_config::CompactConfig;
+use pg_layout::{ANSIFmt, ANSIStr, AlignmentHorizontal, Indent, Sides, first_line, get_line_width};
+use std::alloc::{AllocError, Allocator};
+
+/// Appends an indent of a compact table in its colour, also where its size is 0; an empty colour is
+/// none.
+///
+/// An error comes only where the buffer's room is too small; the buffer then holds a beginning.
+#[inline(always)]
+pub fn push_compact_indent<A: Allocator>(
+    buf: &mut String<A>,
+    indent: Indent,
+    color: ANSIStr<'_>,
+) -> Result<(), AllocError>
+    ensures { Appends buf.old buf.new result (compact_indent indent.fill indent.size (str_color color.entry)) }
+{
+    if color.is_empty() {
+        return push_repeated(buf, indent.fill, indent.size);
+    }
+    push_colored_run(buf, indent.fill, indent.size, &color)
+}
+
+/// Appends the glyph of a border in its colour, and nothing where there is no glyph.
+///
+/// An error comes only where the buffer's room is too small; the buffer then holds a beginning.
+#[inline(always)]
+pub fn push_border_glyph<A: Allocator>(
+    buf: &mut String<A>,
+    glyph: Option<char>,
+    color: Option<ANSIStr<'_>>,
+) -> Result<(), AllocError>
+    ensures { Appends buf.old buf.new result (colored_glyph glyph (option_map str_color color.entry)) }
+{
+    push_vertical(buf, glyph, color.as_ref())
+}
+
+/// Appends a cell of a compact table, in a column of so many terminal columns: the left padding, the
+/// first line of the text in its colour between the shares of what it leaves free, and the right
+/// padding.
+///
+/// The shares are plain spaces. A line that is wider than its room is written whole, with none.
+/// An error comes only where the buffer's room is too small; the buffer then holds a beginning.
+pub fn push_compact_cell<C: ANSIFmt, A: Allocator>(
+    buf: &mut String<A>,
+    config: &CompactConfig,
+    width: usize,
+    color: Option<&C>,
+    text: &str,
+) -> Result<(), AllocError>
+    ensures { Appends buf.old buf.new result (compact_cell_of (settings_of config.now) width (lent_color C.color_of color.entry) text.now) }
+{
+    let line = first_line(text);
+    let padding = config.get_padding();
+    let colors = config.get_padding_color();
+    let alignment = config.get_alignment_horizontal();
+    let (left, right) = free_shares(alignment, get_line_width(line), inner_room(padding, width));
+    push_left_side(buf, padding.left, colors.left, left)?;
+    push_words(buf, line, color)?;
+    push_right_side(buf, padding.right, colors.right, right)
+}
+
+// How many columns the side paddings leave: none where they take more than there are.
+#[inline(always)]
+fn inner_room(padding: Sides<Indent>, width: usize) -> usize
+    ensures { result ≡ width - (padding.left.size + padding.right.size) }
+{
+    width
+        .saturating_sub(padding.left.size)
+        .saturating_sub(padding.right.size)
+}
+
+// The shares left and right of a line of `got` columns; none where it is wider than its room.
+#[inline(always)]
+fn free_shares(alignment: AlignmentHorizontal, got: usize, room: usize) -> (usize, usize)
+    ensures { result ≡ (if nat_le got room then shares alignment got room else (0, 0)) }
+{
+    if got > room {
+        return (0, 0);
+    }
+    calculate_indent(alignment, got, room)
+}
+
+// The left padding, and the share left of the line.
+fn push_left_side<A: Allocator>(
+    buf: &mut String<A>,
+    padding: Indent,
+    color: ANSIStr<'_>,
+    share: usize,
+) -> Result<(), AllocError>
+    ensures { Appends buf.old buf.new result (compact_indent padding.fill padding.size (str_color color.entry) ++ repeated 32 share) }
+{
+    push_compact_indent(buf, padding, color)?;
+    push_repeated(buf, ' ', share)
+}
+
+// The share right of the line, and the right padding.
+fn push_right_side<A: Allocator>(
+    buf: &mut String<A>,
+    padding: Indent,
+    color: ANSIStr<'_>,
+    share: usize,
+) -> Result<(), AllocError>
+    ensures { Appends buf.old buf.new result (repeated 32 share ++ compact_indent padding.fill padding.size (str_color color.entry)) }
+{
+    push_repeated(buf, ' ', share)?;
+    push_compact_indent(buf, padding, color)
+}

@@ -1,0 +1,46 @@
+//! The lines of a compact table's top and bottom margin.
+
+ghost use Rattle.std.specs.Prelude.{◌≡◌, ◌++◌, replicate};
+ghost use Rattle.pg_layout.specs.Colors.{str_color};
+ghost use Rattle.pg_picture.specs.Appending.{Appends};
+ghost use Rattle.pg_picture.specs.CompactLines.{compact_indent};
+ghost use Rattle.pg_picture.specs.Joined.{continued, feed_before, lines_before};
+
+use crate::compact_cell::push_compact_indent;
+use crate::margin::push_feed;
+use pg_layout::{ANSIStr, Indent};
+use std::alloc::{AllocError, Allocator};
+
+/// Appends the lines of a compact table's top or bottom margin: as many as its size, each of `width`
+/// columns of its fill in its colour; with a line feed before each, but not before the first one
+/// where it is the picture's first line.
+///
+/// An error comes only where the buffer's room is too small; the buffer then holds a beginning.
+pub fn push_compact_margin<A: Allocator>(
+    buf: &mut String<A>,
+    margin: Indent,
+    color: ANSIStr<'_>,
+    width: usize,
+    is_first: bool,
+) -> Result<(), AllocError>
+    ensures { Appends buf.old buf.new result (continued (lines_before is_first) (replicate margin.size (compact_indent margin.fill width (str_color color.entry)))) }
+{
+    for number in 0..margin.size {
+        push_margin_line(buf, margin, color, width, is_first && number == 0)?;
+    }
+    Ok(())
+}
+
+// One line of the margin, after the line feed that parts it from the line before.
+fn push_margin_line<A: Allocator>(
+    buf: &mut String<A>,
+    margin: Indent,
+    color: ANSIStr<'_>,
+    width: usize,
+    is_first: bool,
+) -> Result<(), AllocError>
+    ensures { Appends buf.old buf.new result (feed_before is_first ++ compact_indent margin.fill width (str_color color.entry)) }
+{
+    push_feed(buf, is_first)?;
+    push_compact_indent(buf, Indent::new(width, margin.fill), color)
+}

@@ -1,0 +1,4 @@
+-- Lemmas of this crate.
+pub mod EvenRows
+pub mod ScriptLines
+pub mod ScriptTables

@@ -1,0 +1,8 @@
+use Rattle.std.proofs.Common.{◌≡◌, length, All}
+use Rattle.pg_show.proofs.cell_texts.CellTexts.empty.Given as goal
+
+abbrev pub invariant-loop : goal.invariant-loop
+invariant-loop g l = record {
+  counted : length l.rows.items ≡ l.counter;
+  even : All (λ row. length row.items ≡ l.size.columns) l.rows.items;
+}

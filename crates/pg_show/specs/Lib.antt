@@ -1,0 +1,5 @@
+pub mod Mode
+pub mod Program
+pub mod Show
+pub mod Statement
+pub mod Words

@@ -1,0 +1,33 @@
+//! Which printer prints a script's table.
+
+ghost use Rattle.std.specs.Prelude.{◌≡◌, map, string_bytes};
+ghost use Rattle.pg_show.specs.Mode.{mode_named, mode_of};
+
+/// Which printer prints a script's table.
+#[derive(Debug, Clone, Copy, PartialEq, Eq)]
+pub enum Mode {
+    /// The printer that looks texts up.
+    Peek,
+}
+
+impl Mode {
+    /// The mode of this name, or `None` where there is none.
+    pub fn from_name(name: &str) -> Option<Mode>
+        ensures { result ≡ mode_named name.now }
+    {
+        match name {
+            "peek" => Some(Mode::Peek),
+            _ => None,
+        }
+    }
+
+    /// The mode that the program's arguments name, or `None` where they are anything but one name.
+    pub fn from_words(words: &[String]) -> Option<Mode>
+        ensures { result ≡ mode_of (map string_bytes words.now) }
+    {
+        match words {
+            [word] => Mode::from_name(word.as_str()),
+            _ => None,
+        }
+    }
+}

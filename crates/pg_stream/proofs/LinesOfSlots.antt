@@ -1,0 +1,89 @@
+-- A line of row k, read off the slots.
+use Rattle.std.proofs.Common.{◌≡◌, ℕ, ◌+◌, ◌<◌, ◌≤◌, true, false, ◌&&◌, ◌==◌, nat_lt, List, [], ◌++◌, map, flat_map, slice_index_or, refl, sym, ap, arith, zero-add, Some, None, inl, inr, subst, if◌then◌else◌, eqb-true}
+use mathlib.Core.Path.{fun_ext}
+use Rattle.std.specs.List.{range_with_len}
+use Rattle.std.proofs.lemmas.Bool.{cases_Bool, ltb-true}
+use Rattle.std.proofs.lemmas.Bool.Decides.{nat_tests}
+use Rattle.pg_layout.specs.declared.position.Position.{Position}
+use Rattle.pg_layout.specs.Position.{at, is_at}
+use Rattle.pg_config.specs.Spans.{Span, rect_rows, owner, is_left}
+use Rattle.pg_picture.specs.Marks.{line}
+use Rattle.pg_picture.specs.Sizes.{height_of_rect}
+use Rattle.pg_picture.specs.Table.{Table, rect_marks, rect_height, block_at, row_part, row_line, vertical, is_inside}
+use Rattle.pg_picture.proofs.Owners.{HasOwners}
+use Rattle.pg_stream.specs.Open.{drawn_before}
+use Rattle.pg_stream.specs.Slots.{begin_at, separator_height, slot_block, slot_part, slot_line, slot_in_row}
+use Rattle.pg_stream.proofs.Steps.{open_value, open_none, at_own}
+use Rattle.pg_stream.proofs.PlacesInRows.{place-older, place-own, height-is}
+use Rattle.pg_stream.proofs.WholePictures.{at_range}
+
+left : (spans : List Span) (k x : ℕ) → is_left spans k x ≡ true → (owner spans k x).col ≡ x
+unfolding is_left
+left spans k x f = eqb-true (owner spans k x).col x f
+
+module _ (t : Table) (owners : HasOwners t.config.spans) (k : ℕ) (below : k < t.rows) (ends : (c : ℕ) → (owner t.config.spans k c).row + rect_rows t.config.spans (owner t.config.spans k c) ≤ t.rows) where
+  -- what stands in the slot of column x
+  pub slot_older : (i x : ℕ) (p : Position) → owner t.config.spans k x ≡ p → p.row < k → p.col ≡ x
+      → slot_in_row t k i x ≡ Some (record { begun = p.row; text = t.text p; drawn = (drawn_before t.config t.height k p + separator_height t.config k) + i })
+  unfolding slot_in_row begin_at
+  slot_older i x p own above left =
+      let e : is_at (owner t.config.spans k x) k x ≡ false = (rw own (grind (arith, nat_tests, above))) in
+      rw (open_value t k x p own above left, e) refl
+
+  pub slot_own : (i x : ℕ) → owner t.config.spans k x ≡ at k x → slot_in_row t k i x ≡ Some (record { begun = k; text = t.text (at k x); drawn = i })
+  unfolding slot_in_row begin_at
+  slot_own i x own =
+      let e : is_at (owner t.config.spans k x) k x ≡ true = (rw own (grind (arith, nat_tests))) in
+      rw e (ap (λ d. Some (record { begun = k; text = t.text (at k x); drawn = d })) (zero-add i))
+
+  pub slot_none : (i x : ℕ) → is_left t.config.spans k x ≡ false → slot_in_row t k i x ≡ None
+  unfolding slot_in_row begin_at is_left
+  slot_none i x other =
+      let e : is_at (owner t.config.spans k x) k x ≡ false = grind (arith, nat_tests, other) in
+      rw (open_none t k x (λ above left. grind (arith, nat_tests, left, other)), e) refl
+
+  module _ (i : ℕ) (l : i < t.height k) where
+    block_older : (x : ℕ) (p : Position) → owner t.config.spans k x ≡ p → p.row < k → p.col ≡ x → k < p.row + rect_rows t.config.spans p → p.row + rect_rows t.config.spans p ≤ t.rows
+        → block_at t p (line k i) ≡ slot_block t (slot_in_row t k i x) x
+    unfolding block_at rect_height rect_marks height_of_rect drawn_before
+    block_older x p own above left some end =
+        let b : ℕ = p.row + rect_rows t.config.spans p in
+        let same : at p.row x ≡ p = sym (at_own p p.row x refl left) in
+        rw (slot_older i x p own above left, same, place-older t.config t.height t.rows p.row b k i below l above some, height-is t.config t.height t.rows p.row b (omega arith) end) refl
+
+    block_own : (x : ℕ) → owner t.config.spans k x ≡ at k x → k < k + rect_rows t.config.spans (at k x) → k + rect_rows t.config.spans (at k x) ≤ t.rows
+        → block_at t (at k x) (line k i) ≡ slot_block t (slot_in_row t k i x) x
+    unfolding block_at rect_height rect_marks height_of_rect
+    block_own x own some end =
+        let b : ℕ = k + rect_rows t.config.spans (at k x) in
+        rw (slot_own i x own, place-own t.config t.height t.rows b k i below l some, height-is t.config t.height t.rows k b some end) refl
+
+    block_by : (x : ℕ) (p : Position) → owner t.config.spans k x ≡ p → p.col ≡ x → p.row ≤ k → k < p.row + rect_rows t.config.spans p → p.row + rect_rows t.config.spans p ≤ t.rows
+        → block_at t p (line k i) ≡ slot_block t (slot_in_row t k i x) x
+    block_by x p own left above some end =
+        elim (cases_Bool (p.row == k)) [
+          | inl e ↦
+              let same : p ≡ at k x = at_own p k x (eqb-true p.row k e) left in
+              let P : Position → Type 0 = λ q. owner t.config.spans k x ≡ q → k < q.row + rect_rows t.config.spans q → q.row + rect_rows t.config.spans q ≤ t.rows → block_at t q (line k i) ≡ slot_block t (slot_in_row t k i x) x in
+              subst P (sym same) (λ own some end. block_own x own some end) own some end
+          | inr e ↦ block_older x p own (grind (arith, nat_tests, above, e)) left some end
+        ]
+
+    cell_now : (x : ℕ) → (if nat_lt x t.columns && is_left t.config.spans k x then block_at t (owner t.config.spans k x) (line k i) else [])
+        ≡ (if nat_lt x t.columns then slot_block t (slice_index_or (map (slot_in_row t k i) (range_with_len 0 t.columns)) x None) x else [])
+    cell_now x =
+        elim (cases_Bool (nat_lt x t.columns)) [
+          | inl e ↦
+              let at_x = at_range (slot_in_row t k i) t.columns x None (ltb-true x t.columns e) in
+              elim (cases_Bool (is_left t.config.spans k x)) [
+                | inl f ↦ rw (e, f, at_x) (block_by x (owner t.config.spans k x) refl (left t.config.spans k x f) (owners.near k x).below (owners.near k x).above (ends x))
+                | inr f ↦ rw (e, f, at_x, slot_none i x f) refl
+              ]
+          | inr e ↦ rw e refl
+        ]
+
+    -- the line of D9 is the line that is read off the slots
+    pub row_line-slots : row_line t k i ≡ slot_line t (map (slot_in_row t k i) (range_with_len 0 t.columns)) k i
+    unfolding row_line row_part slot_line slot_part
+    row_line-slots =
+        ap (λ g. flat_map g (range_with_len 0 (t.columns + 1))) (fun_ext (λ x. ap (λ l. (if is_inside t k x then [] else vertical t k i x) ++ l) (cell_now x)))

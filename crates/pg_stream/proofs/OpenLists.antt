@@ -1,0 +1,73 @@
+-- Lists of open cells: how many there are, and what is drawn of all of them.
+use Rattle.std.proofs.Common.{◌≡◌, ℕ, zero, suc, ◌+◌, ◌-◌, ◌<◌, Bool, true, false, List, [], ◌∷◌, ◌++◌, map, flat_map, length, take, drop, set, count_by, cond, replicate, get_or, slice_index_or, Option, Some, None, IfSome, is_some, refl, sym, ap, ap₂, ◌∙◌, arith, add-zero, add-one, add_assoc, subst, ◌^◌}
+use Rattle.std.specs.List.{fold}
+use Rattle.pg_stream.specs.Open.{Slot}
+use Rattle.std.proofs.lemmas.List.{take_more, take_more_set, drop-set-lt, map-append}
+use Rattle.std.proofs.Math.Seq.{drop-cons}
+use Rattle.pg_picture.specs.Pieces.{Piece, written, piece_text}
+use Rattle.pg_picture.specs.Table.{Table, vertical}
+use Rattle.pg_stream.specs.Drawing.{cell_part, open_part}
+use Rattle.pg_stream.specs.Placed.{Placed, slot_of, slots_of, draw_cell, AllOpen}
+use Rattle.pg_stream.specs.Slots.{slot_block, draw_more}
+
+-- as many slots are open as cells
+counted : (n : ℕ) (cells : List (Option Placed)) → fold (λ (a : ℕ) (x : Option Slot). a + cond (is_some x) 1 0) n (slots_of cells) ≡ fold (λ (a : ℕ) (x : Option Placed). a + cond (is_some x) 1 0) n cells
+counted n [] = refl
+counted n (None ∷ cells) = counted (n + 0) cells
+counted n (Some cell ∷ cells) = counted (n + 1) cells
+
+pub count-slots : (cells : List (Option Placed)) → count_by is_some (slots_of cells) ≡ count_by is_some cells
+count-slots cells = counted 0 cells
+
+pub slots-at : (cells : List (Option Placed)) (x : ℕ) → slice_index_or (slots_of cells) x None ≡ slot_of (slice_index_or cells x None)
+slots-at [] x = refl
+slots-at (cell ∷ cells) zero = refl
+slots-at (cell ∷ cells) (suc x) = slots-at cells x
+
+-- drawing more lines of a cell draws them in its slot
+pub slot-drawn : (d : ℕ) (cell : Option Placed) → slot_of (draw_cell d cell) ≡ draw_more d (slot_of cell)
+slot-drawn d None = refl
+slot-drawn d (Some cell) = refl
+
+pub slots-drawn : (d : ℕ) (cells : List (Option Placed)) → slots_of (map (draw_cell d) cells) ≡ map (draw_more d) (slots_of cells)
+slots-drawn d [] = refl
+slots-drawn d (cell ∷ cells) = ap₂ (λ x xs. x ∷ xs) (slot-drawn d cell) (slots-drawn d cells)
+
+-- the loop that draws a line of each: those below i are drawn
+pub drawn-step : (start items : List (Option Placed)) (i : ℕ) (y d : Option Placed) → i < length items → i < length start
+    → drop i items ≡ drop i start → take i items ≡ map (draw_cell 1) (take i start) → y ≡ draw_cell 1 (get_or items i d)
+    → (drop (i + 1) (set items i y) ≡ drop (i + 1) start) × (take (i + 1) (set items i y) ≡ map (draw_cell 1) (take (i + 1) start))
+drawn-step start items i y d l m rest done now =
+    let here : get_or items i d ≡ get_or start i d = ap (λ xs. get_or xs 0 d) (sym (drop-cons items i d l) ∙ rest ∙ drop-cons start i d m) in
+    let after : drop (suc i) items ≡ drop (suc i) start = ap (λ xs. drop 1 xs) (sym (drop-cons items i d l) ∙ rest ∙ drop-cons start i d m) in (
+      drop-set-lt (i + 1) items i y (omega arith) ∙ subst (λ n. drop n items ≡ drop n start) (sym (add-one i)) after,
+      take_more_set items i y l
+          ∙ ap₂ (λ (xs : List (Option Placed)) (z : Option Placed). xs ++ z ∷ []) done (now ∙ ap (λ z. draw_cell 1 z) here)
+          ∙ sym (ap (λ xs. map (draw_cell 1) xs) (take_more start i d m) ∙ map-append (draw_cell 1) (take i start) (get_or start i d ∷ [])),
+    )
+
+-- room for one more line
+pub room-at : (items now : List (Option Placed)) (i : ℕ) (o : Option Placed) → AllOpen (λ x cell. cell.drawn + 1 < 2 ^ 64) items → i < length items → i < length now → drop i now ≡ drop i items → o ≡ get_or now i o
+    → IfSome o (λ cell. cell.drawn + 1 < 2 ^ 64)
+room-at items now i o all l m rest is =
+    let here : o ≡ get_or items i o = is ∙ ap (λ xs. get_or xs 0 o) (sym (drop-cons now i o m) ∙ rest ∙ drop-cons items i o l) in
+    subst (λ (s : Option Placed). IfSome s (λ cell. cell.drawn + 1 < 2 ^ 64)) (sym (here ∙ get_or-same items i o None l)) (all i)
+  where
+    get_or-same : (xs : List (Option Placed)) (i : ℕ) (a b : Option Placed) → i < length xs → get_or xs i a ≡ get_or xs i b
+    get_or-same [] i a b h = absurd (omega arith)
+    get_or-same (x ∷ xs) zero a b h = refl
+    get_or-same (x ∷ xs) (suc i) a b h = get_or-same xs i a b (omega arith)
+
+-- what holds of each open cell, whatever is drawn of it, holds of all when more is drawn
+drawn-at : (d : ℕ) (cells : List (Option Placed)) (x : ℕ) → slice_index_or (map (draw_cell d) cells) x None ≡ draw_cell d (slice_index_or cells x None)
+drawn-at d [] x = refl
+drawn-at d (cell ∷ cells) zero = refl
+drawn-at d (cell ∷ cells) (suc x) = drawn-at d cells x
+
+drawn-one : (P Q : ℕ → Placed → Type 0) (d x : ℕ) (o : Option Placed) → ((cell : Placed) → P x cell → Q x (record cell { drawn = cell.drawn + d })) → IfSome o (P x) → IfSome (draw_cell d o) (Q x)
+drawn-one P Q d x None step h = tt
+drawn-one P Q d x (Some cell) step h = step cell h
+
+pub drawn-all : (P Q : ℕ → Placed → Type 0) (d : ℕ) (cells : List (Option Placed)) → ((x : ℕ) (cell : Placed) → P x cell → Q x (record cell { drawn = cell.drawn + d })) → AllOpen P cells → AllOpen Q (map (draw_cell d) cells)
+drawn-all P Q d cells step all x =
+    subst (λ (o : Option Placed). IfSome o (Q x)) (sym (drawn-at d cells x)) (drawn-one P Q d x (slice_index_or cells x None) (step x) (all x))

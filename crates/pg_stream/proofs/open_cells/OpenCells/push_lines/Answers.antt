@@ -1,0 +1,35 @@
+use Rattle.std.proofs.Common.{◌≡◌, ℕ, ◌+◌, ◌<◌, ◌^◌, map, sym, ap, ◌∙◌, subst, arith}
+use Rattle.pg_picture.proofs.Appending.{Gained-none, Gained-text, Gained-more, refused, Appends-text}
+use Rattle.pg_stream.specs.Drawing.{open_lines}
+use Rattle.pg_stream.specs.Frames.{frame_table}
+use Rattle.pg_stream.specs.Placed.{draw_cell, AllOpen, IsTall}
+use Rattle.pg_stream.proofs.OpenLists.{drawn-all}
+use Rattle.pg_stream.proofs.PartsOfLines.{drawn-none, drawn-more, lines-none, lines-more, lines-cut, line-now}
+use Rattle.pg_stream.proofs.open_cells.OpenCells.push_lines.Goals as goal
+
+pub loop-line-init : goal.loop-line-init
+loop-line-init g c = (drawn-none c.args.self.now, Gained-text (lines-none (frame_table g.D.Dimension.width g.D.Dimension.height g.C.Colors.color c.args.frame.now) c.args.frame.now.height c.args.is_first c.args.self.now c.args.row c.args.index) (Gained-none c.args.buf.now))
+
+pub push_body_line-requires-clause-tall : goal.push_body_line-requires-clause-tall
+push_body_line-requires-clause-tall g c =
+    let t = (frame_table g.D.Dimension.width g.D.Dimension.height g.C.Colors.color c.args.frame.now) in
+    subst (AllOpen (IsTall t)) (sym c.loop-line.invariant.0) (drawn-all (IsTall t) (IsTall t) c.loop-line.line c.args.self.now (λ x cell h. h) (c.requires.tall (omega arith)))
+
+pub returns-in_err-push_body_line-clause-appends : goal.returns-in_err-push_body_line-clause-appends
+returns-in_err-push_body_line-clause-appends g c =
+    let t = (frame_table g.D.Dimension.width g.D.Dimension.height g.C.Colors.color c.args.frame.now) in
+    refused _ (lines-cut t c.args.frame.now.height c.args.is_first c.args.self.now c.args.row c.args.index c.loop-line.line c.args.height c.loop-line-test.true) c.from_residual.ensures.0 c.loop-line.invariant.1
+    (Appends-text (line-now t c.args.frame.now.height c.args.is_first c.args.self.now c.args.row c.args.index c.loop-line.line c.loop-line.self c.loop-line.invariant.0) c.in_err-push_body_line.ensures)
+
+pub draw_line-requires : goal.draw_line-requires
+draw_line-requires g c =
+    subst (AllOpen (λ x cell. cell.drawn + 1 < 2 ^ 64)) (sym c.loop-line.invariant.0)
+    (drawn-all (λ x cell. cell.drawn + c.args.height < 2 ^ 64) (λ x cell. cell.drawn + 1 < 2 ^ 64) c.loop-line.line c.args.self.now (λ x cell h. omega (arith, h, c.loop-line-test.true)) c.requires.room)
+
+pub loop-line-preserved : goal.loop-line-preserved
+loop-line-preserved g c =
+    let t = (frame_table g.D.Dimension.width g.D.Dimension.height g.C.Colors.color c.args.frame.now) in (
+      c.draw_line.ensures ∙ ap (λ l. map (draw_cell 1) l) c.loop-line.invariant.0 ∙ drawn-more c.loop-line.line 1 c.args.self.now,
+      Gained-text (sym (lines-more t c.args.frame.now.height c.args.is_first c.args.self.now c.args.row c.args.index c.loop-line.line))
+          (Gained-more c.loop-line.invariant.1 (Appends-text (line-now t c.args.frame.now.height c.args.is_first c.args.self.now c.args.row c.args.index c.loop-line.line c.loop-line.self c.loop-line.invariant.0) c.in_ok-push_body_line.ensures)),
+    )

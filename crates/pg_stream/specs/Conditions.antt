@@ -1,0 +1,45 @@
+-- The conditions of a printer of rows.
+use Rattle.std.specs.Prelude.{◌≡◌, ℕ, ◌+◌, ◌-◌, ◌^◌, ◌<◌, Bool, true, false, ◌==◌, List, [], length, slice_index_or, IfSome, if◌then◌else◌}
+use Rattle.pg_layout.specs.declared.position.Position.{Position}
+use Rattle.pg_layout.specs.Position.{at, is_at}
+use Rattle.pg_layout.specs.Text.{Text}
+use Rattle.pg_config.specs.Config.{has_horizontal}
+use Rattle.pg_config.specs.Spans.{rect_rows, owner}
+use Rattle.pg_picture.specs.Fits.{spans_fit, spans_fit_columns, totals_fit, cell_fits}
+use Rattle.pg_picture.specs.Marks.{sep, only_if, marks_of_row}
+use Rattle.pg_picture.specs.Pieces.{style_at}
+use Rattle.pg_picture.specs.Sizes.{height_of_rect}
+use Rattle.pg_picture.specs.Table.{Table, rect_width, full_width}
+use Rattle.pg_stream.specs.Printing.{Printing, table_known}
+
+-- The rectangle that begins at p has an end, a width and a height that are numbers of 64 bits, and its text has room
+-- there.
+pub record HasRoom (t : Table) (p : Position) (text : Text) : Type 0 where
+  pub end : p.row + rect_rows t.config.spans p < 2 ^ 64
+  pub width : rect_width t p < 2 ^ 64
+  pub height : height_of_rect t.config t.height p < 2 ^ 64
+  pub room : cell_fits (style_at t.config p) text (rect_width t p) (height_of_rect t.config t.height p) ≡ true
+
+-- each cell of row k that is its own owner has room for its text
+abbrev pub HaveRoom : Table → ℕ → List Text → Type 0
+HaveRoom t k texts = (c : ℕ) → c < t.columns → is_at (owner t.config.spans k c) k c ≡ true → HasRoom t (at k c) (slice_index_or texts c [])
+
+-- What a table may be printed with, row by row: a column at least, spans that fit the columns, and a total width that
+-- is a number of 64 bits; and where the number of rows is known, spans and totals that fit them.
+pub record PrinterFits (s : Printing) : Type 0 where
+  pub some : 0 < s.columns
+  pub few : s.columns < 2 ^ 64 - 1
+  pub spans : spans_fit_columns s.config.spans s.columns ≡ true
+  pub width : full_width (table_known s 0 []) < 2 ^ 64
+  pub hint : IfSome s.hint (λ rows. (spans_fit s.config.spans rows s.columns ≡ true) × (totals_fit (table_known s rows []) ≡ true))
+
+-- A row that may be printed next: as many cells as there are columns, and room for each that begins here; no last row
+-- before it, and no more rows than are known; spans that end with the last row; and lines that can be counted.
+pub record RowFits (s : Printing) (cells : List Text) (is_last : Bool) : Type 0 where
+  pub whole : length cells ≡ s.columns
+  pub goes_on : s.is_ended ≡ false
+  pub rows : s.rows < 2 ^ 64 - 2
+  pub hint : IfSome s.hint (λ rows. (s.rows < rows) × (is_last ≡ ((s.rows + 1) == rows)))
+  pub spans : is_last ≡ true → spans_fit s.config.spans (s.rows + 1) s.columns ≡ true
+  pub rooms : HaveRoom (table_known s 0 []) s.rows cells
+  pub lines : s.lines + length (marks_of_row s.config s.height s.rows) < 2 ^ 64

@@ -1,0 +1,135 @@
+//! What a printer was told: the table's configuration, its sizes and its colours.
+
+ghost use Rattle.std.specs.Prelude.{◌≡◌, ◌+◌, ◌<◌, ◌≤◌, ◌++◌, ◌&&◌, ◌==◌, true, length, Some};
+ghost use Rattle.pg_picture.specs.Joined.{feed_before};
+ghost use Rattle.pg_picture.specs.Table.{vertical, side_margin_at};
+ghost use Rattle.pg_config.specs.Spans.{rect_rows, rect_columns};
+ghost use Rattle.pg_layout.specs.Text.{lines_of};
+ghost use Rattle.pg_picture.specs.Cells.{style_of};
+ghost use Rattle.pg_picture.specs.Fits.{cell_fits};
+ghost use Rattle.pg_stream.specs.Conditions.{HasRoom};
+ghost use Rattle.pg_layout.specs.Position.{at};
+ghost use Rattle.pg_picture.specs.Appending.{Appends};
+ghost use Rattle.pg_picture.specs.Pieces.{written};
+ghost use Rattle.pg_picture.specs.Sizes.{height_of_rect};
+ghost use Rattle.pg_stream.specs.Placed.{slot_of, IsPlaced};
+ghost use Rattle.pg_stream.specs.Slots.{slot_block};
+ghost use Rattle.pg_stream.specs.Turns.{place_in, new_cell};
+
+use crate::open_cell::OpenCell;
+use pg_config::SpannedConfig;
+use pg_layout::{Colors, Dimension, Position};
+use pg_picture::fits::{rect_height, rect_width};
+use pg_picture::{
+    CellPlace, CellStyle, TextFacts, push_block_line_of, push_feed, push_left_margin,
+    push_vertical_at,
+};
+use std::alloc::{AllocError, Allocator, Global};
+use std::convert::AsStr;
+
+/// What a table printed row by row is told before its rows come.
+#[derive(Drop)]
+pub(crate) struct Frame<'a, D, C, B: Allocator = Global> {
+    pub(crate) config: &'a SpannedConfig<B>,
+    pub(crate) dimension: &'a D,
+    pub(crate) colors: &'a C,
+    pub(crate) columns: usize,
+    /// How many terminal columns a line has, its side margins among them.
+    pub(crate) width: usize,
+    /// How many lines the body has, where that is known.
+    pub(crate) height: Option<usize>,
+}
+
+impl<'a, D: Dimension, C: Colors, B: Allocator> Frame<'a, D, C, B> {
+    ghost use Rattle.pg_stream.specs.Frames.{frame_table};
+
+    // The next line of an open cell.
+    pub(crate) fn push_cell_line<S: AsStr, A: Allocator>(
+        &self,
+        buf: &mut String<A>,
+        cell: &OpenCell<S>,
+        column: usize,
+    ) -> Result<(), AllocError>
+        requires placed { IsPlaced (frame_table D.width D.height C.color self.now) column cell.now }
+        requires tall { 0 < height_of_rect (frame_table D.width D.height C.color self.now).config (frame_table D.width D.height C.color self.now).height (at cell.now.begun column) }
+        ensures { Appends buf.old buf.new result (written (slot_block (frame_table D.width D.height C.color self.now) (slot_of (Some cell.now)) column)) }
+    {
+        let pos = Position::new(cell.begun(), column);
+        let style = CellStyle::of(self.config, pos);
+        push_block_line_of(
+            buf,
+            &style,
+            self.colors.get_color(pos),
+            cell.line(),
+            cell.place(),
+            cell.width(),
+            cell.drawn(),
+        )
+    }
+
+    // The glyph of a vertical, on a line of its row.
+    pub(crate) fn push_vertical<A: Allocator>(
+        &self,
+        buf: &mut String<A>,
+        pos: Position,
+        line: usize,
+    ) -> Result<(), AllocError>
+        requires { line < (frame_table D.width D.height C.color self.now).height pos.row }
+        ensures { Appends buf.old buf.new result (written (vertical (frame_table D.width D.height C.color self.now) pos.row line pos.col)) }
+    {
+        let height = self.dimension.get_height(pos.row);
+        push_vertical_at(buf, self.config, self.columns, height, pos, line)
+    }
+
+    // What stands before a line of the body: its line feed, unless the line is the picture's first,
+    // and its left margin.
+    pub(crate) fn push_start<A: Allocator>(
+        &self,
+        buf: &mut String<A>,
+        is_first: bool,
+        index: usize,
+    ) -> Result<(), AllocError>
+        ensures { Appends buf.old buf.new result (feed_before (is_first && (index == 0)) ++ written (side_margin_at self.now.height self.now.config.now.margin.left self.now.config.now.margin_offset.left self.now.config.now.margin_color.left index)) }
+    {
+        push_feed(buf, is_first && index == 0)?;
+        push_left_margin(buf, self.config, index, self.height)
+    }
+
+    // A cell that begins at a place and has room there.
+    pub(crate) fn begin_cell<S: AsStr>(&self, value: S, pos: Position) -> OpenCell<S>
+        requires rows { 0 < rect_rows (frame_table D.width D.height C.color self.now).config.spans pos }
+        requires columns { 0 < rect_columns (frame_table D.width D.height C.color self.now).config.spans pos }
+        requires inside { pos.col + rect_columns (frame_table D.width D.height C.color self.now).config.spans pos ≤ (frame_table D.width D.height C.color self.now).columns }
+        requires room { HasRoom (frame_table D.width D.height C.color self.now) pos (S.text value) }
+        ensures { result ≡ new_cell (frame_table D.width D.height C.color self.now) pos (S.text value) }
+    {
+        let width = rect_width(self.config, self.dimension, pos, self.columns).unwrap();
+        let height = rect_height(self.config, self.dimension, pos).unwrap();
+        let style = CellStyle::of(self.config, pos);
+        let place = place_of_text(value.as_str(), &style, width, height);
+        OpenCell::new(value, pos.row, width, place)
+    }
+}
+
+// Where a text stands in a cell of so many columns and lines; one of no line shows none.
+fn place_of_text<B: Allocator>(
+    text: &str,
+    style: &CellStyle<'_, B>,
+    width: usize,
+    height: usize,
+) -> CellPlace
+    requires { cell_fits (style_of style.now) text.now width height ≡ true }
+    ensures place { result ≡ place_in (style_of style.now) text.now width height }
+    ensures lines { result.skip + result.shown ≤ length (lines_of text.now) }
+{
+    if height == 0 {
+        return CellPlace {
+            top: 0,
+            shown: 0,
+            skip: 0,
+            left: None,
+        };
+    }
+    let facts = TextFacts::of_text(text, style.formatting);
+    CellPlace::of(facts, style, width, height)
+}

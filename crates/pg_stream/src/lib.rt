@@ -1,0 +1,12 @@
+//! The streaming printer: it prints a table row by row, and keeps the cells that go on below the
+//! last printed row.
+#![tactic(auto)]
+
+mod frame;
+mod open_cell;
+mod open_cells;
+
+pub use crate::open_cells::OpenCells;
+
+mod separators;
+mod turns;
