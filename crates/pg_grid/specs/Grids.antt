@@ -10,6 +10,9 @@ use Rattle.pg_config.specs.Config.{Config}
 use Rattle.pg_config.specs.Spans.{Span, StandAtPlaces, begins_above, is_left}
 use Rattle.pg_picture.specs.Table.{Table, table_body}
 use Rattle.pg_picture.specs.FitLaws.{TableFits}
+use Rattle.pg_layout.specs.declared.records.Records as records
+use Rattle.pg_layout.specs.declared.dimension.Dimension as dimension
+use Rattle.pg_layout.specs.declared.colors.Colors as colors
 use Rattle.pg_grid.specs.declared.peekable.Shape.{Shape}
 use Rattle.pg_grid.specs.declared.peekable.PeekableGrid.{PeekableGrid}
 
@@ -24,6 +27,10 @@ peekable_table texts columns width height color grid = record {
   text = text_at (texts grid.records);
   color = color grid.colors;
 }
+
+-- the same from what the types of its parts tell of them
+abbrev pub drawn : {R Cell Columns Rows D C Color : Type 0} → records.Ghosts R Cell Columns Rows → dimension.Ghosts D → colors.Ghosts C Color → PeekableGrid R (Bor Config) D C → Table
+drawn records dimension colors grid = peekable_table records.texts records.columns dimension.width dimension.height colors.color grid
 
 -- how many rows and columns a table has, how many lines its body, and whether a cell spans rows or columns
 abbrev pub shape_of_table : Table → Shape

@@ -64,7 +64,7 @@ where
     ghost use Rattle.pg_picture.specs.Joined.{joined};
     ghost use Rattle.pg_picture.specs.Table.{Known};
     ghost use Rattle.pg_picture.specs.Picture.{picture, picture_lines};
-    ghost use Rattle.pg_grid.specs.Grids.{peekable_table, CanDraw};
+    ghost use Rattle.pg_grid.specs.Grids.{drawn, CanDraw};
 
     /// Appends the picture of the table, in which everything fits (`pg_picture::fits::table_fits`). A
     /// table with no rows or no columns appends nothing.
@@ -73,8 +73,8 @@ where
     /// for the picture and it gets no more memory; the buffer then holds a beginning of the picture
     /// behind what it held before.
     pub fn build<A: Allocator>(&self, buf: &mut String<A>) -> Result<(), AllocError>
-        requires fits { misfit_of (peekable_table R.Records.texts R.Records.columns D.width D.height C.color self.now) ≡ None }
-        ensures { Appends buf.old buf.new result (picture Known (peekable_table R.Records.texts R.Records.columns D.width D.height C.color self.now)) }
+        requires fits { misfit_of (drawn R.Records D.Dimension C.Colors self.now) ≡ None }
+        ensures { Appends buf.old buf.new result (picture Known (drawn R.Records D.Dimension C.Colors self.now)) }
     {
         let rows = self.records.count_rows();
         let columns = self.records.count_columns();
@@ -88,8 +88,8 @@ where
     /// The picture of the table as a text of its own, under the conditions of `build`. An error
     /// comes where no memory is found.
     pub fn to_string<A: Allocator>(&self, alloc: A) -> Result<String<A>, AllocError>
-        requires fits { misfit_of (peekable_table R.Records.texts R.Records.columns D.width D.height C.color self.now) ≡ None }
-        ensures { IfOk result (λ text. string_bytes text ≡ picture Known (peekable_table R.Records.texts R.Records.columns D.width D.height C.color self.now)) }
+        requires fits { misfit_of (drawn R.Records D.Dimension C.Colors self.now) ≡ None }
+        ensures { IfOk result (λ text. string_bytes text ≡ picture Known (drawn R.Records D.Dimension C.Colors self.now)) }
     {
         let mut text = String::new(alloc);
         self.build(&mut text)?;
@@ -104,11 +104,11 @@ where
         columns: usize,
         is_spanned: bool,
     ) -> Result<(), AllocError>
-        requires can { CanDraw (peekable_table R.Records.texts R.Records.columns D.width D.height C.color self.now) }
-        requires rows { rows ≡ (peekable_table R.Records.texts R.Records.columns D.width D.height C.color self.now).rows }
-        requires columns { columns ≡ (peekable_table R.Records.texts R.Records.columns D.width D.height C.color self.now).columns }
-        requires spanned { is_spanned ≡ not (length (peekable_table R.Records.texts R.Records.columns D.width D.height C.color self.now).config.spans == 0) }
-        ensures { Appends buf.old buf.new result (joined (picture_lines Known (peekable_table R.Records.texts R.Records.columns D.width D.height C.color self.now))) }
+        requires can { CanDraw (drawn R.Records D.Dimension C.Colors self.now) }
+        requires rows { rows ≡ (drawn R.Records D.Dimension C.Colors self.now).rows }
+        requires columns { columns ≡ (drawn R.Records D.Dimension C.Colors self.now).columns }
+        requires spanned { is_spanned ≡ not (length (drawn R.Records D.Dimension C.Colors self.now).config.spans == 0) }
+        ensures { Appends buf.old buf.new result (joined (picture_lines Known (drawn R.Records D.Dimension C.Colors self.now))) }
     {
         let width = full_width(self.config, &self.dimension, columns).unwrap();
         let height = body_height(self.config, &self.dimension, rows).unwrap();

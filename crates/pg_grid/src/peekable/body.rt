@@ -9,7 +9,7 @@ ghost use Rattle.pg_picture.specs.Marks.{sep, line, only_if, marks_of_row, marks
 ghost use Rattle.pg_picture.specs.Pieces.{written};
 ghost use Rattle.pg_picture.specs.Table.{Known, table_body, side_margin_at};
 ghost use Rattle.pg_picture.specs.Picture.{body_text};
-ghost use Rattle.pg_grid.specs.Grids.{peekable_table, CanDraw, shape_of_table};
+ghost use Rattle.pg_grid.specs.Grids.{drawn, CanDraw, shape_of_table};
 
 use crate::peekable::{PeekableGrid, Shape};
 use pg_config::SpannedConfig;
@@ -31,9 +31,9 @@ where
         shape: Shape,
         is_first: bool,
     ) -> Result<(), AllocError>
-        requires can { CanDraw (peekable_table R.Records.texts R.Records.columns D.width D.height C.color self.now) }
-        requires shape { shape ≡ shape_of_table (peekable_table R.Records.texts R.Records.columns D.width D.height C.color self.now) }
-        ensures { Appends buf.old buf.new result (body_text Known (peekable_table R.Records.texts R.Records.columns D.width D.height C.color self.now) (lines_before is_first) 0 (table_body (peekable_table R.Records.texts R.Records.columns D.width D.height C.color self.now))) }
+        requires can { CanDraw (drawn R.Records D.Dimension C.Colors self.now) }
+        requires shape { shape ≡ shape_of_table (drawn R.Records D.Dimension C.Colors self.now) }
+        ensures { Appends buf.old buf.new result (body_text Known (drawn R.Records D.Dimension C.Colors self.now) (lines_before is_first) 0 (table_body (drawn R.Records D.Dimension C.Colors self.now))) }
     {
         let mut index = 0;
         for row in 0..shape.rows {
@@ -51,12 +51,12 @@ where
         index: usize,
         is_first: bool,
     ) -> Result<usize, AllocError>
-        requires can { CanDraw (peekable_table R.Records.texts R.Records.columns D.width D.height C.color self.now) }
-        requires shape { shape ≡ shape_of_table (peekable_table R.Records.texts R.Records.columns D.width D.height C.color self.now) }
-        requires row { row < (peekable_table R.Records.texts R.Records.columns D.width D.height C.color self.now).rows }
-        requires room { index + length (marks_of_row (peekable_table R.Records.texts R.Records.columns D.width D.height C.color self.now).config (peekable_table R.Records.texts R.Records.columns D.width D.height C.color self.now).height row) ≤ shape.height }
-        ensures lines { Appends buf.old buf.new result (body_text Known (peekable_table R.Records.texts R.Records.columns D.width D.height C.color self.now) (lines_before is_first) index (marks_of_row (peekable_table R.Records.texts R.Records.columns D.width D.height C.color self.now).config (peekable_table R.Records.texts R.Records.columns D.width D.height C.color self.now).height row)) }
-        ensures index { IfOk result (λ next. next ≡ index + length (marks_of_row (peekable_table R.Records.texts R.Records.columns D.width D.height C.color self.now).config (peekable_table R.Records.texts R.Records.columns D.width D.height C.color self.now).height row)) }
+        requires can { CanDraw (drawn R.Records D.Dimension C.Colors self.now) }
+        requires shape { shape ≡ shape_of_table (drawn R.Records D.Dimension C.Colors self.now) }
+        requires row { row < (drawn R.Records D.Dimension C.Colors self.now).rows }
+        requires room { index + length (marks_of_row (drawn R.Records D.Dimension C.Colors self.now).config (drawn R.Records D.Dimension C.Colors self.now).height row) ≤ shape.height }
+        ensures lines { Appends buf.old buf.new result (body_text Known (drawn R.Records D.Dimension C.Colors self.now) (lines_before is_first) index (marks_of_row (drawn R.Records D.Dimension C.Colors self.now).config (drawn R.Records D.Dimension C.Colors self.now).height row)) }
+        ensures index { IfOk result (λ next. next ≡ index + length (marks_of_row (drawn R.Records D.Dimension C.Colors self.now).config (drawn R.Records D.Dimension C.Colors self.now).height row)) }
     {
         let next = self.push_above(buf, shape, row, index, is_first)?;
         self.push_lines(buf, shape, row, next, is_first)
@@ -71,12 +71,12 @@ where
         index: usize,
         is_first: bool,
     ) -> Result<usize, AllocError>
-        requires can { CanDraw (peekable_table R.Records.texts R.Records.columns D.width D.height C.color self.now) }
-        requires shape { shape ≡ shape_of_table (peekable_table R.Records.texts R.Records.columns D.width D.height C.color self.now) }
-        requires row { row ≤ (peekable_table R.Records.texts R.Records.columns D.width D.height C.color self.now).rows }
-        requires room { index + length (only_if (has_horizontal (peekable_table R.Records.texts R.Records.columns D.width D.height C.color self.now).config row (peekable_table R.Records.texts R.Records.columns D.width D.height C.color self.now).rows) (sep row)) ≤ shape.height }
-        ensures lines { Appends buf.old buf.new result (body_text Known (peekable_table R.Records.texts R.Records.columns D.width D.height C.color self.now) (lines_before is_first) index (only_if (has_horizontal (peekable_table R.Records.texts R.Records.columns D.width D.height C.color self.now).config row (peekable_table R.Records.texts R.Records.columns D.width D.height C.color self.now).rows) (sep row))) }
-        ensures index { IfOk result (λ next. next ≡ index + length (only_if (has_horizontal (peekable_table R.Records.texts R.Records.columns D.width D.height C.color self.now).config row (peekable_table R.Records.texts R.Records.columns D.width D.height C.color self.now).rows) (sep row))) }
+        requires can { CanDraw (drawn R.Records D.Dimension C.Colors self.now) }
+        requires shape { shape ≡ shape_of_table (drawn R.Records D.Dimension C.Colors self.now) }
+        requires row { row ≤ (drawn R.Records D.Dimension C.Colors self.now).rows }
+        requires room { index + length (only_if (has_horizontal (drawn R.Records D.Dimension C.Colors self.now).config row (drawn R.Records D.Dimension C.Colors self.now).rows) (sep row)) ≤ shape.height }
+        ensures lines { Appends buf.old buf.new result (body_text Known (drawn R.Records D.Dimension C.Colors self.now) (lines_before is_first) index (only_if (has_horizontal (drawn R.Records D.Dimension C.Colors self.now).config row (drawn R.Records D.Dimension C.Colors self.now).rows) (sep row))) }
+        ensures index { IfOk result (λ next. next ≡ index + length (only_if (has_horizontal (drawn R.Records D.Dimension C.Colors self.now).config row (drawn R.Records D.Dimension C.Colors self.now).rows) (sep row))) }
     {
         if !self.config.has_horizontal(row, shape.rows) {
             return Ok(index);
@@ -93,10 +93,10 @@ where
         index: usize,
         is_first: bool,
     ) -> Result<(), AllocError>
-        requires can { CanDraw (peekable_table R.Records.texts R.Records.columns D.width D.height C.color self.now) }
-        requires shape { shape ≡ shape_of_table (peekable_table R.Records.texts R.Records.columns D.width D.height C.color self.now) }
-        requires room { index + length (only_if (has_horizontal (peekable_table R.Records.texts R.Records.columns D.width D.height C.color self.now).config (peekable_table R.Records.texts R.Records.columns D.width D.height C.color self.now).rows (peekable_table R.Records.texts R.Records.columns D.width D.height C.color self.now).rows) (sep (peekable_table R.Records.texts R.Records.columns D.width D.height C.color self.now).rows)) ≤ shape.height }
-        ensures { Appends buf.old buf.new result (body_text Known (peekable_table R.Records.texts R.Records.columns D.width D.height C.color self.now) (lines_before is_first) index (only_if (has_horizontal (peekable_table R.Records.texts R.Records.columns D.width D.height C.color self.now).config (peekable_table R.Records.texts R.Records.columns D.width D.height C.color self.now).rows (peekable_table R.Records.texts R.Records.columns D.width D.height C.color self.now).rows) (sep (peekable_table R.Records.texts R.Records.columns D.width D.height C.color self.now).rows))) }
+        requires can { CanDraw (drawn R.Records D.Dimension C.Colors self.now) }
+        requires shape { shape ≡ shape_of_table (drawn R.Records D.Dimension C.Colors self.now) }
+        requires room { index + length (only_if (has_horizontal (drawn R.Records D.Dimension C.Colors self.now).config (drawn R.Records D.Dimension C.Colors self.now).rows (drawn R.Records D.Dimension C.Colors self.now).rows) (sep (drawn R.Records D.Dimension C.Colors self.now).rows)) ≤ shape.height }
+        ensures { Appends buf.old buf.new result (body_text Known (drawn R.Records D.Dimension C.Colors self.now) (lines_before is_first) index (only_if (has_horizontal (drawn R.Records D.Dimension C.Colors self.now).config (drawn R.Records D.Dimension C.Colors self.now).rows (drawn R.Records D.Dimension C.Colors self.now).rows) (sep (drawn R.Records D.Dimension C.Colors self.now).rows))) }
     {
         self.push_above(buf, shape, shape.rows, index, is_first)?;
         Ok(())
@@ -111,12 +111,12 @@ where
         index: usize,
         is_first: bool,
     ) -> Result<usize, AllocError>
-        requires can { CanDraw (peekable_table R.Records.texts R.Records.columns D.width D.height C.color self.now) }
-        requires shape { shape ≡ shape_of_table (peekable_table R.Records.texts R.Records.columns D.width D.height C.color self.now) }
-        requires row { row < (peekable_table R.Records.texts R.Records.columns D.width D.height C.color self.now).rows }
-        requires room { index + (peekable_table R.Records.texts R.Records.columns D.width D.height C.color self.now).height row ≤ shape.height }
-        ensures lines { Appends buf.old buf.new result (body_text Known (peekable_table R.Records.texts R.Records.columns D.width D.height C.color self.now) (lines_before is_first) index (map (line row) (range_with_len 0 ((peekable_table R.Records.texts R.Records.columns D.width D.height C.color self.now).height row)))) }
-        ensures index { IfOk result (λ next. next ≡ index + (peekable_table R.Records.texts R.Records.columns D.width D.height C.color self.now).height row) }
+        requires can { CanDraw (drawn R.Records D.Dimension C.Colors self.now) }
+        requires shape { shape ≡ shape_of_table (drawn R.Records D.Dimension C.Colors self.now) }
+        requires row { row < (drawn R.Records D.Dimension C.Colors self.now).rows }
+        requires room { index + (drawn R.Records D.Dimension C.Colors self.now).height row ≤ shape.height }
+        ensures lines { Appends buf.old buf.new result (body_text Known (drawn R.Records D.Dimension C.Colors self.now) (lines_before is_first) index (map (line row) (range_with_len 0 ((drawn R.Records D.Dimension C.Colors self.now).height row)))) }
+        ensures index { IfOk result (λ next. next ≡ index + (drawn R.Records D.Dimension C.Colors self.now).height row) }
     {
         let height = self.dimension.get_height(row);
         for number in 0..height {
@@ -135,11 +135,11 @@ where
         index: usize,
         is_first: bool,
     ) -> Result<(), AllocError>
-        requires can { CanDraw (peekable_table R.Records.texts R.Records.columns D.width D.height C.color self.now) }
-        requires shape { shape ≡ shape_of_table (peekable_table R.Records.texts R.Records.columns D.width D.height C.color self.now) }
-        requires row { row < (peekable_table R.Records.texts R.Records.columns D.width D.height C.color self.now).rows }
-        requires number { number < (peekable_table R.Records.texts R.Records.columns D.width D.height C.color self.now).height row }
-        ensures { Appends buf.old buf.new result (body_text Known (peekable_table R.Records.texts R.Records.columns D.width D.height C.color self.now) (lines_before is_first) index (line row number ∷ [])) }
+        requires can { CanDraw (drawn R.Records D.Dimension C.Colors self.now) }
+        requires shape { shape ≡ shape_of_table (drawn R.Records D.Dimension C.Colors self.now) }
+        requires row { row < (drawn R.Records D.Dimension C.Colors self.now).rows }
+        requires number { number < (drawn R.Records D.Dimension C.Colors self.now).height row }
+        ensures { Appends buf.old buf.new result (body_text Known (drawn R.Records D.Dimension C.Colors self.now) (lines_before is_first) index (line row number ∷ [])) }
     {
         push_start(buf, self.config, shape.height, index, is_first)?;
         self.push_row_line(buf, shape, row, number)?;
@@ -155,11 +155,11 @@ where
         index: usize,
         is_first: bool,
     ) -> Result<(), AllocError>
-        requires can { CanDraw (peekable_table R.Records.texts R.Records.columns D.width D.height C.color self.now) }
-        requires shape { shape ≡ shape_of_table (peekable_table R.Records.texts R.Records.columns D.width D.height C.color self.now) }
-        requires row { row ≤ (peekable_table R.Records.texts R.Records.columns D.width D.height C.color self.now).rows }
-        requires there { has_horizontal (peekable_table R.Records.texts R.Records.columns D.width D.height C.color self.now).config row (peekable_table R.Records.texts R.Records.columns D.width D.height C.color self.now).rows ≡ true }
-        ensures { Appends buf.old buf.new result (body_text Known (peekable_table R.Records.texts R.Records.columns D.width D.height C.color self.now) (lines_before is_first) index (sep row ∷ [])) }
+        requires can { CanDraw (drawn R.Records D.Dimension C.Colors self.now) }
+        requires shape { shape ≡ shape_of_table (drawn R.Records D.Dimension C.Colors self.now) }
+        requires row { row ≤ (drawn R.Records D.Dimension C.Colors self.now).rows }
+        requires there { has_horizontal (drawn R.Records D.Dimension C.Colors self.now).config row (drawn R.Records D.Dimension C.Colors self.now).rows ≡ true }
+        ensures { Appends buf.old buf.new result (body_text Known (drawn R.Records D.Dimension C.Colors self.now) (lines_before is_first) index (sep row ∷ [])) }
     {
         push_start(buf, self.config, shape.height, index, is_first)?;
         self.push_separator(buf, shape, row)?;

@@ -8,7 +8,7 @@ ghost use Rattle.pg_picture.specs.Pieces.{written, style_at, block_line};
 ghost use Rattle.pg_picture.specs.Cells.{style_of};
 ghost use Rattle.pg_picture.specs.Table.{row_part, row_line, vertical_at};
 ghost use Rattle.pg_picture.specs.Fits.{cell_fits};
-ghost use Rattle.pg_grid.specs.Grids.{peekable_table, CanDraw, HasNoSpans, shape_of_table};
+ghost use Rattle.pg_grid.specs.Grids.{drawn, CanDraw, HasNoSpans, shape_of_table};
 
 use crate::peekable::{PeekableGrid, Shape};
 use pg_config::SpannedConfig;
@@ -33,11 +33,11 @@ where
         row: usize,
         line: usize,
     ) -> Result<(), AllocError>
-        requires can { CanDraw (peekable_table R.Records.texts R.Records.columns D.width D.height C.color self.now) }
-        requires shape { shape ≡ shape_of_table (peekable_table R.Records.texts R.Records.columns D.width D.height C.color self.now) }
-        requires row { row < (peekable_table R.Records.texts R.Records.columns D.width D.height C.color self.now).rows }
+        requires can { CanDraw (drawn R.Records D.Dimension C.Colors self.now) }
+        requires shape { shape ≡ shape_of_table (drawn R.Records D.Dimension C.Colors self.now) }
+        requires row { row < (drawn R.Records D.Dimension C.Colors self.now).rows }
         requires line { line < D.height self.now.dimension row }
-        ensures { Appends buf.old buf.new result (written (row_line (peekable_table R.Records.texts R.Records.columns D.width D.height C.color self.now) row line)) }
+        ensures { Appends buf.old buf.new result (written (row_line (drawn R.Records D.Dimension C.Colors self.now) row line)) }
     {
         self.push_parts(buf, shape, row, line)?;
         self.push_end(buf, shape.columns, row, line)
@@ -51,11 +51,11 @@ where
         row: usize,
         line: usize,
     ) -> Result<(), AllocError>
-        requires can { CanDraw (peekable_table R.Records.texts R.Records.columns D.width D.height C.color self.now) }
-        requires shape { shape ≡ shape_of_table (peekable_table R.Records.texts R.Records.columns D.width D.height C.color self.now) }
-        requires row { row < (peekable_table R.Records.texts R.Records.columns D.width D.height C.color self.now).rows }
+        requires can { CanDraw (drawn R.Records D.Dimension C.Colors self.now) }
+        requires shape { shape ≡ shape_of_table (drawn R.Records D.Dimension C.Colors self.now) }
+        requires row { row < (drawn R.Records D.Dimension C.Colors self.now).rows }
         requires line { line < D.height self.now.dimension row }
-        ensures { Appends buf.old buf.new result (written (flat_map (row_part (peekable_table R.Records.texts R.Records.columns D.width D.height C.color self.now) row line) (range_with_len 0 (peekable_table R.Records.texts R.Records.columns D.width D.height C.color self.now).columns))) }
+        ensures { Appends buf.old buf.new result (written (flat_map (row_part (drawn R.Records D.Dimension C.Colors self.now) row line) (range_with_len 0 (drawn R.Records D.Dimension C.Colors self.now).columns))) }
     {
         if shape.is_spanned {
             return self.push_spanned_parts(buf, shape, row, line);
@@ -71,12 +71,12 @@ where
         row: usize,
         line: usize,
     ) -> Result<(), AllocError>
-        requires can { CanDraw (peekable_table R.Records.texts R.Records.columns D.width D.height C.color self.now) }
-        requires plain { HasNoSpans (peekable_table R.Records.texts R.Records.columns D.width D.height C.color self.now) }
-        requires columns { columns ≡ (peekable_table R.Records.texts R.Records.columns D.width D.height C.color self.now).columns }
-        requires row { row < (peekable_table R.Records.texts R.Records.columns D.width D.height C.color self.now).rows }
+        requires can { CanDraw (drawn R.Records D.Dimension C.Colors self.now) }
+        requires plain { HasNoSpans (drawn R.Records D.Dimension C.Colors self.now) }
+        requires columns { columns ≡ (drawn R.Records D.Dimension C.Colors self.now).columns }
+        requires row { row < (drawn R.Records D.Dimension C.Colors self.now).rows }
         requires line { line < D.height self.now.dimension row }
-        ensures { Appends buf.old buf.new result (written (flat_map (row_part (peekable_table R.Records.texts R.Records.columns D.width D.height C.color self.now) row line) (range_with_len 0 (peekable_table R.Records.texts R.Records.columns D.width D.height C.color self.now).columns))) }
+        ensures { Appends buf.old buf.new result (written (flat_map (row_part (drawn R.Records D.Dimension C.Colors self.now) row line) (range_with_len 0 (drawn R.Records D.Dimension C.Colors self.now).columns))) }
     {
         for column in 0..columns {
             self.push_part(buf, columns, Position::new(row, column), line)?;
@@ -92,11 +92,11 @@ where
         pos: Position,
         line: usize,
     ) -> Result<(), AllocError>
-        requires row { pos.row < (peekable_table R.Records.texts R.Records.columns D.width D.height C.color self.now).rows }
-        requires column { pos.col < (peekable_table R.Records.texts R.Records.columns D.width D.height C.color self.now).columns }
+        requires row { pos.row < (drawn R.Records D.Dimension C.Colors self.now).rows }
+        requires column { pos.col < (drawn R.Records D.Dimension C.Colors self.now).columns }
         requires line { line < D.height self.now.dimension pos.row }
-        requires room { cell_fits (style_at (peekable_table R.Records.texts R.Records.columns D.width D.height C.color self.now).config pos) ((peekable_table R.Records.texts R.Records.columns D.width D.height C.color self.now).text pos) (D.width self.now.dimension pos.col) (D.height self.now.dimension pos.row) ≡ true }
-        ensures { Appends buf.old buf.new result (written (vertical_at (peekable_table R.Records.texts R.Records.columns D.width D.height C.color self.now).config columns (D.height self.now.dimension pos.row) pos line) ++ written (block_line (style_at (peekable_table R.Records.texts R.Records.columns D.width D.height C.color self.now).config pos) ((peekable_table R.Records.texts R.Records.columns D.width D.height C.color self.now).color pos) ((peekable_table R.Records.texts R.Records.columns D.width D.height C.color self.now).text pos) (D.width self.now.dimension pos.col) (D.height self.now.dimension pos.row) line)) }
+        requires room { cell_fits (style_at (drawn R.Records D.Dimension C.Colors self.now).config pos) ((drawn R.Records D.Dimension C.Colors self.now).text pos) (D.width self.now.dimension pos.col) (D.height self.now.dimension pos.row) ≡ true }
+        ensures { Appends buf.old buf.new result (written (vertical_at (drawn R.Records D.Dimension C.Colors self.now).config columns (D.height self.now.dimension pos.row) pos line) ++ written (block_line (style_at (drawn R.Records D.Dimension C.Colors self.now).config pos) ((drawn R.Records D.Dimension C.Colors self.now).color pos) ((drawn R.Records D.Dimension C.Colors self.now).text pos) (D.width self.now.dimension pos.col) (D.height self.now.dimension pos.row) line)) }
     {
         let height = self.dimension.get_height(pos.row);
         let width = self.dimension.get_width(pos.col);
@@ -112,9 +112,9 @@ where
         row: usize,
         line: usize,
     ) -> Result<(), AllocError>
-        requires columns { columns ≡ (peekable_table R.Records.texts R.Records.columns D.width D.height C.color self.now).columns }
+        requires columns { columns ≡ (drawn R.Records D.Dimension C.Colors self.now).columns }
         requires line { line < D.height self.now.dimension row }
-        ensures { Appends buf.old buf.new result (written (row_part (peekable_table R.Records.texts R.Records.columns D.width D.height C.color self.now) row line columns)) }
+        ensures { Appends buf.old buf.new result (written (row_part (drawn R.Records D.Dimension C.Colors self.now) row line columns)) }
     {
         let height = self.dimension.get_height(row);
         push_vertical_at(
@@ -136,11 +136,11 @@ where
         height: usize,
         line: usize,
     ) -> Result<(), AllocError>
-        requires row { pos.row < (peekable_table R.Records.texts R.Records.columns D.width D.height C.color self.now).rows }
-        requires column { pos.col < (peekable_table R.Records.texts R.Records.columns D.width D.height C.color self.now).columns }
-        requires room { cell_fits (style_at (peekable_table R.Records.texts R.Records.columns D.width D.height C.color self.now).config pos) ((peekable_table R.Records.texts R.Records.columns D.width D.height C.color self.now).text pos) width height ≡ true }
+        requires row { pos.row < (drawn R.Records D.Dimension C.Colors self.now).rows }
+        requires column { pos.col < (drawn R.Records D.Dimension C.Colors self.now).columns }
+        requires room { cell_fits (style_at (drawn R.Records D.Dimension C.Colors self.now).config pos) ((drawn R.Records D.Dimension C.Colors self.now).text pos) width height ≡ true }
         requires line { line < height }
-        ensures { Appends buf.old buf.new result (written (block_line (style_at (peekable_table R.Records.texts R.Records.columns D.width D.height C.color self.now).config pos) ((peekable_table R.Records.texts R.Records.columns D.width D.height C.color self.now).color pos) ((peekable_table R.Records.texts R.Records.columns D.width D.height C.color self.now).text pos) width height line)) }
+        ensures { Appends buf.old buf.new result (written (block_line (style_at (drawn R.Records D.Dimension C.Colors self.now).config pos) ((drawn R.Records D.Dimension C.Colors self.now).color pos) ((drawn R.Records D.Dimension C.Colors self.now).text pos) width height line)) }
     {
         let style = CellStyle::of(self.config, pos);
         let text = self.records.get_text(pos);

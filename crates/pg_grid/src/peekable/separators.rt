@@ -6,7 +6,7 @@ ghost use Rattle.pg_config.specs.Config.{has_horizontal, get_horizontal};
 ghost use Rattle.pg_picture.specs.Appending.{Appends};
 ghost use Rattle.pg_picture.specs.Pieces.{separator_text, items_after, last_color};
 ghost use Rattle.pg_picture.specs.Table.{separator_items, separator_part, crossing_at, border_items};
-ghost use Rattle.pg_grid.specs.Grids.{peekable_table, CanDraw, HasNoSpans, shape_of_table};
+ghost use Rattle.pg_grid.specs.Grids.{drawn, CanDraw, HasNoSpans, shape_of_table};
 
 use crate::peekable::{PeekableGrid, Shape};
 use pg_config::SpannedConfig;
@@ -28,11 +28,11 @@ where
         shape: Shape,
         row: usize,
     ) -> Result<(), AllocError>
-        requires can { CanDraw (peekable_table R.Records.texts R.Records.columns D.width D.height C.color self.now) }
-        requires shape { shape ≡ shape_of_table (peekable_table R.Records.texts R.Records.columns D.width D.height C.color self.now) }
-        requires row { row ≤ (peekable_table R.Records.texts R.Records.columns D.width D.height C.color self.now).rows }
-        requires there { has_horizontal (peekable_table R.Records.texts R.Records.columns D.width D.height C.color self.now).config row (peekable_table R.Records.texts R.Records.columns D.width D.height C.color self.now).rows ≡ true }
-        ensures { Appends buf.old buf.new result (separator_text (separator_items (peekable_table R.Records.texts R.Records.columns D.width D.height C.color self.now) row)) }
+        requires can { CanDraw (drawn R.Records D.Dimension C.Colors self.now) }
+        requires shape { shape ≡ shape_of_table (drawn R.Records D.Dimension C.Colors self.now) }
+        requires row { row ≤ (drawn R.Records D.Dimension C.Colors self.now).rows }
+        requires there { has_horizontal (drawn R.Records D.Dimension C.Colors self.now).config row (drawn R.Records D.Dimension C.Colors self.now).rows ≡ true }
+        ensures { Appends buf.old buf.new result (separator_text (separator_items (drawn R.Records D.Dimension C.Colors self.now) row)) }
     {
         let run = self.push_columns(Run::new(), buf, shape, row)?;
         let run = self.push_last_crossing(run, buf, shape, row)?;
@@ -47,11 +47,11 @@ where
         shape: Shape,
         row: usize,
     ) -> Result<Run<'a, ANSIBuf<B>>, AllocError>
-        requires can { CanDraw (peekable_table R.Records.texts R.Records.columns D.width D.height C.color self.now) }
-        requires shape { shape ≡ shape_of_table (peekable_table R.Records.texts R.Records.columns D.width D.height C.color self.now) }
-        requires there { has_horizontal (peekable_table R.Records.texts R.Records.columns D.width D.height C.color self.now).config row (peekable_table R.Records.texts R.Records.columns D.width D.height C.color self.now).rows ≡ true }
-        ensures appends { Appends buf.old buf.new result (items_after run.entry (flat_map (separator_part (peekable_table R.Records.texts R.Records.columns D.width D.height C.color self.now) row) (range_with_len 0 (peekable_table R.Records.texts R.Records.columns D.width D.height C.color self.now).columns))) }
-        ensures color { IfOk result (λ after. after ≡ last_color run.entry (flat_map (separator_part (peekable_table R.Records.texts R.Records.columns D.width D.height C.color self.now) row) (range_with_len 0 (peekable_table R.Records.texts R.Records.columns D.width D.height C.color self.now).columns))) }
+        requires can { CanDraw (drawn R.Records D.Dimension C.Colors self.now) }
+        requires shape { shape ≡ shape_of_table (drawn R.Records D.Dimension C.Colors self.now) }
+        requires there { has_horizontal (drawn R.Records D.Dimension C.Colors self.now).config row (drawn R.Records D.Dimension C.Colors self.now).rows ≡ true }
+        ensures appends { Appends buf.old buf.new result (items_after run.entry (flat_map (separator_part (drawn R.Records D.Dimension C.Colors self.now) row) (range_with_len 0 (drawn R.Records D.Dimension C.Colors self.now).columns))) }
+        ensures color { IfOk result (λ after. after ≡ last_color run.entry (flat_map (separator_part (drawn R.Records D.Dimension C.Colors self.now) row) (range_with_len 0 (drawn R.Records D.Dimension C.Colors self.now).columns))) }
     {
         if shape.is_spanned {
             return self.push_spanned_columns(run, buf, shape, row);
@@ -67,10 +67,10 @@ where
         shape: Shape,
         row: usize,
     ) -> Result<Run<'a, ANSIBuf<B>>, AllocError>
-        requires plain { HasNoSpans (peekable_table R.Records.texts R.Records.columns D.width D.height C.color self.now) }
-        requires shape { shape ≡ shape_of_table (peekable_table R.Records.texts R.Records.columns D.width D.height C.color self.now) }
-        ensures appends { Appends buf.old buf.new result (items_after run.entry (flat_map (separator_part (peekable_table R.Records.texts R.Records.columns D.width D.height C.color self.now) row) (range_with_len 0 (peekable_table R.Records.texts R.Records.columns D.width D.height C.color self.now).columns))) }
-        ensures color { IfOk result (λ after. after ≡ last_color run.entry (flat_map (separator_part (peekable_table R.Records.texts R.Records.columns D.width D.height C.color self.now) row) (range_with_len 0 (peekable_table R.Records.texts R.Records.columns D.width D.height C.color self.now).columns))) }
+        requires plain { HasNoSpans (drawn R.Records D.Dimension C.Colors self.now) }
+        requires shape { shape ≡ shape_of_table (drawn R.Records D.Dimension C.Colors self.now) }
+        ensures appends { Appends buf.old buf.new result (items_after run.entry (flat_map (separator_part (drawn R.Records D.Dimension C.Colors self.now) row) (range_with_len 0 (drawn R.Records D.Dimension C.Colors self.now).columns))) }
+        ensures color { IfOk result (λ after. after ≡ last_color run.entry (flat_map (separator_part (drawn R.Records D.Dimension C.Colors self.now) row) (range_with_len 0 (drawn R.Records D.Dimension C.Colors self.now).columns))) }
     {
         for column in 0..shape.columns {
             run = self.push_column(run, buf, shape, Position::new(row, column))?;
@@ -86,8 +86,8 @@ where
         shape: Shape,
         pos: Position,
     ) -> Result<Run<'a, ANSIBuf<B>>, AllocError>
-        ensures appends { Appends buf.old buf.new result (items_after run.entry (crossing_at (peekable_table R.Records.texts R.Records.columns D.width D.height C.color self.now).config shape.rows shape.columns pos ++ border_items (peekable_table R.Records.texts R.Records.columns D.width D.height C.color self.now).config pos shape.rows (D.width self.now.dimension pos.col) (get_horizontal (peekable_table R.Records.texts R.Records.columns D.width D.height C.color self.now).config pos shape.rows))) }
-        ensures color { IfOk result (λ after. after ≡ last_color run.entry (crossing_at (peekable_table R.Records.texts R.Records.columns D.width D.height C.color self.now).config shape.rows shape.columns pos ++ border_items (peekable_table R.Records.texts R.Records.columns D.width D.height C.color self.now).config pos shape.rows (D.width self.now.dimension pos.col) (get_horizontal (peekable_table R.Records.texts R.Records.columns D.width D.height C.color self.now).config pos shape.rows))) }
+        ensures appends { Appends buf.old buf.new result (items_after run.entry (crossing_at (drawn R.Records D.Dimension C.Colors self.now).config shape.rows shape.columns pos ++ border_items (drawn R.Records D.Dimension C.Colors self.now).config pos shape.rows (D.width self.now.dimension pos.col) (get_horizontal (drawn R.Records D.Dimension C.Colors self.now).config pos shape.rows))) }
+        ensures color { IfOk result (λ after. after ≡ last_color run.entry (crossing_at (drawn R.Records D.Dimension C.Colors self.now).config shape.rows shape.columns pos ++ border_items (drawn R.Records D.Dimension C.Colors self.now).config pos shape.rows (D.width self.now.dimension pos.col) (get_horizontal (drawn R.Records D.Dimension C.Colors self.now).config pos shape.rows))) }
     {
         let width = self.dimension.get_width(pos.col);
         let run = run.crossing(buf, self.config, pos, (shape.rows, shape.columns))?;
@@ -102,9 +102,9 @@ where
         shape: Shape,
         row: usize,
     ) -> Result<Run<'a, ANSIBuf<B>>, AllocError>
-        requires shape { shape ≡ shape_of_table (peekable_table R.Records.texts R.Records.columns D.width D.height C.color self.now) }
-        ensures appends { Appends buf.old buf.new result (items_after run.entry (separator_part (peekable_table R.Records.texts R.Records.columns D.width D.height C.color self.now) row (peekable_table R.Records.texts R.Records.columns D.width D.height C.color self.now).columns)) }
-        ensures color { IfOk result (λ after. after ≡ last_color run.entry (separator_part (peekable_table R.Records.texts R.Records.columns D.width D.height C.color self.now) row (peekable_table R.Records.texts R.Records.columns D.width D.height C.color self.now).columns)) }
+        requires shape { shape ≡ shape_of_table (drawn R.Records D.Dimension C.Colors self.now) }
+        ensures appends { Appends buf.old buf.new result (items_after run.entry (separator_part (drawn R.Records D.Dimension C.Colors self.now) row (drawn R.Records D.Dimension C.Colors self.now).columns)) }
+        ensures color { IfOk result (λ after. after ≡ last_color run.entry (separator_part (drawn R.Records D.Dimension C.Colors self.now) row (drawn R.Records D.Dimension C.Colors self.now).columns)) }
     {
         let pos = Position::new(row, shape.columns);
         run.crossing(buf, self.config, pos, (shape.rows, shape.columns))

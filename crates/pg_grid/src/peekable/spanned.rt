@@ -9,7 +9,7 @@ ghost use Rattle.pg_picture.specs.Pieces.{written, style_at, block_line, block, 
 ghost use Rattle.pg_picture.specs.Marks.{sep, line};
 ghost use Rattle.pg_picture.specs.Table.{row_part, separator_part, vertical_at, block_at, rect_width, rect_height, crossing_at};
 ghost use Rattle.pg_picture.specs.Rectangles.{IsOwner, columns_or_one, rows_height};
-ghost use Rattle.pg_grid.specs.Grids.{peekable_table, CanDraw, shape_of_table, starts};
+ghost use Rattle.pg_grid.specs.Grids.{drawn, CanDraw, shape_of_table, starts};
 
 use crate::peekable::{PeekableGrid, Shape};
 use pg_config::{Span, SpannedConfig};
@@ -33,11 +33,11 @@ where
         row: usize,
         number: usize,
     ) -> Result<(), AllocError>
-        requires can { CanDraw (peekable_table R.Records.texts R.Records.columns D.width D.height C.color self.now) }
-        requires shape { shape ≡ shape_of_table (peekable_table R.Records.texts R.Records.columns D.width D.height C.color self.now) }
-        requires row { row < (peekable_table R.Records.texts R.Records.columns D.width D.height C.color self.now).rows }
+        requires can { CanDraw (drawn R.Records D.Dimension C.Colors self.now) }
+        requires shape { shape ≡ shape_of_table (drawn R.Records D.Dimension C.Colors self.now) }
+        requires row { row < (drawn R.Records D.Dimension C.Colors self.now).rows }
         requires number { number < D.height self.now.dimension row }
-        ensures { Appends buf.old buf.new result (written (flat_map (row_part (peekable_table R.Records.texts R.Records.columns D.width D.height C.color self.now) row number) (range_with_len 0 (peekable_table R.Records.texts R.Records.columns D.width D.height C.color self.now).columns))) }
+        ensures { Appends buf.old buf.new result (written (flat_map (row_part (drawn R.Records D.Dimension C.Colors self.now) row number) (range_with_len 0 (drawn R.Records D.Dimension C.Colors self.now).columns))) }
     {
         let mut column = 0;
         while column < shape.columns {
@@ -58,14 +58,14 @@ where
         span: Option<Span>,
         number: usize,
     ) -> Result<(), AllocError>
-        requires can { CanDraw (peekable_table R.Records.texts R.Records.columns D.width D.height C.color self.now) }
-        requires shape { shape ≡ shape_of_table (peekable_table R.Records.texts R.Records.columns D.width D.height C.color self.now) }
-        requires row { pos.row < (peekable_table R.Records.texts R.Records.columns D.width D.height C.color self.now).rows }
-        requires column { pos.col < (peekable_table R.Records.texts R.Records.columns D.width D.height C.color self.now).columns }
+        requires can { CanDraw (drawn R.Records D.Dimension C.Colors self.now) }
+        requires shape { shape ≡ shape_of_table (drawn R.Records D.Dimension C.Colors self.now) }
+        requires row { pos.row < (drawn R.Records D.Dimension C.Colors self.now).rows }
+        requires column { pos.col < (drawn R.Records D.Dimension C.Colors self.now).columns }
         requires number { number < D.height self.now.dimension pos.row }
-        requires left { is_left (peekable_table R.Records.texts R.Records.columns D.width D.height C.color self.now).config.spans pos.row pos.col ≡ true }
-        requires span { span ≡ left_span (peekable_table R.Records.texts R.Records.columns D.width D.height C.color self.now).config.spans pos.row pos.col }
-        ensures { Appends buf.old buf.new result (written (row_part (peekable_table R.Records.texts R.Records.columns D.width D.height C.color self.now) pos.row number pos.col)) }
+        requires left { is_left (drawn R.Records D.Dimension C.Colors self.now).config.spans pos.row pos.col ≡ true }
+        requires span { span ≡ left_span (drawn R.Records D.Dimension C.Colors self.now).config.spans pos.row pos.col }
+        ensures { Appends buf.old buf.new result (written (row_part (drawn R.Records D.Dimension C.Colors self.now) pos.row number pos.col)) }
     {
         match span {
             None => self.push_part(buf, shape.columns, pos, number),
@@ -82,12 +82,12 @@ where
         span: Span,
         number: usize,
     ) -> Result<(), AllocError>
-        requires can { CanDraw (peekable_table R.Records.texts R.Records.columns D.width D.height C.color self.now) }
-        requires shape { shape ≡ shape_of_table (peekable_table R.Records.texts R.Records.columns D.width D.height C.color self.now) }
-        requires row { pos.row < (peekable_table R.Records.texts R.Records.columns D.width D.height C.color self.now).rows }
+        requires can { CanDraw (drawn R.Records D.Dimension C.Colors self.now) }
+        requires shape { shape ≡ shape_of_table (drawn R.Records D.Dimension C.Colors self.now) }
+        requires row { pos.row < (drawn R.Records D.Dimension C.Colors self.now).rows }
         requires number { number < D.height self.now.dimension pos.row }
-        requires span { left_span (peekable_table R.Records.texts R.Records.columns D.width D.height C.color self.now).config.spans pos.row pos.col ≡ Some span }
-        ensures { Appends buf.old buf.new result (written (vertical_at (peekable_table R.Records.texts R.Records.columns D.width D.height C.color self.now).config shape.columns (D.height self.now.dimension pos.row) pos number) ++ written (block_at (peekable_table R.Records.texts R.Records.columns D.width D.height C.color self.now) (corner span) (line pos.row number))) }
+        requires span { left_span (drawn R.Records D.Dimension C.Colors self.now).config.spans pos.row pos.col ≡ Some span }
+        ensures { Appends buf.old buf.new result (written (vertical_at (drawn R.Records D.Dimension C.Colors self.now).config shape.columns (D.height self.now.dimension pos.row) pos number) ++ written (block_at (drawn R.Records D.Dimension C.Colors self.now) (corner span) (line pos.row number))) }
     {
         let height = self.dimension.get_height(pos.row);
         push_vertical_at(buf, self.config, shape.columns, height, pos, number)?;
@@ -104,11 +104,11 @@ where
         shape: Shape,
         row: usize,
     ) -> Result<Run<'a, ANSIBuf<B>>, AllocError>
-        requires can { CanDraw (peekable_table R.Records.texts R.Records.columns D.width D.height C.color self.now) }
-        requires shape { shape ≡ shape_of_table (peekable_table R.Records.texts R.Records.columns D.width D.height C.color self.now) }
-        requires there { has_horizontal (peekable_table R.Records.texts R.Records.columns D.width D.height C.color self.now).config row (peekable_table R.Records.texts R.Records.columns D.width D.height C.color self.now).rows ≡ true }
-        ensures appends { Appends buf.old buf.new result (items_after run.entry (flat_map (separator_part (peekable_table R.Records.texts R.Records.columns D.width D.height C.color self.now) row) (range_with_len 0 (peekable_table R.Records.texts R.Records.columns D.width D.height C.color self.now).columns))) }
-        ensures color { IfOk result (λ after. after ≡ last_color run.entry (flat_map (separator_part (peekable_table R.Records.texts R.Records.columns D.width D.height C.color self.now) row) (range_with_len 0 (peekable_table R.Records.texts R.Records.columns D.width D.height C.color self.now).columns))) }
+        requires can { CanDraw (drawn R.Records D.Dimension C.Colors self.now) }
+        requires shape { shape ≡ shape_of_table (drawn R.Records D.Dimension C.Colors self.now) }
+        requires there { has_horizontal (drawn R.Records D.Dimension C.Colors self.now).config row (drawn R.Records D.Dimension C.Colors self.now).rows ≡ true }
+        ensures appends { Appends buf.old buf.new result (items_after run.entry (flat_map (separator_part (drawn R.Records D.Dimension C.Colors self.now) row) (range_with_len 0 (drawn R.Records D.Dimension C.Colors self.now).columns))) }
+        ensures color { IfOk result (λ after. after ≡ last_color run.entry (flat_map (separator_part (drawn R.Records D.Dimension C.Colors self.now) row) (range_with_len 0 (drawn R.Records D.Dimension C.Colors self.now).columns))) }
     {
         let mut column = 0;
         while column < shape.columns {
@@ -129,14 +129,14 @@ where
         pos: Position,
         span: Option<Span>,
     ) -> Result<Run<'a, ANSIBuf<B>>, AllocError>
-        requires can { CanDraw (peekable_table R.Records.texts R.Records.columns D.width D.height C.color self.now) }
-        requires shape { shape ≡ shape_of_table (peekable_table R.Records.texts R.Records.columns D.width D.height C.color self.now) }
-        requires column { pos.col < (peekable_table R.Records.texts R.Records.columns D.width D.height C.color self.now).columns }
-        requires there { has_horizontal (peekable_table R.Records.texts R.Records.columns D.width D.height C.color self.now).config pos.row (peekable_table R.Records.texts R.Records.columns D.width D.height C.color self.now).rows ≡ true }
-        requires starts { starts (peekable_table R.Records.texts R.Records.columns D.width D.height C.color self.now).config.spans pos.row pos.col ≡ true }
-        requires span { span ≡ span_above (peekable_table R.Records.texts R.Records.columns D.width D.height C.color self.now).config.spans pos.row pos.col }
-        ensures appends { Appends buf.old buf.new result (items_after run.entry (separator_part (peekable_table R.Records.texts R.Records.columns D.width D.height C.color self.now) pos.row pos.col)) }
-        ensures color { IfOk result (λ after. after ≡ last_color run.entry (separator_part (peekable_table R.Records.texts R.Records.columns D.width D.height C.color self.now) pos.row pos.col)) }
+        requires can { CanDraw (drawn R.Records D.Dimension C.Colors self.now) }
+        requires shape { shape ≡ shape_of_table (drawn R.Records D.Dimension C.Colors self.now) }
+        requires column { pos.col < (drawn R.Records D.Dimension C.Colors self.now).columns }
+        requires there { has_horizontal (drawn R.Records D.Dimension C.Colors self.now).config pos.row (drawn R.Records D.Dimension C.Colors self.now).rows ≡ true }
+        requires starts { starts (drawn R.Records D.Dimension C.Colors self.now).config.spans pos.row pos.col ≡ true }
+        requires span { span ≡ span_above (drawn R.Records D.Dimension C.Colors self.now).config.spans pos.row pos.col }
+        ensures appends { Appends buf.old buf.new result (items_after run.entry (separator_part (drawn R.Records D.Dimension C.Colors self.now) pos.row pos.col)) }
+        ensures color { IfOk result (λ after. after ≡ last_color run.entry (separator_part (drawn R.Records D.Dimension C.Colors self.now) pos.row pos.col)) }
     {
         match span {
             None => self.push_column(run, buf, shape, pos),
@@ -153,12 +153,12 @@ where
         pos: Position,
         span: Span,
     ) -> Result<Run<'a, ANSIBuf<B>>, AllocError>
-        requires can { CanDraw (peekable_table R.Records.texts R.Records.columns D.width D.height C.color self.now) }
-        requires shape { shape ≡ shape_of_table (peekable_table R.Records.texts R.Records.columns D.width D.height C.color self.now) }
-        requires there { has_horizontal (peekable_table R.Records.texts R.Records.columns D.width D.height C.color self.now).config pos.row (peekable_table R.Records.texts R.Records.columns D.width D.height C.color self.now).rows ≡ true }
-        requires span { span_above (peekable_table R.Records.texts R.Records.columns D.width D.height C.color self.now).config.spans pos.row pos.col ≡ Some span }
-        ensures appends { Appends buf.old buf.new result (items_after run.entry (crossing_at (peekable_table R.Records.texts R.Records.columns D.width D.height C.color self.now).config shape.rows shape.columns pos ++ block (block_at (peekable_table R.Records.texts R.Records.columns D.width D.height C.color self.now) (corner span) (sep pos.row)) ∷ [])) }
-        ensures color { IfOk result (λ after. after ≡ last_color run.entry (crossing_at (peekable_table R.Records.texts R.Records.columns D.width D.height C.color self.now).config shape.rows shape.columns pos ++ block (block_at (peekable_table R.Records.texts R.Records.columns D.width D.height C.color self.now) (corner span) (sep pos.row)) ∷ [])) }
+        requires can { CanDraw (drawn R.Records D.Dimension C.Colors self.now) }
+        requires shape { shape ≡ shape_of_table (drawn R.Records D.Dimension C.Colors self.now) }
+        requires there { has_horizontal (drawn R.Records D.Dimension C.Colors self.now).config pos.row (drawn R.Records D.Dimension C.Colors self.now).rows ≡ true }
+        requires span { span_above (drawn R.Records D.Dimension C.Colors self.now).config.spans pos.row pos.col ≡ Some span }
+        ensures appends { Appends buf.old buf.new result (items_after run.entry (crossing_at (drawn R.Records D.Dimension C.Colors self.now).config shape.rows shape.columns pos ++ block (block_at (drawn R.Records D.Dimension C.Colors self.now) (corner span) (sep pos.row)) ∷ [])) }
+        ensures color { IfOk result (λ after. after ≡ last_color run.entry (crossing_at (drawn R.Records D.Dimension C.Colors self.now).config shape.rows shape.columns pos ++ block (block_at (drawn R.Records D.Dimension C.Colors self.now) (corner span) (sep pos.row)) ∷ [])) }
     {
         let run = run.crossing(buf, self.config, pos, (shape.rows, shape.columns))?;
         let run = run.close_for_block(buf)?;
@@ -170,11 +170,11 @@ where
 
     // How many lines the rows from a first one up to another have, with the separator below each.
     fn lines_above(&self, shape: Shape, first: usize, row: usize) -> usize
-        requires can { CanDraw (peekable_table R.Records.texts R.Records.columns D.width D.height C.color self.now) }
-        requires shape { shape ≡ shape_of_table (peekable_table R.Records.texts R.Records.columns D.width D.height C.color self.now) }
+        requires can { CanDraw (drawn R.Records D.Dimension C.Colors self.now) }
+        requires shape { shape ≡ shape_of_table (drawn R.Records D.Dimension C.Colors self.now) }
         requires first { first ≤ row }
-        requires row { row < (peekable_table R.Records.texts R.Records.columns D.width D.height C.color self.now).rows }
-        ensures { result ≡ rows_height (peekable_table R.Records.texts R.Records.columns D.width D.height C.color self.now) first (row - first) }
+        requires row { row < (drawn R.Records D.Dimension C.Colors self.now).rows }
+        ensures { result ≡ rows_height (drawn R.Records D.Dimension C.Colors self.now) first (row - first) }
     {
         let mut lines = 0;
         for above in first..row {
@@ -185,7 +185,7 @@ where
 
     // How many lines the separator above a row is.
     fn separators_at(&self, shape: Shape, row: usize) -> usize
-        ensures { result ≡ cond (has_horizontal (peekable_table R.Records.texts R.Records.columns D.width D.height C.color self.now).config row shape.rows) 1 0 }
+        ensures { result ≡ cond (has_horizontal (drawn R.Records D.Dimension C.Colors self.now).config row shape.rows) 1 0 }
     {
         if self.config.has_horizontal(row, shape.rows) {
             1
@@ -202,11 +202,11 @@ where
         corner: Position,
         number: usize,
     ) -> Result<(), AllocError>
-        requires can { CanDraw (peekable_table R.Records.texts R.Records.columns D.width D.height C.color self.now) }
-        requires shape { shape ≡ shape_of_table (peekable_table R.Records.texts R.Records.columns D.width D.height C.color self.now) }
-        requires owner { IsOwner (peekable_table R.Records.texts R.Records.columns D.width D.height C.color self.now) corner }
-        requires number { number < rect_height (peekable_table R.Records.texts R.Records.columns D.width D.height C.color self.now) corner }
-        ensures { Appends buf.old buf.new result (written (block_line (style_at (peekable_table R.Records.texts R.Records.columns D.width D.height C.color self.now).config corner) ((peekable_table R.Records.texts R.Records.columns D.width D.height C.color self.now).color corner) ((peekable_table R.Records.texts R.Records.columns D.width D.height C.color self.now).text corner) (rect_width (peekable_table R.Records.texts R.Records.columns D.width D.height C.color self.now) corner) (rect_height (peekable_table R.Records.texts R.Records.columns D.width D.height C.color self.now) corner) number)) }
+        requires can { CanDraw (drawn R.Records D.Dimension C.Colors self.now) }
+        requires shape { shape ≡ shape_of_table (drawn R.Records D.Dimension C.Colors self.now) }
+        requires owner { IsOwner (drawn R.Records D.Dimension C.Colors self.now) corner }
+        requires number { number < rect_height (drawn R.Records D.Dimension C.Colors self.now) corner }
+        ensures { Appends buf.old buf.new result (written (block_line (style_at (drawn R.Records D.Dimension C.Colors self.now).config corner) ((drawn R.Records D.Dimension C.Colors self.now).color corner) ((drawn R.Records D.Dimension C.Colors self.now).text corner) (rect_width (drawn R.Records D.Dimension C.Colors self.now) corner) (rect_height (drawn R.Records D.Dimension C.Colors self.now) corner) number)) }
     {
         let width = rect_width(self.config, &self.dimension, corner, shape.columns).unwrap();
         let height = rect_height(self.config, &self.dimension, corner).unwrap();

@@ -2,7 +2,7 @@ use Rattle.std.proofs.Common.{◌≡◌, ◌<◌, ◌||◌, ◌==◌, true, fals
 use Rattle.std.proofs.lemmas.Bool.Decides.{nat_tests}
 use Rattle.pg_picture.specs.Table.{Known}
 use Rattle.pg_picture.proofs.Appending.{Appends-text, Gained-none, Gained-all}
-use Rattle.pg_grid.specs.Grids.{peekable_table}
+use Rattle.pg_grid.specs.Grids.{drawn}
 use Rattle.pg_grid.proofs.CanDraw.{can_draw}
 use Rattle.pg_picture.proofs.Pictures.{picture-none, picture-some}
 use Rattle.pg_grid.proofs.peekable.PeekableGrid+R+ref+SpannedConfig+B+D+C.build.Goals as goal
@@ -10,7 +10,7 @@ use Rattle.pg_grid.proofs.peekable.PeekableGrid+R+ref+SpannedConfig+B+D+C.build.
 
 pub returns-then-rows-eq0 : goal.returns-then-rows-eq0
 returns-then-rows-eq0 g c =
-    let t = (peekable_table g.R.Records.texts g.R.Records.columns g.D.Dimension.width g.D.Dimension.height g.C.Colors.color c.args.self.now) in
+    let t = drawn g.R.Records g.D.Dimension g.C.Colors c.args.self.now in
     let none : ((t.rows == 0) || (t.columns == 0)) ≡ true =
     elim c.then-rows-eq0.branch [
       | then-rows-eq0-via-then-rows-eq0 w ↦ (let e : t.rows ≡ 0 = sym c.count_rows-rows.ensures ∙ w.if-rows-eq0.true in grind (arith, nat_tests, e))
@@ -20,14 +20,14 @@ returns-then-rows-eq0 g c =
 
 pub push_picture-requires-clause-can : goal.push_picture-requires-clause-can
 push_picture-requires-clause-can g c =
-    let t = (peekable_table g.R.Records.texts g.R.Records.columns g.D.Dimension.width g.D.Dimension.height g.C.Colors.color c.args.self.now) in
+    let t = drawn g.R.Records g.D.Dimension g.C.Colors c.args.self.now in
     let rows : 0 < t.rows = omega (arith, c.count_rows-rows.ensures) in
     let columns : 0 < t.columns = omega (arith, c.count_columns-columns.ensures.value) in
     can_draw t c.spans.ensures.ascending c.spans.ensures.places c.requires.fits rows columns
 
 pub returns : goal.returns
 returns g c =
-    let t = (peekable_table g.R.Records.texts g.R.Records.columns g.D.Dimension.width g.D.Dimension.height g.C.Colors.color c.args.self.now) in
+    let t = drawn g.R.Records g.D.Dimension g.C.Colors c.args.self.now in
     let rows = c.count_rows-rows.ensures in
     let columns = c.count_columns-columns.ensures.value in
     let some : ((t.rows == 0) || (t.columns == 0)) ≡ false = grind (arith, nat_tests, rows, columns) in

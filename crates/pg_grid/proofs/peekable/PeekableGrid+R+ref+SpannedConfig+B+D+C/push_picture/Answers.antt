@@ -9,7 +9,7 @@ use Rattle.pg_picture.specs.Fits.{body_height}
 use Rattle.pg_picture.proofs.Appending.{Appends-text, ◌then◌, stopped}
 use Rattle.pg_picture.proofs.FittingTables.{some_is, totals_facts}
 use Rattle.pg_picture.proofs.HeightsOfRectangles.{length-table_body}
-use Rattle.pg_grid.specs.Grids.{peekable_table}
+use Rattle.pg_grid.specs.Grids.{drawn}
 use Rattle.pg_picture.specs.Picture.{body_text}
 use Rattle.pg_grid.specs.declared.peekable.Shape.{Shape}
 use Rattle.pg_grid.proofs.CanDraw.{width-answer, height-answer, is_some_answer}
@@ -18,20 +18,20 @@ use Rattle.pg_grid.proofs.peekable.PeekableGrid+R+ref+SpannedConfig+B+D+C.push_p
 use Rattle.pg_grid.proofs.peekable.PeekableGrid+R+ref+SpannedConfig+B+D+C.push_picture.Goals.{then-is_first, else-is_first}
 
 pub full_width-requires : goal.full_width-requires
-full_width-requires g c = omega (arith, c.requires.columns, (totals_facts (peekable_table g.R.Records.texts g.R.Records.columns g.D.Dimension.width g.D.Dimension.height g.C.Colors.color c.args.self.now) c.requires.can.fits.totals).columns)
+full_width-requires g c = omega (arith, c.requires.columns, (totals_facts (drawn g.R.Records g.D.Dimension g.C.Colors c.args.self.now) c.requires.can.fits.totals).columns)
 
 pub body_height-requires : goal.body_height-requires
-body_height-requires g c = omega (arith, c.requires.rows, (totals_facts (peekable_table g.R.Records.texts g.R.Records.columns g.D.Dimension.width g.D.Dimension.height g.C.Colors.color c.args.self.now) c.requires.can.fits.totals).rows)
+body_height-requires g c = omega (arith, c.requires.rows, (totals_facts (drawn g.R.Records g.D.Dimension g.C.Colors c.args.self.now) c.requires.can.fits.totals).rows)
 
 pub unwrap-width-requires : goal.unwrap-width-requires
-unwrap-width-requires g c = is_some_answer (width-answer (peekable_table g.R.Records.texts g.R.Records.columns g.D.Dimension.width g.D.Dimension.height g.C.Colors.color c.args.self.now) c.args.columns c.requires.can c.requires.columns c.full_width.ensures)
+unwrap-width-requires g c = is_some_answer (width-answer (drawn g.R.Records g.D.Dimension g.C.Colors c.args.self.now) c.args.columns c.requires.can c.requires.columns c.full_width.ensures)
 
 pub unwrap-height-requires : goal.unwrap-height-requires
-unwrap-height-requires g c = is_some_answer (height-answer (peekable_table g.R.Records.texts g.R.Records.columns g.D.Dimension.width g.D.Dimension.height g.C.Colors.color c.args.self.now) c.args.rows c.requires.can c.requires.rows c.body_height.ensures)
+unwrap-height-requires g c = is_some_answer (height-answer (drawn g.R.Records g.D.Dimension g.C.Colors c.args.self.now) c.args.rows c.requires.can c.requires.rows c.body_height.ensures)
 
 pub push_body-requires-clause-shape : goal.push_body-requires-clause-shape
 push_body-requires-clause-shape g c =
-    let t = (peekable_table g.R.Records.texts g.R.Records.columns g.D.Dimension.width g.D.Dimension.height g.C.Colors.color c.args.self.now) in
+    let t = drawn g.R.Records g.D.Dimension g.C.Colors c.args.self.now in
     let height : c.unwrap-height.result ≡ length (table_body t) =
     some_is c.unwrap-height.result (body_height t) (sym c.unwrap-height.ensures ∙ height-answer t c.args.rows c.requires.can c.requires.rows c.body_height.ensures) ∙ sym (length-table_body t) in
     ap₂ (λ (n : ℕ) (m : ℕ). let s : Shape = record { rows = n; columns = m; height = c.unwrap-height.result; is_spanned = c.args.is_spanned } in s) c.requires.rows c.requires.columns
@@ -39,7 +39,7 @@ push_body-requires-clause-shape g c =
 
 pub returns-in_err-push_top_margin : goal.returns-in_err-push_top_margin
 returns-in_err-push_top_margin g c =
-    let t = (peekable_table g.R.Records.texts g.R.Records.columns g.D.Dimension.width g.D.Dimension.height g.C.Colors.color c.args.self.now) in
+    let t = drawn g.R.Records g.D.Dimension g.C.Colors c.args.self.now in
     let wide = some_is c.unwrap-width.result (full_width t) (sym c.unwrap-width.ensures ∙ width-answer t c.args.columns c.requires.can c.requires.columns c.full_width.ensures) in
     let high = some_is c.unwrap-height.result (body_height t) (sym c.unwrap-height.ensures ∙ height-answer t c.args.rows c.requires.can c.requires.rows c.body_height.ensures) ∙ sym (length-table_body t) in
     let first : Bool = t.config.margin.top.size == 0 in
@@ -52,7 +52,7 @@ returns-in_err-push_top_margin g c =
 
 pub returns-in_err-push_body : goal.returns-in_err-push_body
 returns-in_err-push_body g c =
-    let t = (peekable_table g.R.Records.texts g.R.Records.columns g.D.Dimension.width g.D.Dimension.height g.C.Colors.color c.args.self.now) in
+    let t = drawn g.R.Records g.D.Dimension g.C.Colors c.args.self.now in
     let wide = some_is c.unwrap-width.result (full_width t) (sym c.unwrap-width.ensures ∙ width-answer t c.args.columns c.requires.can c.requires.columns c.full_width.ensures) in
     let high = some_is c.unwrap-height.result (body_height t) (sym c.unwrap-height.ensures ∙ height-answer t c.args.rows c.requires.can c.requires.rows c.body_height.ensures) ∙ sym (length-table_body t) in
     let first : Bool = c.get_margin.result.top.size == 0 in
@@ -64,7 +64,7 @@ returns-in_err-push_body g c =
 
 pub returns : goal.returns
 returns g c =
-    let t = (peekable_table g.R.Records.texts g.R.Records.columns g.D.Dimension.width g.D.Dimension.height g.C.Colors.color c.args.self.now) in
+    let t = drawn g.R.Records g.D.Dimension g.C.Colors c.args.self.now in
     let wide = some_is c.unwrap-width.result (full_width t) (sym c.unwrap-width.ensures ∙ width-answer t c.args.columns c.requires.can c.requires.columns c.full_width.ensures) in
     let high = some_is c.unwrap-height.result (body_height t) (sym c.unwrap-height.ensures ∙ height-answer t c.args.rows c.requires.can c.requires.rows c.body_height.ensures) ∙ sym (length-table_body t) in
     let first : Bool = c.get_margin.result.top.size == 0 in

@@ -2,33 +2,33 @@ use Rattle.std.proofs.Common.{◌≡◌, ◌<◌, ◌∙◌, ap, arith}
 use Rattle.pg_picture.specs.Joined.{lines_before}
 use Rattle.pg_picture.proofs.Appending.{Gained-none, Gained-text, Gained-more, gained-then, refused, Appends-text}
 use Rattle.pg_grid.specs.declared.peekable.Shape.{Shape}
-use Rattle.pg_grid.specs.Grids.{peekable_table}
+use Rattle.pg_grid.specs.Grids.{drawn}
 use Rattle.pg_picture.proofs.BodyLines.{above-none, above-none-text, above-length, above-text, row-room, body-text-cut, last-room, last-text}
 use Rattle.pg_grid.proofs.peekable.body.PeekableGrid+R+ref+SpannedConfig+B+D+C.push_body.Goals as goal
 
 pub loop-row-init : goal.loop-row-init
 loop-row-init g c =
-    let t = (peekable_table g.R.Records.texts g.R.Records.columns g.D.Dimension.width g.D.Dimension.height g.C.Colors.color c.args.self.now) in
+    let t = drawn g.R.Records g.D.Dimension g.C.Colors c.args.self.now in
     let n = lines_before c.args.is_first in
     record { gained = Gained-text (above-none-text t n) (Gained-none c.args.buf.now); index = above-none t n }
 
 pub push_row-requires-clause-room : goal.push_row-requires-clause-room
 push_row-requires-clause-room g c =
-    let t = (peekable_table g.R.Records.texts g.R.Records.columns g.D.Dimension.width g.D.Dimension.height g.C.Colors.color c.args.self.now) in
+    let t = drawn g.R.Records g.D.Dimension g.C.Colors c.args.self.now in
     let n = lines_before c.args.is_first in
     let here : c.loop-row.row < t.rows = omega (arith, ap (λ (s : Shape). s.rows) c.requires.shape) in
     row-room t n c.loop-row.index c.loop-row.row c.args.shape.height c.loop-row.invariant.index (ap (λ (s : Shape). s.height) c.requires.shape) here
 
 pub returns-in_err-index : goal.returns-in_err-index
 returns-in_err-index g c =
-    let t = (peekable_table g.R.Records.texts g.R.Records.columns g.D.Dimension.width g.D.Dimension.height g.C.Colors.color c.args.self.now) in
+    let t = drawn g.R.Records g.D.Dimension g.C.Colors c.args.self.now in
     let n = lines_before c.args.is_first in
     let here : c.loop-row.row < t.rows = omega (arith, ap (λ (s : Shape). s.rows) c.requires.shape) in
     refused _ (body-text-cut t n c.loop-row.index c.loop-row.row c.loop-row.invariant.index here) c.from_residual.ensures.0 c.loop-row.invariant.gained c.in_err-index.ensures.lines
 
 pub loop-row-preserved : goal.loop-row-preserved
 loop-row-preserved g c =
-    let t = (peekable_table g.R.Records.texts g.R.Records.columns g.D.Dimension.width g.D.Dimension.height g.C.Colors.color c.args.self.now) in
+    let t = drawn g.R.Records g.D.Dimension g.C.Colors c.args.self.now in
     let n = lines_before c.args.is_first in
     record {
       gained = Gained-text (above-text t n c.loop-row.index c.loop-row.row c.loop-row.invariant.index) (Gained-more c.loop-row.invariant.gained c.in_ok-index.ensures.lines);
@@ -37,14 +37,14 @@ loop-row-preserved g c =
 
 pub push_last-requires-clause-room : goal.push_last-requires-clause-room
 push_last-requires-clause-room g c =
-    let t = (peekable_table g.R.Records.texts g.R.Records.columns g.D.Dimension.width g.D.Dimension.height g.C.Colors.color c.args.self.now) in
+    let t = drawn g.R.Records g.D.Dimension g.C.Colors c.args.self.now in
     let n = lines_before c.args.is_first in
     let ended : c.loop-row.row ≡ t.rows = omega (arith, ap (λ (s : Shape). s.rows) c.requires.shape) in
     last-room t n c.loop-row.index c.loop-row.row c.args.shape.height c.loop-row.invariant.index ended (ap (λ (s : Shape). s.height) c.requires.shape)
 
 pub returns : goal.returns
 returns g c =
-    let t = (peekable_table g.R.Records.texts g.R.Records.columns g.D.Dimension.width g.D.Dimension.height g.C.Colors.color c.args.self.now) in
+    let t = drawn g.R.Records g.D.Dimension g.C.Colors c.args.self.now in
     let n = lines_before c.args.is_first in
     let ended : c.loop-row.row ≡ t.rows = omega (arith, ap (λ (s : Shape). s.rows) c.requires.shape) in
     Appends-text (last-text t n c.loop-row.index c.loop-row.row c.loop-row.invariant.index ended) (gained-then c.loop-row.invariant.gained c.push_last.ensures)

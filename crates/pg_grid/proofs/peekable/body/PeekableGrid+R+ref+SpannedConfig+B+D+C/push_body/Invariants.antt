@@ -4,12 +4,12 @@ use Rattle.pg_picture.specs.Marks.{marks_above}
 use Rattle.pg_picture.specs.Table.{Known}
 use Rattle.pg_picture.specs.Joined.{lines_before}
 use Rattle.pg_picture.specs.Picture.{body_text}
-use Rattle.pg_grid.specs.Grids.{peekable_table}
+use Rattle.pg_grid.specs.Grids.{drawn}
 use Rattle.pg_grid.proofs.peekable.body.PeekableGrid+R+ref+SpannedConfig+B+D+C.push_body.Given as goal
 
 abbrev pub invariant-loop-row : goal.invariant-loop-row
 invariant-loop-row g l =
-    let t = (peekable_table g.R.Records.texts g.R.Records.columns g.D.Dimension.width g.D.Dimension.height g.C.Colors.color l.self) in
+    let t = (drawn g.R.Records g.D.Dimension g.C.Colors l.self) in
     record {
       gained : Gained l.fn.buf l.buf (body_text Known t (lines_before l.is_first) 0 (marks_above t.config t.height l.row));
       index : l.index ≡ length (marks_above t.config t.height l.row);

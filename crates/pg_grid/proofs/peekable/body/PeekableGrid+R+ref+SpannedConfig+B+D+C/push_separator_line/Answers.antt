@@ -3,27 +3,27 @@ use Rattle.pg_picture.specs.Marks.{sep}
 use Rattle.pg_picture.specs.Table.{mark_text}
 use Rattle.pg_picture.proofs.Appending.{Appends-text, ◌then◌, stopped}
 use Rattle.pg_grid.specs.declared.peekable.Shape.{Shape}
-use Rattle.pg_grid.specs.Grids.{peekable_table}
+use Rattle.pg_grid.specs.Grids.{drawn}
 use Rattle.pg_picture.proofs.FirstLines.{end_of, line-text}
 use Rattle.pg_grid.proofs.peekable.body.PeekableGrid+R+ref+SpannedConfig+B+D+C.push_separator_line.Goals as goal
 
 pub returns-in_err-push_start : goal.returns-in_err-push_start
 unfolding mark_text
 returns-in_err-push_start g c =
-    let t = (peekable_table g.R.Records.texts g.R.Records.columns g.D.Dimension.width g.D.Dimension.height g.C.Colors.color c.args.self.now) in
+    let t = drawn g.R.Records g.D.Dimension g.C.Colors c.args.self.now in
     Appends-text (line-text t c.args.shape.height c.args.is_first c.args.index (sep c.args.row) (ap (λ (s : Shape). s.height) c.requires.shape))
     (stopped (mark_text t (sep c.args.row) ++ end_of t c.args.shape.height c.args.index) c.from_residual.ensures.0 c.in_err-push_start.ensures)
 
 pub returns-in_err-push_separator : goal.returns-in_err-push_separator
 unfolding mark_text
 returns-in_err-push_separator g c =
-    let t = (peekable_table g.R.Records.texts g.R.Records.columns g.D.Dimension.width g.D.Dimension.height g.C.Colors.color c.args.self.now) in
+    let t = drawn g.R.Records g.D.Dimension g.C.Colors c.args.self.now in
     Appends-text (line-text t c.args.shape.height c.args.is_first c.args.index (sep c.args.row) (ap (λ (s : Shape). s.height) c.requires.shape))
     (c.in_ok-push_start.ensures then stopped (end_of t c.args.shape.height c.args.index) c.from_residual-in_err-push_separator.ensures.0 c.in_err-push_separator.ensures)
 
 pub returns : goal.returns
 unfolding mark_text
 returns g c =
-    let t = (peekable_table g.R.Records.texts g.R.Records.columns g.D.Dimension.width g.D.Dimension.height g.C.Colors.color c.args.self.now) in
+    let t = drawn g.R.Records g.D.Dimension g.C.Colors c.args.self.now in
     Appends-text (line-text t c.args.shape.height c.args.is_first c.args.index (sep c.args.row) (ap (λ (s : Shape). s.height) c.requires.shape))
     (c.in_ok-push_start.ensures then (c.in_ok-push_separator.ensures then c.push_right_margin.ensures))

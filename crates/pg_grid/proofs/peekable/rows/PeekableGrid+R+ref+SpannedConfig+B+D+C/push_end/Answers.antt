@@ -2,12 +2,12 @@ use Rattle.std.proofs.Common.{ap, ◌∙◌}
 use Rattle.pg_picture.specs.Pieces.{written}
 use Rattle.pg_picture.specs.Table.{vertical_at}
 use Rattle.pg_picture.proofs.Appending.{Appends-text}
-use Rattle.pg_grid.specs.Grids.{peekable_table}
+use Rattle.pg_grid.specs.Grids.{drawn}
 use Rattle.pg_grid.proofs.RowParts.{end-text}
 use Rattle.pg_grid.proofs.peekable.rows.PeekableGrid+R+ref+SpannedConfig+B+D+C.push_end.Goals as goal
 
 pub returns : goal.returns
 returns g c =
-    let t = (peekable_table g.R.Records.texts g.R.Records.columns g.D.Dimension.width g.D.Dimension.height g.C.Colors.color c.args.self.now) in
+    let t = drawn g.R.Records g.D.Dimension g.C.Colors c.args.self.now in
     let place = ap (λ p. written (vertical_at c.args.self.now.config.now c.args.columns c.get_height-height.result p c.args.line)) c.new.ensures in
     Appends-text (place ∙ end-text t c.args.columns c.get_height-height.result c.args.row c.args.line c.requires.columns c.get_height-height.ensures) c.push_vertical_at.ensures

@@ -2,17 +2,17 @@ use Rattle.std.proofs.Common.{◌++◌, ap₂}
 use Rattle.pg_picture.specs.Pieces.{written, style_at, block_line}
 use Rattle.pg_picture.specs.Table.{vertical_at}
 use Rattle.pg_picture.proofs.Appending.{Appends-text, ◌then◌, stopped}
-use Rattle.pg_grid.specs.Grids.{peekable_table}
+use Rattle.pg_grid.specs.Grids.{drawn}
 use Rattle.pg_grid.proofs.peekable.rows.PeekableGrid+R+ref+SpannedConfig+B+D+C.push_part.Goals as goal
 
 pub push_cell-requires-clause-room : goal.push_cell-requires-clause-room
 push_cell-requires-clause-room g c =
-    let t = (peekable_table g.R.Records.texts g.R.Records.columns g.D.Dimension.width g.D.Dimension.height g.C.Colors.color c.args.self.now) in
+    let t = drawn g.R.Records g.D.Dimension g.C.Colors c.args.self.now in
     rw (c.get_width-width.ensures, c.get_height-height.ensures) c.requires.room
 
 pub returns-in_err-push_vertical_at : goal.returns-in_err-push_vertical_at
 returns-in_err-push_vertical_at g c =
-    let t = (peekable_table g.R.Records.texts g.R.Records.columns g.D.Dimension.width g.D.Dimension.height g.C.Colors.color c.args.self.now) in
+    let t = drawn g.R.Records g.D.Dimension g.C.Colors c.args.self.now in
     let p = c.args.pos in
     Appends-text
     (ap₂ (λ h w. written (vertical_at t.config c.args.columns h p c.args.line) ++ written (block_line (style_at t.config p) (t.color p) (t.text p) w h c.args.line)) c.get_height-height.ensures c.get_width-width.ensures)
@@ -20,7 +20,7 @@ returns-in_err-push_vertical_at g c =
 
 pub returns : goal.returns
 returns g c =
-    let t = (peekable_table g.R.Records.texts g.R.Records.columns g.D.Dimension.width g.D.Dimension.height g.C.Colors.color c.args.self.now) in
+    let t = drawn g.R.Records g.D.Dimension g.C.Colors c.args.self.now in
     let p = c.args.pos in
     Appends-text
     (ap₂ (λ h w. written (vertical_at t.config c.args.columns h p c.args.line) ++ written (block_line (style_at t.config p) (t.color p) (t.text p) w h c.args.line)) c.get_height-height.ensures c.get_width-width.ensures)

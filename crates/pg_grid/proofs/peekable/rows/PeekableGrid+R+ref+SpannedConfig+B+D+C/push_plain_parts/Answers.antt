@@ -7,7 +7,7 @@ use Rattle.pg_picture.specs.Pieces.{written, style_at, block_line}
 use Rattle.pg_picture.specs.Table.{row_part, vertical_at}
 use Rattle.pg_picture.proofs.Appending.{Gained-none, Gained-text, Gained-more, Gained-all, refused, Appends-text}
 use Rattle.pg_picture.proofs.PiecesOfLines.{written-nil}
-use Rattle.pg_grid.specs.Grids.{peekable_table}
+use Rattle.pg_grid.specs.Grids.{drawn}
 use Rattle.pg_grid.proofs.CanDraw.{plain_room}
 use Rattle.pg_grid.proofs.RowParts.{part-text, written-columns, written-columns_cut}
 use Rattle.pg_grid.proofs.peekable.rows.PeekableGrid+R+ref+SpannedConfig+B+D+C.push_plain_parts.Goals as goal
@@ -17,14 +17,14 @@ loop-column-init g c = Gained-text (sym written-nil) (Gained-none c.args.buf.now
 
 pub push_part-requires-clause-room : goal.push_part-requires-clause-room
 push_part-requires-clause-room g c =
-    let t = (peekable_table g.R.Records.texts g.R.Records.columns g.D.Dimension.width g.D.Dimension.height g.C.Colors.color c.args.self.now) in
+    let t = drawn g.R.Records g.D.Dimension g.C.Colors c.args.self.now in
     let here : c.loop-column.column < t.columns = omega (arith, c.requires.columns) in
     let Fits : Position → Type 0 = λ p. cell_fits (style_at t.config p) (t.text p) (t.width p.col) (t.height p.row) ≡ true in
     subst Fits (sym c.new.ensures) (plain_room t c.requires.can c.requires.plain (at c.args.row c.loop-column.column) c.requires.row here)
 
 pub loop-column-preserved : goal.loop-column-preserved
 loop-column-preserved g c =
-    let t = (peekable_table g.R.Records.texts g.R.Records.columns g.D.Dimension.width g.D.Dimension.height g.C.Colors.color c.args.self.now) in
+    let t = drawn g.R.Records g.D.Dimension g.C.Colors c.args.self.now in
     let here : c.loop-column.column < t.columns = omega (arith, c.requires.columns) in
     let place = ap (λ (p : Position). written (vertical_at t.config c.args.columns (t.height p.row) p c.args.line) ++ written (block_line (style_at t.config p) (t.color p) (t.text p) (t.width p.col) (t.height p.row) c.args.line)) c.new.ensures in
     let text = part-text t c.requires.plain c.args.columns (t.height c.args.row) (at c.args.row c.loop-column.column) c.args.line c.requires.columns refl c.requires.row here c.requires.line in
@@ -32,7 +32,7 @@ loop-column-preserved g c =
 
 pub returns-in_err-push_part : goal.returns-in_err-push_part
 returns-in_err-push_part g c =
-    let t = (peekable_table g.R.Records.texts g.R.Records.columns g.D.Dimension.width g.D.Dimension.height g.C.Colors.color c.args.self.now) in
+    let t = drawn g.R.Records g.D.Dimension g.C.Colors c.args.self.now in
     let here : c.loop-column.column < t.columns = omega (arith, c.requires.columns) in
     let place = ap (λ (p : Position). written (vertical_at t.config c.args.columns (t.height p.row) p c.args.line) ++ written (block_line (style_at t.config p) (t.color p) (t.text p) (t.width p.col) (t.height p.row) c.args.line)) c.new.ensures in
     let text = part-text t c.requires.plain c.args.columns (t.height c.args.row) (at c.args.row c.loop-column.column) c.args.line c.requires.columns refl c.requires.row here c.requires.line in
@@ -40,6 +40,6 @@ returns-in_err-push_part g c =
 
 pub returns : goal.returns
 returns g c =
-    let t = (peekable_table g.R.Records.texts g.R.Records.columns g.D.Dimension.width g.D.Dimension.height g.C.Colors.color c.args.self.now) in
+    let t = drawn g.R.Records g.D.Dimension g.C.Colors c.args.self.now in
     let ended : c.loop-column.column ≡ t.columns = omega (arith, c.requires.columns) in
     Appends-text (ap (λ n. written (flat_map (row_part t c.args.row c.args.line) (range_with_len 0 n))) ended) (Gained-all c.loop-column.invariant)

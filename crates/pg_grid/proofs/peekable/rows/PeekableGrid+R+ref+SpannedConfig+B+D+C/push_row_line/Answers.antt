@@ -4,7 +4,7 @@ use Rattle.pg_picture.specs.Pieces.{written}
 use Rattle.pg_picture.specs.Table.{row_part, row_line}
 use Rattle.pg_picture.proofs.Appending.{Appends-text, ◌then◌, stopped}
 use Rattle.pg_grid.specs.declared.peekable.Shape.{Shape}
-use Rattle.pg_grid.specs.Grids.{peekable_table}
+use Rattle.pg_grid.specs.Grids.{drawn}
 use Rattle.pg_grid.proofs.RowParts.{written-columns}
 use Rattle.pg_grid.proofs.peekable.rows.PeekableGrid+R+ref+SpannedConfig+B+D+C.push_row_line.Goals as goal
 
@@ -14,14 +14,14 @@ push_end-requires-clause-columns g c = ap (λ (s : Shape). s.columns) c.requires
 pub returns-in_err-push_parts : goal.returns-in_err-push_parts
 unfolding row_line
 returns-in_err-push_parts g c =
-    let t = (peekable_table g.R.Records.texts g.R.Records.columns g.D.Dimension.width g.D.Dimension.height g.C.Colors.color c.args.self.now) in
+    let t = drawn g.R.Records g.D.Dimension g.C.Colors c.args.self.now in
     Appends-text (sym (written-columns (row_part t c.args.row c.args.line) t.columns))
     (stopped (written (row_part t c.args.row c.args.line t.columns)) c.from_residual.ensures.0 c.in_err-push_parts.ensures)
 
 pub returns : goal.returns
 unfolding row_line
 returns g c =
-    let t = (peekable_table g.R.Records.texts g.R.Records.columns g.D.Dimension.width g.D.Dimension.height g.C.Colors.color c.args.self.now) in
+    let t = drawn g.R.Records g.D.Dimension g.C.Colors c.args.self.now in
     let part = row_part t c.args.row c.args.line in
     Appends-text (ap (λ n. written (flat_map part (range_with_len 0 t.columns)) ++ written (part n)) (ap (λ (s : Shape). s.columns) c.requires.shape) ∙ sym (written-columns part t.columns))
     (c.in_ok-push_parts.ensures then c.push_end.ensures)

@@ -4,12 +4,12 @@ use Rattle.pg_picture.specs.Pieces.{items_after, last_color}
 use Rattle.pg_picture.specs.Table.{crossing_at, border_items}
 use Rattle.pg_picture.proofs.Appending.{Appends-text, ◌then◌, stopped}
 use Rattle.pg_picture.proofs.Separators.{items_after-two, last_color-two, IfOk-same}
-use Rattle.pg_grid.specs.Grids.{peekable_table}
+use Rattle.pg_grid.specs.Grids.{drawn}
 use Rattle.pg_grid.proofs.peekable.separators.PeekableGrid+R+ref+SpannedConfig+B+D+C.push_column.Goals as goal
 
 pub returns-in_err-run-clause-appends : goal.returns-in_err-run-clause-appends
 returns-in_err-run-clause-appends g c =
-    let t = (peekable_table g.R.Records.texts g.R.Records.columns g.D.Dimension.width g.D.Dimension.height g.C.Colors.color c.args.self.now) in
+    let t = drawn g.R.Records g.D.Dimension g.C.Colors c.args.self.now in
     let crossing = crossing_at t.config c.args.shape.rows c.args.shape.columns c.args.pos in
     let border = λ (w : ℕ). border_items t.config c.args.pos c.args.shape.rows w (get_horizontal t.config c.args.pos c.args.shape.rows) in
     let is = ap (λ (w : ℕ). crossing ++ border w) (sym c.get_width-width.ensures) in
@@ -17,7 +17,7 @@ returns-in_err-run-clause-appends g c =
 
 pub returns-clause-appends : goal.returns-clause-appends
 returns-clause-appends g c =
-    let t = (peekable_table g.R.Records.texts g.R.Records.columns g.D.Dimension.width g.D.Dimension.height g.C.Colors.color c.args.self.now) in
+    let t = drawn g.R.Records g.D.Dimension g.C.Colors c.args.self.now in
     let crossing = crossing_at t.config c.args.shape.rows c.args.shape.columns c.args.pos in
     let border = λ (w : ℕ). border_items t.config c.args.pos c.args.shape.rows w (get_horizontal t.config c.args.pos c.args.shape.rows) in
     let is = ap (λ (w : ℕ). crossing ++ border w) (sym c.get_width-width.ensures) in
@@ -25,7 +25,7 @@ returns-clause-appends g c =
 
 pub returns-clause-color : goal.returns-clause-color
 returns-clause-color g c =
-    let t = (peekable_table g.R.Records.texts g.R.Records.columns g.D.Dimension.width g.D.Dimension.height g.C.Colors.color c.args.self.now) in
+    let t = drawn g.R.Records g.D.Dimension g.C.Colors c.args.self.now in
     let crossing = crossing_at t.config c.args.shape.rows c.args.shape.columns c.args.pos in
     let border = λ (w : ℕ). border_items t.config c.args.pos c.args.shape.rows w (get_horizontal t.config c.args.pos c.args.shape.rows) in
     let is = ap (λ (w : ℕ). crossing ++ border w) (sym c.get_width-width.ensures) in

@@ -6,19 +6,19 @@ use Rattle.pg_picture.proofs.Appending.{Appends-text}
 use Rattle.pg_picture.proofs.Separators.{IfOk-same}
 use Rattle.pg_picture.proofs.WalksOfRows.{separator_part_end}
 use Rattle.pg_grid.specs.declared.peekable.Shape.{Shape}
-use Rattle.pg_grid.specs.Grids.{peekable_table}
+use Rattle.pg_grid.specs.Grids.{drawn}
 use Rattle.pg_grid.proofs.peekable.separators.PeekableGrid+R+ref+SpannedConfig+B+D+C.push_last_crossing.Goals as goal
 
 pub returns-clause-appends : goal.returns-clause-appends
 returns-clause-appends g c =
-    let t = (peekable_table g.R.Records.texts g.R.Records.columns g.D.Dimension.width g.D.Dimension.height g.C.Colors.color c.args.self.now) in
+    let t = drawn g.R.Records g.D.Dimension g.C.Colors c.args.self.now in
     let place = ap (λ p. crossing_at t.config c.args.shape.rows c.args.shape.columns p) c.new-pos.ensures in
     let size = ap (λ (s : Shape). crossing_at t.config s.rows s.columns (at c.args.row s.columns)) c.requires.shape in
     Appends-text (ap (items_after c.args.run) (place ∙ size ∙ sym (separator_part_end t c.args.row))) c.crossing.ensures.appends
 
 pub returns-clause-color : goal.returns-clause-color
 returns-clause-color g c =
-    let t = (peekable_table g.R.Records.texts g.R.Records.columns g.D.Dimension.width g.D.Dimension.height g.C.Colors.color c.args.self.now) in
+    let t = drawn g.R.Records g.D.Dimension g.C.Colors c.args.self.now in
     let place = ap (λ p. crossing_at t.config c.args.shape.rows c.args.shape.columns p) c.new-pos.ensures in
     let size = ap (λ (s : Shape). crossing_at t.config s.rows s.columns (at c.args.row s.columns)) c.requires.shape in
     IfOk-same (ap (last_color c.args.run) (place ∙ size ∙ sym (separator_part_end t c.args.row))) c.crossing.result c.crossing.ensures.color

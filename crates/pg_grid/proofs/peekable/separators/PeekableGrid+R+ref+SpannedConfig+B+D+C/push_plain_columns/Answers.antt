@@ -7,7 +7,7 @@ use Rattle.pg_picture.specs.Table.{separator_part, crossing_at, border_items}
 use Rattle.pg_picture.proofs.Appending.{Gained-none, Gained-text, Gained-more, refused, Appends-text}
 use Rattle.pg_picture.proofs.Separators.{column-items, items_after-columns, last_color-columns, items_after-columns_cut}
 use Rattle.pg_grid.specs.declared.peekable.Shape.{Shape}
-use Rattle.pg_grid.specs.Grids.{peekable_table}
+use Rattle.pg_grid.specs.Grids.{drawn}
 use Rattle.pg_grid.proofs.peekable.separators.PeekableGrid+R+ref+SpannedConfig+B+D+C.push_plain_columns.Goals as goal
 
 pub loop-column-init : goal.loop-column-init
@@ -16,7 +16,7 @@ loop-column-init g c = record { gained = Gained-none c.args.buf.now; color = ref
 
 pub returns-in_err-run-clause-appends : goal.returns-in_err-run-clause-appends
 returns-in_err-run-clause-appends g c =
-    let t = (peekable_table g.R.Records.texts g.R.Records.columns g.D.Dimension.width g.D.Dimension.height g.C.Colors.color c.args.self.now) in
+    let t = drawn g.R.Records g.D.Dimension g.C.Colors c.args.self.now in
     let here : c.loop-column.column < t.columns = omega (arith, ap (λ (s : Shape). s.columns) c.requires.shape) in
     let row = c.args.row in
     let col = c.loop-column.column in
@@ -27,7 +27,7 @@ returns-in_err-run-clause-appends g c =
 
 pub loop-column-preserved : goal.loop-column-preserved
 loop-column-preserved g c =
-    let t = (peekable_table g.R.Records.texts g.R.Records.columns g.D.Dimension.width g.D.Dimension.height g.C.Colors.color c.args.self.now) in
+    let t = drawn g.R.Records g.D.Dimension g.C.Colors c.args.self.now in
     let here : c.loop-column.column < t.columns = omega (arith, ap (λ (s : Shape). s.columns) c.requires.shape) in
     let row = c.args.row in
     let col = c.loop-column.column in

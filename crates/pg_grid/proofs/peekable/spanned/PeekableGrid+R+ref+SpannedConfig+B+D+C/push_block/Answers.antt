@@ -6,7 +6,7 @@ use Rattle.pg_picture.specs.Table.{crossing_at, block_at}
 use Rattle.pg_picture.proofs.Appending.{Appends-text, ◌then◌, stopped, refused-as, appended-as}
 use Rattle.pg_picture.proofs.DrawnRectangles.{corner_to, corner_inside}
 use Rattle.pg_picture.proofs.WalksOfRows.{span_above-below}
-use Rattle.pg_grid.specs.Grids.{peekable_table}
+use Rattle.pg_grid.specs.Grids.{drawn}
 use Rattle.pg_grid.proofs.CanDraw.{in_order}
 use Rattle.pg_grid.proofs.RectangleParts.{found_owner, found_some, found_sep_inside, found_sep}
 use Rattle.pg_grid.proofs.SeparatorParts.{block-text, block-color, found-above}
@@ -14,42 +14,42 @@ use Rattle.pg_grid.proofs.peekable.spanned.PeekableGrid+R+ref+SpannedConfig+B+D+
 
 pub returns-in_err-run-clause-appends : goal.returns-in_err-run-clause-appends
 returns-in_err-run-clause-appends g c =
-    let t = (peekable_table g.R.Records.texts g.R.Records.columns g.D.Dimension.width g.D.Dimension.height g.C.Colors.color c.args.self.now) in
+    let t = drawn g.R.Records g.D.Dimension g.C.Colors c.args.self.now in
     let crossing = crossing_at t.config c.args.shape.rows c.args.shape.columns c.args.pos in
     let its : List Piece = block_at t (corner c.args.span) (sep c.args.pos.row) in
     Appends-text (block-text c.args.run crossing its refl refl) (stopped (cut (last_color c.args.run crossing) None ++ written its) c.from_residual.ensures.0 c.in_err-run.ensures.appends)
 
 pub returns-in_err-run-2-clause-appends : goal.returns-in_err-run-2-clause-appends
 returns-in_err-run-2-clause-appends g c =
-    let t = (peekable_table g.R.Records.texts g.R.Records.columns g.D.Dimension.width g.D.Dimension.height g.C.Colors.color c.args.self.now) in
+    let t = drawn g.R.Records g.D.Dimension g.C.Colors c.args.self.now in
     let crossing = crossing_at t.config c.args.shape.rows c.args.shape.columns c.args.pos in
     let its : List Piece = block_at t (corner c.args.span) (sep c.args.pos.row) in
     Appends-text (block-text c.args.run crossing its c.in_ok-run.ensures.color refl) (c.in_ok-run.ensures.appends then stopped (written its) c.from_residual-in_err-run-2.ensures.0 c.in_err-run-2.ensures.appends)
 
 pub lines_above-above-requires-clause-row : goal.lines_above-above-requires-clause-row
 lines_above-above-requires-clause-row g c =
-    let t = (peekable_table g.R.Records.texts g.R.Records.columns g.D.Dimension.width g.D.Dimension.height g.C.Colors.color c.args.self.now) in
+    let t = drawn g.R.Records g.D.Dimension g.C.Colors c.args.self.now in
     let found = found-above t (in_order t c.requires.can) c.args.pos.row c.args.pos.col c.args.span c.requires.span in
     omega (arith, corner_to t (in_order t c.requires.can) c.args.pos.row c.args.pos.col c.args.span found, corner_inside t (in_order t c.requires.can) c.args.pos.row c.args.pos.col c.args.span found)
 
 pub overflow_sub-above : goal.overflow_sub-above
 overflow_sub-above g c =
-    let t = (peekable_table g.R.Records.texts g.R.Records.columns g.D.Dimension.width g.D.Dimension.height g.C.Colors.color c.args.self.now) in
+    let t = drawn g.R.Records g.D.Dimension g.C.Colors c.args.self.now in
     found_some t c.requires.can c.args.pos.row c.args.pos.col c.args.span (found-above t (in_order t c.requires.can) c.args.pos.row c.args.pos.col c.args.span c.requires.span) c.corner_of-corner.result c.corner_of-corner.ensures c.lines_above-above.result c.lines_above-above.ensures (span_above-below t.config.spans c.args.pos.row c.args.pos.col c.args.span c.requires.span) c.requires.there
 
 pub push_rectangle-requires-clause-owner : goal.push_rectangle-requires-clause-owner
 push_rectangle-requires-clause-owner g c =
-    let t = (peekable_table g.R.Records.texts g.R.Records.columns g.D.Dimension.width g.D.Dimension.height g.C.Colors.color c.args.self.now) in
+    let t = drawn g.R.Records g.D.Dimension g.C.Colors c.args.self.now in
     found_owner t c.requires.can c.args.pos.row c.args.pos.col c.args.span (found-above t (in_order t c.requires.can) c.args.pos.row c.args.pos.col c.args.span c.requires.span) c.corner_of-corner.result c.corner_of-corner.ensures
 
 pub push_rectangle-requires-clause-number : goal.push_rectangle-requires-clause-number
 push_rectangle-requires-clause-number g c =
-    let t = (peekable_table g.R.Records.texts g.R.Records.columns g.D.Dimension.width g.D.Dimension.height g.C.Colors.color c.args.self.now) in
+    let t = drawn g.R.Records g.D.Dimension g.C.Colors c.args.self.now in
     found_sep_inside t c.requires.can c.args.pos.row c.args.pos.col c.args.span (found-above t (in_order t c.requires.can) c.args.pos.row c.args.pos.col c.args.span c.requires.span) c.corner_of-corner.result c.corner_of-corner.ensures c.lines_above-above.result c.lines_above-above.ensures (span_above-below t.config.spans c.args.pos.row c.args.pos.col c.args.span c.requires.span) c.requires.there
 
 pub returns-in_err-push_rectangle-clause-appends : goal.returns-in_err-push_rectangle-clause-appends
 returns-in_err-push_rectangle-clause-appends g c =
-    let t = (peekable_table g.R.Records.texts g.R.Records.columns g.D.Dimension.width g.D.Dimension.height g.C.Colors.color c.args.self.now) in
+    let t = drawn g.R.Records g.D.Dimension g.C.Colors c.args.self.now in
     let crossing = crossing_at t.config c.args.shape.rows c.args.shape.columns c.args.pos in
     let its : List Piece = block_at t (corner c.args.span) (sep c.args.pos.row) in
     Appends-text (block-text c.args.run crossing its c.in_ok-run.ensures.color (found_sep t c.requires.can c.args.pos.row c.args.pos.col c.args.span (found-above t (in_order t c.requires.can) c.args.pos.row c.args.pos.col c.args.span c.requires.span) c.corner_of-corner.result c.corner_of-corner.ensures c.lines_above-above.result c.lines_above-above.ensures (span_above-below t.config.spans c.args.pos.row c.args.pos.col c.args.span c.requires.span) c.requires.there))
@@ -57,7 +57,7 @@ returns-in_err-push_rectangle-clause-appends g c =
 
 pub returns-clause-appends : goal.returns-clause-appends
 returns-clause-appends g c =
-    let t = (peekable_table g.R.Records.texts g.R.Records.columns g.D.Dimension.width g.D.Dimension.height g.C.Colors.color c.args.self.now) in
+    let t = drawn g.R.Records g.D.Dimension g.C.Colors c.args.self.now in
     let crossing = crossing_at t.config c.args.shape.rows c.args.shape.columns c.args.pos in
     let its : List Piece = block_at t (corner c.args.span) (sep c.args.pos.row) in
     Appends-text (block-text c.args.run crossing its c.in_ok-run.ensures.color (found_sep t c.requires.can c.args.pos.row c.args.pos.col c.args.span (found-above t (in_order t c.requires.can) c.args.pos.row c.args.pos.col c.args.span c.requires.span) c.corner_of-corner.result c.corner_of-corner.ensures c.lines_above-above.result c.lines_above-above.ensures (span_above-below t.config.spans c.args.pos.row c.args.pos.col c.args.span c.requires.span) c.requires.there))
@@ -65,7 +65,7 @@ returns-clause-appends g c =
 
 pub returns-clause-color : goal.returns-clause-color
 returns-clause-color g c =
-    let t = (peekable_table g.R.Records.texts g.R.Records.columns g.D.Dimension.width g.D.Dimension.height g.C.Colors.color c.args.self.now) in
+    let t = drawn g.R.Records g.D.Dimension g.C.Colors c.args.self.now in
     let crossing = crossing_at t.config c.args.shape.rows c.args.shape.columns c.args.pos in
     let its : List Piece = block_at t (corner c.args.span) (sep c.args.pos.row) in
     c.in_ok-run-2.ensures.color ∙ sym (block-color c.args.run crossing its)

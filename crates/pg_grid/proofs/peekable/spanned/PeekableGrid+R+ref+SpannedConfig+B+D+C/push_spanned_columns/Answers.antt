@@ -10,7 +10,7 @@ use Rattle.pg_picture.proofs.FittingTables.{totals_facts}
 use Rattle.pg_picture.proofs.Separators.{items_after-two, last_color-two, items_after-columns_cut}
 use Rattle.pg_picture.proofs.WalksOfRows.{first_start}
 use Rattle.pg_grid.specs.declared.peekable.Shape.{Shape}
-use Rattle.pg_grid.specs.Grids.{peekable_table}
+use Rattle.pg_grid.specs.Grids.{drawn}
 use Rattle.pg_grid.proofs.CanDraw.{in_order}
 use Rattle.pg_grid.proofs.SeparatorParts.{above-some, above-inside, above-start, above-parts}
 use Rattle.pg_grid.proofs.peekable.spanned.PeekableGrid+R+ref+SpannedConfig+B+D+C.push_spanned_columns.Goals as goal
@@ -18,19 +18,19 @@ use Rattle.pg_grid.proofs.peekable.spanned.PeekableGrid+R+ref+SpannedConfig+B+D+
 pub loop-column-init : goal.loop-column-init
 unfolding items_after last_color
 loop-column-init g c =
-    let t = (peekable_table g.R.Records.texts g.R.Records.columns g.D.Dimension.width g.D.Dimension.height g.C.Colors.color c.args.self.now) in
+    let t = drawn g.R.Records g.D.Dimension g.C.Colors c.args.self.now in
     record { gained = Gained-none c.args.buf.now; color = refl; start = first_start t (in_order t c.requires.can) c.args.row; inside = omega arith }
 
 pub returns-in_err-run-clause-appends : goal.returns-in_err-run-clause-appends
 returns-in_err-run-clause-appends g c =
-    let t = (peekable_table g.R.Records.texts g.R.Records.columns g.D.Dimension.width g.D.Dimension.height g.C.Colors.color c.args.self.now) in
+    let t = drawn g.R.Records g.D.Dimension g.C.Colors c.args.self.now in
     let here : c.loop-column.column < t.columns = omega (arith, c.loop-column-test.true, ap (λ (s : Shape). s.columns) c.requires.shape) in
     let place = ap (λ (p : Position). items_after c.loop-column.run (separator_part t p.row p.col)) c.new-pos.ensures in
     refused _ (items_after-columns_cut c.args.run (separator_part t c.args.row) c.loop-column.column t.columns c.loop-column.invariant.color here) c.from_residual.ensures.0 c.loop-column.invariant.gained (Appends-text place c.in_err-run.ensures.appends)
 
 pub overflow_add-column : goal.overflow_add-column
 overflow_add-column g c =
-    let t = (peekable_table g.R.Records.texts g.R.Records.columns g.D.Dimension.width g.D.Dimension.height g.C.Colors.color c.args.self.now) in
+    let t = drawn g.R.Records g.D.Dimension g.C.Colors c.args.self.now in
     let here : c.loop-column.column < t.columns = omega (arith, c.loop-column-test.true, ap (λ (s : Shape). s.columns) c.requires.shape) in
     let spans = t.config.spans in
     let span = c.span_above-span.ensures ∙ ap (λ (p : Position). span_above spans p.row p.col) c.new-pos.ensures in
@@ -39,7 +39,7 @@ overflow_add-column g c =
 
 pub loop-column-preserved : goal.loop-column-preserved
 loop-column-preserved g c =
-    let t = (peekable_table g.R.Records.texts g.R.Records.columns g.D.Dimension.width g.D.Dimension.height g.C.Colors.color c.args.self.now) in
+    let t = drawn g.R.Records g.D.Dimension g.C.Colors c.args.self.now in
     let here : c.loop-column.column < t.columns = omega (arith, c.loop-column-test.true, ap (λ (s : Shape). s.columns) c.requires.shape) in
     let spans = t.config.spans in
     let span = c.span_above-span.ensures ∙ ap (λ (p : Position). span_above spans p.row p.col) c.new-pos.ensures in
@@ -58,7 +58,7 @@ loop-column-preserved g c =
 
 pub loop-column-smaller : goal.loop-column-smaller
 loop-column-smaller g c =
-    let t = (peekable_table g.R.Records.texts g.R.Records.columns g.D.Dimension.width g.D.Dimension.height g.C.Colors.color c.args.self.now) in
+    let t = drawn g.R.Records g.D.Dimension g.C.Colors c.args.self.now in
     let here : c.loop-column.column < t.columns = omega (arith, c.loop-column-test.true, ap (λ (s : Shape). s.columns) c.requires.shape) in
     let spans = t.config.spans in
     let span = c.span_above-span.ensures ∙ ap (λ (p : Position). span_above spans p.row p.col) c.new-pos.ensures in
@@ -67,12 +67,12 @@ loop-column-smaller g c =
 
 pub returns-clause-appends : goal.returns-clause-appends
 returns-clause-appends g c =
-    let t = (peekable_table g.R.Records.texts g.R.Records.columns g.D.Dimension.width g.D.Dimension.height g.C.Colors.color c.args.self.now) in
+    let t = drawn g.R.Records g.D.Dimension g.C.Colors c.args.self.now in
     let ended : c.loop-column.column ≡ t.columns = omega (arith, c.loop-column.invariant.inside, c.loop-column-test.false, ap (λ (s : Shape). s.columns) c.requires.shape) in
     Appends-text (ap (λ n. items_after c.args.run (flat_map (separator_part t c.args.row) (range_with_len 0 n))) ended) (Gained-all c.loop-column.invariant.gained)
 
 pub returns-clause-color : goal.returns-clause-color
 returns-clause-color g c =
-    let t = (peekable_table g.R.Records.texts g.R.Records.columns g.D.Dimension.width g.D.Dimension.height g.C.Colors.color c.args.self.now) in
+    let t = drawn g.R.Records g.D.Dimension g.C.Colors c.args.self.now in
     let ended : c.loop-column.column ≡ t.columns = omega (arith, c.loop-column.invariant.inside, c.loop-column-test.false, ap (λ (s : Shape). s.columns) c.requires.shape) in
     c.loop-column.invariant.color ∙ ap (λ n. last_color c.args.run (flat_map (separator_part t c.args.row) (range_with_len 0 n))) ended

@@ -10,26 +10,26 @@ use Rattle.pg_picture.proofs.PiecesOfLines.{written-nil}
 use Rattle.pg_picture.proofs.OwnersOfPlaces.{first_left}
 use Rattle.pg_picture.proofs.FittingTables.{totals_facts}
 use Rattle.pg_grid.specs.declared.peekable.Shape.{Shape}
-use Rattle.pg_grid.specs.Grids.{peekable_table}
+use Rattle.pg_grid.specs.Grids.{drawn}
 use Rattle.pg_grid.proofs.CanDraw.{in_order}
 use Rattle.pg_grid.proofs.RowParts.{written-columns_cut, step-some, step-inside, step-left, step-text}
 use Rattle.pg_grid.proofs.peekable.spanned.PeekableGrid+R+ref+SpannedConfig+B+D+C.push_spanned_parts.Goals as goal
 
 pub loop-column-init : goal.loop-column-init
 loop-column-init g c =
-    let t = (peekable_table g.R.Records.texts g.R.Records.columns g.D.Dimension.width g.D.Dimension.height g.C.Colors.color c.args.self.now) in
+    let t = drawn g.R.Records g.D.Dimension g.C.Colors c.args.self.now in
     record { gained = Gained-text (sym written-nil) (Gained-none c.args.buf.now); left = first_left t.config.spans t.rows t.columns (in_order t c.requires.can) c.args.row; inside = omega arith }
 
 pub returns-in_err-push_spanned_part : goal.returns-in_err-push_spanned_part
 returns-in_err-push_spanned_part g c =
-    let t = (peekable_table g.R.Records.texts g.R.Records.columns g.D.Dimension.width g.D.Dimension.height g.C.Colors.color c.args.self.now) in
+    let t = drawn g.R.Records g.D.Dimension g.C.Colors c.args.self.now in
     let here : c.loop-column.column < t.columns = omega (arith, c.loop-column-test.true, ap (λ (s : Shape). s.columns) c.requires.shape) in
     let place = ap (λ (p : Position). written (row_part t p.row c.args.number p.col)) c.new-pos.ensures in
     refused _ (written-columns_cut (row_part t c.args.row c.args.number) c.loop-column.column t.columns here) c.from_residual.ensures.0 c.loop-column.invariant.gained (Appends-text place c.in_err-push_spanned_part.ensures)
 
 pub overflow_add-column : goal.overflow_add-column
 overflow_add-column g c =
-    let t = (peekable_table g.R.Records.texts g.R.Records.columns g.D.Dimension.width g.D.Dimension.height g.C.Colors.color c.args.self.now) in
+    let t = drawn g.R.Records g.D.Dimension g.C.Colors c.args.self.now in
     let here : c.loop-column.column < t.columns = omega (arith, c.loop-column-test.true, ap (λ (s : Shape). s.columns) c.requires.shape) in
     let spans = t.config.spans in
     let span = c.left_span-span.ensures ∙ ap (λ (p : Position). left_span spans p.row p.col) c.new-pos.ensures in
@@ -38,7 +38,7 @@ overflow_add-column g c =
 
 pub loop-column-preserved : goal.loop-column-preserved
 loop-column-preserved g c =
-    let t = (peekable_table g.R.Records.texts g.R.Records.columns g.D.Dimension.width g.D.Dimension.height g.C.Colors.color c.args.self.now) in
+    let t = drawn g.R.Records g.D.Dimension g.C.Colors c.args.self.now in
     let here : c.loop-column.column < t.columns = omega (arith, c.loop-column-test.true, ap (λ (s : Shape). s.columns) c.requires.shape) in
     let spans = t.config.spans in
     let span = c.left_span-span.ensures ∙ ap (λ (p : Position). left_span spans p.row p.col) c.new-pos.ensures in
@@ -53,7 +53,7 @@ loop-column-preserved g c =
 
 pub loop-column-smaller : goal.loop-column-smaller
 loop-column-smaller g c =
-    let t = (peekable_table g.R.Records.texts g.R.Records.columns g.D.Dimension.width g.D.Dimension.height g.C.Colors.color c.args.self.now) in
+    let t = drawn g.R.Records g.D.Dimension g.C.Colors c.args.self.now in
     let here : c.loop-column.column < t.columns = omega (arith, c.loop-column-test.true, ap (λ (s : Shape). s.columns) c.requires.shape) in
     let spans = t.config.spans in
     let span = c.left_span-span.ensures ∙ ap (λ (p : Position). left_span spans p.row p.col) c.new-pos.ensures in
@@ -62,6 +62,6 @@ loop-column-smaller g c =
 
 pub returns : goal.returns
 returns g c =
-    let t = (peekable_table g.R.Records.texts g.R.Records.columns g.D.Dimension.width g.D.Dimension.height g.C.Colors.color c.args.self.now) in
+    let t = drawn g.R.Records g.D.Dimension g.C.Colors c.args.self.now in
     let ended : c.loop-column.column ≡ t.columns = omega (arith, c.loop-column.invariant.inside, c.loop-column-test.false, ap (λ (s : Shape). s.columns) c.requires.shape) in
     Appends-text (ap (λ n. written (flat_map (row_part t c.args.row c.args.number) (range_with_len 0 n))) ended) (Gained-all c.loop-column.invariant.gained)
