@@ -4,12 +4,13 @@ use Rattle.std.specs.List.{range_with_len}
 use Rattle.std.proofs.lemmas.Bool.Decides.{nat_tests}
 use Rattle.pg_layout.specs.Position.{at}
 use Rattle.pg_config.specs.Config.{count_vertical, count_horizontal}
-use Rattle.pg_picture.specs.Table.{Table, total_width, full_width}
-use Rattle.pg_picture.specs.Fits.{misfit_of, body_height}
+use Rattle.pg_picture.specs.Table.{Table, total_width, full_width, table_body}
+use Rattle.pg_picture.specs.Fits.{misfit_of, cell_fits, body_height}
 use Rattle.pg_picture.specs.Sizes.{if_fits, sized}
 use Rattle.pg_picture.specs.FitLaws.{TableFits}
 use Rattle.pg_picture.proofs.Rooms.{fits, cell_fits_plain}
 use Rattle.pg_picture.proofs.FittingTables.{totals_facts}
+use Rattle.pg_picture.proofs.HeightsOfRectangles.{length-table_body}
 use Rattle.pg_grid.specs.Grids.{CanDraw, HasNoSpans}
 
 pub can_draw : (t : Table) → HasNoSpans t → misfit_of t ≡ None → 0 < t.rows → 0 < t.columns → CanDraw t

@@ -1,4 +1,4 @@
-use Rattle.std.proofs.Common.{◌≡◌, ℕ, Bool, true, false, arith, ◌&&◌, ◌==◌, ◌++◌, sym, ap, ap₂, ◌∙◌, refl, replicate, length}
+use Rattle.std.proofs.Common.{◌≡◌, ℕ, Bool, true, false, arith, ◌&&◌, ◌==◌, ◌++◌, sym, ap, ap₂, ◌∙◌, Some, refl, replicate, length}
 use Rattle.std.proofs.lemmas.Bool.Decides.{nat_tests}
 use Rattle.pg_layout.specs.declared.sides.Sides.{Sides}
 use Rattle.pg_layout.specs.declared.sides.Indent.{Indent}

@@ -1,6 +1,6 @@
-use Rattle.std.proofs.Common.{ap, refl}
+use Rattle.std.proofs.Common.{◌∙◌, ap, List, refl}
 use Rattle.pg_config.specs.Config.{get_horizontal}
-use Rattle.pg_picture.specs.Pieces.{items_after, last_color}
+use Rattle.pg_picture.specs.Pieces.{Item, items_after, last_color}
 use Rattle.pg_picture.specs.Table.{crossing_at, border_items}
 use Rattle.pg_picture.proofs.Appending.{Appends-text, ◌then◌, stopped}
 use Rattle.pg_grid.specs.declared.peekable.Size.{Size}

@@ -1,8 +1,8 @@
-use Rattle.std.proofs.Common.{ℕ, List, refl, sym, ap, ◌∙◌, arith}
+use Rattle.std.proofs.Common.{◌≡◌, ℕ, List, refl, sym, ap, ◌∙◌, arith}
 use Rattle.pg_layout.specs.declared.position.Position.{Position}
 use Rattle.pg_picture.specs.Pieces.{Item, items_after, last_color}
 use Rattle.pg_picture.specs.Table.{separator_part}
-use Rattle.pg_picture.proofs.Appending.{Gained-none, Gained-text, Gained-more, refused, Appends-text}
+use Rattle.pg_picture.proofs.Appending.{Gained-none, Gained-text, Gained-more, Gained-all, refused, Appends-text}
 use Rattle.pg_grid.specs.declared.peekable.Size.{Size}
 use Rattle.pg_grid.specs.Grids.{peekable_table}
 use Rattle.pg_picture.proofs.Separators.{items_after-columns, last_color-columns, items_after-columns_cut}
