@@ -39,8 +39,13 @@ compact-totals t fits some =
     ]
 
 module _ {D C : Type 0} (width : D → ℕ → ℕ) (color : C → Position → Option Color) (p : CompactPrinter D C) (texts : List (List Text)) where
+  -- the texts don't matter to what fits
+  sized-misfit : compact_misfit_of (compact_sized (settings_of p.config.now) (width p.dimension) p.columns) ≡ compact_misfit_of (printed_table width color p texts)
+  unfolding compact_misfit_of compact_full_width compact_width
+  sized-misfit = refl
+
   pub totals-fit : CompactFits (printed_table width color p texts) → 0 < length texts → 0 < p.columns → CompactTotals (printed_table width color p texts)
-  totals-fit fits rows columns = compact-totals (printed_table width color p texts) (fits rows) columns
+  totals-fit fits rows columns = compact-totals (printed_table width color p texts) (sym sized-misfit ∙ fits rows) columns
 
   same-width : compact_full_width (compact_sized (settings_of p.config.now) (width p.dimension) p.columns) ≡ compact_full_width (printed_table width color p [])
   unfolding compact_full_width compact_width

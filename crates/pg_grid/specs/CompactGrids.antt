@@ -12,6 +12,7 @@ use Rattle.pg_layout.specs.Text.{Text}
 use Rattle.pg_config.specs.declared.compact.CompactConfig.{CompactConfig}
 use Rattle.pg_config.specs.CompactConfig.{settings_of}
 use Rattle.pg_picture.specs.CompactLines.{CompactTable, compact_indent, colored_glyph, compact_cell, Part, part_if, main_part, padding_row, text_row, compact_margin, line_if, separator_row, top_line, bottom_line}
+use Rattle.pg_picture.specs.CompactSizes.{compact_sized}
 use Rattle.pg_picture.specs.Fits.{compact_misfit_of}
 use Rattle.pg_grid.specs.declared.compact.CompactGrid.{CompactGrid}
 use Rattle.pg_grid.specs.declared.compact.CompactPrinter.{CompactPrinter}
@@ -32,9 +33,9 @@ abbrev pub compact_parts : {R D G C : Type 0} → CompactGrid R D G C → R × D
 compact_parts grid = (grid.records, grid.dimension, grid.config, grid.colors)
 
 -- A table with rows fits: its columns can be counted, its total width is a number of 64 bits, and each column has room
--- for the side paddings. Nothing is asked of a table with no rows.
+-- for the side paddings. Its texts don't matter, and nothing is asked of a table with no rows.
 abbrev pub CompactFits : CompactTable → Type 0
-CompactFits t = 0 < t.rows → compact_misfit_of t ≡ None
+CompactFits t = 0 < t.rows → compact_misfit_of (compact_sized t.config t.width t.columns) ≡ None
 
 -- the table of these texts, as a printer draws it
 abbrev pub printed_table : {D C : Type 0} → (D → ℕ → ℕ) → (C → Position → Option Color) → CompactPrinter D C → List (List Text) → CompactTable

@@ -1,5 +1,6 @@
 -- `unfolding picture_words` lets `refl` compute the lines of a table and its conditions.
 use Rattle.pg_config.proofs.Computing.{config_words}
+use Rattle.pg_config.specs.CompactConfig.{default_compact}
 use Rattle.pg_picture.specs.Marks.{marks_of_row, marks_above, body, marks_within, place_of}
 use Rattle.pg_picture.specs.Pieces.{repeated, written, pieces_width, fill, style_at, trimmed_if, kept_lines, shown, widest, shares, lines_above, inner_width, left_share, text_line, text_height, text_top, block_line, cut, with_cuts, separator_text}
 use Rattle.pg_picture.specs.Table.{rect_marks, rect_height, rect_width, block_at, is_inside, vertical_at, row_part, row_line, is_covered, crossing_at, crossing, column_items, separator_part, separator_items, total_width, full_width, margin_line, margin_lines, is_blank_at, side_margin, mark_text, body_line, table_body}
@@ -16,5 +17,5 @@ picture_words = tt
 
 -- `unfolding grid_words` lets it compute a whole picture of a sample.
 unfoldable pub grid_words : Unit {0}
-unfolding picture_words top_lines bottom_lines body_lines picture_lines picture compact_picture plain bordered plain_compact
+unfolding picture_words top_lines bottom_lines body_lines picture_lines picture compact_picture plain bordered default_compact plain_compact
 grid_words = tt

@@ -1,5 +1,5 @@
 -- Compact pictures, each worked out by hand.
-use Rattle.std.proofs.Common.{◌≡◌, ℕ, List, [], ◌∷◌, ◌++◌, refl, Some}
+use Rattle.std.proofs.Common.{◌≡◌, ℕ, List, [], ◌∷◌, ◌++◌, ◌==◌, refl, Some, None, if◌then◌else◌}
 use Rattle.std.specs.Prelude.{codes}
 use Rattle.pg_layout.specs.declared.alignment.AlignmentHorizontal.TheVariants as across
 use Rattle.pg_layout.specs.Borders.{no_borders}
@@ -43,6 +43,26 @@ margins_and_borders : compact_picture (compact_table (record plain_compact { bor
 unfolding grid_words
 margins_and_borders = refl
 
+-- side margins stand round every line, coloured ones of size 0 too; a text's colour ends before its share
+side_margins_stand_round_every_line : compact_picture (record (compact_table (record plain_compact {
+  borders = ascii;
+  margin = record { left = indent 1 35; right = indent 0 32; top = indent 0 32; bottom = indent 0 32 };
+  margin_color = record { left = color_r; right = color_b; top = no_color; bottom = no_color };
+  padding = record { left = indent 1 46; right = indent 0 32; top = indent 1 42; bottom = indent 1 42 };
+  alignment = across.Right;
+}) 2 1 (3 ∷ []) a_over_b) { color = λ p. if p.row == 0 then Some color_g else None })
+    ≡ joined (codes "<r>#</r>+---+<b></b>" ∷ codes "<r>#</r>|   |<b></b>" ∷ codes "<r>#</r>|. <g>a</g>|<b></b>" ∷ codes "<r>#</r>|   |<b></b>"
+    ∷ codes "<r>#</r>|---|<b></b>" ∷ codes "<r>#</r>|   |<b></b>" ∷ codes "<r>#</r>|. b|<b></b>" ∷ codes "<r>#</r>|   |<b></b>" ∷ codes "<r>#</r>+---+<b></b>" ∷ [])
+unfolding grid_words
+side_margins_stand_round_every_line = refl
+
+a_coloured_margin_line : compact_picture (compact_table (record plain_compact {
+  margin = record { left = indent 0 32; right = indent 1 62; top = indent 1 94; bottom = indent 0 32 };
+  margin_color = record { left = no_color; right = no_color; top = color_r; bottom = color_b };
+}) 1 1 (1 ∷ []) (one (codes "a"))) ≡ joined (codes "<r>^^</r>" ∷ codes "a>" ∷ [])
+unfolding grid_words
+a_coloured_margin_line = refl
+
 -- ---- cells
 
 a_text_wider_than_its_column_is_whole : compact_picture (compact_table plain_compact 1 1 (2 ∷ []) (one (codes "abcd" ++ 10 ∷ codes "x"))) ≡ codes "abcd"
@@ -60,6 +80,11 @@ a_compact_text_at_the_centre = refl
 a_compact_text_at_the_right : compact_picture (compact_table (record plain_compact { alignment = across.Right; padding = spaced 0 1 0 0 }) 1 1 (4 ∷ []) (one (codes "a"))) ≡ codes "  a "
 unfolding grid_words
 a_compact_text_at_the_right = refl
+
+-- a colour stands also round an empty text
+a_coloured_compact_text_that_is_empty : compact_picture (record (compact_table plain_compact 1 1 (1 ∷ []) (one [])) { color = λ p. Some color_r }) ≡ codes "<r></r> "
+unfolding grid_words
+a_coloured_compact_text_that_is_empty = refl
 
 -- a padding line is spaces, whatever its fill
 padding_lines_are_spaces : compact_picture (compact_table (record plain_compact { padding = record { left = indent 1 46; right = indent 1 46; top = indent 1 42; bottom = indent 0 32 } }) 1 1 (3 ∷ []) (one (codes "a")))
