@@ -1,4 +1,8 @@
 -- Lemmas of this crate.
 pub mod EvenRows
+pub mod LineWords
 pub mod ScriptLines
 pub mod ScriptTables
+pub mod WordsOfCharacters
+pub mod WordsOfNumbers
+pub mod WrittenTexts
