@@ -20,3 +20,4 @@ pub mod PartsOfLists
 pub mod Closing
 pub mod Reaches
 pub mod Beginning
+pub mod SeparatorsOfRows
