@@ -21,3 +21,5 @@ pub mod Closing
 pub mod Reaches
 pub mod Beginning
 pub mod SeparatorsOfRows
+pub mod OwnersOfCells
+pub mod LinesOfCells
