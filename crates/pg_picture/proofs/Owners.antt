@@ -240,3 +240,18 @@ owner-ends spans rows columns apart fit r c h =
           let row : (owner spans r c).row ≡ r = ap (λ (p : Position). p.row) k.own in
           omega (arith, row, k.rows, h)
     ]
+
+-- where all rectangles end inside the columns, so do those of the owners of their places
+pub owner-columns : (spans : List Span) (columns : ℕ) → Apart spans → spans_fit_columns spans columns ≡ true → (r c : ℕ) → c < columns → (owner spans r c).col + rect_columns spans (owner spans r c) ≤ columns
+unfolding spans_fit_columns
+owner-columns spans columns apart fit r c h =
+    let parts = and_parts (list_all (span_fits_columns columns) spans) (all_apart spans) fit in
+    elim (owner_cases spans apart r c) [
+      | inl k ↦
+          let col : (owner spans r c).col ≡ k.span.0.0 = ap (λ (p : Position). p.col) k.own in
+          let e : span_fits_columns columns k.span ≡ true = all_pass (span_fits_columns columns) spans k.span parts.0 k.among in
+          grind (arith, nat_tests, col, k.columns, e)
+      | inr k ↦
+          let col : (owner spans r c).col ≡ c = ap (λ (p : Position). p.col) k.own in
+          omega (arith, col, k.columns, h)
+    ]

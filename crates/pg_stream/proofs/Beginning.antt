@@ -1,14 +1,21 @@
 -- The cells that begin in a row.
-use Rattle.std.proofs.Common.{◌≡◌, ℕ, ◌+◌, ◌<◌, ◌≤◌, Bool, true, false, not, ◌&&◌, nat_lt, List, set, get_or, length, Option, Some, None, is_some, refl, sym, ap, ◌∙◌, arith}
+use Rattle.std.proofs.Common.{◌≡◌, ℕ, zero, suc, ◌+◌, ◌<◌, ◌≤◌, Bool, true, false, not, ◌&&◌, ◌==◌, nat_lt, List, [], ◌∷◌, set, get_or, slice_index_or, drop, length, Option, Some, None, is_some, refl, sym, ap, ap₂, ◌∙◌, arith, subst, zero-add, add-one, inl, inr, eqb-true}
+use Rattle.std.proofs.lemmas.Bool.{cases_Bool, ltb-true, and_parts}
 use Rattle.std.proofs.lemmas.Bool.Decides.{nat_tests}
 use Rattle.pg_layout.specs.declared.position.Position.{Position}
 use Rattle.pg_layout.specs.Position.{at, is_at}
-use Rattle.pg_layout.specs.Text.{Text}
-use Rattle.pg_config.specs.Spans.{owner}
+use Rattle.pg_layout.specs.Records.{AlwaysGives}
+use Rattle.pg_layout.specs.Text.{Text, greatest}
+use Rattle.pg_config.specs.Spans.{Span, owner, rect_rows, rect_columns}
+use Rattle.pg_picture.specs.Fits.{spans_fit_columns}
 use Rattle.pg_picture.specs.Table.{Table}
-use Rattle.pg_stream.specs.Placed.{Placed}
-use Rattle.pg_stream.specs.Turns.{new_cell, begin_cell}
-use Rattle.pg_stream.proofs.PartsOfLists.{set-same}
+use Rattle.pg_picture.proofs.Owners.{Apart, HasOwners, owner-columns}
+use Rattle.pg_stream.specs.Drawing.{column_end, reach}
+use Rattle.pg_stream.specs.Placed.{Placed, AllOpen}
+use Rattle.pg_stream.specs.Turns.{IsOwnerAbove, new_cell, begin_cell, mapped, cells_begun}
+use Rattle.pg_stream.proofs.PartsOfLists.{partly, partly-below, partly-above, partly-at, partly-set, set-same, set-other, drop-first, drop-some}
+use Rattle.pg_stream.proofs.Reaches.{IsOwner, option_cases, own-test}
+use Rattle.pg_stream.proofs.WholePictures.{map_range-same}
 
 module _ (t : Table) (k x : ℕ) (text : Text) (cells : List (Option Placed)) where
   -- its own owner begins
@@ -20,3 +27,153 @@ module _ (t : Table) (k x : ℕ) (text : Text) (cells : List (Option Placed)) wh
   pub keeps : is_at (owner t.config.spans k x) k x ≡ false → x < length cells → cells ≡ set cells x (begin_cell t k text x (get_or cells x None))
   unfolding begin_cell
   keeps other inside = rw other (set-same cells x (get_or cells x None) None inside refl)
+
+-- ---- the owners of a row, of which the first columns have begun
+
+pub own_at : (spans : List Span) (k x : ℕ) → is_at (owner spans k x) k x ≡ true → owner spans k x ≡ at k x
+own_at spans k x e =
+    let parts = and_parts ((owner spans k x).row == k) ((owner spans k x).col == x) e in
+    ap₂ (λ r c. at r c) (eqb-true (owner spans k x).row k parts.0) (eqb-true (owner spans k x).col x parts.1)
+
+begun-owner : (t : Table) (owners : HasOwners t.config.spans) (k x : ℕ) (text : Text) (cell : Option Placed) → IsOwnerAbove t.config.spans k x cell → IsOwner t.config.spans k x (begin_cell t k text x cell)
+unfolding begin_cell
+begun-owner t owners k x text cell above =
+    let spans : List Span = t.config.spans in
+    elim (cases_Bool (is_at (owner spans k x) k x)) [
+      | inl e ↦
+          let own : owner spans k x ≡ at k x = own_at spans k x e in
+          rw e (record { none = λ no. absurd (some_none (new_cell t (at k x) text) no); some = λ c is. own ∙ ap (λ (c : Placed). at c.begun x) (some_some (new_cell t (at k x) text) c is) })
+      | inr e ↦
+          rw e (record {
+            none = λ no left.
+                let below = (owners.near k x).below in
+                elim (cases_Bool (nat_lt (owner spans k x).row k)) [
+                  | inl f ↦ above.none no (ltb-true (owner spans k x).row k f) left
+                  | inr f ↦ absurd (grind (arith, nat_tests, e, f, below, left))
+                ];
+            some = above.some;
+          })
+    ]
+  where
+    some_none : (c : Placed) → Some c ≡ None → ⊥
+    some_none c e = cc
+
+    some_some : (c d : Placed) → Some c ≡ Some d → c ≡ d
+    some_some c d e = cc
+
+module _ (t : Table) (owners : HasOwners t.config.spans) (k columns : ℕ) (texts : List Text) (start : List (Option Placed)) (whole : columns ≡ length start) (all : (x : ℕ) → x < columns → IsOwnerAbove t.config.spans k x (get_or start x None)) where
+  -- the cells of the first columns have begun
+  abbrev pub begun : ℕ → List (Option Placed)
+  begun i = partly (λ x. begin_cell t k (slice_index_or texts x []) x) 0 i start
+
+  pub owner-begun : (i x : ℕ) → x < i → x < columns → IsOwner t.config.spans k x (get_or (begun i) x None)
+  owner-begun i x l h =
+      let e : get_or (begun i) x None ≡ begin_cell t k (slice_index_or texts x []) x (get_or start x None) =
+      partly-below (λ x. begin_cell t k (slice_index_or texts x []) x) 0 i start x None l (omega (arith, h, whole)) ∙ ap (λ n. begin_cell t k (slice_index_or texts n []) n (get_or start x None)) (zero-add x) in
+      subst (IsOwner t.config.spans k x) (sym e) (begun-owner t owners k x (slice_index_or texts x []) (get_or start x None) (all x h))
+
+  pub owner-above : (i x : ℕ) → i ≤ x → x < columns → IsOwnerAbove t.config.spans k x (get_or (begun i) x None)
+  owner-above i x l h =
+      subst (IsOwnerAbove t.config.spans k x) (sym (partly-above (λ x. begin_cell t k (slice_index_or texts x []) x) 0 i start x None l)) (all x h)
+
+  -- so the code's test tells whether a place is its own owner
+  pub own-now : (i : ℕ) (now : List (Option Placed)) (end : ℕ) → i < columns → now ≡ begun i → end ≡ reach t.config.spans now i
+      → (not (nat_lt i end) && not (is_some (get_or now i None))) ≡ is_at (owner t.config.spans k i) k i
+  own-now i now end h is ends =
+      ap (λ n. not (nat_lt i n) && not (is_some (get_or now i None))) ends
+      ∙ own-test t.config.spans owners k now i
+      (λ y l. subst (λ cells. IsOwner t.config.spans k y (get_or cells y None)) (sym is) (owner-begun i y l (omega (arith, l, h))))
+      (subst (λ cells. IsOwnerAbove t.config.spans k i (get_or cells i None)) (sym is) (owner-above i i (omega arith) h))
+
+  -- an open cell is its owner
+  pub owner-now : (i x : ℕ) (now : List (Option Placed)) (c : Placed) → x < columns → now ≡ begun i → get_or now x None ≡ Some c → owner t.config.spans k x ≡ at c.begun x
+  owner-now i x now c h is here =
+      let there : get_or (begun i) x None ≡ Some c = sym (ap (λ cells. get_or cells x None) is) ∙ here in
+      elim (cases_Bool (nat_lt x i)) [
+        | inl e ↦ (owner-begun i x (ltb-true x i e) h).some c there
+        | inr e ↦ (owner-above i x (grind (arith, nat_tests, e)) h).some c there
+      ]
+
+-- open cells that are owners end inside the columns
+pub inside-columns : (spans : List Span) (k columns : ℕ) (cells : List (Option Placed)) → Apart spans → spans_fit_columns spans columns ≡ true → columns ≡ length cells
+    → ((x : ℕ) (c : Placed) → x < columns → get_or cells x None ≡ Some c → owner spans k x ≡ at c.begun x) → AllOpen (λ x cell. x + rect_columns spans (at cell.begun x) ≤ columns) cells
+inside-columns spans k columns cells apart fit whole own x =
+    elim (option_cases (get_or cells x None)) [
+      | inl none ↦ rw none tt
+      | inr some ↦
+          let h : x < columns = (let l = within cells x some.0 some.1 in omega (arith, l, whole)) in
+          let e : owner spans k x ≡ at some.0.begun x = own x some.0 h some.1 in
+          let end = owner-columns spans columns apart fit k x h in
+          let col = ap (λ (p : Position). p.col) e in
+          let wide = ap (λ p. rect_columns spans p) e in
+          rw some.1 (omega (arith, end, col, wide))
+    ]
+  where
+    within : (xs : List (Option Placed)) (x : ℕ) (c : Placed) → get_or xs x None ≡ Some c → x < length xs
+    within [] x c e = cc
+    within (o ∷ xs) zero c e = omega arith
+    within (o ∷ xs) (suc x) c e = let ih = within xs x c e in omega (arith, ih)
+
+-- a place that is its own owner has a rectangle
+pub own-rows : (spans : List Span) → HasOwners spans → (k x : ℕ) → is_at (owner spans k x) k x ≡ true → 0 < rect_rows spans (at k x)
+own-rows spans owners k x e =
+    let n = owners.near k x in
+    let rows = ap (λ p. rect_rows spans p) (own_at spans k x e) in
+    let row = ap (λ (p : Position). p.row) (own_at spans k x e) in
+    omega (arith, n.above, rows, row)
+
+pub own-columns : (spans : List Span) → HasOwners spans → (k x : ℕ) → is_at (owner spans k x) k x ≡ true → 0 < rect_columns spans (at k x)
+own-columns spans owners k x e =
+    let n = owners.near k x in
+    let columns = ap (λ p. rect_columns spans p) (own_at spans k x e) in
+    let col = ap (λ (p : Position). p.col) (own_at spans k x e) in
+    omega (arith, n.left, columns, col)
+
+-- the columns before it reach as far when a column is written
+pub reach-set : (spans : List Span) (cells : List (Option Placed)) (k : ℕ) (cell : Option Placed) → reach spans (set cells k cell) k ≡ reach spans cells k
+unfolding reach
+reach-set spans cells k cell =
+    ap greatest (map_range-same (λ y. column_end spans (slice_index_or (set cells k cell) y None) y) (λ y. column_end spans (slice_index_or cells y None) y) 0 k (λ c a b. ap (λ o. column_end spans o c) (set-other cells k c cell None (omega (arith, b)))))
+
+-- one cell more begins
+pub begun-more : (t : Table) (k i : ℕ) (text : Text) (texts : List Text) (start now new : List (Option Placed)) → now ≡ partly (λ x. begin_cell t k (slice_index_or texts x []) x) 0 i start → i < length start → slice_index_or texts i [] ≡ text
+    → new ≡ set now i (begin_cell t k text i (get_or now i None)) → new ≡ partly (λ x. begin_cell t k (slice_index_or texts x []) x) 0 (i + 1) start
+begun-more t k i text texts start now new before inside is written =
+    let f = λ (x : ℕ). begin_cell t k (slice_index_or texts x []) x in
+    let same : begin_cell t k text i (get_or (partly f 0 i start) i None) ≡ f (0 + i) (get_or start i None) =
+    ap (λ s. begin_cell t k text i s) (partly-at f 0 i start None) ∙ ap (λ y. begin_cell t k y i (get_or start i None)) (sym is) ∙ ap (λ n. f n (get_or start i None)) (sym (zero-add i)) in
+    written
+    ∙ ap (λ l. set l i (begin_cell t k text i (get_or l i None))) before
+    ∙ partly-set f 0 i start (begin_cell t k text i (get_or (partly f 0 i start) i None)) None inside same
+    ∙ ap (λ n. partly f 0 n start) (sym (add-one i))
+
+pub begun-is : (t : Table) (k : ℕ) (texts : List Text) (cells : List (Option Placed)) → mapped (λ x. begin_cell t k (slice_index_or texts x []) x) 0 cells ≡ cells_begun t k texts cells
+unfolding cells_begun
+begun-is t k texts cells = refl
+
+-- ---- what the cells' iterator gives
+
+module _ {I S : Type 0} (text : S → Text) (steps : I → Option S → I → Type 0) where
+  -- of a list of which k items were read, an item more
+  pub read-more : (s u : I) (x : S) (texts : List Text) (k : ℕ) → AlwaysGives (λ x y. text x ≡ y) steps s (drop k texts) → steps s (Some x) u
+      → (slice_index_or texts k [] ≡ text x) × AlwaysGives (λ x y. text x ≡ y) steps u (drop (k + 1) texts)
+  read-more s u x texts k gives step = go (drop k texts) refl gives
+    where
+      go : (rest : List Text) → drop k texts ≡ rest → AlwaysGives (λ x y. text x ≡ y) steps s rest → (slice_index_or texts k [] ≡ text x) × AlwaysGives (λ x y. text x ≡ y) steps u (drop (k + 1) texts)
+      go [] is none = absurd (none x u step)
+      go (y ∷ ys) is (some, more) =
+          let first = drop-first texts ys k y [] is in
+          let now = more x u step in
+          (first.0 ∙ sym now.0, subst (λ l. AlwaysGives (λ x y. text x ≡ y) steps u l) (sym first.1) now.1)
+
+  -- while fewer are read than it has, it doesn't end
+  pub read-none : (s u : I) (texts : List Text) (k : ℕ) → k < length texts → AlwaysGives (λ x y. text x ≡ y) steps s (drop k texts) → steps s None u → ⊥
+  read-none s u texts k l gives step =
+      let cut = drop-some texts k l in
+      let now = subst (λ l. AlwaysGives (λ x y. text x ≡ y) steps s l) cut.2 gives in
+      now.0 u step
+
+  -- the iterator stands for the texts from one on, and the cells of those before it have begun
+  pub record IsReading (t : Table) (k column : ℕ) (start : List (Option Placed)) (texts : List Text) (now : List (Option Placed)) (cells : I) : Type 0 where
+    pub left : AlwaysGives (λ x y. text x ≡ y) steps cells (drop column texts)
+    pub begun : now ≡ partly (λ x. begin_cell t k (slice_index_or texts x []) x) 0 column start

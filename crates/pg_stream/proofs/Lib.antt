@@ -20,3 +20,6 @@ pub mod PartsOfLists
 pub mod Closing
 pub mod Reaches
 pub mod Beginning
+pub mod SeparatorsOfRows
+pub mod OwnersOfCells
+pub mod LinesOfCells

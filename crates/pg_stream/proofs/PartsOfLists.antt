@@ -1,5 +1,5 @@
 -- A loop that changes the elements of a list one by one.
-use Rattle.std.proofs.Common.{◌≡◌, ℕ, zero, suc, ◌+◌, ◌<◌, ◌≤◌, List, [], ◌∷◌, length, set, get_or, refl, sym, ap, ap₂, ◌∙◌, arith, subst, add-zero}
+use Rattle.std.proofs.Common.{◌≡◌, ℕ, zero, suc, ◌+◌, ◌<◌, ◌≤◌, List, [], ◌∷◌, length, set, drop, get_or, refl, sym, ap, ap₂, ◌∙◌, arith, subst, add-zero}
 use Rattle.pg_stream.specs.Turns.{mapped}
 
 module _ {A : Type 0} (f : ℕ → A → A) where
@@ -46,6 +46,38 @@ module _ {A : Type 0} (f : ℕ → A → A) where
   partly-below c zero (x ∷ xs) y d h l = absurd (omega arith)
   partly-below c (suc i) (x ∷ xs) zero d h l = ap (λ n. f n x) (sym (add-zero c))
   partly-below c (suc i) (x ∷ xs) (suc y) d h l = partly-below (c + 1) i xs y d (omega arith) (omega arith) ∙ ap (λ n. f n (get_or xs y d)) (let q : (c + 1) + y ≡ c + suc y = omega arith in q)
+
+  pub partly-above : (c i : ℕ) (xs : List A) (y : ℕ) (d : A) → i ≤ y → get_or (partly c i xs) y d ≡ get_or xs y d
+  partly-above c i [] y d h = refl
+  partly-above c zero (x ∷ xs) y d h = refl
+  partly-above c (suc i) (x ∷ xs) zero d h = absurd (omega arith)
+  partly-above c (suc i) (x ∷ xs) (suc y) d h = partly-above (c + 1) i xs y d (omega arith)
+
+-- an element that was not written stays
+pub set-other : {A : Type 0} (xs : List A) (i y : ℕ) (z d : A) → y < i → get_or (set xs i z) y d ≡ get_or xs y d
+set-other [] i y z d h = refl
+set-other (x ∷ xs) zero y z d h = absurd (omega arith)
+set-other (x ∷ xs) (suc i) zero z d h = refl
+set-other (x ∷ xs) (suc i) (suc y) z d h = set-other xs i y z d (omega arith)
+
+no_element : {A : Type 0} (y : A) (ys : List A) → [] ≡ y ∷ ys → ⊥
+no_element y ys e = cc
+
+-- a list, cut at one of its elements
+pub drop-first : {A : Type 0} (xs ys : List A) (k : ℕ) (y d : A) → drop k xs ≡ y ∷ ys → (get_or xs k d ≡ y) × (drop (k + 1) xs ≡ ys)
+drop-first [] ys zero y d e = absurd (no_element y ys e)
+drop-first [] ys (suc k) y d e = absurd (no_element y ys e)
+drop-first (x ∷ xs) ys zero y d e = (cc, cc)
+drop-first (x ∷ xs) ys (suc k) y d e =
+    let more = drop-first xs ys k y d e in
+    let P : ℕ → Type 0 = λ n. drop n (x ∷ xs) ≡ ys in
+    let q : suc (k + 1) ≡ suc k + 1 = omega arith in
+    (more.0, subst P q more.1)
+
+pub drop-some : {A : Type 0} (xs : List A) (k : ℕ) → k < length xs → (y : A) × (ys : List A) × (drop k xs ≡ y ∷ ys)
+drop-some [] k h = absurd (omega arith)
+drop-some (x ∷ xs) zero h = (x, xs, refl)
+drop-some (x ∷ xs) (suc k) h = drop-some xs k (omega arith)
 
 pub set-same : {A : Type 0} (xs : List A) (i : ℕ) (y d : A) → i < length xs → y ≡ get_or xs i d → xs ≡ set xs i y
 set-same [] i y d h e = refl

@@ -34,7 +34,7 @@ reaches f a (suc n) y h l =
       | inr e ↦ let more : a + 1 ≤ y = grind (arith, nat_tests, h, e) in let ih = reaches f (a + 1) n y more (omega (arith, l)) in omega (arith, ih)
     ]
 
-option_cases : (o : Option Placed) → (o ≡ None) ⊎ ((cell : Placed) × (o ≡ Some cell))
+pub option_cases : (o : Option Placed) → (o ≡ None) ⊎ ((cell : Placed) × (o ≡ Some cell))
 option_cases None = inl refl
 option_cases (Some cell) = inr (cell, refl)
 

@@ -1,13 +1,13 @@
 -- What is drawn of open cells: lines of a row, and separators.
-use Rattle.std.specs.Prelude.{ℕ, ◌+◌, Bool, ◌&&◌, ◌==◌, nat_lt, List, [], ◌∷◌, ◌++◌, map, flat_map, slice_index_or, Option, Some, None, if◌then◌else◌}
+use Rattle.std.specs.Prelude.{ℕ, ◌+◌, Bool, ◌&&◌, ◌==◌, nat_lt, List, [], ◌∷◌, ◌++◌, map, flat_map, replicate, slice_index_or, Option, Some, None, if◌then◌else◌}
 use Rattle.std.specs.List.{range_with_len}
 use Rattle.pg_layout.specs.Position.{at}
 use Rattle.pg_layout.specs.Text.{Text, greatest}
-use Rattle.pg_config.specs.Config.{Config, get_horizontal}
+use Rattle.pg_config.specs.Config.{Config, has_horizontal, get_horizontal}
 use Rattle.pg_config.specs.Spans.{Span, rect_columns}
-use Rattle.pg_picture.specs.Joined.{feed_before}
-use Rattle.pg_picture.specs.Pieces.{Piece, Item, block, written}
-use Rattle.pg_picture.specs.Table.{Table, vertical, crossing_at, border_items, side_margin_at}
+use Rattle.pg_picture.specs.Joined.{continued, feed_before}
+use Rattle.pg_picture.specs.Pieces.{Piece, Item, block, written, separator_text}
+use Rattle.pg_picture.specs.Table.{Table, vertical, crossing_at, border_items, side_margin_at, margin_line}
 use Rattle.pg_stream.specs.Placed.{Placed, slot_of, draw_cell}
 use Rattle.pg_stream.specs.Slots.{slot_block}
 
@@ -67,3 +67,17 @@ open_line_at t height is_first cells r index i = line_at t.config height is_firs
 -- the first n lines
 unfoldable pub open_lines : Table → Option ℕ → Bool → List (Option Placed) → ℕ → ℕ → ℕ → Text
 open_lines t height is_first cells r index n = flat_map (open_line_at t height is_first cells r index) (range_with_len 0 n)
+
+-- the separator above row r, where it is there, as line `index` of the body
+unfoldable pub above_text : Table → Option ℕ → Bool → List (Option Placed) → ℕ → ℕ → Text
+above_text t height is_first cells r index =
+    if has_horizontal t.config r (r + 1) then line_at t.config height is_first index (separator_text (open_separator t (r + 1) cells r)) else []
+
+-- the separator below the last of so many rows
+unfoldable pub below_text : Table → Option ℕ → Bool → List (Option Placed) → ℕ → ℕ → Text
+below_text t height is_first cells rows index =
+    if has_horizontal t.config rows rows then line_at t.config height is_first index (separator_text (open_separator t rows cells rows)) else []
+
+-- the lines of the top margin, w columns wide, which stand above row 0
+unfoldable pub top_text : Config → ℕ → ℕ → Text
+top_text config w rows = if rows == 0 then continued 0 (replicate config.margin.top.size (written (margin_line config.margin.top config.margin_offset.top config.margin_color.top w))) else []

@@ -6,3 +6,4 @@ pub mod Placed
 pub mod Turns
 pub mod Frames
 pub mod Drawing
+pub mod Printers

@@ -14,6 +14,7 @@ ghost use Rattle.pg_picture.specs.Pieces.{written};
 ghost use Rattle.pg_picture.specs.Sizes.{height_of_rect};
 ghost use Rattle.pg_stream.specs.Placed.{slot_of, IsPlaced};
 ghost use Rattle.pg_stream.specs.Slots.{slot_block};
+ghost use Rattle.pg_stream.specs.Drawing.{top_text};
 ghost use Rattle.pg_stream.specs.Turns.{place_in, new_cell};
 
 use crate::open_cell::OpenCell;
@@ -22,7 +23,7 @@ use pg_layout::{Colors, Dimension, Position};
 use pg_picture::fits::{rect_height, rect_width};
 use pg_picture::{
     CellPlace, CellStyle, TextFacts, push_block_line_of, push_feed, push_left_margin,
-    push_vertical_at,
+    push_top_margin, push_vertical_at,
 };
 use std::alloc::{AllocError, Allocator, Global};
 use std::convert::AsStr;
@@ -65,6 +66,20 @@ impl<'a, D: Dimension, C: Colors, B: Allocator> Frame<'a, D, C, B> {
             cell.width(),
             cell.drawn(),
         )
+    }
+
+    // The top margin, where no row stands already.
+    pub(crate) fn push_top<A: Allocator>(
+        &self,
+        buf: &mut String<A>,
+        rows: usize,
+    ) -> Result<(), AllocError>
+        ensures { Appends buf.old buf.new result (top_text self.now.config.now self.now.width rows) }
+    {
+        if rows > 0 {
+            return Ok(());
+        }
+        push_top_margin(buf, self.config, self.width)
     }
 
     // The glyph of a vertical, on a line of its row.

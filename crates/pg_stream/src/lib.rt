@@ -8,5 +8,8 @@ mod open_cells;
 
 pub use crate::open_cells::OpenCells;
 
+mod row_printer;
 mod separators;
 mod turns;
+
+pub use crate::row_printer::RowPrinter;

@@ -1,13 +1,14 @@
 //! Separators, which show the lines of the open cells that go through them.
 
-ghost use Rattle.std.specs.Prelude.{◌≡◌, ◌+◌, ◌≤◌, nat_lt, max, length, flat_map, slice_index_or, IfOk, None};
+ghost use Rattle.std.specs.Prelude.{◌≡◌, ◌+◌, ◌≤◌, ◌<◌, ◌^◌, nat_lt, max, length, map, flat_map, slice_index_or, IfOk, OnOk, None};
 ghost use Rattle.std.specs.List.{range_with_len};
 ghost use Rattle.pg_config.specs.Spans.{rect_columns};
 ghost use Rattle.pg_layout.specs.Position.{at};
 ghost use Rattle.pg_picture.specs.Appending.{Appends};
 ghost use Rattle.pg_picture.specs.Pieces.{items_after, last_color, separator_text};
-ghost use Rattle.pg_stream.specs.Placed.{AllOpen, IsPlaced, IsTall};
-ghost use Rattle.pg_stream.specs.Drawing.{column_end, reach, cell_items, open_separator_part, open_separator, line_at};
+ghost use Rattle.pg_stream.specs.Placed.{draw_cell, AllOpen, IsPlaced, IsTall};
+ghost use Rattle.pg_stream.specs.Drawing.{column_end, reach, cell_items, open_separator_part, open_separator, line_at, above_text, below_text};
+ghost use Rattle.pg_stream.specs.Slots.{separator_height};
 ghost use Rattle.pg_stream.specs.Frames.{frame_table};
 
 use crate::frame::Frame;
@@ -18,6 +19,56 @@ use std::alloc::{AllocError, Allocator};
 use std::convert::AsStr;
 
 impl<S: AsStr + Drop, A: Allocator> OpenCells<S, A> {
+    // The separator above a row, where it is there, as line `index` of the body; answers the index of
+    // the line below.
+    pub(crate) fn push_above<'f, D: Dimension, C: Colors, B: Allocator, W: Allocator>(
+        &mut self,
+        frame: &Frame<'f, D, C, B>,
+        buf: &mut String<W>,
+        is_first: bool,
+        index: usize,
+        row: usize,
+    ) -> Result<usize, AllocError>
+        requires columns { frame.now.columns ≡ length self.old }
+        requires row { row + 1 < 2 ^ 64 }
+        requires index { index + separator_height frame.now.config.now row < 2 ^ 64 }
+        requires inside { AllOpen (λ x cell. x + rect_columns frame.now.config.now.spans (at cell.begun x) ≤ frame.now.columns) self.old }
+        requires placed { AllOpen (IsPlaced (frame_table D.width D.height C.color frame.now)) self.old }
+        requires tall { 0 < separator_height frame.now.config.now row → AllOpen (IsTall (frame_table D.width D.height C.color frame.now)) self.old }
+        requires room { AllOpen (λ x cell. cell.drawn + separator_height frame.now.config.now row < 2 ^ 64) self.old }
+        ensures appends { Appends buf.old buf.new result (above_text (frame_table D.width D.height C.color frame.now) frame.now.height is_first self.old row index) }
+        ensures index { IfOk result (λ next. next ≡ index + separator_height frame.now.config.now row) }
+        ensures drawn { OnOk result (self.new ≡ map (draw_cell (separator_height frame.now.config.now row)) self.old) }
+    {
+        if !frame.config.has_horizontal(row, row + 1) {
+            return Ok(index);
+        }
+        self.push_separator_line(frame, buf, is_first, index, row, row + 1)?;
+        self.draw_line();
+        Ok(index + 1)
+    }
+
+    // The separator below the last of so many rows, where it is there, as line `index` of the body.
+    pub(crate) fn push_below<'f, D: Dimension, C: Colors, B: Allocator, W: Allocator>(
+        &self,
+        frame: &Frame<'f, D, C, B>,
+        buf: &mut String<W>,
+        is_first: bool,
+        index: usize,
+        rows: usize,
+    ) -> Result<(), AllocError>
+        requires columns { frame.now.columns ≡ length self.now }
+        requires inside { AllOpen (λ x cell. x + rect_columns frame.now.config.now.spans (at cell.begun x) ≤ frame.now.columns) self.now }
+        requires placed { AllOpen (IsPlaced (frame_table D.width D.height C.color frame.now)) self.now }
+        requires tall { AllOpen (IsTall (frame_table D.width D.height C.color frame.now)) self.now }
+        ensures { Appends buf.old buf.new result (below_text (frame_table D.width D.height C.color frame.now) frame.now.height is_first self.now rows index) }
+    {
+        if !frame.config.has_horizontal(rows, rows) {
+            return Ok(());
+        }
+        self.push_separator_line(frame, buf, is_first, index, rows, rows)
+    }
+
     // The separator above a row of a table of so many rows, or below the last one, as line `index` of
     // the body.
     pub(crate) fn push_separator_line<'f, D: Dimension, C: Colors, B: Allocator, W: Allocator>(

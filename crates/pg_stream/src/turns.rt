@@ -42,7 +42,7 @@ impl<S: AsStr + Drop, A: Allocator> OpenCells<S, A> {
             let Some(value) = cells.next() else {
                 return;
             };
-            self.begin_one(frame, value, Position::new(row, column), end);
+            self.begin_one(frame, value, row, column, end);
             end = self.end_past(frame, column, end);
         }
     }
@@ -52,19 +52,20 @@ impl<S: AsStr + Drop, A: Allocator> OpenCells<S, A> {
         &mut self,
         frame: &Frame<'f, D, C, B>,
         value: S,
-        pos: Position,
+        row: usize,
+        column: usize,
         end: usize,
     )
-        requires column { pos.col < length self.old }
-        requires own { (not (nat_lt pos.col end) && not (is_some (slice_index_or self.old pos.col None))) ≡ is_at (owner frame.now.config.now.spans pos.row pos.col) pos.row pos.col }
-        requires rows { is_at (owner frame.now.config.now.spans pos.row pos.col) pos.row pos.col ≡ true → 0 < rect_rows frame.now.config.now.spans pos }
-        requires columns { is_at (owner frame.now.config.now.spans pos.row pos.col) pos.row pos.col ≡ true → 0 < rect_columns frame.now.config.now.spans pos }
-        requires inside { is_at (owner frame.now.config.now.spans pos.row pos.col) pos.row pos.col ≡ true → pos.col + rect_columns frame.now.config.now.spans pos ≤ frame.now.columns }
-        requires room { is_at (owner frame.now.config.now.spans pos.row pos.col) pos.row pos.col ≡ true → HasRoom (frame_table D.width D.height C.color frame.now) pos (S.text value) }
-        ensures { self.new ≡ slice_set self.old pos.col (begin_cell (frame_table D.width D.height C.color frame.now) pos.row (S.text value) pos.col (slice_index_or self.old pos.col None)) }
+        requires column { column < length self.old }
+        requires own { (not (nat_lt column end) && not (is_some (slice_index_or self.old column None))) ≡ is_at (owner frame.now.config.now.spans row column) row column }
+        requires rows { is_at (owner frame.now.config.now.spans row column) row column ≡ true → 0 < rect_rows frame.now.config.now.spans (at row column) }
+        requires columns { is_at (owner frame.now.config.now.spans row column) row column ≡ true → 0 < rect_columns frame.now.config.now.spans (at row column) }
+        requires inside { is_at (owner frame.now.config.now.spans row column) row column ≡ true → column + rect_columns frame.now.config.now.spans (at row column) ≤ frame.now.columns }
+        requires room { is_at (owner frame.now.config.now.spans row column) row column ≡ true → HasRoom (frame_table D.width D.height C.color frame.now) (at row column) (S.text value) }
+        ensures { self.new ≡ slice_set self.old column (begin_cell (frame_table D.width D.height C.color frame.now) row (S.text value) column (slice_index_or self.old column None)) }
     {
-        if self.is_free(pos.col, end) {
-            self.put(pos.col, frame.begin_cell(value, pos));
+        if self.is_free(column, end) {
+            self.put(column, frame.begin_cell(value, Position::new(row, column)));
             return;
         }
     }

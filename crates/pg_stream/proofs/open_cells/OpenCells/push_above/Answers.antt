@@ -1,0 +1,42 @@
+use Rattle.std.proofs.Common.{◌≡◌, ℕ, ◌+◌, ◌<◌, ◌^◌, sym, ap, ◌∙◌, subst, map, arith}
+use Rattle.pg_picture.proofs.Appending.{Gained-none, Gained-all, refused-as, appended-as, Appends-text}
+use Rattle.pg_stream.specs.Frames.{frame_table}
+use Rattle.pg_stream.specs.Placed.{draw_cell, AllOpen}
+use Rattle.pg_stream.proofs.PartsOfLines.{drawn-none}
+use Rattle.pg_stream.proofs.SeparatorsOfRows.{above-absent, above-there, height-absent, height-there}
+use Rattle.pg_stream.proofs.open_cells.OpenCells.push_above.Goals as goal
+
+pub returns-then-not-has_horizontal-clause-appends : goal.returns-then-not-has_horizontal-clause-appends
+returns-then-not-has_horizontal-clause-appends g c = Appends-text (above-absent (frame_table g.D.Dimension.width g.D.Dimension.height g.C.Colors.color c.args.frame.now) c.args.frame.now.height c.args.is_first c.args.self.now c.args.row c.args.index c.has_horizontal.ensures c.if-not-has_horizontal.true) (Gained-all (Gained-none c.args.buf.now))
+
+pub returns-then-not-has_horizontal-clause-index : goal.returns-then-not-has_horizontal-clause-index
+returns-then-not-has_horizontal-clause-index g c = let none = height-absent c.args.frame.now.config.now c.args.row c.has_horizontal.ensures c.if-not-has_horizontal.true in omega (arith, none)
+
+pub returns-then-not-has_horizontal-clause-drawn : goal.returns-then-not-has_horizontal-clause-drawn
+returns-then-not-has_horizontal-clause-drawn g c =
+    drawn-none c.args.self.now ∙ ap (λ n. map (draw_cell n) c.args.self.now) (sym (height-absent c.args.frame.now.config.now c.args.row c.has_horizontal.ensures c.if-not-has_horizontal.true))
+
+pub push_separator_line-requires-clause-tall : goal.push_separator_line-requires-clause-tall
+push_separator_line-requires-clause-tall g c = let one = height-there c.args.frame.now.config.now c.args.row c.has_horizontal.ensures c.if-not-has_horizontal.false in c.requires.tall (omega (arith, one))
+
+pub returns-in_err-push_separator_line-clause-appends : goal.returns-in_err-push_separator_line-clause-appends
+returns-in_err-push_separator_line-clause-appends g c =
+    Appends-text (above-there (frame_table g.D.Dimension.width g.D.Dimension.height g.C.Colors.color c.args.frame.now) c.args.frame.now.height c.args.is_first c.args.self.now c.args.row c.args.index c.has_horizontal.ensures c.if-not-has_horizontal.false) (refused-as c.from_residual.ensures.0 c.in_err-push_separator_line.ensures)
+
+pub draw_line-requires : goal.draw_line-requires
+draw_line-requires g c =
+    let P : ℕ → Type 0 = λ n. AllOpen (λ x cell. cell.drawn + n < 2 ^ 64) c.args.self.now in
+    subst P (height-there c.args.frame.now.config.now c.args.row c.has_horizontal.ensures c.if-not-has_horizontal.false) c.requires.room
+
+pub overflow_add-result : goal.overflow_add-result
+overflow_add-result g c = let one = height-there c.args.frame.now.config.now c.args.row c.has_horizontal.ensures c.if-not-has_horizontal.false in omega (arith, one, c.requires.index)
+
+pub returns-clause-appends : goal.returns-clause-appends
+returns-clause-appends g c =
+    Appends-text (above-there (frame_table g.D.Dimension.width g.D.Dimension.height g.C.Colors.color c.args.frame.now) c.args.frame.now.height c.args.is_first c.args.self.now c.args.row c.args.index c.has_horizontal.ensures c.if-not-has_horizontal.false) (appended-as c.in_ok-push_separator_line.ensures)
+
+pub returns-clause-index : goal.returns-clause-index
+returns-clause-index g c = let one = height-there c.args.frame.now.config.now c.args.row c.has_horizontal.ensures c.if-not-has_horizontal.false in omega (arith, one)
+
+pub returns-clause-drawn : goal.returns-clause-drawn
+returns-clause-drawn g c = c.draw_line.ensures ∙ ap (λ n. map (draw_cell n) c.args.self.now) (sym (height-there c.args.frame.now.config.now c.args.row c.has_horizontal.ensures c.if-not-has_horizontal.false))
