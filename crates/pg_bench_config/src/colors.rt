@@ -6,6 +6,7 @@ use pg_layout::{
     Position, Sides, same_color,
 };
 use std::alloc::Global;
+use std::process::Abort;
 use std::test::Fail;
 
 const FIRST: Position = Position { row: 0, col: 0 };
@@ -20,18 +21,20 @@ fn prefix(color: Option<&ANSIBuf>) -> Option<&str> {
     Some(color?.prefix())
 }
 
-#[test]
-fn an_override_comes_before_the_color_of_the_borders(rt: HostRuntime) -> Result<(), Fail> {
-    let mut config = SpannedConfig::new(rt.alloc());
+fn override_border_colors(
+    rt: &impl Abort,
+    alloc: Global,
+    config: &mut SpannedConfig<Global>,
+) -> Result<(), Fail> {
     let mut colors = Borders::empty();
-    colors.top = Some(color(rt.alloc(), "<t>")?);
-    colors.vertical = Some(color(rt.alloc(), "<v>")?);
-    colors.right_intersection = Some(color(rt.alloc(), "<x>")?);
+    colors.top = Some(color(alloc, "<t>")?);
+    colors.vertical = Some(color(alloc, "<v>")?);
+    colors.right_intersection = Some(color(alloc, "<x>")?);
     config.set_borders_color(colors);
     let mut border = Border::empty();
-    border.top = Some(color(rt.alloc(), "<o>")?);
-    border.right = Some(color(rt.alloc(), "<p>")?);
-    border.bottom_right = Some(color(rt.alloc(), "<q>")?);
+    border.top = Some(color(alloc, "<o>")?);
+    border.right = Some(color(alloc, "<p>")?);
+    border.bottom_right = Some(color(alloc, "<q>")?);
     config.set_border_color(FIRST, border)?;
     assert_eq!(rt; prefix(config.get_horizontal_color(FIRST, 3)), Some("<o>"));
     let second = Position::new(0, 1);
@@ -56,8 +59,15 @@ fn an_override_comes_before_the_color_of_the_borders(rt: HostRuntime) -> Result<
 }
 
 #[test]
-fn a_color_that_was_set_counts_whatever_it_is(rt: HostRuntime) -> Result<(), Fail> {
-    let mut config = SpannedConfig::new(rt.alloc());
+fn an_override_comes_before_the_color_of_the_borders(rt: HostRuntime) -> Result<(), Fail> {
+    override_border_colors(&rt, rt.alloc(), &mut SpannedConfig::new(rt.alloc()))
+}
+
+fn set_empty_colors(
+    rt: &impl Abort,
+    alloc: Global,
+    config: &mut SpannedConfig<Global>,
+) -> Result<(), Fail> {
     assert!(rt; !config.has_border_colors() && !config.has_padding_color());
     assert!(rt; !config.has_justification() && !config.has_offset_chars());
     config.set_borders_color(Borders::empty());
@@ -66,15 +76,25 @@ fn a_color_that_was_set_counts_whatever_it_is(rt: HostRuntime) -> Result<(), Fai
     assert!(rt; config.has_padding_color() && !config.has_justification());
     config.set_justification_color(Entity::Row(7), None)?;
     assert!(rt; config.has_justification() && !config.has_offset_chars());
-    config.set_vertical_color(FIRST, Offset::End(9), color(rt.alloc(), "")?)?;
+    config.set_vertical_color(FIRST, Offset::End(9), color(alloc, "")?)?;
     assert!(rt; config.has_offset_chars());
-    let mut other = SpannedConfig::new(rt.alloc());
-    other.set_border_color(FIRST, Border::empty())?;
-    assert!(rt; other.has_border_colors() && !other.has_padding_color());
-    other.set_justification(Entity::Global, ' ')?;
-    other.set_horizontal_char(FIRST, Offset::Start(0), ' ')?;
-    assert!(rt; other.has_justification() && other.has_offset_chars());
     Ok(())
+}
+
+fn set_plain_glyphs(rt: &impl Abort, config: &mut SpannedConfig<Global>) -> Result<(), Fail> {
+    config.set_border_color(FIRST, Border::empty())?;
+    assert!(rt; config.has_border_colors() && !config.has_padding_color());
+    config.set_justification(Entity::Global, ' ')?;
+    assert!(rt; config.has_justification() && !config.has_offset_chars());
+    config.set_horizontal_char(FIRST, Offset::Start(0), ' ')?;
+    assert!(rt; config.has_offset_chars());
+    Ok(())
+}
+
+#[test]
+fn what_was_set_counts_whatever_it_is(rt: HostRuntime) -> Result<(), Fail> {
+    set_empty_colors(&rt, rt.alloc(), &mut SpannedConfig::new(rt.alloc()))?;
+    set_plain_glyphs(&rt, &mut SpannedConfig::new(rt.alloc()))
 }
 
 #[test]

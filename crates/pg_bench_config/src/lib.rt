@@ -6,6 +6,8 @@ mod answers;
 #[cfg(test)]
 mod colors;
 #[cfg(test)]
+mod given;
+#[cfg(test)]
 mod lines;
 #[cfg(test)]
 mod offsets;

@@ -3,6 +3,7 @@
 use pg_config::SpannedConfig;
 use pg_layout::{Border, Borders, Position};
 use std::alloc::Global;
+use std::process::Abort;
 use std::test::Fail;
 
 const FIRST: Position = Position { row: 0, col: 0 };
@@ -16,18 +17,16 @@ fn first_glyphs(config: &SpannedConfig<Global>) -> [Option<char>; 3] {
     ]
 }
 
-#[test]
-fn an_override_comes_before_the_glyph_of_the_borders(rt: HostRuntime) -> Result<(), Fail> {
-    let mut config = SpannedConfig::new(rt.alloc());
+fn override_borders(rt: &impl Abort, config: &mut SpannedConfig<Global>) -> Result<(), Fail> {
     let mut borders = Borders::empty();
     borders.top = Some('-');
     borders.left = Some('|');
     borders.top_left = Some('+');
     config.set_borders(borders);
-    assert_eq!(rt; first_glyphs(&config), [Some('+'), Some('-'), Some('|')]);
+    assert_eq!(rt; first_glyphs(config), [Some('+'), Some('-'), Some('|')]);
     let full = Border::full('t', 'b', 'l', 'r', '1', '2', '3', '4');
     config.set_border(FIRST, full)?;
-    assert_eq!(rt; first_glyphs(&config), [Some('1'), Some('t'), Some('l')]);
+    assert_eq!(rt; first_glyphs(config), [Some('1'), Some('t'), Some('l')]);
     assert_eq!(rt; config.get_horizontal(Position::new(1, 0), 2), Some('b'));
     assert_eq!(rt; config.get_vertical(Position::new(0, 1), 2), Some('r'));
     for (row, col, glyph) in [(0usize, 1usize, '2'), (1, 0, '3'), (1, 1, '4')] {
@@ -38,8 +37,11 @@ fn an_override_comes_before_the_glyph_of_the_borders(rt: HostRuntime) -> Result<
 }
 
 #[test]
-fn later_borders_leave_overrides(rt: HostRuntime) -> Result<(), Fail> {
-    let mut config = SpannedConfig::new(rt.alloc());
+fn an_override_comes_before_the_glyph_of_the_borders(rt: HostRuntime) -> Result<(), Fail> {
+    override_borders(&rt, &mut SpannedConfig::new(rt.alloc()))
+}
+
+fn set_borders_again(rt: &impl Abort, config: &mut SpannedConfig<Global>) -> Result<(), Fail> {
     let mut border = Border::empty();
     border.top = Some('*');
     config.set_border(FIRST, border)?;
@@ -57,8 +59,11 @@ fn later_borders_leave_overrides(rt: HostRuntime) -> Result<(), Fail> {
 }
 
 #[test]
-fn the_missing_glyph_stands_where_a_line_has_none(rt: HostRuntime) -> Result<(), Fail> {
-    let mut config = SpannedConfig::new(rt.alloc());
+fn later_borders_leave_overrides(rt: HostRuntime) -> Result<(), Fail> {
+    set_borders_again(&rt, &mut SpannedConfig::new(rt.alloc()))
+}
+
+fn vary_the_missing_glyph(rt: &impl Abort, config: &mut SpannedConfig<Global>) -> Result<(), Fail> {
     let mut borders = Borders::empty();
     borders.top_left = Some('+');
     borders.intersection = Some('x');
@@ -84,8 +89,14 @@ fn the_missing_glyph_stands_where_a_line_has_none(rt: HostRuntime) -> Result<(),
 }
 
 #[test]
-fn a_place_outside_of_the_table_makes_its_line(rt: HostRuntime) -> Result<(), Fail> {
-    let mut config = SpannedConfig::new(rt.alloc());
+fn the_missing_glyph_stands_where_a_line_has_none(rt: HostRuntime) -> Result<(), Fail> {
+    vary_the_missing_glyph(&rt, &mut SpannedConfig::new(rt.alloc()))
+}
+
+fn override_outside_places(
+    rt: &impl Abort,
+    config: &mut SpannedConfig<Global>,
+) -> Result<(), Fail> {
     let mut border = Border::empty();
     border.top = Some('*');
     config.set_border(Position::new(1, 9), border)?;
@@ -114,4 +125,9 @@ fn a_place_outside_of_the_table_makes_its_line(rt: HostRuntime) -> Result<(), Fa
         (2, 1)
     );
     Ok(())
+}
+
+#[test]
+fn a_place_outside_of_the_table_makes_its_line(rt: HostRuntime) -> Result<(), Fail> {
+    override_outside_places(&rt, &mut SpannedConfig::new(rt.alloc()))
 }

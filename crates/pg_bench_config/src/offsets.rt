@@ -3,6 +3,7 @@
 use pg_config::SpannedConfig;
 use pg_layout::{ANSIBuf, ANSIFmt, Offset, Position};
 use std::alloc::Global;
+use std::process::Abort;
 use std::test::Fail;
 
 const FIRST: Position = Position { row: 0, col: 0 };
@@ -17,9 +18,10 @@ fn prefix(color: Option<&ANSIBuf>) -> Option<&str> {
     Some(color?.prefix())
 }
 
-#[test]
-fn an_offset_from_the_start_comes_before_one_from_the_end(rt: HostRuntime) -> Result<(), Fail> {
-    let mut config = SpannedConfig::new(rt.alloc());
+fn count_glyphs_from_both_ends(
+    rt: &impl Abort,
+    config: &mut SpannedConfig<Global>,
+) -> Result<(), Fail> {
     config.set_horizontal_char(FIRST, Offset::Start(2), 's')?;
     config.set_horizontal_char(FIRST, Offset::End(0), 'e')?;
     config.set_vertical_char(FIRST, Offset::Start(0), 't')?;
@@ -42,14 +44,19 @@ fn an_offset_from_the_start_comes_before_one_from_the_end(rt: HostRuntime) -> Re
 }
 
 #[test]
-fn an_offset_color_from_the_start_comes_before_one_from_the_end(
-    rt: HostRuntime,
+fn an_offset_from_the_start_comes_before_one_from_the_end(rt: HostRuntime) -> Result<(), Fail> {
+    count_glyphs_from_both_ends(&rt, &mut SpannedConfig::new(rt.alloc()))
+}
+
+fn count_colors_from_both_ends(
+    rt: &impl Abort,
+    alloc: Global,
+    config: &mut SpannedConfig<Global>,
 ) -> Result<(), Fail> {
-    let mut config = SpannedConfig::new(rt.alloc());
-    config.set_horizontal_color(FIRST, Offset::End(1), color(rt.alloc(), "<e>")?)?;
-    config.set_horizontal_color(FIRST, Offset::Start(1), color(rt.alloc(), "<s>")?)?;
-    config.set_vertical_color(FIRST, Offset::End(0), color(rt.alloc(), "<b>")?)?;
-    config.set_vertical_color(FIRST, Offset::Start(0), color(rt.alloc(), "<t>")?)?;
+    config.set_horizontal_color(FIRST, Offset::End(1), color(alloc, "<e>")?)?;
+    config.set_horizontal_color(FIRST, Offset::Start(1), color(alloc, "<s>")?)?;
+    config.set_vertical_color(FIRST, Offset::End(0), color(alloc, "<b>")?)?;
+    config.set_vertical_color(FIRST, Offset::Start(0), color(alloc, "<t>")?)?;
     assert_eq!(rt;
         prefix(config.lookup_horizontal_color(FIRST, 1, 3)),
         Some("<s>")
@@ -72,15 +79,29 @@ fn an_offset_color_from_the_start_comes_before_one_from_the_end(
 }
 
 #[test]
-fn a_glyph_or_a_color_overrides_its_horizontal(rt: HostRuntime) -> Result<(), Fail> {
-    let mut config = SpannedConfig::new(rt.alloc());
+fn an_offset_color_from_the_start_comes_before_one_from_the_end(
+    rt: HostRuntime,
+) -> Result<(), Fail> {
+    count_colors_from_both_ends(&rt, rt.alloc(), &mut SpannedConfig::new(rt.alloc()))
+}
+
+fn override_horizontals(
+    rt: &impl Abort,
+    alloc: Global,
+    config: &mut SpannedConfig<Global>,
+) -> Result<(), Fail> {
     let (second, third) = (Position::new(0, 1), Position::new(0, 2));
     config.set_vertical_char(FIRST, Offset::Start(0), 'v')?;
     config.set_horizontal_char(second, Offset::End(40), 'h')?;
-    config.set_horizontal_color(third, Offset::Start(40), color(rt.alloc(), "<c>")?)?;
+    config.set_horizontal_color(third, Offset::Start(40), color(alloc, "<c>")?)?;
     assert!(rt; !config.is_overridden_horizontal(FIRST));
     assert!(rt; config.is_overridden_horizontal(second));
     assert!(rt; config.is_overridden_horizontal(third));
     assert!(rt; !config.is_overridden_horizontal(Position::new(1, 1)));
     Ok(())
+}
+
+#[test]
+fn a_glyph_or_a_color_overrides_its_horizontal(rt: HostRuntime) -> Result<(), Fail> {
+    override_horizontals(&rt, rt.alloc(), &mut SpannedConfig::new(rt.alloc()))
 }

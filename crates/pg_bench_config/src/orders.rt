@@ -32,10 +32,8 @@ fn fills(config: &SpannedConfig<Global>) -> [char; 3] {
     ]
 }
 
-#[test]
-fn the_latest_setting_counts_and_not_the_narrowest(rt: HostRuntime) -> Result<(), Fail> {
-    let mut config = SpannedConfig::new(rt.alloc());
-    assert_eq!(rt; fills(&config), [' ', ' ', ' ']);
+fn fill_by_all_entities(rt: &impl Abort, config: &mut SpannedConfig<Global>) -> Result<(), Fail> {
+    assert_eq!(rt; fills(config), [' ', ' ', ' ']);
     for (entity, fill, wanted) in [
         (Entity::Cell(1, 1), 'a', [' ', ' ', 'a']),
         (Entity::Column(1), 'b', ['b', ' ', 'b']),
@@ -49,9 +47,14 @@ fn the_latest_setting_counts_and_not_the_narrowest(rt: HostRuntime) -> Result<()
         (Entity::Row(2), 'j', ['i', 'h', 'h']),
     ] {
         config.set_justification(entity, fill)?;
-        assert_eq!(rt; fills(&config), wanted, "after {fill:?} for {entity:?}");
+        assert_eq!(rt; fills(config), wanted, "after {fill:?} for {entity:?}");
     }
     Ok(())
+}
+
+#[test]
+fn the_latest_setting_counts_and_not_the_narrowest(rt: HostRuntime) -> Result<(), Fail> {
+    fill_by_all_entities(&rt, &mut SpannedConfig::new(rt.alloc()))
 }
 
 // What is answered of the cell (1, 1), one getter after the other.
@@ -96,23 +99,31 @@ fn set_cells(
     Ok(())
 }
 
-#[test]
-fn a_later_row_counts_for_each_getter_of_a_cell(rt: HostRuntime) -> Result<(), Fail> {
-    let mut config = SpannedConfig::new(rt.alloc());
-    set_cells(rt.alloc(), &mut config, Entity::Cell(1, 1), 1, true, "<a>")?;
-    assert_cell(&rt, &config, 1, true, Some("<a>"));
-    set_cells(rt.alloc(), &mut config, Entity::Row(1), 2, false, "<b>")?;
-    assert_cell(&rt, &config, 2, false, Some("<b>"));
-    set_cells(rt.alloc(), &mut config, Entity::Column(2), 3, true, "<c>")?;
-    assert_cell(&rt, &config, 2, false, Some("<b>"));
+fn set_a_row_after_a_cell(
+    rt: &impl Abort,
+    alloc: Global,
+    config: &mut SpannedConfig<Global>,
+) -> Result<(), Fail> {
+    set_cells(alloc, config, Entity::Cell(1, 1), 1, true, "<a>")?;
+    assert_cell(rt, config, 1, true, Some("<a>"));
+    set_cells(alloc, config, Entity::Row(1), 2, false, "<b>")?;
+    assert_cell(rt, config, 2, false, Some("<b>"));
+    set_cells(alloc, config, Entity::Column(2), 3, true, "<c>")?;
+    assert_cell(rt, config, 2, false, Some("<b>"));
     config.set_justification_color(Entity::Column(1), None)?;
     assert_eq!(rt; prefix(config.get_justification_color(INNER)), None);
     Ok(())
 }
 
 #[test]
-fn a_later_column_counts_for_alignments(rt: HostRuntime) -> Result<(), Fail> {
-    let mut config = SpannedConfig::new(rt.alloc());
+fn a_later_row_counts_for_each_getter_of_a_cell(rt: HostRuntime) -> Result<(), Fail> {
+    set_a_row_after_a_cell(&rt, rt.alloc(), &mut SpannedConfig::new(rt.alloc()))
+}
+
+fn align_a_column_after_a_cell(
+    rt: &impl Abort,
+    config: &mut SpannedConfig<Global>,
+) -> Result<(), Fail> {
     config.set_alignment_horizontal(Entity::from((1, 1)), AlignmentHorizontal::Right)?;
     config.set_alignment_horizontal(Entity::Column(1), AlignmentHorizontal::Center)?;
     assert_eq!(rt;
@@ -134,4 +145,9 @@ fn a_later_column_counts_for_alignments(rt: HostRuntime) -> Result<(), Fail> {
         AlignmentVertical::Top
     );
     Ok(())
+}
+
+#[test]
+fn a_later_column_counts_for_alignments(rt: HostRuntime) -> Result<(), Fail> {
+    align_a_column_after_a_cell(&rt, &mut SpannedConfig::new(rt.alloc()))
 }

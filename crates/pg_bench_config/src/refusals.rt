@@ -271,47 +271,80 @@ fn tell_entity<A: Allocator + Copy>(
     }
 }
 
-// Tells a configuration all that the table of calls has, while memory is refused, and another one
-// beside it what the first one took. Both answer the same after the first refusal and at the end.
-fn tell_all(rt: &impl Abort, alloc: Global, memory: &Refusing<Global>) -> Result<(), Fail> {
-    let mut config = SpannedConfig::new(memory);
-    let mut other = SpannedConfig::new(alloc);
-    let mut refusals = 0u64;
-    for call in &CALLS {
-        for setter in &PLACE_SETTERS {
-            if tell_place(&mut config, memory, *setter, call).is_ok() {
-                tell_place(&mut other, alloc, *setter, call)?;
-            } else {
-                refusals = refusals.saturating_add(1);
-                compare(rt, alloc, refusals, &config, &other)?;
-            }
-        }
-        for setter in &ENTITY_SETTERS {
-            if tell_entity(&mut config, memory, *setter, call).is_ok() {
-                tell_entity(&mut other, alloc, *setter, call)?;
-            } else {
-                refusals = refusals.saturating_add(1);
-                compare(rt, alloc, refusals, &config, &other)?;
-            }
-        }
-    }
-    assert_eq!(rt; refusals > 0, memory.has_refused());
-    compare(rt, alloc, 1, &config, &other)
+/// A configuration that is refused memory, and another one beside it that is told what the first one
+/// took.
+#[derive(Drop)]
+struct Pair<'a, 'm> {
+    memory: &'m Refusing<Global>,
+    refused: &'a mut SpannedConfig<&'m Refusing<Global>>,
+    other: &'a mut SpannedConfig<Global>,
+    refusals: u64,
 }
 
-// The first refusal left the configuration as it was.
-fn compare<A: Allocator>(
-    rt: &impl Abort,
-    alloc: Global,
-    refusals: u64,
-    config: &SpannedConfig<A>,
-    other: &SpannedConfig<Global>,
-) -> Result<(), Fail> {
-    if refusals == 1 {
-        let answered = answers(alloc, config)?;
-        assert_eq!(rt; answered.as_str(), answers(alloc, other)?.as_str());
+impl Pair<'_, '_> {
+    // Both answer the same.
+    fn compare(&self, rt: &impl Abort, alloc: Global) -> Result<(), Fail> {
+        let answered = answers(alloc, self.refused)?;
+        let wanted = answers(alloc, self.other)?;
+        assert_eq!(rt; answered.as_str(), wanted.as_str());
+        Ok(())
     }
-    Ok(())
+
+    // Counts a refusal. The first one left the configuration as it was.
+    fn count_refusal(&mut self, rt: &impl Abort, alloc: Global) -> Result<(), Fail> {
+        self.refusals = self.refusals.saturating_add(1);
+        if self.refusals == 1 {
+            self.compare(rt, alloc)?;
+        }
+        Ok(())
+    }
+
+    // Makes the call by each setter for places.
+    fn tell_place(&mut self, rt: &impl Abort, alloc: Global, call: &Call) -> Result<(), Fail> {
+        for setter in &PLACE_SETTERS {
+            if tell_place(self.refused, self.memory, *setter, call).is_ok() {
+                tell_place(self.other, alloc, *setter, call)?;
+            } else {
+                self.count_refusal(rt, alloc)?;
+            }
+        }
+        Ok(())
+    }
+
+    // Makes the call by each setter for entities.
+    fn tell_entity(&mut self, rt: &impl Abort, alloc: Global, call: &Call) -> Result<(), Fail> {
+        for setter in &ENTITY_SETTERS {
+            if tell_entity(self.refused, self.memory, *setter, call).is_ok() {
+                tell_entity(self.other, alloc, *setter, call)?;
+            } else {
+                self.count_refusal(rt, alloc)?;
+            }
+        }
+        Ok(())
+    }
+
+    // Makes all calls. What was refused changed nothing.
+    fn tell_all(&mut self, rt: &impl Abort, alloc: Global) -> Result<(), Fail> {
+        for call in &CALLS {
+            self.tell_place(rt, alloc, call)?;
+            self.tell_entity(rt, alloc, call)?;
+        }
+        assert_eq!(rt; self.refusals > 0, self.memory.has_refused());
+        self.compare(rt, alloc)
+    }
+}
+
+// Makes all calls while memory is refused, and those that are taken beside it.
+fn tell_all(rt: &impl Abort, alloc: Global, memory: &Refusing<Global>) -> Result<(), Fail> {
+    let mut refused = SpannedConfig::new(memory);
+    let mut other = SpannedConfig::new(alloc);
+    let mut pair = Pair {
+        memory,
+        refused: &mut refused,
+        other: &mut other,
+        refusals: 0,
+    };
+    pair.tell_all(rt, alloc)
 }
 
 #[test]

@@ -2,11 +2,11 @@
 
 use pg_config::SpannedConfig;
 use pg_layout::Position;
+use std::alloc::Global;
+use std::process::Abort;
 use std::test::Fail;
 
-#[test]
-fn a_span_is_kept_until_it_is_taken_away(rt: HostRuntime) -> Result<(), Fail> {
-    let mut config = SpannedConfig::new(rt.alloc());
+fn span_and_take_away(rt: &impl Abort, config: &mut SpannedConfig<Global>) -> Result<(), Fail> {
     let pos = Position::new(2, 1);
     assert_eq!(rt;
         (config.get_column_span(pos), config.get_row_span(pos)),
@@ -34,8 +34,11 @@ fn a_span_is_kept_until_it_is_taken_away(rt: HostRuntime) -> Result<(), Fail> {
 }
 
 #[test]
-fn a_rectangle_covers_its_other_places(rt: HostRuntime) -> Result<(), Fail> {
-    let mut config = SpannedConfig::new(rt.alloc());
+fn a_span_is_kept_until_it_is_taken_away(rt: HostRuntime) -> Result<(), Fail> {
+    span_and_take_away(&rt, &mut SpannedConfig::new(rt.alloc()))
+}
+
+fn cover_places(rt: &impl Abort, config: &mut SpannedConfig<Global>) -> Result<(), Fail> {
     config.set_row_span(Position::new(1, 1), 2)?;
     config.set_column_span(Position::new(1, 1), 3)?;
     // By column span, by row span, by both.
@@ -63,4 +66,9 @@ fn a_rectangle_covers_its_other_places(rt: HostRuntime) -> Result<(), Fail> {
         assert_eq!(rt; config.is_cell_visible(pos), !hidden, "at {pos:?}");
     }
     Ok(())
+}
+
+#[test]
+fn a_rectangle_covers_its_other_places(rt: HostRuntime) -> Result<(), Fail> {
+    cover_places(&rt, &mut SpannedConfig::new(rt.alloc()))
 }

@@ -7,7 +7,8 @@ use pg_layout::{
     Offset, Position, Sides,
 };
 use pg_testing::refusing::Refusing;
-use std::alloc::{AllocError, Allocator};
+use std::alloc::{AllocError, Allocator, Global};
+use std::process::Abort;
 use std::test::Fail;
 
 const FAR: Position = Position { row: 7, col: 9 };
@@ -39,9 +40,11 @@ fn a_configuration_that_was_told_nothing_is_plain(rt: HostRuntime) -> Result<(),
     Ok(())
 }
 
-#[test]
-fn margins_are_answered_as_they_were_set(rt: HostRuntime) -> Result<(), Fail> {
-    let mut config = SpannedConfig::new(rt.alloc());
+fn set_margins(
+    rt: &impl Abort,
+    alloc: Global,
+    config: &mut SpannedConfig<Global>,
+) -> Result<(), Fail> {
     let zero = Indent::zero();
     let margin = Sides::new(
         Indent::new(1, '<'),
@@ -55,12 +58,17 @@ fn margins_are_answered_as_they_were_set(rt: HostRuntime) -> Result<(), Fail> {
     let offsets = Sides::new(end, Offset::Start(1), end, Offset::Start(0));
     config.set_margin_offset(offsets);
     assert_eq!(rt; config.get_margin_offset(), offsets);
-    let red = ANSIBuf::new(rt.alloc(), "<r>", "</r>")?;
+    let red = ANSIBuf::new(alloc, "<r>", "</r>")?;
     config.set_margin_color(Sides::new(None, None, Some(red), None));
     let colors = config.get_margin_color();
     assert_eq!(rt; colors.top.map(|color| color.prefix()), Some("<r>"));
     assert!(rt; colors.left.is_none() && colors.right.is_none() && colors.bottom.is_none());
     Ok(())
+}
+
+#[test]
+fn margins_are_answered_as_they_were_set(rt: HostRuntime) -> Result<(), Fail> {
+    set_margins(&rt, rt.alloc(), &mut SpannedConfig::new(rt.alloc()))
 }
 
 /// How often a configuration is told the same: by a million calls of setters and more.
@@ -94,28 +102,27 @@ fn tell<A: Allocator>(config: &mut SpannedConfig<A>, glyph: char) -> Result<(), 
     config.set_row_span(pos, 2)
 }
 
-// Tells it the same again and again.
-fn tell_often<A: Allocator>(
-    config: &mut SpannedConfig<A>,
-    glyph: char,
-    rounds: u64,
-) -> Result<(), AllocError> {
-    for _ in 0..rounds {
-        tell(config, glyph)?;
+// Tells a configuration something twice, since a border asks for room before it is known which of its
+// places are new, and then again and again: by then no request for memory comes.
+fn tell_often(
+    rt: &impl Abort,
+    memory: &Refusing<Global>,
+    config: &mut SpannedConfig<&Refusing<Global>>,
+) -> Result<(), Fail> {
+    tell(config, 'a')?;
+    tell(config, 'a')?;
+    let requests = memory.requests();
+    for _ in 0..ROUNDS {
+        tell(config, 'b')?;
     }
+    assert_eq!(rt; memory.requests(), requests);
+    assert_eq!(rt; config.get_justification(Position::new(1, 2)), 'b');
+    assert_eq!(rt; config.spans().len(), 1);
     Ok(())
 }
 
 #[test]
 fn what_is_told_again_takes_no_more_memory(rt: HostRuntime) -> Result<(), Fail> {
     let memory = Refusing::from_on(rt.alloc(), u64::MAX);
-    let mut config = SpannedConfig::new(&memory);
-    // A border asks for room before it is known which of its places are new: so twice.
-    tell_often(&mut config, 'a', 2)?;
-    let requests = memory.requests();
-    tell_often(&mut config, 'b', ROUNDS)?;
-    assert_eq!(rt; memory.requests(), requests);
-    assert_eq!(rt; config.get_justification(Position::new(1, 2)), 'b');
-    assert_eq!(rt; config.spans().len(), 1);
-    Ok(())
+    tell_often(&rt, &memory, &mut SpannedConfig::new(&memory))
 }
