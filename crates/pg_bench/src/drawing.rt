@@ -1,7 +1,5 @@
 //! How the tests draw a table.
 
-ghost use Rattle.std.specs.Prelude.{◌≡◌, []};
-
 use pg_config::SpannedConfig;
 use pg_grid::PeekableGrid;
 use pg_layout::{
@@ -77,9 +75,7 @@ fn spaces([left, right, top, bottom]: [usize; 4]) -> Sides<Indent> {
 }
 
 // Tells a table one thing.
-fn tell<A: Allocator>(config: &mut SpannedConfig<A>, setting: Setting) -> Result<(), AllocError>
-    ensures { config.new.spans ≡ config.old.spans }
-{
+fn tell<A: Allocator>(config: &mut SpannedConfig<A>, setting: Setting) -> Result<(), AllocError> {
     match setting {
         Setting::Ascii => config.set_borders(ascii_borders()),
         Setting::Borders(borders) => config.set_borders(borders),
@@ -96,9 +92,7 @@ fn tell<A: Allocator>(config: &mut SpannedConfig<A>, setting: Setting) -> Result
 pub(crate) fn tell_all<A: Allocator>(
     config: &mut SpannedConfig<A>,
     settings: &[Setting],
-) -> Result<(), AllocError>
-    ensures { config.new.spans ≡ config.old.spans }
-{
+) -> Result<(), AllocError> {
     for setting in settings {
         tell(config, *setting)?;
     }
@@ -134,9 +128,7 @@ fn draw_by<B: Allocator>(
     sample: &Sample<'_>,
     config: &mut SpannedConfig,
     buf: &mut String<B>,
-) -> Result<bool, Fail>
-    requires { config.old.spans ≡ [] }
-{
+) -> Result<bool, Fail> {
     tell_all(config, sample.settings)?;
     let records = records(alloc, sample.texts)?;
     let dimension = dimension(alloc, sample)?;
@@ -147,7 +139,6 @@ fn draw_by<B: Allocator>(
 
 /// Appends the sample as the looked-up grid draws it, and tells whether there was memory for all
 /// of it.
-#[tactic(auto, unfolding(pg_config::specs::Config::default_config))]
 pub(crate) fn draw<B: Allocator>(
     alloc: Global,
     sample: &Sample<'_>,
@@ -161,9 +152,7 @@ pub(crate) fn draw<B: Allocator>(
 
 // The text of the sample, as the looked-up grid gives it by a configuration that is told the
 // settings.
-fn text_by(alloc: Global, sample: &Sample<'_>, config: &mut SpannedConfig) -> Result<String, Fail>
-    requires { config.old.spans ≡ [] }
-{
+fn text_by(alloc: Global, sample: &Sample<'_>, config: &mut SpannedConfig) -> Result<String, Fail> {
     tell_all(config, sample.settings)?;
     let records = records(alloc, sample.texts)?;
     let dimension = dimension(alloc, sample)?;
@@ -173,7 +162,6 @@ fn text_by(alloc: Global, sample: &Sample<'_>, config: &mut SpannedConfig) -> Re
 }
 
 // The text of the sample, as the looked-up grid gives it.
-#[tactic(auto, unfolding(pg_config::specs::Config::default_config))]
 fn text_of(alloc: Global, sample: &Sample<'_>) -> Result<String, Fail> {
     let mut config = SpannedConfig::new(alloc);
     let text = text_by(alloc, sample, &mut config);

@@ -1,6 +1,9 @@
 -- Lemmas of this crate.
 pub mod EvenRows
 pub mod LineWords
+pub mod LinesRead
+pub mod NumbersOfWords
+pub mod RowsOfTexts
 pub mod ScriptLines
 pub mod ScriptTables
 pub mod WordsOfCharacters

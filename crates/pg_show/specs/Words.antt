@@ -38,10 +38,10 @@ abbrev pub read_on : {X Y : Type 0} → Option (X × List Word) → (X → List 
 read_on None next = None
 read_on (Some first) next = next first.0 first.1
 
--- the value, if no word is left
-abbrev pub at_end : {X : Type 0} → X → List Word → Option X
-at_end x [] = Some x
-at_end x (word ∷ words) = None
+-- no word is left
+abbrev pub end_of : List Word → Option (Unit {0})
+end_of [] = Some tt
+end_of (word ∷ words) = None
 
 -- 1 to 20 decimal digits of a value below 2 ^ 64
 abbrev pub is_number : Word → Bool

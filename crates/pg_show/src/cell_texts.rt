@@ -1,6 +1,6 @@
 //! The texts of all cells of a script's table.
 
-ghost use Rattle.std.specs.Prelude.{◌≡◌, ◌<◌, length, vec_len, All, IfOk};
+ghost use Rattle.std.specs.Prelude.{◌≡◌, ◌<◌, [], length, All, IfOk, map, replicate, string_bytes};
 
 use crate::statement::Size;
 use pg_layout::{Position, VecRecords};
@@ -17,7 +17,8 @@ pub(crate) struct CellTexts<A: Allocator> {
 
 // A row of empty texts.
 fn empty_row<A: Allocator + Copy>(alloc: A, columns: usize) -> Result<Vec<String<A>, A>, AllocError>
-    ensures { IfOk result (λ row. length row.items ≡ columns) }
+    ensures columns { IfOk result (λ row. length row.items ≡ columns) }
+    ensures texts { IfOk result (λ row. map string_bytes row.items ≡ replicate columns []) }
 {
     let mut row = Vec::new(alloc);
     for _ in 0..columns {
@@ -27,9 +28,14 @@ fn empty_row<A: Allocator + Copy>(alloc: A, columns: usize) -> Result<Vec<String
 }
 
 impl<A: Allocator + Copy> CellTexts<A> {
+    ghost use Rattle.std.specs.Prelude.{◌≡◌, ◌<◌, [], IfOk, map, replicate, string_bytes};
+    ghost use Rattle.pg_show.specs.Draft.{texts_of};
+    ghost use Rattle.pg_show.specs.Told.{with_text};
+
     /// An empty text for each cell.
     pub(crate) fn empty(alloc: A, size: Size) -> Result<CellTexts<A>, AllocError>
-        ensures { IfOk result (λ texts. texts.size ≡ size) }
+        ensures size { IfOk result (λ texts. texts.size ≡ size) }
+        ensures texts { IfOk result (λ texts. texts_of texts ≡ replicate size.rows (replicate size.columns [])) }
     {
         let mut rows = Vec::new(alloc);
         for _ in 0..size.rows {
@@ -42,13 +48,16 @@ impl<A: Allocator + Copy> CellTexts<A> {
     pub(crate) fn set(&mut self, place: Position, text: String<A>)
         requires row { place.row < self.old.size.rows }
         requires column { place.col < self.old.size.columns }
-        ensures { self.new.size ≡ self.old.size }
+        ensures size { self.new.size ≡ self.old.size }
+        ensures texts { texts_of self.new ≡ with_text place (string_bytes text) (texts_of self.old) }
     {
         self.rows[place.row][place.col] = text;
     }
 
     /// The texts as records.
-    pub(crate) fn into_records(self) -> VecRecords<String<A>, A> {
+    pub(crate) fn into_records(self) -> VecRecords<String<A>, A>
+        ensures { map (λ row. map string_bytes row) result ≡ texts_of self }
+    {
         VecRecords::new(self.rows).unwrap()
     }
 }

@@ -2,9 +2,11 @@
 #![tactic(auto)]
 
 mod cell_texts;
+mod draft;
 mod lines;
 mod mode;
 mod program;
+mod reading;
 mod script;
 mod show;
 mod statement;
@@ -12,5 +14,6 @@ mod words;
 
 pub use crate::mode::Mode;
 pub use crate::program::run;
-pub use crate::script::{Script, ScriptFault, parse_script};
+pub use crate::reading::parse_script;
+pub use crate::script::{Script, ScriptFault};
 pub use crate::show::{ShowFault, print_script};

@@ -6,7 +6,8 @@ ghost use Rattle.pg_show.specs.Program.{status_of, fault_of_script, fault_of_sho
 ghost use Rattle.pg_show.specs.declared.program.Fault.TheVariants.{Memory};
 
 use crate::mode::Mode;
-use crate::script::{Script, ScriptFault, parse_script};
+use crate::reading::parse_script;
+use crate::script::{Script, ScriptFault};
 use crate::show::{ShowFault, print_script};
 use pg_picture::fits::Misfit;
 use std::alloc::{AllocError, Allocator};

@@ -1,7 +1,9 @@
 //! The statements of a script, one a line.
 
-ghost use Rattle.std.specs.Prelude.{◌≡◌, ◌≤◌, ◌<◌, length, IfSome, IfOk};
-ghost use Rattle.pg_show.specs.Statement.{FitsSize};
+ghost use Rattle.std.specs.Prelude.{◌≡◌, ◌≤◌, ◌<◌, ℕ, length, IfSome, IfOk, option_map};
+ghost use Rattle.pg_show.specs.Statement.{FitsSize, change_of, size_said, widths_said, heights_said, cell_said, borders_said, halign_said, valign_said, pad_said, trim_said, lines_said, margin_said, color_said, color_code_said, span_said, line_said, is_inside, ascii_borders, borders_named, horizontal_named, vertical_named, trims_named, switch_named};
+ghost use Rattle.pg_show.specs.Told.{indents, terminal_color};
+ghost use Rattle.pg_show.specs.Words.{words_of, first_numbers, first_place, first_number, read_on, end_of};
 ghost use Rattle.pg_show.specs.declared.statement.Size.{Size};
 
 use crate::words::{Words, char_of, text_of};
@@ -24,20 +26,25 @@ pub(crate) struct Size {
 }
 
 impl Size {
-    /// What a script's first statement says, or `None` where it isn't `size R C`.
-    pub(crate) fn read(keyword: &str, mut words: Words<'_>) -> Option<Size>
-        ensures { IfSome result (λ size. (size.rows ≤ MOST) × (size.columns ≤ MOST)) }
+    /// The size that a script's first statement tells behind the word `size`, or `None` where it
+    /// tells none.
+    pub(crate) fn read(mut words: Words<'_>) -> Option<Size>
+        ensures { result ≡ size_said (words_of words.entry.rest.now) }
     {
-        if keyword != "size" {
-            return None;
-        }
         let rows = words.number()?;
         let columns = words.number()?;
-        words.end()?;
         if rows > MOST || columns > MOST {
             return None;
         }
+        words.end()?;
         Some(Size { rows, columns })
+    }
+
+    // Whether a place lies in the table.
+    fn holds(self, place: Position) -> bool
+        ensures { result ≡ is_inside self place }
+    {
+        place.row < self.rows && place.col < self.columns
     }
 }
 
@@ -71,18 +78,20 @@ pub(crate) enum Statement<A: Allocator> {
 }
 
 impl<A: Allocator + Copy> Statement<A> {
-    /// The statement of a line for a table of this size, or `None` where the line is bad.
+    /// The statement of a line for a table of this size, from the line's first word and what
+    /// follows it, or `None` where the line is bad.
     pub(crate) fn read(
         alloc: A,
         keyword: &str,
         words: Words<'_>,
         size: Size,
     ) -> Result<Option<Statement<A>>, AllocError>
-        ensures { IfOk result (λ read. IfSome read (FitsSize size)) }
+        ensures fits { IfOk result (λ read. IfSome read (FitsSize size)) }
+        ensures said { IfOk result (λ read. option_map change_of read ≡ line_said size keyword.now words.entry.rest.now) }
     {
         match keyword {
-            "widths" => Ok(numbers(alloc, words, size.columns)?.map(|n| Statement::Widths(n))),
-            "heights" => Ok(numbers(alloc, words, size.rows)?.map(|n| Statement::Heights(n))),
+            "widths" => widths(alloc, words, size),
+            "heights" => heights(alloc, words, size),
             "cell" => cell(alloc, words, size),
             "borders" => Ok(borders(words)),
             "halign" => Ok(horizontal_alignment(words)),
@@ -104,7 +113,8 @@ fn numbers<A: Allocator>(
     mut words: Words<'_>,
     count: usize,
 ) -> Result<Option<Vec<usize, A>>, AllocError>
-    ensures { IfOk result (λ read. IfSome read (λ numbers. length numbers.items ≡ count)) }
+    ensures counted { IfOk result (λ read. IfSome read (λ numbers. length numbers.items ≡ count)) }
+    ensures read { IfOk result (λ read. option_map (λ numbers. numbers.items) read ≡ read_on (first_numbers count (words_of words.entry.rest.now)) (λ numbers rest. option_map (λ _. numbers) (end_of rest))) }
 {
     let mut numbers = Vec::new(alloc);
     for _ in 0..count {
@@ -113,19 +123,38 @@ fn numbers<A: Allocator>(
         };
         numbers.push(number)?;
     }
-    Ok(words.end().map(|()| numbers))
+    match words.end() {
+        Some(()) => Ok(Some(numbers)),
+        None => Ok(None),
+    }
 }
 
-// A place of the table.
-fn position(words: &mut Words<'_>, size: Size) -> Option<Position>
-    ensures { IfSome result (λ p. (p.row < size.rows) × (p.col < size.columns)) }
+fn widths<A: Allocator>(
+    alloc: A,
+    words: Words<'_>,
+    size: Size,
+) -> Result<Option<Statement<A>>, AllocError>
+    ensures fits { IfOk result (λ read. IfSome read (FitsSize size)) }
+    ensures said { IfOk result (λ read. option_map change_of read ≡ widths_said size (words_of words.entry.rest.now)) }
 {
-    let row = words.number()?;
-    let col = words.number()?;
-    if row >= size.rows || col >= size.columns {
-        return None;
+    match numbers(alloc, words, size.columns)? {
+        Some(widths) => Ok(Some(Statement::Widths(widths))),
+        None => Ok(None),
     }
-    Some(Position::new(row, col))
+}
+
+fn heights<A: Allocator>(
+    alloc: A,
+    words: Words<'_>,
+    size: Size,
+) -> Result<Option<Statement<A>>, AllocError>
+    ensures fits { IfOk result (λ read. IfSome read (FitsSize size)) }
+    ensures said { IfOk result (λ read. option_map change_of read ≡ heights_said size (words_of words.entry.rest.now)) }
+{
+    match numbers(alloc, words, size.rows)? {
+        Some(heights) => Ok(Some(Statement::Heights(heights))),
+        None => Ok(None),
+    }
 }
 
 // A place of the table and the text of its cell.
@@ -134,162 +163,209 @@ fn cell<A: Allocator>(
     mut words: Words<'_>,
     size: Size,
 ) -> Result<Option<Statement<A>>, AllocError>
-    ensures { IfOk result (λ read. IfSome read (FitsSize size)) }
+    ensures fits { IfOk result (λ read. IfSome read (FitsSize size)) }
+    ensures said { IfOk result (λ read. option_map change_of read ≡ cell_said size words.entry.rest.now) }
 {
-    let Some(place) = position(&mut words, size) else {
+    let Some(place) = words.place() else {
         return Ok(None);
     };
-    let text = text_of(alloc, words.text())?;
-    Ok(text.map(|text| Statement::Cell(place, text)))
+    if !size.holds(place) {
+        return Ok(None);
+    }
+    match text_of(alloc, words.text())? {
+        Some(text) => Ok(Some(Statement::Cell(place, text))),
+        None => Ok(None),
+    }
 }
 
 fn borders<A: Allocator>(mut words: Words<'_>) -> Option<Statement<A>>
-    ensures { (size : Size) → IfSome result (FitsSize size) }
+    ensures fits { (size : Size) → IfSome result (FitsSize size) }
+    ensures said { option_map change_of result ≡ borders_said (words_of words.entry.rest.now) }
 {
-    let borders = match words.next_word()? {
-        "ascii" => ascii_borders(),
-        "none" => Borders::empty(),
-        _ => return None,
-    };
+    let borders = borders_named(words.next_word()?)?;
     words.end()?;
     Some(Statement::Borders(borders))
 }
 
 fn horizontal_alignment<A: Allocator>(mut words: Words<'_>) -> Option<Statement<A>>
-    ensures { (size : Size) → IfSome result (FitsSize size) }
+    ensures fits { (size : Size) → IfSome result (FitsSize size) }
+    ensures said { option_map change_of result ≡ halign_said (words_of words.entry.rest.now) }
 {
     let entity = words.entity()?;
-    let alignment = match words.next_word()? {
-        "left" => AlignmentHorizontal::Left,
-        "center" => AlignmentHorizontal::Center,
-        "right" => AlignmentHorizontal::Right,
-        _ => return None,
-    };
+    let alignment = horizontal_named(words.next_word()?)?;
     words.end()?;
     Some(Statement::HorizontalAlignment(entity, alignment))
 }
 
 fn vertical_alignment<A: Allocator>(mut words: Words<'_>) -> Option<Statement<A>>
-    ensures { (size : Size) → IfSome result (FitsSize size) }
+    ensures fits { (size : Size) → IfSome result (FitsSize size) }
+    ensures said { option_map change_of result ≡ valign_said (words_of words.entry.rest.now) }
 {
     let entity = words.entity()?;
-    let alignment = match words.next_word()? {
-        "top" => AlignmentVertical::Top,
-        "center" => AlignmentVertical::Center,
-        "bottom" => AlignmentVertical::Bottom,
-        _ => return None,
-    };
+    let alignment = vertical_named(words.next_word()?)?;
     words.end()?;
     Some(Statement::VerticalAlignment(entity, alignment))
 }
 
 fn padding<A: Allocator>(mut words: Words<'_>) -> Option<Statement<A>>
-    ensures { (size : Size) → IfSome result (FitsSize size) }
+    ensures fits { (size : Size) → IfSome result (FitsSize size) }
+    ensures said { option_map change_of result ≡ pad_said (words_of words.entry.rest.now) }
 {
     let entity = words.entity()?;
-    let [left, right, top, bottom] = four_numbers(&mut words)?;
+    let sizes = words.sizes()?;
     words.end()?;
-    Some(Statement::Padding(entity, sides([left, right, top, bottom], ' ')))
+    Some(Statement::Padding(entity, indents(sizes, ' ')))
 }
 
 fn trim<A: Allocator>(mut words: Words<'_>) -> Option<Statement<A>>
-    ensures { (size : Size) → IfSome result (FitsSize size) }
+    ensures fits { (size : Size) → IfSome result (FitsSize size) }
+    ensures said { option_map change_of result ≡ trim_said (words_of words.entry.rest.now) }
 {
     let entity = words.entity()?;
-    let (horizontal, vertical) = match words.next_word()? {
-        "none" => (false, false),
-        "h" => (true, false),
-        "v" => (false, true),
-        "hv" => (true, true),
-        _ => return None,
-    };
+    let (horizontal, vertical) = trims_named(words.next_word()?)?;
     words.end()?;
     Some(Statement::Trim(entity, horizontal, vertical))
 }
 
 fn line_alignment<A: Allocator>(mut words: Words<'_>) -> Option<Statement<A>>
-    ensures { (size : Size) → IfSome result (FitsSize size) }
+    ensures fits { (size : Size) → IfSome result (FitsSize size) }
+    ensures said { option_map change_of result ≡ lines_said (words_of words.entry.rest.now) }
 {
     let entity = words.entity()?;
-    let aligns = match words.next_word()? {
-        "on" => true,
-        "off" => false,
-        _ => return None,
-    };
+    let aligns = switch_named(words.next_word()?)?;
     words.end()?;
     Some(Statement::Lines(entity, aligns))
 }
 
 fn margin<A: Allocator>(mut words: Words<'_>) -> Option<Statement<A>>
-    ensures { (size : Size) → IfSome result (FitsSize size) }
+    ensures fits { (size : Size) → IfSome result (FitsSize size) }
+    ensures said { option_map change_of result ≡ margin_said (words_of words.entry.rest.now) }
 {
-    let sizes = four_numbers(&mut words)?;
+    let sizes = words.sizes()?;
     let fill = char_of(words.next_word()?)?;
     words.end()?;
-    Some(Statement::Margin(sides(sizes, fill)))
-}
-
-fn span<A: Allocator>(mut words: Words<'_>) -> Option<Statement<A>>
-    ensures { (size : Size) → IfSome result (FitsSize size) }
-{
-    let [row, col, rows, columns] = four_numbers(&mut words)?;
-    words.end()?;
-    Some(Statement::Span(Position::new(row, col), rows, columns))
-}
-
-fn four_numbers(words: &mut Words<'_>) -> Option<[usize; 4]> {
-    let first = words.number()?;
-    let second = words.number()?;
-    let third = words.number()?;
-    let fourth = words.number()?;
-    Some([first, second, third, fourth])
-}
-
-// Sides of these sizes, left, right, top and bottom, all with one fill.
-fn sides([left, right, top, bottom]: [usize; 4], fill: char) -> Sides<Indent> {
-    Sides::new(
-        Indent::new(left, fill),
-        Indent::new(right, fill),
-        Indent::new(top, fill),
-        Indent::new(bottom, fill),
-    )
+    Some(Statement::Margin(indents(sizes, fill)))
 }
 
 // A place of the table and the colour of its cell.
 fn color<A: Allocator + Copy>(
     alloc: A,
-    mut words: Words<'_>,
+    words: Words<'_>,
     size: Size,
 ) -> Result<Option<Statement<A>>, AllocError>
-    ensures { IfOk result (λ read. IfSome read (FitsSize size)) }
+    ensures fits { IfOk result (λ read. IfSome read (FitsSize size)) }
+    ensures said { IfOk result (λ read. option_map change_of read ≡ color_said size (words_of words.entry.rest.now)) }
 {
-    let Some((place, code)) = color_code(&mut words, size) else {
-        return Ok(None);
-    };
-    Ok(Some(Statement::Color(place, color_of(alloc, code)?)))
+    match color_code(words, size) {
+        Some((place, code)) => Ok(Some(Statement::Color(place, terminal_color(alloc, code)?))),
+        None => Ok(None),
+    }
 }
 
 // A place of the table and the number of a colour, and nothing behind them.
-fn color_code(words: &mut Words<'_>, size: Size) -> Option<(Position, usize)>
-    ensures { IfSome result (λ read. (read.0.row < size.rows) × (read.0.col < size.columns)) }
+fn color_code(mut words: Words<'_>, size: Size) -> Option<(Position, usize)>
+    ensures inside { IfSome result (λ read. (read.0.row < size.rows) × (read.0.col < size.columns) × (read.1 ≤ 107)) }
+    ensures read { result ≡ color_code_said size (words_of words.entry.rest.now) }
 {
-    let place = position(words, size)?;
+    let place = words.place()?;
     let code = words.number()?;
-    words.end()?;
-    if code > GREATEST_CODE {
+    if !size.holds(place) || code > GREATEST_CODE {
         return None;
     }
+    words.end()?;
     Some((place, code))
 }
 
+fn span<A: Allocator>(mut words: Words<'_>) -> Option<Statement<A>>
+    ensures fits { (size : Size) → IfSome result (FitsSize size) }
+    ensures said { option_map change_of result ≡ span_said (words_of words.entry.rest.now) }
+{
+    let place = words.place()?;
+    let rows = words.number()?;
+    let columns = words.number()?;
+    words.end()?;
+    Some(Statement::Span(place, rows, columns))
+}
+
 // The colour that a terminal knows by this number.
-fn color_of<A: Allocator + Copy>(alloc: A, code: usize) -> Result<ANSIBuf<A>, AllocError> {
+fn terminal_color<A: Allocator + Copy>(alloc: A, code: usize) -> Result<ANSIBuf<A>, AllocError>
+    ensures { IfOk result (λ color. color ≡ terminal_color code) }
+{
     let prefix = format!(in alloc; "\u{1b}[{code}m")?;
     ANSIBuf::new(alloc, prefix.as_str(), "\u{1b}[0m")
 }
 
+// Sides of these sizes with one fill.
+fn indents(sizes: Sides<usize>, fill: char) -> Sides<Indent>
+    ensures { result ≡ indents sizes fill }
+{
+    Sides::new(
+        Indent::new(sizes.left, fill),
+        Indent::new(sizes.right, fill),
+        Indent::new(sizes.top, fill),
+        Indent::new(sizes.bottom, fill),
+    )
+}
+
+fn borders_named(word: &str) -> Option<Borders<char>>
+    ensures { result ≡ borders_named word.now }
+{
+    match word {
+        "ascii" => Some(ascii_borders()),
+        "none" => Some(Borders::empty()),
+        _ => None,
+    }
+}
+
+fn horizontal_named(word: &str) -> Option<AlignmentHorizontal>
+    ensures { result ≡ horizontal_named word.now }
+{
+    match word {
+        "left" => Some(AlignmentHorizontal::Left),
+        "center" => Some(AlignmentHorizontal::Center),
+        "right" => Some(AlignmentHorizontal::Right),
+        _ => None,
+    }
+}
+
+fn vertical_named(word: &str) -> Option<AlignmentVertical>
+    ensures { result ≡ vertical_named word.now }
+{
+    match word {
+        "top" => Some(AlignmentVertical::Top),
+        "center" => Some(AlignmentVertical::Center),
+        "bottom" => Some(AlignmentVertical::Bottom),
+        _ => None,
+    }
+}
+
+// Whether the sides of lines are trimmed, and whether blank lines are.
+fn trims_named(word: &str) -> Option<(bool, bool)>
+    ensures { result ≡ trims_named word.now }
+{
+    match word {
+        "none" => Some((false, false)),
+        "h" => Some((true, false)),
+        "v" => Some((false, true)),
+        "hv" => Some((true, true)),
+        _ => None,
+    }
+}
+
+fn switch_named(word: &str) -> Option<bool>
+    ensures { result ≡ switch_named word.now }
+{
+    match word {
+        "on" => Some(true),
+        "off" => Some(false),
+        _ => None,
+    }
+}
+
 // ASCII glyphs at all fifteen places.
-fn ascii_borders() -> Borders<char> {
+fn ascii_borders() -> Borders<char>
+    ensures { result ≡ ascii_borders }
+{
     Borders {
         top: Some('-'),
         top_left: Some('+'),

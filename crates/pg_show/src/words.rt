@@ -1,7 +1,7 @@
 //! The words of one line of a script.
 
 ghost use Rattle.std.specs.Prelude.{◌≡◌, ◌<◌, ◌∷◌, [], IfSome, MatchOption, IfOk, option_map, string_bytes};
-ghost use Rattle.pg_show.specs.Words.{words_of, behind_word, number_of, first_number, first_place, first_sizes, first_entity, at_end, char_of, text_of, escaped_of, meant};
+ghost use Rattle.pg_show.specs.Words.{words_of, behind_word, number_of, first_number, first_place, first_sizes, first_entity, end_of, char_of, text_of, escaped_of, meant};
 
 use pg_layout::{Entity, Position, Sides};
 use std::alloc::{AllocError, Allocator};
@@ -87,7 +87,7 @@ impl<'a> Words<'a> {
 
     /// The end of the line, or `None` where a word is left.
     pub(crate) fn end(mut self) -> Option<()>
-        ensures { result ≡ at_end tt (words_of self.entry.rest.now) }
+        ensures { result ≡ end_of (words_of self.entry.rest.now) }
     {
         match self.next_word() {
             Some(_) => None,

@@ -1,25 +1,25 @@
 use Rattle.pg_show.proofs.statement.Statement.read.Goals as goal
 
-pub returns-in-borders : goal.returns-in-borders
-returns-in-borders g c = c.borders.ensures c.args.size
+pub returns-in-borders-clause-fits : goal.returns-in-borders-clause-fits
+returns-in-borders-clause-fits g c = c.borders.ensures.fits c.args.size
 
-pub returns-in-halign : goal.returns-in-halign
-returns-in-halign g c = c.horizontal_alignment.ensures c.args.size
+pub returns-in-halign-clause-fits : goal.returns-in-halign-clause-fits
+returns-in-halign-clause-fits g c = c.horizontal_alignment.ensures.fits c.args.size
 
-pub returns-in-valign : goal.returns-in-valign
-returns-in-valign g c = c.vertical_alignment.ensures c.args.size
+pub returns-in-valign-clause-fits : goal.returns-in-valign-clause-fits
+returns-in-valign-clause-fits g c = c.vertical_alignment.ensures.fits c.args.size
 
-pub returns-in-pad : goal.returns-in-pad
-returns-in-pad g c = c.padding.ensures c.args.size
+pub returns-in-pad-clause-fits : goal.returns-in-pad-clause-fits
+returns-in-pad-clause-fits g c = c.padding.ensures.fits c.args.size
 
-pub returns-in-trim : goal.returns-in-trim
-returns-in-trim g c = c.trim.ensures c.args.size
+pub returns-in-trim-clause-fits : goal.returns-in-trim-clause-fits
+returns-in-trim-clause-fits g c = c.trim.ensures.fits c.args.size
 
-pub returns-in-lines : goal.returns-in-lines
-returns-in-lines g c = c.line_alignment.ensures c.args.size
+pub returns-in-lines-clause-fits : goal.returns-in-lines-clause-fits
+returns-in-lines-clause-fits g c = c.line_alignment.ensures.fits c.args.size
 
-pub returns-in-margin : goal.returns-in-margin
-returns-in-margin g c = c.margin.ensures c.args.size
+pub returns-in-margin-clause-fits : goal.returns-in-margin-clause-fits
+returns-in-margin-clause-fits g c = c.margin.ensures.fits c.args.size
 
-pub returns-in-span : goal.returns-in-span
-returns-in-span g c = c.span.ensures c.args.size
+pub returns-in-span-clause-fits : goal.returns-in-span-clause-fits
+returns-in-span-clause-fits g c = c.span.ensures.fits c.args.size

@@ -1,0 +1,9 @@
+//! Worked compact tables: what the compact grid answers, against texts that were drawn by hand.
+#![tactic(auto)]
+
+#[cfg(test)]
+mod drawing;
+#[cfg(test)]
+mod refusals;
+#[cfg(test)]
+mod tables;
