@@ -3,6 +3,7 @@ pub mod LinesLaw
 mod OverrideColumns
 mod KeptSpans
 mod SettingNumbers
+mod SettingsForAll
 mod SpansAtPlaces
 pub mod SettingsLaw
 pub mod Computing

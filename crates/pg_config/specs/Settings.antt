@@ -1,5 +1,5 @@
 -- Settings by entity: the latest one whose entity holds a place counts there.
-use Rattle.std.specs.Prelude.{ℕ, zero, suc, max, Bool, nat_lt, List, [], ◌∷◌, Option, Some, None, is_some, ◌||◌, if◌then◌else◌}
+use Rattle.std.specs.Prelude.{ℕ, zero, suc, max, Bool, nat_lt, List, [], ◌∷◌, Option, Some, None, is_some, ◌||◌, ◌&&◌, ◌==◌, length, if◌then◌else◌}
 use Rattle.pg_layout.specs.declared.position.Entity.{Entity}
 use Rattle.pg_layout.specs.declared.position.Entity.TheVariants.{Global, Row, Column, Cell}
 use Rattle.pg_layout.specs.declared.position.Position.{Position}
@@ -25,6 +25,10 @@ module _ {V : Type 0} where
   abbrev pub next_number : List (Key × (ℕ × V)) → ℕ
   next_number [] = zero
   next_number (e ∷ es) = max (suc e.1.0) (next_number es)
+
+  -- nothing was set but for all places
+  abbrev pub is_for_all : Settings V → Bool
+  is_for_all s = ((length s.cells == 0) && (length s.rows == 0)) && (length s.columns == 0)
 
   -- of a row's and a column's setting the later one, else the base
   abbrev pub later : Option (ℕ × V) → Option (ℕ × V) → Option V → Option V

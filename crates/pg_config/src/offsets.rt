@@ -38,6 +38,7 @@ impl<V, A: Allocator + Copy> Offsets<V, A> {
 impl<V, A: Allocator> Offsets<V, A> {
     /// The value of glyph `i` of `w`: counted from the start, else from the end.
     #[tactic(auto, unfolding(crate::specs::Offsets::lookup_offset))]
+    #[inline(always)]
     pub fn lookup(&self, pos: Position, i: usize, w: usize) -> Option<&V>
         requires { i < w }
         ensures { option_map (λ x. x.now) result ≡ lookup_offset self.now pos i w }

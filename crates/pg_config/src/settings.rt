@@ -2,7 +2,7 @@
 
 ghost use Rattle.std.specs.Prelude.{◌≡◌, ℕ, [], List, Option, Some, None, option_map, OnOk, OnErr, IsOk, IfSome, if◌then◌else◌};
 ghost use Rattle.pg_layout.specs.Position.{holds};
-ghost use Rattle.pg_config.specs.Settings.{no_settings, next_number, later, setting_of, with_setting, is_set};
+ghost use Rattle.pg_config.specs.Settings.{no_settings, next_number, later, setting_of, with_setting, is_set, is_for_all};
 
 use pg_layout::{Entity, Key, Places, Position};
 use std::alloc::{AllocError, Allocator, Global};
@@ -43,8 +43,27 @@ impl<V, A: Allocator + Copy> Settings<V, A> {
 
 impl<V, A: Allocator> Settings<V, A> {
     /// The latest setting whose entity holds the place.
-    #[tactic(auto, unfolding(crate::specs::Settings::setting_of))]
+    #[inline(always)]
     pub fn get(&self, pos: Position) -> Option<&V>
+        ensures { option_map (λ x. x.now) result ≡ setting_of self.now pos }
+    {
+        if self.is_for_all() {
+            return self.base.as_ref();
+        }
+        self.find(pos)
+    }
+
+    // Whether nothing was set but for all places.
+    #[inline(always)]
+    fn is_for_all(&self) -> bool
+        ensures { result ≡ is_for_all self.now }
+    {
+        self.cells.is_empty() && self.rows.is_empty() && self.columns.is_empty()
+    }
+
+    // The same by searches.
+    #[tactic(auto, unfolding(crate::specs::Settings::setting_of))]
+    fn find(&self, pos: Position) -> Option<&V>
         ensures { option_map (λ x. x.now) result ≡ setting_of self.now pos }
     {
         if let Some(value) = self.cells.get((pos.row, pos.col, 0)) {

@@ -122,6 +122,7 @@ impl<A: Allocator> SpannedConfig<A> {
 
     /// The padding of a cell.
     #[tactic(auto, unfolding(crate::specs::Config::get_padding))]
+    #[inline(always)]
     pub fn get_padding(&self, pos: Position) -> Sides<Indent>
         ensures { result ≡ get_padding self.now pos }
     {
@@ -144,6 +145,7 @@ impl<A: Allocator> SpannedConfig<A> {
 
     /// The colours of a cell's padding.
     #[tactic(auto, unfolding(crate::specs::Config::get_padding_color))]
+    #[inline(always)]
     pub fn get_padding_color(&self, pos: Position) -> &Sides<Option<ANSIBuf<A>>>
         ensures { result.now ≡ get_padding_color self.now pos }
     {
@@ -176,6 +178,7 @@ impl<A: Allocator> SpannedConfig<A> {
 
     /// Where the text of a cell stands between the left and the right side.
     #[tactic(auto, unfolding(crate::specs::Config::get_alignment_horizontal))]
+    #[inline(always)]
     pub fn get_alignment_horizontal(&self, pos: Position) -> AlignmentHorizontal
         ensures { result ≡ get_alignment_horizontal self.now pos }
     {
@@ -200,6 +203,7 @@ impl<A: Allocator> SpannedConfig<A> {
 
     /// Where the text of a cell stands between the top and the bottom.
     #[tactic(auto, unfolding(crate::specs::Config::get_alignment_vertical))]
+    #[inline(always)]
     pub fn get_alignment_vertical(&self, pos: Position) -> AlignmentVertical
         ensures { result ≡ get_alignment_vertical self.now pos }
     {
@@ -238,6 +242,7 @@ impl<A: Allocator> SpannedConfig<A> {
 
     /// How the lines of a cell's text are read and aligned.
     #[tactic(auto, unfolding(crate::specs::Config::get_formatting))]
+    #[inline(always)]
     pub fn get_formatting(&self, pos: Position) -> Formatting
         ensures { result ≡ get_formatting self.now pos }
     {
@@ -259,6 +264,7 @@ impl<A: Allocator> SpannedConfig<A> {
 
     /// The character that fills the room beside the lines of a cell's text.
     #[tactic(auto, unfolding(crate::specs::Config::get_justification))]
+    #[inline(always)]
     pub fn get_justification(&self, pos: Position) -> char
         ensures { result ≡ get_justification self.now pos }
     {
@@ -280,6 +286,7 @@ impl<A: Allocator> SpannedConfig<A> {
 
     /// The colour of the room beside the lines of a cell's text.
     #[tactic(auto, unfolding(crate::specs::Config::get_justification_color))]
+    #[inline(always)]
     pub fn get_justification_color(&self, pos: Position) -> Option<&ANSIBuf<A>>
         ensures { option_map (λ x. x.now) result ≡ get_justification_color self.now pos }
     {

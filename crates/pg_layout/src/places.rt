@@ -45,6 +45,7 @@ impl<V, A: Allocator> Places<V, A> {
     }
 
     /// Whether there is no entry.
+    #[inline(always)]
     pub fn is_empty(&self) -> bool
         ensures { result ≡ (length self.now == 0) }
     {
@@ -52,6 +53,7 @@ impl<V, A: Allocator> Places<V, A> {
     }
 
     /// The value of this key.
+    #[inline(always)]
     pub fn get(&self, key: Key) -> Option<&V>
         ensures { option_map (λ x. x.now) result ≡ value_at key self.now }
     {
@@ -70,6 +72,7 @@ impl<V, A: Allocator> Places<V, A> {
     }
 
     /// Whether a key begins with this number.
+    #[inline(always)]
     pub fn has_first(&self, first: usize) -> bool
         ensures { result ≡ has_first first self.now }
     {
@@ -77,7 +80,15 @@ impl<V, A: Allocator> Places<V, A> {
     }
 
     /// Whether a key begins with these two numbers.
+    #[inline(always)]
     pub fn has_pair(&self, first: usize, second: usize) -> bool
+        ensures { result ≡ has_pair first second self.now }
+    {
+        !self.is_empty() && self.find_pair(first, second)
+    }
+
+    // The same by a search.
+    fn find_pair(&self, first: usize, second: usize) -> bool
         ensures { result ≡ has_pair first second self.now }
     {
         let at = count_to(&self.entries, (first, second, 0), false);
@@ -136,7 +147,19 @@ impl<V: Drop, A: Allocator> Places<V, A> {
 }
 
 /// The value of this key among ascending entries.
+#[inline(always)]
 pub fn value_at<V>(entries: &[(Key, V)], key: Key) -> Option<&V>
+    requires { IsAscending entries.now }
+    ensures { option_map (λ x. x.now) result ≡ value_at key entries.now }
+{
+    if entries.is_empty() {
+        return None;
+    }
+    find_value(entries, key)
+}
+
+// The same by a search.
+fn find_value<V>(entries: &[(Key, V)], key: Key) -> Option<&V>
     requires { IsAscending entries.now }
     ensures { option_map (λ x. x.now) result ≡ value_at key entries.now }
 {
@@ -148,7 +171,16 @@ pub fn value_at<V>(entries: &[(Key, V)], key: Key) -> Option<&V>
 }
 
 /// Whether a key among ascending entries begins with this number.
+#[inline(always)]
 pub fn has_first<V>(entries: &[(Key, V)], first: usize) -> bool
+    requires { IsAscending entries.now }
+    ensures { result ≡ has_first first entries.now }
+{
+    !entries.is_empty() && find_first(entries, first)
+}
+
+// The same by a search.
+fn find_first<V>(entries: &[(Key, V)], first: usize) -> bool
     requires { IsAscending entries.now }
     ensures { result ≡ has_first first entries.now }
 {

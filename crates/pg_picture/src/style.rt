@@ -32,6 +32,7 @@ pub struct CellStyle<'a, A: Allocator = Global> {
 impl<'a, A: Allocator> CellStyle<'a, A> {
     /// The style of the cell at a place.
     #[tactic(auto, unfolding(crate::specs::Pieces::style_at))]
+    #[inline(always)]
     pub fn of(config: &'a SpannedConfig<A>, pos: Position) -> CellStyle<'a, A>
         ensures { style_of result ≡ style_at config.now pos }
     {

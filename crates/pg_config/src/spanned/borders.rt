@@ -63,6 +63,7 @@ impl<A: Allocator> SpannedConfig<A> {
 
     /// Whether column line `column` of a table of `columns` columns is there.
     #[tactic(auto, unfolding(crate::specs::Config::has_vertical, pg_layout::specs::Borders::has_side))]
+    #[inline(always)]
     pub fn has_vertical(&self, column: usize, columns: usize) -> bool
         ensures { result ≡ has_vertical self.now column columns }
     {
@@ -90,6 +91,7 @@ impl<A: Allocator> SpannedConfig<A> {
     /// The glyph of a vertical in a table of `columns` columns: an override, else the borders'
     /// glyph, else the missing glyph where the line is there.
     #[tactic(auto, unfolding(crate::specs::Config::get_vertical))]
+    #[inline(always)]
     pub fn get_vertical(&self, pos: Position, columns: usize) -> Option<char>
         ensures { result ≡ get_vertical self.now pos columns }
     {
@@ -142,6 +144,7 @@ impl<A: Allocator> SpannedConfig<A> {
     }
 
     // The missing glyph, where there is a line.
+    #[inline(always)]
     fn missing_if(&self, there: bool) -> Option<char>
         ensures { result ≡ missing_if self.now there }
     {
@@ -188,6 +191,7 @@ impl<A: Allocator> SpannedConfig<A> {
     /// The colour of a vertical in a table of `columns` columns: an override, else the borders'
     /// colour.
     #[tactic(auto, unfolding(crate::specs::Config::get_vertical_color))]
+    #[inline(always)]
     pub fn get_vertical_color(&self, pos: Position, columns: usize) -> Option<&ANSIBuf<A>>
         ensures { option_map (λ x. x.now) result ≡ get_vertical_color self.now pos columns }
     {
@@ -233,6 +237,7 @@ fn horizontal_glyph<G>(borders: &Borders<G>, row: usize, rows: usize) -> Option<
 
 // The value of a vertical in column line `column` of a table of `columns` columns.
 #[tactic(auto, unfolding(pg_layout::specs::Borders::vertical_glyph))]
+#[inline(always)]
 fn vertical_glyph<G>(borders: &Borders<G>, column: usize, columns: usize) -> Option<&G>
     ensures { option_map (λ x. x.now) result ≡ vertical_glyph borders.now column columns }
 {

@@ -71,6 +71,7 @@ impl<A: Allocator> SpannedConfig<A> {
 
     /// The glyph that was set for glyph `i` of the `w` lines of a vertical: counted from its start,
     /// else from its end.
+    #[inline(always)]
     pub fn lookup_vertical_char(&self, pos: Position, i: usize, w: usize) -> Option<char>
         requires { i < w }
         ensures { result ≡ lookup_offset self.now.vertical_chars pos i w }
@@ -94,6 +95,7 @@ impl<A: Allocator> SpannedConfig<A> {
 
     /// The colour that was set for glyph `i` of the `w` lines of a vertical: counted from its start,
     /// else from its end.
+    #[inline(always)]
     pub fn lookup_vertical_color(&self, pos: Position, i: usize, w: usize) -> Option<&ANSIBuf<A>>
         requires { i < w }
         ensures { option_map (λ x. x.now) result ≡ lookup_offset self.now.vertical_colors pos i w }

@@ -85,6 +85,7 @@ where
     }
 
     // The vertical left of a cell of one row and one column, and the cell's line.
+    #[inline(always)]
     pub(super) fn push_part<A: Allocator>(
         &self,
         buf: &mut String<A>,
@@ -128,6 +129,7 @@ where
     }
 
     // Line `line` of a cell of so many columns and lines, which has room for its text.
+    #[inline(always)]
     pub(super) fn push_cell<A: Allocator>(
         &self,
         buf: &mut String<A>,
@@ -157,6 +159,7 @@ where
 }
 
 // Line `line` of a cell of so many columns and lines, which has room for its text.
+#[inline(always)]
 fn push_cell_line<C: ANSIFmt, B: Allocator, A: Allocator>(
     buf: &mut String<A>,
     style: &CellStyle<'_, B>,

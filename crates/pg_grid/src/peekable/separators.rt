@@ -79,6 +79,7 @@ where
     }
 
     // The crossing left of a column, and the column's horizontal.
+    #[inline(always)]
     pub(super) fn push_column<A: Allocator>(
         &self,
         run: Run<'a, ANSIBuf<B>>,

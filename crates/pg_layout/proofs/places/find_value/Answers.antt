@@ -1,7 +1,7 @@
 use Rattle.std.proofs.Common.{◌≡◌, ◌<◌, ◌≤◌, true, false, Some, refl, sym, ◌∙◌, ap, arith, get_or}
 use Rattle.pg_layout.specs.Places.{count_to, holds_at, value_at}
 use Rattle.pg_layout.proofs.PlacesOrder.{holds_at_in, holds_at_said, found, missing}
-use Rattle.pg_layout.proofs.places.value_at.Goals as goal
+use Rattle.pg_layout.proofs.places.find_value.Goals as goal
 
 pub returns-then-not-holds_at : goal.returns-then-not-holds_at
 returns-then-not-holds_at g c =

@@ -2,7 +2,7 @@ use Rattle.std.proofs.Common.{◌≡◌, ◌<◌, ◌≤◌, ◌==◌, false, sy
 use Rattle.std.proofs.lemmas.Bool.Decides.{nat_tests}
 use Rattle.pg_layout.specs.Places.{IsAscending, count_to, begins, has_first}
 use Rattle.pg_layout.proofs.PlacesOrder.{has_first_is, has_first_none}
-use Rattle.pg_layout.proofs.places.has_first.Goals as goal
+use Rattle.pg_layout.proofs.places.find_first.Goals as goal
 
 pub returns-in-Some : goal.returns-in-Some
 returns-in-Some g c =

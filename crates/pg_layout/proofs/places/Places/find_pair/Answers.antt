@@ -2,7 +2,7 @@ use Rattle.std.proofs.Common.{false, sym, ◌∙◌, ap, subst, arith}
 use Rattle.std.proofs.lemmas.Bool.Decides.{nat_tests}
 use Rattle.pg_layout.specs.Places.{IsAscending, count_to, begins_pair}
 use Rattle.pg_layout.proofs.PlacesOrder.{has_pair_is, has_pair_none}
-use Rattle.pg_layout.proofs.places.Places.has_pair.Goals as goal
+use Rattle.pg_layout.proofs.places.Places.find_pair.Goals as goal
 
 pub returns-in-Some : goal.returns-in-Some
 returns-in-Some g c =
