@@ -12,10 +12,12 @@ pub(crate) enum Case {
     PeekSpans1000,
     PeekTallspan,
     PeekLongcell,
+    CompactBasic,
+    CompactColored,
 }
 
 /// The tables by name.
-pub(crate) const CASES: [(&str, Case); 9] = [
+pub(crate) const CASES: [(&str, Case); 11] = [
     ("peek_basic", Case::PeekBasic),
     ("peek_spans", Case::PeekSpans),
     ("peek_colored", Case::PeekColored),
@@ -25,6 +27,8 @@ pub(crate) const CASES: [(&str, Case); 9] = [
     ("peek_spans1000", Case::PeekSpans1000),
     ("peek_tallspan", Case::PeekTallspan),
     ("peek_longcell", Case::PeekLongcell),
+    ("compact_basic", Case::CompactBasic),
+    ("compact_colored", Case::CompactColored),
 ];
 
 /// What the cells of a table say.
@@ -101,7 +105,12 @@ impl Case {
 
     /// Whether cells, borders and margins have colours.
     pub(crate) fn is_colored(self) -> bool {
-        self == Case::PeekColored
+        matches!(self, Case::PeekColored | Case::CompactColored)
+    }
+
+    /// Whether the compact grid prints it, and not the looked-up one.
+    pub(crate) fn is_compact(self) -> bool {
+        matches!(self, Case::CompactBasic | Case::CompactColored)
     }
 
     /// Whether the borders are lines of a box.

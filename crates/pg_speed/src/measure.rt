@@ -7,14 +7,15 @@ ghost use Rattle.pg_grid.specs.Grids.{peekable_table};
 use crate::case::{Case, Size};
 use crate::checksum::checksum;
 use crate::failure::Failure;
-use crate::settings::{colors, settings};
+use crate::settings::{colors, compact_settings, set};
 use crate::texts::records;
-use pg_config::SpannedConfig;
-use pg_grid::PeekableGrid;
+use pg_config::{CompactConfig, SpannedConfig};
+use pg_grid::{CompactGrid, PeekableGrid};
 use pg_layout::{
-    Colors, ConstantDimension, Dimension, ExactRecords, NoColors, PeekableRecords, VecRecords,
+    Colors, ConstantDimension, Dimension, ExactRecords, NoColors, PeekableRecords, Records,
+    VecRecords,
 };
-use pg_picture::fits::table_fits;
+use pg_picture::fits::{compact_fits, table_fits};
 use std::alloc::{AllocError, Allocator};
 
 /// How wide each column is.
@@ -25,52 +26,6 @@ const WIDTH: usize = 12;
 pub(crate) struct Measured {
     pub(crate) bytes: usize,
     pub(crate) checksum: u64,
-}
-
-/// The texts, the sizes and the settings of a table.
-#[derive(Drop)]
-struct Bench<A: Allocator> {
-    records: VecRecords<String<A>, A>,
-    dimension: ConstantDimension<A>,
-    config: SpannedConfig<A>,
-}
-
-impl<A: Allocator + Copy> Bench<A> {
-    // The table of a case.
-    fn new(alloc: A, case: Case) -> Result<Bench<A>, Failure> {
-        let size = case.size();
-        Ok(Bench {
-            records: records(alloc, size, case.words())?,
-            dimension: dimension(alloc, size)?,
-            config: settings(alloc, case)?,
-        })
-    }
-
-    // Its text, built so many times.
-    fn text(&self, alloc: A, case: Case, times: usize) -> Result<String<A>, Failure> {
-        if case.is_colored() {
-            return self.colored_text(alloc, case.size(), times);
-        }
-        self.text_in(alloc, &NoColors, times)
-    }
-
-    // Its text with colours of cells.
-    fn colored_text(&self, alloc: A, size: Size, times: usize) -> Result<String<A>, Failure> {
-        let colors = colors(alloc, size)?;
-        self.text_in(alloc, &colors, times)
-    }
-
-    // Its text in these colours.
-    fn text_in<C: Colors>(&self, alloc: A, colors: &C, times: usize) -> Result<String<A>, Failure> {
-        looked_up(
-            alloc,
-            &self.records,
-            &self.dimension,
-            &self.config,
-            colors,
-            times,
-        )
-    }
 }
 
 // Columns and rows of one size each.
@@ -90,16 +45,45 @@ pub(crate) fn measure<A: Allocator + Copy>(
     case: Case,
     times: usize,
 ) -> Result<Measured, Failure> {
-    let text = text_of(alloc, case, times)?;
+    let text = if case.is_compact() {
+        compact_text(alloc, case, times)
+    } else {
+        looked_up_text(alloc, case, times)
+    }?;
     Ok(Measured {
         bytes: text.len(),
         checksum: checksum(text.as_bytes()),
     })
 }
 
-fn text_of<A: Allocator + Copy>(alloc: A, case: Case, times: usize) -> Result<String<A>, Failure> {
-    let bench = Bench::new(alloc, case)?;
-    bench.text(alloc, case, times)
+// The text of a case of the looked-up grid, built so many times.
+fn looked_up_text<A: Allocator + Copy>(
+    alloc: A,
+    case: Case,
+    times: usize,
+) -> Result<String<A>, Failure> {
+    let mut config = SpannedConfig::new(alloc);
+    let text = text_by(alloc, case, times, &mut config);
+    drop(config);
+    text
+}
+
+// The same by a configuration that is told the case's settings.
+fn text_by<A: Allocator + Copy>(
+    alloc: A,
+    case: Case,
+    times: usize,
+    config: &mut SpannedConfig<A>,
+) -> Result<String<A>, Failure> {
+    set(alloc, case, config)?;
+    let size = case.size();
+    let records = records(alloc, size, case.words())?;
+    let dimension = dimension(alloc, size)?;
+    if case.is_colored() {
+        let colors = colors(alloc, size)?;
+        return looked_up(alloc, &records, &dimension, config, &colors, times);
+    }
+    looked_up(alloc, &records, &dimension, config, &NoColors, times)
 }
 
 // The text of a table as the looked-up grid prints it, built so many times.
@@ -133,6 +117,43 @@ where
     for _ in 0..times {
         text.clear();
         grid.build(&mut text)?;
+    }
+    Ok(text)
+}
+
+// The text of a case of the compact grid, built so many times.
+fn compact_text<A: Allocator + Copy>(
+    alloc: A,
+    case: Case,
+    times: usize,
+) -> Result<String<A>, Failure> {
+    let size = case.size();
+    let records = records(alloc, size, case.words())?;
+    let dimension = dimension(alloc, size)?;
+    let config = compact_settings(case);
+    if case.is_colored() {
+        let colors = colors(alloc, size)?;
+        return compact(alloc, &records, &dimension, &config, &colors, times);
+    }
+    compact(alloc, &records, &dimension, &config, &NoColors, times)
+}
+
+// The text of a table as the compact grid prints it, built so many times.
+fn compact<A: Allocator + Copy, C: Colors>(
+    alloc: A,
+    records: &VecRecords<String<A>, A>,
+    dimension: &ConstantDimension<A>,
+    config: &CompactConfig,
+    colors: &C,
+    times: usize,
+) -> Result<String<A>, Failure> {
+    compact_fits(config, dimension, records.count_columns())?;
+    // Shows that there are no more rows than can be counted.
+    let _rows = records.count_rows();
+    let mut text = String::new(alloc);
+    for _ in 0..times {
+        text.clear();
+        CompactGrid::new(records, config, dimension, colors).build(&mut text)?;
     }
     Ok(text)
 }

@@ -1,25 +1,22 @@
 //! The settings of the tables.
 
 use crate::case::{Case, Size, Spanning};
-use pg_config::SpannedConfig;
+use pg_config::{CompactConfig, SpannedConfig};
 use pg_layout::{
-    ANSIBuf, AlignmentHorizontal, AlignmentVertical, Borders, ColorsMap, Entity, Indent, Position,
-    Sides,
+    ANSIBuf, ANSIStr, AlignmentHorizontal, AlignmentVertical, Borders, ColorsMap, Entity, Indent,
+    Position, Sides,
 };
 use std::alloc::{AllocError, Allocator};
 
-/// The configuration of a case.
-pub(crate) fn settings<A: Allocator + Copy>(
-    alloc: A,
-    case: Case,
-) -> Result<SpannedConfig<A>, AllocError> {
-    let mut config = SpannedConfig::new(alloc);
-    set(alloc, case, &mut config)?;
-    Ok(config)
-}
+const BLUE: &str = "\u{1b}[34m";
 
-// Sets all that a case sets.
-fn set<A: Allocator + Copy>(
+const GRAY: &str = "\u{1b}[90m";
+
+/// The colour of the terminal.
+const PLAIN: &str = "\u{1b}[39m";
+
+/// Tells a configuration all that a case sets.
+pub(crate) fn set<A: Allocator + Copy>(
     alloc: A,
     case: Case,
     config: &mut SpannedConfig<A>,
@@ -30,9 +27,25 @@ fn set<A: Allocator + Copy>(
         trim(config)?;
     }
     if case.is_colored() {
-        color(alloc, config)?;
+        color_borders(alloc, config)?;
+        color_margins(alloc, config)?;
     }
     span(config, case)
+}
+
+/// The configuration of a case that the compact grid prints. Its colours are those of the other
+/// grids, and it has no margin above or below.
+pub(crate) fn compact_settings(case: Case) -> CompactConfig {
+    let config = CompactConfig::new()
+        .set_borders(ascii())
+        .set_padding(side_spaces());
+    if !case.is_colored() {
+        return config;
+    }
+    config
+        .set_borders_color(everywhere(ANSIStr::new(BLUE, PLAIN)))
+        .set_margin(margins(0))
+        .set_margin_color(Sides::filled(ANSIStr::new(GRAY, PLAIN)))
 }
 
 // Lets cells span others.
@@ -84,6 +97,27 @@ fn trim<A: Allocator>(config: &mut SpannedConfig<A>) -> Result<(), AllocError> {
     config.set_alignment_vertical(Entity::Global, AlignmentVertical::Center)
 }
 
+// The same value at all fifteen places.
+fn everywhere<T: Copy>(value: T) -> Borders<T> {
+    Borders {
+        top: Some(value),
+        top_left: Some(value),
+        top_right: Some(value),
+        top_intersection: Some(value),
+        bottom: Some(value),
+        bottom_left: Some(value),
+        bottom_right: Some(value),
+        bottom_intersection: Some(value),
+        horizontal: Some(value),
+        left_intersection: Some(value),
+        right_intersection: Some(value),
+        intersection: Some(value),
+        left: Some(value),
+        right: Some(value),
+        vertical: Some(value),
+    }
+}
+
 fn ascii() -> Borders<char> {
     Borders {
         top: Some('-'),
@@ -124,34 +158,61 @@ fn boxed() -> Borders<char> {
     }
 }
 
-// Borders, margins of dots, and their colours.
-fn color<A: Allocator + Copy>(alloc: A, config: &mut SpannedConfig<A>) -> Result<(), AllocError> {
-    config.set_borders_color(blue_borders(alloc)?);
+// Margins of dots in a colour.
+fn color_margins<A: Allocator + Copy>(
+    alloc: A,
+    config: &mut SpannedConfig<A>,
+) -> Result<(), AllocError> {
+    config.set_margin(margins(1));
+    let mut colors = Sides::new(None, None, None, None);
+    let done = color_sides(alloc, &mut colors);
+    config.set_margin_color(colors);
+    done
+}
+
+// Dots: two columns at each side, and so many lines above and below.
+fn margins(lines: usize) -> Sides<Indent> {
     let dots = |size| Indent::new(size, '.');
-    config.set_margin(Sides::new(dots(2), dots(2), dots(1), dots(1)));
-    config.set_margin_color(Sides::new(
-        Some(gray(alloc)?),
-        Some(gray(alloc)?),
-        Some(gray(alloc)?),
-        Some(gray(alloc)?),
-    ));
+    Sides::new(dots(2), dots(2), dots(lines), dots(lines))
+}
+
+fn color_sides<A: Allocator + Copy>(
+    alloc: A,
+    colors: &mut Sides<Option<ANSIBuf<A>>>,
+) -> Result<(), AllocError> {
+    colors.left = gray(alloc)?;
+    colors.right = gray(alloc)?;
+    colors.top = gray(alloc)?;
+    colors.bottom = gray(alloc)?;
     Ok(())
 }
 
-fn gray<A: Allocator + Copy>(alloc: A) -> Result<ANSIBuf<A>, AllocError> {
-    ANSIBuf::new(alloc, "\u{1b}[90m", "\u{1b}[39m")
+fn gray<A: Allocator + Copy>(alloc: A) -> Result<Option<ANSIBuf<A>>, AllocError> {
+    Ok(Some(ANSIBuf::new(alloc, GRAY, PLAIN)?))
 }
 
 fn blue<A: Allocator + Copy>(alloc: A) -> Result<Option<ANSIBuf<A>>, AllocError> {
-    Ok(Some(ANSIBuf::new(alloc, "\u{1b}[34m", "\u{1b}[39m")?))
+    Ok(Some(ANSIBuf::new(alloc, BLUE, PLAIN)?))
 }
 
-fn blue_borders<A: Allocator + Copy>(alloc: A) -> Result<Borders<ANSIBuf<A>>, AllocError> {
-    let mut borders = Borders::empty();
-    color_top_and_bottom(alloc, &mut borders)?;
-    color_between_rows(alloc, &mut borders)?;
-    color_columns(alloc, &mut borders)?;
-    Ok(borders)
+// Borders in one colour.
+fn color_borders<A: Allocator + Copy>(
+    alloc: A,
+    config: &mut SpannedConfig<A>,
+) -> Result<(), AllocError> {
+    let mut colors = Borders::empty();
+    let done = color_all(alloc, &mut colors);
+    config.set_borders_color(colors);
+    done
+}
+
+fn color_all<A: Allocator + Copy>(
+    alloc: A,
+    borders: &mut Borders<ANSIBuf<A>>,
+) -> Result<(), AllocError> {
+    color_top_and_bottom(alloc, borders)?;
+    color_between_rows(alloc, borders)?;
+    color_columns(alloc, borders)
 }
 
 fn color_top_and_bottom<A: Allocator + Copy>(
@@ -211,7 +272,7 @@ fn color_row<A: Allocator + Copy>(
     for column in 0..columns {
         if (row % 3 + column % 3) % 3 == 0 {
             let prefix = PREFIXES[(row % 7 + column % 7) % 7];
-            let color = ANSIBuf::new(alloc, prefix, "\u{1b}[39m")?;
+            let color = ANSIBuf::new(alloc, prefix, PLAIN)?;
             colors.set(Position::new(row, column), color)?;
         }
     }
