@@ -59,7 +59,7 @@ room-at items now i o all l m rest is =
     get_or-same (x ∷ xs) (suc i) a b h = get_or-same xs i a b (omega arith)
 
 -- what holds of each open cell, whatever is drawn of it, holds of all when more is drawn
-drawn-at : (d : ℕ) (cells : List (Option Placed)) (x : ℕ) → slice_index_or (map (draw_cell d) cells) x None ≡ draw_cell d (slice_index_or cells x None)
+pub drawn-at : (d : ℕ) (cells : List (Option Placed)) (x : ℕ) → slice_index_or (map (draw_cell d) cells) x None ≡ draw_cell d (slice_index_or cells x None)
 drawn-at d [] x = refl
 drawn-at d (cell ∷ cells) zero = refl
 drawn-at d (cell ∷ cells) (suc x) = drawn-at d cells x
@@ -71,3 +71,20 @@ drawn-one P Q d x (Some cell) step h = step cell h
 pub drawn-all : (P Q : ℕ → Placed → Type 0) (d : ℕ) (cells : List (Option Placed)) → ((x : ℕ) (cell : Placed) → P x cell → Q x (record cell { drawn = cell.drawn + d })) → AllOpen P cells → AllOpen Q (map (draw_cell d) cells)
 drawn-all P Q d cells step all x =
     subst (λ (o : Option Placed). IfSome o (Q x)) (sym (drawn-at d cells x)) (drawn-one P Q d x (slice_index_or cells x None) (step x) (all x))
+
+within : (cells : List (Option Placed)) (x : ℕ) (c : Placed) → slice_index_or cells x None ≡ Some c → x < length cells
+within [] x c e = cc
+within (cell ∷ cells) zero c e = omega arith
+within (cell ∷ cells) (suc x) c e = let ih = within cells x c e in omega (arith, ih)
+
+-- what holds of each that is there holds of all
+pub all-open : (P : ℕ → Placed → Type 0) (cells : List (Option Placed)) → ((x : ℕ) (c : Placed) → x < length cells → slice_index_or cells x None ≡ Some c → P x c) → AllOpen P cells
+all-open P cells each x = by_cell (slice_index_or cells x None) refl
+  where
+    by_cell : (o : Option Placed) → slice_index_or cells x None ≡ o → IfSome (slice_index_or cells x None) (P x)
+    by_cell None e = rw e tt
+    by_cell (Some c) e = rw e (each x c (within cells x c e) e)
+
+-- and the other way round
+pub one-open : (P : ℕ → Placed → Type 0) (cells : List (Option Placed)) → AllOpen P cells → (x : ℕ) (c : Placed) → slice_index_or cells x None ≡ Some c → P x c
+one-open P cells all x c e = subst (λ (o : Option Placed). IfSome o (P x)) e (all x)
