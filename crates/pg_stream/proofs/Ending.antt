@@ -1,31 +1,30 @@
 -- A printer after its last row: no cell is open, and the last separator and the bottom margin are left.
-use Rattle.std.proofs.Common.{◌≡◌, ℕ, zero, suc, ◌+◌, ◌-◌, ◌^◌, ◌<◌, ◌≤◌, Bool, true, false, not, ◌&&◌, ◌==◌, nat_lt, List, [], ◌∷◌, ◌++◌, flat_map, get_or, length, length-append, replicate, Option, Some, None, IfSome, option_map, refl, sym, ap, ap₂, ◌∙◌, arith, append-nil, zero-add, subst, ◌⊎◌, inl, inr, if◌then◌else◌}
+use Rattle.std.proofs.Common.{◌≡◌, ℕ, ◌+◌, ◌<◌, ◌≤◌, Bool, true, false, not, ◌&&◌, ◌==◌, nat_lt, List, [], ◌++◌, flat_map, get_or, length, length-append, replicate, Option, Some, None, IfSome, option_map, refl, sym, ap, ap₂, ◌∙◌, arith, append-nil, zero-add, subst, ◌⊎◌, inl, inr}
 use Rattle.std.specs.List.{range_with_len}
 use Rattle.std.proofs.lemmas.Bool.{cases_Bool, ltb-true}
 use Rattle.std.proofs.lemmas.Bool.Decides.{nat_tests}
 use Rattle.pg_layout.specs.declared.position.Position.{Position}
 use Rattle.pg_layout.specs.Position.{at}
 use Rattle.pg_layout.specs.Text.{Text}
-use Rattle.pg_config.specs.Config.{Config, has_horizontal}
+use Rattle.pg_config.specs.Config.{has_horizontal}
 use Rattle.pg_config.specs.Spans.{rect_rows, owner}
-use Rattle.pg_picture.specs.Fits.{spans_fit}
-use Rattle.pg_picture.specs.Joined.{continued, feed_before, lines_before}
+use Rattle.pg_picture.specs.Joined.{continued, lines_before}
 use Rattle.pg_picture.specs.Marks.{Mark, sep, only_if, marks_above, body}
-use Rattle.pg_picture.specs.Pieces.{Item, written, separator_text}
+use Rattle.pg_picture.specs.Pieces.{written, separator_text}
 use Rattle.pg_picture.specs.Picture.{bottom_lines, body_lines}
-use Rattle.pg_picture.specs.Table.{Table, Hint, margin_lines, margin_line, full_width, total_width, mark_text, table_body, is_inside, is_covered, crossing, crossing_at, column_items, separator_part, separator_items}
-use Rattle.pg_picture.proofs.BodyLines.{body_lines-nil, length-body_lines}
-use Rattle.pg_picture.proofs.JoinedLines.{continued-nil, continued-append, continued-line}
-use Rattle.pg_picture.proofs.Owners.{Apart, HasOwners, owner-own, owner-ends}
+use Rattle.pg_picture.specs.Table.{Table, margin_lines, margin_line, full_width, total_width, mark_text, table_body, is_inside, is_covered, crossing, crossing_at, column_items, separator_part, separator_items}
+use Rattle.pg_picture.proofs.BodyLines.{length-body_lines}
+use Rattle.pg_picture.proofs.JoinedLines.{continued-nil, continued-append}
+use Rattle.pg_picture.proofs.Owners.{owner-own, owner-ends}
 use Rattle.pg_picture.proofs.Pictures.{continued-any, none-of-two}
 use Rattle.pg_picture.proofs.Ranges.{range-more}
-use Rattle.pg_stream.specs.Drawing.{reach, cell_items, open_separator_part, open_separator, below_text}
+use Rattle.pg_stream.specs.Drawing.{reach, open_separator_part, open_separator, below_text}
 use Rattle.pg_stream.specs.Placed.{Placed, slots_of, AllOpen}
 use Rattle.pg_stream.specs.Printers.{IsSound}
 use Rattle.pg_stream.specs.Printing.{Printing, hint_of, frame_of, text_known, table_known, lines_below, lines_printed, finish_lines, finish_text}
 use Rattle.pg_stream.proofs.OpenLists.{all-open}
 use Rattle.pg_stream.proofs.OwnersOfCells.{columns-same}
-use Rattle.pg_stream.proofs.Reaches.{option_cases, reaching}
+use Rattle.pg_stream.proofs.Reaches.{reaching}
 use Rattle.pg_stream.proofs.RowTexts.{KnowsHeight, below-mark}
 use Rattle.pg_stream.proofs.RowsOfTables.{other}
 use Rattle.pg_stream.proofs.RowsPrinted.{apart, owners, owner-above}
@@ -33,7 +32,7 @@ use Rattle.pg_stream.proofs.RowsPrinted.{apart, owners, owner-above}
 -- nothing was printed where no row was
 pub finish-none : (s : Printing) → s.rows ≡ 0 → [] ≡ finish_text s
 unfolding finish_text finish_lines
-finish-none s none = rw none (sym (continued-nil (lines_printed s)))
+finish-none s none = let e : (s.rows == 0) ≡ true = grind (arith, nat_tests, none) in rw e (sym (continued-nil (lines_printed s)))
 
 -- a printer that has printed a row and may be ended has printed the last one
 pub ended_of : (rows : ℕ) (is_ended : Bool) → (rows ≡ 0) ⊎ (is_ended ≡ true) → 0 < rows → is_ended ≡ true
@@ -115,12 +114,12 @@ module _ (s : Printing) (w : ℕ) (height : Option ℕ) (cells : List (Option Pl
   no_cell : (x : ℕ) → get_or cells x None ≡ None
   no_cell x = by_cell (get_or cells x None) refl
     where
+      none_some : {c : Placed} → IfSome (get_or cells x None) (λ c. ⊥) → get_or cells x None ≡ Some c → ⊥
+      none_some {c} h e = subst (λ (o : Option Placed). IfSome o (λ c. ⊥)) e h
+
       by_cell : (o : Option Placed) → get_or cells x None ≡ o → get_or cells x None ≡ None
       by_cell None e = e
       by_cell (Some c) e = absurd (none_some (no_cells (λ x c. ⊥) x) e)
-
-      none_some : {c : Placed} → IfSome (get_or cells x None) (λ c. ⊥) → get_or cells x None ≡ Some c → ⊥
-      none_some {c} h e = subst (λ (o : Option Placed). IfSome o (λ c. ⊥)) e h
 
   -- ---- what `finish` appends
 
@@ -149,16 +148,16 @@ module _ (s : Printing) (w : ℕ) (height : Option ℕ) (cells : List (Option Pl
       → ((is_first && (s.lines == 0)) && not there) ≡ (((s.config.margin.top.size + s.lines) + length (only_if (has_horizontal s.config m m) (sep m))) == 0)
   bare-is is_first there first is = ap (λ b. (is_first && (s.lines == 0)) && not b) is ∙ by_case (has_horizontal s.config m m)
     where
+      and_true : (b : Bool) → (b && true) ≡ b
+      and_true true = refl
+      and_true false = refl
+
       by_case : (b : Bool) → ((is_first && (s.lines == 0)) && not b) ≡ (((s.config.margin.top.size + s.lines) + length (only_if b (sep m))) == 0)
       by_case true = and_none (is_first && (s.lines == 0)) false refl ∙ (let e : (((s.config.margin.top.size + s.lines) + 1) == 0) ≡ false = grind (arith, nat_tests) in sym e)
       by_case false =
           and_true (is_first && (s.lines == 0))
           ∙ ap (λ b. b && (s.lines == 0)) first ∙ none-of-two s.config.margin.top.size s.lines
           ∙ ap (λ n. n == 0) (let e : s.config.margin.top.size + s.lines ≡ (s.config.margin.top.size + s.lines) + 0 = omega arith in e)
-
-      and_true : (b : Bool) → (b && true) ≡ b
-      and_true true = refl
-      and_true false = refl
 
   pub finish_text-is : (is_first there : Bool) → 0 < m → is_first ≡ (s.config.margin.top.size == 0) → there ≡ has_horizontal s.config m m
       → below_text t height is_first cells m s.lines

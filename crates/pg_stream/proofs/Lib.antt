@@ -30,3 +30,4 @@ pub mod RowsAppended
 pub mod Starting
 pub mod Ending
 pub mod PicturesOfRows
+pub mod FittingRows

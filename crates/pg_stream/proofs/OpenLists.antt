@@ -1,14 +1,11 @@
 -- Lists of open cells: how many there are, and what is drawn of all of them.
-use Rattle.std.proofs.Common.{◌≡◌, ℕ, zero, suc, ◌+◌, ◌-◌, ◌<◌, Bool, true, false, List, [], ◌∷◌, ◌++◌, map, flat_map, length, take, drop, set, count_by, cond, replicate, get_or, slice_index_or, Option, Some, None, IfSome, is_some, refl, sym, ap, ap₂, ◌∙◌, arith, add-zero, add-one, add_assoc, subst, ◌^◌}
+use Rattle.std.proofs.Common.{◌≡◌, ℕ, zero, suc, ◌+◌, ◌<◌, List, [], ◌∷◌, ◌++◌, map, length, take, drop, set, count_by, cond, get_or, slice_index_or, Option, Some, None, IfSome, is_some, refl, sym, ap, ap₂, ◌∙◌, arith, add-one, subst, ◌^◌}
 use Rattle.std.specs.List.{fold}
 use Rattle.pg_stream.specs.Open.{Slot}
 use Rattle.std.proofs.lemmas.List.{take_more, take_more_set, drop-set-lt, map-append}
 use Rattle.std.proofs.Math.Seq.{drop-cons}
-use Rattle.pg_picture.specs.Pieces.{Piece, written, piece_text}
-use Rattle.pg_picture.specs.Table.{Table, vertical}
-use Rattle.pg_stream.specs.Drawing.{cell_part, open_part}
 use Rattle.pg_stream.specs.Placed.{Placed, slot_of, slots_of, draw_cell, AllOpen}
-use Rattle.pg_stream.specs.Slots.{slot_block, draw_more}
+use Rattle.pg_stream.specs.Slots.{draw_more}
 
 -- as many slots are open as cells
 counted : (n : ℕ) (cells : List (Option Placed)) → fold (λ (a : ℕ) (x : Option Slot). a + cond (is_some x) 1 0) n (slots_of cells) ≡ fold (λ (a : ℕ) (x : Option Placed). a + cond (is_some x) 1 0) n cells

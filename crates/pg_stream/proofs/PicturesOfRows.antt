@@ -1,19 +1,18 @@
 -- All rows of a table make its picture.
-use Rattle.std.proofs.Common.{◌≡◌, ℕ, zero, suc, ◌+◌, ◌<◌, Bool, true, false, ◌&&◌, ◌||◌, ◌==◌, List, [], ◌∷◌, map, IfSome, Option, refl, sym, ap, ap₂, ◌∙◌, arith}
+use Rattle.std.proofs.Common.{◌≡◌, ℕ, zero, suc, ◌+◌, true, false, ◌||◌, ◌==◌, List, [], ◌∷◌, map, Option, refl, sym, ap, ap₂, ◌∙◌, arith}
 use Rattle.std.specs.List.{range_with_len, list_all}
 use Rattle.std.proofs.lemmas.Bool.{and_parts, and_from}
 use Rattle.std.proofs.lemmas.Bool.Decides.{nat_tests}
-use Rattle.pg_layout.specs.Position.{at}
 use Rattle.pg_layout.specs.Text.{Text}
 use Rattle.pg_config.specs.Spans.{Span}
 use Rattle.pg_picture.specs.Fits.{span_fits_columns, span_fits, all_apart, spans_fit, spans_fit_columns}
 use Rattle.pg_picture.specs.Joined.{joined, continued}
-use Rattle.pg_picture.specs.Picture.{picture, picture_lines}
+use Rattle.pg_picture.specs.Picture.{picture_lines}
 use Rattle.pg_picture.specs.Table.{Table}
 use Rattle.pg_picture.proofs.Owners.{apart_from}
 use Rattle.pg_picture.proofs.Pictures.{picture-some}
-use Rattle.pg_stream.specs.Laws.{texts_of, RowsMakeThePicture}
-use Rattle.pg_stream.specs.Printing.{Printing, hint_of, printer, lines_printed, lines_of_rows, rows_text}
+use Rattle.pg_stream.specs.Laws.{RowsMakeThePicture}
+use Rattle.pg_stream.specs.Printing.{Printing, hint_of, printer, lines_printed, rows_text}
 use Rattle.pg_stream.proofs.TextsOfCalls.{IsFresh, rows_text-lines}
 use Rattle.pg_stream.proofs.WholePictures.{cells_at, texts_from, lines_of_rows-are}
 
@@ -30,7 +29,8 @@ fit_columns spans rows columns h =
     let parts = and_parts (list_all (span_fits rows columns) spans) (all_apart spans) h in
     and_from (list_all (span_fits_columns columns) spans) (all_apart spans) (all_columns rows columns spans parts.0) parts.1
 
-rows-from : (t : Table) (k j : ℕ) → map (λ r. cells_at t r) (range_with_len k j) ≡ texts_from t k j
+-- the texts of rows, counted from a first one on
+pub rows-from : (t : Table) (k j : ℕ) → map (λ r. cells_at t r) (range_with_len k j) ≡ texts_from t k j
 unfolding texts_from
 rows-from t k zero = refl
 rows-from t k (suc j) = ap (λ l. cells_at t k ∷ l) (rows-from t (k + 1) j)

@@ -1,26 +1,23 @@
 -- The text of a row: the top margin above row 0, the separator above the row, and its lines.
-use Rattle.std.proofs.Common.{◌≡◌, ℕ, zero, suc, ◌+◌, ◌-◌, ◌<◌, ◌≤◌, Bool, true, false, ◌&&◌, ◌==◌, List, [], ◌∷◌, ◌++◌, map, flat_map, length, length-append, replicate, Option, Some, None, refl, sym, ap, ap₂, ◌∙◌, arith, append_assoc, add-zero, zero-add, add_assoc, add-one, inl, inr, subst, if◌then◌else◌, eqb-true}
+use Rattle.std.proofs.Common.{◌≡◌, ℕ, zero, suc, ◌+◌, ◌<◌, ◌≤◌, Bool, true, false, ◌&&◌, ◌==◌, List, [], ◌∷◌, ◌++◌, map, flat_map, length, replicate, Option, Some, None, refl, sym, ap, ap₂, ◌∙◌, arith, add-zero, add_assoc, inl, inr, if◌then◌else◌, eqb-true}
 use Rattle.std.specs.List.{range_with_len, enumerate_from}
 use Rattle.std.proofs.lemmas.Bool.{cases_Bool}
-use Rattle.std.proofs.lemmas.Bool.Decides.{nat_tests}
 use Rattle.pg_layout.specs.declared.position.Position.{Position}
 use Rattle.pg_layout.specs.declared.sides.Indent.{Indent}
 use Rattle.pg_layout.specs.declared.sides.Offset.{Offset}
 use Rattle.pg_layout.specs.Colors.{Color}
 use Rattle.pg_layout.specs.Text.{Text}
-use Rattle.pg_config.specs.Config.{Config, has_horizontal}
+use Rattle.pg_config.specs.Config.{has_horizontal}
 use Rattle.pg_picture.specs.Joined.{continued, feed_before}
-use Rattle.pg_picture.specs.Marks.{Mark, sep, line, only_if, marks_of_row}
+use Rattle.pg_picture.specs.Marks.{Mark, sep, line, only_if}
 use Rattle.pg_picture.specs.Pieces.{written, separator_text}
 use Rattle.pg_picture.specs.Picture.{top_lines, body_lines}
 use Rattle.pg_picture.specs.Table.{Table, Hint, Known, Unknown, side_margin, side_margin_at, margin_lines, margin_line, full_width, total_width, mark_text, body_line, table_body}
-use Rattle.pg_picture.proofs.BodyLines.{body_lines-append, length-body_lines, body_lines-nil}
+use Rattle.pg_picture.proofs.BodyLines.{body_lines-nil}
 use Rattle.pg_picture.proofs.JoinedLines.{continued-nil, continued-append, continued-line}
-use Rattle.pg_picture.proofs.Pictures.{none-of-two, length-top}
+use Rattle.pg_picture.proofs.Pictures.{none-of-two}
 use Rattle.pg_stream.specs.Drawing.{open_line, line_at, open_line_at, open_lines, above_text, below_text, top_text, open_separator}
 use Rattle.pg_stream.specs.Placed.{Placed, draw_cell}
-use Rattle.pg_stream.specs.Printing.{lines_at}
-use Rattle.pg_stream.specs.Slots.{separator_height}
 use Rattle.pg_stream.proofs.RowsOfTables.{SameHeight, blank_same, other}
 use Rattle.pg_stream.proofs.SeparatorsOfRows.{above-absent, above-there, below-absent, below-there}
 

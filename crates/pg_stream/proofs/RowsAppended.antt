@@ -1,5 +1,5 @@
 -- What `row` appends, and the printer after it.
-use Rattle.std.proofs.Common.{◌≡◌, ℕ, zero, suc, ◌+◌, ◌-◌, ◌^◌, ◌<◌, ◌≤◌, Bool, true, false, ◌==◌, nat_lt, List, [], ◌∷◌, ◌++◌, map, get_or, slice_index_or, length, length-append, Option, Some, None, IfSome, option_map, unwrap_or, refl, sym, ap, ap₂, ◌∙◌, arith, append_assoc, add_assoc, zero-add, subst, inl, inr, if◌then◌else◌, eqb-true}
+use Rattle.std.proofs.Common.{◌≡◌, ℕ, ◌+◌, ◌-◌, ◌^◌, ◌<◌, ◌≤◌, Bool, true, false, ◌==◌, nat_lt, List, [], ◌++◌, map, get_or, slice_index_or, length, Option, Some, None, IfSome, option_map, unwrap_or, refl, sym, ap, ap₂, ◌∙◌, arith, zero-add, subst, inl, inr, if◌then◌else◌, eqb-true}
 use Rattle.std.specs.List.{range_with_len}
 use Rattle.std.proofs.lemmas.Bool.{cases_Bool}
 use Rattle.std.proofs.lemmas.Bool.Decides.{nat_tests}
@@ -7,7 +7,7 @@ use Rattle.std.proofs.lemmas.List.{length-map}
 use Rattle.pg_layout.specs.declared.position.Position.{Position}
 use Rattle.pg_layout.specs.Position.{at}
 use Rattle.pg_layout.specs.Text.{Text}
-use Rattle.pg_config.specs.Config.{Config, has_horizontal}
+use Rattle.pg_config.specs.Config.{has_horizontal}
 use Rattle.pg_config.specs.Spans.{Span, rect_rows, owner}
 use Rattle.pg_picture.specs.Fits.{spans_fit, totals_fit}
 use Rattle.pg_picture.specs.Joined.{continued}
@@ -29,7 +29,7 @@ use Rattle.pg_stream.specs.Slots.{separator_height, slot_line, slot_separator}
 use Rattle.pg_stream.specs.Turns.{close_cell, cells_closed}
 use Rattle.pg_stream.proofs.Closing.{closed-is}
 use Rattle.pg_stream.proofs.OpenLists.{drawn-all, all-open, one-open}
-use Rattle.pg_stream.proofs.PartsOfLists.{partly, partly-all, partly-length, partly-below}
+use Rattle.pg_stream.proofs.PartsOfLists.{partly-all, partly-length, partly-below}
 use Rattle.pg_stream.proofs.DrawnLines.{length_of_row}
 use Rattle.pg_stream.proofs.LinesOfCells.{open_line-slots, open_separator-slots}
 use Rattle.pg_stream.proofs.LinesOfSlots.{row_line-slots}

@@ -1,6 +1,5 @@
 -- What a call of a printer finds, and what it leaves.
-use Rattle.std.proofs.Common.{◌≡◌, ℕ, zero, suc, ◌+◌, ◌-◌, ◌^◌, ◌<◌, ◌≤◌, Bool, true, false, ◌&&◌, ◌==◌, nat_lt, List, [], ◌∷◌, ◌++◌, map, get_or, slice_index_or, length, length-append, filter, Option, Some, None, IfSome, option_map, unwrap_or, refl, sym, ap, ap₂, ◌∙◌, arith, append_assoc, add-zero, zero-add, subst, inl, inr, ◌⊎◌, if◌then◌else◌, eqb-true}
-use Rattle.std.specs.List.{range_with_len}
+use Rattle.std.proofs.Common.{◌≡◌, ℕ, ◌+◌, ◌^◌, ◌<◌, ◌≤◌, Bool, true, false, ◌==◌, List, [], map, get_or, slice_index_or, length, Option, Some, None, IfSome, refl, sym, ap, ◌∙◌, arith, zero-add, subst, inl, inr, if◌then◌else◌, eqb-true}
 use Rattle.std.proofs.lemmas.Bool.{cases_Bool}
 use Rattle.std.proofs.lemmas.Bool.Decides.{nat_tests}
 use Rattle.std.proofs.lemmas.List.{length-map}
@@ -9,40 +8,26 @@ use Rattle.pg_layout.specs.declared.position.Position.{Position}
 use Rattle.pg_layout.specs.Position.{at, is_at}
 use Rattle.pg_layout.specs.Text.{Text}
 use Rattle.pg_config.specs.Config.{Config, has_horizontal}
-use Rattle.pg_config.specs.Spans.{Span, rect_rows, rect_columns, owner}
-use Rattle.pg_picture.specs.Fits.{spans_fit}
-use Rattle.pg_picture.specs.Joined.{continued}
-use Rattle.pg_picture.specs.Marks.{Mark, sep, line, only_if, marks_of_row, marks_above, stands_within, body}
-use Rattle.pg_picture.specs.Pieces.{written, separator_text}
-use Rattle.pg_picture.specs.Picture.{top_lines, body_lines}
+use Rattle.pg_config.specs.Spans.{rect_rows, rect_columns, owner}
+use Rattle.pg_picture.specs.Marks.{Mark, sep, only_if, marks_above, stands_within}
 use Rattle.pg_picture.specs.Sizes.{height_of_rect}
-use Rattle.pg_picture.specs.Table.{Table, Hint, mark_text, table_body, full_width}
-use Rattle.pg_picture.proofs.BodyLines.{body_lines-append, length-body_lines}
-use Rattle.pg_picture.proofs.JoinedLines.{continued-append}
-use Rattle.pg_picture.proofs.Owners.{Apart, HasOwners, apart_from, owners_of, owner-ends}
-use Rattle.pg_picture.proofs.Pictures.{length-top}
-use Rattle.pg_stream.specs.Conditions.{HasRoom, HaveRoom, RowFits}
-use Rattle.pg_stream.specs.Drawing.{open_line, open_lines, open_separator, above_text, top_text}
+use Rattle.pg_picture.specs.Table.{Table}
+use Rattle.pg_picture.proofs.Owners.{Apart, HasOwners, apart_from, owners_of}
+use Rattle.pg_stream.specs.Conditions.{HaveRoom}
 use Rattle.pg_stream.specs.Open.{drawn_before, open_before}
 use Rattle.pg_stream.specs.Placed.{Placed, slots_of, draw_cell, AllOpen, IsPlaced, IsTall}
 use Rattle.pg_stream.specs.Printers.{IsSound}
-use Rattle.pg_stream.specs.Printing.{Printing, hint_of, frame_of, rows_known, rows_reached, text_known, table_known, lines_at, lines_printed, row_lines, row_text, after_row}
-use Rattle.pg_stream.specs.Slots.{separator_height, slot_line, slot_separator}
-use Rattle.pg_stream.specs.Turns.{IsOwnerAbove, new_cell, begin_cell, cells_begun, cells_closed}
-use Rattle.pg_stream.proofs.Beginning.{begun-is, inside-columns, own-rows, owner-begun}
+use Rattle.pg_stream.specs.Printing.{Printing, frame_of, table_known}
+use Rattle.pg_stream.specs.Slots.{separator_height}
+use Rattle.pg_stream.specs.Turns.{IsOwnerAbove, new_cell, begin_cell, cells_begun}
+use Rattle.pg_stream.proofs.Beginning.{begun-is, inside-columns, owner-begun}
 use Rattle.pg_stream.proofs.CellsBegun.{placed-new}
-use Rattle.pg_stream.proofs.DrawnLines.{length_of_row, drawn-first, drawn-more}
-use Rattle.pg_stream.proofs.LinesOfCells.{open_line-slots, open_separator-slots}
-use Rattle.pg_stream.proofs.LinesOfSlots.{row_line-slots}
-use Rattle.pg_stream.proofs.OpenLists.{drawn-at, drawn-all, all-open, one-open}
+use Rattle.pg_stream.proofs.DrawnLines.{drawn-first, drawn-more}
+use Rattle.pg_stream.proofs.OpenLists.{drawn-at, drawn-all, all-open}
 use Rattle.pg_stream.proofs.OwnersOfCells.{open-at, owner-open, owner-drawn, drawn-le}
 use Rattle.pg_stream.proofs.PartsOfLists.{partly, partly-all, partly-length, partly-below}
-use Rattle.pg_stream.proofs.Printers.{Stands, slots_known, Stands-after}
+use Rattle.pg_stream.proofs.Printers.{Stands, slots_known}
 use Rattle.pg_stream.proofs.Reaches.{IsOwner}
-use Rattle.pg_stream.proofs.RowTexts.{KnowsHeight, lines-text, above-mark, top-margin}
-use Rattle.pg_stream.proofs.RowsOfTables.{owner-reached, row_inside_body}
-use Rattle.pg_stream.proofs.SeparatorsOfSlots.{separator-slots}
-use Rattle.pg_stream.proofs.SlotsOfCells.{cells_of_row, slots-of-row, slots-after}
 
 -- a cell that has begun or that was there
 one-begun-of : (t : Table) (k x : ℕ) (text : Text) (cell : Option Placed) (Q : ℕ → Placed → Type 0) → (is_at (owner t.config.spans k x) k x ≡ true → Q x (new_cell t (at k x) text)) → IfSome cell (Q x) → (c : Placed) → begin_cell t k text x cell ≡ Some c → Q x c

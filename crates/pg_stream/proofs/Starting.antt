@@ -1,6 +1,5 @@
 -- A printer before its first row.
-use Rattle.std.proofs.Common.{◌≡◌, ℕ, zero, suc, ◌+◌, ◌-◌, ◌^◌, ◌<◌, ◌≤◌, Bool, true, false, List, [], ◌∷◌, map, length, replicate, slice_index_or, Option, Some, None, IfSome, option_map, refl, sym, ap, ◌∙◌, arith}
-use Rattle.std.specs.List.{range_with_len}
+use Rattle.std.proofs.Common.{◌≡◌, ℕ, zero, suc, ◌-◌, ◌^◌, ◌<◌, ◌≤◌, true, false, List, [], ◌∷◌, length, replicate, slice_index_or, Option, Some, None, IfSome, option_map, refl, sym, ap, ◌∙◌, arith}
 use Rattle.std.proofs.lemmas.Bool.{false≢true}
 use Rattle.std.proofs.lemmas.List.{length-replicate}
 use Rattle.pg_layout.specs.declared.position.Position.{Position}
@@ -15,7 +14,7 @@ use Rattle.pg_picture.proofs.FittingTables.{totals_facts}
 use Rattle.pg_picture.proofs.HeightsOfRectangles.{length-table_body}
 use Rattle.pg_picture.proofs.SumsOfSizes.{if_fits-below}
 use Rattle.pg_stream.specs.Conditions.{PrinterFits}
-use Rattle.pg_stream.specs.Open.{Slot, open_at_row, open_before}
+use Rattle.pg_stream.specs.Open.{open_at_row, open_before}
 use Rattle.pg_stream.specs.Placed.{Placed, slots_of, AllOpen, IsPlaced}
 use Rattle.pg_stream.specs.Printers.{IsSound}
 use Rattle.pg_stream.specs.Printing.{Printing, frame_of, table_known, printer}

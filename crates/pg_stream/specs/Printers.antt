@@ -1,5 +1,5 @@
 -- What contracts see of the fields of a printer, and what is true of each printer between its calls.
-use Rattle.std.specs.Prelude.{◌≡◌, ℕ, ◌+◌, ◌-◌, ◌^◌, ◌<◌, ◌≤◌, Bool, true, List, [], length, IfSome, Option, option_map}
+use Rattle.std.specs.Prelude.{◌≡◌, ℕ, ◌-◌, ◌^◌, ◌<◌, ◌≤◌, Bool, true, List, [], length, IfSome, Option, option_map}
 use Rattle.pg_layout.specs.declared.position.Position.{Position}
 use Rattle.pg_layout.specs.Colors.{Color}
 use Rattle.pg_config.specs.Config.{Config}

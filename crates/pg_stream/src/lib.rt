@@ -10,6 +10,6 @@ mod row_printer;
 mod separators;
 mod turns;
 
-pub use crate::laws::rows_make_the_picture;
+pub use crate::laws::{rows_make_the_picture, tables_that_fit_may_be_printed};
 pub use crate::open_cells::OpenCells;
 pub use crate::row_printer::RowPrinter;

@@ -1,4 +1,4 @@
-use Rattle.std.proofs.Common.{◌≡◌, ℕ, ◌<◌, ◌⊎◌, ◌++◌, ◌==◌, ◌&&◌, not, true, refl, sym, ap, ◌∙◌, subst, arith, replicate}
+use Rattle.std.proofs.Common.{◌≡◌, ◌<◌, ◌⊎◌, ◌==◌, true, refl, sym, ap, ◌∙◌, subst, arith, replicate}
 use Rattle.pg_config.specs.Config.{has_horizontal}
 use Rattle.pg_picture.proofs.Appending.{◌then◌, stopped, Gained-none, Gained-all, Appends-text}
 use Rattle.pg_picture.specs.Joined.{continued, lines_before}

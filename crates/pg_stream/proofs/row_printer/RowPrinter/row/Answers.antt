@@ -1,16 +1,14 @@
-use Rattle.std.proofs.Common.{◌≡◌, ℕ, ◌+◌, ◌<◌, ◌≤◌, ◌^◌, ◌++◌, ◌==◌, refl, sym, ap, ap₂, ◌∙◌, subst, arith, map, length, get_or, None}
+use Rattle.std.proofs.Common.{ℕ, ◌+◌, ◌<◌, ◌≤◌, ◌^◌, ◌==◌, refl, sym, ap, ap₂, ◌∙◌, subst, arith, map, length, get_or, None}
 use Rattle.std.proofs.lemmas.List.{length-map}
 use Rattle.pg_picture.proofs.Appending.{◌then◌, stopped, refused-as, appended-as, Appends-text}
 use Rattle.pg_stream.specs.Conditions.{RowFits}
-use Rattle.pg_stream.specs.Drawing.{above_text, open_lines}
 use Rattle.pg_stream.specs.Frames.{frame_table}
-use Rattle.pg_stream.specs.Placed.{slots_of, draw_cell, AllOpen, IsPlaced, IsTall}
+use Rattle.pg_stream.specs.Placed.{draw_cell, AllOpen, IsPlaced, IsTall}
 use Rattle.pg_stream.specs.Printers.{printer_of, printing, IsSound}
-use Rattle.pg_stream.specs.Printing.{Printing, row_text, after_row, frame_of}
+use Rattle.pg_stream.specs.Printing.{Printing, row_text, after_row}
 use Rattle.pg_stream.specs.Slots.{separator_height}
 use Rattle.pg_stream.specs.Turns.{IsOwnerAbove, cells_begun, cells_closed}
 use Rattle.pg_stream.proofs.DrawnLines.{length_of_row}
-use Rattle.pg_stream.proofs.OpenLists.{drawn-all}
 use Rattle.pg_stream.proofs.RowsPrinted.{inside-now, room-above, tall-above, owner-begins, whole-now, cells_now, tall-now, begun-now, placed-now, room-now}
 use Rattle.pg_stream.proofs.RowsAppended.{row_text-is, after-is, sound-next, open_lines-same}
 use Rattle.pg_stream.proofs.row_printer.RowPrinter.row.Goals as goal
