@@ -1,9 +1,8 @@
 -- The words of a line, read one by one.
-use Rattle.std.proofs.Common.{◌≡◌, ◌+◌, ◌<◌, ◌≤◌, ◌==◌, ℕ, suc, not, Bool, true, false, List, [], ◌∷◌, length, take, drop, filter, cond, arith, refl, sym, ◌∙◌, ap, subst, length-take}
+use Rattle.std.proofs.Common.{◌≡◌, ◌+◌, ◌<◌, ◌==◌, ℕ, suc, not, true, false, List, [], ◌∷◌, length, take, drop, filter, cond, arith, refl, sym, ◌∙◌, ap, subst, length-take}
 use Rattle.std.specs.List.{position_or_len, slice_split, onto_first, before_first, after_first}
 use Rattle.std.proofs.lemmas.Bool.Decides.{nat_tests}
 use Rattle.std.proofs.lemmas.List.{drop_all, take_all}
-use Rattle.std.proofs.lemmas.List.Sums.{prefix_len-le-length}
 use Rattle.std.proofs.lemmas.List.Splits.{slice_split_first}
 use Rattle.pg_show.specs.Words.{Word, is_space, words_of, behind_word}
 

@@ -1,7 +1,7 @@
 -- Numbers that are read one after the other.
 use Rattle.std.proofs.Common.{◌≡◌, ℕ, suc, ◌+◌, ◌-◌, ◌<◌, List, [], ◌∷◌, ◌++◌, Option, Some, None, arith, refl, sym, ◌∙◌, ap, append-nil, append_assoc}
 use Rattle.std.specs.Option.{option_map}
-use Rattle.pg_show.specs.Words.{Word, read_on, end_of, first_number, first_numbers}
+use Rattle.pg_show.specs.Words.{Word, read_on, first_number, first_numbers}
 
 -- with these numbers before them
 abbrev pub onto_numbers : List ℕ → Option (List ℕ × List Word) → Option (List ℕ × List Word)

@@ -1,5 +1,5 @@
 -- Words that stand for characters.
-use Rattle.std.proofs.Common.{◌≡◌, ◌==◌, ℕ, Bool, true, false, ◌&&◌, List, [], ◌∷◌, ◌++◌, cond, codes, Option, Some, None, Result, Ok, Err, arith, refl, sym, ◌∙◌, ap, append-nil, lit<}
+use Rattle.std.proofs.Common.{◌≡◌, ◌==◌, ℕ, true, false, List, [], ◌∷◌, codes, Some, None, Result, Ok, Err, arith, refl, sym, ◌∙◌, ap, append-nil, lit<}
 use Rattle.std.specs.Result.{result_ok}
 use Rattle.std.specs.Char.{encode_utf8, IsScalar}
 use Rattle.std.specs.Str.{IsUtf8, bytes_eq, chars}

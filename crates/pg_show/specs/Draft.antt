@@ -1,11 +1,11 @@
 -- What was told so far.
-use Rattle.std.specs.Prelude.{ℕ, List, map, Option, option_map, string_bytes}
+use Rattle.std.specs.Prelude.{List, map, Option, option_map, string_bytes}
 use Rattle.pg_layout.specs.Text.{Text}
+use Rattle.pg_config.specs.CompactConfig.{settings_of}
 use Rattle.pg_show.specs.Script.{Drafted}
 use Rattle.pg_show.specs.Told.{Told}
 use Rattle.pg_show.specs.declared.cell_texts.CellTexts.{CellTexts}
 use Rattle.pg_show.specs.declared.draft.Draft.{Draft}
-use Rattle.pg_show.specs.declared.statement.Size.{Size}
 
 -- the texts, row by row
 abbrev pub texts_of : {A : Type 0} → CellTexts A → List (List Text)
@@ -19,6 +19,7 @@ told_of_draft draft = record {
   texts = texts_of draft.texts;
   colors = draft.colors;
   config = draft.config;
+  compact = settings_of draft.compact;
 }
 
 -- the size of the table and what was told of it, once its size was

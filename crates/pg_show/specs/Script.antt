@@ -2,6 +2,7 @@
 use Rattle.std.specs.Prelude.{ℕ, ◌+◌, List, [], ◌∷◌, map, Option, Some, None, option_map, Result, Ok, Err, string_bytes, if◌then◌else◌, codes}
 use Rattle.std.specs.Str.{bytes_eq, is_utf8}
 use Rattle.std.specs.Str.Lines.{lines}
+use Rattle.pg_config.specs.CompactConfig.{settings_of}
 use Rattle.pg_show.specs.Told.{Told, told_nothing}
 use Rattle.pg_show.specs.Statement.{size_said, line_said}
 use Rattle.pg_show.specs.Words.{Word, words_of, behind_word}
@@ -58,4 +59,5 @@ told_of_script script = record {
   texts = map (λ row. map string_bytes row) script.records;
   colors = script.colors;
   config = script.config;
+  compact = settings_of script.compact;
 }

@@ -6,6 +6,8 @@ ghost use Rattle.pg_show.specs.Mode.{mode_named, mode_of};
 /// Which printer prints a script's table.
 #[derive(Debug, Clone, Copy, PartialEq, Eq)]
 pub enum Mode {
+    /// The printer of compact tables.
+    Compact,
     /// The printer that looks texts up.
     Peek,
 }
@@ -16,6 +18,7 @@ impl Mode {
         ensures { result ≡ mode_named name.now }
     {
         match name {
+            "compact" => Some(Mode::Compact),
             "peek" => Some(Mode::Peek),
             _ => None,
         }

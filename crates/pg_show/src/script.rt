@@ -3,7 +3,7 @@
 ghost use Rattle.std.specs.Prelude.{◌≡◌};
 ghost use Rattle.pg_show.specs.declared.script.ScriptFault.TheVariants.{Memory};
 
-use pg_config::SpannedConfig;
+use pg_config::{CompactConfig, SpannedConfig};
 use pg_layout::{ColorsMap, ConstantDimension, VecRecords};
 use std::alloc::{AllocError, Allocator, Global};
 
@@ -35,4 +35,6 @@ pub struct Script<A: Allocator = Global> {
     pub colors: ColorsMap<A>,
     /// The settings of the table.
     pub config: SpannedConfig<A>,
+    /// The settings of the table as a compact one.
+    pub compact: CompactConfig,
 }

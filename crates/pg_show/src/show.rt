@@ -2,18 +2,18 @@
 
 ghost use Rattle.std.specs.Prelude.{◌≡◌, ◌↔◌, Some, None, Err};
 ghost use Rattle.pg_picture.specs.Appending.{Appends};
-ghost use Rattle.pg_picture.specs.Fits.{misfit_of};
 ghost use Rattle.pg_picture.specs.Sizes.{unless_misfit};
-ghost use Rattle.pg_picture.specs.Table.{Known};
-ghost use Rattle.pg_picture.specs.Picture.{picture};
-ghost use Rattle.pg_show.specs.Show.{table_of_script};
+ghost use Rattle.pg_show.specs.Script.{told_of_script};
+ghost use Rattle.pg_show.specs.Show.{misfit_in, text_in};
+ghost use Rattle.pg_show.specs.declared.mode.Mode.TheVariants as mode;
 ghost use Rattle.pg_show.specs.declared.show.ShowFault.TheVariants.{Memory};
 ghost use Rattle.pg_show.specs.declared.show.ShowFault.TheVariants as variants;
 
 use crate::mode::Mode;
 use crate::script::Script;
-use pg_grid::PeekableGrid;
-use pg_picture::fits::{Misfit, table_fits};
+use pg_grid::{CompactGrid, PeekableGrid};
+use pg_layout::{ExactRecords, Records};
+use pg_picture::fits::{Misfit, compact_fits, table_fits};
 use std::alloc::{AllocError, Allocator};
 
 /// Why a table isn't printed.
@@ -50,31 +50,81 @@ pub fn print_script<A: Allocator, B: Allocator>(
     mode: Mode,
     buf: &mut String<B>,
 ) -> Result<(), ShowFault>
-    ensures misfit { (m : _) → (result ≡ Err (ShowFault.Misfit m)) ↔ (misfit_of (table_of_script script.now) ≡ Some m) }
+    ensures misfit { (m : _) → (result ≡ Err (ShowFault.Misfit m)) ↔ (misfit_in mode (told_of_script script.now) ≡ Some m) }
     ensures kept { (m : _) → result ≡ Err (ShowFault.Misfit m) → buf.new ≡ buf.old }
-    ensures printed { misfit_of (table_of_script script.now) ≡ None → Appends buf.old buf.new result (picture Known (table_of_script script.now)) }
+    ensures printed { misfit_in mode (told_of_script script.now) ≡ None → Appends buf.old buf.new result (text_in mode (told_of_script script.now)) }
 {
-    script_fits(script)?;
-    match mode {
-        Mode::Peek => print_peekable(script, buf)?,
-    }
+    script_fits(script, mode)?;
+    push_table(script, mode, buf)?;
     Ok(())
 }
 
 // Whether the table of a script fits. Colours don't matter.
-fn script_fits<A: Allocator>(script: &Script<A>) -> Result<(), Misfit>
-    ensures { result ≡ unless_misfit (misfit_of (table_of_script script.now)) }
+fn script_fits<A: Allocator>(script: &Script<A>, mode: Mode) -> Result<(), Misfit>
+    ensures { result ≡ unless_misfit (misfit_in mode (told_of_script script.now)) }
+{
+    match mode {
+        Mode::Compact => compact_script_fits(script),
+        Mode::Peek => peekable_script_fits(script),
+    }
+}
+
+// Whether it fits as a compact table.
+fn compact_script_fits<A: Allocator>(script: &Script<A>) -> Result<(), Misfit>
+    ensures { result ≡ unless_misfit (misfit_in mode.Compact (told_of_script script.now)) }
+{
+    let records = &script.records;
+    if records.count_rows() == 0 {
+        return Ok(());
+    }
+    compact_fits(&script.compact, &script.dimension, records.count_columns())
+}
+
+// Whether it fits as a table whose texts are looked up.
+fn peekable_script_fits<A: Allocator>(script: &Script<A>) -> Result<(), Misfit>
+    ensures { result ≡ unless_misfit (misfit_in mode.Peek (told_of_script script.now)) }
 {
     table_fits(&&script.records, &script.config, &script.dimension)
 }
 
-// Appends the table of a script, as the looked-up grid prints it.
-fn print_peekable<A: Allocator, B: Allocator>(
+// Appends the table of a script, as the grid of the mode prints it.
+fn push_table<A: Allocator, B: Allocator>(
+    script: &Script<A>,
+    mode: Mode,
+    buf: &mut String<B>,
+) -> Result<(), AllocError>
+    requires { misfit_in mode (told_of_script script.now) ≡ None }
+    ensures { Appends buf.old buf.new result (text_in mode (told_of_script script.now)) }
+{
+    match mode {
+        Mode::Compact => push_compact(script, buf),
+        Mode::Peek => push_peekable(script, buf),
+    }
+}
+
+// Appends the table of a script, as the compact grid prints it.
+fn push_compact<A: Allocator, B: Allocator>(
     script: &Script<A>,
     buf: &mut String<B>,
 ) -> Result<(), AllocError>
-    requires { misfit_of (table_of_script script.now) ≡ None }
-    ensures { Appends buf.old buf.new result (picture Known (table_of_script script.now)) }
+    requires { misfit_in mode.Compact (told_of_script script.now) ≡ None }
+    ensures { Appends buf.old buf.new result (text_in mode.Compact (told_of_script script.now)) }
+{
+    // A table with no rows prints nothing.
+    if (&script.records).count_rows() == 0 {
+        return Ok(());
+    }
+    let (dimension, colors) = (&script.dimension, &script.colors);
+    CompactGrid::new(&script.records, &script.compact, dimension, colors).build(buf)
+}
+
+// Appends the table of a script, as the looked-up grid prints it.
+fn push_peekable<A: Allocator, B: Allocator>(
+    script: &Script<A>,
+    buf: &mut String<B>,
+) -> Result<(), AllocError>
+    requires { misfit_in mode.Peek (told_of_script script.now) ≡ None }
+    ensures { Appends buf.old buf.new result (text_in mode.Peek (told_of_script script.now)) }
 {
     let (dimension, colors) = (&script.dimension, &script.colors);
     PeekableGrid::new(&script.records, &script.config, dimension, colors).build(buf)

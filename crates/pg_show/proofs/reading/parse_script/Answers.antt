@@ -1,5 +1,4 @@
-use Rattle.std.proofs.Common.{◌≡◌, ◌∙◌, arith, length, ap, sym, Err, None, Some}
-use Rattle.std.specs.Str.Lines.{lines}
+use Rattle.std.proofs.Common.{◌≡◌, ◌∙◌, arith, length, ap, sym, Err, None}
 use Rattle.pg_show.specs.Script.{read_lines}
 use Rattle.pg_show.specs.declared.script.ScriptFault.TheVariants.{Bad}
 use Rattle.pg_show.proofs.ScriptLines.{length-lines}

@@ -1,4 +1,4 @@
-use Rattle.std.proofs.Common.{◌≡◌, ◌∙◌, ◌++◌, ◌∷◌, [], ◌-◌, ◌+◌, ℕ, List, Option, option_map, sym, ap, arith}
+use Rattle.std.proofs.Common.{◌≡◌, ◌∙◌, ◌-◌, ◌+◌, ℕ, List, Option, option_map, sym, ap, arith}
 use Rattle.pg_show.specs.Words.{Word, words_of, first_numbers, read_on, end_of}
 use Rattle.pg_show.proofs.NumbersOfWords.{onto_numbers, first_numbers-bad, first_numbers-step, first_numbers-all}
 use Rattle.pg_show.proofs.statement.numbers.Goals as goal

@@ -1,5 +1,5 @@
-use Rattle.std.proofs.Common.{◌≡◌, ◌++◌, ◌-◌, length}
-use Rattle.pg_show.specs.Words.{words_of, first_numbers, read_on}
+use Rattle.std.proofs.Common.{◌≡◌, ◌-◌, length}
+use Rattle.pg_show.specs.Words.{words_of, first_numbers}
 use Rattle.pg_show.proofs.NumbersOfWords.{onto_numbers}
 use Rattle.pg_show.proofs.statement.numbers.Given as goal
 

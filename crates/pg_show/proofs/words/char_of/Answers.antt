@@ -1,4 +1,4 @@
-use Rattle.std.proofs.Common.{◌≡◌, ◌∙◌, sym, ap}
+use Rattle.std.proofs.Common.{◌∙◌, sym, ap}
 use Rattle.pg_show.specs.Words.{char_of}
 use Rattle.pg_show.proofs.WordsOfCharacters.{char_of-backslash, char_of-read}
 use Rattle.pg_show.proofs.words.char_of.Goals as goal

@@ -1,4 +1,4 @@
-use Rattle.std.proofs.Common.{◌≡◌, ◌∙◌, sym}
+use Rattle.std.proofs.Common.{◌∙◌, sym}
 use Rattle.pg_show.proofs.WrittenTexts.{escaped_of-none}
 use Rattle.pg_show.proofs.words.escaped.Goals as goal
 

@@ -1,4 +1,4 @@
-use Rattle.std.proofs.Common.{◌≡◌, ◌<◌, ◌≤◌, ◌^◌, length, rules}
+use Rattle.std.proofs.Common.{◌<◌, ◌≤◌, ◌^◌, length, rules}
 use Rattle.std.specs.Option.{SomeIff}
 use Rattle.std.specs.Str.Parse.{IsNumeral, digits_value}
 use Rattle.pg_show.proofs.WordsOfNumbers.{number_of-read}

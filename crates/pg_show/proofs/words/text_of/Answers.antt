@@ -1,4 +1,4 @@
-use Rattle.std.proofs.Common.{◌≡◌, ◌<◌, ◌∙◌, ◌++◌, [], ◌∷◌, Some, string_bytes, option_map, rules, sym, ap, lit<}
+use Rattle.std.proofs.Common.{◌≡◌, ◌∙◌, ◌++◌, [], ◌∷◌, Some, string_bytes, option_map, rules, ap, lit<}
 use Rattle.std.specs.Char.{encode_utf8}
 use Rattle.pg_show.specs.Words.{text_of}
 use Rattle.pg_show.proofs.WrittenTexts.{option_map-nothing, text_of-bad, text_of-step, text_of-plain}

@@ -1,4 +1,4 @@
-use Rattle.std.proofs.Common.{◌≡◌, ◌∙◌, None, map, string_bytes, ap}
+use Rattle.std.proofs.Common.{◌≡◌, ◌∙◌, map, string_bytes, ap}
 use Rattle.std.specs.Option.{option_map}
 use Rattle.pg_layout.specs.declared.vec_records.RecordsFault.TheVariants.{Ragged}
 use Rattle.pg_show.proofs.RowsOfTexts.{map-steps}

@@ -1,4 +1,4 @@
-use Rattle.std.proofs.Common.{◌≡◌, ◌<◌, length, string_bytes, refl, arith, slice_index_or}
+use Rattle.std.proofs.Common.{◌<◌, length, string_bytes, refl, arith}
 use Rattle.pg_show.proofs.RowsOfTexts.{map-set_in_row}
 use Rattle.pg_show.proofs.cell_texts.CellTexts.set.Goals as goal
 

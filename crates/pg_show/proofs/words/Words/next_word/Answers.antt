@@ -1,4 +1,4 @@
-use Rattle.std.proofs.Common.{◌≡◌, ◌∙◌, ◌<◌, length, sym, arith, lit<}
+use Rattle.std.proofs.Common.{◌∙◌, ◌<◌, length, sym, arith, lit<}
 use Rattle.std.proofs.lemmas.Bool.Decides.{nat_tests}
 use Rattle.pg_show.proofs.LineWords.{words_of-word, words_of-last}
 use Rattle.pg_show.proofs.words.Words.next_word.Goals as goal

@@ -1,6 +1,4 @@
 use Rattle.std.proofs.Common.{◌≡◌, length}
-use denote.Text.{Utf8}
-use denote.Shadow.{shadow}
 use Rattle.pg_show.specs.Words.{words_of, behind_word}
 use Rattle.pg_show.proofs.words.Words.next_word.Given as goal
 
