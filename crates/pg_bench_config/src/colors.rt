@@ -6,7 +6,8 @@ use pg_layout::{
     ANSIBuf, ANSIFmt, ANSIStr, Border, Borders, Colors, ColorsMap, Entity, NoColors, Offset,
     Position, Sides, same_color,
 };
-use std::alloc::Global;
+use pg_testing::refusing::Refusing;
+use std::alloc::{AllocError, Allocator, Global};
 use std::process::Abort;
 use std::test::Fail;
 
@@ -132,5 +133,50 @@ fn colors_are_equal_by_both_texts(rt: HostRuntime) -> Result<(), Fail> {
     assert!(rt; !same_color(Some(&owned), Some(&ANSIStr::default())));
     assert!(rt; !same_color::<ANSIBuf, ANSIStr<'_>>(None, Some(&red)));
     assert!(rt; same_color::<ANSIBuf, ANSIStr<'_>>(None, None));
+    Ok(())
+}
+
+// Colours three cells, one of them twice.
+fn color_cells<A: Allocator + Copy>(colors: &mut ColorsMap<A>, alloc: A) -> Result<(), AllocError> {
+    for (row, prefix) in [(0, "<a>"), (1, "<b>"), (0, "<c>"), (2, "<d>")] {
+        colors.set(Position::new(row, 0), ANSIBuf::new(alloc, prefix, "</>")?)?;
+    }
+    Ok(())
+}
+
+// The prefixes of the three cells.
+fn cell_prefixes<A: Allocator>(colors: &ColorsMap<A>) -> [Option<&str>; 3] {
+    let [first, second, third] = [0, 1, 2].map(|row| colors
+        .get_color(Position::new(row, 0))
+        .map(|c| c.prefix()));
+    [first, second, third]
+}
+
+// Whether these are the colours that stand after so many of the calls.
+fn stand_after_some_calls(found: [Option<&str>; 3]) -> bool {
+    found == [None, None, None]
+        || found == [Some("<a>"), None, None]
+        || found == [Some("<a>"), Some("<b>"), None]
+        || found == [Some("<c>"), Some("<b>"), None]
+}
+
+#[test]
+fn a_refused_color_of_a_cell_changes_nothing(rt: HostRuntime) -> Result<(), Fail> {
+    for k in 0..100 {
+        let memory = Refusing::only(rt.alloc(), k);
+        let mut colors = ColorsMap::new(&memory);
+        let told = color_cells(&mut colors, &memory);
+        if told.is_ok() {
+            assert!(rt; !memory.has_refused());
+            assert_eq!(rt;
+                cell_prefixes(&colors),
+                [Some("<c>"), Some("<b>"), Some("<d>")]
+            );
+            return Ok(());
+        }
+        assert!(rt; memory.has_refused());
+        assert!(rt; stand_after_some_calls(cell_prefixes(&colors)));
+    }
+    assert!(rt; false, "there are more than a hundred requests");
     Ok(())
 }
