@@ -1,6 +1,8 @@
-//! Worked tables: what the printers and the program answer, against texts that were drawn by hand.
+//! Worked tables: what the printers answer, against texts that were drawn by hand.
 #![tactic(auto)]
 
+#[cfg(test)]
+mod colors;
 #[cfg(test)]
 mod conditions;
 #[cfg(test)]
@@ -8,6 +10,12 @@ mod drawing;
 #[cfg(test)]
 mod looked_up;
 #[cfg(test)]
+mod margins;
+#[cfg(test)]
 mod refusals;
 #[cfg(test)]
-mod scripts;
+mod settings;
+#[cfg(test)]
+mod spans;
+#[cfg(test)]
+mod texts;
