@@ -1,2 +1,4 @@
 pub mod Grids
 pub mod CompactGrids
+pub mod IterGrids
+pub mod Laws
