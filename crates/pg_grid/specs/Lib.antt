@@ -1,2 +1,3 @@
 pub mod Grids
 pub mod CompactGrids
+pub mod Kept
