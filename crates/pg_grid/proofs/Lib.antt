@@ -1,4 +1,5 @@
 -- Lemmas of this crate.
+pub mod KeptLines
 pub mod RowParts
 pub mod CanDraw
 pub mod RectangleParts

@@ -2,3 +2,4 @@ pub mod Grids
 pub mod CompactGrids
 pub mod IterGrids
 pub mod Laws
+pub mod Kept
