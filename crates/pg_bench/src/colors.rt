@@ -38,10 +38,7 @@ fn one_glyph_makes_a_line(rt: HostRuntime) -> Result<(), Fail> {
     let mut border = Border::empty();
     border.top = Some('*');
     let sample = Sample {
-        settings: &[
-            Setting::Borders(borders),
-            Setting::Border(Position::new(1, 1), border),
-        ],
+        settings: &[Setting::Borders(borders), Setting::Border(1, 1, border)],
         ..FOUR
     };
     assert_drawn(&rt, rt.alloc(), &sample, "0-0 0-1\n    ***\n1-0 1-1")

@@ -11,3 +11,4 @@ pub mod CompactPictures
 pub mod IterRows
 pub mod IterTables
 pub mod Headline
+pub mod FittingGrids

@@ -1,6 +1,6 @@
 use Rattle.std.proofs.Common.{◌∙◌, sym, map, slice_index_or, string_bytes}
 use Rattle.pg_layout.specs.Records.{columns_of}
-use Rattle.pg_speed.proofs.Colors.{misfit-grid, none-of-ok}
+use Rattle.pg_grid.proofs.FittingGrids.{misfit-grid, none-of-ok}
 use Rattle.pg_speed.proofs.measure.looked_up.Goals as goal
 
 pub rebuilt-requires : goal.rebuilt-requires
