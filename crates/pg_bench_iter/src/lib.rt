@@ -1,0 +1,13 @@
+//! Worked tables of the streaming grid, and of printers of rows: against texts that were drawn by hand.
+#![tactic(auto)]
+
+#[cfg(test)]
+mod drawing;
+#[cfg(test)]
+mod plain;
+#[cfg(test)]
+mod refusals;
+#[cfg(test)]
+mod settings;
+#[cfg(test)]
+mod spanned;
