@@ -2,8 +2,8 @@
 
 use crate::settings::{Setting, color, tell_all};
 use pg_config::SpannedConfig;
-use pg_grid::PeekableGrid;
-use pg_layout::{ColorsMap, ConstantDimension, VecRecords};
+use pg_grid::{IterGrid, PeekableGrid};
+use pg_layout::{ColorsMap, ConstantDimension, Records, VecRecords};
 use pg_picture::fits::table_fits;
 use std::alloc::{AllocError, Allocator, Global};
 use std::process::Abort;
@@ -26,11 +26,63 @@ pub(crate) const FOUR: Sample<'static> = Sample {
     settings: &[Setting::Ascii],
 };
 
+/// Which grid draws a table.
+#[derive(Debug, Clone, Copy)]
+pub(crate) enum Grid {
+    /// The looked-up grid.
+    Peekable,
+    /// The streaming grid, which is told how many rows there are.
+    Hinted,
+    /// The streaming grid, which isn't told.
+    Unhinted,
+}
+
+/// Records that don't tell how many rows there are.
+#[derive(Debug, Clone, Copy, Drop)]
+struct Unhinted<R> {
+    records: R,
+}
+
+impl<R: Records> Records for Unhinted<R> {
+    ghost use Rattle.std.specs.Prelude.{None};
+
+    type Cell = R::Cell;
+
+    type Columns = R::Columns;
+
+    type Rows = R::Rows;
+
+    ghost texts = { λ r. R.texts r.records };
+
+    ghost columns = { λ r. R.columns r.records };
+
+    ghost hint = { λ r. None };
+
+    ghost is_readable = { λ r. R.is_readable r.records };
+
+    fn iter_rows(self) -> R::Rows {
+        self.records.iter_rows()
+    }
+
+    fn count_columns(&self) -> usize {
+        self.records.count_columns()
+    }
+
+    fn hint_count_rows(&self) -> Option<usize> {
+        None
+    }
+}
+
+/// A table's parts in memory.
+#[derive(Drop)]
+struct Parts<'a> {
+    records: VecRecords<&'a str>,
+    dimension: ConstantDimension,
+    colors: ColorsMap,
+}
+
 // The texts as records.
-fn records<'a, A: Allocator + Copy>(
-    alloc: A,
-    texts: &[&[&'a str]],
-) -> Result<VecRecords<&'a str, A>, Fail> {
+fn records<'a>(alloc: Global, texts: &[&[&'a str]]) -> Result<VecRecords<&'a str>, Fail> {
     let mut rows = Vec::new(alloc);
     for row in texts {
         rows.push(row.to_vec(alloc)?)?;
@@ -39,10 +91,7 @@ fn records<'a, A: Allocator + Copy>(
 }
 
 // The sizes of the sample.
-fn dimension<A: Allocator + Copy>(
-    alloc: A,
-    sample: &Sample<'_>,
-) -> Result<ConstantDimension<A>, AllocError> {
+fn dimension(alloc: Global, sample: &Sample<'_>) -> Result<ConstantDimension, AllocError> {
     let widths = sample.widths.to_vec(alloc)?;
     let heights = sample.heights.to_vec(alloc)?;
     Ok(ConstantDimension(widths, heights))
@@ -59,66 +108,125 @@ fn cell_colors(alloc: Global, settings: &[Setting]) -> Result<ColorsMap, AllocEr
     Ok(colors)
 }
 
-// Appends the sample as the looked-up grid draws it by a configuration that is told the settings,
-// and tells whether there was memory for all of it.
-fn draw_by<B: Allocator>(
+// The sample's parts.
+fn parts<'a>(alloc: Global, sample: &Sample<'a>) -> Result<Parts<'a>, Fail> {
+    Ok(Parts {
+        records: records(alloc, sample.texts)?,
+        dimension: dimension(alloc, sample)?,
+        colors: cell_colors(alloc, sample.settings)?,
+    })
+}
+
+// Appends a table as a grid draws it, and tells whether there was memory for all of it.
+fn draw_parts<A: Allocator, B: Allocator>(
+    memory: A,
+    grid: Grid,
+    parts: &Parts<'_>,
+    config: &SpannedConfig,
+    buf: &mut String<B>,
+) -> Result<bool, Fail> {
+    let (records, dimension, colors) = (&parts.records, &parts.dimension, &parts.colors);
+    table_fits(&records, config, dimension)?;
+    let drawn = match grid {
+        Grid::Peekable => PeekableGrid::new(records, config, dimension, colors).build(buf),
+        Grid::Hinted => IterGrid::new(records, config, dimension, colors).build(memory, buf),
+        Grid::Unhinted => {
+            IterGrid::new(Unhinted { records }, config, dimension, colors).build(memory, buf)
+        }
+    };
+    Ok(drawn.is_ok())
+}
+
+// The text of a table, as a grid gives it.
+fn text_of_parts(
     alloc: Global,
-    sample: &Sample<'_>,
+    grid: Grid,
+    parts: &Parts<'_>,
+    config: &SpannedConfig,
+) -> Result<String, Fail> {
+    let (records, dimension, colors) = (&parts.records, &parts.dimension, &parts.colors);
+    table_fits(&records, config, dimension)?;
+    let text = match grid {
+        Grid::Peekable => PeekableGrid::new(records, config, dimension, colors).to_string(alloc),
+        Grid::Hinted => IterGrid::new(records, config, dimension, colors).to_string(alloc),
+        Grid::Unhinted => {
+            IterGrid::new(Unhinted { records }, config, dimension, colors).to_string(alloc)
+        }
+    };
+    Ok(text?)
+}
+
+// Appends the sample as a grid draws it by a configuration that is told the settings, and tells
+// whether there was memory for all of it.
+fn draw_by<A: Allocator, B: Allocator>(
+    (alloc, memory): (Global, A),
+    (grid, sample): (Grid, &Sample<'_>),
     config: &mut SpannedConfig,
     buf: &mut String<B>,
 ) -> Result<bool, Fail> {
     tell_all(config, alloc, sample.settings)?;
-    let colors = cell_colors(alloc, sample.settings)?;
-    let records = records(alloc, sample.texts)?;
-    let dimension = dimension(alloc, sample)?;
-    table_fits(&&records, &*config, &dimension)?;
-    let grid = PeekableGrid::new(&records, &*config, &dimension, &colors);
-    Ok(grid.build(buf).is_ok())
+    let parts = parts(alloc, sample)?;
+    draw_parts(memory, grid, &parts, config, buf)
 }
 
-/// Appends the sample as the looked-up grid draws it, and tells whether there was memory for all
-/// of it.
-pub(crate) fn draw<B: Allocator>(
+/// Appends the sample as a grid draws it, and tells whether there was memory for all of it. The
+/// grid's own memory is `memory`.
+pub(crate) fn draw<A: Allocator, B: Allocator>(
     alloc: Global,
-    sample: &Sample<'_>,
+    memory: A,
+    (grid, sample): (Grid, &Sample<'_>),
     buf: &mut String<B>,
 ) -> Result<bool, Fail> {
     let mut config = SpannedConfig::new(alloc);
-    let is_whole = draw_by(alloc, sample, &mut config, buf);
+    let is_whole = draw_by((alloc, memory), (grid, sample), &mut config, buf);
     drop(config);
     is_whole
 }
 
-// The text of the sample, as the looked-up grid gives it by a configuration that is told the
-// settings.
-fn text_by(alloc: Global, sample: &Sample<'_>, config: &mut SpannedConfig) -> Result<String, Fail> {
+// The text of the sample, as a grid gives it by a configuration that is told the settings.
+fn text_by(
+    alloc: Global,
+    grid: Grid,
+    sample: &Sample<'_>,
+    config: &mut SpannedConfig,
+) -> Result<String, Fail> {
     tell_all(config, alloc, sample.settings)?;
-    let colors = cell_colors(alloc, sample.settings)?;
-    let records = records(alloc, sample.texts)?;
-    let dimension = dimension(alloc, sample)?;
-    table_fits(&&records, &*config, &dimension)?;
-    let grid = PeekableGrid::new(&records, &*config, &dimension, &colors);
-    Ok(grid.to_string(alloc)?)
+    let parts = parts(alloc, sample)?;
+    text_of_parts(alloc, grid, &parts, config)
 }
 
-// The text of the sample, as the looked-up grid gives it.
-fn text_of(alloc: Global, sample: &Sample<'_>) -> Result<String, Fail> {
+// The text of the sample, as a grid gives it.
+fn text_of(alloc: Global, grid: Grid, sample: &Sample<'_>) -> Result<String, Fail> {
     let mut config = SpannedConfig::new(alloc);
-    let text = text_by(alloc, sample, &mut config);
+    let text = text_by(alloc, grid, sample, &mut config);
     drop(config);
     text
 }
 
-/// The looked-up grid gives this text, and appends it.
+/// The grid gives this text, and appends it.
+pub(crate) fn assert_drawn_by(
+    rt: &impl Abort,
+    alloc: Global,
+    (grid, sample): (Grid, &Sample<'_>),
+    text: &str,
+) -> Result<(), Fail> {
+    let mut buf = String::from_str(alloc, "log:")?;
+    assert!(rt; draw(alloc, alloc, (grid, sample), &mut buf)?);
+    assert_eq!(rt; buf.as_str().strip_prefix("log:"), Some(text));
+    assert_eq!(rt; text_of(alloc, grid, sample)?.as_str(), text);
+    Ok(())
+}
+
+/// Each grid gives this text, and appends it: the looked-up one, and the streaming one with the
+/// number of rows and without it.
 pub(crate) fn assert_drawn(
     rt: &impl Abort,
     alloc: Global,
     sample: &Sample<'_>,
     text: &str,
 ) -> Result<(), Fail> {
-    let mut buf = String::new(alloc);
-    assert!(rt; draw(alloc, sample, &mut buf)?);
-    assert_eq!(rt; buf.as_str(), text);
-    assert_eq!(rt; text_of(alloc, sample)?.as_str(), text);
+    for grid in [Grid::Peekable, Grid::Hinted, Grid::Unhinted] {
+        assert_drawn_by(rt, alloc, (grid, sample), text)?;
+    }
     Ok(())
 }

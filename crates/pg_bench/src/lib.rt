@@ -2,13 +2,13 @@
 #![tactic(auto)]
 
 #[cfg(test)]
+mod cells;
+#[cfg(test)]
 mod colors;
 #[cfg(test)]
 mod conditions;
 #[cfg(test)]
 mod drawing;
-#[cfg(test)]
-mod looked_up;
 #[cfg(test)]
 mod margins;
 #[cfg(test)]

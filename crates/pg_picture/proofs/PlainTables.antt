@@ -35,11 +35,11 @@ unfolding rect_height
 rect_height-one_row t p one h = ap (λ (l : List Mark). length l) (rect_marks-one_row t p one h) ∙ length-map-range_with_len (line p.row) 0 (t.height p.row)
 
 module _ (t : Table) (none : t.config.spans ≡ []) where
-  owner_plain : (r c : ℕ) → owner t.config.spans r c ≡ at r c
+  pub owner_plain : (r c : ℕ) → owner t.config.spans r c ≡ at r c
   unfolding owner
   owner_plain r c = rw none refl
 
-  rect_rows_plain : (p : Position) → rect_rows t.config.spans p ≡ 1
+  pub rect_rows_plain : (p : Position) → rect_rows t.config.spans p ≡ 1
   unfolding rect_rows size_of
   rect_rows_plain p = rw none refl
 

@@ -31,3 +31,6 @@ pub mod Starting
 pub mod Ending
 pub mod PicturesOfRows
 pub mod FittingRows
+pub mod SingleLines
+pub mod SingleRowsPrinted
+pub mod SingleCells

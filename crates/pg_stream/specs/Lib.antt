@@ -8,3 +8,4 @@ pub mod Frames
 pub mod Drawing
 pub mod Printers
 pub mod Laws
+pub mod SingleRows

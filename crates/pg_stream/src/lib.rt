@@ -8,6 +8,7 @@ mod open_cell;
 mod open_cells;
 mod row_printer;
 mod separators;
+mod single_rows;
 mod turns;
 
 pub use crate::laws::{rows_make_the_picture, tables_that_fit_may_be_printed};

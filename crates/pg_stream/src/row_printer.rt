@@ -26,6 +26,18 @@ use std::marker::Model;
 ///
 /// Each call takes the printer and hands it back; after a refusal there is no printer, and the
 /// buffer holds a beginning of what the call appends.
+///
+/// Three rows of heights 1, 0 and 1 between ASCII borders, of which the first cell `x` spans all,
+/// beside the cells `a`, `b` and `c`:
+///
+/// ```text
+/// +-+-+    row 0: it appends two lines, and one of `x` is drawn
+/// |x|a|
+/// + +-+    row 1: its separator alone, and two of `x` are drawn
+/// + +-+    row 2: two lines, and no cell is open
+/// | |c|
+/// +-+-+    the end
+/// ```
 #[derive(Drop)]
 pub struct RowPrinter<
     'a,
@@ -136,7 +148,14 @@ impl<'a, S: AsStr + Drop, D: Dimension, C: Colors, B: Allocator, A: Allocator> R
     /// `cells` gives the cells of the row, one for each column; those that cells from above or left
     /// hold are let go. `is_last` tells whether it is the last row. The lines are those of the table
     /// with as many rows as are known: those so far at a last row; else those of the hint; else those
-    /// that the open cells need, and one more row at least. See `RowFits` for the conditions.
+    /// that the open cells need, and one more row at least.
+    ///
+    /// The row fits (`RowFits`): it has as many cells as there are columns; no last row stands before
+    /// it, and fewer than `usize::MAX - 1` rows; where the number of rows is known, fewer than that
+    /// stand before it, and `is_last` holds exactly at the last; at a last row the rectangles fit the
+    /// rows so far (`pg_picture::fits::spans_fit`); each rectangle that begins in the row has sizes that
+    /// are numbers (`rect_width`, `rect_height`) and room for its text (`cell_fits`); and the lines so
+    /// far, with those of this row, are a number.
     ///
     /// Takes no memory but the buffer's.
     pub fn row<I: Iterator<Item = S>, W: Allocator>(
@@ -161,8 +180,20 @@ impl<'a, S: AsStr + Drop, D: Dimension, C: Colors, B: Allocator, A: Allocator> R
         let is_first = frame.config.get_margin().top.size == 0;
         frame.push_top(buf, rows)?;
         let next = open.push_above(&frame, buf, is_first, lines, rows)?;
-        open.begin(&frame, cells, rows);
         let height = frame.dimension.get_height(rows);
+        let below = next + height;
+        if frame.draws_at_once(height) {
+            frame.push_single_row(buf, is_first, next, rows, cells)?;
+            return Ok(RowPrinter {
+                frame,
+                hint,
+                cells: open,
+                rows: rows + 1,
+                lines: below,
+                is_ended: is_last,
+            });
+        }
+        open.begin(&frame, cells, rows);
         open.push_lines(&frame, buf, is_first, next, rows, height)?;
         open.close(&frame, rows);
         Ok(RowPrinter {
@@ -170,7 +201,7 @@ impl<'a, S: AsStr + Drop, D: Dimension, C: Colors, B: Allocator, A: Allocator> R
             hint,
             cells: open,
             rows: rows + 1,
-            lines: next + height,
+            lines: below,
             is_ended: is_last,
         })
     }

@@ -1,4 +1,4 @@
-use Rattle.std.proofs.Common.{ℕ, ◌+◌, ◌<◌, ◌≤◌, ◌^◌, ◌==◌, refl, sym, ap, ap₂, ◌∙◌, subst, arith, map, length, get_or, None}
+use Rattle.std.proofs.Common.{◌≡◌, ℕ, ◌+◌, ◌<◌, ◌≤◌, ◌^◌, ◌==◌, refl, sym, ap, ap₂, ◌∙◌, subst, arith, map, length, get_or, None}
 use Rattle.std.proofs.lemmas.List.{length-map}
 use Rattle.pg_picture.proofs.Appending.{◌then◌, stopped, refused-as, appended-as, Appends-text}
 use Rattle.pg_stream.specs.Conditions.{RowFits}
@@ -11,6 +11,8 @@ use Rattle.pg_stream.specs.Turns.{IsOwnerAbove, cells_begun, cells_closed}
 use Rattle.pg_stream.proofs.DrawnLines.{length_of_row}
 use Rattle.pg_stream.proofs.RowsPrinted.{inside-now, room-above, tall-above, owner-begins, whole-now, cells_now, tall-now, begun-now, placed-now, room-now}
 use Rattle.pg_stream.proofs.RowsAppended.{row_text-is, after-is, sound-next, open_lines-same}
+use Rattle.pg_stream.proofs.SingleLines.{at-once}
+use Rattle.pg_stream.proofs.SingleRowsPrinted.{single_text-is, single-left}
 use Rattle.pg_stream.proofs.row_printer.RowPrinter.row.Goals as goal
 
 pub returns-in_err-push_top-clause-appends : goal.returns-in_err-push_top-clause-appends
@@ -62,6 +64,66 @@ returns-in_err-next-clause-appends g c = λ texts gives.
     let t = frame_table g.D.Dimension.width g.D.Dimension.height g.C.Colors.color q.frame in
     let fits = subst (λ p. RowFits (printing g.D.Dimension.width g.D.Dimension.height g.C.Colors.color p) c.requires.fits.0 c.args.is_last) (sym c.self.view_is) c.requires.fits.2 in
     Appends-text (row_text-is s q.frame.width q.frame.height q.cells refl c.self.invariant c.args.is_last fits.hint fits.spans texts (c.get_margin-is_first.result.top.size == 0) (ap (λ m. m.top.size == 0) c.get_margin-is_first.ensures) ∙ ap (λ p. row_text (printing g.D.Dimension.width g.D.Dimension.height g.C.Colors.color p) texts c.args.is_last) c.self.view_is) (c.in_ok-push_top.ensures then stopped _ c.from_residual-in_err-next.ensures.0 c.in_err-next.ensures.appends)
+
+pub push_single_row-requires-clause-alone : goal.push_single_row-requires-clause-alone
+push_single_row-requires-clause-alone g c =
+    let q = c.self.inside in
+    (at-once c.get_height-height.result q.frame.config.now.spans c.draws_at_once.result c.draws_at_once.ensures c.if-draws_at_once.true).1
+
+pub push_single_row-requires-clause-given : goal.push_single_row-requires-clause-given
+push_single_row-requires-clause-given g c =
+    let fits = subst (λ p. RowFits (printing g.D.Dimension.width g.D.Dimension.height g.C.Colors.color p) c.requires.fits.0 c.args.is_last) (sym c.self.view_is) c.requires.fits.2 in
+    (c.requires.fits.0, c.requires.fits.1, fits.whole, fits.rooms)
+
+pub returns-in_err-push_single_row-clause-appends : goal.returns-in_err-push_single_row-clause-appends
+returns-in_err-push_single_row-clause-appends g c = λ texts gives.
+    let q = c.self.inside in
+    let s : Printing = printing g.D.Dimension.width g.D.Dimension.height g.C.Colors.color (printer_of q.frame q.hint q.cells q.rows q.lines q.is_ended) in
+    let t = frame_table g.D.Dimension.width g.D.Dimension.height g.C.Colors.color q.frame in
+    let fits = subst (λ p. RowFits (printing g.D.Dimension.width g.D.Dimension.height g.C.Colors.color p) c.requires.fits.0 c.args.is_last) (sym c.self.view_is) c.requires.fits.2 in
+    let once = at-once c.get_height-height.result s.config.spans c.draws_at_once.result c.draws_at_once.ensures c.if-draws_at_once.true in
+    let one : s.height s.rows ≡ 1 = sym c.get_height-height.ensures ∙ once.0 in
+    Appends-text (single_text-is s q.frame.width q.frame.height q.cells refl c.self.invariant c.args.is_last fits.hint fits.spans once.1 one texts (c.get_margin-is_first.result.top.size == 0) (ap (λ m. m.top.size == 0) c.get_margin-is_first.ensures) _ c.in_ok-next.ensures.index ∙ ap (λ p. row_text (printing g.D.Dimension.width g.D.Dimension.height g.C.Colors.color p) texts c.args.is_last) c.self.view_is)
+    (c.in_ok-push_top.ensures then (c.in_ok-next.ensures.appends then refused-as c.from_residual-in_err-push_single_row.ensures.0 (c.in_err-push_single_row.ensures texts gives)))
+
+pub invariant_of-result : goal.invariant_of-result
+invariant_of-result g c =
+    let q = c.self.inside in
+    let s : Printing = printing g.D.Dimension.width g.D.Dimension.height g.C.Colors.color (printer_of q.frame q.hint q.cells q.rows q.lines q.is_ended) in
+    let t = frame_table g.D.Dimension.width g.D.Dimension.height g.C.Colors.color q.frame in
+    let fits = subst (λ p. RowFits (printing g.D.Dimension.width g.D.Dimension.height g.C.Colors.color p) c.requires.fits.0 c.args.is_last) (sym c.self.view_is) c.requires.fits.2 in
+    let once = at-once c.get_height-height.result s.config.spans c.draws_at_once.result c.draws_at_once.ensures c.if-draws_at_once.true in
+    let one : s.height s.rows ≡ 1 = sym c.get_height-height.ensures ∙ once.0 in
+    let left = c.in_ok-next.ensures.drawn ∙ single-left s q.frame.width q.frame.height q.cells refl c.self.invariant c.args.is_last fits.hint fits.spans once.1 one c.requires.fits.0 in
+    let lines = ap₂ (λ (a b : ℕ). a + b) c.in_ok-next.ensures.index c.get_height-height.ensures in
+    subst (λ n. IsSound (printing g.D.Dimension.width g.D.Dimension.height g.C.Colors.color (printer_of q.frame q.hint c.push_above.new.self (q.rows + 1) n c.args.is_last)) t q.frame.width q.frame.height c.push_above.new.self) (sym lines)
+    (subst (λ l. IsSound (printing g.D.Dimension.width g.D.Dimension.height g.C.Colors.color (printer_of q.frame q.hint l (q.rows + 1) ((q.lines + separator_height s.config s.rows) + s.height s.rows) c.args.is_last)) t q.frame.width q.frame.height l) (sym left)
+    (sound-next s q.frame.width q.frame.height q.cells refl c.self.invariant c.args.is_last fits.hint fits.spans c.requires.fits.0 fits.rooms fits.rows))
+
+pub returns-then-draws_at_once-clause-appends : goal.returns-then-draws_at_once-clause-appends
+returns-then-draws_at_once-clause-appends g c = λ texts gives.
+    let q = c.self.inside in
+    let s : Printing = printing g.D.Dimension.width g.D.Dimension.height g.C.Colors.color (printer_of q.frame q.hint q.cells q.rows q.lines q.is_ended) in
+    let t = frame_table g.D.Dimension.width g.D.Dimension.height g.C.Colors.color q.frame in
+    let fits = subst (λ p. RowFits (printing g.D.Dimension.width g.D.Dimension.height g.C.Colors.color p) c.requires.fits.0 c.args.is_last) (sym c.self.view_is) c.requires.fits.2 in
+    let once = at-once c.get_height-height.result s.config.spans c.draws_at_once.result c.draws_at_once.ensures c.if-draws_at_once.true in
+    let one : s.height s.rows ≡ 1 = sym c.get_height-height.ensures ∙ once.0 in
+    Appends-text (single_text-is s q.frame.width q.frame.height q.cells refl c.self.invariant c.args.is_last fits.hint fits.spans once.1 one texts (c.get_margin-is_first.result.top.size == 0) (ap (λ m. m.top.size == 0) c.get_margin-is_first.ensures) _ c.in_ok-next.ensures.index ∙ ap (λ p. row_text (printing g.D.Dimension.width g.D.Dimension.height g.C.Colors.color p) texts c.args.is_last) c.self.view_is)
+    (c.in_ok-push_top.ensures then (c.in_ok-next.ensures.appends then appended-as (c.in_ok-push_single_row.ensures texts gives)))
+
+pub returns-then-draws_at_once-clause-after : goal.returns-then-draws_at_once-clause-after
+returns-then-draws_at_once-clause-after g c = λ texts gives.
+    let q = c.self.inside in
+    let s : Printing = printing g.D.Dimension.width g.D.Dimension.height g.C.Colors.color (printer_of q.frame q.hint q.cells q.rows q.lines q.is_ended) in
+    let t = frame_table g.D.Dimension.width g.D.Dimension.height g.C.Colors.color q.frame in
+    let fits = subst (λ p. RowFits (printing g.D.Dimension.width g.D.Dimension.height g.C.Colors.color p) c.requires.fits.0 c.args.is_last) (sym c.self.view_is) c.requires.fits.2 in
+    let once = at-once c.get_height-height.result s.config.spans c.draws_at_once.result c.draws_at_once.ensures c.if-draws_at_once.true in
+    let one : s.height s.rows ≡ 1 = sym c.get_height-height.ensures ∙ once.0 in
+    let left = c.in_ok-next.ensures.drawn ∙ single-left s q.frame.width q.frame.height q.cells refl c.self.invariant c.args.is_last fits.hint fits.spans once.1 one texts in
+    let lines = ap₂ (λ (a b : ℕ). a + b) c.in_ok-next.ensures.index c.get_height-height.ensures in
+    ap₂ (λ l n. printing g.D.Dimension.width g.D.Dimension.height g.C.Colors.color (printer_of q.frame q.hint l (q.rows + 1) n c.args.is_last)) left lines
+    ∙ after-is s q.frame.width q.frame.height q.cells refl c.self.invariant c.args.is_last fits.hint fits.spans texts
+    ∙ ap (λ p. after_row (printing g.D.Dimension.width g.D.Dimension.height g.C.Colors.color p) texts c.args.is_last) c.self.view_is
 
 pub begin-requires-clause-above : goal.begin-requires-clause-above
 begin-requires-clause-above g c =
@@ -157,8 +219,8 @@ close-requires-clause-begun g c =
     let drawn = c.in_ok-push_lines.ensures.drawn ∙ ap₂ (λ n l. map (draw_cell n) l) c.get_height-height.ensures now in
     subst (AllOpen (λ x cell. cell.begun ≤ s.rows)) (sym drawn) (begun-now s q.frame.width q.frame.height q.cells refl c.self.invariant c.requires.fits.0)
 
-pub overflow_add-result-2 : goal.overflow_add-result-2
-overflow_add-result-2 g c =
+pub overflow_add-below : goal.overflow_add-below
+overflow_add-below g c =
     let q = c.self.inside in
     let s : Printing = printing g.D.Dimension.width g.D.Dimension.height g.C.Colors.color (printer_of q.frame q.hint q.cells q.rows q.lines q.is_ended) in
     let t = frame_table g.D.Dimension.width g.D.Dimension.height g.C.Colors.color q.frame in
@@ -166,8 +228,8 @@ overflow_add-result-2 g c =
     let both = length_of_row s.config s.height s.rows in
     omega (arith, fits.lines, both, c.in_ok-next.ensures.index, c.get_height-height.ensures)
 
-pub invariant_of-result : goal.invariant_of-result
-invariant_of-result g c =
+pub invariant_of-result-2 : goal.invariant_of-result-2
+invariant_of-result-2 g c =
     let q = c.self.inside in
     let s : Printing = printing g.D.Dimension.width g.D.Dimension.height g.C.Colors.color (printer_of q.frame q.hint q.cells q.rows q.lines q.is_ended) in
     let t = frame_table g.D.Dimension.width g.D.Dimension.height g.C.Colors.color q.frame in

@@ -1,6 +1,6 @@
-//! Tables of the looked-up grid.
+//! Tables of cells in one row and one column.
 
-use crate::drawing::{FOUR, Sample, assert_drawn, draw};
+use crate::drawing::{FOUR, Sample, assert_drawn};
 use crate::settings::Setting;
 use pg_layout::{AlignmentHorizontal, AlignmentVertical, Borders, Entity};
 use std::alloc::Global;
@@ -64,19 +64,6 @@ fn four_cells_in_ascii(rt: HostRuntime) -> Result<(), Fail> {
 |1-0|1-1|
 +---+---+";
     assert_drawn(&rt, rt.alloc(), &FOUR, text)
-}
-
-#[test]
-fn a_table_stands_behind_what_the_buffer_holds(rt: HostRuntime) -> Result<(), Fail> {
-    let mut buf = String::from_str(rt.alloc(), "log:")?;
-    assert!(rt; draw(rt.alloc(), &FOUR, &mut buf)?);
-    let text = "log:+---+---+
-|0-0|0-1|
-+---+---+
-|1-0|1-1|
-+---+---+";
-    assert_eq!(rt; buf.as_str(), text);
-    Ok(())
 }
 
 #[test]

@@ -1,0 +1,136 @@
+-- A row of one line in a table without spans: its line is that of its cells, and none of them goes on below it.
+use Rattle.std.proofs.Common.{◌≡◌, ℕ, zero, suc, ◌+◌, ◌<◌, Bool, true, false, ◌&&◌, ◌==◌, nat_lt, List, [], ◌∷◌, ◌++◌, map, length, replicate, get_or, slice_index_or, Option, Some, None, refl, sym, ap, ap₂, ◌∙◌, arith, add-zero, zero-add}
+use Rattle.std.proofs.lemmas.Bool.{false≢true, and_parts}
+use Rattle.std.proofs.lemmas.Bool.Decides.{nat_tests}
+use Rattle.std.proofs.lemmas.List.{length-map}
+use Rattle.pg_layout.specs.declared.position.Position.{Position}
+use Rattle.pg_layout.specs.Position.{at, is_at}
+use Rattle.pg_layout.specs.Text.{Text}
+use Rattle.pg_config.specs.Spans.{Span, rect_rows, owner}
+use Rattle.pg_picture.specs.Pieces.{style_at, block_line, written}
+use Rattle.pg_picture.specs.Sizes.{height_of_rect}
+use Rattle.pg_picture.specs.Table.{Table, vertical}
+use Rattle.pg_picture.proofs.HeightsOfRectangles.{rect_height-of_rect}
+use Rattle.pg_picture.proofs.PlainTables.{owner_plain, rect_rows_plain, rect_width_plain, rect_height_plain}
+use Rattle.pg_stream.specs.Drawing.{open_part, open_line, line_at, open_lines, open_line_at}
+use Rattle.pg_stream.specs.Open.{Slot, open_at_row, open_before}
+use Rattle.pg_stream.specs.Placed.{Placed, slot_of, slots_of, draw_cell}
+use Rattle.pg_stream.specs.SingleRows.{single_part, single_line}
+use Rattle.pg_stream.specs.Slots.{slot_block}
+use Rattle.pg_stream.specs.Turns.{new_cell, begin_cell, close_cell, mapped, cells_begun, cells_closed}
+use Rattle.pg_stream.proofs.OpenLists.{drawn-at}
+use Rattle.pg_stream.proofs.OwnersOfCells.{columns-same}
+use Rattle.pg_stream.proofs.PartsOfLines.{drawn-none, lines-none, lines-more, line-now}
+use Rattle.pg_stream.proofs.PartsOfLists.{partly-all, partly-below}
+use Rattle.pg_stream.proofs.Steps.{open_none}
+use Rattle.pg_stream.proofs.WholePictures.{map_range-same, no_slots}
+
+-- a row is drawn at once where it has one line and no span is kept
+pub at-once : (n : ℕ) (spans : List Span) (b : Bool) → b ≡ ((n == 1) && (length spans == 0)) → b ≡ true → (n ≡ 1) × (spans ≡ [])
+at-once n spans b is e =
+    let parts = and_parts (n == 1) (length spans == 0) (sym is ∙ e) in
+    (grind (arith, nat_tests, parts.0), no-span spans parts.1)
+  where
+    no-span : (spans : List Span) → (length spans == 0) ≡ true → spans ≡ []
+    no-span [] none = refl
+    no-span (s ∷ ss) none = let some : (length (s ∷ ss) == 0) ≡ false = grind (arith, nat_tests) in absurd (false≢true (sym some ∙ none))
+
+module _ {A : Type 0} (f : ℕ → A → A) where
+  mapped-at : (xs : List A) (i : ℕ) (d : A) → i < length xs → get_or (mapped f 0 xs) i d ≡ f i (get_or xs i d)
+  mapped-at xs i d here =
+      ap (λ (ys : List A). get_or ys i d) (sym (partly-all f 0 (length xs) xs (omega arith)))
+      ∙ partly-below f 0 (length xs) xs i d here here
+      ∙ ap (λ n. f n (get_or xs i d)) (zero-add i)
+
+  -- a list whose elements all become the same
+  mapped-same : (c : ℕ) (xs : List A) (d : A) → ((i : ℕ) → i < length xs → f (c + i) (get_or xs i d) ≡ d) → mapped f c xs ≡ replicate (length xs) d
+  mapped-same c [] d h = refl
+  mapped-same c (x ∷ xs) d h =
+      ap₂ (λ y ys. y ∷ ys) (ap (λ n. f n x) (sym (add-zero c)) ∙ h 0 (omega arith))
+      (mapped-same (c + 1) xs d (λ i l. ap (λ n. f n (get_or xs i d)) (let e : (c + 1) + i ≡ c + suc i = omega arith in e) ∙ h (suc i) (omega (arith, l))))
+
+length-mapped : {A : Type 0} (f : ℕ → A → A) (c : ℕ) (xs : List A) → length (mapped f c xs) ≡ length xs
+length-mapped f c [] = refl
+length-mapped f c (x ∷ xs) = ap suc (length-mapped f (c + 1) xs)
+
+-- slots without cells are none
+none-open : (cells : List (Option Placed)) (n : ℕ) → slots_of cells ≡ replicate n None → cells ≡ replicate n None
+none-open [] zero e = refl
+none-open [] (suc n) e = let clash : [] ≡ None ∷ replicate n None = e in cc
+none-open (cell ∷ cells) zero e = let clash : slot_of cell ∷ slots_of cells ≡ [] = e in cc
+none-open (None ∷ cells) (suc n) e = let rest : slots_of cells ≡ replicate n None = cc in ap (λ l. None ∷ l) (none-open cells n rest)
+none-open (Some cell ∷ cells) (suc n) e = let first : slot_of (Some cell) ≡ None = cc in absurd (some-none first)
+  where
+    some-none : {slot : Slot} → Some slot ≡ None → ⊥
+    some-none e = cc
+
+drawn-nothing : (d n : ℕ) → map (draw_cell d) (replicate n None) ≡ replicate n None
+drawn-nothing d zero = refl
+drawn-nothing d (suc n) = ap (λ l. None ∷ l) (drawn-nothing d n)
+
+module _ (t : Table) (none : t.config.spans ≡ []) (k : ℕ) where
+  -- no cell is open above a row
+  pub none-above : (cells : List (Option Placed)) → slots_of cells ≡ open_before t k → cells ≡ replicate t.columns None
+  unfolding open_before
+  none-above cells is =
+      none-open cells t.columns (is ∙ map_range-same (open_at_row t k) (λ c. None) 0 t.columns (λ c a b. open_none t k c (λ above left. let row = ap (λ (p : Position). p.row) (owner_plain t none k c) in omega (arith, above, row))) ∙ no_slots 0 t.columns)
+
+  module _ (one : t.height k ≡ 1) where
+    pub height-one : (x : ℕ) → height_of_rect t.config t.height (at k x) ≡ 1
+    height-one x =
+        let T : Table = record t { rows = k + 1 } in
+        let rows : rect_rows t.config.spans (at k x) ≡ 1 = rect_rows_plain t none (at k x) in
+        sym (rect_height-of_rect T (at k x) (omega (arith, rows)) (omega (arith, rows))) ∙ rect_height_plain T none (at k x) (omega arith) ∙ one
+
+    pub own-one : (x : ℕ) → is_at (owner t.config.spans k x) k x ≡ true
+    own-one x = rw (owner_plain t none k x) (grind (arith, nat_tests))
+
+    begun-at : (cells : List (Option Placed)) (texts : List Text) (x : ℕ) → x < length cells → get_or (cells_begun t k texts cells) x None ≡ Some (new_cell t (at k x) (slice_index_or texts x []))
+    unfolding cells_begun begin_cell
+    begun-at cells texts x here = mapped-at (λ c. begin_cell t k (slice_index_or texts c []) c) cells x None here ∙ (rw (own-one x) refl)
+
+    new-block : (x : ℕ) (text : Text) → slot_block t (slot_of (Some (new_cell t (at k x) text))) x ≡ block_line (style_at t.config (at k x)) (t.color (at k x)) text (t.width x) 1 0
+    new-block x text = ap₂ (λ w h. block_line (style_at t.config (at k x)) (t.color (at k x)) text w h 0) (rect_width_plain t none (at k x)) (height-one x)
+
+    module _ (cells : List (Option Placed)) (texts : List Text) (whole : t.columns ≡ length cells) where
+      abbrev begun : List (Option Placed)
+      begun = cells_begun t k texts cells
+
+      part-is : (x : ℕ) → x < length cells → single_part t k (slice_index_or texts x []) x ≡ open_part t begun k 0 x
+      unfolding single_part open_part
+      part-is x here = rw (begun-at cells texts x here) (ap (λ l. vertical t k 0 x ++ l) (sym (new-block x (slice_index_or texts x []))))
+
+      line-is : single_line t k texts ≡ open_line t begun k 0
+      unfolding single_line open_line
+      line-is = ap (λ l. l ++ vertical t k 0 t.columns) (columns-same (λ x. single_part t k (slice_index_or texts x []) x) (open_part t begun k 0) 0 t.columns (λ x a b. part-is x (omega (arith, b, whole))))
+
+      -- the lines of the row are its one line
+      pub lines-are : (height : Option ℕ) (is_first : Bool) (index : ℕ) → line_at t.config height is_first index (written (single_line t k texts)) ≡ open_lines t height is_first begun k index (t.height k)
+      lines-are height is_first index =
+          ap₂ (λ i l. line_at t.config height is_first i (written l)) (sym (add-zero index)) line-is
+          ∙ line-now t height is_first begun k index 0 begun (drawn-none begun)
+          ∙ ap (λ s. s ++ open_line_at t height is_first begun k index 0) (lines-none t height is_first begun k index)
+          ∙ sym (lines-more t height is_first begun k index 0)
+          ∙ ap (λ n. open_lines t height is_first begun k index n) (sym one)
+
+      left-none : (x : ℕ) → x < length cells → close_cell t.config.spans k x (get_or (map (draw_cell (t.height k)) begun) x None) ≡ None
+      left-none x here =
+          let rows : rect_rows t.config.spans (at k x) ≡ 1 = rect_rows_plain t none (at k x) in
+          let past : nat_lt (k + 1) (k + rect_rows t.config.spans (at k x)) ≡ false = grind (arith, nat_tests, rows) in
+          ap (λ o. close_cell t.config.spans k x o) (drawn-at (t.height k) begun x ∙ ap (λ o. draw_cell (t.height k) o) (begun-at cells texts x here)) ∙ (rw past refl)
+
+      length-drawn : length (map (draw_cell (t.height k)) begun) ≡ length cells
+      unfolding cells_begun
+      length-drawn = length-map begun (draw_cell (t.height k)) ∙ length-mapped (λ c. begin_cell t k (slice_index_or texts c []) c) 0 cells
+
+      left-are : cells_closed t.config.spans k (map (draw_cell (t.height k)) begun) ≡ replicate t.columns None
+      unfolding cells_closed
+      left-are =
+          mapped-same (close_cell t.config.spans k) 0 (map (draw_cell (t.height k)) begun) None (λ x here. ap (λ n. close_cell t.config.spans k n (get_or (map (draw_cell (t.height k)) begun) x None)) (zero-add x) ∙ left-none x (omega (arith, here, length-drawn)))
+          ∙ ap (λ n. replicate n None) (length-drawn ∙ sym whole)
+
+    -- none of the row's cells goes on below it
+    pub left-as-above : (cells : List (Option Placed)) (d : ℕ) (texts : List Text) → cells ≡ replicate t.columns None → t.columns ≡ length (map (draw_cell d) cells)
+        → map (draw_cell d) cells ≡ cells_closed t.config.spans k (map (draw_cell (t.height k)) (cells_begun t k texts (map (draw_cell d) cells)))
+    left-as-above cells d texts is whole =
+        ap (λ l. map (draw_cell d) l) is ∙ drawn-nothing d t.columns ∙ sym (left-are (map (draw_cell d) cells) texts whole)
