@@ -1,6 +1,6 @@
 //! Tables with something round them.
 
-use crate::drawing::{Sample, assert_drawn};
+use crate::drawing::{Grid, Sample, assert_drawn, assert_drawn_by};
 use crate::settings::{Paint, Setting};
 use pg_layout::{Indent, Offset, Position, Sides};
 use std::alloc::Global;
@@ -27,7 +27,7 @@ fn above_and_below(top: char, bottom: char) -> Sides<Indent> {
 fn assert_left_margin(
     rt: &impl Abort,
     alloc: Global,
-    offset: Offset,
+    (grid, offset): (Grid, Offset),
     text: &str,
 ) -> Result<(), Fail> {
     let mut margin = Sides::filled(Indent::spaced(0));
@@ -44,17 +44,27 @@ fn assert_left_margin(
             Setting::MarginOffset(offsets),
         ],
     };
-    assert_drawn(rt, alloc, &sample, text)
+    assert_drawn_by(rt, alloc, (grid, &sample), text)
 }
 
 #[test]
 fn a_margin_begins_below_the_first_line(rt: HostRuntime) -> Result<(), Fail> {
-    assert_left_margin(&rt, rt.alloc(), Offset::Start(1), " +--+\n#|ab|\n#+--+")
+    for grid in [Grid::Peekable, Grid::Hinted, Grid::Unhinted] {
+        let offset = Offset::Start(1);
+        assert_left_margin(&rt, rt.alloc(), (grid, offset), " +--+\n#|ab|\n#+--+")?;
+    }
+    Ok(())
 }
 
+// Without the number of rows nobody knows which line is the last one.
 #[test]
 fn a_margin_ends_above_the_last_line(rt: HostRuntime) -> Result<(), Fail> {
-    assert_left_margin(&rt, rt.alloc(), Offset::End(1), "#+--+\n#|ab|\n +--+")
+    let offset = Offset::End(1);
+    for grid in [Grid::Peekable, Grid::Hinted] {
+        assert_left_margin(&rt, rt.alloc(), (grid, offset), "#+--+\n#|ab|\n +--+")?;
+    }
+    let whole = "#+--+\n#|ab|\n#+--+";
+    assert_left_margin(&rt, rt.alloc(), (Grid::Unhinted, offset), whole)
 }
 
 // A cell of width 2 and height 0 between these margins.

@@ -1,6 +1,6 @@
 //! Tables drawn into a buffer while memory is refused.
 
-use crate::drawing::{FOUR, Sample, draw};
+use crate::drawing::{FOUR, Grid, Sample, draw};
 use crate::settings::{Paint, Setting};
 use pg_layout::{AlignmentHorizontal, AlignmentVertical, Entity, Offset, Position};
 use pg_testing::refusing::Refusing;
@@ -15,16 +15,16 @@ const FIRST: Position = Position { row: 0, col: 0 };
 
 const INNER: Position = Position { row: 1, col: 1 };
 
-// Draws the table behind `log:`. Where memory is refused, the buffer has gained a beginning of it.
-// Answers whether memory was refused.
+// Draws the table behind `log:`. Where memory is refused, be it the buffer's or the grid's, the buffer
+// has gained a beginning of it. Answers whether memory was refused.
 fn is_refused(
     rt: &impl Abort,
     alloc: Global,
     memory: &Refusing<Global>,
-    (sample, text): (&Sample<'_>, &str),
+    (grid, sample, text): (Grid, &Sample<'_>, &str),
 ) -> Result<bool, Fail> {
     let mut buf = String::from_str(memory, "log:")?;
-    let is_whole = draw(alloc, sample, &mut buf)?;
+    let is_whole = draw(alloc, memory, (grid, sample), &mut buf)?;
     assert!(rt; text.starts_with(buf.as_str()));
     assert!(rt; buf.starts_with("log:"));
     assert_eq!(rt; is_whole, !memory.has_refused());
@@ -36,7 +36,7 @@ fn is_refused(
 fn assert_one_refused(
     rt: &impl Abort,
     alloc: Global,
-    drawn: (&Sample<'_>, &str),
+    drawn: (Grid, &Sample<'_>, &str),
 ) -> Result<(), Fail> {
     for k in 1..MANY {
         if !is_refused(rt, alloc, &Refusing::only(alloc, k), drawn)? {
@@ -51,7 +51,7 @@ fn assert_one_refused(
 fn assert_later_refused(
     rt: &impl Abort,
     alloc: Global,
-    drawn: (&Sample<'_>, &str),
+    drawn: (Grid, &Sample<'_>, &str),
 ) -> Result<(), Fail> {
     for k in 1..MANY {
         if !is_refused(rt, alloc, &Refusing::from_on(alloc, k), drawn)? {
@@ -69,8 +69,11 @@ fn assert_beginnings(
     sample: &Sample<'_>,
     text: &str,
 ) -> Result<(), Fail> {
-    assert_one_refused(rt, alloc, (sample, text))?;
-    assert_later_refused(rt, alloc, (sample, text))
+    for grid in [Grid::Peekable, Grid::Hinted, Grid::Unhinted] {
+        assert_one_refused(rt, alloc, (grid, sample, text))?;
+        assert_later_refused(rt, alloc, (grid, sample, text))?;
+    }
+    Ok(())
 }
 
 #[test]
@@ -168,4 +171,76 @@ fn a_refusal_leaves_a_beginning_of_colored_points(rt: HostRuntime) -> Result<(),
     };
     let text = "log:<g>.</g>a<g>...</g>\n<g>.</g>bbb<g>.</g>";
     assert_beginnings(&rt, rt.alloc(), &sample, text)
+}
+
+/// How many rows a long table has.
+const ROWS: usize = 1000;
+
+// A table of three texts in each row, whose second line is this, is drawn where all requests for
+// memory behind so many are refused: that for the buffer and those of the grid.
+fn assert_long(
+    rt: &impl Abort,
+    alloc: Global,
+    (grid, requests): (Grid, u64),
+    (settings, second): (&[Setting], &str),
+) -> Result<(), Fail> {
+    let row: &[&str] = &["abc", "abc", "abc"];
+    let mut texts = Vec::new(alloc);
+    let mut heights = Vec::new(alloc);
+    let mut text = String::from_str(alloc, "abcabcabc")?;
+    for number in 0..ROWS {
+        texts.push(row)?;
+        heights.push(1)?;
+        if number > 0 {
+            text.push_str("\n")?;
+            text.push_str(if number == 1 { second } else { "abcabcabc" })?;
+        }
+    }
+    let sample = Sample {
+        texts: texts.as_slice(),
+        widths: &[3, 3, 3],
+        heights: heights.as_slice(),
+        settings,
+    };
+    let memory = Refusing::from_on(alloc, requests);
+    let mut buf = String::with_capacity(&memory, 9999)?;
+    assert!(rt; draw(alloc, &memory, (grid, &sample), &mut buf)?);
+    assert_eq!(rt; memory.requests(), requests);
+    assert_eq!(rt; buf.as_str(), text.as_str());
+    Ok(())
+}
+
+#[test]
+fn a_long_table_asks_for_no_memory_but_the_open_cells(rt: HostRuntime) -> Result<(), Fail> {
+    let spans = [Setting::RowSpan(FIRST, 2)];
+    for drawn in [(Grid::Peekable, 1), (Grid::Hinted, 2), (Grid::Unhinted, 2)] {
+        assert_long(&rt, rt.alloc(), drawn, (&[], "abcabcabc"))?;
+        assert_long(&rt, rt.alloc(), drawn, (&spans, "   abcabc"))?;
+    }
+    Ok(())
+}
+
+#[test]
+fn tables_with_no_rows_or_no_columns_need_no_memory(rt: HostRuntime) -> Result<(), Fail> {
+    let none = Sample {
+        texts: &[],
+        widths: &[],
+        heights: &[],
+        settings: &[Setting::Ascii],
+    };
+    let empty = Sample {
+        texts: &[&[], &[]],
+        heights: &[1, 1],
+        ..none
+    };
+    for sample in [none, empty] {
+        for grid in [Grid::Peekable, Grid::Hinted, Grid::Unhinted] {
+            let memory = Refusing::from_on(rt.alloc(), 0);
+            let mut buf = String::new(&memory);
+            assert!(rt; draw(rt.alloc(), &memory, (grid, &sample), &mut buf)?);
+            assert_eq!(rt; memory.requests(), 0);
+            assert!(rt; buf.is_empty());
+        }
+    }
+    Ok(())
 }

@@ -9,20 +9,19 @@ use Rattle.pg_picture.specs.Table.{Table, full_width, total_width, rect_width, r
 use Rattle.pg_picture.specs.Sizes.{table_of, unless_misfit}
 use Rattle.pg_picture.specs.declared.fits.Misfit.{Misfit}
 use Rattle.pg_picture.specs.Fits.{misfit_of, totals_fit, owner_fits, body_height}
-use Rattle.pg_grid.specs.Grids.{peekable_table, peekable_parts}
-use Rattle.pg_grid.specs.declared.peekable.PeekableGrid.{PeekableGrid}
+use Rattle.pg_grid.specs.Grids.{table_of_parts}
 
 pub misfit-any_colors : (t : Table) (colors : Position → Option Color) → misfit_of (record t { color = colors }) ≡ misfit_of t
 unfolding misfit_of totals_fit owner_fits body_height full_width total_width rect_width rect_height rect_marks table_body
 misfit-any_colors t colors = refl
 
--- the grid of these parts fits where the table of them does, whatever its colours are
-pub misfit-grid : {R D C : Type 0} (texts : R → List (List Text)) (columns : R → ℕ) (width height : D → ℕ → ℕ) (color : C → Position → Option Color)
-    (grid : PeekableGrid R (Bor Config) D C) (records : R) (config : Bor Config) (dimension : D) (colors : C)
-    → peekable_parts grid ≡ (records, config, dimension, colors)
+-- a grid of these parts fits where the table of them does, whatever its colours are
+pub misfit-parts : {R D C : Type 0} (texts : R → List (List Text)) (columns : R → ℕ) (width height : D → ℕ → ℕ) (color : C → Position → Option Color)
+    {parts : R × Bor Config × D × C} {records : R} {config : Bor Config} {dimension : D} {colors : C}
+    → parts ≡ (records, config, dimension, colors)
     → misfit_of (table_of config.now (width dimension) (height dimension) (texts records) (columns records)) ≡ None
-    → misfit_of (peekable_table texts columns width height color grid) ≡ None
-misfit-grid {R = R} {D = D} {C = C} texts columns width height color grid records config dimension colors is fits =
+    → misfit_of (table_of_parts texts columns width height color parts.0 parts.1.now parts.2 parts.3) ≡ None
+misfit-parts {R} {D} {C} texts columns width height color {parts} {records} {config} {dimension} {colors} is fits =
     ap (λ (p : R × Bor Config × D × C). misfit_of (record (table_of p.1.now (width p.2) (height p.2) (texts p.0) (columns p.0)) { color = color p.3 })) is
     ∙ misfit-any_colors (table_of config.now (width dimension) (height dimension) (texts records) (columns records)) (color colors)
     ∙ fits
