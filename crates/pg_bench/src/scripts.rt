@@ -19,8 +19,12 @@ fn peek(alloc: Global, script: &str) -> Result<Run, Fail> {
     words.push(String::from_str(alloc, "peek")?)?;
     let mut out = Vec::new(alloc);
     let mut err = Vec::new(alloc);
-    let status = run(alloc, &words, script.as_bytes(), &mut out, &mut err);
-    Ok(Run { status, out, err })
+    let ending = run(alloc, &words, &mut script.as_bytes(), &mut out, &mut err);
+    Ok(Run {
+        status: ending.status(),
+        out,
+        err,
+    })
 }
 
 // The script's table is this text and a line feed.
