@@ -2,6 +2,8 @@
 #![tactic(auto)]
 
 #[cfg(test)]
+mod compact_scripts;
+#[cfg(test)]
 mod conditions;
 #[cfg(test)]
 mod drawing;
@@ -10,4 +12,8 @@ mod looked_up;
 #[cfg(test)]
 mod refusals;
 #[cfg(test)]
+mod running;
+#[cfg(test)]
 mod scripts;
+#[cfg(test)]
+mod streams;
