@@ -1,6 +1,6 @@
 //! Conditions of tables and records, and indents, at single values.
 
-use crate::drawing::{Setting, tell_all};
+use crate::settings::{Setting, tell_all};
 use pg_config::SpannedConfig;
 use pg_layout::{AlignmentVertical, Entity, Position, RecordsFault, VecRecords};
 use pg_picture::fits::cell_fits;
@@ -31,6 +31,7 @@ fn a_cell_has_room_for_its_text_and_paddings(rt: HostRuntime) -> Result<(), Fail
     let mut config = SpannedConfig::new(rt.alloc());
     let is_told = tell_all(
         &mut config,
+        rt.alloc(),
         &[Setting::Padding(Entity::Global, [1, 0, 0, 0])],
     );
     assert_room(&rt, &config);

@@ -1,30 +1,13 @@
 //! How the tests draw a table.
 
+use crate::settings::{Setting, color, tell_all};
 use pg_config::SpannedConfig;
 use pg_grid::PeekableGrid;
-use pg_layout::{
-    AlignmentHorizontal, AlignmentVertical, Borders, ConstantDimension, Entity, Indent, NoColors,
-    Sides, VecRecords,
-};
+use pg_layout::{ColorsMap, ConstantDimension, VecRecords};
 use pg_picture::fits::table_fits;
 use std::alloc::{AllocError, Allocator, Global};
 use std::process::Abort;
 use std::test::Fail;
-
-/// What a table is told.
-#[derive(Debug, Clone, Copy)]
-pub(crate) enum Setting {
-    /// ASCII glyphs at all fifteen places.
-    Ascii,
-    /// Glyphs of one's own.
-    Borders(Borders<char>),
-    /// Spaces at the left, the right, the top and the bottom of texts.
-    Padding(Entity, [usize; 4]),
-    /// Where texts stand between left and right.
-    Horizontal(Entity, AlignmentHorizontal),
-    /// Where texts stand between top and bottom.
-    Vertical(Entity, AlignmentVertical),
-}
 
 /// The texts of a table, the widths of its columns, the heights of its rows, and what it is told.
 #[derive(Debug, Clone, Copy)]
@@ -42,62 +25,6 @@ pub(crate) const FOUR: Sample<'static> = Sample {
     heights: &[1, 1],
     settings: &[Setting::Ascii],
 };
-
-// ASCII glyphs at all fifteen places.
-fn ascii_borders() -> Borders<char> {
-    Borders {
-        top: Some('-'),
-        top_left: Some('+'),
-        top_right: Some('+'),
-        top_intersection: Some('+'),
-        bottom: Some('-'),
-        bottom_left: Some('+'),
-        bottom_right: Some('+'),
-        bottom_intersection: Some('+'),
-        horizontal: Some('-'),
-        left_intersection: Some('+'),
-        right_intersection: Some('+'),
-        intersection: Some('+'),
-        left: Some('|'),
-        right: Some('|'),
-        vertical: Some('|'),
-    }
-}
-
-// Spaces at the four sides of a text.
-fn spaces([left, right, top, bottom]: [usize; 4]) -> Sides<Indent> {
-    Sides::new(
-        Indent::spaced(left),
-        Indent::spaced(right),
-        Indent::spaced(top),
-        Indent::spaced(bottom),
-    )
-}
-
-// Tells a table one thing.
-fn tell<A: Allocator>(config: &mut SpannedConfig<A>, setting: Setting) -> Result<(), AllocError> {
-    match setting {
-        Setting::Ascii => config.set_borders(ascii_borders()),
-        Setting::Borders(borders) => config.set_borders(borders),
-        Setting::Padding(entity, sizes) => config.set_padding(entity, spaces(sizes))?,
-        Setting::Horizontal(entity, alignment) => {
-            config.set_alignment_horizontal(entity, alignment)?;
-        }
-        Setting::Vertical(entity, alignment) => config.set_alignment_vertical(entity, alignment)?,
-    }
-    Ok(())
-}
-
-/// Tells a table these things, one after the other.
-pub(crate) fn tell_all<A: Allocator>(
-    config: &mut SpannedConfig<A>,
-    settings: &[Setting],
-) -> Result<(), AllocError> {
-    for setting in settings {
-        tell(config, *setting)?;
-    }
-    Ok(())
-}
 
 // The texts as records.
 fn records<'a, A: Allocator + Copy>(
@@ -121,6 +48,17 @@ fn dimension<A: Allocator + Copy>(
     Ok(ConstantDimension(widths, heights))
 }
 
+// The colours of the cells' texts.
+fn cell_colors(alloc: Global, settings: &[Setting]) -> Result<ColorsMap, AllocError> {
+    let mut colors = ColorsMap::new(alloc);
+    for setting in settings {
+        if let Setting::CellColor(pos, paint) = *setting {
+            colors.set(pos, color(alloc, paint)?)?;
+        }
+    }
+    Ok(colors)
+}
+
 // Appends the sample as the looked-up grid draws it by a configuration that is told the settings,
 // and tells whether there was memory for all of it.
 fn draw_by<B: Allocator>(
@@ -129,11 +67,12 @@ fn draw_by<B: Allocator>(
     config: &mut SpannedConfig,
     buf: &mut String<B>,
 ) -> Result<bool, Fail> {
-    tell_all(config, sample.settings)?;
+    tell_all(config, alloc, sample.settings)?;
+    let colors = cell_colors(alloc, sample.settings)?;
     let records = records(alloc, sample.texts)?;
     let dimension = dimension(alloc, sample)?;
     table_fits(&&records, &*config, &dimension)?;
-    let grid = PeekableGrid::new(&records, &*config, &dimension, NoColors);
+    let grid = PeekableGrid::new(&records, &*config, &dimension, &colors);
     Ok(grid.build(buf).is_ok())
 }
 
@@ -153,11 +92,12 @@ pub(crate) fn draw<B: Allocator>(
 // The text of the sample, as the looked-up grid gives it by a configuration that is told the
 // settings.
 fn text_by(alloc: Global, sample: &Sample<'_>, config: &mut SpannedConfig) -> Result<String, Fail> {
-    tell_all(config, sample.settings)?;
+    tell_all(config, alloc, sample.settings)?;
+    let colors = cell_colors(alloc, sample.settings)?;
     let records = records(alloc, sample.texts)?;
     let dimension = dimension(alloc, sample)?;
     table_fits(&&records, &*config, &dimension)?;
-    let grid = PeekableGrid::new(&records, &*config, &dimension, NoColors);
+    let grid = PeekableGrid::new(&records, &*config, &dimension, &colors);
     Ok(grid.to_string(alloc)?)
 }
 

@@ -1,8 +1,8 @@
-//! Worked tables: what the printers and the program answer, against texts that were drawn by hand.
+//! Worked tables: what the printers answer, against texts that were drawn by hand.
 #![tactic(auto)]
 
 #[cfg(test)]
-mod compact_scripts;
+mod colors;
 #[cfg(test)]
 mod conditions;
 #[cfg(test)]
@@ -10,10 +10,12 @@ mod drawing;
 #[cfg(test)]
 mod looked_up;
 #[cfg(test)]
+mod margins;
+#[cfg(test)]
 mod refusals;
 #[cfg(test)]
-mod running;
+mod settings;
 #[cfg(test)]
-mod scripts;
+mod spans;
 #[cfg(test)]
-mod streams;
+mod texts;

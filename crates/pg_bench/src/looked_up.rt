@@ -1,6 +1,7 @@
 //! Tables of the looked-up grid.
 
-use crate::drawing::{FOUR, Sample, Setting, assert_drawn, draw};
+use crate::drawing::{FOUR, Sample, assert_drawn, draw};
+use crate::settings::Setting;
 use pg_layout::{AlignmentHorizontal, AlignmentVertical, Borders, Entity};
 use std::alloc::Global;
 use std::process::Abort;

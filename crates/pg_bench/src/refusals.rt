@@ -1,6 +1,8 @@
 //! Tables drawn into a buffer while memory is refused.
 
-use crate::drawing::{Sample, Setting, draw};
+use crate::drawing::{FOUR, Sample, draw};
+use crate::settings::{Paint, Setting};
+use pg_layout::{AlignmentHorizontal, AlignmentVertical, Entity, Offset, Position};
 use pg_testing::refusing::Refusing;
 use std::alloc::Global;
 use std::process::Abort;
@@ -9,6 +11,79 @@ use std::test::Fail;
 /// More requests for memory than the buffer makes.
 const MANY: u64 = 100;
 
+const FIRST: Position = Position { row: 0, col: 0 };
+
+const INNER: Position = Position { row: 1, col: 1 };
+
+// Draws the table behind `log:`. Where memory is refused, the buffer has gained a beginning of it.
+// Answers whether memory was refused.
+fn is_refused(
+    rt: &impl Abort,
+    alloc: Global,
+    memory: &Refusing<Global>,
+    (sample, text): (&Sample<'_>, &str),
+) -> Result<bool, Fail> {
+    let mut buf = String::from_str(memory, "log:")?;
+    let is_whole = draw(alloc, sample, &mut buf)?;
+    assert!(rt; text.starts_with(buf.as_str()));
+    assert!(rt; buf.starts_with("log:"));
+    assert_eq!(rt; is_whole, !memory.has_refused());
+    assert_eq!(rt; is_whole, buf.as_str() == text);
+    Ok(memory.has_refused())
+}
+
+// One request is refused, at each turn the next. The request of number 0 is that for `log:` itself.
+fn assert_one_refused(
+    rt: &impl Abort,
+    alloc: Global,
+    drawn: (&Sample<'_>, &str),
+) -> Result<(), Fail> {
+    for k in 1..MANY {
+        if !is_refused(rt, alloc, &Refusing::only(alloc, k), drawn)? {
+            assert!(rt; k > 1);
+            return Ok(());
+        }
+    }
+    Err(Fail::new("more requests than were tried"))
+}
+
+// All requests from one on are refused, at each turn from the next.
+fn assert_later_refused(
+    rt: &impl Abort,
+    alloc: Global,
+    drawn: (&Sample<'_>, &str),
+) -> Result<(), Fail> {
+    for k in 1..MANY {
+        if !is_refused(rt, alloc, &Refusing::from_on(alloc, k), drawn)? {
+            assert!(rt; k > 1);
+            return Ok(());
+        }
+    }
+    Err(Fail::new("more requests than were tried"))
+}
+
+// The sample behind `log:` is this text, or where memory is refused a beginning of it.
+fn assert_beginnings(
+    rt: &impl Abort,
+    alloc: Global,
+    sample: &Sample<'_>,
+    text: &str,
+) -> Result<(), Fail> {
+    assert_one_refused(rt, alloc, (sample, text))?;
+    assert_later_refused(rt, alloc, (sample, text))
+}
+
+#[test]
+fn a_refusal_leaves_a_beginning_of_four_cells(rt: HostRuntime) -> Result<(), Fail> {
+    let text = "log:+---+---+
+|0-0|0-1|
++---+---+
+|1-0|1-1|
++---+---+";
+    assert_beginnings(&rt, rt.alloc(), &FOUR, text)
+}
+
+/// The texts `0-0` to `3-3`, of which one has four lines.
 const SIXTEEN: Sample<'static> = Sample {
     texts: &[
         &["0-0", "0-1", "0-2", "0-3"],
@@ -21,7 +96,9 @@ const SIXTEEN: Sample<'static> = Sample {
     settings: &[Setting::Ascii],
 };
 
-const LOGGED: &str = "log:+---+---+---+---+
+#[test]
+fn a_refusal_leaves_a_beginning_of_sixteen_cells(rt: HostRuntime) -> Result<(), Fail> {
+    let text = "log:+---+---+---+---+
 |0-0|0-1|0-2|0-3|
 +---+---+---+---+
 |1-0|123|1-2|1-3|
@@ -31,38 +108,64 @@ const LOGGED: &str = "log:+---+---+---+---+
 +---+---+---+---+
 |3-0|3-1|3-2|3-3|
 +---+---+---+---+";
-
-// Draws the table behind `log:`. Where memory is refused, the buffer has gained a beginning of it.
-// Answers whether memory was refused.
-fn is_refused(rt: &impl Abort, alloc: Global, memory: &Refusing<Global>) -> Result<bool, Fail> {
-    let mut buf = String::from_str(memory, "log:")?;
-    let is_whole = draw(alloc, &SIXTEEN, &mut buf)?;
-    assert!(rt; buf.starts_with("log:"));
-    assert!(rt; LOGGED.starts_with(buf.as_str()));
-    assert_eq!(rt; is_whole, !memory.has_refused());
-    assert_eq!(rt; is_whole, buf.as_str() == LOGGED);
-    Ok(memory.has_refused())
-}
-
-// The request of number 0 is that for `log:` itself.
-#[test]
-fn one_refusal_leaves_a_beginning(rt: HostRuntime) -> Result<(), Fail> {
-    for k in 1..MANY {
-        if !is_refused(&rt, rt.alloc(), &Refusing::only(rt.alloc(), k))? {
-            assert!(rt; k > 1);
-            return Ok(());
-        }
-    }
-    Err(Fail::new("more requests than were tried"))
+    assert_beginnings(&rt, rt.alloc(), &SIXTEEN, text)
 }
 
 #[test]
-fn refusals_leave_a_beginning(rt: HostRuntime) -> Result<(), Fail> {
-    for k in 1..MANY {
-        if !is_refused(&rt, rt.alloc(), &Refusing::from_on(rt.alloc(), k))? {
-            assert!(rt; k > 1);
-            return Ok(());
-        }
-    }
-    Err(Fail::new("more requests than were tried"))
+fn a_refusal_leaves_a_beginning_of_a_rectangle(rt: HostRuntime) -> Result<(), Fail> {
+    let sample = Sample {
+        settings: &[
+            Setting::Ascii,
+            Setting::RowSpan(INNER, 2),
+            Setting::ColumnSpan(INNER, 2),
+            Setting::Horizontal(Entity::Cell(1, 1), AlignmentHorizontal::Center),
+            Setting::Vertical(Entity::Cell(1, 1), AlignmentVertical::Center),
+        ],
+        ..SIXTEEN
+    };
+    let text = "log:+---+---+---+---+
+|0-0|0-1|0-2|0-3|
++---+---+---+---+
+|1-0|  123  |1-3|
+|   |  345  |   |
++---+  555  +---+
+|2-0|  333  |2-3|
++---+---+---+---+
+|3-0|3-1|3-2|3-3|
++---+---+---+---+";
+    assert_beginnings(&rt, rt.alloc(), &sample, text)
+}
+
+#[test]
+fn a_refusal_leaves_a_beginning_of_a_colored_line(rt: HostRuntime) -> Result<(), Fail> {
+    let sample = Sample {
+        texts: &[&["abc"]],
+        widths: &[3],
+        heights: &[1],
+        settings: &[
+            Setting::Ascii,
+            Setting::TopLineColor(Paint("<r>", "</r>")),
+            Setting::HorizontalGlyph(FIRST, Offset::Start(1), '*'),
+            Setting::HorizontalColor(FIRST, Offset::Start(1), Paint("<b>", "</b>")),
+        ],
+    };
+    let text = "log:<r>+-</r><b>*</b><r>-+</r>
+|abc|
++---+";
+    assert_beginnings(&rt, rt.alloc(), &sample, text)
+}
+
+#[test]
+fn a_refusal_leaves_a_beginning_of_colored_points(rt: HostRuntime) -> Result<(), Fail> {
+    let sample = Sample {
+        texts: &[&["a\nbbb"]],
+        widths: &[5],
+        heights: &[2],
+        settings: &[
+            Setting::Horizontal(Entity::Global, AlignmentHorizontal::Center),
+            Setting::Justification(Entity::Global, '.', Paint("<g>", "</g>")),
+        ],
+    };
+    let text = "log:<g>.</g>a<g>...</g>\n<g>.</g>bbb<g>.</g>";
+    assert_beginnings(&rt, rt.alloc(), &sample, text)
 }

@@ -1,4 +1,5 @@
 -- Lemmas of this crate.
+pub mod KeptLines
 pub mod RowParts
 pub mod CanDraw
 pub mod RectangleParts
@@ -7,3 +8,6 @@ pub mod CompactRows
 pub mod CompactSeparators
 pub mod CompactBodies
 pub mod CompactPictures
+pub mod IterRows
+pub mod IterTables
+pub mod Headline

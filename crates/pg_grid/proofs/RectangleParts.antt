@@ -12,7 +12,9 @@ use Rattle.pg_picture.proofs.SumsOfSizes.{sum_by-from_more}
 use Rattle.pg_picture.proofs.FittingTables.{RectInside, rect_width-sized, rect_height_fits, width_answer, height_answer}
 use Rattle.pg_picture.proofs.OwnersOfPlaces.{InOrder}
 use Rattle.pg_picture.proofs.DrawnRectangles.{rect_of, rows_height-fits, line_place, line_inside, sep_place, sep_inside, corner_owns, corner_from, corner_to, corner_inside}
+use Rattle.pg_grid.specs.declared.peekable.kept.KeptRectangle.{KeptRectangle}
 use Rattle.pg_grid.specs.Grids.{CanDraw}
+use Rattle.pg_grid.specs.Kept.{IsRectangle}
 use Rattle.pg_grid.proofs.CanDraw.{in_order}
 
 module _ (t : Table) (can : CanDraw t) where
@@ -54,6 +56,10 @@ module _ (t : Table) (can : CanDraw t) where
 
   pub lines-fit : (first above : ℕ) → first ≤ above → above ≤ t.rows → rows_height t first (above - first) < 2 ^ 64
   lines-fit first above h k = rows_height-fits t can.fits.totals first (above - first) (omega (arith, h, k))
+
+-- the lines of a kept rectangle above its row
+pub above-row : (t : Table) (kept : KeptRectangle) (row : ℕ) → IsRectangle t kept → kept.row ≡ row → kept.above ≡ rows_height t kept.corner.row (row - kept.corner.row)
+above-row t kept row is here = is.above ∙ ap (λ (r : ℕ). rows_height t kept.corner.row (r - kept.corner.row)) here
 
 -- a line of a block, by its number
 block-line : (t : Table) (p : Position) (mark : Mark) (number : ℕ) → number ≡ place_of mark (rect_marks t p)

@@ -16,17 +16,21 @@ use Rattle.pg_layout.specs.declared.colors.Colors as colors
 use Rattle.pg_grid.specs.declared.peekable.Shape.{Shape}
 use Rattle.pg_grid.specs.declared.peekable.PeekableGrid.{PeekableGrid}
 
--- The table of a looked-up grid: of what its records, its dimension and its colours stand for.
-abbrev pub peekable_table : {R D C : Type 0} → (R → List (List Text)) → (R → ℕ) → (D → ℕ → ℕ) → (D → ℕ → ℕ) → (C → Position → Option Color) → PeekableGrid R (Bor Config) D C → Table
-peekable_table texts columns width height color grid = record {
-  config = grid.config.now;
-  rows = length (texts grid.records);
-  columns = columns grid.records;
-  width = width grid.dimension;
-  height = height grid.dimension;
-  text = text_at (texts grid.records);
-  color = color grid.colors;
+-- The table of a grid's parts: of what its records, its dimension and its colours stand for.
+abbrev pub table_of_parts : {R D C : Type 0} → (R → List (List Text)) → (R → ℕ) → (D → ℕ → ℕ) → (D → ℕ → ℕ) → (C → Position → Option Color) → R → Config → D → C → Table
+table_of_parts texts columns width height color records config dimension colors = record {
+  config = config;
+  rows = length (texts records);
+  columns = columns records;
+  width = width dimension;
+  height = height dimension;
+  text = text_at (texts records);
+  color = color colors;
 }
+
+-- the table of a looked-up grid
+abbrev pub peekable_table : {R D C : Type 0} → (R → List (List Text)) → (R → ℕ) → (D → ℕ → ℕ) → (D → ℕ → ℕ) → (C → Position → Option Color) → PeekableGrid R (Bor Config) D C → Table
+peekable_table texts columns width height color grid = table_of_parts texts columns width height color grid.records grid.config.now grid.dimension grid.colors
 
 -- the same from what the types of its parts tell of them
 abbrev pub drawn : {R Cell Columns Rows D C Color : Type 0} → records.Ghosts R Cell Columns Rows → dimension.Ghosts D → colors.Ghosts C Color → PeekableGrid R (Bor Config) D C → Table

@@ -1,2 +1,5 @@
 pub mod Grids
 pub mod CompactGrids
+pub mod IterGrids
+pub mod Laws
+pub mod Kept

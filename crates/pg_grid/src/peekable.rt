@@ -1,5 +1,6 @@
 //! The looked-up grid: it reads its records at any place.
 
+use crate::peekable::kept::KeptCells;
 use pg_config::SpannedConfig;
 use pg_layout::{Colors, Dimension, ExactRecords, PeekableRecords};
 use pg_picture::fits::{body_height, full_width};
@@ -7,6 +8,7 @@ use pg_picture::{push_bottom_margin, push_top_margin};
 use std::alloc::{AllocError, Allocator};
 
 mod body;
+mod kept;
 mod rows;
 mod separators;
 mod spanned;
@@ -119,8 +121,9 @@ where
             is_spanned,
         };
         let is_first = self.config.get_margin().top.size == 0;
+        let mut kept = KeptCells::new();
         push_top_margin(buf, self.config, width)?;
-        self.push_body(buf, shape, is_first)?;
+        self.push_body(buf, &mut kept, shape, is_first)?;
         push_bottom_margin(buf, self.config, width, is_first && height == 0)
     }
 }

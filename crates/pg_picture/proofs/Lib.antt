@@ -53,5 +53,5 @@ mod ReachOfRectangles
 mod PartsOfColumns
 mod StraightColumns
 mod DrawnCells
-mod PlainPictures
+pub mod PlainPictures
 mod FirstMisfits

@@ -16,7 +16,8 @@ unfolding continued
 continued-any zero b xs is = rw is refl
 continued-any (suc n) b xs is = let some : (suc n == 0) ≡ false = grind (arith, nat_tests) in rw (is, some) refl
 
-none-of-two : (a b : ℕ) → ((a == 0) && (b == 0)) ≡ ((a + b) == 0)
+-- no line stands in two parts where none stands in either
+pub none-of-two : (a b : ℕ) → ((a == 0) && (b == 0)) ≡ ((a + b) == 0)
 none-of-two zero b = ap (λ n. n == 0) (sym (zero-add b))
 none-of-two (suc a) b = let e : (suc a == 0) ≡ false = grind (arith, nat_tests) in let f : ((suc a + b) == 0) ≡ false = grind (arith, nat_tests) in rw (e, f) refl
 

@@ -1,5 +1,5 @@
 -- The cells that begin in a row.
-use Rattle.std.proofs.Common.{◌≡◌, ℕ, zero, suc, ◌+◌, ◌<◌, ◌≤◌, Bool, true, false, not, ◌&&◌, ◌==◌, nat_lt, List, [], ◌∷◌, set, get_or, slice_index_or, drop, length, Option, Some, None, is_some, refl, sym, ap, ap₂, ◌∙◌, arith, subst, zero-add, add-one, inl, inr, eqb-true}
+use Rattle.std.proofs.Common.{◌≡◌, ℕ, zero, suc, ◌+◌, ◌<◌, ◌≤◌, true, false, not, ◌&&◌, ◌==◌, nat_lt, List, [], ◌∷◌, set, get_or, slice_index_or, drop, length, Option, Some, None, is_some, refl, sym, ap, ap₂, ◌∙◌, arith, subst, zero-add, add-one, inl, inr, eqb-true}
 use Rattle.std.proofs.lemmas.Bool.{cases_Bool, ltb-true, and_parts}
 use Rattle.std.proofs.lemmas.Bool.Decides.{nat_tests}
 use Rattle.pg_layout.specs.declared.position.Position.{Position}

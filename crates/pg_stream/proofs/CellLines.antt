@@ -1,5 +1,5 @@
 -- The next line of an open cell.
-use Rattle.std.proofs.Common.{◌≡◌, ℕ, ◌+◌, ◌<◌, ◌≤◌, sym, ap, ap₂, ◌∙◌, arith, Option, Some, subst}
+use Rattle.std.proofs.Common.{◌≡◌, ℕ, ◌+◌, ◌<◌, ◌≤◌, sym, ap, ap₂, ◌∙◌, Option, Some, subst}
 use Rattle.pg_layout.specs.declared.position.Position.{Position}
 use Rattle.pg_layout.specs.Colors.{Color}
 use Rattle.pg_layout.specs.Position.{at}

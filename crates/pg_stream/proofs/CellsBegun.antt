@@ -1,15 +1,13 @@
 -- A cell that begins at a place: its width, its height and the place of its text.
-use Rattle.std.proofs.Common.{◌≡◌, ℕ, ◌+◌, ◌^◌, ◌<◌, true, false, ◌==◌, nat_lt, refl, sym, ap, ◌∙◌, arith, Option, Some, None, subst, if◌then◌else◌}
+use Rattle.std.proofs.Common.{◌≡◌, ℕ, ◌+◌, ◌^◌, ◌<◌, true, false, ◌==◌, nat_lt, refl, ◌∙◌, arith, Option, Some, None, if◌then◌else◌}
 use Rattle.std.proofs.lemmas.Bool.Decides.{nat_tests}
 use Rattle.pg_layout.specs.declared.position.Position.{Position}
 use Rattle.pg_layout.specs.Text.{Text}
 use Rattle.pg_config.specs.Spans.{rect_rows}
-use Rattle.pg_picture.specs.Cells.{facts_of, place_of}
 use Rattle.pg_picture.specs.Fits.{cell_fits}
-use Rattle.pg_picture.specs.Pieces.{Style, style_at}
+use Rattle.pg_picture.specs.Pieces.{style_at}
 use Rattle.pg_picture.specs.Sizes.{if_fits, sized, height_of_rect}
 use Rattle.pg_picture.specs.Table.{Table, rect_width}
-use Rattle.pg_picture.specs.declared.place.CellPlace.{CellPlace}
 use Rattle.pg_picture.proofs.Room.{cell_fits-room}
 use Rattle.pg_picture.proofs.SumsOfSizes.{if_fits-below}
 use Rattle.pg_stream.specs.Placed.{IsPlaced}

@@ -23,3 +23,11 @@ pub mod Beginning
 pub mod SeparatorsOfRows
 pub mod OwnersOfCells
 pub mod LinesOfCells
+pub mod SlotsOfCells
+pub mod RowTexts
+pub mod RowsPrinted
+pub mod RowsAppended
+pub mod Starting
+pub mod Ending
+pub mod PicturesOfRows
+pub mod FittingRows

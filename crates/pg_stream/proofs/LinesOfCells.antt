@@ -1,5 +1,5 @@
 -- A line of a row and a separator that are drawn off the open cells are those that are read off their slots.
-use Rattle.std.proofs.Common.{◌≡◌, ℕ, ◌+◌, ◌-◌, ◌<◌, ◌≤◌, Bool, true, false, not, ◌&&◌, ◌==◌, nat_lt, List, [], ◌∷◌, ◌++◌, map, flat_map, get_or, slice_index_or, length, Option, Some, None, refl, sym, ap, ap₂, ◌∙◌, arith, subst, inl, inr, append-nil, zero-add, eqb-true, if◌then◌else◌}
+use Rattle.std.proofs.Common.{◌≡◌, ℕ, ◌+◌, ◌<◌, Bool, true, false, not, ◌&&◌, nat_lt, List, [], ◌++◌, map, flat_map, get_or, Option, Some, None, refl, sym, ap, ap₂, ◌∙◌, arith, inl, inr, append-nil, zero-add, eqb-true}
 use Rattle.std.specs.List.{range_with_len}
 use Rattle.std.proofs.lemmas.Bool.{cases_Bool, ltb-true, false≢true}
 use Rattle.std.proofs.lemmas.Bool.Decides.{nat_tests}
@@ -10,8 +10,8 @@ use Rattle.pg_config.specs.Config.{get_horizontal}
 use Rattle.pg_config.specs.Laws.{SameForRows}
 use Rattle.pg_config.specs.Spans.{owner, is_left, begins_above}
 use Rattle.pg_config.proofs.LinesLaw.{rows_stay}
-use Rattle.pg_picture.specs.Pieces.{Piece, Item}
-use Rattle.pg_picture.specs.Table.{Table, rect_width, is_inside, vertical, is_covered, crossing_at, crossing, border_items, border_glyph, horizontal_items, column_items, separator_part, separator_items}
+use Rattle.pg_picture.specs.Pieces.{Item}
+use Rattle.pg_picture.specs.Table.{Table, rect_width, is_inside, vertical, is_covered, crossing_at, crossing, border_items, border_glyph}
 use Rattle.pg_picture.proofs.Owners.{HasOwners}
 use Rattle.pg_picture.proofs.Ranges.{range-more}
 use Rattle.pg_stream.specs.Drawing.{open_part, open_line, reach, cell_items, open_separator_part, open_separator}

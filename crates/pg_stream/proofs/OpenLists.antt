@@ -1,14 +1,11 @@
 -- Lists of open cells: how many there are, and what is drawn of all of them.
-use Rattle.std.proofs.Common.{◌≡◌, ℕ, zero, suc, ◌+◌, ◌-◌, ◌<◌, Bool, true, false, List, [], ◌∷◌, ◌++◌, map, flat_map, length, take, drop, set, count_by, cond, replicate, get_or, slice_index_or, Option, Some, None, IfSome, is_some, refl, sym, ap, ap₂, ◌∙◌, arith, add-zero, add-one, add_assoc, subst, ◌^◌}
+use Rattle.std.proofs.Common.{◌≡◌, ℕ, zero, suc, ◌+◌, ◌<◌, List, [], ◌∷◌, ◌++◌, map, length, take, drop, set, count_by, cond, get_or, slice_index_or, Option, Some, None, IfSome, is_some, refl, sym, ap, ap₂, ◌∙◌, arith, add-one, subst, ◌^◌}
 use Rattle.std.specs.List.{fold}
 use Rattle.pg_stream.specs.Open.{Slot}
 use Rattle.std.proofs.lemmas.List.{take_more, take_more_set, drop-set-lt, map-append}
 use Rattle.std.proofs.Math.Seq.{drop-cons}
-use Rattle.pg_picture.specs.Pieces.{Piece, written, piece_text}
-use Rattle.pg_picture.specs.Table.{Table, vertical}
-use Rattle.pg_stream.specs.Drawing.{cell_part, open_part}
 use Rattle.pg_stream.specs.Placed.{Placed, slot_of, slots_of, draw_cell, AllOpen}
-use Rattle.pg_stream.specs.Slots.{slot_block, draw_more}
+use Rattle.pg_stream.specs.Slots.{draw_more}
 
 -- as many slots are open as cells
 counted : (n : ℕ) (cells : List (Option Placed)) → fold (λ (a : ℕ) (x : Option Slot). a + cond (is_some x) 1 0) n (slots_of cells) ≡ fold (λ (a : ℕ) (x : Option Placed). a + cond (is_some x) 1 0) n cells
@@ -59,7 +56,7 @@ room-at items now i o all l m rest is =
     get_or-same (x ∷ xs) (suc i) a b h = get_or-same xs i a b (omega arith)
 
 -- what holds of each open cell, whatever is drawn of it, holds of all when more is drawn
-drawn-at : (d : ℕ) (cells : List (Option Placed)) (x : ℕ) → slice_index_or (map (draw_cell d) cells) x None ≡ draw_cell d (slice_index_or cells x None)
+pub drawn-at : (d : ℕ) (cells : List (Option Placed)) (x : ℕ) → slice_index_or (map (draw_cell d) cells) x None ≡ draw_cell d (slice_index_or cells x None)
 drawn-at d [] x = refl
 drawn-at d (cell ∷ cells) zero = refl
 drawn-at d (cell ∷ cells) (suc x) = drawn-at d cells x
@@ -71,3 +68,20 @@ drawn-one P Q d x (Some cell) step h = step cell h
 pub drawn-all : (P Q : ℕ → Placed → Type 0) (d : ℕ) (cells : List (Option Placed)) → ((x : ℕ) (cell : Placed) → P x cell → Q x (record cell { drawn = cell.drawn + d })) → AllOpen P cells → AllOpen Q (map (draw_cell d) cells)
 drawn-all P Q d cells step all x =
     subst (λ (o : Option Placed). IfSome o (Q x)) (sym (drawn-at d cells x)) (drawn-one P Q d x (slice_index_or cells x None) (step x) (all x))
+
+within : (cells : List (Option Placed)) (x : ℕ) (c : Placed) → slice_index_or cells x None ≡ Some c → x < length cells
+within [] x c e = cc
+within (cell ∷ cells) zero c e = omega arith
+within (cell ∷ cells) (suc x) c e = let ih = within cells x c e in omega (arith, ih)
+
+-- what holds of each that is there holds of all
+pub all-open : (P : ℕ → Placed → Type 0) (cells : List (Option Placed)) → ((x : ℕ) (c : Placed) → x < length cells → slice_index_or cells x None ≡ Some c → P x c) → AllOpen P cells
+all-open P cells each x = by_cell (slice_index_or cells x None) refl
+  where
+    by_cell : (o : Option Placed) → slice_index_or cells x None ≡ o → IfSome (slice_index_or cells x None) (P x)
+    by_cell None e = rw e tt
+    by_cell (Some c) e = rw e (each x c (within cells x c e) e)
+
+-- and the other way round
+pub one-open : (P : ℕ → Placed → Type 0) (cells : List (Option Placed)) → AllOpen P cells → (x : ℕ) (c : Placed) → slice_index_or cells x None ≡ Some c → P x c
+one-open P cells all x c e = subst (λ (o : Option Placed). IfSome o (P x)) e (all x)

@@ -1,27 +1,23 @@
 -- The open cells are the owners of their columns; so they tell where a line or a separator goes inside a rectangle.
-use Rattle.std.proofs.Common.{◌≡◌, ℕ, zero, suc, ◌+◌, ◌-◌, ◌<◌, ◌≤◌, Bool, true, false, not, ◌&&◌, ◌==◌, nat_lt, List, [], ◌∷◌, ◌++◌, map, flat_map, get_or, slice_index_or, length, filter, Option, Some, None, IfSome, refl, sym, ap, ap₂, ◌∙◌, arith, subst, inl, inr, append-nil, zero-add, length-append, eqb-true}
+use Rattle.std.proofs.Common.{◌≡◌, ℕ, zero, suc, ◌+◌, ◌-◌, ◌<◌, ◌≤◌, Bool, true, false, ◌&&◌, ◌==◌, nat_lt, List, ◌++◌, flat_map, get_or, length, filter, Option, Some, None, refl, sym, ap, ap₂, ◌∙◌, arith, subst, inl, inr, length-append, eqb-true}
 use Rattle.std.specs.List.{range_with_len}
 use Rattle.std.proofs.lemmas.Bool.{cases_Bool, ltb-true, and_parts}
 use Rattle.std.proofs.lemmas.Bool.Decides.{nat_tests}
 use Rattle.std.proofs.lemmas.List.Elements.{filter-append}
 use Rattle.pg_layout.specs.declared.position.Position.{Position}
-use Rattle.pg_layout.specs.Position.{at, is_at}
-use Rattle.pg_layout.specs.Text.{Text}
+use Rattle.pg_layout.specs.Position.{at}
 use Rattle.pg_config.specs.Config.{Config}
-use Rattle.pg_config.specs.Spans.{Span, rect_rows, owner, same_owner, is_left, begins_above}
+use Rattle.pg_config.specs.Spans.{Span, rect_rows, owner, same_owner}
 use Rattle.pg_picture.specs.Marks.{Mark, marks_above, stands_within}
 use Rattle.pg_picture.specs.Sizes.{height_of_rect}
-use Rattle.pg_picture.specs.Table.{Table, is_inside, is_covered}
+use Rattle.pg_picture.specs.Table.{Table, is_inside}
 use Rattle.pg_picture.proofs.MarksOfRectangles.{rows_from, marks_above-add}
-use Rattle.pg_picture.proofs.Owners.{HasOwners, LiesIn}
+use Rattle.pg_picture.proofs.Owners.{HasOwners}
 use Rattle.pg_stream.specs.Open.{Slot, drawn_before, open_at_row, open_before}
-use Rattle.pg_stream.specs.Placed.{Placed, slot_of, slots_of, draw_cell, AllOpen}
-use Rattle.pg_stream.specs.Slots.{separator_height}
+use Rattle.pg_stream.specs.Placed.{Placed, slot_of, slots_of, draw_cell}
 use Rattle.pg_stream.specs.Turns.{IsOwnerAbove}
-use Rattle.pg_stream.proofs.DrawnLines.{drawn-more, drawn-first}
 use Rattle.pg_stream.proofs.OpenLists.{slots-at}
-use Rattle.pg_stream.proofs.Reaches.{IsOwner, option_cases}
-use Rattle.pg_stream.proofs.Steps.{open_value, open_none}
+use Rattle.pg_stream.proofs.Steps.{open_value}
 use Rattle.pg_stream.proofs.WholePictures.{at_range}
 
 -- ---- what is open before row k

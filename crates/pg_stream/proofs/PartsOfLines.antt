@@ -1,5 +1,5 @@
 -- The text of a line of open cells: of no column, of some and of one more, and the line between its margins.
-use Rattle.std.proofs.Common.{◌≡◌, ℕ, zero, suc, ◌+◌, ◌-◌, ◌<◌, Bool, ◌&&◌, ◌==◌, List, [], ◌∷◌, ◌++◌, map, flat_map, slice_index_or, Option, Some, None, refl, sym, ap, ap₂, ◌∙◌, append_assoc, arith, zero-add, add-zero, add_assoc}
+use Rattle.std.proofs.Common.{◌≡◌, ℕ, ◌+◌, ◌-◌, ◌<◌, Bool, ◌&&◌, ◌==◌, List, [], ◌∷◌, ◌++◌, map, flat_map, slice_index_or, Option, Some, None, refl, sym, ap, ap₂, ◌∙◌, append_assoc, zero-add, add-zero, add_assoc}
 use Rattle.std.specs.List.{range_with_len}
 use Rattle.pg_layout.specs.Text.{Text}
 use Rattle.pg_config.specs.Config.{Config}
@@ -8,7 +8,7 @@ use Rattle.pg_picture.specs.Pieces.{Piece, written}
 use Rattle.pg_picture.specs.Table.{Table, vertical, side_margin_at}
 use Rattle.pg_picture.proofs.PiecesOfLines.{written-append, written-nil}
 use Rattle.pg_picture.proofs.Ranges.{range-more, range-cut}
-use Rattle.pg_stream.specs.Drawing.{cell_part, open_part, open_line, line_at, open_line_at, open_lines}
+use Rattle.pg_stream.specs.Drawing.{open_part, open_line, line_at, open_line_at, open_lines}
 use Rattle.pg_stream.specs.Placed.{Placed, slot_of, draw_cell}
 use Rattle.pg_stream.specs.Slots.{slot_block}
 

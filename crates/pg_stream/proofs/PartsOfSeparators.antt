@@ -1,19 +1,18 @@
 -- The items of a separator of open cells, one column after the other.
-use Rattle.std.proofs.Common.{◌≡◌, ℕ, zero, suc, ◌+◌, ◌-◌, ◌<◌, ◌≤◌, max, Bool, true, false, nat_lt, List, [], ◌∷◌, ◌++◌, map, flat_map, slice_index_or, Option, Some, None, IfSome, refl, sym, ap, ap₂, ◌∙◌, append_assoc, append-nil, arith, zero-add, if◌then◌else◌}
+use Rattle.std.proofs.Common.{◌≡◌, ℕ, ◌+◌, max, Bool, true, false, nat_lt, List, [], ◌∷◌, ◌++◌, map, flat_map, slice_index_or, Option, None, refl, sym, ap, ap₂, ◌∙◌, append_assoc, arith, zero-add}
 use Rattle.std.specs.List.{range_with_len}
 use Rattle.std.proofs.lemmas.List.{map-append}
 use Rattle.pg_layout.specs.Colors.{Color}
 use Rattle.pg_layout.specs.declared.position.Position.{Position}
 use Rattle.pg_layout.specs.Position.{at}
-use Rattle.pg_layout.specs.Text.{Text, greatest}
-use Rattle.pg_config.specs.Spans.{Span, rect_columns}
-use Rattle.pg_picture.specs.Pieces.{Piece, Item, block, written, cut, items_after, item_after, last_color, with_cuts, separator_text}
+use Rattle.pg_layout.specs.Text.{greatest}
+use Rattle.pg_config.specs.Spans.{Span}
+use Rattle.pg_picture.specs.Pieces.{Piece, block, written, cut, items_after, last_color, with_cuts, separator_text}
 use Rattle.pg_picture.specs.Table.{Table, crossing_at}
 use Rattle.pg_picture.proofs.CutsOfItems.{items_after-append, items_after-one, last_color-append, with_cuts-close}
 use Rattle.pg_picture.proofs.Ranges.{range-add}
 use Rattle.pg_stream.specs.Drawing.{column_end, reach, cell_items, open_separator_part, open_separator}
-use Rattle.pg_stream.specs.Placed.{Placed, slot_of}
-use Rattle.pg_stream.specs.Slots.{slot_block}
+use Rattle.pg_stream.specs.Placed.{Placed}
 
 greatest-append : (xs ys : List ℕ) → greatest (xs ++ ys) ≡ max (greatest xs) (greatest ys)
 greatest-append [] ys = omega arith

@@ -1,5 +1,5 @@
 -- How far the open cells of the first columns reach, and what that tells of the owners of a row.
-use Rattle.std.proofs.Common.{◌≡◌, ℕ, zero, suc, ◌+◌, ◌-◌, ◌<◌, ◌≤◌, max, Bool, true, false, not, ◌&&◌, ◌==◌, nat_lt, List, [], ◌∷◌, map, slice_index_or, Option, Some, None, IfSome, is_some, refl, sym, ap, ◌∙◌, arith, subst, inl, inr, ◌⊎◌, eqb-true}
+use Rattle.std.proofs.Common.{◌≡◌, ℕ, zero, suc, ◌+◌, ◌<◌, ◌≤◌, true, false, not, ◌&&◌, ◌==◌, nat_lt, List, map, slice_index_or, Option, Some, None, is_some, refl, sym, ap, ◌∙◌, arith, subst, inl, inr, ◌⊎◌, eqb-true}
 use Rattle.std.specs.List.{range_with_len}
 use Rattle.std.proofs.lemmas.Bool.{cases_Bool, ltb-true}
 use Rattle.std.proofs.lemmas.Bool.Decides.{nat_tests}
@@ -7,7 +7,7 @@ use Rattle.pg_layout.specs.declared.position.Position.{Position}
 use Rattle.pg_layout.specs.Position.{at, is_at}
 use Rattle.pg_layout.specs.Text.{greatest}
 use Rattle.pg_config.specs.Spans.{Span, rect_rows, rect_columns, owner, is_left, begins_above}
-use Rattle.pg_picture.proofs.Owners.{HasOwners, LiesIn}
+use Rattle.pg_picture.proofs.Owners.{HasOwners}
 use Rattle.pg_stream.specs.Drawing.{column_end, reach}
 use Rattle.pg_stream.specs.Placed.{Placed}
 use Rattle.pg_stream.specs.Turns.{IsOwnerAbove}

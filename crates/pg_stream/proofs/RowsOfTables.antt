@@ -128,7 +128,7 @@ unfoldable pub SameHeight : Hint → ℕ → ℕ → Type 0
 SameHeight Known h k = h ≡ k
 SameHeight Unknown h k = Unit {0}
 
-blank_same : (hint : Hint) (o : Offset) (i h k : ℕ) → i < h → i < k → SameHeight hint h k → is_blank_at hint o i h ≡ is_blank_at hint o i k
+pub blank_same : (hint : Hint) (o : Offset) (i h k : ℕ) → i < h → i < k → SameHeight hint h k → is_blank_at hint o i h ≡ is_blank_at hint o i k
 unfolding is_blank_at SameHeight
 blank_same Known o i h k a b e = ap (λ n. is_blank_at Known o i n) e
 blank_same Unknown (Start s) i h k a b e = grind (arith, nat_tests, a, b)

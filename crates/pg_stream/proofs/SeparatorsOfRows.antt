@@ -1,7 +1,6 @@
 -- The separator above a row and the one below the last row, where they are there; and the top margin above row 0.
-use Rattle.std.proofs.Common.{◌≡◌, ℕ, ◌+◌, ◌<◌, Bool, true, false, ◌==◌, List, [], Option, refl, sym, ap, ◌∙◌, arith, replicate}
+use Rattle.std.proofs.Common.{◌≡◌, ℕ, ◌+◌, ◌<◌, Bool, true, false, ◌==◌, List, [], Option, refl, sym, ◌∙◌, arith, replicate}
 use Rattle.std.proofs.lemmas.Bool.Decides.{nat_tests}
-use Rattle.pg_layout.specs.Text.{Text}
 use Rattle.pg_config.specs.Config.{Config, has_horizontal}
 use Rattle.pg_picture.specs.Joined.{continued}
 use Rattle.pg_picture.specs.Pieces.{written, separator_text}

@@ -193,7 +193,7 @@ whole_body t k (suc j) e =
     ∙ ap (λ n. marks_above t.config t.height n ++ rest_marks t (k + 1) j) (add-one k)
     ∙ append_assoc (marks_above t.config t.height k) (marks_of_row t.config t.height k) (rest_marks t (k + 1) j)
 
-no_slots : (a n : ℕ) → map {A = ℕ} {B = Option Slot} (λ c. None) (range_with_len a n) ≡ replicate n None
+pub no_slots : (a n : ℕ) → map {A = ℕ} {B = Option Slot} (λ c. None) (range_with_len a n) ≡ replicate n None
 no_slots a zero = refl
 no_slots a (suc n) = ap (λ l. None ∷ l) (no_slots (a + 1) n)
 

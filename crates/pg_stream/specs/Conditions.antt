@@ -1,16 +1,15 @@
 -- The conditions of a printer of rows.
-use Rattle.std.specs.Prelude.{◌≡◌, ℕ, ◌+◌, ◌-◌, ◌^◌, ◌<◌, Bool, true, false, ◌==◌, List, [], length, slice_index_or, IfSome, if◌then◌else◌}
+use Rattle.std.specs.Prelude.{◌≡◌, ℕ, ◌+◌, ◌-◌, ◌^◌, ◌<◌, Bool, true, false, ◌==◌, List, [], ◌∷◌, length, slice_index_or, IfSome, ⊤}
 use Rattle.pg_layout.specs.declared.position.Position.{Position}
 use Rattle.pg_layout.specs.Position.{at, is_at}
 use Rattle.pg_layout.specs.Text.{Text}
-use Rattle.pg_config.specs.Config.{has_horizontal}
 use Rattle.pg_config.specs.Spans.{rect_rows, owner}
 use Rattle.pg_picture.specs.Fits.{spans_fit, spans_fit_columns, totals_fit, cell_fits}
-use Rattle.pg_picture.specs.Marks.{sep, only_if, marks_of_row}
+use Rattle.pg_picture.specs.Marks.{marks_of_row}
 use Rattle.pg_picture.specs.Pieces.{style_at}
 use Rattle.pg_picture.specs.Sizes.{height_of_rect}
 use Rattle.pg_picture.specs.Table.{Table, rect_width, full_width}
-use Rattle.pg_stream.specs.Printing.{Printing, table_known}
+use Rattle.pg_stream.specs.Printing.{Printing, frame_of, after_row}
 
 -- The rectangle that begins at p has an end, a width and a height that are numbers of 64 bits, and its text has room
 -- there.
@@ -30,8 +29,8 @@ pub record PrinterFits (s : Printing) : Type 0 where
   pub some : 0 < s.columns
   pub few : s.columns < 2 ^ 64 - 1
   pub spans : spans_fit_columns s.config.spans s.columns ≡ true
-  pub width : full_width (table_known s 0 []) < 2 ^ 64
-  pub hint : IfSome s.hint (λ rows. (spans_fit s.config.spans rows s.columns ≡ true) × (totals_fit (table_known s rows []) ≡ true))
+  pub width : full_width (frame_of s) < 2 ^ 64
+  pub hint : IfSome s.hint (λ rows. (spans_fit s.config.spans rows s.columns ≡ true) × (totals_fit (record (frame_of s) { rows = rows }) ≡ true))
 
 -- A row that may be printed next: as many cells as there are columns, and room for each that begins here; no last row
 -- before it, and no more rows than are known; spans that end with the last row; and lines that can be counted.
@@ -41,5 +40,11 @@ pub record RowFits (s : Printing) (cells : List Text) (is_last : Bool) : Type 0 
   pub rows : s.rows < 2 ^ 64 - 2
   pub hint : IfSome s.hint (λ rows. (s.rows < rows) × (is_last ≡ ((s.rows + 1) == rows)))
   pub spans : is_last ≡ true → spans_fit s.config.spans (s.rows + 1) s.columns ≡ true
-  pub rooms : HaveRoom (table_known s 0 []) s.rows cells
+  pub rooms : HaveRoom (frame_of s) s.rows cells
   pub lines : s.lines + length (marks_of_row s.config s.height s.rows) < 2 ^ 64
+
+-- Rows that may be printed one after another, of which the last one is the table's last.
+abbrev pub RowsFit : Printing → List (List Text) → Type 0
+RowsFit s [] = ⊤
+RowsFit s (cells ∷ []) = RowFits s cells true
+RowsFit s (cells ∷ next ∷ rows) = RowFits s cells false × RowsFit (after_row s cells false) (next ∷ rows)

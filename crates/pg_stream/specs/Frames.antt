@@ -1,5 +1,5 @@
 -- What a printer was told, as a table of which no row and no text is known.
-use Rattle.std.specs.Prelude.{ℕ, [], None}
+use Rattle.std.specs.Prelude.{ℕ, []}
 use Rattle.std.specs.Prelude.{Option}
 use Rattle.pg_layout.specs.Colors.{Color}
 use Rattle.pg_layout.specs.declared.position.Position.{Position}

@@ -7,3 +7,4 @@ pub mod Turns
 pub mod Frames
 pub mod Drawing
 pub mod Printers
+pub mod Laws

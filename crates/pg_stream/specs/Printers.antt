@@ -1,5 +1,5 @@
 -- What contracts see of the fields of a printer, and what is true of each printer between its calls.
-use Rattle.std.specs.Prelude.{◌≡◌, ℕ, ◌+◌, ◌-◌, ◌^◌, ◌<◌, ◌≤◌, Bool, true, List, [], length, IfSome, Option, option_map}
+use Rattle.std.specs.Prelude.{◌≡◌, ℕ, ◌-◌, ◌^◌, ◌<◌, ◌≤◌, Bool, true, List, [], length, IfSome, Option, option_map}
 use Rattle.pg_layout.specs.declared.position.Position.{Position}
 use Rattle.pg_layout.specs.Colors.{Color}
 use Rattle.pg_config.specs.Config.{Config}
@@ -11,6 +11,7 @@ use Rattle.pg_stream.specs.Conditions.{PrinterFits}
 use Rattle.pg_stream.specs.Open.{open_before}
 use Rattle.pg_stream.specs.Placed.{Placed, slots_of, AllOpen, IsPlaced}
 use Rattle.pg_stream.specs.Printing.{Printing, table_known}
+use Rattle.pg_stream.specs.declared.frame.Frame.{Frame}
 
 -- a printer over a dimension and colours
 pub record Printer (D C : Type 0) : Type 0 where
@@ -23,6 +24,20 @@ pub record Printer (D C : Type 0) : Type 0 where
   pub lines : ℕ
   pub is_ended : Bool
   pub cells : List (Option Placed)
+
+-- a printer that was told this, and has printed so much
+abbrev pub printer_of : {D C B : Type 0} → Frame D C B → Option ℕ → List (Option Placed) → ℕ → ℕ → Bool → Printer D C
+printer_of frame hint cells rows lines is_ended = record {
+  config = frame.config.now;
+  columns = frame.columns;
+  dimension = frame.dimension.now;
+  colors = frame.colors.now;
+  hint = hint;
+  rows = rows;
+  lines = lines;
+  is_ended = is_ended;
+  cells = cells;
+}
 
 -- what it stands for, by what its dimension and its colours stand for
 abbrev pub printing : {D C : Type 0} → (D → ℕ → ℕ) → (D → ℕ → ℕ) → (C → Position → Option Color) → Printer D C → Printing

@@ -62,6 +62,18 @@ table_known s m cells = record {
   color = s.color;
 }
 
+-- a table of no rows that is told the same
+abbrev pub frame_of : Printing → Table
+frame_of s = record {
+  config = s.config;
+  rows = 0;
+  columns = s.columns;
+  width = s.width;
+  height = s.height;
+  text = λ p. [];
+  color = s.color;
+}
+
 -- ---- lines of a picture
 
 -- the lines of row k, where the first of its body lines has index i: below the top margin in row 0

@@ -3,13 +3,13 @@
 #![tactic(auto)]
 
 mod frame;
+mod laws;
 mod open_cell;
 mod open_cells;
-
-pub use crate::open_cells::OpenCells;
-
 mod row_printer;
 mod separators;
 mod turns;
 
+pub use crate::laws::{rows_make_the_picture, tables_that_fit_may_be_printed};
+pub use crate::open_cells::OpenCells;
 pub use crate::row_printer::RowPrinter;

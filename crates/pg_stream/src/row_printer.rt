@@ -1,6 +1,8 @@
 //! A table that is printed row by row.
 
-ghost use Rattle.std.specs.Prelude.{◌≡◌, ◌⊎◌, List, true, None, IfOk};
+ghost use Rattle.std.specs.Prelude.{◌≡◌, ◌⊎◌, ◌<◌, ◌^◌, ◌-◌, ◌&&◌, ◌==◌, not, List, true, None, IfOk, IfSome, option_map};
+ghost use Rattle.pg_picture.specs.Fits.{body_height};
+ghost use Rattle.pg_picture.specs.Sizes.{sized};
 ghost use Rattle.std.specs.Iterator.{IsFinite};
 ghost use Rattle.pg_layout.specs.Records.{AlwaysGives};
 ghost use Rattle.pg_layout.specs.Text.{Text};
@@ -44,13 +46,13 @@ pub struct RowPrinter<
 impl<'a, S: AsStr, D: Dimension, C: Colors, B: Allocator, A: Allocator> Model
     for RowPrinter<'a, S, D, C, B, A> {
     ghost use Rattle.pg_stream.specs.Frames.{frame_table};
-    ghost use Rattle.pg_stream.specs.Printers.{Printer, printing, IsSound};
+    ghost use Rattle.pg_stream.specs.Printers.{Printer, printer_of, printing, IsSound};
 
     ghost Value = { Printer D C };
 
-    ghost view = { λ p. record { config = p.frame.config.now; columns = p.frame.columns; dimension = p.frame.dimension.now; colors = p.frame.colors.now; hint = p.hint; rows = p.rows; lines = p.lines; is_ended = p.is_ended; cells = p.cells } };
+    ghost view = { λ p. printer_of p.frame p.hint p.cells p.rows p.lines p.is_ended };
 
-    ghost invariant = { λ p. IsSound (printing D.width D.height C.color (record { config = p.frame.config.now; columns = p.frame.columns; dimension = p.frame.dimension.now; colors = p.frame.colors.now; hint = p.hint; rows = p.rows; lines = p.lines; is_ended = p.is_ended; cells = p.cells })) (frame_table D.width D.height C.color p.frame) p.frame.width p.frame.height p.cells };
+    ghost invariant = { λ p. IsSound (printing D.width D.height C.color (printer_of p.frame p.hint p.cells p.rows p.lines p.is_ended)) (frame_table D.width D.height C.color p.frame) p.frame.width p.frame.height p.cells };
 }
 
 impl<'a, S: AsStr + Drop, D: Dimension, C: Colors, B: Allocator, A: Allocator> RowPrinter<
@@ -61,6 +63,45 @@ impl<'a, S: AsStr + Drop, D: Dimension, C: Colors, B: Allocator, A: Allocator> R
     B,
     A,
 > {
+    /// A printer of a table of so many columns, before its first row. `hint` is the number of its rows,
+    /// where that is known: then margins that end before the last lines do so.
+    ///
+    /// The table has a column at least; its rectangles have a size, end inside the columns and share no
+    /// place (`pg_picture::fits::spans_fit_columns`); its total width is a number; and where the number
+    /// of rows is known, its rectangles and totals fit it (`pg_picture::fits::spans_fit`,
+    /// `pg_picture::fits::totals_fit`). An error comes only where no memory is found.
+    pub fn new(
+        alloc: A,
+        config: &'a SpannedConfig<B>,
+        dimension: &'a D,
+        colors: &'a C,
+        columns: usize,
+        hint: Option<usize>,
+    ) -> Result<RowPrinter<'a, S, D, C, B, A>, AllocError>
+        requires { PrinterFits (printer config.now columns (D.width dimension.now) (D.height dimension.now) (C.color colors.now) hint) }
+        ensures { IfOk result (λ p. printing D.width D.height C.color p ≡ printer config.now columns (D.width dimension.now) (D.height dimension.now) (C.color colors.now) hint) }
+    {
+        let _spans = config.spans();
+        let width = full_width(config, dimension, columns).unwrap();
+        let height = height_of_body(config, dimension, hint);
+        let cells = OpenCells::new(alloc, columns)?;
+        Ok(RowPrinter {
+            frame: Frame {
+                config,
+                dimension,
+                colors,
+                columns,
+                width,
+                height,
+            },
+            hint,
+            cells,
+            rows: 0,
+            lines: 0,
+            is_ended: false,
+        })
+    }
+
     /// How many rows are printed.
     pub fn rows(&self) -> usize
         ensures { result ≡ (printing D.width D.height C.color self.now).rows }
@@ -88,4 +129,99 @@ impl<'a, S: AsStr + Drop, D: Dimension, C: Colors, B: Allocator, A: Allocator> R
     {
         &self.cells
     }
+
+    /// Prints the next row: the top margin above the first row, the separator above this one, where
+    /// it is there, and its lines, each after a line feed unless it is the picture's first line.
+    ///
+    /// `cells` gives the cells of the row, one for each column; those that cells from above or left
+    /// hold are let go. `is_last` tells whether it is the last row. The lines are those of the table
+    /// with as many rows as are known: those so far at a last row; else those of the hint; else those
+    /// that the open cells need, and one more row at least. See `RowFits` for the conditions.
+    ///
+    /// Takes no memory but the buffer's.
+    pub fn row<I: Iterator<Item = S>, W: Allocator>(
+        self,
+        cells: I,
+        is_last: bool,
+        buf: &mut String<W>,
+    ) -> Result<RowPrinter<'a, S, D, C, B, A>, AllocError>
+        requires can { I.can_next cells × IsFinite (I.remaining cells) }
+        requires fits { (texts : List Text) × AlwaysGives (λ x y. S.text x ≡ y) I.next_gives cells texts × RowFits (printing D.width D.height C.color self) texts is_last }
+        ensures appends { (texts : List Text) → AlwaysGives (λ x y. S.text x ≡ y) I.next_gives cells texts → Appends buf.old buf.new result (row_text (printing D.width D.height C.color self.entry) texts is_last) }
+        ensures after { (texts : List Text) → AlwaysGives (λ x y. S.text x ≡ y) I.next_gives cells texts → IfOk result (λ p. printing D.width D.height C.color p ≡ after_row (printing D.width D.height C.color self.entry) texts is_last) }
+    {
+        let RowPrinter {
+            frame,
+            hint,
+            cells: mut open,
+            rows,
+            lines,
+            is_ended: _,
+        } = self;
+        let is_first = frame.config.get_margin().top.size == 0;
+        frame.push_top(buf, rows)?;
+        let next = open.push_above(&frame, buf, is_first, lines, rows)?;
+        open.begin(&frame, cells, rows);
+        let height = frame.dimension.get_height(rows);
+        open.push_lines(&frame, buf, is_first, next, rows, height)?;
+        open.close(&frame, rows);
+        Ok(RowPrinter {
+            frame,
+            hint,
+            cells: open,
+            rows: rows + 1,
+            lines: next + height,
+            is_ended: is_last,
+        })
+    }
+
+    /// Ends the table: the separator below the last row, where it is there, and the bottom margin, each
+    /// line after a line feed unless it is the picture's first line. Where no row was printed, it
+    /// appends nothing.
+    ///
+    /// Takes no memory but the buffer's.
+    pub fn finish<W: Allocator>(self, buf: &mut String<W>) -> Result<(), AllocError>
+        requires { ((printing D.width D.height C.color self).rows ≡ 0) ⊎ ((printing D.width D.height C.color self).is_ended ≡ true) }
+        ensures { Appends buf.old buf.new result (finish_text (printing D.width D.height C.color self.entry)) }
+    {
+        let RowPrinter {
+            frame,
+            hint: _,
+            cells,
+            rows,
+            lines,
+            is_ended: _,
+        } = self;
+        if rows == 0 {
+            return Ok(());
+        }
+        let is_first = frame.config.get_margin().top.size == 0;
+        cells.push_below(&frame, buf, is_first, lines, rows)?;
+        let has_last = frame.config.has_horizontal(rows, rows);
+        let is_first = is_bare(is_first, lines, has_last);
+        push_bottom_margin(buf, frame.config, frame.width, is_first)
+    }
+}
+
+// How many lines the body has, where the number of rows is known.
+fn height_of_body<B: Allocator, D: Dimension>(
+    config: &SpannedConfig<B>,
+    dimension: &D,
+    rows: Option<usize>,
+) -> Option<usize>
+    requires { IfSome rows (λ m. (m < 2 ^ 64 - 1) × (body_height (sized config.now (D.width dimension.now) (D.height dimension.now) m 0) < 2 ^ 64)) }
+    ensures { result ≡ option_map (λ m. body_height (sized config.now (D.width dimension.now) (D.height dimension.now) m 0)) rows }
+{
+    match rows {
+        Some(rows) => body_height(config, dimension, rows),
+        None => None,
+    }
+}
+
+// Whether no line stands above the bottom margin: none of the top margin, of the rows, and of the
+// last separator.
+fn is_bare(is_first: bool, lines: usize, has_last: bool) -> bool
+    ensures { result ≡ ((is_first && (lines == 0)) && not has_last) }
+{
+    is_first && lines == 0 && !has_last
 }

@@ -1,17 +1,19 @@
 //! What tests need: memory that is refused on purpose, and streams that fail on purpose.
 //!
 //! [`ledger`] says which calls fail, [`refusing`] has the allocator, [`streams`] the readers and
-//! the writer.
+//! the writer, [`repeated`] an iterator that knows little of itself.
 #![tactic(auto)]
 
 pub mod ledger;
 pub mod refusing;
+pub mod repeated;
 pub mod streams;
 
 #[cfg(test)]
 mod tests {
     use crate::ledger::Rule;
     use crate::refusing::Refusing;
+    use crate::repeated::Repeated;
     use crate::streams::{EndlessReader, FailingReader, FailingWriter};
     use std::alloc::Allocator;
     use std::io::{Read, Write};
@@ -55,6 +57,13 @@ mod tests {
         let mut block = [0u8; 2];
         assert_eq!(rt; EndlessReader.read(&mut block)?, 1);
         assert_eq!(rt; block, *b"\n\0");
+
+        let mut twice = Repeated::new('x', 2);
+        assert_eq!(rt; twice.size_hint(), (0, None));
+        assert_eq!(rt;
+            [twice.next(), twice.next(), twice.next()],
+            [Some('x'), Some('x'), None]
+        );
         Ok(())
     }
 }

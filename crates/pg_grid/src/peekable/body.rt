@@ -9,8 +9,10 @@ ghost use Rattle.pg_picture.specs.Marks.{sep, line, only_if, marks_of_row, marks
 ghost use Rattle.pg_picture.specs.Pieces.{written};
 ghost use Rattle.pg_picture.specs.Table.{Known, table_body, side_margin_at};
 ghost use Rattle.pg_picture.specs.Picture.{body_text};
+ghost use Rattle.pg_grid.specs.Kept.{AreKept};
 ghost use Rattle.pg_grid.specs.Grids.{drawn, CanDraw, shape_of_table};
 
+use crate::peekable::kept::KeptCells;
 use crate::peekable::{PeekableGrid, Shape};
 use pg_config::SpannedConfig;
 use pg_layout::{Colors, Dimension, ExactRecords, PeekableRecords};
@@ -28,24 +30,28 @@ where
     pub(super) fn push_body<A: Allocator>(
         &self,
         buf: &mut String<A>,
+        kept: &mut KeptCells,
         shape: Shape,
         is_first: bool,
     ) -> Result<(), AllocError>
         requires can { CanDraw (drawn R.Records D.Dimension C.Colors self.now) }
         requires shape { shape ≡ shape_of_table (drawn R.Records D.Dimension C.Colors self.now) }
-        ensures { Appends buf.old buf.new result (body_text Known (drawn R.Records D.Dimension C.Colors self.now) (lines_before is_first) 0 (table_body (drawn R.Records D.Dimension C.Colors self.now))) }
+        requires kept { AreKept (drawn R.Records D.Dimension C.Colors self.now) kept.old }
+        ensures appends { Appends buf.old buf.new result (body_text Known (drawn R.Records D.Dimension C.Colors self.now) (lines_before is_first) 0 (table_body (drawn R.Records D.Dimension C.Colors self.now))) }
+        ensures kept { AreKept (drawn R.Records D.Dimension C.Colors self.now) kept.new }
     {
         let mut index = 0;
         for row in 0..shape.rows {
-            index = self.push_row(buf, shape, row, index, is_first)?;
+            index = self.push_row(buf, kept, shape, row, index, is_first)?;
         }
-        self.push_last(buf, shape, index, is_first)
+        self.push_last(buf, kept, shape, index, is_first)
     }
 
     // The separator and the lines of a row; answers how many lines of the body stand then.
     fn push_row<A: Allocator>(
         &self,
         buf: &mut String<A>,
+        kept: &mut KeptCells,
         shape: Shape,
         row: usize,
         index: usize,
@@ -55,17 +61,20 @@ where
         requires shape { shape ≡ shape_of_table (drawn R.Records D.Dimension C.Colors self.now) }
         requires row { row < (drawn R.Records D.Dimension C.Colors self.now).rows }
         requires room { index + length (marks_of_row (drawn R.Records D.Dimension C.Colors self.now).config (drawn R.Records D.Dimension C.Colors self.now).height row) ≤ shape.height }
+        requires kept { AreKept (drawn R.Records D.Dimension C.Colors self.now) kept.old }
         ensures lines { Appends buf.old buf.new result (body_text Known (drawn R.Records D.Dimension C.Colors self.now) (lines_before is_first) index (marks_of_row (drawn R.Records D.Dimension C.Colors self.now).config (drawn R.Records D.Dimension C.Colors self.now).height row)) }
         ensures index { IfOk result (λ next. next ≡ index + length (marks_of_row (drawn R.Records D.Dimension C.Colors self.now).config (drawn R.Records D.Dimension C.Colors self.now).height row)) }
+        ensures kept { AreKept (drawn R.Records D.Dimension C.Colors self.now) kept.new }
     {
-        let next = self.push_above(buf, shape, row, index, is_first)?;
-        self.push_lines(buf, shape, row, next, is_first)
+        let next = self.push_above(buf, kept, shape, row, index, is_first)?;
+        self.push_lines(buf, kept, shape, row, next, is_first)
     }
 
     // The separator above a row, where it is there.
     fn push_above<A: Allocator>(
         &self,
         buf: &mut String<A>,
+        kept: &mut KeptCells,
         shape: Shape,
         row: usize,
         index: usize,
@@ -75,13 +84,15 @@ where
         requires shape { shape ≡ shape_of_table (drawn R.Records D.Dimension C.Colors self.now) }
         requires row { row ≤ (drawn R.Records D.Dimension C.Colors self.now).rows }
         requires room { index + length (only_if (has_horizontal (drawn R.Records D.Dimension C.Colors self.now).config row (drawn R.Records D.Dimension C.Colors self.now).rows) (sep row)) ≤ shape.height }
+        requires kept { AreKept (drawn R.Records D.Dimension C.Colors self.now) kept.old }
         ensures lines { Appends buf.old buf.new result (body_text Known (drawn R.Records D.Dimension C.Colors self.now) (lines_before is_first) index (only_if (has_horizontal (drawn R.Records D.Dimension C.Colors self.now).config row (drawn R.Records D.Dimension C.Colors self.now).rows) (sep row))) }
         ensures index { IfOk result (λ next. next ≡ index + length (only_if (has_horizontal (drawn R.Records D.Dimension C.Colors self.now).config row (drawn R.Records D.Dimension C.Colors self.now).rows) (sep row))) }
+        ensures kept { AreKept (drawn R.Records D.Dimension C.Colors self.now) kept.new }
     {
         if !self.config.has_horizontal(row, shape.rows) {
             return Ok(index);
         }
-        self.push_separator_line(buf, shape, row, index, is_first)?;
+        self.push_separator_line(buf, kept, shape, row, index, is_first)?;
         Ok(index + 1)
     }
 
@@ -89,6 +100,7 @@ where
     fn push_last<A: Allocator>(
         &self,
         buf: &mut String<A>,
+        kept: &mut KeptCells,
         shape: Shape,
         index: usize,
         is_first: bool,
@@ -96,9 +108,11 @@ where
         requires can { CanDraw (drawn R.Records D.Dimension C.Colors self.now) }
         requires shape { shape ≡ shape_of_table (drawn R.Records D.Dimension C.Colors self.now) }
         requires room { index + length (only_if (has_horizontal (drawn R.Records D.Dimension C.Colors self.now).config (drawn R.Records D.Dimension C.Colors self.now).rows (drawn R.Records D.Dimension C.Colors self.now).rows) (sep (drawn R.Records D.Dimension C.Colors self.now).rows)) ≤ shape.height }
-        ensures { Appends buf.old buf.new result (body_text Known (drawn R.Records D.Dimension C.Colors self.now) (lines_before is_first) index (only_if (has_horizontal (drawn R.Records D.Dimension C.Colors self.now).config (drawn R.Records D.Dimension C.Colors self.now).rows (drawn R.Records D.Dimension C.Colors self.now).rows) (sep (drawn R.Records D.Dimension C.Colors self.now).rows))) }
+        requires kept { AreKept (drawn R.Records D.Dimension C.Colors self.now) kept.old }
+        ensures appends { Appends buf.old buf.new result (body_text Known (drawn R.Records D.Dimension C.Colors self.now) (lines_before is_first) index (only_if (has_horizontal (drawn R.Records D.Dimension C.Colors self.now).config (drawn R.Records D.Dimension C.Colors self.now).rows (drawn R.Records D.Dimension C.Colors self.now).rows) (sep (drawn R.Records D.Dimension C.Colors self.now).rows))) }
+        ensures kept { AreKept (drawn R.Records D.Dimension C.Colors self.now) kept.new }
     {
-        self.push_above(buf, shape, shape.rows, index, is_first)?;
+        self.push_above(buf, kept, shape, shape.rows, index, is_first)?;
         Ok(())
     }
 
@@ -106,6 +120,7 @@ where
     fn push_lines<A: Allocator>(
         &self,
         buf: &mut String<A>,
+        kept: &mut KeptCells,
         shape: Shape,
         row: usize,
         index: usize,
@@ -115,12 +130,14 @@ where
         requires shape { shape ≡ shape_of_table (drawn R.Records D.Dimension C.Colors self.now) }
         requires row { row < (drawn R.Records D.Dimension C.Colors self.now).rows }
         requires room { index + (drawn R.Records D.Dimension C.Colors self.now).height row ≤ shape.height }
+        requires kept { AreKept (drawn R.Records D.Dimension C.Colors self.now) kept.old }
         ensures lines { Appends buf.old buf.new result (body_text Known (drawn R.Records D.Dimension C.Colors self.now) (lines_before is_first) index (map (line row) (range_with_len 0 ((drawn R.Records D.Dimension C.Colors self.now).height row)))) }
         ensures index { IfOk result (λ next. next ≡ index + (drawn R.Records D.Dimension C.Colors self.now).height row) }
+        ensures kept { AreKept (drawn R.Records D.Dimension C.Colors self.now) kept.new }
     {
         let height = self.dimension.get_height(row);
         for number in 0..height {
-            self.push_line(buf, shape, row, number, index + number, is_first)?;
+            self.push_line(buf, kept, shape, row, number, index + number, is_first)?;
         }
         Ok(index + height)
     }
@@ -129,6 +146,7 @@ where
     fn push_line<A: Allocator>(
         &self,
         buf: &mut String<A>,
+        kept: &mut KeptCells,
         shape: Shape,
         row: usize,
         number: usize,
@@ -139,10 +157,12 @@ where
         requires shape { shape ≡ shape_of_table (drawn R.Records D.Dimension C.Colors self.now) }
         requires row { row < (drawn R.Records D.Dimension C.Colors self.now).rows }
         requires number { number < (drawn R.Records D.Dimension C.Colors self.now).height row }
-        ensures { Appends buf.old buf.new result (body_text Known (drawn R.Records D.Dimension C.Colors self.now) (lines_before is_first) index (line row number ∷ [])) }
+        requires kept { AreKept (drawn R.Records D.Dimension C.Colors self.now) kept.old }
+        ensures appends { Appends buf.old buf.new result (body_text Known (drawn R.Records D.Dimension C.Colors self.now) (lines_before is_first) index (line row number ∷ [])) }
+        ensures kept { AreKept (drawn R.Records D.Dimension C.Colors self.now) kept.new }
     {
         push_start(buf, self.config, shape.height, index, is_first)?;
-        self.push_row_line(buf, shape, row, number)?;
+        self.push_row_line(buf, kept, shape, row, number)?;
         push_right_margin(buf, self.config, index, Some(shape.height))
     }
 
@@ -150,6 +170,7 @@ where
     fn push_separator_line<A: Allocator>(
         &self,
         buf: &mut String<A>,
+        kept: &mut KeptCells,
         shape: Shape,
         row: usize,
         index: usize,
@@ -159,10 +180,12 @@ where
         requires shape { shape ≡ shape_of_table (drawn R.Records D.Dimension C.Colors self.now) }
         requires row { row ≤ (drawn R.Records D.Dimension C.Colors self.now).rows }
         requires there { has_horizontal (drawn R.Records D.Dimension C.Colors self.now).config row (drawn R.Records D.Dimension C.Colors self.now).rows ≡ true }
-        ensures { Appends buf.old buf.new result (body_text Known (drawn R.Records D.Dimension C.Colors self.now) (lines_before is_first) index (sep row ∷ [])) }
+        requires kept { AreKept (drawn R.Records D.Dimension C.Colors self.now) kept.old }
+        ensures appends { Appends buf.old buf.new result (body_text Known (drawn R.Records D.Dimension C.Colors self.now) (lines_before is_first) index (sep row ∷ [])) }
+        ensures kept { AreKept (drawn R.Records D.Dimension C.Colors self.now) kept.new }
     {
         push_start(buf, self.config, shape.height, index, is_first)?;
-        self.push_separator(buf, shape, row)?;
+        self.push_separator(buf, kept, shape, row)?;
         push_right_margin(buf, self.config, index, Some(shape.height))
     }
 }

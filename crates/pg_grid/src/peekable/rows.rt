@@ -5,16 +5,18 @@ ghost use Rattle.std.specs.List.{range_with_len};
 ghost use Rattle.pg_layout.specs.Colors.{lent_color};
 ghost use Rattle.pg_picture.specs.Appending.{Appends};
 ghost use Rattle.pg_picture.specs.Pieces.{written, style_at, block_line};
-ghost use Rattle.pg_picture.specs.Cells.{style_of};
+ghost use Rattle.pg_picture.specs.Cells.{style_of, facts_of, place_of};
 ghost use Rattle.pg_picture.specs.Table.{row_part, row_line, vertical_at};
 ghost use Rattle.pg_picture.specs.Fits.{cell_fits};
+ghost use Rattle.pg_grid.specs.Kept.{AreKept, Reads};
 ghost use Rattle.pg_grid.specs.Grids.{drawn, CanDraw, HasNoSpans, shape_of_table};
 
+use crate::peekable::kept::{KeptCells, Reading};
 use crate::peekable::{PeekableGrid, Shape};
 use pg_config::SpannedConfig;
 use pg_layout::{ANSIFmt, Colors, Dimension, ExactRecords, PeekableRecords, Position};
 use pg_picture::{
-    CellPlace, CellStyle, TextFacts, push_block_line, push_single_line, push_vertical_at,
+    CellPlace, CellStyle, TextFacts, push_block_line_of, push_single_line, push_vertical_at,
 };
 use std::alloc::{AllocError, Allocator};
 
@@ -29,6 +31,7 @@ where
     pub(super) fn push_row_line<A: Allocator>(
         &self,
         buf: &mut String<A>,
+        kept: &mut KeptCells,
         shape: Shape,
         row: usize,
         line: usize,
@@ -37,9 +40,11 @@ where
         requires shape { shape ≡ shape_of_table (drawn R.Records D.Dimension C.Colors self.now) }
         requires row { row < (drawn R.Records D.Dimension C.Colors self.now).rows }
         requires line { line < D.height self.now.dimension row }
-        ensures { Appends buf.old buf.new result (written (row_line (drawn R.Records D.Dimension C.Colors self.now) row line)) }
+        requires kept { AreKept (drawn R.Records D.Dimension C.Colors self.now) kept.old }
+        ensures appends { Appends buf.old buf.new result (written (row_line (drawn R.Records D.Dimension C.Colors self.now) row line)) }
+        ensures kept { AreKept (drawn R.Records D.Dimension C.Colors self.now) kept.new }
     {
-        self.push_parts(buf, shape, row, line)?;
+        self.push_parts(buf, kept, shape, row, line)?;
         self.push_end(buf, shape.columns, row, line)
     }
 
@@ -47,6 +52,7 @@ where
     fn push_parts<A: Allocator>(
         &self,
         buf: &mut String<A>,
+        kept: &mut KeptCells,
         shape: Shape,
         row: usize,
         line: usize,
@@ -55,18 +61,21 @@ where
         requires shape { shape ≡ shape_of_table (drawn R.Records D.Dimension C.Colors self.now) }
         requires row { row < (drawn R.Records D.Dimension C.Colors self.now).rows }
         requires line { line < D.height self.now.dimension row }
-        ensures { Appends buf.old buf.new result (written (flat_map (row_part (drawn R.Records D.Dimension C.Colors self.now) row line) (range_with_len 0 (drawn R.Records D.Dimension C.Colors self.now).columns))) }
+        requires kept { AreKept (drawn R.Records D.Dimension C.Colors self.now) kept.old }
+        ensures appends { Appends buf.old buf.new result (written (flat_map (row_part (drawn R.Records D.Dimension C.Colors self.now) row line) (range_with_len 0 (drawn R.Records D.Dimension C.Colors self.now).columns))) }
+        ensures kept { AreKept (drawn R.Records D.Dimension C.Colors self.now) kept.new }
     {
         if shape.is_spanned {
-            return self.push_spanned_parts(buf, shape, row, line);
+            return self.push_spanned_parts(buf, kept, shape, row, line);
         }
-        self.push_plain_parts(buf, shape.columns, row, line)
+        self.push_plain_parts(buf, kept, shape.columns, row, line)
     }
 
     // The same where no cell spans rows or columns.
     fn push_plain_parts<A: Allocator>(
         &self,
         buf: &mut String<A>,
+        kept: &mut KeptCells,
         columns: usize,
         row: usize,
         line: usize,
@@ -76,10 +85,12 @@ where
         requires columns { columns ≡ (drawn R.Records D.Dimension C.Colors self.now).columns }
         requires row { row < (drawn R.Records D.Dimension C.Colors self.now).rows }
         requires line { line < D.height self.now.dimension row }
-        ensures { Appends buf.old buf.new result (written (flat_map (row_part (drawn R.Records D.Dimension C.Colors self.now) row line) (range_with_len 0 (drawn R.Records D.Dimension C.Colors self.now).columns))) }
+        requires kept { AreKept (drawn R.Records D.Dimension C.Colors self.now) kept.old }
+        ensures appends { Appends buf.old buf.new result (written (flat_map (row_part (drawn R.Records D.Dimension C.Colors self.now) row line) (range_with_len 0 (drawn R.Records D.Dimension C.Colors self.now).columns))) }
+        ensures kept { AreKept (drawn R.Records D.Dimension C.Colors self.now) kept.new }
     {
         for column in 0..columns {
-            self.push_part(buf, columns, Position::new(row, column), line)?;
+            self.push_part(buf, kept, columns, Position::new(row, column), line)?;
         }
         Ok(())
     }
@@ -89,6 +100,7 @@ where
     pub(super) fn push_part<A: Allocator>(
         &self,
         buf: &mut String<A>,
+        kept: &mut KeptCells,
         columns: usize,
         pos: Position,
         line: usize,
@@ -97,12 +109,14 @@ where
         requires column { pos.col < (drawn R.Records D.Dimension C.Colors self.now).columns }
         requires line { line < D.height self.now.dimension pos.row }
         requires room { cell_fits (style_at (drawn R.Records D.Dimension C.Colors self.now).config pos) ((drawn R.Records D.Dimension C.Colors self.now).text pos) (D.width self.now.dimension pos.col) (D.height self.now.dimension pos.row) ≡ true }
-        ensures { Appends buf.old buf.new result (written (vertical_at (drawn R.Records D.Dimension C.Colors self.now).config columns (D.height self.now.dimension pos.row) pos line) ++ written (block_line (style_at (drawn R.Records D.Dimension C.Colors self.now).config pos) ((drawn R.Records D.Dimension C.Colors self.now).color pos) ((drawn R.Records D.Dimension C.Colors self.now).text pos) (D.width self.now.dimension pos.col) (D.height self.now.dimension pos.row) line)) }
+        requires kept { AreKept (drawn R.Records D.Dimension C.Colors self.now) kept.old }
+        ensures appends { Appends buf.old buf.new result (written (vertical_at (drawn R.Records D.Dimension C.Colors self.now).config columns (D.height self.now.dimension pos.row) pos line) ++ written (block_line (style_at (drawn R.Records D.Dimension C.Colors self.now).config pos) ((drawn R.Records D.Dimension C.Colors self.now).color pos) ((drawn R.Records D.Dimension C.Colors self.now).text pos) (D.width self.now.dimension pos.col) (D.height self.now.dimension pos.row) line)) }
+        ensures kept { AreKept (drawn R.Records D.Dimension C.Colors self.now) kept.new }
     {
         let height = self.dimension.get_height(pos.row);
         let width = self.dimension.get_width(pos.col);
         push_vertical_at(buf, self.config, columns, height, pos, line)?;
-        self.push_cell(buf, pos, width, height, line)
+        self.push_cell(buf, kept, pos, width, height, line)
     }
 
     // The vertical behind the last column.
@@ -133,6 +147,7 @@ where
     pub(super) fn push_cell<A: Allocator>(
         &self,
         buf: &mut String<A>,
+        kept: &mut KeptCells,
         pos: Position,
         width: usize,
         height: usize,
@@ -142,41 +157,101 @@ where
         requires column { pos.col < (drawn R.Records D.Dimension C.Colors self.now).columns }
         requires room { cell_fits (style_at (drawn R.Records D.Dimension C.Colors self.now).config pos) ((drawn R.Records D.Dimension C.Colors self.now).text pos) width height ≡ true }
         requires line { line < height }
-        ensures { Appends buf.old buf.new result (written (block_line (style_at (drawn R.Records D.Dimension C.Colors self.now).config pos) ((drawn R.Records D.Dimension C.Colors self.now).color pos) ((drawn R.Records D.Dimension C.Colors self.now).text pos) width height line)) }
+        requires kept { AreKept (drawn R.Records D.Dimension C.Colors self.now) kept.old }
+        ensures appends { Appends buf.old buf.new result (written (block_line (style_at (drawn R.Records D.Dimension C.Colors self.now).config pos) ((drawn R.Records D.Dimension C.Colors self.now).color pos) ((drawn R.Records D.Dimension C.Colors self.now).text pos) width height line)) }
+        ensures kept { AreKept (drawn R.Records D.Dimension C.Colors self.now) kept.new }
+    {
+        if height == 1 {
+            return self.push_low_cell(buf, pos, width);
+        }
+        self.push_tall_cell(buf, kept, pos, width, height, line)
+    }
+
+    // The line of a cell of one line.
+    #[inline(always)]
+    fn push_low_cell<A: Allocator>(
+        &self,
+        buf: &mut String<A>,
+        pos: Position,
+        width: usize,
+    ) -> Result<(), AllocError>
+        requires row { pos.row < (drawn R.Records D.Dimension C.Colors self.now).rows }
+        requires column { pos.col < (drawn R.Records D.Dimension C.Colors self.now).columns }
+        requires room { cell_fits (style_at (drawn R.Records D.Dimension C.Colors self.now).config pos) ((drawn R.Records D.Dimension C.Colors self.now).text pos) width 1 ≡ true }
+        ensures { Appends buf.old buf.new result (written (block_line (style_at (drawn R.Records D.Dimension C.Colors self.now).config pos) ((drawn R.Records D.Dimension C.Colors self.now).color pos) ((drawn R.Records D.Dimension C.Colors self.now).text pos) width 1 0)) }
     {
         let style = CellStyle::of(self.config, pos);
         let text = self.records.get_text(pos);
-        push_cell_line(
-            buf,
-            &style,
-            self.colors.get_color(pos),
-            text,
-            width,
-            height,
-            line,
-        )
+        push_single_line(buf, &style, self.colors.get_color(pos), text, width)
+    }
+
+    // Line `line` of a cell, whose text is read on from its last line where that is kept.
+    fn push_tall_cell<A: Allocator>(
+        &self,
+        buf: &mut String<A>,
+        kept: &mut KeptCells,
+        pos: Position,
+        width: usize,
+        height: usize,
+        line: usize,
+    ) -> Result<(), AllocError>
+        requires row { pos.row < (drawn R.Records D.Dimension C.Colors self.now).rows }
+        requires column { pos.col < (drawn R.Records D.Dimension C.Colors self.now).columns }
+        requires room { cell_fits (style_at (drawn R.Records D.Dimension C.Colors self.now).config pos) ((drawn R.Records D.Dimension C.Colors self.now).text pos) width height ≡ true }
+        requires line { line < height }
+        requires kept { AreKept (drawn R.Records D.Dimension C.Colors self.now) kept.old }
+        ensures appends { Appends buf.old buf.new result (written (block_line (style_at (drawn R.Records D.Dimension C.Colors self.now).config pos) ((drawn R.Records D.Dimension C.Colors self.now).color pos) ((drawn R.Records D.Dimension C.Colors self.now).text pos) width height line)) }
+        ensures kept { AreKept (drawn R.Records D.Dimension C.Colors self.now) kept.new }
+    {
+        let style = CellStyle::of(self.config, pos);
+        let text = self.records.get_text(pos);
+        let color = self.colors.get_color(pos);
+        let mut reading = match kept.reading(pos, width, height) {
+            Some(reading) => reading,
+            None => begin_reading(&style, text, width, height),
+        };
+        let done = push_read_line(buf, &style, color, text, &mut reading, width, height, line);
+        kept.keep_reading(pos, width, height, reading);
+        done
     }
 }
 
+// Where the text of a cell of so many columns and lines stands, of which nothing was read yet.
+fn begin_reading<B: Allocator>(
+    style: &CellStyle<'_, B>,
+    text: &str,
+    width: usize,
+    height: usize,
+) -> Reading
+    requires room { cell_fits (style_of style.now) text.now width height ≡ true }
+    requires some { 0 < height }
+    ensures reads { Reads result text.now }
+    ensures place { result.place ≡ place_of (facts_of style.now.formatting text.now) (style_of style.now) width height }
+{
+    let facts = TextFacts::of_text(text, style.formatting);
+    Reading::new(CellPlace::of(facts, style, width, height))
+}
+
 // Line `line` of a cell of so many columns and lines, which has room for its text.
-#[inline(always)]
-fn push_cell_line<C: ANSIFmt, B: Allocator, A: Allocator>(
+fn push_read_line<C: ANSIFmt, B: Allocator, A: Allocator>(
     buf: &mut String<A>,
     style: &CellStyle<'_, B>,
     color: Option<&C>,
     text: &str,
+    reading: &mut Reading,
     width: usize,
     height: usize,
     line: usize,
 ) -> Result<(), AllocError>
     requires room { cell_fits (style_of style.now) text.now width height ≡ true }
     requires line { line < height }
-    ensures { Appends buf.old buf.new result (written (block_line (style_of style.now) (lent_color C.color_of color.entry) text.now width height line)) }
+    requires reads { Reads reading.old text.now }
+    requires place { reading.old.place ≡ place_of (facts_of style.now.formatting text.now) (style_of style.now) width height }
+    ensures appends { Appends buf.old buf.new result (written (block_line (style_of style.now) (lent_color C.color_of color.entry) text.now width height line)) }
+    ensures reads { Reads reading.new text.now }
+    ensures place { reading.new.place ≡ reading.old.place }
 {
-    if height == 1 {
-        return push_single_line(buf, style, color, text, width);
-    }
-    let facts = TextFacts::of_text(text, style.formatting);
-    let place = CellPlace::of(facts, style, width, height);
-    push_block_line(buf, style, color, text, place, width, height, line)
+    let place = reading.place;
+    let shown = reading.line_if(text, place.text_line_at(line));
+    push_block_line_of(buf, style, color, shown, place, width, line)
 }

@@ -6,8 +6,10 @@ ghost use Rattle.pg_config.specs.Config.{has_horizontal, get_horizontal};
 ghost use Rattle.pg_picture.specs.Appending.{Appends};
 ghost use Rattle.pg_picture.specs.Pieces.{separator_text, items_after, last_color};
 ghost use Rattle.pg_picture.specs.Table.{separator_items, separator_part, crossing_at, border_items};
+ghost use Rattle.pg_grid.specs.Kept.{AreKept};
 ghost use Rattle.pg_grid.specs.Grids.{drawn, CanDraw, HasNoSpans, shape_of_table};
 
+use crate::peekable::kept::KeptCells;
 use crate::peekable::{PeekableGrid, Shape};
 use pg_config::SpannedConfig;
 use pg_layout::{ANSIBuf, Colors, Dimension, ExactRecords, PeekableRecords, Position};
@@ -25,6 +27,7 @@ where
     pub(super) fn push_separator<A: Allocator>(
         &self,
         buf: &mut String<A>,
+        kept: &mut KeptCells,
         shape: Shape,
         row: usize,
     ) -> Result<(), AllocError>
@@ -32,9 +35,11 @@ where
         requires shape { shape ≡ shape_of_table (drawn R.Records D.Dimension C.Colors self.now) }
         requires row { row ≤ (drawn R.Records D.Dimension C.Colors self.now).rows }
         requires there { has_horizontal (drawn R.Records D.Dimension C.Colors self.now).config row (drawn R.Records D.Dimension C.Colors self.now).rows ≡ true }
-        ensures { Appends buf.old buf.new result (separator_text (separator_items (drawn R.Records D.Dimension C.Colors self.now) row)) }
+        requires kept { AreKept (drawn R.Records D.Dimension C.Colors self.now) kept.old }
+        ensures appends { Appends buf.old buf.new result (separator_text (separator_items (drawn R.Records D.Dimension C.Colors self.now) row)) }
+        ensures kept { AreKept (drawn R.Records D.Dimension C.Colors self.now) kept.new }
     {
-        let run = self.push_columns(Run::new(), buf, shape, row)?;
+        let run = self.push_columns(Run::new(), buf, kept, shape, row)?;
         let run = self.push_last_crossing(run, buf, shape, row)?;
         run.close(buf)
     }
@@ -44,17 +49,20 @@ where
         &self,
         run: Run<'a, ANSIBuf<B>>,
         buf: &mut String<A>,
+        kept: &mut KeptCells,
         shape: Shape,
         row: usize,
     ) -> Result<Run<'a, ANSIBuf<B>>, AllocError>
         requires can { CanDraw (drawn R.Records D.Dimension C.Colors self.now) }
         requires shape { shape ≡ shape_of_table (drawn R.Records D.Dimension C.Colors self.now) }
         requires there { has_horizontal (drawn R.Records D.Dimension C.Colors self.now).config row (drawn R.Records D.Dimension C.Colors self.now).rows ≡ true }
+        requires kept { AreKept (drawn R.Records D.Dimension C.Colors self.now) kept.old }
         ensures appends { Appends buf.old buf.new result (items_after run.entry (flat_map (separator_part (drawn R.Records D.Dimension C.Colors self.now) row) (range_with_len 0 (drawn R.Records D.Dimension C.Colors self.now).columns))) }
         ensures color { IfOk result (λ after. after ≡ last_color run.entry (flat_map (separator_part (drawn R.Records D.Dimension C.Colors self.now) row) (range_with_len 0 (drawn R.Records D.Dimension C.Colors self.now).columns))) }
+        ensures kept { AreKept (drawn R.Records D.Dimension C.Colors self.now) kept.new }
     {
         if shape.is_spanned {
-            return self.push_spanned_columns(run, buf, shape, row);
+            return self.push_spanned_columns(run, buf, kept, shape, row);
         }
         self.push_plain_columns(run, buf, shape, row)
     }

@@ -9,8 +9,10 @@ ghost use Rattle.pg_picture.specs.Pieces.{written, style_at, block_line, block, 
 ghost use Rattle.pg_picture.specs.Marks.{sep, line};
 ghost use Rattle.pg_picture.specs.Table.{row_part, separator_part, vertical_at, block_at, rect_width, rect_height, crossing_at};
 ghost use Rattle.pg_picture.specs.Rectangles.{IsOwner, columns_or_one, rows_height};
+ghost use Rattle.pg_grid.specs.Kept.{AreKept, IsRectangle};
 ghost use Rattle.pg_grid.specs.Grids.{drawn, CanDraw, shape_of_table, starts};
 
+use crate::peekable::kept::{KeptCells, KeptRectangle};
 use crate::peekable::{PeekableGrid, Shape};
 use pg_config::{Span, SpannedConfig};
 use pg_layout::{ANSIBuf, Colors, Dimension, ExactRecords, PeekableRecords, Position};
@@ -29,6 +31,7 @@ where
     pub(super) fn push_spanned_parts<A: Allocator>(
         &self,
         buf: &mut String<A>,
+        kept: &mut KeptCells,
         shape: Shape,
         row: usize,
         number: usize,
@@ -37,13 +40,15 @@ where
         requires shape { shape ≡ shape_of_table (drawn R.Records D.Dimension C.Colors self.now) }
         requires row { row < (drawn R.Records D.Dimension C.Colors self.now).rows }
         requires number { number < D.height self.now.dimension row }
-        ensures { Appends buf.old buf.new result (written (flat_map (row_part (drawn R.Records D.Dimension C.Colors self.now) row number) (range_with_len 0 (drawn R.Records D.Dimension C.Colors self.now).columns))) }
+        requires kept { AreKept (drawn R.Records D.Dimension C.Colors self.now) kept.old }
+        ensures appends { Appends buf.old buf.new result (written (flat_map (row_part (drawn R.Records D.Dimension C.Colors self.now) row number) (range_with_len 0 (drawn R.Records D.Dimension C.Colors self.now).columns))) }
+        ensures kept { AreKept (drawn R.Records D.Dimension C.Colors self.now) kept.new }
     {
         let mut column = 0;
         while column < shape.columns {
             let pos = Position::new(row, column);
             let span = self.config.left_span(pos);
-            self.push_spanned_part(buf, shape, pos, span, number)?;
+            self.push_spanned_part(buf, kept, shape, pos, span, number)?;
             column += columns_of(span);
         }
         Ok(())
@@ -53,6 +58,7 @@ where
     fn push_spanned_part<A: Allocator>(
         &self,
         buf: &mut String<A>,
+        kept: &mut KeptCells,
         shape: Shape,
         pos: Position,
         span: Option<Span>,
@@ -65,11 +71,13 @@ where
         requires number { number < D.height self.now.dimension pos.row }
         requires left { is_left (drawn R.Records D.Dimension C.Colors self.now).config.spans pos.row pos.col ≡ true }
         requires span { span ≡ left_span (drawn R.Records D.Dimension C.Colors self.now).config.spans pos.row pos.col }
-        ensures { Appends buf.old buf.new result (written (row_part (drawn R.Records D.Dimension C.Colors self.now) pos.row number pos.col)) }
+        requires kept { AreKept (drawn R.Records D.Dimension C.Colors self.now) kept.old }
+        ensures appends { Appends buf.old buf.new result (written (row_part (drawn R.Records D.Dimension C.Colors self.now) pos.row number pos.col)) }
+        ensures kept { AreKept (drawn R.Records D.Dimension C.Colors self.now) kept.new }
     {
         match span {
-            None => self.push_part(buf, shape.columns, pos, number),
-            Some(span) => self.push_rectangle_part(buf, shape, pos, span, number),
+            None => self.push_part(buf, kept, shape.columns, pos, number),
+            Some(span) => self.push_rectangle_part(buf, kept, shape, pos, span, number),
         }
     }
 
@@ -77,6 +85,7 @@ where
     fn push_rectangle_part<A: Allocator>(
         &self,
         buf: &mut String<A>,
+        kept: &mut KeptCells,
         shape: Shape,
         pos: Position,
         span: Span,
@@ -87,13 +96,14 @@ where
         requires row { pos.row < (drawn R.Records D.Dimension C.Colors self.now).rows }
         requires number { number < D.height self.now.dimension pos.row }
         requires span { left_span (drawn R.Records D.Dimension C.Colors self.now).config.spans pos.row pos.col ≡ Some span }
-        ensures { Appends buf.old buf.new result (written (vertical_at (drawn R.Records D.Dimension C.Colors self.now).config shape.columns (D.height self.now.dimension pos.row) pos number) ++ written (block_at (drawn R.Records D.Dimension C.Colors self.now) (corner span) (line pos.row number))) }
+        requires kept { AreKept (drawn R.Records D.Dimension C.Colors self.now) kept.old }
+        ensures appends { Appends buf.old buf.new result (written (vertical_at (drawn R.Records D.Dimension C.Colors self.now).config shape.columns (D.height self.now.dimension pos.row) pos number) ++ written (block_at (drawn R.Records D.Dimension C.Colors self.now) (corner span) (line pos.row number))) }
+        ensures kept { AreKept (drawn R.Records D.Dimension C.Colors self.now) kept.new }
     {
         let height = self.dimension.get_height(pos.row);
         push_vertical_at(buf, self.config, shape.columns, height, pos, number)?;
-        let corner = corner_of(span);
-        let above = self.lines_above(shape, corner.row, pos.row);
-        self.push_rectangle(buf, shape, corner, above + number)
+        let rectangle = self.rectangle_at(kept, shape, corner_of(span), pos.row);
+        self.push_rectangle(buf, kept, rectangle, rectangle.above + number)
     }
 
     // What all columns add to a separator, from rectangle to rectangle from above.
@@ -101,20 +111,23 @@ where
         &self,
         mut run: Run<'a, ANSIBuf<B>>,
         buf: &mut String<A>,
+        kept: &mut KeptCells,
         shape: Shape,
         row: usize,
     ) -> Result<Run<'a, ANSIBuf<B>>, AllocError>
         requires can { CanDraw (drawn R.Records D.Dimension C.Colors self.now) }
         requires shape { shape ≡ shape_of_table (drawn R.Records D.Dimension C.Colors self.now) }
         requires there { has_horizontal (drawn R.Records D.Dimension C.Colors self.now).config row (drawn R.Records D.Dimension C.Colors self.now).rows ≡ true }
+        requires kept { AreKept (drawn R.Records D.Dimension C.Colors self.now) kept.old }
         ensures appends { Appends buf.old buf.new result (items_after run.entry (flat_map (separator_part (drawn R.Records D.Dimension C.Colors self.now) row) (range_with_len 0 (drawn R.Records D.Dimension C.Colors self.now).columns))) }
         ensures color { IfOk result (λ after. after ≡ last_color run.entry (flat_map (separator_part (drawn R.Records D.Dimension C.Colors self.now) row) (range_with_len 0 (drawn R.Records D.Dimension C.Colors self.now).columns))) }
+        ensures kept { AreKept (drawn R.Records D.Dimension C.Colors self.now) kept.new }
     {
         let mut column = 0;
         while column < shape.columns {
             let pos = Position::new(row, column);
             let span = self.config.span_above(pos);
-            run = self.push_spanned_column(run, buf, shape, pos, span)?;
+            run = self.push_spanned_column(run, buf, kept, shape, pos, span)?;
             column += columns_of(span);
         }
         Ok(run)
@@ -125,6 +138,7 @@ where
         &self,
         run: Run<'a, ANSIBuf<B>>,
         buf: &mut String<A>,
+        kept: &mut KeptCells,
         shape: Shape,
         pos: Position,
         span: Option<Span>,
@@ -135,12 +149,14 @@ where
         requires there { has_horizontal (drawn R.Records D.Dimension C.Colors self.now).config pos.row (drawn R.Records D.Dimension C.Colors self.now).rows ≡ true }
         requires starts { starts (drawn R.Records D.Dimension C.Colors self.now).config.spans pos.row pos.col ≡ true }
         requires span { span ≡ span_above (drawn R.Records D.Dimension C.Colors self.now).config.spans pos.row pos.col }
+        requires kept { AreKept (drawn R.Records D.Dimension C.Colors self.now) kept.old }
         ensures appends { Appends buf.old buf.new result (items_after run.entry (separator_part (drawn R.Records D.Dimension C.Colors self.now) pos.row pos.col)) }
         ensures color { IfOk result (λ after. after ≡ last_color run.entry (separator_part (drawn R.Records D.Dimension C.Colors self.now) pos.row pos.col)) }
+        ensures kept { AreKept (drawn R.Records D.Dimension C.Colors self.now) kept.new }
     {
         match span {
             None => self.push_column(run, buf, shape, pos),
-            Some(span) => self.push_block(run, buf, shape, pos, span),
+            Some(span) => self.push_block(run, buf, kept, shape, pos, span),
         }
     }
 
@@ -149,6 +165,7 @@ where
         &self,
         run: Run<'a, ANSIBuf<B>>,
         buf: &mut String<A>,
+        kept: &mut KeptCells,
         shape: Shape,
         pos: Position,
         span: Span,
@@ -157,27 +174,83 @@ where
         requires shape { shape ≡ shape_of_table (drawn R.Records D.Dimension C.Colors self.now) }
         requires there { has_horizontal (drawn R.Records D.Dimension C.Colors self.now).config pos.row (drawn R.Records D.Dimension C.Colors self.now).rows ≡ true }
         requires span { span_above (drawn R.Records D.Dimension C.Colors self.now).config.spans pos.row pos.col ≡ Some span }
+        requires kept { AreKept (drawn R.Records D.Dimension C.Colors self.now) kept.old }
         ensures appends { Appends buf.old buf.new result (items_after run.entry (crossing_at (drawn R.Records D.Dimension C.Colors self.now).config shape.rows shape.columns pos ++ block (block_at (drawn R.Records D.Dimension C.Colors self.now) (corner span) (sep pos.row)) ∷ [])) }
         ensures color { IfOk result (λ after. after ≡ last_color run.entry (crossing_at (drawn R.Records D.Dimension C.Colors self.now).config shape.rows shape.columns pos ++ block (block_at (drawn R.Records D.Dimension C.Colors self.now) (corner span) (sep pos.row)) ∷ [])) }
+        ensures kept { AreKept (drawn R.Records D.Dimension C.Colors self.now) kept.new }
     {
         let run = run.crossing(buf, self.config, pos, (shape.rows, shape.columns))?;
         let run = run.close_for_block(buf)?;
-        let corner = corner_of(span);
-        let above = self.lines_above(shape, corner.row, pos.row);
-        self.push_rectangle(buf, shape, corner, above - 1)?;
+        let rectangle = self.rectangle_at(kept, shape, corner_of(span), pos.row);
+        self.push_rectangle(buf, kept, rectangle, rectangle.above - 1)?;
         Ok(run)
     }
 
-    // How many lines the rows from a first one up to another have, with the separator below each.
-    fn lines_above(&self, shape: Shape, first: usize, row: usize) -> usize
+    // The rectangle of an owner, and how many of its lines stand above a row of it.
+    fn rectangle_at(
+        &self,
+        kept: &mut KeptCells,
+        shape: Shape,
+        corner: Position,
+        row: usize,
+    ) -> KeptRectangle
         requires can { CanDraw (drawn R.Records D.Dimension C.Colors self.now) }
         requires shape { shape ≡ shape_of_table (drawn R.Records D.Dimension C.Colors self.now) }
-        requires first { first ≤ row }
+        requires owner { IsOwner (drawn R.Records D.Dimension C.Colors self.now) corner }
+        requires first { corner.row ≤ row }
         requires row { row < (drawn R.Records D.Dimension C.Colors self.now).rows }
-        ensures { result ≡ rows_height (drawn R.Records D.Dimension C.Colors self.now) first (row - first) }
+        requires kept { AreKept (drawn R.Records D.Dimension C.Colors self.now) kept.old }
+        ensures corner { result.corner ≡ corner }
+        ensures row { result.row ≡ row }
+        ensures is { IsRectangle (drawn R.Records D.Dimension C.Colors self.now) result }
+        ensures kept { AreKept (drawn R.Records D.Dimension C.Colors self.now) kept.new }
     {
-        let mut lines = 0;
-        for above in first..row {
+        let before = match kept.rectangle(corner, row) {
+            Some(before) => before,
+            None => self.rectangle_of(shape, corner),
+        };
+        let above = self.lines_above(shape, before, row);
+        let rectangle = KeptRectangle {
+            row,
+            above,
+            ..before
+        };
+        kept.keep_rectangle(rectangle);
+        rectangle
+    }
+
+    // The rectangle of an owner, above whose first row stands none of its lines.
+    fn rectangle_of(&self, shape: Shape, corner: Position) -> KeptRectangle
+        requires can { CanDraw (drawn R.Records D.Dimension C.Colors self.now) }
+        requires shape { shape ≡ shape_of_table (drawn R.Records D.Dimension C.Colors self.now) }
+        requires owner { IsOwner (drawn R.Records D.Dimension C.Colors self.now) corner }
+        ensures corner { result.corner ≡ corner }
+        ensures row { result.row ≡ corner.row }
+        ensures is { IsRectangle (drawn R.Records D.Dimension C.Colors self.now) result }
+    {
+        let width = rect_width(self.config, &self.dimension, corner, shape.columns).unwrap();
+        let height = rect_height(self.config, &self.dimension, corner).unwrap();
+        KeptRectangle {
+            corner,
+            width,
+            height,
+            row: corner.row,
+            above: 0,
+        }
+    }
+
+    // How many lines of a rectangle stand above a row, where it is known how many stand above an
+    // earlier one. With each row comes the separator below it.
+    fn lines_above(&self, shape: Shape, known: KeptRectangle, row: usize) -> usize
+        requires can { CanDraw (drawn R.Records D.Dimension C.Colors self.now) }
+        requires shape { shape ≡ shape_of_table (drawn R.Records D.Dimension C.Colors self.now) }
+        requires known { IsRectangle (drawn R.Records D.Dimension C.Colors self.now) known }
+        requires first { known.row ≤ row }
+        requires row { row < (drawn R.Records D.Dimension C.Colors self.now).rows }
+        ensures { result ≡ rows_height (drawn R.Records D.Dimension C.Colors self.now) known.corner.row (row - known.corner.row) }
+    {
+        let mut lines = known.above;
+        for above in known.row..row {
             lines += self.dimension.get_height(above) + self.separators_at(shape, above + 1);
         }
         lines
@@ -194,23 +267,29 @@ where
         }
     }
 
-    // Line `number` of the rectangle of a place that owns it.
+    // Line `number` of a rectangle.
     fn push_rectangle<A: Allocator>(
         &self,
         buf: &mut String<A>,
-        shape: Shape,
-        corner: Position,
+        kept: &mut KeptCells,
+        rectangle: KeptRectangle,
         number: usize,
     ) -> Result<(), AllocError>
         requires can { CanDraw (drawn R.Records D.Dimension C.Colors self.now) }
-        requires shape { shape ≡ shape_of_table (drawn R.Records D.Dimension C.Colors self.now) }
-        requires owner { IsOwner (drawn R.Records D.Dimension C.Colors self.now) corner }
-        requires number { number < rect_height (drawn R.Records D.Dimension C.Colors self.now) corner }
-        ensures { Appends buf.old buf.new result (written (block_line (style_at (drawn R.Records D.Dimension C.Colors self.now).config corner) ((drawn R.Records D.Dimension C.Colors self.now).color corner) ((drawn R.Records D.Dimension C.Colors self.now).text corner) (rect_width (drawn R.Records D.Dimension C.Colors self.now) corner) (rect_height (drawn R.Records D.Dimension C.Colors self.now) corner) number)) }
+        requires owner { IsOwner (drawn R.Records D.Dimension C.Colors self.now) rectangle.corner }
+        requires is { IsRectangle (drawn R.Records D.Dimension C.Colors self.now) rectangle }
+        requires number { number < rect_height (drawn R.Records D.Dimension C.Colors self.now) rectangle.corner }
+        requires kept { AreKept (drawn R.Records D.Dimension C.Colors self.now) kept.old }
+        ensures appends { Appends buf.old buf.new result (written (block_line (style_at (drawn R.Records D.Dimension C.Colors self.now).config rectangle.corner) ((drawn R.Records D.Dimension C.Colors self.now).color rectangle.corner) ((drawn R.Records D.Dimension C.Colors self.now).text rectangle.corner) (rect_width (drawn R.Records D.Dimension C.Colors self.now) rectangle.corner) (rect_height (drawn R.Records D.Dimension C.Colors self.now) rectangle.corner) number)) }
+        ensures kept { AreKept (drawn R.Records D.Dimension C.Colors self.now) kept.new }
     {
-        let width = rect_width(self.config, &self.dimension, corner, shape.columns).unwrap();
-        let height = rect_height(self.config, &self.dimension, corner).unwrap();
-        self.push_cell(buf, corner, width, height, number)
+        let KeptRectangle {
+            corner,
+            width,
+            height,
+            ..
+        } = rectangle;
+        self.push_cell(buf, kept, corner, width, height, number)
     }
 }
 

@@ -60,7 +60,7 @@ returns-in_err-push_body g c =
     Appends-text (picture-parts Known t c.unwrap-width.result c.unwrap-height.result {is_first = first} {is_last = last} wide high (ap (λ (m : Sides Indent). m.top.size == 0) c.get_margin.ensures) refl)
     (c.in_ok-push_top_margin.ensures then stopped
     (continued (lines_before last) (replicate t.config.margin.bottom.size (written (margin_line t.config.margin.bottom t.config.margin_offset.bottom t.config.margin_color.bottom c.unwrap-width.result))))
-    c.from_residual-in_err-push_body.ensures.0 c.in_err-push_body.ensures)
+    c.from_residual-in_err-push_body.ensures.0 c.in_err-push_body.ensures.appends)
 
 pub returns : goal.returns
 returns g c =
@@ -74,4 +74,4 @@ returns g c =
       | else-is_first w ↦ (let e : first ≡ false = grind (arith, nat_tests, w.if-is_first.false) in w.push_bottom_margin-is ∙ e ∙ ap (λ b. b && (c.unwrap-height.result == 0)) (sym e))
     ] in
     Appends-text (picture-parts Known t c.unwrap-width.result c.unwrap-height.result {is_first = first} {is_last = c.if-is_first.push_bottom_margin} wide high (ap (λ (m : Sides Indent). m.top.size == 0) c.get_margin.ensures) last)
-    (c.in_ok-push_top_margin.ensures then (c.in_ok-push_body.ensures then c.push_bottom_margin.ensures))
+    (c.in_ok-push_top_margin.ensures then (c.in_ok-push_body.ensures.appends then c.push_bottom_margin.ensures))

@@ -1,4 +1,4 @@
-use Rattle.std.proofs.Common.{◌≡◌, ◌∙◌, sym, ap, ap₂, subst, refl, ℕ, Some, IsSome, true}
+use Rattle.std.proofs.Common.{◌≡◌, ◌∙◌, sym, ap₂, subst, refl, ℕ, IsSome}
 use Rattle.pg_layout.specs.Text.{Text}
 use Rattle.pg_picture.specs.Cells.{style_of}
 use Rattle.pg_picture.specs.Pieces.{Style, style_at}
@@ -7,7 +7,6 @@ use Rattle.pg_picture.specs.Table.{rect_width}
 use Rattle.pg_picture.specs.declared.place.CellPlace.{CellPlace}
 use Rattle.pg_picture.proofs.FittingTables.{some_is}
 use Rattle.pg_stream.specs.Frames.{frame_table}
-use Rattle.pg_stream.specs.Placed.{Placed}
 use Rattle.pg_stream.specs.Turns.{place_in}
 use Rattle.pg_stream.proofs.CellsBegun.{width-some, height-some}
 use Rattle.pg_stream.proofs.frame.Frame.begin_cell.Goals as goal

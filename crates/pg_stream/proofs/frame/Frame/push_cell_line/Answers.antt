@@ -1,5 +1,4 @@
 use Rattle.std.proofs.Common.{◌≡◌, ◌∙◌, ap}
-use Rattle.pg_layout.specs.declared.position.Position.{Position}
 use Rattle.pg_layout.specs.Position.{at}
 use Rattle.pg_picture.specs.Cells.{style_of}
 use Rattle.pg_picture.specs.Pieces.{style_at, written}

@@ -1,4 +1,4 @@
-use Rattle.std.proofs.Common.{◌≡◌, ℕ, arith}
+use Rattle.std.proofs.Common.{arith}
 use Rattle.pg_picture.proofs.Appending.{Gained-none, Gained-all, Appends-text}
 use Rattle.pg_stream.proofs.SeparatorsOfRows.{top-none, top-some}
 use Rattle.pg_stream.proofs.frame.Frame.push_top.Goals as goal

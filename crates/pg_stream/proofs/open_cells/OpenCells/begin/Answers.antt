@@ -1,4 +1,4 @@
-use Rattle.std.proofs.Common.{◌≡◌, ◌∙◌, sym, ap, ap₂, subst, set, get_or, length, drop, max, arith, ◌<◌, ◌+◌, slice_index_or, [], Option, None, true, zero-add, add-one}
+use Rattle.std.proofs.Common.{◌≡◌, ◌∙◌, sym, ap, subst, get_or, length, max, arith, ◌<◌, ◌+◌, slice_index_or, [], Option, None}
 use Rattle.pg_layout.specs.Position.{at}
 use Rattle.pg_config.specs.Spans.{rect_columns}
 use Rattle.pg_picture.proofs.Owners.{apart_from, owners_of, owner-columns}
@@ -6,7 +6,7 @@ use Rattle.pg_stream.specs.Conditions.{HasRoom}
 use Rattle.pg_stream.specs.Drawing.{column_end, reach}
 use Rattle.pg_stream.specs.Frames.{frame_table}
 use Rattle.pg_stream.specs.Turns.{begin_cell}
-use Rattle.pg_stream.proofs.PartsOfLists.{partly, partly-none, partly-all, partly-length, partly-at, partly-set}
+use Rattle.pg_stream.proofs.PartsOfLists.{partly-none, partly-all, partly-length}
 use Rattle.pg_stream.proofs.PartsOfSeparators.{reach-none, reach-more}
 use Rattle.pg_stream.proofs.Beginning.{own_at, own-now, owner-now, own-rows, own-columns, inside-columns, reach-set, read-more, read-none, begun-more, begun-is}
 use Rattle.pg_stream.proofs.open_cells.OpenCells.begin.Goals as goal

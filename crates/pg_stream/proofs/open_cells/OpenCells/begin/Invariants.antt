@@ -1,4 +1,4 @@
-use Rattle.std.proofs.Common.{◌≡◌, List, drop, slice_index_or, []}
+use Rattle.std.proofs.Common.{◌≡◌, List}
 use Rattle.pg_layout.specs.Records.{AlwaysGives}
 use Rattle.pg_layout.specs.Text.{Text}
 use Rattle.pg_stream.specs.Drawing.{reach}

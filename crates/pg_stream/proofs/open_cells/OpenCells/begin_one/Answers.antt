@@ -1,4 +1,4 @@
-use Rattle.std.proofs.Common.{◌≡◌, ◌∙◌, sym, ap, set, Some, true}
+use Rattle.std.proofs.Common.{◌∙◌, sym, ap, set, Some}
 use Rattle.pg_layout.specs.declared.position.Position.{Position}
 use Rattle.pg_stream.specs.Frames.{frame_table}
 use Rattle.pg_stream.specs.Turns.{new_cell}

@@ -1,4 +1,4 @@
-use Rattle.std.proofs.Common.{◌≡◌, ℕ, ◌+◌, ◌<◌, ◌^◌, sym, ap, ◌∙◌, subst, map, arith}
+use Rattle.std.proofs.Common.{ℕ, ◌+◌, ◌<◌, ◌^◌, sym, ap, ◌∙◌, subst, map, arith}
 use Rattle.pg_picture.proofs.Appending.{Gained-none, Gained-all, refused-as, appended-as, Appends-text}
 use Rattle.pg_stream.specs.Frames.{frame_table}
 use Rattle.pg_stream.specs.Placed.{draw_cell, AllOpen}

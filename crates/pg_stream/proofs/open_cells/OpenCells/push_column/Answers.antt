@@ -1,4 +1,4 @@
-use Rattle.std.proofs.Common.{sym, ap, refl, slice_index_or, None}
+use Rattle.std.proofs.Common.{ap, refl, slice_index_or, None}
 use Rattle.pg_picture.specs.Pieces.{items_after, last_color}
 use Rattle.pg_picture.specs.Table.{crossing_at}
 use Rattle.pg_picture.proofs.Appending.{◌then◌, stopped, Gained-none, Gained-all, Appends-text}

@@ -1,7 +1,7 @@
-use Rattle.std.proofs.Common.{◌≡◌, ℕ, List, refl, sym, ap, ◌∙◌, arith, nat_lt, max, slice_index_or, None}
+use Rattle.std.proofs.Common.{ℕ, List, refl, sym, ap, ◌∙◌, nat_lt, max, slice_index_or, None}
 use Rattle.pg_layout.specs.declared.position.Position.{Position}
 use Rattle.pg_picture.specs.Pieces.{Item, items_after, last_color}
-use Rattle.pg_picture.proofs.Appending.{Gained-none, Gained-text, Gained-more, Gained-all, refused, Appends-text}
+use Rattle.pg_picture.proofs.Appending.{Gained-none, Gained-text, Gained-more, refused, Appends-text}
 use Rattle.pg_picture.proofs.Separators.{items_after-columns, last_color-columns, items_after-columns_cut}
 use Rattle.pg_stream.specs.Drawing.{reach, column_end, open_separator_part}
 use Rattle.pg_stream.specs.Frames.{frame_table}

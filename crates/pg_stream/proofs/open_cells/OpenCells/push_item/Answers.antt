@@ -1,7 +1,6 @@
-use Rattle.std.proofs.Common.{◌≡◌, ◌∙◌, sym, ap, slice_index_or, option_map, Some, None, [], ◌∷◌}
-use Rattle.pg_picture.specs.Pieces.{Item, block, items_after, last_color, written}
+use Rattle.std.proofs.Common.{◌≡◌, ◌∙◌, sym, ap, slice_index_or, option_map, Some, None}
+use Rattle.pg_picture.specs.Pieces.{last_color}
 use Rattle.pg_picture.proofs.Appending.{◌then◌, stopped, appended-as, refused-as, Appends-text}
-use Rattle.pg_stream.specs.Drawing.{cell_items}
 use Rattle.pg_stream.specs.Frames.{frame_table}
 use Rattle.pg_stream.specs.Placed.{slot_of}
 use Rattle.pg_stream.specs.Slots.{slot_block}

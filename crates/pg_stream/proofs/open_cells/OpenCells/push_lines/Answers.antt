@@ -1,6 +1,5 @@
-use Rattle.std.proofs.Common.{◌≡◌, ℕ, ◌+◌, ◌<◌, ◌^◌, map, sym, ap, ◌∙◌, subst, arith}
+use Rattle.std.proofs.Common.{◌+◌, ◌<◌, ◌^◌, map, sym, ap, ◌∙◌, subst, arith}
 use Rattle.pg_picture.proofs.Appending.{Gained-none, Gained-text, Gained-more, refused, Appends-text}
-use Rattle.pg_stream.specs.Drawing.{open_lines}
 use Rattle.pg_stream.specs.Frames.{frame_table}
 use Rattle.pg_stream.specs.Placed.{draw_cell, AllOpen, IsTall}
 use Rattle.pg_stream.proofs.OpenLists.{drawn-all}

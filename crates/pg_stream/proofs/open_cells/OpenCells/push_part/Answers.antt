@@ -1,6 +1,5 @@
 use Rattle.std.proofs.Common.{◌≡◌, ◌∙◌, sym, ap, slice_index_or, option_map, Some, None}
 use Rattle.pg_stream.specs.Frames.{frame_table}
-use Rattle.pg_stream.specs.Placed.{Placed}
 use Rattle.pg_picture.proofs.Appending.{◌then◌, stopped, Gained-none, Gained-all, Appends-text}
 use Rattle.pg_stream.proofs.PartsOfLines.{part-none, part-some}
 use Rattle.pg_stream.proofs.open_cells.OpenCells.push_part.Goals as goal

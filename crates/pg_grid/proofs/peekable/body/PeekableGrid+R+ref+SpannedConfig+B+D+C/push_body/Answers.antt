@@ -10,7 +10,7 @@ pub loop-row-init : goal.loop-row-init
 loop-row-init g c =
     let t = drawn g.R.Records g.D.Dimension g.C.Colors c.args.self.now in
     let n = lines_before c.args.is_first in
-    record { gained = Gained-text (above-none-text t n) (Gained-none c.args.buf.now); index = above-none t n }
+    record { gained = Gained-text (above-none-text t n) (Gained-none c.args.buf.now); kept = c.requires.kept; index = above-none t n }
 
 pub push_row-requires-clause-room : goal.push_row-requires-clause-room
 push_row-requires-clause-room g c =
@@ -19,8 +19,8 @@ push_row-requires-clause-room g c =
     let here : c.loop-row.row < t.rows = omega (arith, ap (λ (s : Shape). s.rows) c.requires.shape) in
     row-room t n c.loop-row.index c.loop-row.row c.args.shape.height c.loop-row.invariant.index (ap (λ (s : Shape). s.height) c.requires.shape) here
 
-pub returns-in_err-index : goal.returns-in_err-index
-returns-in_err-index g c =
+pub returns-in_err-index-clause-appends : goal.returns-in_err-index-clause-appends
+returns-in_err-index-clause-appends g c =
     let t = drawn g.R.Records g.D.Dimension g.C.Colors c.args.self.now in
     let n = lines_before c.args.is_first in
     let here : c.loop-row.row < t.rows = omega (arith, ap (λ (s : Shape). s.rows) c.requires.shape) in
@@ -32,6 +32,7 @@ loop-row-preserved g c =
     let n = lines_before c.args.is_first in
     record {
       gained = Gained-text (above-text t n c.loop-row.index c.loop-row.row c.loop-row.invariant.index) (Gained-more c.loop-row.invariant.gained c.in_ok-index.ensures.lines);
+      kept = c.in_ok-index.ensures.kept;
       index = c.in_ok-index.ensures.index ∙ above-length t n c.loop-row.index c.loop-row.row c.loop-row.invariant.index;
     }
 
@@ -42,9 +43,9 @@ push_last-requires-clause-room g c =
     let ended : c.loop-row.row ≡ t.rows = omega (arith, ap (λ (s : Shape). s.rows) c.requires.shape) in
     last-room t n c.loop-row.index c.loop-row.row c.args.shape.height c.loop-row.invariant.index ended (ap (λ (s : Shape). s.height) c.requires.shape)
 
-pub returns : goal.returns
-returns g c =
+pub returns-clause-appends : goal.returns-clause-appends
+returns-clause-appends g c =
     let t = drawn g.R.Records g.D.Dimension g.C.Colors c.args.self.now in
     let n = lines_before c.args.is_first in
     let ended : c.loop-row.row ≡ t.rows = omega (arith, ap (λ (s : Shape). s.rows) c.requires.shape) in
-    Appends-text (last-text t n c.loop-row.index c.loop-row.row c.loop-row.invariant.index ended) (gained-then c.loop-row.invariant.gained c.push_last.ensures)
+    Appends-text (last-text t n c.loop-row.index c.loop-row.row c.loop-row.invariant.index ended) (gained-then c.loop-row.invariant.gained c.push_last.ensures.appends)

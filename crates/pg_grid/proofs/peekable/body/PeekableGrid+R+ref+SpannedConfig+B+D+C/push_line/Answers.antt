@@ -7,23 +7,23 @@ use Rattle.pg_grid.specs.Grids.{drawn}
 use Rattle.pg_picture.proofs.FirstLines.{end_of, line-text}
 use Rattle.pg_grid.proofs.peekable.body.PeekableGrid+R+ref+SpannedConfig+B+D+C.push_line.Goals as goal
 
-pub returns-in_err-push_start : goal.returns-in_err-push_start
+pub returns-in_err-push_start-clause-appends : goal.returns-in_err-push_start-clause-appends
 unfolding mark_text
-returns-in_err-push_start g c =
+returns-in_err-push_start-clause-appends g c =
     let t = drawn g.R.Records g.D.Dimension g.C.Colors c.args.self.now in
     Appends-text (line-text t c.args.shape.height c.args.is_first c.args.index (line c.args.row c.args.number) (ap (λ (s : Shape). s.height) c.requires.shape))
     (stopped (mark_text t (line c.args.row c.args.number) ++ end_of t c.args.shape.height c.args.index) c.from_residual.ensures.0 c.in_err-push_start.ensures)
 
-pub returns-in_err-push_row_line : goal.returns-in_err-push_row_line
+pub returns-in_err-push_row_line-clause-appends : goal.returns-in_err-push_row_line-clause-appends
 unfolding mark_text
-returns-in_err-push_row_line g c =
+returns-in_err-push_row_line-clause-appends g c =
     let t = drawn g.R.Records g.D.Dimension g.C.Colors c.args.self.now in
     Appends-text (line-text t c.args.shape.height c.args.is_first c.args.index (line c.args.row c.args.number) (ap (λ (s : Shape). s.height) c.requires.shape))
-    (c.in_ok-push_start.ensures then stopped (end_of t c.args.shape.height c.args.index) c.from_residual-in_err-push_row_line.ensures.0 c.in_err-push_row_line.ensures)
+    (c.in_ok-push_start.ensures then stopped (end_of t c.args.shape.height c.args.index) c.from_residual-in_err-push_row_line.ensures.0 c.in_err-push_row_line.ensures.appends)
 
-pub returns : goal.returns
+pub returns-clause-appends : goal.returns-clause-appends
 unfolding mark_text
-returns g c =
+returns-clause-appends g c =
     let t = drawn g.R.Records g.D.Dimension g.C.Colors c.args.self.now in
     Appends-text (line-text t c.args.shape.height c.args.is_first c.args.index (line c.args.row c.args.number) (ap (λ (s : Shape). s.height) c.requires.shape))
-    (c.in_ok-push_start.ensures then (c.in_ok-push_row_line.ensures then c.push_right_margin.ensures))
+    (c.in_ok-push_start.ensures then (c.in_ok-push_row_line.ensures.appends then c.push_right_margin.ensures))

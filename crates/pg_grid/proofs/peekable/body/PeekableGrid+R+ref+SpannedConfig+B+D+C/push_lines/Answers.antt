@@ -10,17 +10,20 @@ pub loop-number-init : goal.loop-number-init
 loop-number-init g c =
     let t = drawn g.R.Records g.D.Dimension g.C.Colors c.args.self.now in
     let n = lines_before c.args.is_first in
-    Gained-text (sym (body_text-nil Known t n c.args.index)) (Gained-none c.args.buf.now)
+    record { gained = Gained-text (sym (body_text-nil Known t n c.args.index)) (Gained-none c.args.buf.now); kept = c.requires.kept }
 
 pub loop-number-preserved : goal.loop-number-preserved
 loop-number-preserved g c =
     let t = drawn g.R.Records g.D.Dimension g.C.Colors c.args.self.now in
     let n = lines_before c.args.is_first in
-    Gained-text (row-more t n c.args.index c.args.row c.loop-number.number) (Gained-more c.loop-number.invariant c.in_ok-push_line.ensures)
+    record {
+      gained = Gained-text (row-more t n c.args.index c.args.row c.loop-number.number) (Gained-more c.loop-number.invariant.gained c.in_ok-push_line.ensures.appends);
+      kept = c.in_ok-push_line.ensures.kept;
+    }
 
 pub returns-in_err-push_line-clause-lines : goal.returns-in_err-push_line-clause-lines
 returns-in_err-push_line-clause-lines g c =
     let t = drawn g.R.Records g.D.Dimension g.C.Colors c.args.self.now in
     let n = lines_before c.args.is_first in
     let here : c.loop-number.number < t.height c.args.row = omega (arith, c.get_height-height.ensures) in
-    refused _ (row-cut t n c.args.index c.args.row c.loop-number.number (t.height c.args.row) here) c.from_residual.ensures.0 c.loop-number.invariant c.in_err-push_line.ensures
+    refused _ (row-cut t n c.args.index c.args.row c.loop-number.number (t.height c.args.row) here) c.from_residual.ensures.0 c.loop-number.invariant.gained c.in_err-push_line.ensures.appends

@@ -13,7 +13,7 @@ use Rattle.pg_grid.proofs.RowParts.{part-text, written-columns, written-columns_
 use Rattle.pg_grid.proofs.peekable.rows.PeekableGrid+R+ref+SpannedConfig+B+D+C.push_plain_parts.Goals as goal
 
 pub loop-column-init : goal.loop-column-init
-loop-column-init g c = Gained-text (sym written-nil) (Gained-none c.args.buf.now)
+loop-column-init g c = record { gained = Gained-text (sym written-nil) (Gained-none c.args.buf.now); kept = c.requires.kept }
 
 pub push_part-requires-clause-room : goal.push_part-requires-clause-room
 push_part-requires-clause-room g c =
@@ -28,18 +28,21 @@ loop-column-preserved g c =
     let here : c.loop-column.column < t.columns = omega (arith, c.requires.columns) in
     let place = ap (λ (p : Position). written (vertical_at t.config c.args.columns (t.height p.row) p c.args.line) ++ written (block_line (style_at t.config p) (t.color p) (t.text p) (t.width p.col) (t.height p.row) c.args.line)) c.new.ensures in
     let text = part-text t c.requires.plain c.args.columns (t.height c.args.row) (at c.args.row c.loop-column.column) c.args.line c.requires.columns refl c.requires.row here c.requires.line in
-    Gained-text (sym (written-columns (row_part t c.args.row c.args.line) c.loop-column.column)) (Gained-more c.loop-column.invariant (Appends-text (place ∙ text) c.in_ok-push_part.ensures))
+    record {
+      gained = Gained-text (sym (written-columns (row_part t c.args.row c.args.line) c.loop-column.column)) (Gained-more c.loop-column.invariant.gained (Appends-text (place ∙ text) c.in_ok-push_part.ensures.appends));
+      kept = c.in_ok-push_part.ensures.kept;
+    }
 
-pub returns-in_err-push_part : goal.returns-in_err-push_part
-returns-in_err-push_part g c =
+pub returns-in_err-push_part-clause-appends : goal.returns-in_err-push_part-clause-appends
+returns-in_err-push_part-clause-appends g c =
     let t = drawn g.R.Records g.D.Dimension g.C.Colors c.args.self.now in
     let here : c.loop-column.column < t.columns = omega (arith, c.requires.columns) in
     let place = ap (λ (p : Position). written (vertical_at t.config c.args.columns (t.height p.row) p c.args.line) ++ written (block_line (style_at t.config p) (t.color p) (t.text p) (t.width p.col) (t.height p.row) c.args.line)) c.new.ensures in
     let text = part-text t c.requires.plain c.args.columns (t.height c.args.row) (at c.args.row c.loop-column.column) c.args.line c.requires.columns refl c.requires.row here c.requires.line in
-    refused _ (written-columns_cut (row_part t c.args.row c.args.line) c.loop-column.column t.columns here) c.from_residual.ensures.0 c.loop-column.invariant (Appends-text (place ∙ text) c.in_err-push_part.ensures)
+    refused _ (written-columns_cut (row_part t c.args.row c.args.line) c.loop-column.column t.columns here) c.from_residual.ensures.0 c.loop-column.invariant.gained (Appends-text (place ∙ text) c.in_err-push_part.ensures.appends)
 
-pub returns : goal.returns
-returns g c =
+pub returns-clause-appends : goal.returns-clause-appends
+returns-clause-appends g c =
     let t = drawn g.R.Records g.D.Dimension g.C.Colors c.args.self.now in
     let ended : c.loop-column.column ≡ t.columns = omega (arith, c.requires.columns) in
-    Appends-text (ap (λ n. written (flat_map (row_part t c.args.row c.args.line) (range_with_len 0 n))) ended) (Gained-all c.loop-column.invariant)
+    Appends-text (ap (λ n. written (flat_map (row_part t c.args.row c.args.line) (range_with_len 0 n))) ended) (Gained-all c.loop-column.invariant.gained)

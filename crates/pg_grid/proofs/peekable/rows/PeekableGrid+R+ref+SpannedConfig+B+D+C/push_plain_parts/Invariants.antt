@@ -3,10 +3,14 @@ use Rattle.std.specs.List.{range_with_len}
 use Rattle.pg_picture.specs.Appending.{Gained}
 use Rattle.pg_picture.specs.Pieces.{written}
 use Rattle.pg_picture.specs.Table.{row_part}
+use Rattle.pg_grid.specs.Kept.{AreKept}
 use Rattle.pg_grid.specs.Grids.{drawn}
 use Rattle.pg_grid.proofs.peekable.rows.PeekableGrid+R+ref+SpannedConfig+B+D+C.push_plain_parts.Given as goal
 
 abbrev pub invariant-loop-column : goal.invariant-loop-column
 invariant-loop-column g l =
     let t = (drawn g.R.Records g.D.Dimension g.C.Colors l.self) in
-    Gained l.fn.buf l.buf (written (flat_map (row_part t l.row l.line) (range_with_len 0 l.column)))
+    record {
+      gained : Gained l.fn.buf l.buf (written (flat_map (row_part t l.row l.line) (range_with_len 0 l.column)));
+      kept : AreKept t l.kept;
+    }

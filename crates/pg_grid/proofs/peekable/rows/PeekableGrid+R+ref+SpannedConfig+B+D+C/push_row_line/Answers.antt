@@ -11,17 +11,17 @@ use Rattle.pg_grid.proofs.peekable.rows.PeekableGrid+R+ref+SpannedConfig+B+D+C.p
 pub push_end-requires-clause-columns : goal.push_end-requires-clause-columns
 push_end-requires-clause-columns g c = ap (λ (s : Shape). s.columns) c.requires.shape
 
-pub returns-in_err-push_parts : goal.returns-in_err-push_parts
+pub returns-in_err-push_parts-clause-appends : goal.returns-in_err-push_parts-clause-appends
 unfolding row_line
-returns-in_err-push_parts g c =
+returns-in_err-push_parts-clause-appends g c =
     let t = drawn g.R.Records g.D.Dimension g.C.Colors c.args.self.now in
     Appends-text (sym (written-columns (row_part t c.args.row c.args.line) t.columns))
-    (stopped (written (row_part t c.args.row c.args.line t.columns)) c.from_residual.ensures.0 c.in_err-push_parts.ensures)
+    (stopped (written (row_part t c.args.row c.args.line t.columns)) c.from_residual.ensures.0 c.in_err-push_parts.ensures.appends)
 
-pub returns : goal.returns
+pub returns-clause-appends : goal.returns-clause-appends
 unfolding row_line
-returns g c =
+returns-clause-appends g c =
     let t = drawn g.R.Records g.D.Dimension g.C.Colors c.args.self.now in
     let part = row_part t c.args.row c.args.line in
     Appends-text (ap (λ n. written (flat_map part (range_with_len 0 t.columns)) ++ written (part n)) (ap (λ (s : Shape). s.columns) c.requires.shape) ∙ sym (written-columns part t.columns))
-    (c.in_ok-push_parts.ensures then c.push_end.ensures)
+    (c.in_ok-push_parts.ensures.appends then c.push_end.ensures)

@@ -1,46 +1,19 @@
-use Rattle.std.proofs.Common.{sym, ap, ap₂, ◌∙◌, arith}
+use Rattle.std.proofs.Common.{ap₂, arith}
 use Rattle.pg_picture.specs.Pieces.{written, style_at, block_line}
-use Rattle.pg_picture.specs.Table.{rect_width, rect_height}
 use Rattle.pg_picture.proofs.Appending.{Appends-text}
-use Rattle.pg_picture.proofs.FittingTables.{some_is}
 use Rattle.pg_picture.proofs.DrawnRectangles.{owner_room}
-use Rattle.pg_grid.specs.declared.peekable.Shape.{Shape}
 use Rattle.pg_grid.specs.Grids.{drawn}
-use Rattle.pg_grid.proofs.CanDraw.{is_some_answer}
-use Rattle.pg_grid.proofs.RectangleParts.{owner_inside, rect_width-answer, rect_height-answer}
 use Rattle.pg_grid.proofs.peekable.spanned.PeekableGrid+R+ref+SpannedConfig+B+D+C.push_rectangle.Goals as goal
-
-pub rect_width-requires-clause-some : goal.rect_width-requires-clause-some
-rect_width-requires-clause-some g c = (owner_inside (drawn g.R.Records g.D.Dimension g.C.Colors c.args.self.now) c.requires.can c.args.corner c.requires.owner).some_columns
-
-pub rect_width-requires-clause-inside : goal.rect_width-requires-clause-inside
-rect_width-requires-clause-inside g c = omega (arith, (owner_inside (drawn g.R.Records g.D.Dimension g.C.Colors c.args.self.now) c.requires.can c.args.corner c.requires.owner).columns_end, ap (λ (s : Shape). s.columns) c.requires.shape)
-
-pub unwrap-width-requires : goal.unwrap-width-requires
-unwrap-width-requires g c = is_some_answer (rect_width-answer (drawn g.R.Records g.D.Dimension g.C.Colors c.args.self.now) c.requires.can c.args.corner c.requires.owner c.args.shape.columns c.rect_width.result (ap (λ (s : Shape). s.columns) c.requires.shape) c.rect_width.ensures)
-
-pub rect_height-requires : goal.rect_height-requires
-rect_height-requires g c = (owner_inside (drawn g.R.Records g.D.Dimension g.C.Colors c.args.self.now) c.requires.can c.args.corner c.requires.owner).some_rows
-
-pub unwrap-height-requires : goal.unwrap-height-requires
-unwrap-height-requires g c = is_some_answer (rect_height-answer (drawn g.R.Records g.D.Dimension g.C.Colors c.args.self.now) c.requires.can c.args.corner c.requires.owner c.rect_height.result c.rect_height.ensures)
 
 pub push_cell-requires-clause-room : goal.push_cell-requires-clause-room
 push_cell-requires-clause-room g c =
-    let t = drawn g.R.Records g.D.Dimension g.C.Colors c.args.self.now in
-    let wide = some_is c.unwrap-width.result (rect_width t c.args.corner) (sym c.unwrap-width.ensures ∙ rect_width-answer t c.requires.can c.args.corner c.requires.owner c.args.shape.columns c.rect_width.result (ap (λ (s : Shape). s.columns) c.requires.shape) c.rect_width.ensures) in
-    let high = some_is c.unwrap-height.result (rect_height t c.args.corner) (sym c.unwrap-height.ensures ∙ rect_height-answer t c.requires.can c.args.corner c.requires.owner c.rect_height.result c.rect_height.ensures) in
-    rw (wide, high) (owner_room t c.requires.can.fits c.args.corner c.requires.owner)
+    rw (c.requires.is.width, c.requires.is.height) (owner_room (drawn g.R.Records g.D.Dimension g.C.Colors c.args.self.now) c.requires.can.fits c.args.rectangle.corner c.requires.owner)
 
 pub push_cell-requires-clause-line : goal.push_cell-requires-clause-line
-push_cell-requires-clause-line g c =
-    let t = drawn g.R.Records g.D.Dimension g.C.Colors c.args.self.now in
-    let high = some_is c.unwrap-height.result (rect_height t c.args.corner) (sym c.unwrap-height.ensures ∙ rect_height-answer t c.requires.can c.args.corner c.requires.owner c.rect_height.result c.rect_height.ensures) in
-    omega (arith, high, c.requires.number)
+push_cell-requires-clause-line g c = omega (arith, c.requires.is.height, c.requires.number)
 
-pub returns : goal.returns
-returns g c =
+pub returns-clause-appends : goal.returns-clause-appends
+returns-clause-appends g c =
     let t = drawn g.R.Records g.D.Dimension g.C.Colors c.args.self.now in
-    let wide = some_is c.unwrap-width.result (rect_width t c.args.corner) (sym c.unwrap-width.ensures ∙ rect_width-answer t c.requires.can c.args.corner c.requires.owner c.args.shape.columns c.rect_width.result (ap (λ (s : Shape). s.columns) c.requires.shape) c.rect_width.ensures) in
-    let high = some_is c.unwrap-height.result (rect_height t c.args.corner) (sym c.unwrap-height.ensures ∙ rect_height-answer t c.requires.can c.args.corner c.requires.owner c.rect_height.result c.rect_height.ensures) in
-    Appends-text (ap₂ (λ w h. written (block_line (style_at t.config c.args.corner) (t.color c.args.corner) (t.text c.args.corner) w h c.args.number)) wide high) c.push_cell.ensures
+    let corner = c.args.rectangle.corner in
+    Appends-text (ap₂ (λ w h. written (block_line (style_at t.config corner) (t.color corner) (t.text corner) w h c.args.number)) c.requires.is.width c.requires.is.height) c.push_cell.ensures.appends

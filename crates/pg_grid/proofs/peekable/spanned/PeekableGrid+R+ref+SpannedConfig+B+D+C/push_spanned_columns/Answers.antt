@@ -19,7 +19,7 @@ pub loop-column-init : goal.loop-column-init
 unfolding items_after last_color
 loop-column-init g c =
     let t = drawn g.R.Records g.D.Dimension g.C.Colors c.args.self.now in
-    record { gained = Gained-none c.args.buf.now; color = refl; start = first_start t (in_order t c.requires.can) c.args.row; inside = omega arith }
+    record { gained = Gained-none c.args.buf.now; color = refl; kept = c.requires.kept; start = first_start t (in_order t c.requires.can) c.args.row; inside = omega arith }
 
 pub returns-in_err-run-clause-appends : goal.returns-in_err-run-clause-appends
 returns-in_err-run-clause-appends g c =
@@ -52,6 +52,7 @@ loop-column-preserved g c =
     record {
       gained = Gained-text (items_after-two c.args.run so_far one parts c.loop-column.invariant.color) (Gained-more c.loop-column.invariant.gained (Appends-text place c.in_ok-run.ensures.appends));
       color = c.in_ok-run.ensures.color ∙ place_color ∙ last_color-two c.args.run so_far one parts c.loop-column.invariant.color;
+      kept = c.in_ok-run.ensures.kept;
       start = above-start t (in_order t c.requires.can) c.args.row c.loop-column.column c.columns_of-column.result width c.loop-column.invariant.start here;
       inside = above-inside t (in_order t c.requires.can) c.args.row c.loop-column.column c.columns_of-column.result width c.loop-column.invariant.start here;
     }

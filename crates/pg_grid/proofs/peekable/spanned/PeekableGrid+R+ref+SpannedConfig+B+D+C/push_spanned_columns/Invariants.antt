@@ -3,6 +3,7 @@ use Rattle.std.specs.List.{range_with_len}
 use Rattle.pg_picture.specs.Appending.{Gained}
 use Rattle.pg_picture.specs.Pieces.{items_after, last_color}
 use Rattle.pg_picture.specs.Table.{separator_part}
+use Rattle.pg_grid.specs.Kept.{AreKept}
 use Rattle.pg_grid.specs.Grids.{drawn, starts}
 use Rattle.pg_grid.proofs.peekable.spanned.PeekableGrid+R+ref+SpannedConfig+B+D+C.push_spanned_columns.Given as goal
 
@@ -13,6 +14,7 @@ invariant-loop-column g l =
     record {
       gained : Gained l.fn.buf l.buf (items_after l.fn.run so_far);
       color : l.run ≡ last_color l.fn.run so_far;
+      kept : AreKept t l.kept;
       start : starts t.config.spans l.row l.column ≡ true;
       inside : l.column ≤ t.columns;
     }

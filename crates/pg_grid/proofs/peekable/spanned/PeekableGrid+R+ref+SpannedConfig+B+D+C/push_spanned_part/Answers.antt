@@ -11,12 +11,12 @@ push_part-requires-clause-room g c =
     let t = drawn g.R.Records g.D.Dimension g.C.Colors c.args.self.now in
     single-room t (in_order t c.requires.can) c.args.shape.columns c.args.pos c.args.number (ap (λ (s : Shape). s.columns) c.requires.shape) c.requires.row c.requires.column c.requires.number c.requires.left c.requires.can.fits (sym c.requires.span ∙ c.in-None.is)
 
-pub returns-in-None : goal.returns-in-None
-returns-in-None g c =
+pub returns-in-None-clause-appends : goal.returns-in-None-clause-appends
+returns-in-None-clause-appends g c =
     let t = drawn g.R.Records g.D.Dimension g.C.Colors c.args.self.now in
-    Appends-text (single-text t (in_order t c.requires.can) c.args.shape.columns c.args.pos c.args.number (ap (λ (s : Shape). s.columns) c.requires.shape) c.requires.row c.requires.column c.requires.number c.requires.left (sym c.requires.span ∙ c.in-None.is)) c.push_part.ensures
+    Appends-text (single-text t (in_order t c.requires.can) c.args.shape.columns c.args.pos c.args.number (ap (λ (s : Shape). s.columns) c.requires.shape) c.requires.row c.requires.column c.requires.number c.requires.left (sym c.requires.span ∙ c.in-None.is)) c.push_part.ensures.appends
 
-pub returns-in-Some : goal.returns-in-Some
-returns-in-Some g c =
+pub returns-in-Some-clause-appends : goal.returns-in-Some-clause-appends
+returns-in-Some-clause-appends g c =
     let t = drawn g.R.Records g.D.Dimension g.C.Colors c.args.self.now in
-    Appends-text (rectangle-text t (in_order t c.requires.can) c.args.shape.columns c.args.pos c.args.number (ap (λ (s : Shape). s.columns) c.requires.shape) c.requires.row c.requires.column c.requires.number c.requires.left c.in-Some.span (sym c.requires.span ∙ c.in-Some.is)) c.push_rectangle_part.ensures
+    Appends-text (rectangle-text t (in_order t c.requires.can) c.args.shape.columns c.args.pos c.args.number (ap (λ (s : Shape). s.columns) c.requires.shape) c.requires.row c.requires.column c.requires.number c.requires.left c.in-Some.span (sym c.requires.span ∙ c.in-Some.is)) c.push_rectangle_part.ensures.appends

@@ -18,14 +18,14 @@ use Rattle.pg_grid.proofs.peekable.spanned.PeekableGrid+R+ref+SpannedConfig+B+D+
 pub loop-column-init : goal.loop-column-init
 loop-column-init g c =
     let t = drawn g.R.Records g.D.Dimension g.C.Colors c.args.self.now in
-    record { gained = Gained-text (sym written-nil) (Gained-none c.args.buf.now); left = first_left t.config.spans t.rows t.columns (in_order t c.requires.can) c.args.row; inside = omega arith }
+    record { gained = Gained-text (sym written-nil) (Gained-none c.args.buf.now); kept = c.requires.kept; left = first_left t.config.spans t.rows t.columns (in_order t c.requires.can) c.args.row; inside = omega arith }
 
-pub returns-in_err-push_spanned_part : goal.returns-in_err-push_spanned_part
-returns-in_err-push_spanned_part g c =
+pub returns-in_err-push_spanned_part-clause-appends : goal.returns-in_err-push_spanned_part-clause-appends
+returns-in_err-push_spanned_part-clause-appends g c =
     let t = drawn g.R.Records g.D.Dimension g.C.Colors c.args.self.now in
     let here : c.loop-column.column < t.columns = omega (arith, c.loop-column-test.true, ap (λ (s : Shape). s.columns) c.requires.shape) in
     let place = ap (λ (p : Position). written (row_part t p.row c.args.number p.col)) c.new-pos.ensures in
-    refused _ (written-columns_cut (row_part t c.args.row c.args.number) c.loop-column.column t.columns here) c.from_residual.ensures.0 c.loop-column.invariant.gained (Appends-text place c.in_err-push_spanned_part.ensures)
+    refused _ (written-columns_cut (row_part t c.args.row c.args.number) c.loop-column.column t.columns here) c.from_residual.ensures.0 c.loop-column.invariant.gained (Appends-text place c.in_err-push_spanned_part.ensures.appends)
 
 pub overflow_add-column : goal.overflow_add-column
 overflow_add-column g c =
@@ -46,7 +46,8 @@ loop-column-preserved g c =
     let place = ap (λ (p : Position). written (row_part t p.row c.args.number p.col)) c.new-pos.ensures in
     let text = step-text t (in_order t c.requires.can) c.args.row c.loop-column.column c.columns_of-column.result width c.loop-column.invariant.left here c.args.number in
     record {
-      gained = Gained-text (sym text) (Gained-more c.loop-column.invariant.gained (Appends-text place c.in_ok-push_spanned_part.ensures));
+      gained = Gained-text (sym text) (Gained-more c.loop-column.invariant.gained (Appends-text place c.in_ok-push_spanned_part.ensures.appends));
+      kept = c.in_ok-push_spanned_part.ensures.kept;
       left = step-left t (in_order t c.requires.can) c.args.row c.loop-column.column c.columns_of-column.result width c.loop-column.invariant.left here;
       inside = step-inside t (in_order t c.requires.can) c.args.row c.loop-column.column c.columns_of-column.result width c.loop-column.invariant.left here;
     }
@@ -60,8 +61,8 @@ loop-column-smaller g c =
     let width : c.columns_of-column.result ≡ columns_or_one (left_span spans c.args.row c.loop-column.column) = c.columns_of-column.ensures ∙ ap columns_or_one span in
     omega (arith, step-some t (in_order t c.requires.can) c.args.row c.loop-column.column c.columns_of-column.result width c.loop-column.invariant.left here, c.loop-column-test.true)
 
-pub returns : goal.returns
-returns g c =
+pub returns-clause-appends : goal.returns-clause-appends
+returns-clause-appends g c =
     let t = drawn g.R.Records g.D.Dimension g.C.Colors c.args.self.now in
     let ended : c.loop-column.column ≡ t.columns = omega (arith, c.loop-column.invariant.inside, c.loop-column-test.false, ap (λ (s : Shape). s.columns) c.requires.shape) in
     Appends-text (ap (λ n. written (flat_map (row_part t c.args.row c.args.number) (range_with_len 0 n))) ended) (Gained-all c.loop-column.invariant.gained)

@@ -4,6 +4,7 @@ use Rattle.pg_config.specs.Spans.{is_left}
 use Rattle.pg_picture.specs.Appending.{Gained}
 use Rattle.pg_picture.specs.Pieces.{written}
 use Rattle.pg_picture.specs.Table.{row_part}
+use Rattle.pg_grid.specs.Kept.{AreKept}
 use Rattle.pg_grid.specs.Grids.{drawn}
 use Rattle.pg_grid.proofs.peekable.spanned.PeekableGrid+R+ref+SpannedConfig+B+D+C.push_spanned_parts.Given as goal
 
@@ -12,6 +13,7 @@ invariant-loop-column g l =
     let t = (drawn g.R.Records g.D.Dimension g.C.Colors l.self) in
     record {
       gained : Gained l.fn.buf l.buf (written (flat_map (row_part t l.row l.number) (range_with_len 0 l.column)));
+      kept : AreKept t l.kept;
       left : is_left t.config.spans l.row l.column ≡ true;
       inside : l.column ≤ t.columns;
     }

@@ -1,0 +1,146 @@
+//! Tables with something round them.
+
+use crate::drawing::{Sample, assert_drawn};
+use crate::settings::{Paint, Setting};
+use pg_layout::{Indent, Offset, Position, Sides};
+use std::alloc::Global;
+use std::process::Abort;
+use std::test::Fail;
+
+/// Offsets that leave nothing blank.
+const WHOLE: Sides<Offset> = Sides {
+    left: Offset::Start(0),
+    right: Offset::Start(0),
+    top: Offset::Start(0),
+    bottom: Offset::Start(0),
+};
+
+// Margins above and below, each of one line.
+fn above_and_below(top: char, bottom: char) -> Sides<Indent> {
+    let mut margin = Sides::filled(Indent::spaced(0));
+    margin.top = Indent::new(1, top);
+    margin.bottom = Indent::new(1, bottom);
+    margin
+}
+
+// The cell `ab` with a left margin of this offset is drawn as this.
+fn assert_left_margin(
+    rt: &impl Abort,
+    alloc: Global,
+    offset: Offset,
+    text: &str,
+) -> Result<(), Fail> {
+    let mut margin = Sides::filled(Indent::spaced(0));
+    margin.left = Indent::new(1, '#');
+    let mut offsets = WHOLE;
+    offsets.left = offset;
+    let sample = Sample {
+        texts: &[&["ab"]],
+        widths: &[2],
+        heights: &[1],
+        settings: &[
+            Setting::Ascii,
+            Setting::Margin(margin),
+            Setting::MarginOffset(offsets),
+        ],
+    };
+    assert_drawn(rt, alloc, &sample, text)
+}
+
+#[test]
+fn a_margin_begins_below_the_first_line(rt: HostRuntime) -> Result<(), Fail> {
+    assert_left_margin(&rt, rt.alloc(), Offset::Start(1), " +--+\n#|ab|\n#+--+")
+}
+
+#[test]
+fn a_margin_ends_above_the_last_line(rt: HostRuntime) -> Result<(), Fail> {
+    assert_left_margin(&rt, rt.alloc(), Offset::End(1), "#+--+\n#|ab|\n +--+")
+}
+
+// A cell of width 2 and height 0 between these margins.
+fn assert_between(
+    rt: &impl Abort,
+    alloc: Global,
+    settings: &[Setting],
+    text: &str,
+) -> Result<(), Fail> {
+    let sample = Sample {
+        texts: &[&["a"]],
+        widths: &[2],
+        heights: &[0],
+        settings,
+    };
+    assert_drawn(rt, alloc, &sample, text)
+}
+
+#[test]
+fn margins_stand_round_no_lines(rt: HostRuntime) -> Result<(), Fail> {
+    assert_between(&rt, rt.alloc(), &[], "")?;
+    let margin = [Setting::Margin(above_and_below('^', 'v'))];
+    assert_between(&rt, rt.alloc(), &margin, "^^\nvv")
+}
+
+#[test]
+fn offsets_leave_columns_of_margins_blank(rt: HostRuntime) -> Result<(), Fail> {
+    let mut offsets = WHOLE;
+    offsets.top = Offset::Start(1);
+    offsets.bottom = Offset::End(5);
+    let sample = Sample {
+        texts: &[&["ab"]],
+        widths: &[2],
+        heights: &[1],
+        settings: &[
+            Setting::Margin(above_and_below('^', 'v')),
+            Setting::MarginOffset(offsets),
+            Setting::TopMarginColor(Paint("<c>", "</c>")),
+        ],
+    };
+    assert_drawn(&rt, rt.alloc(), &sample, " <c>^</c>\nab\n  ")
+}
+
+#[test]
+fn a_margin_stands_below_rows_without_lines(rt: HostRuntime) -> Result<(), Fail> {
+    let mut margin = Sides::filled(Indent::spaced(0));
+    margin.bottom = Indent::new(1, 'v');
+    let sample = Sample {
+        texts: &[&["a"], &["b"], &["c"]],
+        widths: &[1],
+        heights: &[0, 1, 0],
+        settings: &[Setting::Margin(margin)],
+    };
+    assert_drawn(&rt, rt.alloc(), &sample, "b\nv")
+}
+
+#[test]
+fn a_last_row_without_lines_leaves_no_line_feed(rt: HostRuntime) -> Result<(), Fail> {
+    let sample = Sample {
+        texts: &[&["a"], &["b"]],
+        widths: &[1],
+        heights: &[1, 0],
+        settings: &[],
+    };
+    assert_drawn(&rt, rt.alloc(), &sample, "a")
+}
+
+#[test]
+fn no_rows_or_columns_have_no_margins(rt: HostRuntime) -> Result<(), Fail> {
+    let settings = [
+        Setting::Ascii,
+        Setting::Margin(Sides::filled(Indent::new(1, '#'))),
+        Setting::RowSpan(Position::new(0, 0), 0),
+    ];
+    let sample = Sample {
+        texts: &[],
+        widths: &[1],
+        heights: &[],
+        settings: &settings,
+    };
+    assert_drawn(&rt, rt.alloc(), &sample, "")?;
+    let sample = Sample {
+        texts: &[&[], &[]],
+        widths: &[],
+        heights: &[1, 1],
+        ..sample
+    };
+    assert_drawn(&rt, rt.alloc(), &sample, "")
+}

@@ -1,0 +1,25 @@
+//! Tests of texts, values, records and configurations, against values that were found by hand.
+#![tactic(auto)]
+
+#[cfg(test)]
+mod answers;
+#[cfg(test)]
+mod colors;
+#[cfg(test)]
+mod fresh;
+#[cfg(test)]
+mod given;
+#[cfg(test)]
+mod lines;
+#[cfg(test)]
+mod offsets;
+#[cfg(test)]
+mod orders;
+#[cfg(test)]
+mod refusals;
+#[cfg(test)]
+mod spans;
+#[cfg(test)]
+mod texts;
+#[cfg(test)]
+mod whole;

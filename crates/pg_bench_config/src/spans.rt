@@ -1,0 +1,75 @@
+//! Cells that span rows or columns, and the places that they cover.
+
+use crate::fresh::fresh;
+use pg_config::SpannedConfig;
+use pg_layout::Position;
+use std::alloc::Global;
+use std::process::Abort;
+use std::test::Fail;
+
+fn span_and_take_away(rt: &impl Abort, config: &mut SpannedConfig<Global>) -> Result<(), Fail> {
+    let pos = Position::new(2, 1);
+    assert_eq!(rt;
+        (config.get_column_span(pos), config.get_row_span(pos)),
+        (None, None)
+    );
+    assert_eq!(rt; (config.rect_columns(pos), config.rect_rows(pos)), (1, 1));
+    config.set_column_span(pos, 3)?;
+    assert!(rt; config.has_column_spans() && !config.has_row_spans());
+    config.set_row_span(pos, 0)?;
+    assert!(rt; config.has_column_spans() && config.has_row_spans());
+    assert_eq!(rt;
+        (config.get_column_span(pos), config.get_row_span(pos)),
+        (Some(3), Some(0))
+    );
+    config.set_column_span(pos, 1)?;
+    assert_eq!(rt;
+        (config.get_column_span(pos), config.get_row_span(pos)),
+        (None, Some(0))
+    );
+    config.set_row_span(pos, 1)?;
+    assert!(rt; !config.has_column_spans() && !config.has_row_spans());
+    assert!(rt; config.spans().is_empty());
+    assert_eq!(rt; config.get_column_span(Position::new(1, 2)), None);
+    Ok(())
+}
+
+#[test]
+fn a_span_is_kept_until_it_is_taken_away(rt: HostRuntime) -> Result<(), Fail> {
+    span_and_take_away(&rt, &mut fresh(rt.alloc()))
+}
+
+fn cover_places(rt: &impl Abort, config: &mut SpannedConfig<Global>) -> Result<(), Fail> {
+    config.set_row_span(Position::new(1, 1), 2)?;
+    config.set_column_span(Position::new(1, 1), 3)?;
+    // By column span, by row span, by both.
+    for (row, col, covered) in [
+        (0usize, 1usize, [false, false, false]),
+        (1, 0, [false, false, false]),
+        (1, 1, [false, false, false]),
+        (1, 2, [true, false, false]),
+        (1, 3, [true, false, false]),
+        (1, 4, [false, false, false]),
+        (2, 1, [false, true, false]),
+        (2, 2, [false, false, true]),
+        (2, 3, [false, false, true]),
+        (2, 4, [false, false, false]),
+        (3, 1, [false, false, false]),
+    ] {
+        let pos = Position::new(row, col);
+        let answered = [
+            config.is_cell_covered_by_column_span(pos),
+            config.is_cell_covered_by_row_span(pos),
+            config.is_cell_covered_by_both_spans(pos),
+        ];
+        assert_eq!(rt; answered, covered, "at {pos:?}");
+        let hidden = covered != [false, false, false];
+        assert_eq!(rt; config.is_cell_visible(pos), !hidden, "at {pos:?}");
+    }
+    Ok(())
+}
+
+#[test]
+fn a_rectangle_covers_its_other_places(rt: HostRuntime) -> Result<(), Fail> {
+    cover_places(&rt, &mut fresh(rt.alloc()))
+}

@@ -1,0 +1,12 @@
+//! Laws of the grids. The functions do nothing: their contracts are the laws.
+
+ghost use Rattle.pg_grid.specs.Laws.{TextsAreOne};
+
+use pg_layout::{Colors, Dimension, Records};
+
+/// A streaming and a looked-up grid of the same parts append the same text, byte for byte: always
+/// where the records tell how many rows there are, and else if no side margin has an offset that
+/// counts from the end.
+pub fn streamed_and_looked_up_texts_are_one<R: Records, D: Dimension, C: Colors>()
+    ensures { TextsAreOne R.Records D.Dimension C.Colors }
+{}

@@ -1,0 +1,33 @@
+-- Whether a table fits has nothing to do with its colours.
+use Rattle.std.proofs.Common.{rules, tests, ◌≡◌, List, map, ℕ, Option, None, Some, Ok, Result, refl, ap, ◌∙◌}
+use Rattle.std.specs.Borrow.{Bor}
+use Rattle.pg_layout.specs.declared.position.Position.{Position}
+use Rattle.pg_layout.specs.Colors.{Color}
+use Rattle.pg_layout.specs.Text.{Text}
+use Rattle.pg_config.specs.Config.{Config}
+use Rattle.pg_picture.specs.Table.{Table, full_width, total_width, rect_width, rect_height, rect_marks, table_body}
+use Rattle.pg_picture.specs.Sizes.{table_of, unless_misfit}
+use Rattle.pg_picture.specs.declared.fits.Misfit.{Misfit}
+use Rattle.pg_picture.specs.Fits.{misfit_of, totals_fit, owner_fits, body_height}
+use Rattle.pg_grid.specs.Grids.{peekable_table, peekable_parts}
+use Rattle.pg_grid.specs.declared.peekable.PeekableGrid.{PeekableGrid}
+
+pub misfit-any_colors : (t : Table) (colors : Position → Option Color) → misfit_of (record t { color = colors }) ≡ misfit_of t
+unfolding misfit_of totals_fit owner_fits body_height full_width total_width rect_width rect_height rect_marks table_body
+misfit-any_colors t colors = refl
+
+-- the grid of these parts fits where the table of them does, whatever its colours are
+pub misfit-grid : {R D C : Type 0} (texts : R → List (List Text)) (columns : R → ℕ) (width height : D → ℕ → ℕ) (color : C → Position → Option Color)
+    (grid : PeekableGrid R (Bor Config) D C) (records : R) (config : Bor Config) (dimension : D) (colors : C)
+    → peekable_parts grid ≡ (records, config, dimension, colors)
+    → misfit_of (table_of config.now (width dimension) (height dimension) (texts records) (columns records)) ≡ None
+    → misfit_of (peekable_table texts columns width height color grid) ≡ None
+misfit-grid {R = R} {D = D} {C = C} texts columns width height color grid records config dimension colors is fits =
+    ap (λ (p : R × Bor Config × D × C). misfit_of (record (table_of p.1.now (width p.2) (height p.2) (texts p.0) (columns p.0)) { color = color p.3 })) is
+    ∙ misfit-any_colors (table_of config.now (width dimension) (height dimension) (texts records) (columns records)) (color colors)
+    ∙ fits
+
+-- what was found to fit has no misfit
+pub none-of-ok : (m : Option Misfit) {u : Unit {0}} → unless_misfit m ≡ Ok u → m ≡ None
+none-of-ok None is = refl
+none-of-ok (Some m) is = search (rules, tests)

@@ -1,0 +1,14 @@
+//! The checksum of a text: FNV-1a of 64 bits.
+
+const START: u64 = 0xcbf2_9ce4_8422_2325;
+
+const PRIME: u64 = 0x0000_0100_0000_01b3;
+
+/// The checksum of these bytes.
+pub(crate) fn checksum(bytes: &[u8]) -> u64 {
+    let mut sum = START;
+    for byte in bytes {
+        sum = (sum ^ u64::from(*byte)).wrapping_mul(PRIME);
+    }
+    sum
+}

@@ -1,0 +1,159 @@
+//! Tables, built over and over into one buffer.
+
+ghost use Rattle.std.specs.Prelude.{◌≡◌, None};
+ghost use Rattle.pg_picture.specs.Fits.{misfit_of};
+ghost use Rattle.pg_grid.specs.Grids.{peekable_table};
+
+use crate::case::{Case, Size};
+use crate::checksum::checksum;
+use crate::failure::Failure;
+use crate::settings::{colors, compact_settings, set};
+use crate::texts::records;
+use pg_config::{CompactConfig, SpannedConfig};
+use pg_grid::{CompactGrid, PeekableGrid};
+use pg_layout::{
+    Colors, ConstantDimension, Dimension, ExactRecords, NoColors, PeekableRecords, Records,
+    VecRecords,
+};
+use pg_picture::fits::{compact_fits, table_fits};
+use std::alloc::{AllocError, Allocator};
+
+/// How wide each column is.
+const WIDTH: usize = 12;
+
+/// What is told of the last text that was built.
+#[derive(Debug, Clone, Copy)]
+pub(crate) struct Measured {
+    pub(crate) bytes: usize,
+    pub(crate) checksum: u64,
+}
+
+// Columns and rows of one size each.
+fn dimension<A: Allocator + Copy>(
+    alloc: A,
+    size: Size,
+) -> Result<ConstantDimension<A>, AllocError> {
+    Ok(ConstantDimension(
+        vec![in alloc; WIDTH; size.columns]?,
+        vec![in alloc; size.height; size.rows]?,
+    ))
+}
+
+/// Builds the table of a case so many times.
+pub(crate) fn measure<A: Allocator + Copy>(
+    alloc: A,
+    case: Case,
+    times: usize,
+) -> Result<Measured, Failure> {
+    let text = if case.is_compact() {
+        compact_text(alloc, case, times)
+    } else {
+        looked_up_text(alloc, case, times)
+    }?;
+    Ok(Measured {
+        bytes: text.len(),
+        checksum: checksum(text.as_bytes()),
+    })
+}
+
+// The text of a case of the looked-up grid, built so many times.
+fn looked_up_text<A: Allocator + Copy>(
+    alloc: A,
+    case: Case,
+    times: usize,
+) -> Result<String<A>, Failure> {
+    let mut config = SpannedConfig::new(alloc);
+    let text = text_by(alloc, case, times, &mut config);
+    drop(config);
+    text
+}
+
+// The same by a configuration that is told the case's settings.
+fn text_by<A: Allocator + Copy>(
+    alloc: A,
+    case: Case,
+    times: usize,
+    config: &mut SpannedConfig<A>,
+) -> Result<String<A>, Failure> {
+    set(alloc, case, config)?;
+    let size = case.size();
+    let records = records(alloc, size, case.words())?;
+    let dimension = dimension(alloc, size)?;
+    if case.is_colored() {
+        let colors = colors(alloc, size)?;
+        return looked_up(alloc, &records, &dimension, config, &colors, times);
+    }
+    looked_up(alloc, &records, &dimension, config, &NoColors, times)
+}
+
+// The text of a table as the looked-up grid prints it, built so many times.
+fn looked_up<A: Allocator + Copy, C: Colors>(
+    alloc: A,
+    records: &VecRecords<String<A>, A>,
+    dimension: &ConstantDimension<A>,
+    config: &SpannedConfig<A>,
+    colors: &C,
+    times: usize,
+) -> Result<String<A>, Failure> {
+    table_fits(&records, config, &dimension)?;
+    let grid = PeekableGrid::new(records, config, dimension, colors);
+    Ok(rebuilt(alloc, &grid, times)?)
+}
+
+// The text of a grid that fits, built so many times.
+fn rebuilt<R, D, C, A>(
+    alloc: A,
+    grid: &PeekableGrid<R, &SpannedConfig<A>, D, C>,
+    times: usize,
+) -> Result<String<A>, AllocError>
+where
+    R: PeekableRecords + ExactRecords,
+    D: Dimension,
+    C: Colors,
+    A: Allocator + Copy,
+    requires { misfit_of (peekable_table R.Records.texts R.Records.columns D.width D.height C.color grid.now) ≡ None }
+{
+    let mut text = String::new(alloc);
+    for _ in 0..times {
+        text.clear();
+        grid.build(&mut text)?;
+    }
+    Ok(text)
+}
+
+// The text of a case of the compact grid, built so many times.
+fn compact_text<A: Allocator + Copy>(
+    alloc: A,
+    case: Case,
+    times: usize,
+) -> Result<String<A>, Failure> {
+    let size = case.size();
+    let records = records(alloc, size, case.words())?;
+    let dimension = dimension(alloc, size)?;
+    let config = compact_settings(case);
+    if case.is_colored() {
+        let colors = colors(alloc, size)?;
+        return compact(alloc, &records, &dimension, &config, &colors, times);
+    }
+    compact(alloc, &records, &dimension, &config, &NoColors, times)
+}
+
+// The text of a table as the compact grid prints it, built so many times.
+fn compact<A: Allocator + Copy, C: Colors>(
+    alloc: A,
+    records: &VecRecords<String<A>, A>,
+    dimension: &ConstantDimension<A>,
+    config: &CompactConfig,
+    colors: &C,
+    times: usize,
+) -> Result<String<A>, Failure> {
+    compact_fits(config, dimension, records.count_columns())?;
+    // Shows that there are no more rows than can be counted.
+    let _rows = records.count_rows();
+    let mut text = String::new(alloc);
+    for _ in 0..times {
+        text.clear();
+        CompactGrid::new(records, config, dimension, colors).build(&mut text)?;
+    }
+    Ok(text)
+}

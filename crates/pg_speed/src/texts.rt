@@ -1,0 +1,146 @@
+//! What the cells of the tables say.
+
+use crate::case::{Size, Words};
+use crate::failure::Failure;
+use pg_layout::VecRecords;
+use std::alloc::{AllocError, Allocator};
+
+/// The texts of a table.
+pub(crate) fn records<A: Allocator + Copy>(
+    alloc: A,
+    size: Size,
+    words: Words,
+) -> Result<VecRecords<String<A>, A>, Failure> {
+    let rows = texts(alloc, size, words)?;
+    Ok(VecRecords::new(rows)?)
+}
+
+fn texts<A: Allocator + Copy>(
+    alloc: A,
+    size: Size,
+    words: Words,
+) -> Result<Vec<Vec<String<A>, A>, A>, AllocError> {
+    let mut rows = Vec::new(alloc);
+    for row in 0..size.rows {
+        rows.push(texts_of_row(alloc, row, size.columns, words)?)?;
+    }
+    Ok(rows)
+}
+
+fn texts_of_row<A: Allocator + Copy>(
+    alloc: A,
+    row: usize,
+    columns: usize,
+    words: Words,
+) -> Result<Vec<String<A>, A>, AllocError> {
+    let mut texts = Vec::new(alloc);
+    for column in 0..columns {
+        texts.push(text(alloc, row, column, words)?)?;
+    }
+    Ok(texts)
+}
+
+/// The text of a cell.
+pub(crate) fn text<A: Allocator>(
+    alloc: A,
+    row: usize,
+    column: usize,
+    words: Words,
+) -> Result<String<A>, AllocError> {
+    let mut text = String::new(alloc);
+    match words {
+        Words::Letters => push_letters(
+            &mut text,
+            place(row, column, 0),
+            spread(row, column, 0, 10),
+        ),
+        Words::Lines => push_lines(&mut text, row, column),
+        Words::Wide => push_wide(&mut text, row, column),
+        Words::Long => push_long(&mut text),
+    }?;
+    Ok(text)
+}
+
+// The first letter's number in the alphabet.
+fn place(row: usize, column: usize, line: usize) -> usize {
+    row % 26 + column % 26 + line % 26
+}
+
+// A size from 1 to `most` that varies from cell to cell and from line to line.
+fn spread(row: usize, column: usize, line: usize, most: usize) -> usize {
+    if most == 0 || most > 100 {
+        return 1;
+    }
+    1 + (7 * (row % most) + 3 * (column % most) + 5 * (line % most)) % most
+}
+
+// So many letters of the alphabet from this one on.
+fn push_letters<A: Allocator>(
+    text: &mut String<A>,
+    first: usize,
+    count: usize,
+) -> Result<(), AllocError> {
+    for k in 0..count {
+        let letter = (first % 26 + k % 26) % 26;
+        text.push(char::from(b'a' + letter as u8))?;
+    }
+    Ok(())
+}
+
+// Three lines of a cell.
+fn push_lines<A: Allocator>(
+    text: &mut String<A>,
+    row: usize,
+    column: usize,
+) -> Result<(), AllocError> {
+    let lines = match (row % 4 + column % 4) % 4 {
+        1 => [None, Some(1), Some(2)],
+        3 => [Some(0), Some(1), None],
+        _ => [Some(0), Some(1), Some(2)],
+    };
+    push_line(text, row, column, lines[0])?;
+    text.push('\n')?;
+    push_line(text, row, column, lines[1])?;
+    text.push('\n')?;
+    push_line(text, row, column, lines[2])
+}
+
+// A word between spaces, or a space alone.
+fn push_line<A: Allocator>(
+    text: &mut String<A>,
+    row: usize,
+    column: usize,
+    line: Option<usize>,
+) -> Result<(), AllocError> {
+    let Some(line) = line else {
+        return text.push(' ');
+    };
+    for _ in 0..line {
+        text.push(' ')?;
+    }
+    push_letters(text, place(row, column, line), spread(row, column, line, 7))?;
+    text.push(' ')
+}
+
+// One to five characters of two columns each.
+fn push_wide<A: Allocator>(
+    text: &mut String<A>,
+    row: usize,
+    column: usize,
+) -> Result<(), AllocError> {
+    for k in 0..spread(row, column, 0, 5) {
+        let number = (31 * (row % 2000) + 17 * (column % 2000) + 7 * (k % 2000)) % 2000;
+        let c = char::from_u32(0x4e00 + number as u32).unwrap_or('?');
+        text.push(c)?;
+    }
+    Ok(())
+}
+
+// A thousand lines.
+fn push_long<A: Allocator>(text: &mut String<A>) -> Result<(), AllocError> {
+    text.push_str("abc")?;
+    for _ in 1..1000 {
+        text.push_str("\nabc")?;
+    }
+    Ok(())
+}

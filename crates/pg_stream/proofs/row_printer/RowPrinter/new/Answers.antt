@@ -1,0 +1,32 @@
+use Rattle.std.proofs.Common.{◌∙◌, sym, subst, refl, arith, IsSome}
+use Rattle.pg_picture.specs.Table.{full_width}
+use Rattle.pg_picture.proofs.FittingTables.{some_is}
+use Rattle.pg_stream.specs.Printing.{Printing, printer, frame_of}
+use Rattle.pg_stream.proofs.Starting.{width-some, heights-fit, first-is, sound-first}
+use Rattle.pg_stream.proofs.row_printer.RowPrinter.new.Goals as goal
+
+pub full_width-requires : goal.full_width-requires
+unfolding printer
+full_width-requires g c = omega (arith, c.requires.few)
+
+pub unwrap-width-requires : goal.unwrap-width-requires
+unfolding printer
+unwrap-width-requires g c =
+    let s : Printing = printer c.args.config.now c.args.columns (g.D.Dimension.width c.args.dimension.now) (g.D.Dimension.height c.args.dimension.now) (g.C.Colors.color c.args.colors.now) c.args.hint in
+    subst IsSome (sym (width-some s c.full_width.result c.requires.width c.full_width.ensures)) refl
+
+pub height_of_body-height-requires : goal.height_of_body-height-requires
+unfolding printer
+height_of_body-height-requires g c =
+    let s : Printing = printer c.args.config.now c.args.columns (g.D.Dimension.width c.args.dimension.now) (g.D.Dimension.height c.args.dimension.now) (g.C.Colors.color c.args.colors.now) c.args.hint in
+    heights-fit s c.requires
+
+pub invariant_of-result : goal.invariant_of-result
+unfolding printer
+invariant_of-result g c =
+    let s : Printing = printer c.args.config.now c.args.columns (g.D.Dimension.width c.args.dimension.now) (g.D.Dimension.height c.args.dimension.now) (g.C.Colors.color c.args.colors.now) c.args.hint in
+    sound-first c.args.config.now c.args.columns (g.D.Dimension.width c.args.dimension.now) (g.D.Dimension.height c.args.dimension.now) (g.C.Colors.color c.args.colors.now) c.args.hint c.in_ok-cells.cells c.requires c.spans-spans.ensures.places c.in_ok-cells.ensures c.unwrap-width.result c.height_of_body-height.result
+    (some_is c.unwrap-width.result (full_width (frame_of s)) (sym c.unwrap-width.ensures ∙ width-some s c.full_width.result c.requires.width c.full_width.ensures)) c.height_of_body-height.ensures
+
+pub returns : goal.returns
+returns g c = first-is c.args.config.now c.args.columns (g.D.Dimension.width c.args.dimension.now) (g.D.Dimension.height c.args.dimension.now) (g.C.Colors.color c.args.colors.now) c.args.hint c.in_ok-cells.cells c.requires c.spans-spans.ensures.places c.in_ok-cells.ensures

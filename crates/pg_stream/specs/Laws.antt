@@ -1,0 +1,24 @@
+-- Laws of printers of rows, in words of their own.
+use Rattle.std.specs.Prelude.{◌≡◌, ℕ, ◌<◌, true, List, map, IfSome, Option, None}
+use Rattle.std.specs.List.{range_with_len}
+use Rattle.pg_layout.specs.Position.{at}
+use Rattle.pg_layout.specs.Text.{Text}
+use Rattle.pg_config.specs.Spans.{StandAtPlaces}
+use Rattle.pg_picture.specs.Fits.{spans_fit, misfit_of}
+use Rattle.pg_picture.specs.Picture.{picture}
+use Rattle.pg_picture.specs.Table.{Table}
+use Rattle.pg_stream.specs.Conditions.{PrinterFits, RowsFit}
+use Rattle.pg_stream.specs.Printing.{hint_of, printer, rows_text}
+
+-- the texts of a table, row by row
+abbrev pub texts_of : Table → List (List Text)
+texts_of t = map (λ r. map (λ c. t.text (at r c)) (range_with_len 0 t.columns)) (range_with_len 0 t.rows)
+
+-- All rows of a table whose spans fit it, printed one after another and ended, are its picture.
+abbrev pub RowsMakeThePicture : Type 0
+RowsMakeThePicture = (t : Table) (hint : Option ℕ) → IfSome hint (λ rows. rows ≡ t.rows) → StandAtPlaces t.config.spans → spans_fit t.config.spans t.rows t.columns ≡ true → 0 < t.rows → 0 < t.columns → rows_text (printer t.config t.columns t.width t.height t.color hint) (texts_of t) ≡ picture (hint_of hint) t
+
+-- A table that fits may be printed row by row.
+abbrev pub FittingTablesMayBePrinted : Type 0
+FittingTablesMayBePrinted = (t : Table) (hint : Option ℕ) → IfSome hint (λ rows. rows ≡ t.rows) → StandAtPlaces t.config.spans → misfit_of t ≡ None → 0 < t.rows → 0 < t.columns
+    → PrinterFits (printer t.config t.columns t.width t.height t.color hint) × RowsFit (printer t.config t.columns t.width t.height t.color hint) (texts_of t)

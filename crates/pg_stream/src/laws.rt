@@ -1,0 +1,16 @@
+//! Laws of printers of rows. The functions do nothing: their contracts are the laws.
+
+ghost use Rattle.pg_stream.specs.Laws.{RowsMakeThePicture, FittingTablesMayBePrinted};
+
+/// All rows of a table whose spans fit it, printed one after another and ended, are its picture: with
+/// the number of rows the one that looked-up printing gives, without it the one in which margins that
+/// end before the last lines are whole.
+pub fn rows_make_the_picture()
+    ensures { RowsMakeThePicture }
+{}
+
+/// A table that fits (`pg_picture::fits::table_fits`) may be printed row by row: its printer may be
+/// made, with the number of rows or without it, and each of its rows may be printed when it comes.
+pub fn tables_that_fit_may_be_printed()
+    ensures { FittingTablesMayBePrinted }
+{}
