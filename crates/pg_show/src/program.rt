@@ -65,7 +65,7 @@ fn text_of_table<A: Allocator + Copy>(
     ensures { Answers (answer_of_told mode (told_of_script script.now)) result }
 {
     let mut text = String::new(alloc);
-    print_script(script, mode, &mut text)?;
+    print_script(alloc, script, mode, &mut text)?;
     text.push('\n')?;
     Ok(text)
 }
