@@ -2,4 +2,10 @@
 #![tactic(auto)]
 
 #[cfg(test)]
+mod compact_scripts;
+#[cfg(test)]
+mod running;
+#[cfg(test)]
 mod scripts;
+#[cfg(test)]
+mod streams;

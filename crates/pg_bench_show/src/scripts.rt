@@ -1,35 +1,13 @@
-//! Scripts, and what the program answers to them.
+//! Scripts, and what the program answers to them with the word `peek`.
 
-use pg_show::run;
+use crate::running;
 use std::alloc::Global;
 use std::process::Abort;
 use std::test::Fail;
 
-/// What a run of the program leaves.
-#[derive(Drop)]
-struct Run {
-    status: u8,
-    out: Vec<u8>,
-    err: Vec<u8>,
-}
-
-// Runs the program with the word `peek`.
-fn peek(alloc: Global, script: &str) -> Result<Run, Fail> {
-    let mut words = Vec::new(alloc);
-    words.push(String::from_str(alloc, "peek")?)?;
-    let mut out = Vec::new(alloc);
-    let mut err = Vec::new(alloc);
-    let status = run(alloc, &words, script.as_bytes(), &mut out, &mut err);
-    Ok(Run { status, out, err })
-}
-
 // The script's table is this text and a line feed.
 fn assert_shown(rt: &impl Abort, alloc: Global, script: &str, text: &str) -> Result<(), Fail> {
-    let run = peek(alloc, script)?;
-    assert_eq!(rt; run.status, 0);
-    assert_eq!(rt; run.out.as_slice(), text.as_bytes());
-    assert_eq!(rt; run.err.len(), 0);
-    Ok(())
+    running::assert_shown(rt, alloc, &["peek"], (script, text))
 }
 
 // The script is refused with this line and this status.
@@ -39,11 +17,7 @@ fn assert_refused(
     script: &str,
     (line, status): (&str, u8),
 ) -> Result<(), Fail> {
-    let run = peek(alloc, script)?;
-    assert_eq!(rt; run.status, status);
-    assert_eq!(rt; run.out.len(), 0);
-    assert_eq!(rt; run.err.as_slice(), line.as_bytes());
-    Ok(())
+    running::assert_refused(rt, alloc, &["peek"], (script, line, status))
 }
 
 #[test]

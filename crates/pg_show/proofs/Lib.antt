@@ -3,6 +3,7 @@ pub mod EvenRows
 pub mod LineWords
 pub mod LinesRead
 pub mod NumbersOfWords
+pub mod RightAnswers
 pub mod RowsOfTexts
 pub mod ScriptLines
 pub mod ScriptTables

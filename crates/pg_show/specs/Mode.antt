@@ -2,11 +2,15 @@
 use Rattle.std.specs.Prelude.{ℕ, List, [], ◌∷◌, Option, Some, None, if◌then◌else◌, codes}
 use Rattle.pg_show.specs.declared.mode.Mode.{Mode}
 use Rattle.std.specs.Str.{bytes_eq}
-use Rattle.pg_show.specs.declared.mode.Mode.TheVariants.{Compact, Peek}
+use Rattle.pg_show.specs.declared.mode.Mode.TheVariants.{Compact, Iter, Peek}
 
 -- the mode of this name
 abbrev pub mode_named : List ℕ → Option Mode
-mode_named name = if bytes_eq name (codes "compact") then Some Compact else if bytes_eq name (codes "peek") then Some Peek else None
+mode_named name =
+    if bytes_eq name (codes "compact") then Some Compact
+    else if bytes_eq name (codes "iter") then Some Iter
+    else if bytes_eq name (codes "peek") then Some Peek
+    else None
 
 -- the mode that the program's arguments name: there is exactly one of them
 abbrev pub mode_of : List (List ℕ) → Option Mode

@@ -1,7 +1,15 @@
 -- What the program answers.
-use Rattle.std.specs.Prelude.{ℕ}
-use Rattle.pg_show.specs.declared.program.Fault.{Fault}
-use Rattle.pg_show.specs.declared.program.Fault.TheVariants.{Usage, Bad, Misfit, Memory, Read, Write}
+use Rattle.std.specs.Prelude.{◌≡◌, ℕ, Bool, true, false, List, [], ◌∷◌, ◌++◌, Option, Some, None, Result, Ok, Err, String, string_bytes, codes, decimal}
+use Rattle.pg_layout.specs.Text.{Text}
+use Rattle.pg_picture.specs.declared.fits.Misfit.{Misfit as WhatMisfits}
+use Rattle.pg_picture.specs.declared.fits.Misfit.TheVariants as misfits
+use Rattle.pg_show.specs.Mode.{mode_of}
+use Rattle.pg_show.specs.Script.{told_by}
+use Rattle.pg_show.specs.Show.{misfit_in, text_in}
+use Rattle.pg_show.specs.Told.{Told}
+use Rattle.pg_show.specs.declared.fault.Fault.{Fault}
+use Rattle.pg_show.specs.declared.fault.Fault.TheVariants.{Usage, Bad, Misfit, Memory, Read, Write}
+use Rattle.pg_show.specs.declared.mode.Mode.{Mode}
 use Rattle.pg_show.specs.declared.script.ScriptFault.{ScriptFault}
 use Rattle.pg_show.specs.declared.script.ScriptFault.TheVariants as script
 use Rattle.pg_show.specs.declared.show.ShowFault.{ShowFault}
@@ -16,6 +24,34 @@ status_of Memory = 4
 status_of Read = 5
 status_of Write = 5
 
+-- the exit status of a run that ended so: 0 without a fault
+abbrev pub status_after : Option Fault → ℕ
+status_after None = 0
+status_after (Some fault) = status_of fault
+
+-- the line that tells of a fault
+abbrev pub line_of_misfit : WhatMisfits → Text
+line_of_misfit misfits.Spans = codes "does not fit: spans\n"
+line_of_misfit misfits.Totals = codes "does not fit: totals\n"
+line_of_misfit (misfits.Room row col) = codes "does not fit: room " ++ (decimal row ++ (codes " " ++ (decimal col ++ codes "\n")))
+
+abbrev pub line_of : Fault → Text
+line_of Usage = codes "usage: pgshow compact|iter|peek\n"
+line_of (Bad line) = codes "line " ++ (decimal line ++ codes ": bad\n")
+line_of (Misfit misfit) = line_of_misfit misfit
+line_of Memory = codes "out of memory\n"
+line_of Read = codes "read failed\n"
+line_of Write = codes "write failed\n"
+
+-- whether a fault says that memory, a read or a write failed, and not that the arguments or the script are wrong
+abbrev pub is_failure : Fault → Bool
+is_failure Usage = false
+is_failure (Bad line) = false
+is_failure (Misfit misfit) = false
+is_failure Memory = true
+is_failure Read = true
+is_failure Write = true
+
 -- the program's fault where the reading of a script ends in one
 abbrev pub fault_of_script : ScriptFault → Fault
 fault_of_script (script.Bad line) = Bad line
@@ -25,3 +61,34 @@ fault_of_script script.Memory = Memory
 abbrev pub fault_of_show : ShowFault → Fault
 fault_of_show (show.Misfit misfit) = Misfit misfit
 fault_of_show show.Memory = Memory
+
+-- ---- what is right to answer: a text to write, or a fault to tell
+
+-- the text of the table that was told, and a line feed, unless something doesn't fit
+abbrev pub unless_misfit_shown : Option WhatMisfits → Text → Result Text Fault
+unless_misfit_shown None text = Ok (text ++ 10 ∷ [])
+unless_misfit_shown (Some misfit) text = Err (Misfit misfit)
+
+abbrev pub answer_of_told : Mode → Told → Result Text Fault
+answer_of_told mode told = unless_misfit_shown (misfit_in mode told) (text_in mode told)
+
+-- the same of a script, which tells of a table or is bad at a line
+abbrev pub unless_bad_shown : Mode → Result Told ℕ → Result Text Fault
+unless_bad_shown mode (Err line) = Err (Bad line)
+unless_bad_shown mode (Ok told) = answer_of_told mode told
+
+abbrev pub answer_of_script : Mode → List ℕ → Result Text Fault
+answer_of_script mode script = unless_bad_shown mode (told_by script)
+
+-- the answer to arguments and a script: the arguments come first
+abbrev pub answer_in : Option Mode → List ℕ → Result Text Fault
+answer_in None script = Err Usage
+answer_in (Some mode) script = answer_of_script mode script
+
+abbrev pub answer_to : List (List ℕ) → List ℕ → Result Text Fault
+answer_to words script = answer_in (mode_of words) script
+
+-- what was answered is right, or says that memory, a read or a write failed
+abbrev pub Answers : {A : Type 0} → Result Text Fault → Result (String A) Fault → Type 0
+Answers right (Ok text) = right ≡ Ok (string_bytes text)
+Answers right (Err fault) = is_failure fault ≡ false → right ≡ Err fault

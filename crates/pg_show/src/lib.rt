@@ -3,6 +3,7 @@
 
 mod cell_texts;
 mod draft;
+mod fault;
 mod lines;
 mod mode;
 mod program;
@@ -12,8 +13,9 @@ mod show;
 mod statement;
 mod words;
 
+pub use crate::fault::Fault;
 pub use crate::mode::Mode;
-pub use crate::program::run;
+pub use crate::program::{Ending, run};
 pub use crate::reading::parse_script;
 pub use crate::script::{Script, ScriptFault};
 pub use crate::show::{ShowFault, print_script};

@@ -8,6 +8,8 @@ ghost use Rattle.pg_show.specs.Mode.{mode_named, mode_of};
 pub enum Mode {
     /// The printer of compact tables.
     Compact,
+    /// The printer that reads its rows once, one by one. The number of rows is told to it.
+    Iter,
     /// The printer that looks texts up.
     Peek,
 }
@@ -19,6 +21,7 @@ impl Mode {
     {
         match name {
             "compact" => Some(Mode::Compact),
+            "iter" => Some(Mode::Iter),
             "peek" => Some(Mode::Peek),
             _ => None,
         }

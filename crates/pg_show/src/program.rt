@@ -1,102 +1,49 @@
 //! The program: arguments and a script in, a table out.
 
-ghost use Rattle.std.specs.Prelude.{◌≡◌, ◌≤◌, ℕ, map, string_bytes, None};
+ghost use Rattle.std.specs.Prelude.{◌≡◌, ◌≢◌, List, map, string_bytes, true, false, Some, None, Ok, Err, IfOk, IfSome, OnOk};
+ghost use Rattle.std.specs.Io.KnownBytes.{Appends, Keeps};
+ghost use Rattle.pg_layout.specs.Text.{Text};
 ghost use Rattle.pg_show.specs.Mode.{mode_of};
-ghost use Rattle.pg_show.specs.Program.{status_of, fault_of_script, fault_of_show};
-ghost use Rattle.pg_show.specs.declared.program.Fault.TheVariants.{Memory};
+ghost use Rattle.pg_show.specs.Script.{told_of_script};
+ghost use Rattle.pg_show.specs.Program.{Answers, answer_of_told, answer_of_script, answer_to, is_failure, line_of, status_after};
 
+use crate::fault::Fault;
 use crate::mode::Mode;
 use crate::reading::parse_script;
-use crate::script::{Script, ScriptFault};
-use crate::show::{ShowFault, print_script};
-use pg_picture::fits::Misfit;
-use std::alloc::{AllocError, Allocator};
-use std::io;
+use crate::script::Script;
+use crate::show::print_script;
+use std::alloc::Allocator;
 use std::io::{Read, Write};
 
 /// The most reads within which the end of a script is met.
 const MOST_READS: u32 = 16_777_216;
 
-/// Why a run prints no table.
+/// How a run of the program ended.
 #[derive(Debug, Clone, Copy)]
-enum Fault {
-    /// The arguments name no mode.
-    Usage,
-    /// This line of the script is the first bad one.
-    Bad(usize),
-    /// The table doesn't fit.
-    Misfit(Misfit),
-    /// Memory was refused.
-    Memory,
-    /// A read failed, or there were too many.
-    Read,
-    /// A write failed.
-    Write,
+pub struct Ending {
+    /// Why no table was printed, or `None` where one was.
+    pub fault: Option<Fault>,
+    /// Whether the line that tells of the fault was written. Without a fault there is none to write.
+    pub is_told: bool,
 }
 
-impl From<AllocError> for Fault {
-    ghost from_gives = { λ _ fault. fault ≡ Memory };
-
-    fn from(_error: AllocError) -> Fault {
-        Fault::Memory
-    }
-}
-
-impl From<ScriptFault> for Fault {
-    ghost from_gives = { λ found fault. fault ≡ fault_of_script found };
-
-    fn from(fault: ScriptFault) -> Fault {
-        match fault {
-            ScriptFault::Bad(line) => Fault::Bad(line),
-            ScriptFault::Memory => Fault::Memory,
-        }
-    }
-}
-
-impl From<ShowFault> for Fault {
-    ghost from_gives = { λ found fault. fault ≡ fault_of_show found };
-
-    fn from(fault: ShowFault) -> Fault {
-        match fault {
-            ShowFault::Misfit(misfit) => Fault::Misfit(misfit),
-            ShowFault::Memory => Fault::Memory,
-        }
-    }
-}
-
-impl Fault {
-    // The exit status that tells of it.
-    fn status(self) -> u8
-        ensures { result ≡ status_of self }
+impl Ending {
+    /// The exit status: 0 where a table was printed.
+    pub fn status(&self) -> u8
+        ensures { result ≡ status_after self.now.fault }
     {
-        match self {
-            Fault::Usage | Fault::Bad(_) => 2,
-            Fault::Misfit(_) => 3,
-            Fault::Memory => 4,
-            Fault::Read | Fault::Write => 5,
+        match self.fault {
+            Some(fault) => fault.status(),
+            None => 0,
         }
-    }
-
-    // Writes the line that tells of it.
-    fn tell<W: Write>(self, err: &mut W) -> io::Result<()> {
-        match self {
-            Fault::Usage => writeln!(err, "usage: pgshow compact|iter|peek")?,
-            Fault::Bad(line) => writeln!(err, "line {line}: bad")?,
-            Fault::Misfit(Misfit::Spans) => writeln!(err, "does not fit: spans")?,
-            Fault::Misfit(Misfit::Totals) => writeln!(err, "does not fit: totals")?,
-            Fault::Misfit(Misfit::Room(row, col)) => {
-                writeln!(err, "does not fit: room {row} {col}")?;
-            }
-            Fault::Memory => writeln!(err, "out of memory")?,
-            Fault::Read => writeln!(err, "read failed")?,
-            Fault::Write => writeln!(err, "write failed")?,
-        }
-        err.flush()
     }
 }
 
 // All that the input gives.
-fn read_whole<A: Allocator, R: Read>(alloc: A, input: &mut R) -> Result<Vec<u8, A>, Fault> {
+fn read_whole<A: Allocator, R: Read>(alloc: A, input: &mut R) -> Result<Vec<u8, A>, Fault>
+    ensures whole { IfOk result (λ bytes. IfSome (R.remaining input.old) (λ script. bytes.items ≡ script)) }
+    ensures failed { (fault : _) → result ≡ Err fault → is_failure fault ≡ true }
+{
     let mut block = [0u8; 4096];
     let mut bytes = Vec::new(alloc);
     for _ in 0..MOST_READS {
@@ -114,9 +61,11 @@ fn text_of_table<A: Allocator + Copy>(
     alloc: A,
     script: &Script<A>,
     mode: Mode,
-) -> Result<String<A>, Fault> {
+) -> Result<String<A>, Fault>
+    ensures { Answers (answer_of_told mode (told_of_script script.now)) result }
+{
     let mut text = String::new(alloc);
-    print_script(script, mode, &mut text)?;
+    print_script(alloc, script, mode, &mut text)?;
     text.push('\n')?;
     Ok(text)
 }
@@ -126,7 +75,9 @@ fn text_of_script<A: Allocator + Copy>(
     alloc: A,
     bytes: &[u8],
     mode: Mode,
-) -> Result<String<A>, Fault> {
+) -> Result<String<A>, Fault>
+    ensures { Answers (answer_of_script mode bytes.now) result }
+{
     let script = parse_script(alloc, bytes)?;
     let text = text_of_table(alloc, &script, mode);
     // The memory of the script goes back before the text is written.
@@ -139,9 +90,20 @@ fn table_text<A: Allocator + Copy, R: Read>(
     alloc: A,
     mode: Mode,
     input: &mut R,
-) -> Result<String<A>, Fault> {
+) -> Result<String<A>, Fault>
+    ensures { IfSome (R.remaining input.old) (λ script. Answers (answer_of_script mode script) result) }
+{
     let bytes = read_whole(alloc, input)?;
     text_of_script(alloc, &bytes, mode)
+}
+
+// Writes a text, all of it.
+fn write_text<W: Write>(text: &str, out: &mut W) -> Result<(), Fault>
+    ensures written { OnOk result (Appends (W.contents out.old) (W.contents out.new) text.now) }
+    ensures failed { (fault : _) → result ≡ Err fault → fault ≡ Fault.Write }
+{
+    out.write_all(text.as_bytes()).map_err(|_| Fault::Write)?;
+    out.flush().map_err(|_| Fault::Write)
 }
 
 // Writes the text of the table.
@@ -151,36 +113,43 @@ fn show<A: Allocator + Copy, R: Read, W: Write>(
     input: &mut R,
     out: &mut W,
 ) -> Result<(), Fault>
-    ensures { mode_of (map string_bytes words.now) ≡ None → result ≡ Err Fault.Usage }
+    ensures wrong_arguments { mode_of (map string_bytes words.now) ≡ None → (result ≡ Err Fault.Usage) × Keeps (R.remaining input.old) (R.remaining input.new) }
+    ensures shown { OnOk result (IfSome (R.remaining input.old) (λ script. (text : Text) × (answer_to (map string_bytes words.now) script ≡ Ok text) × Appends (W.contents out.old) (W.contents out.new) text)) }
+    ensures refused { (fault : _) → result ≡ Err fault → is_failure fault ≡ false → IfSome (R.remaining input.old) (λ script. answer_to (map string_bytes words.now) script ≡ Err fault) }
+    ensures unwritten { (fault : _) → result ≡ Err fault → fault ≢ Fault.Write → Keeps (W.contents out.old) (W.contents out.new) }
 {
     let mode = Mode::from_words(words).ok_or(Fault::Usage)?;
     let text = table_text(alloc, mode, input)?;
-    out.write_all(text.as_bytes()).map_err(|_| Fault::Write)?;
-    out.flush().map_err(|_| Fault::Write)
+    write_text(text.as_str(), out)
 }
 
-/// Runs the program, and answers its exit status.
+/// Runs the program, and answers how the run ended.
 ///
 /// `words` are its arguments. A script is read from `input`, and the text of its table and a line
-/// feed are written to `out`: status 0. Each fault is one line on `err`, and nothing is written to
-/// `out` save by a write that fails: status 2 for wrong arguments (before anything is read) and for
-/// a bad script, 3 for a table that doesn't fit, 4 for want of memory, 5 for a read or a write that
-/// fails. A failed write to `err` changes no status.
-pub fn run<A: Allocator + Copy, R: Read + Drop, W1: Write + Drop, W2: Write + Drop>(
+/// feed are written to `out`. Each fault is one line on `err`, and nothing is written to `out` save
+/// by a write that fails. Wrong arguments are told before anything is read.
+pub fn run<A: Allocator + Copy, R: Read, W1: Write, W2: Write>(
     alloc: A,
     words: &[String],
-    mut input: R,
-    mut out: W1,
-    mut err: W2,
-) -> u8
-    ensures known { result ≤ 5 }
-    ensures wrong_arguments { mode_of (map string_bytes words.now) ≡ None → result ≡ 2 }
+    input: &mut R,
+    out: &mut W1,
+    err: &mut W2,
+) -> Ending
+    ensures wrong_arguments { mode_of (map string_bytes words.now) ≡ None → (result.fault ≡ Some Fault.Usage) × Keeps (R.remaining input.old) (R.remaining input.new) }
+    ensures shown { result.fault ≡ None → IfSome (R.remaining input.old) (λ script. (text : Text) × (answer_to (map string_bytes words.now) script ≡ Ok text) × Appends (W1.contents out.old) (W1.contents out.new) text) }
+    ensures refused { (fault : _) → result.fault ≡ Some fault → is_failure fault ≡ false → IfSome (R.remaining input.old) (λ script. answer_to (map string_bytes words.now) script ≡ Err fault) }
+    ensures unwritten { (fault : _) → result.fault ≡ Some fault → fault ≢ Fault.Write → Keeps (W1.contents out.old) (W1.contents out.new) }
+    ensures told { (fault : _) → result.fault ≡ Some fault → result.is_told ≡ true → Appends (W2.contents err.old) (W2.contents err.new) (line_of fault) }
+    ensures silent { result.fault ≡ None → Keeps (W2.contents err.old) (W2.contents err.new) }
 {
-    match show(alloc, words, &mut input, &mut out) {
-        Ok(()) => 0,
-        Err(fault) => {
-            let _ = fault.tell(&mut err);
-            fault.status()
-        }
+    match show(alloc, words, input, out) {
+        Ok(()) => Ending {
+            fault: None,
+            is_told: true,
+        },
+        Err(fault) => Ending {
+            fault: Some(fault),
+            is_told: fault.tell(err).is_ok(),
+        },
     }
 }

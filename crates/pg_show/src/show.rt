@@ -2,16 +2,18 @@
 
 ghost use Rattle.std.specs.Prelude.{◌≡◌, ◌↔◌, Some, None, Err};
 ghost use Rattle.pg_picture.specs.Appending.{Appends};
+ghost use Rattle.pg_picture.specs.Fits.{misfit_of};
 ghost use Rattle.pg_picture.specs.Sizes.{unless_misfit};
+ghost use Rattle.pg_grid.specs.IterGrids.{AppendsOrNothing};
 ghost use Rattle.pg_show.specs.Script.{told_of_script};
-ghost use Rattle.pg_show.specs.Show.{misfit_in, text_in};
+ghost use Rattle.pg_show.specs.Show.{misfit_in, table_of_told, text_in, Prints};
 ghost use Rattle.pg_show.specs.declared.mode.Mode.TheVariants as mode;
 ghost use Rattle.pg_show.specs.declared.show.ShowFault.TheVariants.{Memory};
 ghost use Rattle.pg_show.specs.declared.show.ShowFault.TheVariants as variants;
 
 use crate::mode::Mode;
 use crate::script::Script;
-use pg_grid::{CompactGrid, PeekableGrid};
+use pg_grid::{CompactGrid, IterGrid, PeekableGrid};
 use pg_layout::{ExactRecords, Records};
 use pg_picture::fits::{Misfit, compact_fits, table_fits};
 use std::alloc::{AllocError, Allocator};
@@ -44,18 +46,20 @@ impl From<Misfit> for ShowFault {
 /// Appends the table of a script, as the printer of the mode prints it.
 ///
 /// A table that doesn't fit is refused before any memory is taken, and the buffer stays as it was.
-/// Where memory is refused the buffer has gained a beginning of the table's text.
-pub fn print_script<A: Allocator, B: Allocator>(
+/// Where memory is refused the buffer has gained a beginning of the table's text. `alloc` gives the
+/// memory that a printer keeps cells in; only [`Mode::Iter`] takes any.
+pub fn print_script<C: Allocator, A: Allocator, B: Allocator>(
+    alloc: C,
     script: &Script<A>,
     mode: Mode,
     buf: &mut String<B>,
 ) -> Result<(), ShowFault>
     ensures misfit { (m : _) → (result ≡ Err (ShowFault.Misfit m)) ↔ (misfit_in mode (told_of_script script.now) ≡ Some m) }
     ensures kept { (m : _) → result ≡ Err (ShowFault.Misfit m) → buf.new ≡ buf.old }
-    ensures printed { misfit_in mode (told_of_script script.now) ≡ None → Appends buf.old buf.new result (text_in mode (told_of_script script.now)) }
+    ensures printed { misfit_in mode (told_of_script script.now) ≡ None → Prints mode buf.old buf.new result (text_in mode (told_of_script script.now)) }
 {
     script_fits(script, mode)?;
-    push_table(script, mode, buf)?;
+    push_table(alloc, script, mode, buf)?;
     Ok(())
 }
 
@@ -65,7 +69,7 @@ fn script_fits<A: Allocator>(script: &Script<A>, mode: Mode) -> Result<(), Misfi
 {
     match mode {
         Mode::Compact => compact_script_fits(script),
-        Mode::Peek => peekable_script_fits(script),
+        Mode::Iter | Mode::Peek => spanned_script_fits(script),
     }
 }
 
@@ -80,24 +84,26 @@ fn compact_script_fits<A: Allocator>(script: &Script<A>) -> Result<(), Misfit>
     compact_fits(&script.compact, &script.dimension, records.count_columns())
 }
 
-// Whether it fits as a table whose texts are looked up.
-fn peekable_script_fits<A: Allocator>(script: &Script<A>) -> Result<(), Misfit>
-    ensures { result ≡ unless_misfit (misfit_in mode.Peek (told_of_script script.now)) }
+// Whether it fits as a table whose cells may span rows and columns.
+fn spanned_script_fits<A: Allocator>(script: &Script<A>) -> Result<(), Misfit>
+    ensures { result ≡ unless_misfit (misfit_of (table_of_told (told_of_script script.now))) }
 {
     table_fits(&&script.records, &script.config, &script.dimension)
 }
 
 // Appends the table of a script, as the grid of the mode prints it.
-fn push_table<A: Allocator, B: Allocator>(
+fn push_table<C: Allocator, A: Allocator, B: Allocator>(
+    alloc: C,
     script: &Script<A>,
     mode: Mode,
     buf: &mut String<B>,
 ) -> Result<(), AllocError>
     requires { misfit_in mode (told_of_script script.now) ≡ None }
-    ensures { Appends buf.old buf.new result (text_in mode (told_of_script script.now)) }
+    ensures { Prints mode buf.old buf.new result (text_in mode (told_of_script script.now)) }
 {
     match mode {
         Mode::Compact => push_compact(script, buf),
+        Mode::Iter => push_streamed(alloc, script, buf),
         Mode::Peek => push_peekable(script, buf),
     }
 }
@@ -116,6 +122,19 @@ fn push_compact<A: Allocator, B: Allocator>(
     }
     let (dimension, colors) = (&script.dimension, &script.colors);
     CompactGrid::new(&script.records, &script.compact, dimension, colors).build(buf)
+}
+
+// Appends the table of a script, as the streaming grid prints it.
+fn push_streamed<C: Allocator, A: Allocator, B: Allocator>(
+    alloc: C,
+    script: &Script<A>,
+    buf: &mut String<B>,
+) -> Result<(), AllocError>
+    requires { misfit_in mode.Iter (told_of_script script.now) ≡ None }
+    ensures { AppendsOrNothing buf.old buf.new result (text_in mode.Iter (told_of_script script.now)) }
+{
+    let (dimension, colors) = (&script.dimension, &script.colors);
+    IterGrid::new(&script.records, &script.config, dimension, colors).build(alloc, buf)
 }
 
 // Appends the table of a script, as the looked-up grid prints it.

@@ -14,5 +14,7 @@ fn arguments(rt: &(impl Env + AllocGlobal)) -> io::Result<Vec<String>> {
 // Arguments that can't be read are wrong arguments, as none are.
 fn main(rt: HostRuntime) -> ExitCode {
     let words = arguments(&rt).unwrap_or(Vec::new(rt.alloc()));
-    ExitCode::from(pg_show::run(rt.alloc(), &words, rt.stdin(), rt.stdout(), rt.stderr()))
+    let (mut input, mut out, mut err) = (rt.stdin(), rt.stdout(), rt.stderr());
+    let ending = pg_show::run(rt.alloc(), &words, &mut input, &mut out, &mut err);
+    ExitCode::from(ending.status())
 }

@@ -2,7 +2,7 @@ use Rattle.std.proofs.Common.{◌∙◌, ap}
 use Rattle.pg_picture.specs.Fits.{misfit_of}
 use Rattle.pg_picture.specs.Sizes.{unless_misfit}
 use Rattle.pg_show.proofs.ScriptTables.{misfit_of-table_with, table-script}
-use Rattle.pg_show.proofs.show.peekable_script_fits.Goals as goal
+use Rattle.pg_show.proofs.show.spanned_script_fits.Goals as goal
 
 pub returns : goal.returns
 returns g c =

@@ -1,0 +1,64 @@
+//! Runs of the program.
+
+use pg_show::run;
+use std::alloc::{AllocError, Global};
+use std::process::Abort;
+use std::test::Fail;
+
+/// What a run of the program leaves.
+#[derive(Drop)]
+struct Run {
+    status: u8,
+    out: Vec<u8>,
+    err: Vec<u8>,
+}
+
+/// The arguments of a run.
+pub(crate) fn arguments(alloc: Global, words: &[&str]) -> Result<Vec<String>, AllocError> {
+    let mut arguments = Vec::new(alloc);
+    for word in words {
+        arguments.push(String::from_str(alloc, word)?)?;
+    }
+    Ok(arguments)
+}
+
+// Runs the program with these arguments.
+fn run_with(alloc: Global, words: &[&str], script: &str) -> Result<Run, AllocError> {
+    let words = arguments(alloc, words)?;
+    let mut out = Vec::new(alloc);
+    let mut err = Vec::new(alloc);
+    let ending = run(alloc, &words, &mut script.as_bytes(), &mut out, &mut err);
+    Ok(Run {
+        status: ending.status(),
+        out,
+        err,
+    })
+}
+
+/// With these arguments the script's table is this text and a line feed.
+pub(crate) fn assert_shown(
+    rt: &impl Abort,
+    alloc: Global,
+    words: &[&str],
+    (script, text): (&str, &str),
+) -> Result<(), Fail> {
+    let run = run_with(alloc, words, script)?;
+    assert_eq!(rt; run.status, 0);
+    assert_eq!(rt; run.out.as_slice(), text.as_bytes());
+    assert_eq!(rt; run.err.len(), 0);
+    Ok(())
+}
+
+/// With these arguments the script is refused with this line and this status.
+pub(crate) fn assert_refused(
+    rt: &impl Abort,
+    alloc: Global,
+    words: &[&str],
+    (script, line, status): (&str, &str, u8),
+) -> Result<(), Fail> {
+    let run = run_with(alloc, words, script)?;
+    assert_eq!(rt; run.status, status);
+    assert_eq!(rt; run.out.len(), 0);
+    assert_eq!(rt; run.err.as_slice(), line.as_bytes());
+    Ok(())
+}

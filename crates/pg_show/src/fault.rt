@@ -1,0 +1,106 @@
+//! Why a run of the program prints no table.
+
+ghost use Rattle.std.specs.Prelude.{◌≡◌, OnOk};
+ghost use Rattle.std.specs.Io.KnownBytes.{Appends};
+ghost use Rattle.pg_show.specs.Program.{status_of, line_of, line_of_misfit, fault_of_script, fault_of_show};
+ghost use Rattle.pg_show.specs.declared.fault.Fault.TheVariants.{Memory};
+
+use crate::script::ScriptFault;
+use crate::show::ShowFault;
+use pg_picture::fits::Misfit;
+use std::alloc::AllocError;
+use std::io;
+use std::io::Write;
+
+/// Why a run of the program prints no table.
+#[derive(Debug, Clone, Copy)]
+pub enum Fault {
+    /// The arguments name no mode.
+    Usage,
+    /// This line of the script is the first bad one, counted from 1.
+    Bad(usize),
+    /// The table doesn't fit.
+    Misfit(Misfit),
+    /// Memory was refused.
+    Memory,
+    /// A read failed, or there were too many.
+    Read,
+    /// A write failed.
+    Write,
+}
+
+impl From<AllocError> for Fault {
+    ghost from_gives = { λ _ fault. fault ≡ Memory };
+
+    fn from(_error: AllocError) -> Fault {
+        Fault::Memory
+    }
+}
+
+impl From<ScriptFault> for Fault {
+    ghost from_gives = { λ found fault. fault ≡ fault_of_script found };
+
+    fn from(fault: ScriptFault) -> Fault {
+        match fault {
+            ScriptFault::Bad(line) => Fault::Bad(line),
+            ScriptFault::Memory => Fault::Memory,
+        }
+    }
+}
+
+impl From<ShowFault> for Fault {
+    ghost from_gives = { λ found fault. fault ≡ fault_of_show found };
+
+    fn from(fault: ShowFault) -> Fault {
+        match fault {
+            ShowFault::Misfit(misfit) => Fault::Misfit(misfit),
+            ShowFault::Memory => Fault::Memory,
+        }
+    }
+}
+
+impl Fault {
+    /// The exit status that tells of it.
+    pub fn status(self) -> u8
+        ensures { result ≡ status_of self }
+    {
+        match self {
+            Fault::Usage | Fault::Bad(_) => 2,
+            Fault::Misfit(_) => 3,
+            Fault::Memory => 4,
+            Fault::Read | Fault::Write => 5,
+        }
+    }
+
+    /// Writes the line that tells of it. An error is the writer's.
+    pub fn tell<W: Write>(self, err: &mut W) -> io::Result<()>
+        ensures { OnOk result (Appends (W.contents err.old) (W.contents err.new) (line_of self)) }
+    {
+        self.write_line(err)?;
+        err.flush()
+    }
+
+    fn write_line<W: Write>(self, err: &mut W) -> io::Result<()>
+        ensures { OnOk result (Appends (W.contents err.old) (W.contents err.new) (line_of self)) }
+    {
+        match self {
+            Fault::Usage => writeln!(err, "usage: pgshow compact|iter|peek"),
+            Fault::Bad(line) => writeln!(err, "line {line}: bad"),
+            Fault::Misfit(misfit) => write_misfit(misfit, err),
+            Fault::Memory => writeln!(err, "out of memory"),
+            Fault::Read => writeln!(err, "read failed"),
+            Fault::Write => writeln!(err, "write failed"),
+        }
+    }
+}
+
+// Writes the line that tells what doesn't fit.
+fn write_misfit<W: Write>(misfit: Misfit, err: &mut W) -> io::Result<()>
+    ensures { OnOk result (Appends (W.contents err.old) (W.contents err.new) (line_of_misfit misfit)) }
+{
+    match misfit {
+        Misfit::Spans => writeln!(err, "does not fit: spans"),
+        Misfit::Totals => writeln!(err, "does not fit: totals"),
+        Misfit::Room(row, col) => writeln!(err, "does not fit: room {row} {col}"),
+    }
+}
