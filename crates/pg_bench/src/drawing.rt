@@ -75,7 +75,7 @@ impl<R: Records> Records for Unhinted<R> {
 
 /// A table's parts in memory.
 #[derive(Drop)]
-struct Parts<'a> {
+struct TableParts<'a> {
     records: VecRecords<&'a str>,
     dimension: ConstantDimension,
     colors: ColorsMap,
@@ -109,8 +109,8 @@ fn cell_colors(alloc: Global, settings: &[Setting]) -> Result<ColorsMap, AllocEr
 }
 
 // The sample's parts.
-fn parts<'a>(alloc: Global, sample: &Sample<'a>) -> Result<Parts<'a>, Fail> {
-    Ok(Parts {
+fn parts_of<'a>(alloc: Global, sample: &Sample<'a>) -> Result<TableParts<'a>, Fail> {
+    Ok(TableParts {
         records: records(alloc, sample.texts)?,
         dimension: dimension(alloc, sample)?,
         colors: cell_colors(alloc, sample.settings)?,
@@ -121,7 +121,7 @@ fn parts<'a>(alloc: Global, sample: &Sample<'a>) -> Result<Parts<'a>, Fail> {
 fn draw_parts<A: Allocator, B: Allocator>(
     memory: A,
     grid: Grid,
-    parts: &Parts<'_>,
+    parts: &TableParts<'_>,
     config: &SpannedConfig,
     buf: &mut String<B>,
 ) -> Result<bool, Fail> {
@@ -141,7 +141,7 @@ fn draw_parts<A: Allocator, B: Allocator>(
 fn text_of_parts(
     alloc: Global,
     grid: Grid,
-    parts: &Parts<'_>,
+    parts: &TableParts<'_>,
     config: &SpannedConfig,
 ) -> Result<String, Fail> {
     let (records, dimension, colors) = (&parts.records, &parts.dimension, &parts.colors);
@@ -165,7 +165,7 @@ fn draw_by<A: Allocator, B: Allocator>(
     buf: &mut String<B>,
 ) -> Result<bool, Fail> {
     tell_all(config, alloc, sample.settings)?;
-    let parts = parts(alloc, sample)?;
+    let parts = parts_of(alloc, sample)?;
     draw_parts(memory, grid, &parts, config, buf)
 }
 
@@ -191,7 +191,7 @@ fn text_by(
     config: &mut SpannedConfig,
 ) -> Result<String, Fail> {
     tell_all(config, alloc, sample.settings)?;
-    let parts = parts(alloc, sample)?;
+    let parts = parts_of(alloc, sample)?;
     text_of_parts(alloc, grid, &parts, config)
 }
 
