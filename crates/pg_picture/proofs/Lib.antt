@@ -53,5 +53,7 @@ mod ReachOfRectangles
 mod PartsOfColumns
 mod StraightColumns
 mod DrawnCells
-mod PlainPictures
+pub mod PlainPictures
+pub mod EqualSeparators
+pub mod OneStyle
 mod FirstMisfits
