@@ -1,5 +1,5 @@
 -- Where no setting is for a row, a column or a cell, all cells have the same.
-use Rattle.std.proofs.Common.{◌≡◌, true, ◌&&◌, ◌∙◌, sym}
+use Rattle.std.proofs.Common.{◌≡◌, true, ◌∙◌, sym}
 use Rattle.std.proofs.lemmas.Bool.{and_parts}
 use Rattle.pg_layout.specs.declared.position.Position.{Position}
 use Rattle.pg_config.specs.Settings.{Settings, is_for_all, setting_of}

@@ -1,5 +1,5 @@
 -- What is kept of cells from one of their lines to the next, and that it is right.
-use Rattle.std.specs.Prelude.{◌≡◌, ℕ, ◌-◌, ◌≤◌, ◌<◌, IfSome, slice_index_or, Option, None}
+use Rattle.std.specs.Prelude.{◌≡◌, ℕ, ◌-◌, ◌≤◌, ◌<◌, IfSome, slice_index_or, None}
 use Rattle.pg_layout.specs.declared.position.Position.{Position}
 use Rattle.pg_layout.specs.LineCursor.{StandsIn, line_number}
 use Rattle.pg_layout.specs.Text.{Text}

@@ -2,11 +2,10 @@
 use Rattle.std.proofs.Common.{◌≡◌, ℕ, ◌+◌, true, nat_lt, List, [], ◌∷◌, ◌++◌, map, Option, Some, None, refl, ap, ap₂, ◌∙◌, if◌then◌else◌}
 use Rattle.std.specs.List.{range_with_len}
 use Rattle.pg_layout.specs.Position.{at}
-use Rattle.pg_layout.specs.declared.position.Position.{Position}
 use Rattle.pg_config.specs.Config.{Config, has_equal_row_lines, get_horizontal, get_horizontal_color}
 use Rattle.pg_config.proofs.EqualLines.{IsInner, SameLines, inner_lines}
 use Rattle.pg_picture.specs.Pieces.{Item}
-use Rattle.pg_picture.specs.Table.{Table, border_glyph, border_items, crossing_at, column_items, horizontal_items, separator_part, separator_items}
+use Rattle.pg_picture.specs.Table.{Table, border_glyph, border_items, crossing_at, column_items, separator_part, separator_items}
 use Rattle.pg_picture.proofs.PlainPictures.{flat_map-same}
 use Rattle.pg_picture.proofs.PlainTables.{crossing_plain, covered_plain}
 

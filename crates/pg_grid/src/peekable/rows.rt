@@ -93,27 +93,20 @@ where
         let mut style = CellStyle::of(self.config, Position::new(row, 0));
         for column in 0..columns {
             let pos = Position::new(row, column);
-            style = self.style_of_cell(style, is_one, pos);
+            self.change_style(&mut style, is_one, pos);
             self.push_part(buf, kept, &style, columns, pos, line)?;
         }
         Ok(())
     }
 
-    // The style of a cell: the one that is known, if all cells have one.
+    // Makes a style that of a cell: it stays as it is where all cells have one.
     #[inline(always)]
-    fn style_of_cell(
-        &self,
-        known: CellStyle<'a, B>,
-        is_one: bool,
-        pos: Position,
-    ) -> CellStyle<'a, B>
-        requires known { IsTrue is_one → (p : Position) → style_of known ≡ style_at (drawn R.Records D.Dimension C.Colors self.now).config p }
-        ensures { style_of result ≡ style_at (drawn R.Records D.Dimension C.Colors self.now).config pos }
+    fn change_style(&self, style: &mut CellStyle<'a, B>, is_one: bool, pos: Position)
+        requires known { IsTrue is_one → (p : Position) → style_of style.old ≡ style_at (drawn R.Records D.Dimension C.Colors self.now).config p }
+        ensures { style_of style.new ≡ style_at (drawn R.Records D.Dimension C.Colors self.now).config pos }
     {
-        if is_one {
-            known
-        } else {
-            CellStyle::of(self.config, pos)
+        if !is_one {
+            *style = CellStyle::of(self.config, pos);
         }
     }
 

@@ -1,4 +1,4 @@
-use Rattle.std.proofs.Common.{◌≡◌, ◌<◌, true, ap₂, ◌∙◌, arith}
+use Rattle.std.proofs.Common.{◌≡◌, true, ap₂, ◌∙◌, arith}
 use Rattle.pg_picture.specs.Cells.{style_of}
 use Rattle.pg_picture.specs.Fits.{cell_fits}
 use Rattle.pg_picture.proofs.Room.{cell_fits-room}

@@ -38,7 +38,7 @@ loop-column-preserved g c =
     record {
       gained = Gained-text (sym (written-columns (row_part t c.args.row c.args.line) c.loop-column.column)) (Gained-more c.loop-column.invariant.gained (Appends-text (place ∙ text) c.in_ok-push_part.ensures.appends));
       kept = c.in_ok-push_part.ensures.kept;
-      style = λ is p. c.style_of_cell-style.ensures ∙ one_style c.args.self.now.config.now (sym c.has_one_style-is_one.ensures ∙ is) c.new-pos.result p;
+      style = λ is p. c.change_style.ensures ∙ one_style c.args.self.now.config.now (sym c.has_one_style-is_one.ensures ∙ is) c.new-pos.result p;
     }
 
 pub returns-in_err-push_part-clause-appends : goal.returns-in_err-push_part-clause-appends
