@@ -1,17 +1,22 @@
 //! What is kept of cells from one of their lines to the next, so that it isn't worked out again.
 
-ghost use Rattle.std.specs.Prelude.{◌≡◌, ◌≤◌, ◌<◌, ℕ, List, IfSome, IsTrue, length, slice_index_or, []};
+ghost use Rattle.std.specs.Prelude.{◌≡◌, ◌≤◌, ◌<◌, ℕ, List, IfSome, IsTrue, length, slice_index_or, [], drop, string_bytes};
 ghost use Rattle.pg_layout.specs.LineCursor.{StandsIn, line_number};
 ghost use Rattle.pg_layout.specs.Text.{lines_of};
 ghost use Rattle.pg_picture.specs.Cells.{line_if};
 ghost use Rattle.pg_picture.specs.Table.{Table};
-ghost use Rattle.pg_grid.specs.Kept.{Reads, IsReading, IsRectangle, AreKept};
+ghost use Rattle.pg_grid.specs.Kept.{Reads, IsReading, IsRectangle, IsSeparator, AreKept};
 
+use arrayvec::ArrayString;
 use pg_layout::{LineCursor, Position};
 use pg_picture::CellPlace;
+use std::alloc::Allocator;
 
 /// For how many columns something is kept.
 const COLUMNS: usize = 16;
+
+/// How many bytes a separator may have that is kept.
+const BYTES: usize = 512;
 
 /// Where the lines of a text stand in their cell, and how far the text was read.
 #[derive(Debug, Clone, Copy)]
@@ -134,11 +139,13 @@ impl KeptRectangle {
     }
 }
 
-/// What is kept of the cells whose left column is one of the first few, at most one for each column.
+/// What is kept of the cells whose left column is one of the first few, at most one for each column,
+/// and the text of a separator between two rows, if all of these are equal and it is short.
 #[derive(Debug, Drop)]
 pub(super) struct KeptCells {
     cells: [Option<KeptCell>; COLUMNS],
     rectangles: [Option<KeptRectangle>; COLUMNS],
+    separator: Option<ArrayString<BYTES>>,
 }
 
 impl KeptCells {
@@ -149,6 +156,7 @@ impl KeptCells {
         KeptCells {
             cells: [None; COLUMNS],
             rectangles: [None; COLUMNS],
+            separator: None,
         }
     }
 
@@ -203,6 +211,23 @@ impl KeptCells {
         }
     }
 
+    // The text of the separators between two rows, if that is kept.
+    pub(super) fn separator(&self) -> Option<&str>
+        ensures { (t : Table) → AreKept t self.now → IfSome result (λ text. IsSeparator t text.now) }
+    {
+        match &self.separator {
+            Some(text) => Some(text.as_str()),
+            None => None,
+        }
+    }
+
+    // Keeps what stands in a buffer from a place on, as the text of the separators between two rows.
+    pub(super) fn keep_separator<A: Allocator>(&mut self, buf: &String<A>, from: usize)
+        ensures { (t : Table) → AreKept t self.old → IsSeparator t (drop from (string_bytes buf.now)) → AreKept t self.new }
+    {
+        self.separator = text_from(buf, from);
+    }
+
     // Keeps a rectangle.
     pub(super) fn keep_rectangle(&mut self, rectangle: KeptRectangle)
         ensures { (t : Table) → AreKept t self.old → IsRectangle t rectangle → AreKept t self.new }
@@ -211,4 +236,11 @@ impl KeptCells {
             self.rectangles[rectangle.corner.col] = Some(rectangle);
         }
     }
+}
+
+// What stands in a buffer from a place on, if it is short.
+fn text_from<A: Allocator>(buf: &String<A>, from: usize) -> Option<ArrayString<BYTES>>
+    ensures { IfSome result (λ text. text.bytes ≡ drop from (string_bytes buf.now)) }
+{
+    ArrayString::<BYTES>::from(buf.as_str().get(from..)?).ok()
 }
