@@ -31,3 +31,4 @@ pub mod Starting
 pub mod Ending
 pub mod PicturesOfRows
 pub mod FittingRows
+pub mod FittingCells
