@@ -7,16 +7,13 @@ ghost use Rattle.pg_picture.specs.Cells.{line_if};
 ghost use Rattle.pg_picture.specs.Table.{Table};
 ghost use Rattle.pg_grid.specs.Kept.{Reads, IsReading, IsRectangle, IsSeparator, AreKept};
 
-use arrayvec::ArrayString;
+use crate::peekable::kept_text::KeptText;
 use pg_layout::{LineCursor, Position};
 use pg_picture::CellPlace;
 use std::alloc::Allocator;
 
 /// For how many columns something is kept.
 const COLUMNS: usize = 16;
-
-/// How many bytes a separator may have that is kept.
-const BYTES: usize = 512;
 
 /// Where the lines of a text stand in their cell, and how far the text was read.
 #[derive(Debug, Clone, Copy)]
@@ -145,7 +142,7 @@ impl KeptRectangle {
 pub(super) struct KeptCells {
     cells: [Option<KeptCell>; COLUMNS],
     rectangles: [Option<KeptRectangle>; COLUMNS],
-    separator: Option<ArrayString<BYTES>>,
+    separator: Option<KeptText>,
 }
 
 impl KeptCells {
@@ -216,7 +213,7 @@ impl KeptCells {
         ensures { (t : Table) → AreKept t self.now → IfSome result (λ text. IsSeparator t text.now) }
     {
         match &self.separator {
-            Some(text) => Some(text.as_str()),
+            Some(text) => text.as_str(),
             None => None,
         }
     }
@@ -225,7 +222,7 @@ impl KeptCells {
     pub(super) fn keep_separator<A: Allocator>(&mut self, buf: &String<A>, from: usize)
         ensures { (t : Table) → AreKept t self.old → IsSeparator t (drop from (string_bytes buf.now)) → AreKept t self.new }
     {
-        self.separator = text_from(buf, from);
+        self.separator = KeptText::from_buffer(buf, from);
     }
 
     // Keeps a rectangle.
@@ -236,11 +233,4 @@ impl KeptCells {
             self.rectangles[rectangle.corner.col] = Some(rectangle);
         }
     }
-}
-
-// What stands in a buffer from a place on, if it is short.
-fn text_from<A: Allocator>(buf: &String<A>, from: usize) -> Option<ArrayString<BYTES>>
-    ensures { IfSome result (λ text. text.bytes ≡ drop from (string_bytes buf.now)) }
-{
-    ArrayString::<BYTES>::from(buf.as_str().get(from..)?).ok()
 }
