@@ -1,4 +1,4 @@
-//! Scripts, and what the program answers to them with the word `peek`.
+//! Scripts, and what the program answers to them with the word `peek`, and so with `iter`.
 
 use crate::running;
 use std::alloc::Global;
@@ -7,7 +7,8 @@ use std::test::Fail;
 
 // The script's table is this text and a line feed.
 fn assert_shown(rt: &impl Abort, alloc: Global, script: &str, text: &str) -> Result<(), Fail> {
-    running::assert_shown(rt, alloc, &["peek"], (script, text))
+    running::assert_shown(rt, alloc, &["peek"], (script, text))?;
+    running::assert_shown(rt, alloc, &["iter"], (script, text))
 }
 
 // The script is refused with this line and this status.
@@ -17,7 +18,8 @@ fn assert_refused(
     script: &str,
     (line, status): (&str, u8),
 ) -> Result<(), Fail> {
-    running::assert_refused(rt, alloc, &["peek"], (script, line, status))
+    running::assert_refused(rt, alloc, &["peek"], (script, line, status))?;
+    running::assert_refused(rt, alloc, &["iter"], (script, line, status))
 }
 
 #[test]

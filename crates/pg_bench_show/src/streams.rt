@@ -3,7 +3,7 @@
 use crate::running::arguments;
 use pg_show::run;
 use pg_testing::ledger::Rule;
-use pg_testing::streams::{EndlessReader, FailingReader, FailingWriter};
+use pg_testing::streams::{FailingReader, FailingWriter};
 use std::alloc::Global;
 use std::process::Abort;
 use std::test::Fail;
@@ -72,18 +72,5 @@ fn no_failure_gives_the_table(rt: HostRuntime) -> Result<(), Fail> {
     assert_eq!(&rt; status, 0);
     assert_eq!(&rt; kept.as_slice(), TEXT.as_bytes());
     assert_eq!(&rt; told.len(), 0);
-    Ok(())
-}
-
-// An input without an end isn't read for ever.
-#[test]
-fn an_input_without_an_end_is_left(rt: HostRuntime) -> Result<(), Fail> {
-    let words = arguments(rt.alloc(), &["peek"])?;
-    let mut out = Vec::new(rt.alloc());
-    let mut err = Vec::new(rt.alloc());
-    let ending = run(rt.alloc(), &words, &mut EndlessReader, &mut out, &mut err);
-    assert_eq!(&rt; ending.status(), 5);
-    assert_eq!(&rt; out.len(), 0);
-    assert_eq!(&rt; err.as_slice(), "read failed\n".as_bytes());
     Ok(())
 }
