@@ -1,5 +1,7 @@
 //! How the tests draw a table.
 
+ghost use Rattle.std.specs.Prelude.{◌≡◌};
+
 use crate::settings::{Setting, tell_all};
 use pg_config::SpannedConfig;
 use pg_grid::{IterGrid, PeekableGrid};
@@ -22,6 +24,15 @@ pub(crate) struct Sample<'a> {
 #[derive(Debug, Clone, Copy, Drop)]
 pub(crate) struct Unhinted<R> {
     records: R,
+}
+
+impl<R> Unhinted<R> {
+    /// These records, without the number of their rows.
+    pub(crate) fn new(records: R) -> Unhinted<R>
+        ensures { result.records ≡ records }
+    {
+        Unhinted { records }
+    }
 }
 
 impl<R: Records> Records for Unhinted<R> {
@@ -62,8 +73,11 @@ pub(crate) struct Pictures {
     pub(crate) looked_up: String,
 }
 
-// The texts as records.
-fn records<'a>(alloc: Global, texts: &[&[&'a str]]) -> Result<VecRecords<&'a str>, Fail> {
+/// The texts as records.
+pub(crate) fn records<'a>(
+    alloc: Global,
+    texts: &[&[&'a str]],
+) -> Result<VecRecords<&'a str>, Fail> {
     let mut rows = Vec::new(alloc);
     for row in texts {
         rows.push(row.to_vec(alloc)?)?;
@@ -71,8 +85,11 @@ fn records<'a>(alloc: Global, texts: &[&[&'a str]]) -> Result<VecRecords<&'a str
     Ok(VecRecords::new(rows)?)
 }
 
-// The sizes of the sample.
-fn dimension(alloc: Global, sample: &Sample<'_>) -> Result<ConstantDimension, AllocError> {
+/// The sizes of the sample.
+pub(crate) fn dimension(
+    alloc: Global,
+    sample: &Sample<'_>,
+) -> Result<ConstantDimension, AllocError> {
     let widths = sample.widths.to_vec(alloc)?;
     let heights = sample.heights.to_vec(alloc)?;
     Ok(ConstantDimension(widths, heights))
@@ -92,7 +109,7 @@ fn draw_table<A: Allocator, B: Allocator>(
         let grid = IterGrid::new(records, config, dimension, NoColors);
         return Ok(grid.build(memory, buf).is_ok());
     }
-    let grid = IterGrid::new(Unhinted { records }, config, dimension, NoColors);
+    let grid = IterGrid::new(Unhinted::new(records), config, dimension, NoColors);
     Ok(grid.build(memory, buf).is_ok())
 }
 
@@ -134,7 +151,7 @@ fn draw_each(
 ) -> Result<Pictures, Fail> {
     table_fits(&records, config, dimension)?;
     let hinted = IterGrid::new(records, config, dimension, NoColors).to_string(alloc)?;
-    let without = Unhinted { records };
+    let without = Unhinted::new(records);
     let unhinted = IterGrid::new(without, config, dimension, NoColors).to_string(alloc)?;
     let looked_up = PeekableGrid::new(records, config, dimension, NoColors).to_string(alloc)?;
     Ok(Pictures {

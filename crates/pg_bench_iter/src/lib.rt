@@ -6,6 +6,8 @@ mod drawing;
 #[cfg(test)]
 mod plain;
 #[cfg(test)]
+mod printing;
+#[cfg(test)]
 mod refusals;
 #[cfg(test)]
 mod settings;
