@@ -23,12 +23,13 @@ impl KeptText {
         ensures { IfSome result (λ text. kept_text text ≡ drop from (string_bytes buf.now)) }
     {
         let text = buf.as_bytes().get(from..)?;
+        let len = text.len();
+        if len > BYTES {
+            return None;
+        }
         let mut bytes = [0; BYTES];
-        bytes.get_mut(..text.len())?.copy_from_slice(text);
-        Some(KeptText {
-            bytes,
-            len: text.len(),
-        })
+        bytes[..len].copy_from_slice(text);
+        Some(KeptText { bytes, len })
     }
 
     // The text.
