@@ -1,0 +1,62 @@
+//! What the table of a ledger looks like.
+
+ghost use Rattle.std.specs.Prelude.{◌≡◌, ◌==◌, if◌then◌else◌, OnOk};
+
+use pg_config::SpannedConfig;
+use pg_layout::{AlignmentHorizontal, Borders, Dimension, Entity, Indent, Sides};
+use std::alloc::AllocError;
+
+/// A date, a text and an amount.
+pub(crate) const COLUMNS: usize = 3;
+
+/// The sizes: room for a text of 24 columns and else for words of 10, with a space at each side;
+/// each row is one line high.
+#[derive(Debug, Clone, Copy)]
+pub(crate) struct Sizes;
+
+impl Dimension for Sizes {
+    ghost width = { λ _ column. if column == 1 then 26 else 12 };
+
+    ghost height = { λ _ _. 1 };
+
+    fn get_width(&self, column: usize) -> usize {
+        if column == 1 { 26 } else { 12 }
+    }
+
+    fn get_height(&self, _row: usize) -> usize {
+        1
+    }
+}
+
+// The glyphs of ASCII borders.
+fn ascii_borders() -> Borders<char> {
+    let (cross, dash, bar) = (Some('+'), Some('-'), Some('|'));
+    Borders {
+        top: dash,
+        top_left: cross,
+        top_right: cross,
+        top_intersection: cross,
+        bottom: dash,
+        bottom_left: cross,
+        bottom_right: cross,
+        bottom_intersection: cross,
+        horizontal: None,
+        left_intersection: None,
+        right_intersection: None,
+        intersection: None,
+        left: bar,
+        right: bar,
+        vertical: bar,
+    }
+}
+
+/// Tells a configuration of ASCII borders, a space at each side of a text, and amounts on the right.
+pub(crate) fn set_look(config: &mut SpannedConfig) -> Result<(), AllocError>
+    ensures spans { config.new.spans ≡ config.old.spans }
+    ensures margin { config.new.margin ≡ config.old.margin }
+{
+    let (beside, none) = (Indent::spaced(1), Indent::zero());
+    config.set_borders(ascii_borders());
+    config.set_padding(Entity::Global, Sides::new(beside, beside, none, none))?;
+    config.set_alignment_horizontal(Entity::Column(2), AlignmentHorizontal::Right)
+}
