@@ -1,5 +1,7 @@
 //! How the tests draw a table.
 
+ghost use Rattle.std.specs.Prelude.{◌≡◌};
+
 use crate::settings::{Setting, color, tell_all};
 use pg_config::SpannedConfig;
 use pg_grid::{IterGrid, PeekableGrid};
@@ -39,8 +41,17 @@ pub(crate) enum Grid {
 
 /// Records that don't tell how many rows there are.
 #[derive(Debug, Clone, Copy, Drop)]
-struct Unhinted<R> {
+pub(crate) struct Unhinted<R> {
     records: R,
+}
+
+impl<R> Unhinted<R> {
+    /// These records, without the number of their rows.
+    pub(crate) fn new(records: R) -> Unhinted<R>
+        ensures { result.records ≡ records }
+    {
+        Unhinted { records }
+    }
 }
 
 impl<R: Records> Records for Unhinted<R> {
@@ -75,14 +86,17 @@ impl<R: Records> Records for Unhinted<R> {
 
 /// A table's parts in memory.
 #[derive(Drop)]
-struct Parts<'a> {
+struct TableParts<'a> {
     records: VecRecords<&'a str>,
     dimension: ConstantDimension,
     colors: ColorsMap,
 }
 
-// The texts as records.
-fn records<'a>(alloc: Global, texts: &[&[&'a str]]) -> Result<VecRecords<&'a str>, Fail> {
+/// The texts as records.
+pub(crate) fn records<'a>(
+    alloc: Global,
+    texts: &[&[&'a str]],
+) -> Result<VecRecords<&'a str>, Fail> {
     let mut rows = Vec::new(alloc);
     for row in texts {
         rows.push(row.to_vec(alloc)?)?;
@@ -90,8 +104,11 @@ fn records<'a>(alloc: Global, texts: &[&[&'a str]]) -> Result<VecRecords<&'a str
     Ok(VecRecords::new(rows)?)
 }
 
-// The sizes of the sample.
-fn dimension(alloc: Global, sample: &Sample<'_>) -> Result<ConstantDimension, AllocError> {
+/// The sizes of the sample.
+pub(crate) fn dimension(
+    alloc: Global,
+    sample: &Sample<'_>,
+) -> Result<ConstantDimension, AllocError> {
     let widths = sample.widths.to_vec(alloc)?;
     let heights = sample.heights.to_vec(alloc)?;
     Ok(ConstantDimension(widths, heights))
@@ -109,8 +126,8 @@ fn cell_colors(alloc: Global, settings: &[Setting]) -> Result<ColorsMap, AllocEr
 }
 
 // The sample's parts.
-fn parts<'a>(alloc: Global, sample: &Sample<'a>) -> Result<Parts<'a>, Fail> {
-    Ok(Parts {
+fn parts_of<'a>(alloc: Global, sample: &Sample<'a>) -> Result<TableParts<'a>, Fail> {
+    Ok(TableParts {
         records: records(alloc, sample.texts)?,
         dimension: dimension(alloc, sample)?,
         colors: cell_colors(alloc, sample.settings)?,
@@ -121,7 +138,7 @@ fn parts<'a>(alloc: Global, sample: &Sample<'a>) -> Result<Parts<'a>, Fail> {
 fn draw_parts<A: Allocator, B: Allocator>(
     memory: A,
     grid: Grid,
-    parts: &Parts<'_>,
+    parts: &TableParts<'_>,
     config: &SpannedConfig,
     buf: &mut String<B>,
 ) -> Result<bool, Fail> {
@@ -131,7 +148,7 @@ fn draw_parts<A: Allocator, B: Allocator>(
         Grid::Peekable => PeekableGrid::new(records, config, dimension, colors).build(buf),
         Grid::Hinted => IterGrid::new(records, config, dimension, colors).build(memory, buf),
         Grid::Unhinted => {
-            IterGrid::new(Unhinted { records }, config, dimension, colors).build(memory, buf)
+            IterGrid::new(Unhinted::new(records), config, dimension, colors).build(memory, buf)
         }
     };
     Ok(drawn.is_ok())
@@ -141,7 +158,7 @@ fn draw_parts<A: Allocator, B: Allocator>(
 fn text_of_parts(
     alloc: Global,
     grid: Grid,
-    parts: &Parts<'_>,
+    parts: &TableParts<'_>,
     config: &SpannedConfig,
 ) -> Result<String, Fail> {
     let (records, dimension, colors) = (&parts.records, &parts.dimension, &parts.colors);
@@ -150,7 +167,7 @@ fn text_of_parts(
         Grid::Peekable => PeekableGrid::new(records, config, dimension, colors).to_string(alloc),
         Grid::Hinted => IterGrid::new(records, config, dimension, colors).to_string(alloc),
         Grid::Unhinted => {
-            IterGrid::new(Unhinted { records }, config, dimension, colors).to_string(alloc)
+            IterGrid::new(Unhinted::new(records), config, dimension, colors).to_string(alloc)
         }
     };
     Ok(text?)
@@ -165,7 +182,7 @@ fn draw_by<A: Allocator, B: Allocator>(
     buf: &mut String<B>,
 ) -> Result<bool, Fail> {
     tell_all(config, alloc, sample.settings)?;
-    let parts = parts(alloc, sample)?;
+    let parts = parts_of(alloc, sample)?;
     draw_parts(memory, grid, &parts, config, buf)
 }
 
@@ -191,7 +208,7 @@ fn text_by(
     config: &mut SpannedConfig,
 ) -> Result<String, Fail> {
     tell_all(config, alloc, sample.settings)?;
-    let parts = parts(alloc, sample)?;
+    let parts = parts_of(alloc, sample)?;
     text_of_parts(alloc, grid, &parts, config)
 }
 

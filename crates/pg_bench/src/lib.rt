@@ -12,6 +12,8 @@ mod drawing;
 #[cfg(test)]
 mod margins;
 #[cfg(test)]
+mod printing;
+#[cfg(test)]
 mod refusals;
 #[cfg(test)]
 mod settings;

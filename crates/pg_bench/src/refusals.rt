@@ -176,20 +176,22 @@ fn a_refusal_leaves_a_beginning_of_colored_points(rt: HostRuntime) -> Result<(),
 /// How many rows a long table has.
 const ROWS: usize = 1000;
 
+/// The texts of each of them.
+const ROW: &[&str] = &["abc", "abc", "abc"];
+
 // A table of three texts in each row, whose second line is this, is drawn where all requests for
 // memory behind so many are refused: that for the buffer and those of the grid.
 fn assert_long(
     rt: &impl Abort,
     alloc: Global,
-    (grid, requests): (Grid, u64),
-    (settings, second): (&[Setting], &str),
+    (grid, requests, second): (Grid, u64, &str),
+    settings: &[Setting],
 ) -> Result<(), Fail> {
-    let row: &[&str] = &["abc", "abc", "abc"];
     let mut texts = Vec::new(alloc);
     let mut heights = Vec::new(alloc);
     let mut text = String::from_str(alloc, "abcabcabc")?;
     for number in 0..ROWS {
-        texts.push(row)?;
+        texts.push(ROW)?;
         heights.push(1)?;
         if number > 0 {
             text.push_str("\n")?;
@@ -213,9 +215,9 @@ fn assert_long(
 #[test]
 fn a_long_table_asks_for_no_memory_but_the_open_cells(rt: HostRuntime) -> Result<(), Fail> {
     let spans = [Setting::RowSpan(FIRST, 2)];
-    for drawn in [(Grid::Peekable, 1), (Grid::Hinted, 2), (Grid::Unhinted, 2)] {
-        assert_long(&rt, rt.alloc(), drawn, (&[], "abcabcabc"))?;
-        assert_long(&rt, rt.alloc(), drawn, (&spans, "   abcabc"))?;
+    for (grid, requests) in [(Grid::Peekable, 1), (Grid::Hinted, 2), (Grid::Unhinted, 2)] {
+        assert_long(&rt, rt.alloc(), (grid, requests, "abcabcabc"), &[])?;
+        assert_long(&rt, rt.alloc(), (grid, requests, "   abcabc"), &spans)?;
     }
     Ok(())
 }

@@ -1,9 +1,11 @@
 -- Lemmas of this crate.
 pub mod LinesLaw
+pub mod EqualLines
+pub mod OneStyle
 mod OverrideColumns
 mod KeptSpans
 mod SettingNumbers
-mod SettingsForAll
+pub mod SettingsForAll
 mod SpansAtPlaces
 pub mod SettingsLaw
 pub mod Computing

@@ -1,5 +1,5 @@
 -- What a table was told, one part for each kind of setting, and what the getters answer.
-use Rattle.std.specs.Prelude.{ℕ, ◌+◌, Bool, false, ◌&&◌, ◌||◌, List, [], count_by, Option, Some, None, unwrap_or, if◌then◌else◌}
+use Rattle.std.specs.Prelude.{ℕ, ◌+◌, Bool, false, not, ◌&&◌, ◌||◌, List, [], count_by, Option, Some, None, unwrap_or, if◌then◌else◌}
 use Rattle.std.specs.List.{range_with_len}
 use Rattle.std.specs.Option.{option_or}
 use Rattle.pg_layout.specs.declared.position.Position.{Position}
@@ -15,8 +15,8 @@ use Rattle.pg_layout.specs.declared.alignment.AlignmentVertical.TheVariants as d
 use Rattle.pg_layout.specs.declared.borders.Borders.{Borders}
 use Rattle.pg_layout.specs.Colors.{Color}
 use Rattle.pg_layout.specs.Borders.{no_borders, has_top, has_bottom, has_left, has_right, has_inner_horizontal, has_inner_vertical, has_side, horizontal_glyph, vertical_glyph, crossing_glyph}
-use Rattle.pg_config.specs.Settings.{Settings, no_settings, setting_of, is_set}
-use Rattle.pg_config.specs.Overrides.{Overrides, no_overrides, horizontal_override, vertical_override, crossing_override, overrides_row, overrides_column}
+use Rattle.pg_config.specs.Settings.{Settings, no_settings, setting_of, is_set, is_for_all}
+use Rattle.pg_config.specs.Overrides.{Overrides, no_overrides, horizontal_override, vertical_override, crossing_override, overrides_row, overrides_column, sets_rows}
 use Rattle.pg_config.specs.Offsets.{Offsets, no_offsets, is_offset_at, has_offsets}
 use Rattle.pg_config.specs.Spans.{Span}
 
@@ -158,6 +158,22 @@ get_vertical_color config p columns = option_or (vertical_override config.color_
 
 unfoldable pub get_intersection_color : Config → Position → ℕ → ℕ → Option Color
 get_intersection_color config p rows columns = option_or (crossing_override config.color_overrides p) (crossing_glyph config.border_colors p.row p.col rows columns)
+
+-- ---- what is the same everywhere
+
+-- Nothing was set for a horizontal or a crossing by its place, so that all row lines between two rows are equal.
+unfoldable pub has_equal_row_lines : Config → Bool
+has_equal_row_lines config =
+    (not (sets_rows config.overrides) && not (sets_rows config.color_overrides))
+    && (not (has_offsets config.horizontal_chars) && not (has_offsets config.horizontal_colors))
+
+-- No setting is for a row, a column or a cell, so that all cells have one style.
+unfoldable pub has_one_style : Config → Bool
+has_one_style config =
+    ((is_for_all config.padding && is_for_all config.padding_color)
+    && (is_for_all config.alignment_horizontal && is_for_all config.alignment_vertical))
+    && ((is_for_all config.trim_horizontal && (is_for_all config.trim_vertical && is_for_all config.line_alignment))
+    && (is_for_all config.justification && is_for_all config.justification_color))
 
 -- ---- what was set at all
 

@@ -4,6 +4,7 @@ use Rattle.std.specs.List.{list_any}
 use Rattle.pg_layout.specs.declared.borders.Border.{Border}
 use Rattle.pg_layout.specs.declared.position.Position.{Position}
 use Rattle.pg_layout.specs.Places.{Key, value_at, with_some, has_first}
+use Rattle.pg_config.specs.Settings.{has_some}
 
 -- horizontals and crossings by row and column, verticals by column and row
 pub record Overrides (G : Type 0) : Type 0 where
@@ -40,6 +41,10 @@ module _ {G : Type 0} where
 
   unfoldable pub crossing_override : Overrides G → Position → Option G
   crossing_override o p = value_at (p.row, p.col, 0) o.crossings
+
+  -- a horizontal place or a crossing is overridden
+  abbrev pub sets_rows : Overrides G → Bool
+  sets_rows o = has_some o.horizontals || has_some o.crossings
 
   -- a horizontal place or a crossing of row line r is overridden
   unfoldable pub overrides_row : Overrides G → ℕ → Bool

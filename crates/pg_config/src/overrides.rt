@@ -3,7 +3,7 @@
 ghost use Rattle.std.specs.Prelude.{◌≡◌, ◌+◌, ◌^◌, ◌<◌, ◌≤◌, option_map, OnOk, OnErr};
 ghost use Rattle.std.specs.Vec.{vec_len, vec_capacity};
 ghost use Rattle.pg_layout.specs.Places.{IsAscending, with_some};
-ghost use Rattle.pg_config.specs.Overrides.{HasColumns, no_overrides, with_border, horizontal_override, vertical_override, crossing_override, overrides_row, overrides_column};
+ghost use Rattle.pg_config.specs.Overrides.{HasColumns, no_overrides, with_border, horizontal_override, vertical_override, crossing_override, overrides_row, overrides_column, sets_rows};
 
 use pg_layout::{Border, Key, Position, has_first, put, put_some, value_at};
 use std::alloc::{AllocError, Allocator, Global};
@@ -68,6 +68,13 @@ impl<G, A: Allocator> Overrides<G, A> {
         ensures { option_map (λ x. x.now) result ≡ crossing_override self.now pos }
     {
         value_at(&self.crossings, (pos.row, pos.col, 0))
+    }
+
+    /// Whether a horizontal or a crossing has a value.
+    pub fn sets_rows(&self) -> bool
+        ensures { result ≡ sets_rows self.now }
+    {
+        !self.horizontals.is_empty() || !self.crossings.is_empty()
     }
 
     /// Whether a horizontal or a crossing of this row line has a value.

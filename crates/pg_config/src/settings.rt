@@ -55,7 +55,7 @@ impl<V, A: Allocator> Settings<V, A> {
 
     // Whether nothing was set but for all places.
     #[inline(always)]
-    fn is_for_all(&self) -> bool
+    pub(crate) fn is_for_all(&self) -> bool
         ensures { result ≡ is_for_all self.now }
     {
         self.cells.is_empty() && self.rows.is_empty() && self.columns.is_empty()

@@ -2,7 +2,7 @@
 
 ghost use Rattle.std.specs.Prelude.{◌≡◌, option_map, OnOk, OnErr, IsOk, None};
 ghost use Rattle.pg_config.specs.Settings.{with_setting};
-ghost use Rattle.pg_config.specs.Config.{filled, default_config, get_padding, get_padding_color, get_alignment_horizontal, get_alignment_vertical, get_formatting, get_justification, get_justification_color, has_padding_color, has_justification};
+ghost use Rattle.pg_config.specs.Config.{filled, default_config, get_padding, get_padding_color, get_alignment_horizontal, get_alignment_vertical, get_formatting, get_justification, get_justification_color, has_padding_color, has_justification, has_one_style};
 
 use crate::offsets::Offsets;
 use crate::overrides::Overrides;
@@ -251,6 +251,19 @@ impl<A: Allocator> SpannedConfig<A> {
             vertical_trim: self.trim_vertical.get(pos).copied().unwrap_or(false),
             allow_lines_alignment: self.line_alignment.get(pos).copied().unwrap_or(false),
         }
+    }
+
+    /// Whether all cells have one style: no padding, alignment, trim or justification, and no colour
+    /// of these, was set for a row, a column or a cell alone.
+    #[tactic(auto, unfolding(crate::specs::Config::has_one_style))]
+    pub fn has_one_style(&self) -> bool
+        ensures { result ≡ has_one_style self.now }
+    {
+        (self.padding.is_for_all() && self.padding_color.is_for_all())
+            && (self.alignment_horizontal.is_for_all() && self.alignment_vertical.is_for_all())
+            && (self.trim_horizontal.is_for_all()
+                && (self.trim_vertical.is_for_all() && self.line_alignment.is_for_all()))
+            && (self.justification.is_for_all() && self.justification_color.is_for_all())
     }
 
     /// Sets the character that fills the room beside a text's lines.

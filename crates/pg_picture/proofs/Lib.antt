@@ -54,4 +54,6 @@ mod PartsOfColumns
 mod StraightColumns
 mod DrawnCells
 pub mod PlainPictures
+pub mod EqualSeparators
+pub mod OneStyle
 mod FirstMisfits

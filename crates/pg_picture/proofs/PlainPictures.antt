@@ -24,7 +24,7 @@ use Rattle.pg_picture.proofs.Pictures.{length-top}
 
 -- ---- without spans
 
-flat_map-same : {A : Type 0} (f g : ℕ → List A) (a n : ℕ) → ((x : ℕ) → a ≤ x → x < a + n → f x ≡ g x) → flat_map f (range_with_len a n) ≡ flat_map g (range_with_len a n)
+pub flat_map-same : {A : Type 0} (f g : ℕ → List A) (a n : ℕ) → ((x : ℕ) → a ≤ x → x < a + n → f x ≡ g x) → flat_map f (range_with_len a n) ≡ flat_map g (range_with_len a n)
 flat_map-same f g a zero h = refl
 flat_map-same {A} f g a (suc n) h = ap₂ (λ (xs ys : List A). xs ++ ys) (h a (omega arith) (omega arith)) (flat_map-same f g (a + 1) n (λ x l m. h x (omega arith) (omega arith)))
 

@@ -73,7 +73,7 @@ module _ (t : Table) (none : t.config.spans ≡ []) where
   unfolding is_left
   left_plain r x = rw (owner_plain r x) (grind (arith, nat_tests))
 
-  covered_plain : (r x : ℕ) → is_covered t r x ≡ false
+  pub covered_plain : (r x : ℕ) → is_covered t r x ≡ false
   unfolding is_covered begins_above
   covered_plain r x = rw (owner_plain r x) (grind (arith, nat_tests))
 

@@ -34,3 +34,4 @@ pub mod FittingRows
 pub mod SingleLines
 pub mod SingleRowsPrinted
 pub mod SingleCells
+pub mod FittingCells

@@ -6,6 +6,7 @@ mod frame;
 mod laws;
 mod open_cell;
 mod open_cells;
+mod row_fits;
 mod row_printer;
 mod separators;
 mod single_rows;

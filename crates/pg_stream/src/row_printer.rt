@@ -47,12 +47,12 @@ pub struct RowPrinter<
     B: Allocator = Global,
     A: Allocator = Global,
 > {
-    frame: Frame<'a, D, C, B>,
-    hint: Option<usize>,
+    pub(crate) frame: Frame<'a, D, C, B>,
+    pub(crate) hint: Option<usize>,
     cells: OpenCells<S, A>,
-    rows: usize,
-    lines: usize,
-    is_ended: bool,
+    pub(crate) rows: usize,
+    pub(crate) lines: usize,
+    pub(crate) is_ended: bool,
 }
 
 impl<'a, S: AsStr, D: Dimension, C: Colors, B: Allocator, A: Allocator> Model

@@ -3,7 +3,7 @@
 ghost use Rattle.std.specs.Prelude.{◌≡◌, ◌<◌, ◌+◌, ◌^◌, true, option_map, OnOk, OnErr};
 ghost use Rattle.pg_layout.specs.Borders.{has_side, ends, horizontal_glyph, vertical_glyph, crossing_glyph};
 ghost use Rattle.pg_config.specs.Overrides.{with_border};
-ghost use Rattle.pg_config.specs.Config.{missing_if, count_horizontal, count_vertical, has_horizontal, has_vertical, get_horizontal, get_vertical, get_intersection, get_horizontal_color, get_vertical_color, get_intersection_color};
+ghost use Rattle.pg_config.specs.Config.{missing_if, count_horizontal, count_vertical, has_horizontal, has_vertical, get_horizontal, get_vertical, get_intersection, get_horizontal_color, get_vertical_color, get_intersection_color, has_equal_row_lines};
 
 use crate::spanned::SpannedConfig;
 use pg_layout::{ANSIBuf, Border, Borders, Position};
@@ -119,6 +119,17 @@ impl<A: Allocator> SpannedConfig<A> {
         }
         let there = self.has_horizontal(pos.row, rows) && self.has_vertical(pos.col, columns);
         self.missing_if(there)
+    }
+
+    /// Whether all row lines between two rows are drawn alike where no cell spans rows or columns: no
+    /// glyph and no colour of a horizontal or a crossing was set by its place.
+    #[tactic(auto, unfolding(crate::specs::Config::has_equal_row_lines))]
+    pub fn has_equal_row_lines(&self) -> bool
+        ensures { result ≡ has_equal_row_lines self.now }
+    {
+        let has_overrides = self.overrides.sets_rows() || self.color_overrides.sets_rows();
+        let has_offsets = self.horizontal_chars.is_set() || self.horizontal_colors.is_set();
+        !has_overrides && !has_offsets
     }
 
     /// How many row lines of a table of `rows` rows are there.

@@ -1,14 +1,16 @@
 //! What is kept of cells from one of their lines to the next, so that it isn't worked out again.
 
-ghost use Rattle.std.specs.Prelude.{◌≡◌, ◌≤◌, ◌<◌, ℕ, List, IfSome, IsTrue, length, slice_index_or, []};
+ghost use Rattle.std.specs.Prelude.{◌≡◌, ◌≤◌, ◌<◌, ℕ, List, IfSome, IsTrue, length, slice_index_or, [], drop, string_bytes};
 ghost use Rattle.pg_layout.specs.LineCursor.{StandsIn, line_number};
 ghost use Rattle.pg_layout.specs.Text.{lines_of};
 ghost use Rattle.pg_picture.specs.Cells.{line_if};
 ghost use Rattle.pg_picture.specs.Table.{Table};
-ghost use Rattle.pg_grid.specs.Kept.{Reads, IsReading, IsRectangle, AreKept};
+ghost use Rattle.pg_grid.specs.Kept.{Reads, IsReading, IsRectangle, IsSeparator, AreKept};
 
+use crate::peekable::kept_text::KeptText;
 use pg_layout::{LineCursor, Position};
 use pg_picture::CellPlace;
+use std::alloc::Allocator;
 
 /// For how many columns something is kept.
 const COLUMNS: usize = 16;
@@ -134,11 +136,13 @@ impl KeptRectangle {
     }
 }
 
-/// What is kept of the cells whose left column is one of the first few, at most one for each column.
+/// What is kept of the cells whose left column is one of the first few, at most one for each column,
+/// and the text of a separator between two rows, if all of these are equal and it is short.
 #[derive(Debug, Drop)]
 pub(super) struct KeptCells {
     cells: [Option<KeptCell>; COLUMNS],
     rectangles: [Option<KeptRectangle>; COLUMNS],
+    separator: Option<KeptText>,
 }
 
 impl KeptCells {
@@ -149,6 +153,7 @@ impl KeptCells {
         KeptCells {
             cells: [None; COLUMNS],
             rectangles: [None; COLUMNS],
+            separator: None,
         }
     }
 
@@ -201,6 +206,23 @@ impl KeptCells {
         } else {
             None
         }
+    }
+
+    // The text of the separators between two rows, if that is kept.
+    pub(super) fn separator(&self) -> Option<&str>
+        ensures { (t : Table) → AreKept t self.now → IfSome result (λ text. IsSeparator t text.now) }
+    {
+        match &self.separator {
+            Some(text) => text.as_str(),
+            None => None,
+        }
+    }
+
+    // Keeps what stands in a buffer from a place on, as the text of the separators between two rows.
+    pub(super) fn keep_separator<A: Allocator>(&mut self, buf: &String<A>, from: usize)
+        ensures { (t : Table) → AreKept t self.old → IsSeparator t (drop from (string_bytes buf.now)) → AreKept t self.new }
+    {
+        self.separator = KeptText::from_buffer(buf, from);
     }
 
     // Keeps a rectangle.

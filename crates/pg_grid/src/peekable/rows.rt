@@ -1,6 +1,6 @@
 //! The lines of rows.
 
-ghost use Rattle.std.specs.Prelude.{◌≡◌, ◌<◌, ◌++◌, true, flat_map};
+ghost use Rattle.std.specs.Prelude.{◌≡◌, ◌<◌, ◌++◌, true, flat_map, IsTrue};
 ghost use Rattle.std.specs.List.{range_with_len};
 ghost use Rattle.pg_layout.specs.Colors.{lent_color};
 ghost use Rattle.pg_picture.specs.Appending.{Appends};
@@ -89,10 +89,25 @@ where
         ensures appends { Appends buf.old buf.new result (written (flat_map (row_part (drawn R.Records D.Dimension C.Colors self.now) row line) (range_with_len 0 (drawn R.Records D.Dimension C.Colors self.now).columns))) }
         ensures kept { AreKept (drawn R.Records D.Dimension C.Colors self.now) kept.new }
     {
+        let is_one = self.config.has_one_style();
+        let mut style = CellStyle::of(self.config, Position::new(row, 0));
         for column in 0..columns {
-            self.push_part(buf, kept, columns, Position::new(row, column), line)?;
+            let pos = Position::new(row, column);
+            self.change_style(&mut style, is_one, pos);
+            self.push_part(buf, kept, &style, columns, pos, line)?;
         }
         Ok(())
+    }
+
+    // Makes a style that of a cell: it stays as it is where all cells have one.
+    #[inline(always)]
+    fn change_style(&self, style: &mut CellStyle<'a, B>, is_one: bool, pos: Position)
+        requires known { IsTrue is_one → (p : Position) → style_of style.old ≡ style_at (drawn R.Records D.Dimension C.Colors self.now).config p }
+        ensures { style_of style.new ≡ style_at (drawn R.Records D.Dimension C.Colors self.now).config pos }
+    {
+        if !is_one {
+            *style = CellStyle::of(self.config, pos);
+        }
     }
 
     // The vertical left of a cell of one row and one column, and the cell's line.
@@ -101,10 +116,12 @@ where
         &self,
         buf: &mut String<A>,
         kept: &mut KeptCells,
+        style: &CellStyle<'_, B>,
         columns: usize,
         pos: Position,
         line: usize,
     ) -> Result<(), AllocError>
+        requires style { style_of style.now ≡ style_at (drawn R.Records D.Dimension C.Colors self.now).config pos }
         requires row { pos.row < (drawn R.Records D.Dimension C.Colors self.now).rows }
         requires column { pos.col < (drawn R.Records D.Dimension C.Colors self.now).columns }
         requires line { line < D.height self.now.dimension pos.row }
@@ -116,7 +133,7 @@ where
         let height = self.dimension.get_height(pos.row);
         let width = self.dimension.get_width(pos.col);
         push_vertical_at(buf, self.config, columns, height, pos, line)?;
-        self.push_cell(buf, kept, pos, width, height, line)
+        self.push_cell(buf, kept, style, pos, width, height, line)
     }
 
     // The vertical behind the last column.
@@ -148,11 +165,13 @@ where
         &self,
         buf: &mut String<A>,
         kept: &mut KeptCells,
+        style: &CellStyle<'_, B>,
         pos: Position,
         width: usize,
         height: usize,
         line: usize,
     ) -> Result<(), AllocError>
+        requires style { style_of style.now ≡ style_at (drawn R.Records D.Dimension C.Colors self.now).config pos }
         requires row { pos.row < (drawn R.Records D.Dimension C.Colors self.now).rows }
         requires column { pos.col < (drawn R.Records D.Dimension C.Colors self.now).columns }
         requires room { cell_fits (style_at (drawn R.Records D.Dimension C.Colors self.now).config pos) ((drawn R.Records D.Dimension C.Colors self.now).text pos) width height ≡ true }
@@ -162,9 +181,9 @@ where
         ensures kept { AreKept (drawn R.Records D.Dimension C.Colors self.now) kept.new }
     {
         if height == 1 {
-            return self.push_low_cell(buf, pos, width);
+            return self.push_low_cell(buf, style, pos, width);
         }
-        self.push_tall_cell(buf, kept, pos, width, height, line)
+        self.push_tall_cell(buf, kept, style, pos, width, height, line)
     }
 
     // The line of a cell of one line.
@@ -172,17 +191,18 @@ where
     fn push_low_cell<A: Allocator>(
         &self,
         buf: &mut String<A>,
+        style: &CellStyle<'_, B>,
         pos: Position,
         width: usize,
     ) -> Result<(), AllocError>
+        requires style { style_of style.now ≡ style_at (drawn R.Records D.Dimension C.Colors self.now).config pos }
         requires row { pos.row < (drawn R.Records D.Dimension C.Colors self.now).rows }
         requires column { pos.col < (drawn R.Records D.Dimension C.Colors self.now).columns }
         requires room { cell_fits (style_at (drawn R.Records D.Dimension C.Colors self.now).config pos) ((drawn R.Records D.Dimension C.Colors self.now).text pos) width 1 ≡ true }
         ensures { Appends buf.old buf.new result (written (block_line (style_at (drawn R.Records D.Dimension C.Colors self.now).config pos) ((drawn R.Records D.Dimension C.Colors self.now).color pos) ((drawn R.Records D.Dimension C.Colors self.now).text pos) width 1 0)) }
     {
-        let style = CellStyle::of(self.config, pos);
         let text = self.records.get_text(pos);
-        push_single_line(buf, &style, self.colors.get_color(pos), text, width)
+        push_single_line(buf, style, self.colors.get_color(pos), text, width)
     }
 
     // Line `line` of a cell, whose text is read on from its last line where that is kept.
@@ -190,11 +210,13 @@ where
         &self,
         buf: &mut String<A>,
         kept: &mut KeptCells,
+        style: &CellStyle<'_, B>,
         pos: Position,
         width: usize,
         height: usize,
         line: usize,
     ) -> Result<(), AllocError>
+        requires style { style_of style.now ≡ style_at (drawn R.Records D.Dimension C.Colors self.now).config pos }
         requires row { pos.row < (drawn R.Records D.Dimension C.Colors self.now).rows }
         requires column { pos.col < (drawn R.Records D.Dimension C.Colors self.now).columns }
         requires room { cell_fits (style_at (drawn R.Records D.Dimension C.Colors self.now).config pos) ((drawn R.Records D.Dimension C.Colors self.now).text pos) width height ≡ true }
@@ -203,14 +225,13 @@ where
         ensures appends { Appends buf.old buf.new result (written (block_line (style_at (drawn R.Records D.Dimension C.Colors self.now).config pos) ((drawn R.Records D.Dimension C.Colors self.now).color pos) ((drawn R.Records D.Dimension C.Colors self.now).text pos) width height line)) }
         ensures kept { AreKept (drawn R.Records D.Dimension C.Colors self.now) kept.new }
     {
-        let style = CellStyle::of(self.config, pos);
         let text = self.records.get_text(pos);
         let color = self.colors.get_color(pos);
         let mut reading = match kept.reading(pos, width, height) {
             Some(reading) => reading,
-            None => begin_reading(&style, text, width, height),
+            None => begin_reading(style, text, width, height),
         };
-        let done = push_read_line(buf, &style, color, text, &mut reading, width, height, line);
+        let done = push_read_line(buf, style, color, text, &mut reading, width, height, line);
         kept.keep_reading(pos, width, height, reading);
         done
     }

@@ -13,7 +13,7 @@ use crate::peekable::kept::KeptCells;
 use crate::peekable::{PeekableGrid, Shape};
 use pg_config::SpannedConfig;
 use pg_layout::{ANSIBuf, Colors, Dimension, ExactRecords, PeekableRecords, Position};
-use pg_picture::Run;
+use pg_picture::{Run, push_text};
 use std::alloc::{AllocError, Allocator};
 
 impl<'a, R, D, C, B> PeekableGrid<R, &'a SpannedConfig<B>, D, C>
@@ -25,6 +25,57 @@ where
 {
     // The separator above a row, or below the last one.
     pub(super) fn push_separator<A: Allocator>(
+        &self,
+        buf: &mut String<A>,
+        kept: &mut KeptCells,
+        shape: Shape,
+        row: usize,
+    ) -> Result<(), AllocError>
+        requires can { CanDraw (drawn R.Records D.Dimension C.Colors self.now) }
+        requires shape { shape ≡ shape_of_table (drawn R.Records D.Dimension C.Colors self.now) }
+        requires row { row ≤ (drawn R.Records D.Dimension C.Colors self.now).rows }
+        requires there { has_horizontal (drawn R.Records D.Dimension C.Colors self.now).config row (drawn R.Records D.Dimension C.Colors self.now).rows ≡ true }
+        requires kept { AreKept (drawn R.Records D.Dimension C.Colors self.now) kept.old }
+        ensures appends { Appends buf.old buf.new result (separator_text (separator_items (drawn R.Records D.Dimension C.Colors self.now) row)) }
+        ensures kept { AreKept (drawn R.Records D.Dimension C.Colors self.now) kept.new }
+    {
+        if 0 < row && row < shape.rows {
+            return self.push_inner_separator(buf, kept, shape, row);
+        }
+        self.push_new_separator(buf, kept, shape, row)
+    }
+
+    // The separator between two rows: the one that is kept, or a new one, which is kept where all of
+    // them are equal.
+    fn push_inner_separator<A: Allocator>(
+        &self,
+        buf: &mut String<A>,
+        kept: &mut KeptCells,
+        shape: Shape,
+        row: usize,
+    ) -> Result<(), AllocError>
+        requires can { CanDraw (drawn R.Records D.Dimension C.Colors self.now) }
+        requires shape { shape ≡ shape_of_table (drawn R.Records D.Dimension C.Colors self.now) }
+        requires some { 0 < row }
+        requires row { row < (drawn R.Records D.Dimension C.Colors self.now).rows }
+        requires there { has_horizontal (drawn R.Records D.Dimension C.Colors self.now).config row (drawn R.Records D.Dimension C.Colors self.now).rows ≡ true }
+        requires kept { AreKept (drawn R.Records D.Dimension C.Colors self.now) kept.old }
+        ensures appends { Appends buf.old buf.new result (separator_text (separator_items (drawn R.Records D.Dimension C.Colors self.now) row)) }
+        ensures kept { AreKept (drawn R.Records D.Dimension C.Colors self.now) kept.new }
+    {
+        if let Some(text) = kept.separator() {
+            return push_text(buf, text);
+        }
+        let from = buf.len();
+        self.push_new_separator(buf, kept, shape, row)?;
+        if !shape.is_spanned && self.config.has_equal_row_lines() {
+            kept.keep_separator(buf, from);
+        }
+        Ok(())
+    }
+
+    // A separator, item by item.
+    fn push_new_separator<A: Allocator>(
         &self,
         buf: &mut String<A>,
         kept: &mut KeptCells,

@@ -17,7 +17,7 @@ use crate::peekable::{PeekableGrid, Shape};
 use pg_config::{Span, SpannedConfig};
 use pg_layout::{ANSIBuf, Colors, Dimension, ExactRecords, PeekableRecords, Position};
 use pg_picture::fits::{rect_height, rect_width};
-use pg_picture::{Run, push_vertical_at};
+use pg_picture::{CellStyle, Run, push_vertical_at};
 use std::alloc::{AllocError, Allocator};
 
 impl<'a, R, D, C, B> PeekableGrid<R, &'a SpannedConfig<B>, D, C>
@@ -76,7 +76,10 @@ where
         ensures kept { AreKept (drawn R.Records D.Dimension C.Colors self.now) kept.new }
     {
         match span {
-            None => self.push_part(buf, kept, shape.columns, pos, number),
+            None => {
+                let style = CellStyle::of(self.config, pos);
+                self.push_part(buf, kept, &style, shape.columns, pos, number)
+            }
             Some(span) => self.push_rectangle_part(buf, kept, shape, pos, span, number),
         }
     }
@@ -289,7 +292,8 @@ where
             height,
             ..
         } = rectangle;
-        self.push_cell(buf, kept, corner, width, height, number)
+        let style = CellStyle::of(self.config, corner);
+        self.push_cell(buf, kept, &style, corner, width, height, number)
     }
 }
 

@@ -75,3 +75,6 @@ returns g c =
     ] in
     Appends-text (picture-parts Known t c.unwrap-width.result c.unwrap-height.result {is_first = first} {is_last = c.if-is_first.push_bottom_margin} wide high (ap (λ (m : Sides Indent). m.top.size == 0) c.get_margin.ensures) last)
     (c.in_ok-push_top_margin.ensures then (c.in_ok-push_body.ensures.appends then c.push_bottom_margin.ensures))
+
+pub push_body-requires-clause-kept : goal.push_body-requires-clause-kept
+push_body-requires-clause-kept g c = c.new-kept.ensures (drawn g.R.Records g.D.Dimension g.C.Colors c.args.self.now)

@@ -1,7 +1,9 @@
-use Rattle.std.proofs.Common.{flat_map}
+use Rattle.std.proofs.Common.{◌≡◌, flat_map, IsTrue}
 use Rattle.std.specs.List.{range_with_len}
+use Rattle.pg_layout.specs.declared.position.Position.{Position}
 use Rattle.pg_picture.specs.Appending.{Gained}
-use Rattle.pg_picture.specs.Pieces.{written}
+use Rattle.pg_picture.specs.Cells.{style_of}
+use Rattle.pg_picture.specs.Pieces.{written, style_at}
 use Rattle.pg_picture.specs.Table.{row_part}
 use Rattle.pg_grid.specs.Kept.{AreKept}
 use Rattle.pg_grid.specs.Grids.{drawn}
@@ -13,4 +15,5 @@ invariant-loop-column g l =
     record {
       gained : Gained l.fn.buf l.buf (written (flat_map (row_part t l.row l.line) (range_with_len 0 l.column)));
       kept : AreKept t l.kept;
+      style : IsTrue l.is_one → (p : Position) → style_of l.style ≡ style_at t.config p;
     }

@@ -1,4 +1,4 @@
-use Rattle.std.proofs.Common.{◌≡◌, sym, ap, ◌∙◌, arith}
+use Rattle.std.proofs.Common.{sym, ap, ◌∙◌, arith}
 use Rattle.pg_picture.specs.Table.{rect_width, rect_height}
 use Rattle.pg_picture.proofs.FittingTables.{some_is}
 use Rattle.pg_grid.specs.declared.peekable.Shape.{Shape}

@@ -5,7 +5,7 @@ use Rattle.pg_picture.specs.Table.{separator_part}
 use Rattle.pg_picture.proofs.Appending.{Appends-text, ◌then◌, stopped}
 use Rattle.pg_grid.specs.Grids.{drawn}
 use Rattle.pg_picture.proofs.Separators.{separator-text_from}
-use Rattle.pg_grid.proofs.peekable.separators.PeekableGrid+R+ref+SpannedConfig+B+D+C.push_separator.Goals as goal
+use Rattle.pg_grid.proofs.peekable.separators.PeekableGrid+R+ref+SpannedConfig+B+D+C.push_new_separator.Goals as goal
 
 pub returns-in_err-run-clause-appends : goal.returns-in_err-run-clause-appends
 returns-in_err-run-clause-appends g c =

@@ -1,0 +1,169 @@
+//! Whether a row may be printed next.
+
+ghost use Rattle.std.specs.Prelude.{◌≡◌, ◌+◌, ◌^◌, ◌<◌, ◌≤◌, ◌↔◌, ◌-◌, ◌==◌, true, false, nat_lt, map, length, is_some, IfSome, IsTrue};
+ghost use Rattle.pg_layout.specs.Position.{is_at};
+ghost use Rattle.pg_config.specs.Spans.{owner, rect_rows, rect_columns, is_left, left_span, if_above};
+ghost use Rattle.pg_picture.specs.Fits.{spans_fit, spans_fit_columns};
+ghost use Rattle.pg_picture.specs.Marks.{marks_of_row};
+ghost use Rattle.pg_picture.specs.Rectangles.{columns_or_one};
+ghost use Rattle.pg_stream.specs.Conditions.{HasRoom, HaveRoom, RowFits};
+ghost use Rattle.pg_stream.specs.Printers.{printing};
+ghost use Rattle.pg_stream.specs.Slots.{separator_height};
+
+use crate::frame::Frame;
+use crate::row_printer::RowPrinter;
+use pg_config::{Span, SpannedConfig};
+use pg_layout::{Colors, Dimension, Position};
+use pg_picture::fits::{cell_fits, rect_height, rect_width, spans_fit};
+use std::alloc::Allocator;
+use std::convert::AsStr;
+
+impl<'a, S: AsStr, D: Dimension, C: Colors, B: Allocator, A: Allocator> RowPrinter<
+    'a,
+    S,
+    D,
+    C,
+    B,
+    A,
+> {
+    /// Whether these cells may be printed as the next row, as the last one or not: the condition of
+    /// [`RowPrinter::row`], as a test.
+    ///
+    /// There is a cell for each column; no last row is printed, nor as many rows as are known, and
+    /// the row is told to be the last one where it is that; the spans end with a last row; each cell
+    /// that begins here has room for its text; and the lines can be counted. Takes no memory.
+    pub fn fits(&self, cells: &[S], is_last: bool) -> bool
+        ensures { IsTrue result ↔ RowFits (printing D.width D.height C.color self.now) (map S.text cells.now) is_last }
+    {
+        self.is_next(cells.len(), is_last)
+            && ends_spans(self.frame.config, self.rows, self.frame.columns, is_last)
+            && self.frame.have_room(self.rows, cells)
+            && self.frame.counts_lines(self.rows, self.lines)
+    }
+
+    // Whether a row of so many cells comes next.
+    fn is_next(&self, cells: usize, is_last: bool) -> bool
+        ensures { IsTrue result ↔ (cells ≡ (printing D.width D.height C.color self.now).columns) × ((printing D.width D.height C.color self.now).is_ended ≡ false) × ((printing D.width D.height C.color self.now).rows < 2 ^ 64 - 2) × IfSome (printing D.width D.height C.color self.now).hint (λ rows. ((printing D.width D.height C.color self.now).rows < rows) × (is_last ≡ (((printing D.width D.height C.color self.now).rows + 1) == rows))) }
+    {
+        cells == self.frame.columns
+            && !self.is_ended
+            && self.rows < usize::MAX - 1
+            && agrees(self.hint, self.rows, is_last)
+    }
+}
+
+// Whether a row is one of so many, where that is known, and told to be the last one where it is that.
+fn agrees(hint: Option<usize>, row: usize, is_last: bool) -> bool
+    requires { row < usize.MAX }
+    ensures { IsTrue result ↔ IfSome hint (λ rows. (row < rows) × (is_last ≡ ((row + 1) == rows))) }
+{
+    match hint {
+        Some(rows) => row < rows && is_last == (row + 1 == rows),
+        None => true,
+    }
+}
+
+// Whether the rectangles end with a row, if it is the last one.
+fn ends_spans<B: Allocator>(
+    config: &SpannedConfig<B>,
+    row: usize,
+    columns: usize,
+    is_last: bool,
+) -> bool
+    requires { row < usize.MAX }
+    ensures { IsTrue result ↔ (is_last ≡ true → spans_fit config.now.spans (row + 1) columns ≡ true) }
+{
+    !is_last || spans_fit(config, row + 1, columns)
+}
+
+impl<'a, D: Dimension, C: Colors, B: Allocator> Frame<'a, D, C, B> {
+    ghost use Rattle.pg_stream.specs.Frames.{frame_table};
+
+    // Whether each cell that begins in a row has room for its text.
+    fn have_room<S: AsStr>(&self, row: usize, cells: &[S]) -> bool
+        requires whole { length cells.now ≡ self.now.columns }
+        requires spans { spans_fit_columns self.now.config.now.spans self.now.columns ≡ true }
+        ensures { IsTrue result ↔ HaveRoom (frame_table D.width D.height C.color self.now) row (map S.text cells.now) }
+    {
+        let _spans = self.config.spans();
+        let mut column = 0;
+        while column < self.columns {
+            let pos = Position::new(row, column);
+            let span = self.config.left_span(pos);
+            if !self.has_room_if_own(span, cells[column].as_str(), pos) {
+                return false;
+            }
+            column += columns_of(span);
+        }
+        true
+    }
+
+    // Whether a place in the left column of its owner has room, if it is its own owner.
+    fn has_room_if_own(&self, span: Option<Span>, text: &str, pos: Position) -> bool
+        requires spans { spans_fit_columns self.now.config.now.spans self.now.columns ≡ true }
+        requires column { pos.col < self.now.columns }
+        requires left { is_left self.now.config.now.spans pos.row pos.col ≡ true }
+        requires span { span ≡ left_span self.now.config.now.spans pos.row pos.col }
+        ensures { IsTrue result ↔ (is_at (owner self.now.config.now.spans pos.row pos.col) pos.row pos.col ≡ true → HasRoom (frame_table D.width D.height C.color self.now) pos text.now) }
+    {
+        let _spans = self.config.spans();
+        begins_above(span, pos.row) || self.has_room(text, pos)
+    }
+
+    // Whether the rectangle of a place has an end, a width and a height that are numbers, and room
+    // for a text.
+    fn has_room(&self, text: &str, pos: Position) -> bool
+        requires rows { 0 < rect_rows self.now.config.now.spans pos }
+        requires columns { 0 < rect_columns self.now.config.now.spans pos }
+        requires inside { pos.col + rect_columns self.now.config.now.spans pos ≤ self.now.columns }
+        ensures { IsTrue result ↔ HasRoom (frame_table D.width D.height C.color self.now) pos text.now }
+    {
+        let width = rect_width(self.config, self.dimension, pos, self.columns);
+        let height = rect_height(self.config, self.dimension, pos);
+        match (width, height) {
+            (Some(width), Some(height)) => cell_fits(text, self.config, pos, width, height),
+            _ => false,
+        }
+    }
+
+    // Whether the lines of a row, with its separator, can be counted after so many.
+    fn counts_lines(&self, row: usize, lines: usize) -> bool
+        requires { row < usize.MAX }
+        ensures { result ≡ nat_lt (lines + length (marks_of_row self.now.config.now (D.height self.now.dimension.now) row)) (2 ^ 64) }
+    {
+        let height = self.dimension.get_height(row);
+        match lines.checked_add(self.separator_lines(row)) {
+            Some(next) => next.checked_add(height).is_some(),
+            None => false,
+        }
+    }
+
+    // How many lines the separator above a row takes.
+    #[tactic(auto, unfolding(crate::specs::Slots::separator_height))]
+    fn separator_lines(&self, row: usize) -> usize
+        requires { row < usize.MAX }
+        ensures { result ≡ separator_height self.now.config.now row }
+    {
+        usize::from(self.config.has_horizontal(row, row + 1))
+    }
+}
+
+// Whether a search found a rectangle that begins above a row.
+fn begins_above(span: Option<Span>, row: usize) -> bool
+    ensures { result ≡ is_some (if_above row span) }
+{
+    match span {
+        Some(span) => span.0.1 < row,
+        None => false,
+    }
+}
+
+// How many columns a rectangle takes that a search found, and a cell where it found none.
+fn columns_of(span: Option<Span>) -> usize
+    ensures { result ≡ columns_or_one span }
+{
+    match span {
+        None => 1,
+        Some(span) => span.1.1,
+    }
+}
