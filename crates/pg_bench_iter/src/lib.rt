@@ -2,6 +2,8 @@
 #![tactic(auto)]
 
 #[cfg(test)]
+mod counted;
+#[cfg(test)]
 mod drawing;
 #[cfg(test)]
 mod plain;
