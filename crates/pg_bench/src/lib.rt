@@ -8,6 +8,8 @@ mod colors;
 #[cfg(test)]
 mod conditions;
 #[cfg(test)]
+mod counted;
+#[cfg(test)]
 mod drawing;
 #[cfg(test)]
 mod margins;
