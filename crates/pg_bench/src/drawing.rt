@@ -148,7 +148,7 @@ fn draw_parts<A: Allocator, B: Allocator>(
         Grid::Peekable => PeekableGrid::new(records, config, dimension, colors).build(buf),
         Grid::Hinted => IterGrid::new(records, config, dimension, colors).build(memory, buf),
         Grid::Unhinted => {
-            IterGrid::new(Unhinted::new(records), config, dimension, colors).build(memory, buf)
+            IterGrid::new(Unhinted { records }, config, dimension, colors).build(memory, buf)
         }
     };
     Ok(drawn.is_ok())
@@ -167,7 +167,7 @@ fn text_of_parts(
         Grid::Peekable => PeekableGrid::new(records, config, dimension, colors).to_string(alloc),
         Grid::Hinted => IterGrid::new(records, config, dimension, colors).to_string(alloc),
         Grid::Unhinted => {
-            IterGrid::new(Unhinted::new(records), config, dimension, colors).to_string(alloc)
+            IterGrid::new(Unhinted { records }, config, dimension, colors).to_string(alloc)
         }
     };
     Ok(text?)

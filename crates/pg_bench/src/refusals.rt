@@ -176,10 +176,18 @@ fn a_refusal_leaves_a_beginning_of_colored_points(rt: HostRuntime) -> Result<(),
 /// How many rows a long table has.
 const ROWS: usize = 1000;
 
-/// The texts of each of them.
+/// The texts of a row.
 const ROW: &[&str] = &["abc", "abc", "abc"];
 
-// A table of three texts in each row, whose second line is this, is drawn where all requests for
+/// A table of so many rows.
+const LONG: Sample<'static> = Sample {
+    texts: &[ROW; ROWS],
+    widths: &[3, 3, 3],
+    heights: &[1; ROWS],
+    settings: &[],
+};
+
+// The long table, whose second line is this, is drawn where all requests for
 // memory behind so many are refused: that for the buffer and those of the grid.
 fn assert_long(
     rt: &impl Abort,
@@ -187,23 +195,12 @@ fn assert_long(
     (grid, requests, second): (Grid, u64, &str),
     settings: &[Setting],
 ) -> Result<(), Fail> {
-    let mut texts = Vec::new(alloc);
-    let mut heights = Vec::new(alloc);
-    let mut text = String::from_str(alloc, "abcabcabc")?;
-    for number in 0..ROWS {
-        texts.push(ROW)?;
-        heights.push(1)?;
-        if number > 0 {
-            text.push_str("\n")?;
-            text.push_str(if number == 1 { second } else { "abcabcabc" })?;
-        }
+    let mut text = String::from_str(alloc, "abcabcabc\n")?;
+    text.push_str(second)?;
+    for _ in 2..ROWS {
+        text.push_str("\nabcabcabc")?;
     }
-    let sample = Sample {
-        texts: texts.as_slice(),
-        widths: &[3, 3, 3],
-        heights: heights.as_slice(),
-        settings,
-    };
+    let sample = Sample { settings, ..LONG };
     let memory = Refusing::from_on(alloc, requests);
     let mut buf = String::with_capacity(&memory, 9999)?;
     assert!(rt; draw(alloc, &memory, (grid, &sample), &mut buf)?);
