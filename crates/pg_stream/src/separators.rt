@@ -177,7 +177,8 @@ impl<S: AsStr + Drop, A: Allocator> OpenCells<S, A> {
             return run.border(buf, frame.config, pos, width, rows);
         };
         let run = run.close_for_block(buf)?;
-        frame.push_cell_line(buf, cell, pos.col)?;
+        let all = frame.style_of_all();
+        frame.push_cell_line(buf, all.as_ref(), cell, pos.col)?;
         Ok(run)
     }
 

@@ -1,15 +1,16 @@
 //! Rows of one line in a table without spans: their cells are drawn as they come.
 
-ghost use Rattle.std.specs.Prelude.{◌≡◌, ◌&&◌, ◌==◌, [], List, length};
+ghost use Rattle.std.specs.Prelude.{◌≡◌, ◌&&◌, ◌==◌, [], List, length, IfSome};
 ghost use Rattle.std.specs.Iterator.{IsFinite};
 ghost use Rattle.pg_layout.specs.Records.{AlwaysGives};
 ghost use Rattle.pg_layout.specs.Position.{at};
 ghost use Rattle.pg_layout.specs.Text.{Text};
 ghost use Rattle.pg_picture.specs.Appending.{Appends};
-ghost use Rattle.pg_picture.specs.Pieces.{written};
+ghost use Rattle.pg_picture.specs.Cells.{style_of};
+ghost use Rattle.pg_picture.specs.Pieces.{written, style_at, block_line};
 ghost use Rattle.pg_stream.specs.Conditions.{HasRoom, HaveRoom};
 ghost use Rattle.pg_stream.specs.Drawing.{line_at};
-ghost use Rattle.pg_stream.specs.Frames.{frame_table};
+ghost use Rattle.pg_stream.specs.Frames.{frame_table, IsStyleOfAll};
 ghost use Rattle.pg_stream.specs.SingleRows.{single_part, single_line};
 
 use crate::frame::Frame;
@@ -59,23 +60,27 @@ impl<'a, D: Dimension, C: Colors, B: Allocator> Frame<'a, D, C, B> {
         requires given { (texts : List Text) × AlwaysGives (λ x y. S.text x ≡ y) I.next_gives cells texts × length texts ≡ self.now.columns × HaveRoom (frame_table D.width D.height C.color self.now) row texts }
         ensures { (texts : List Text) → AlwaysGives (λ x y. S.text x ≡ y) I.next_gives cells texts → Appends buf.old buf.new result (written (single_line (frame_table D.width D.height C.color self.now) row texts)) }
     {
+        let all = self.style_of_all();
         for column in 0..self.columns {
             let Some(value) = cells.next() else {
                 return Ok(());
             };
-            self.push_single_cell(buf, value.as_str(), row, column)?;
+            self.push_single_cell(buf, all.as_ref(), value.as_str(), row, column)?;
         }
         self.push_vertical(buf, Position::new(row, self.columns), 0)
     }
 
-    // A cell of the row: the vertical left of it, and its line.
+    // A cell of the row: the vertical left of it, and its line. `all` is the style that all cells
+    // have, if there is one.
     fn push_single_cell<W: Allocator>(
         &self,
         buf: &mut String<W>,
+        all: Option<&CellStyle<'_, B>>,
         text: &str,
         row: usize,
         column: usize,
     ) -> Result<(), AllocError>
+        requires all { IfSome all (λ style. IsStyleOfAll self.now.config.now (style_of style.now)) }
         requires alone { (frame_table D.width D.height C.color self.now).config.spans ≡ [] }
         requires height { (frame_table D.width D.height C.color self.now).height row ≡ 1 }
         requires room { HasRoom (frame_table D.width D.height C.color self.now) (at row column) text.now }
@@ -83,8 +88,28 @@ impl<'a, D: Dimension, C: Colors, B: Allocator> Frame<'a, D, C, B> {
     {
         let pos = Position::new(row, column);
         self.push_vertical(buf, pos, 0)?;
-        let style = CellStyle::of(self.config, pos);
-        let width = self.dimension.get_width(column);
-        push_single_line(buf, &style, self.colors.get_color(pos), text, width)
+        match all {
+            Some(style) => self.push_single_text(buf, style, text, pos),
+            None => self.push_single_text(buf, &CellStyle::of(self.config, pos), text, pos),
+        }
+    }
+
+    // The one line of a cell at this place, which has this style.
+    #[inline(always)]
+    fn push_single_text<W: Allocator>(
+        &self,
+        buf: &mut String<W>,
+        style: &CellStyle<'_, B>,
+        text: &str,
+        pos: Position,
+    ) -> Result<(), AllocError>
+        requires style { style_of style.now ≡ style_at self.now.config.now pos }
+        requires alone { (frame_table D.width D.height C.color self.now).config.spans ≡ [] }
+        requires height { (frame_table D.width D.height C.color self.now).height pos.row ≡ 1 }
+        requires room { HasRoom (frame_table D.width D.height C.color self.now) pos text.now }
+        ensures { Appends buf.old buf.new result (written (block_line (style_at self.now.config.now pos) (C.color self.now.colors.now pos) text.now (D.width self.now.dimension.now pos.col) 1 0)) }
+    {
+        let width = self.dimension.get_width(pos.col);
+        push_single_line(buf, style, self.colors.get_color(pos), text, width)
     }
 }
