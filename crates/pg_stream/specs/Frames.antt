@@ -1,9 +1,8 @@
 -- What a printer was told, as a table of which no row and no text is known.
-use Rattle.std.specs.Prelude.{◌≡◌, ℕ, [], Option}
+use Rattle.std.specs.Prelude.{ℕ, []}
+use Rattle.std.specs.Prelude.{Option}
 use Rattle.pg_layout.specs.Colors.{Color}
 use Rattle.pg_layout.specs.declared.position.Position.{Position}
-use Rattle.pg_config.specs.Config.{Config}
-use Rattle.pg_picture.specs.Pieces.{Style, style_at}
 use Rattle.pg_picture.specs.Table.{Table}
 use Rattle.pg_stream.specs.declared.frame.Frame.{Frame}
 
@@ -17,7 +16,3 @@ frame_table width height color frame = record {
   text = λ p. [];
   color = color frame.colors.now;
 }
-
--- each cell has this style
-abbrev pub IsStyleOfAll : Config → Style → Type 0
-IsStyleOfAll config style = (p : Position) → style ≡ style_at config p

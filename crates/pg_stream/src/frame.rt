@@ -1,6 +1,7 @@
 //! What a printer was told: the table's configuration, its sizes and its colours.
 
-ghost use Rattle.std.specs.Prelude.{◌≡◌, ◌+◌, ◌<◌, ◌≤◌, ◌++◌, ◌&&◌, ◌==◌, true, length, IfSome, Some};
+ghost use Rattle.std.specs.Prelude.{◌≡◌, ◌+◌, ◌<◌, ◌≤◌, ◌++◌, ◌&&◌, ◌==◌, true, length, Some};
+ghost use Rattle.std.specs.Option.{ForSome};
 ghost use Rattle.pg_picture.specs.Joined.{feed_before};
 ghost use Rattle.pg_picture.specs.Table.{vertical, side_margin_at};
 ghost use Rattle.pg_config.specs.Spans.{rect_rows, rect_columns};
@@ -15,7 +16,7 @@ ghost use Rattle.pg_picture.specs.Sizes.{height_of_rect};
 ghost use Rattle.pg_stream.specs.Placed.{slot_of, IsPlaced};
 ghost use Rattle.pg_stream.specs.Slots.{slot_block};
 ghost use Rattle.pg_stream.specs.Drawing.{top_text};
-ghost use Rattle.pg_stream.specs.Frames.{IsStyleOfAll};
+ghost use Rattle.pg_stream.specs.Styles.{IsStyleOfAll};
 ghost use Rattle.pg_stream.specs.Turns.{place_in, new_cell};
 
 use crate::open_cell::OpenCell;
@@ -40,36 +41,37 @@ pub(crate) struct Frame<'a, D, C, B: Allocator = Global> {
     pub(crate) width: usize,
     /// How many lines the body has, where that is known.
     pub(crate) height: Option<usize>,
+    /// The style that all cells have, where no setting is for some of them.
+    pub(crate) all: Option<CellStyle<'a, B>>,
+    ghost is_of_all: { ForSome all (λ style. IsStyleOfAll config.now (style_of style)) },
+}
+
+// The style that all cells have, where no setting is for some of them.
+pub(crate) fn style_of_all<B: Allocator>(config: &SpannedConfig<B>) -> Option<CellStyle<'_, B>>
+    ensures { ForSome result (λ style. IsStyleOfAll config.now (style_of style)) }
+{
+    if !config.has_one_style() {
+        return None;
+    }
+    Some(CellStyle::of(config, Position::new(0, 0)))
 }
 
 impl<'a, D: Dimension, C: Colors, B: Allocator> Frame<'a, D, C, B> {
     ghost use Rattle.pg_stream.specs.Frames.{frame_table};
 
-    // The style that all cells have, where no setting is for some of them.
-    pub(crate) fn style_of_all(&self) -> Option<CellStyle<'a, B>>
-        ensures { IfSome result (λ style. IsStyleOfAll self.now.config.now (style_of style)) }
-    {
-        if !self.config.has_one_style() {
-            return None;
-        }
-        Some(CellStyle::of(self.config, Position::new(0, 0)))
-    }
-
-    // The next line of an open cell. `all` is the style that all cells have, if there is one.
+    // The next line of an open cell.
     pub(crate) fn push_cell_line<S: AsStr, A: Allocator>(
         &self,
         buf: &mut String<A>,
-        all: Option<&CellStyle<'_, B>>,
         cell: &OpenCell<S>,
         column: usize,
     ) -> Result<(), AllocError>
-        requires all { IfSome all (λ style. IsStyleOfAll self.now.config.now (style_of style.now)) }
         requires placed { IsPlaced (frame_table D.width D.height C.color self.now) column cell.now }
         requires tall { 0 < height_of_rect (frame_table D.width D.height C.color self.now).config (frame_table D.width D.height C.color self.now).height (at cell.now.begun column) }
         ensures { Appends buf.old buf.new result (written (slot_block (frame_table D.width D.height C.color self.now) (slot_of (Some cell.now)) column)) }
     {
         let pos = Position::new(cell.begun(), column);
-        match all {
+        match &self.all {
             Some(style) => self.push_line_in_style(buf, style, cell, pos),
             None => self.push_line_in_style(buf, &CellStyle::of(self.config, pos), cell, pos),
         }

@@ -4,17 +4,16 @@ ghost use Rattle.std.specs.Prelude.{◌≡◌, ◌+◌, ◌-◌, ◌<◌, ◌≤
 ghost use Rattle.std.specs.List.{range_with_len};
 ghost use Rattle.pg_layout.specs.Position.{at};
 ghost use Rattle.pg_picture.specs.Appending.{Appends};
-ghost use Rattle.pg_picture.specs.Cells.{style_of};
 ghost use Rattle.pg_picture.specs.Pieces.{written};
 ghost use Rattle.pg_picture.specs.Sizes.{height_of_rect};
 ghost use Rattle.pg_stream.specs.Placed.{slots_of, draw_cell, AllOpen, IsPlaced, IsTall};
 ghost use Rattle.pg_stream.specs.Drawing.{open_part, open_line, line_at, open_lines};
-ghost use Rattle.pg_stream.specs.Frames.{frame_table, IsStyleOfAll};
+ghost use Rattle.pg_stream.specs.Frames.{frame_table};
 
 use crate::frame::Frame;
 use crate::open_cell::OpenCell;
 use pg_layout::{Colors, Dimension, Position};
-use pg_picture::{CellStyle, push_right_margin};
+use pg_picture::push_right_margin;
 use std::alloc::{AllocError, Allocator, Global};
 use std::convert::AsStr;
 use std::marker::Model;
@@ -108,16 +107,14 @@ impl<S: AsStr + Drop, A: Allocator> OpenCells<S, A> {
         }
     }
 
-    // What a column adds to a line of a row. `all` is the style that all cells have, if there is one.
+    // What a column adds to a line of a row.
     fn push_part<D: Dimension, C: Colors, B: Allocator, W: Allocator>(
         &self,
         frame: &Frame<'_, D, C, B>,
         buf: &mut String<W>,
-        all: Option<&CellStyle<'_, B>>,
         pos: Position,
         line: usize,
     ) -> Result<(), AllocError>
-        requires all { IfSome all (λ style. IsStyleOfAll frame.now.config.now (style_of style.now)) }
         requires line { line < (frame_table D.width D.height C.color frame.now).height pos.row }
         requires placed { AllOpen (IsPlaced (frame_table D.width D.height C.color frame.now)) self.now }
         requires tall { AllOpen (IsTall (frame_table D.width D.height C.color frame.now)) self.now }
@@ -127,7 +124,7 @@ impl<S: AsStr + Drop, A: Allocator> OpenCells<S, A> {
             return Ok(());
         };
         frame.push_vertical(buf, pos, line)?;
-        frame.push_cell_line(buf, all, cell, pos.col)
+        frame.push_cell_line(buf, cell, pos.col)
     }
 
     // A line of a row.
@@ -135,11 +132,9 @@ impl<S: AsStr + Drop, A: Allocator> OpenCells<S, A> {
         &self,
         frame: &Frame<'_, D, C, B>,
         buf: &mut String<W>,
-        all: Option<&CellStyle<'_, B>>,
         row: usize,
         line: usize,
     ) -> Result<(), AllocError>
-        requires all { IfSome all (λ style. IsStyleOfAll frame.now.config.now (style_of style.now)) }
         requires columns { frame.now.columns ≡ length self.now }
         requires line { line < (frame_table D.width D.height C.color frame.now).height row }
         requires placed { AllOpen (IsPlaced (frame_table D.width D.height C.color frame.now)) self.now }
@@ -147,7 +142,7 @@ impl<S: AsStr + Drop, A: Allocator> OpenCells<S, A> {
         ensures { Appends buf.old buf.new result (written (open_line (frame_table D.width D.height C.color frame.now) self.now row line)) }
     {
         for column in 0..frame.columns {
-            self.push_part(frame, buf, all, Position::new(row, column), line)?;
+            self.push_part(frame, buf, Position::new(row, column), line)?;
         }
         frame.push_vertical(buf, Position::new(row, frame.columns), line)
     }
@@ -157,13 +152,11 @@ impl<S: AsStr + Drop, A: Allocator> OpenCells<S, A> {
         &self,
         frame: &Frame<'_, D, C, B>,
         buf: &mut String<W>,
-        all: Option<&CellStyle<'_, B>>,
         is_first: bool,
         index: usize,
         row: usize,
         line: usize,
     ) -> Result<(), AllocError>
-        requires all { IfSome all (λ style. IsStyleOfAll frame.now.config.now (style_of style.now)) }
         requires columns { frame.now.columns ≡ length self.now }
         requires line { line < (frame_table D.width D.height C.color frame.now).height row }
         requires placed { AllOpen (IsPlaced (frame_table D.width D.height C.color frame.now)) self.now }
@@ -171,7 +164,7 @@ impl<S: AsStr + Drop, A: Allocator> OpenCells<S, A> {
         ensures { Appends buf.old buf.new result (line_at frame.now.config.now frame.now.height is_first index (written (open_line (frame_table D.width D.height C.color frame.now) self.now row line))) }
     {
         frame.push_start(buf, is_first, index)?;
-        self.push_row_line(frame, buf, all, row, line)?;
+        self.push_row_line(frame, buf, row, line)?;
         push_right_margin(buf, frame.config, index, frame.height)
     }
 
@@ -194,10 +187,8 @@ impl<S: AsStr + Drop, A: Allocator> OpenCells<S, A> {
         ensures appends { Appends buf.old buf.new result (open_lines (frame_table D.width D.height C.color frame.now) frame.now.height is_first self.old row index height) }
         ensures drawn { OnOk result (self.new ≡ map (draw_cell height) self.old) }
     {
-        let all = frame.style_of_all();
         for line in 0..height {
-            let all = all.as_ref();
-            self.push_body_line(frame, buf, all, is_first, index + line, row, line)?;
+            self.push_body_line(frame, buf, is_first, index + line, row, line)?;
             self.draw_line();
         }
         Ok(())

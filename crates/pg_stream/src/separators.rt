@@ -177,8 +177,7 @@ impl<S: AsStr + Drop, A: Allocator> OpenCells<S, A> {
             return run.border(buf, frame.config, pos, width, rows);
         };
         let run = run.close_for_block(buf)?;
-        let all = frame.style_of_all();
-        frame.push_cell_line(buf, all.as_ref(), cell, pos.col)?;
+        frame.push_cell_line(buf, cell, pos.col)?;
         Ok(run)
     }
 

@@ -1,6 +1,6 @@
 //! Rows of one line in a table without spans: their cells are drawn as they come.
 
-ghost use Rattle.std.specs.Prelude.{◌≡◌, ◌&&◌, ◌==◌, [], List, length, IfSome};
+ghost use Rattle.std.specs.Prelude.{◌≡◌, ◌&&◌, ◌==◌, [], List, length};
 ghost use Rattle.std.specs.Iterator.{IsFinite};
 ghost use Rattle.pg_layout.specs.Records.{AlwaysGives};
 ghost use Rattle.pg_layout.specs.Position.{at};
@@ -10,7 +10,7 @@ ghost use Rattle.pg_picture.specs.Cells.{style_of};
 ghost use Rattle.pg_picture.specs.Pieces.{written, style_at, block_line};
 ghost use Rattle.pg_stream.specs.Conditions.{HasRoom, HaveRoom};
 ghost use Rattle.pg_stream.specs.Drawing.{line_at};
-ghost use Rattle.pg_stream.specs.Frames.{frame_table, IsStyleOfAll};
+ghost use Rattle.pg_stream.specs.Frames.{frame_table};
 ghost use Rattle.pg_stream.specs.SingleRows.{single_part, single_line};
 
 use crate::frame::Frame;
@@ -60,27 +60,23 @@ impl<'a, D: Dimension, C: Colors, B: Allocator> Frame<'a, D, C, B> {
         requires given { (texts : List Text) × AlwaysGives (λ x y. S.text x ≡ y) I.next_gives cells texts × length texts ≡ self.now.columns × HaveRoom (frame_table D.width D.height C.color self.now) row texts }
         ensures { (texts : List Text) → AlwaysGives (λ x y. S.text x ≡ y) I.next_gives cells texts → Appends buf.old buf.new result (written (single_line (frame_table D.width D.height C.color self.now) row texts)) }
     {
-        let all = self.style_of_all();
         for column in 0..self.columns {
             let Some(value) = cells.next() else {
                 return Ok(());
             };
-            self.push_single_cell(buf, all.as_ref(), value.as_str(), row, column)?;
+            self.push_single_cell(buf, value.as_str(), row, column)?;
         }
         self.push_vertical(buf, Position::new(row, self.columns), 0)
     }
 
-    // A cell of the row: the vertical left of it, and its line. `all` is the style that all cells
-    // have, if there is one.
+    // A cell of the row: the vertical left of it, and its line.
     fn push_single_cell<W: Allocator>(
         &self,
         buf: &mut String<W>,
-        all: Option<&CellStyle<'_, B>>,
         text: &str,
         row: usize,
         column: usize,
     ) -> Result<(), AllocError>
-        requires all { IfSome all (λ style. IsStyleOfAll self.now.config.now (style_of style.now)) }
         requires alone { (frame_table D.width D.height C.color self.now).config.spans ≡ [] }
         requires height { (frame_table D.width D.height C.color self.now).height row ≡ 1 }
         requires room { HasRoom (frame_table D.width D.height C.color self.now) (at row column) text.now }
@@ -88,7 +84,7 @@ impl<'a, D: Dimension, C: Colors, B: Allocator> Frame<'a, D, C, B> {
     {
         let pos = Position::new(row, column);
         self.push_vertical(buf, pos, 0)?;
-        match all {
+        match &self.all {
             Some(style) => self.push_single_text(buf, style, text, pos),
             None => self.push_single_text(buf, &CellStyle::of(self.config, pos), text, pos),
         }
