@@ -1,35 +1,36 @@
 //! The tables that are built, by name.
 
-/// A table.
+/// A name, the grid that prints, and the table.
+#[derive(Debug, Clone, Copy)]
+pub(crate) struct Case(pub(crate) &'static str, pub(crate) Grid, pub(crate) Table);
+
+/// Which grid prints a table, and from what.
 #[derive(Debug, Clone, Copy, PartialEq, Eq)]
-pub(crate) enum Case {
-    PeekBasic,
-    PeekSpans,
-    PeekColored,
-    PeekMultiline,
-    PeekUnicode,
-    PeekBox,
-    PeekSpans1000,
-    PeekTallspan,
-    PeekLongcell,
-    CompactBasic,
-    CompactColored,
+pub(crate) enum Grid {
+    /// The looked-up grid, from texts in memory.
+    Peekable,
+    /// The streaming grid, from texts in memory; it is told how many rows there are.
+    Iter,
+    /// The streaming grid, from texts that are made as it asks for them; it isn't told how many rows
+    /// there are.
+    IterMade,
+    /// The compact grid, from texts in memory.
+    Compact,
 }
 
-/// The tables by name.
-pub(crate) const CASES: [(&str, Case); 11] = [
-    ("peek_basic", Case::PeekBasic),
-    ("peek_spans", Case::PeekSpans),
-    ("peek_colored", Case::PeekColored),
-    ("peek_multiline", Case::PeekMultiline),
-    ("peek_unicode", Case::PeekUnicode),
-    ("peek_box", Case::PeekBox),
-    ("peek_spans1000", Case::PeekSpans1000),
-    ("peek_tallspan", Case::PeekTallspan),
-    ("peek_longcell", Case::PeekLongcell),
-    ("compact_basic", Case::CompactBasic),
-    ("compact_colored", Case::CompactColored),
-];
+/// What a table consists of.
+#[derive(Debug, Clone, Copy)]
+pub(crate) struct Table {
+    pub(crate) rows: usize,
+    pub(crate) columns: usize,
+    /// How many terminal columns each column has.
+    pub(crate) width: usize,
+    /// How many lines each row has.
+    pub(crate) height: usize,
+    pub(crate) words: Words,
+    pub(crate) look: Look,
+    pub(crate) spanning: Spanning,
+}
 
 /// What the cells of a table say.
 #[derive(Debug, Clone, Copy, PartialEq, Eq)]
@@ -42,6 +43,23 @@ pub(crate) enum Words {
     Wide,
     /// The same line a thousand times.
     Long,
+    /// The same three letters in each cell.
+    Same,
+}
+
+/// What is drawn round texts, and how they stand in their cells.
+#[derive(Debug, Clone, Copy, PartialEq, Eq)]
+pub(crate) enum Look {
+    /// ASCII borders, and one space left and right of each text.
+    Plain,
+    /// The same with lines of a box as borders.
+    Boxed,
+    /// `Plain` with colours of cells, borders and margins.
+    Colored,
+    /// `Plain` with texts that are trimmed and stand in the middle of their cells.
+    Trimmed,
+    /// Nothing but the texts.
+    Bare,
 }
 
 /// Which cells span others.
@@ -49,81 +67,143 @@ pub(crate) enum Words {
 pub(crate) enum Spanning {
     /// No cell.
     Nothing,
-    /// A cell of two rows and three columns in each fourth row.
+    /// A cell of two rows and three columns in each fourth row, its text in the middle.
     Blocks,
+    /// A cell of two rows and three columns in each tenth column of each tenth row.
+    Tiles,
     /// The first cell, down to the last row.
     Tall,
 }
 
-/// How many rows and columns a table has, and how many lines each row.
-#[derive(Debug, Clone, Copy, PartialEq, Eq)]
-pub(crate) struct Size {
-    pub(crate) rows: usize,
-    pub(crate) columns: usize,
-    pub(crate) height: usize,
-}
+const BASIC: Table = Table {
+    rows: 100,
+    columns: 10,
+    width: 12,
+    height: 1,
+    words: Words::Letters,
+    look: Look::Plain,
+    spanning: Spanning::Nothing,
+};
+
+const SPANS: Table = Table {
+    spanning: Spanning::Blocks,
+    ..BASIC
+};
+
+const COLORED: Table = Table {
+    look: Look::Colored,
+    ..BASIC
+};
+
+const MULTILINE: Table = Table {
+    height: 3,
+    words: Words::Lines,
+    look: Look::Trimmed,
+    ..BASIC
+};
+
+const UNICODE: Table = Table {
+    words: Words::Wide,
+    ..BASIC
+};
+
+const BOX: Table = Table {
+    look: Look::Boxed,
+    ..UNICODE
+};
+
+const SPANS1000: Table = Table {
+    rows: 1000,
+    ..SPANS
+};
+
+const TALLSPAN: Table = Table {
+    rows: 1000,
+    columns: 2,
+    spanning: Spanning::Tall,
+    ..BASIC
+};
+
+const LONGCELL: Table = Table {
+    rows: 1,
+    columns: 1,
+    height: 1000,
+    words: Words::Long,
+    look: Look::Trimmed,
+    ..BASIC
+};
+
+const TALL: Table = Table {
+    rows: 10_000,
+    columns: 3,
+    width: 3,
+    words: Words::Same,
+    look: Look::Bare,
+    ..BASIC
+};
+
+const TALL10: Table = Table { rows: 10, ..TALL };
+
+const TALL1000000: Table = Table {
+    rows: 1_000_000,
+    ..TALL
+};
+
+const CELLS100: Table = Table {
+    columns: 100,
+    spanning: Spanning::Tiles,
+    ..BASIC
+};
+
+const CELLS1000: Table = Table {
+    rows: 1000,
+    columns: 1000,
+    ..CELLS100
+};
+
+/// The tables that `--all` builds.
+pub(crate) const CASES: [Case; 18] = [
+    Case("peek_basic", Grid::Peekable, BASIC),
+    Case("peek_spans", Grid::Peekable, SPANS),
+    Case("peek_colored", Grid::Peekable, COLORED),
+    Case("peek_multiline", Grid::Peekable, MULTILINE),
+    Case("peek_unicode", Grid::Peekable, UNICODE),
+    Case("peek_box", Grid::Peekable, BOX),
+    Case("peek_spans1000", Grid::Peekable, SPANS1000),
+    Case("peek_tallspan", Grid::Peekable, TALLSPAN),
+    Case("peek_longcell", Grid::Peekable, LONGCELL),
+    Case("iter_basic", Grid::Iter, BASIC),
+    Case("iter_spans", Grid::Iter, SPANS),
+    Case("iter_multiline", Grid::Iter, MULTILINE),
+    Case("iter_tall", Grid::IterMade, TALL),
+    Case("iter_spans1000", Grid::Iter, SPANS1000),
+    Case("iter_tallspan", Grid::Iter, TALLSPAN),
+    Case("iter_longcell", Grid::Iter, LONGCELL),
+    Case("compact_basic", Grid::Compact, BASIC),
+    Case("compact_colored", Grid::Compact, COLORED),
+];
+
+/// Tables of other sizes, some of which take long.
+pub(crate) const OTHER_SIZES: [Case; 4] = [
+    Case("iter_tall10", Grid::IterMade, TALL10),
+    Case("iter_tall1000000", Grid::IterMade, TALL1000000),
+    Case("peek_cells100", Grid::Peekable, CELLS100),
+    Case("peek_cells1000", Grid::Peekable, CELLS1000),
+];
 
 impl Case {
     /// The case of this name.
     pub(crate) fn named(name: &str) -> Option<Case> {
-        for (known, case) in CASES {
-            if known == name {
-                return Some(case);
-            }
-        }
-        None
+        among(&CASES, name).or(among(&OTHER_SIZES, name))
     }
+}
 
-    pub(crate) fn size(self) -> Size {
-        let (rows, columns, height) = match self {
-            Case::PeekMultiline => (100, 10, 3),
-            Case::PeekSpans1000 => (1000, 10, 1),
-            Case::PeekTallspan => (1000, 2, 1),
-            Case::PeekLongcell => (1, 1, 1000),
-            _ => (100, 10, 1),
-        };
-        Size {
-            rows,
-            columns,
-            height,
+// The case of this name among these.
+fn among(cases: &[Case], name: &str) -> Option<Case> {
+    for case in cases {
+        if case.0 == name {
+            return Some(*case);
         }
     }
-
-    pub(crate) fn words(self) -> Words {
-        match self {
-            Case::PeekMultiline => Words::Lines,
-            Case::PeekUnicode | Case::PeekBox => Words::Wide,
-            Case::PeekLongcell => Words::Long,
-            _ => Words::Letters,
-        }
-    }
-
-    /// Whether texts are trimmed and stand in the middle of their cells.
-    pub(crate) fn is_trimmed(self) -> bool {
-        matches!(self, Case::PeekMultiline | Case::PeekLongcell)
-    }
-
-    /// Whether cells, borders and margins have colours.
-    pub(crate) fn is_colored(self) -> bool {
-        matches!(self, Case::PeekColored | Case::CompactColored)
-    }
-
-    /// Whether the compact grid prints it, and not the looked-up one.
-    pub(crate) fn is_compact(self) -> bool {
-        matches!(self, Case::CompactBasic | Case::CompactColored)
-    }
-
-    /// Whether the borders are lines of a box.
-    pub(crate) fn is_boxed(self) -> bool {
-        self == Case::PeekBox
-    }
-
-    /// How many rows and columns cells span.
-    pub(crate) fn spans(self) -> Spanning {
-        match self {
-            Case::PeekSpans | Case::PeekSpans1000 => Spanning::Blocks,
-            Case::PeekTallspan => Spanning::Tall,
-            _ => Spanning::Nothing,
-        }
-    }
+    None
 }

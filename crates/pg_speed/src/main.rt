@@ -2,7 +2,7 @@
 //! be measured, and tells how many bytes the last text has and its checksum.
 #![tactic(auto)]
 
-use crate::case::{CASES, Case};
+use crate::case::{CASES, Case, OTHER_SIZES};
 use crate::failure::Failure;
 use crate::measure::measure;
 use std::alloc::Global;
@@ -12,9 +12,12 @@ use std::{env, io};
 
 mod case;
 mod checksum;
+mod dimension;
 mod failure;
+mod made_records;
 mod measure;
 mod settings;
+mod streamed;
 mod texts;
 
 /// What the arguments ask for.
@@ -22,7 +25,7 @@ mod texts;
 enum Request {
     /// The names of the cases.
     List,
-    /// Each case, built so many times.
+    /// Each case but those of other sizes, built so many times.
     All(usize),
     /// One case, built so many times.
     One(Case, usize),
@@ -48,16 +51,21 @@ fn count(word: &String) -> Result<usize, Failure> {
 }
 
 fn list(rt: &impl Print) -> Result<(), Failure> {
-    for (name, _) in CASES {
+    list_cases(rt, &CASES)?;
+    list_cases(rt, &OTHER_SIZES)
+}
+
+fn list_cases(rt: &impl Print, cases: &[Case]) -> Result<(), Failure> {
+    for Case(name, _, _) in cases {
         println!(rt; "{name}")?;
     }
     Ok(())
 }
 
 fn all(rt: &impl Print, alloc: Global, times: usize) -> Result<(), Failure> {
-    for (name, case) in CASES {
+    for case in CASES {
         let text = measure(alloc, case, times)?;
-        println!(rt; "{name} {} {:016x}", text.bytes, text.checksum)?;
+        println!(rt; "{} {} {:016x}", case.0, text.bytes, text.checksum)?;
     }
     Ok(())
 }

@@ -4,10 +4,12 @@ ghost use Rattle.std.specs.Prelude.{◌≡◌, None};
 ghost use Rattle.pg_picture.specs.Fits.{misfit_of};
 ghost use Rattle.pg_grid.specs.Grids.{peekable_table};
 
-use crate::case::{Case, Size};
+use crate::case::{Case, Grid, Look, Table};
 use crate::checksum::checksum;
+use crate::dimension::dimension;
 use crate::failure::Failure;
 use crate::settings::{colors, compact_settings, set};
+use crate::streamed::{streamed, streamed_as_made};
 use crate::texts::records;
 use pg_config::{CompactConfig, SpannedConfig};
 use pg_grid::{CompactGrid, PeekableGrid};
@@ -18,25 +20,11 @@ use pg_layout::{
 use pg_picture::fits::{compact_fits, table_fits};
 use std::alloc::{AllocError, Allocator};
 
-/// How wide each column is.
-const WIDTH: usize = 12;
-
 /// What is told of the last text that was built.
 #[derive(Debug, Clone, Copy)]
 pub(crate) struct Measured {
     pub(crate) bytes: usize,
     pub(crate) checksum: u64,
-}
-
-// Columns and rows of one size each.
-fn dimension<A: Allocator + Copy>(
-    alloc: A,
-    size: Size,
-) -> Result<ConstantDimension<A>, AllocError> {
-    Ok(ConstantDimension(
-        vec![in alloc; WIDTH; size.columns]?,
-        vec![in alloc; size.height; size.rows]?,
-    ))
 }
 
 /// Builds the table of a case so many times.
@@ -45,10 +33,10 @@ pub(crate) fn measure<A: Allocator + Copy>(
     case: Case,
     times: usize,
 ) -> Result<Measured, Failure> {
-    let text = if case.is_compact() {
-        compact_text(alloc, case, times)
-    } else {
-        looked_up_text(alloc, case, times)
+    let Case(_, grid, table) = case;
+    let text = match grid {
+        Grid::Compact => compact_text(alloc, table, times),
+        _ => spanned_text(alloc, grid, table, times),
     }?;
     Ok(Measured {
         bytes: text.len(),
@@ -56,31 +44,38 @@ pub(crate) fn measure<A: Allocator + Copy>(
     })
 }
 
-// The text of a case of the looked-up grid, built so many times.
-fn looked_up_text<A: Allocator + Copy>(
+// The text of a table whose cells may span rows and columns, built so many times.
+fn spanned_text<A: Allocator + Copy>(
     alloc: A,
-    case: Case,
+    grid: Grid,
+    table: Table,
     times: usize,
 ) -> Result<String<A>, Failure> {
     let mut config = SpannedConfig::new(alloc);
-    let text = text_by(alloc, case, times, &mut config);
+    let text = text_by(alloc, grid, table, times, &mut config);
     drop(config);
     text
 }
 
-// The same by a configuration that is told the case's settings.
+// The same by a configuration that is told the table's settings.
 fn text_by<A: Allocator + Copy>(
     alloc: A,
-    case: Case,
+    grid: Grid,
+    table: Table,
     times: usize,
     config: &mut SpannedConfig<A>,
 ) -> Result<String<A>, Failure> {
-    set(alloc, case, config)?;
-    let size = case.size();
-    let records = records(alloc, size, case.words())?;
-    let dimension = dimension(alloc, size)?;
-    if case.is_colored() {
-        let colors = colors(alloc, size)?;
+    set(alloc, table, config)?;
+    if grid == Grid::IterMade {
+        return streamed_as_made(alloc, table, config, times);
+    }
+    let records = records(alloc, table)?;
+    let dimension = dimension(alloc, table)?;
+    if grid == Grid::Iter {
+        return streamed(alloc, &records, &dimension, config, times);
+    }
+    if table.look == Look::Colored {
+        let colors = colors(alloc, table)?;
         return looked_up(alloc, &records, &dimension, config, &colors, times);
     }
     looked_up(alloc, &records, &dimension, config, &NoColors, times)
@@ -121,18 +116,17 @@ where
     Ok(text)
 }
 
-// The text of a case of the compact grid, built so many times.
+// The text of a table of the compact grid, built so many times.
 fn compact_text<A: Allocator + Copy>(
     alloc: A,
-    case: Case,
+    table: Table,
     times: usize,
 ) -> Result<String<A>, Failure> {
-    let size = case.size();
-    let records = records(alloc, size, case.words())?;
-    let dimension = dimension(alloc, size)?;
-    let config = compact_settings(case);
-    if case.is_colored() {
-        let colors = colors(alloc, size)?;
+    let records = records(alloc, table)?;
+    let dimension = dimension(alloc, table)?;
+    let config = compact_settings(table.look);
+    if table.look == Look::Colored {
+        let colors = colors(alloc, table)?;
         return compact(alloc, &records, &dimension, &config, &colors, times);
     }
     compact(alloc, &records, &dimension, &config, &NoColors, times)

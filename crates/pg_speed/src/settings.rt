@@ -1,6 +1,6 @@
 //! The settings of the tables.
 
-use crate::case::{Case, Size, Spanning};
+use crate::case::{Look, Spanning, Table};
 use pg_config::{CompactConfig, SpannedConfig};
 use pg_layout::{
     ANSIBuf, ANSIStr, AlignmentHorizontal, AlignmentVertical, Borders, ColorsMap, Entity, Indent,
@@ -15,31 +15,45 @@ const GRAY: &str = "\u{1b}[90m";
 /// The colour of the terminal.
 const PLAIN: &str = "\u{1b}[39m";
 
-/// Tells a configuration all that a case sets.
+/// Tells a configuration all that a table sets.
 pub(crate) fn set<A: Allocator + Copy>(
     alloc: A,
-    case: Case,
+    table: Table,
     config: &mut SpannedConfig<A>,
 ) -> Result<(), AllocError> {
-    config.set_borders(if case.is_boxed() { boxed() } else { ascii() });
-    config.set_padding(Entity::Global, side_spaces())?;
-    if case.is_trimmed() {
-        trim(config)?;
+    match table.look {
+        Look::Bare => {}
+        Look::Boxed => frame(config, boxed())?,
+        Look::Plain => frame(config, ascii())?,
+        Look::Colored => {
+            frame(config, ascii())?;
+            color_borders(alloc, config)?;
+            color_margins(alloc, config)?;
+        }
+        Look::Trimmed => {
+            frame(config, ascii())?;
+            trim(config)?;
+        }
     }
-    if case.is_colored() {
-        color_borders(alloc, config)?;
-        color_margins(alloc, config)?;
-    }
-    span(config, case)
+    span(config, table)
 }
 
-/// The configuration of a case that the compact grid prints. Its colours are those of the other
+// Borders, and spaces between them and the texts.
+fn frame<A: Allocator>(
+    config: &mut SpannedConfig<A>,
+    borders: Borders<char>,
+) -> Result<(), AllocError> {
+    config.set_borders(borders);
+    config.set_padding(Entity::Global, side_spaces())
+}
+
+/// The configuration of a table that the compact grid prints. Its colours are those of the other
 /// grids, and it has no margin above or below.
-pub(crate) fn compact_settings(case: Case) -> CompactConfig {
+pub(crate) fn compact_settings(look: Look) -> CompactConfig {
     let config = CompactConfig::new()
         .set_borders(ascii())
         .set_padding(side_spaces());
-    if !case.is_colored() {
+    if look != Look::Colored {
         return config;
     }
     config
@@ -49,13 +63,36 @@ pub(crate) fn compact_settings(case: Case) -> CompactConfig {
 }
 
 // Lets cells span others.
-fn span<A: Allocator>(config: &mut SpannedConfig<A>, case: Case) -> Result<(), AllocError> {
-    let rows = case.size().rows;
-    match case.spans() {
+fn span<A: Allocator>(config: &mut SpannedConfig<A>, table: Table) -> Result<(), AllocError> {
+    match table.spanning {
         Spanning::Nothing => Ok(()),
-        Spanning::Blocks => span_blocks(config, rows),
-        Spanning::Tall => config.set_row_span(Position::new(0, 0), rows),
+        Spanning::Blocks => span_blocks(config, table.rows),
+        Spanning::Tiles => span_tiles(config, table.rows, table.columns),
+        Spanning::Tall => config.set_row_span(Position::new(0, 0), table.rows),
     }
+}
+
+// Each tenth column of each tenth row begins a tile.
+fn span_tiles<A: Allocator>(
+    config: &mut SpannedConfig<A>,
+    rows: usize,
+    columns: usize,
+) -> Result<(), AllocError> {
+    for row in (0..rows).step_by(10) {
+        span_tiles_of_row(config, row, columns)?;
+    }
+    Ok(())
+}
+
+fn span_tiles_of_row<A: Allocator>(
+    config: &mut SpannedConfig<A>,
+    row: usize,
+    columns: usize,
+) -> Result<(), AllocError> {
+    for column in (0..columns).step_by(10) {
+        span_cell(config, Position::new(row, column))?;
+    }
+    Ok(())
 }
 
 // Each fourth row begins a block in the middle of which the text stands.
@@ -73,10 +110,15 @@ fn span_block<A: Allocator>(
     pos: Position,
 ) -> Result<(), AllocError> {
     let cell = Entity::Cell(pos.row, pos.col);
-    config.set_row_span(pos, 2)?;
-    config.set_column_span(pos, 3)?;
+    span_cell(config, pos)?;
     config.set_alignment_horizontal(cell, AlignmentHorizontal::Center)?;
     config.set_alignment_vertical(cell, AlignmentVertical::Center)
+}
+
+// A cell of two rows and three columns.
+fn span_cell<A: Allocator>(config: &mut SpannedConfig<A>, pos: Position) -> Result<(), AllocError> {
+    config.set_row_span(pos, 2)?;
+    config.set_column_span(pos, 3)
 }
 
 // One space left and right of each text.
@@ -254,11 +296,11 @@ fn color_columns<A: Allocator + Copy>(
 /// The colours of the cells: each third cell has one of seven.
 pub(crate) fn colors<A: Allocator + Copy>(
     alloc: A,
-    size: Size,
+    table: Table,
 ) -> Result<ColorsMap<A>, AllocError> {
     let mut colors = ColorsMap::new(alloc);
-    for row in 0..size.rows {
-        color_row(alloc, &mut colors, row, size.columns)?;
+    for row in 0..table.rows {
+        color_row(alloc, &mut colors, row, table.columns)?;
     }
     Ok(colors)
 }

@@ -1,28 +1,29 @@
 //! What the cells of the tables say.
 
-use crate::case::{Size, Words};
+use crate::case::{Table, Words};
 use crate::failure::Failure;
 use pg_layout::VecRecords;
 use std::alloc::{AllocError, Allocator};
 
+/// What each cell says where all say the same.
+pub(crate) const SAME: &str = "abc";
+
 /// The texts of a table.
 pub(crate) fn records<A: Allocator + Copy>(
     alloc: A,
-    size: Size,
-    words: Words,
+    table: Table,
 ) -> Result<VecRecords<String<A>, A>, Failure> {
-    let rows = texts(alloc, size, words)?;
+    let rows = texts(alloc, table)?;
     Ok(VecRecords::new(rows)?)
 }
 
 fn texts<A: Allocator + Copy>(
     alloc: A,
-    size: Size,
-    words: Words,
+    table: Table,
 ) -> Result<Vec<Vec<String<A>, A>, A>, AllocError> {
     let mut rows = Vec::new(alloc);
-    for row in 0..size.rows {
-        rows.push(texts_of_row(alloc, row, size.columns, words)?)?;
+    for row in 0..table.rows {
+        rows.push(texts_of_row(alloc, row, table.columns, table.words)?)?;
     }
     Ok(rows)
 }
@@ -57,6 +58,7 @@ pub(crate) fn text<A: Allocator>(
         Words::Lines => push_lines(&mut text, row, column),
         Words::Wide => push_wide(&mut text, row, column),
         Words::Long => push_long(&mut text),
+        Words::Same => text.push_str(SAME),
     }?;
     Ok(text)
 }
@@ -138,9 +140,10 @@ fn push_wide<A: Allocator>(
 
 // A thousand lines.
 fn push_long<A: Allocator>(text: &mut String<A>) -> Result<(), AllocError> {
-    text.push_str("abc")?;
+    text.push_str(SAME)?;
     for _ in 1..1000 {
-        text.push_str("\nabc")?;
+        text.push('\n')?;
+        text.push_str(SAME)?;
     }
     Ok(())
 }

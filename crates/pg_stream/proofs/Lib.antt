@@ -35,3 +35,4 @@ pub mod SingleLines
 pub mod SingleRowsPrinted
 pub mod SingleCells
 pub mod FittingCells
+pub mod LineStyles

@@ -9,3 +9,4 @@ pub mod Drawing
 pub mod Printers
 pub mod Laws
 pub mod SingleRows
+pub mod Styles

@@ -1,5 +1,5 @@
 -- The open cells as a printer keeps them: with their widths, and with the places of their texts.
-use Rattle.std.specs.Prelude.{◌≡◌, ℕ, ◌+◌, ◌-◌, ◌<◌, ◌≤◌, min, List, length, map, IfSome, slice_index_or, Option, Some, None}
+use Rattle.std.specs.Prelude.{◌≡◌, ℕ, ◌+◌, ◌-◌, ◌<◌, ◌≤◌, List, length, map, IfSome, slice_index_or, Option, Some, None}
 use Rattle.pg_layout.specs.LineCursor.{StandsIn, line_number}
 use Rattle.pg_layout.specs.Position.{at}
 use Rattle.pg_layout.specs.Text.{Text, lines_of}
@@ -31,10 +31,10 @@ abbrev pub draw_cell : ℕ → Option Placed → Option Placed
 draw_cell d None = None
 draw_cell d (Some cell) = Some (record cell { drawn = cell.drawn + d })
 
--- A cursor stands at the line of the text that is shown next, where so many lines of the cell are drawn.
+-- A cursor stands at the line of the text that is shown next, if there is one, where so many lines of the cell are drawn.
 pub record StandsAtNext (cursor : ℕ) (text : Text) (place : CellPlace) (drawn : ℕ) : Type 0 where
   pub stands : StandsIn cursor text
-  pub number : line_number cursor text ≡ place.skip + min (drawn - place.top) place.shown
+  pub number : drawn < place.top + place.shown → line_number cursor text ≡ place.skip + (drawn - place.top)
   pub lines : place.skip + place.shown ≤ length (lines_of text)
 
 -- The width of a cell is its rectangle's, and where that has a line, the place is that of the text in it, and the

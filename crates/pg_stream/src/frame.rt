@@ -1,6 +1,7 @@
 //! What a printer was told: the table's configuration, its sizes and its colours.
 
 ghost use Rattle.std.specs.Prelude.{◌≡◌, ◌+◌, ◌<◌, ◌≤◌, ◌++◌, ◌&&◌, ◌==◌, true, length, Some};
+ghost use Rattle.std.specs.Option.{ForSome};
 ghost use Rattle.pg_picture.specs.Joined.{feed_before};
 ghost use Rattle.pg_picture.specs.Table.{vertical, side_margin_at};
 ghost use Rattle.pg_config.specs.Spans.{rect_rows, rect_columns};
@@ -10,16 +11,17 @@ ghost use Rattle.pg_picture.specs.Fits.{cell_fits};
 ghost use Rattle.pg_stream.specs.Conditions.{HasRoom};
 ghost use Rattle.pg_layout.specs.Position.{at};
 ghost use Rattle.pg_picture.specs.Appending.{Appends};
-ghost use Rattle.pg_picture.specs.Pieces.{written};
+ghost use Rattle.pg_picture.specs.Pieces.{written, style_at};
 ghost use Rattle.pg_picture.specs.Sizes.{height_of_rect};
 ghost use Rattle.pg_stream.specs.Placed.{slot_of, IsPlaced};
 ghost use Rattle.pg_stream.specs.Slots.{slot_block};
 ghost use Rattle.pg_stream.specs.Drawing.{top_text};
+ghost use Rattle.pg_stream.specs.Styles.{IsStyleOfAll, DrawsAs};
 ghost use Rattle.pg_stream.specs.Turns.{place_in, new_cell};
 
 use crate::open_cell::OpenCell;
 use pg_config::SpannedConfig;
-use pg_layout::{Colors, Dimension, Position};
+use pg_layout::{AlignmentHorizontal, AlignmentVertical, Colors, Dimension, Position};
 use pg_picture::fits::{rect_height, rect_width};
 use pg_picture::{
     CellPlace, CellStyle, TextFacts, push_block_line_of, push_feed, push_left_margin,
@@ -39,6 +41,19 @@ pub(crate) struct Frame<'a, D, C, B: Allocator = Global> {
     pub(crate) width: usize,
     /// How many lines the body has, where that is known.
     pub(crate) height: Option<usize>,
+    /// The style that all cells have, where no setting is for some of them.
+    pub(crate) all: Option<CellStyle<'a, B>>,
+    ghost is_of_all: { ForSome all (λ style. IsStyleOfAll config.now (style_of style)) },
+}
+
+// The style that all cells have, where no setting is for some of them.
+pub(crate) fn style_of_all<B: Allocator>(config: &SpannedConfig<B>) -> Option<CellStyle<'_, B>>
+    ensures { ForSome result (λ style. IsStyleOfAll config.now (style_of style)) }
+{
+    if !config.has_one_style() {
+        return None;
+    }
+    Some(CellStyle::of(config, Position::new(0, 0)))
 }
 
 impl<'a, D: Dimension, C: Colors, B: Allocator> Frame<'a, D, C, B> {
@@ -56,10 +71,54 @@ impl<'a, D: Dimension, C: Colors, B: Allocator> Frame<'a, D, C, B> {
         ensures { Appends buf.old buf.new result (written (slot_block (frame_table D.width D.height C.color self.now) (slot_of (Some cell.now)) column)) }
     {
         let pos = Position::new(cell.begun(), column);
-        let style = CellStyle::of(self.config, pos);
+        match &self.all {
+            Some(style) => self.push_line_in_style(buf, style, cell, pos),
+            None => {
+                let style = self.style_of_lines(cell.place().left, pos);
+                self.push_line_in_style(buf, &style, cell, pos)
+            }
+        }
+    }
+
+    // The style of a cell, as its lines need it: where all of them have one left share, its alignments
+    // say no more, and aren't looked up.
+    #[inline(always)]
+    #[tactic(auto, unfolding(pg_picture::specs::Pieces::style_at))]
+    fn style_of_lines(&self, left: Option<usize>, pos: Position) -> CellStyle<'a, B>
+        ensures { DrawsAs left (style_of result) (style_at self.now.config.now pos) }
+    {
+        if left.is_none() {
+            return CellStyle::of(self.config, pos);
+        }
+        CellStyle {
+            formatting: self.config.get_formatting(pos),
+            padding: self.config.get_padding(pos),
+            padding_color: self.config.get_padding_color(pos),
+            alignment_horizontal: AlignmentHorizontal::Left,
+            alignment_vertical: AlignmentVertical::Top,
+            justification: self.config.get_justification(pos),
+            justification_color: self.config.get_justification_color(pos),
+        }
+    }
+
+    // The next line of an open cell that begins at this place, in a style that draws its lines.
+    #[inline(always)]
+    fn push_line_in_style<S: AsStr, A: Allocator>(
+        &self,
+        buf: &mut String<A>,
+        style: &CellStyle<'_, B>,
+        cell: &OpenCell<S>,
+        pos: Position,
+    ) -> Result<(), AllocError>
+        requires style { DrawsAs cell.now.place.left (style_of style.now) (style_at self.now.config.now pos) }
+        requires begun { pos.row ≡ cell.now.begun }
+        requires placed { IsPlaced (frame_table D.width D.height C.color self.now) pos.col cell.now }
+        requires tall { 0 < height_of_rect (frame_table D.width D.height C.color self.now).config (frame_table D.width D.height C.color self.now).height (at cell.now.begun pos.col) }
+        ensures { Appends buf.old buf.new result (written (slot_block (frame_table D.width D.height C.color self.now) (slot_of (Some cell.now)) pos.col)) }
+    {
         push_block_line_of(
             buf,
-            &style,
+            style,
             self.colors.get_color(pos),
             cell.line(),
             cell.place(),
@@ -83,6 +142,7 @@ impl<'a, D: Dimension, C: Colors, B: Allocator> Frame<'a, D, C, B> {
     }
 
     // The glyph of a vertical, on a line of its row.
+    #[inline(always)]
     pub(crate) fn push_vertical<A: Allocator>(
         &self,
         buf: &mut String<A>,

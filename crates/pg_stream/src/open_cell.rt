@@ -19,7 +19,7 @@ pub(crate) struct OpenCell<S: AsStr> {
     drawn: usize,
     width: usize,
     place: CellPlace,
-    // Stands at the line of the text that is shown next.
+    // Stands at the line of the text that is shown next, if there is one.
     cursor: LineCursor,
 }
 
@@ -90,7 +90,8 @@ impl<S: AsStr> OpenCell<S> {
         requires { self.old.drawn + 1 < 2 ^ 64 }
         ensures { self.new ≡ record self.old { drawn = self.old.drawn + 1 } }
     {
-        if is_text_line(self.place, self.drawn) {
+        let next = self.drawn + 1;
+        if is_text_line(self.place, self.drawn) && is_text_line(self.place, next) {
             let _line = self.cursor.next_line(self.value.as_str());
         }
         self.drawn += 1;

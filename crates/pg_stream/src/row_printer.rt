@@ -12,7 +12,7 @@ ghost use Rattle.pg_stream.specs.Placed.{slots_of};
 ghost use Rattle.pg_stream.specs.Printers.{printing};
 ghost use Rattle.pg_stream.specs.Printing.{printer, row_text, finish_text, after_row};
 
-use crate::frame::Frame;
+use crate::frame::{Frame, style_of_all};
 use crate::open_cells::OpenCells;
 use pg_config::SpannedConfig;
 use pg_layout::{Colors, Dimension};
@@ -105,6 +105,7 @@ impl<'a, S: AsStr + Drop, D: Dimension, C: Colors, B: Allocator, A: Allocator> R
                 columns,
                 width,
                 height,
+                all: style_of_all(config),
             },
             hint,
             cells,

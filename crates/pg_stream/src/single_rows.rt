@@ -6,7 +6,8 @@ ghost use Rattle.pg_layout.specs.Records.{AlwaysGives};
 ghost use Rattle.pg_layout.specs.Position.{at};
 ghost use Rattle.pg_layout.specs.Text.{Text};
 ghost use Rattle.pg_picture.specs.Appending.{Appends};
-ghost use Rattle.pg_picture.specs.Pieces.{written};
+ghost use Rattle.pg_picture.specs.Cells.{style_of};
+ghost use Rattle.pg_picture.specs.Pieces.{written, style_at, block_line};
 ghost use Rattle.pg_stream.specs.Conditions.{HasRoom, HaveRoom};
 ghost use Rattle.pg_stream.specs.Drawing.{line_at};
 ghost use Rattle.pg_stream.specs.Frames.{frame_table};
@@ -83,8 +84,28 @@ impl<'a, D: Dimension, C: Colors, B: Allocator> Frame<'a, D, C, B> {
     {
         let pos = Position::new(row, column);
         self.push_vertical(buf, pos, 0)?;
-        let style = CellStyle::of(self.config, pos);
-        let width = self.dimension.get_width(column);
-        push_single_line(buf, &style, self.colors.get_color(pos), text, width)
+        match &self.all {
+            Some(style) => self.push_single_text(buf, style, text, pos),
+            None => self.push_single_text(buf, &CellStyle::of(self.config, pos), text, pos),
+        }
+    }
+
+    // The one line of a cell at this place, which has this style.
+    #[inline(always)]
+    fn push_single_text<W: Allocator>(
+        &self,
+        buf: &mut String<W>,
+        style: &CellStyle<'_, B>,
+        text: &str,
+        pos: Position,
+    ) -> Result<(), AllocError>
+        requires style { style_of style.now ≡ style_at self.now.config.now pos }
+        requires alone { (frame_table D.width D.height C.color self.now).config.spans ≡ [] }
+        requires height { (frame_table D.width D.height C.color self.now).height pos.row ≡ 1 }
+        requires room { HasRoom (frame_table D.width D.height C.color self.now) pos text.now }
+        ensures { Appends buf.old buf.new result (written (block_line (style_at self.now.config.now pos) (C.color self.now.colors.now pos) text.now (D.width self.now.dimension.now pos.col) 1 0)) }
+    {
+        let width = self.dimension.get_width(pos.col);
+        push_single_line(buf, style, self.colors.get_color(pos), text, width)
     }
 }

@@ -1,9 +1,9 @@
-use Rattle.std.proofs.Common.{refl}
-use Rattle.pg_picture.specs.Cells.{style_of}
+use Rattle.std.proofs.Common.{refl, ap}
+use Rattle.pg_layout.specs.declared.position.Position.{Position}
 use Rattle.pg_picture.specs.Pieces.{block_line, style_at, written}
 use Rattle.pg_picture.proofs.Appending.{◌then◌, stopped, Appends-text}
 use Rattle.pg_stream.specs.Frames.{frame_table}
-use Rattle.pg_stream.proofs.SingleCells.{part-text, part-room}
+use Rattle.pg_stream.proofs.SingleCells.{part-text}
 use Rattle.pg_stream.proofs.frame.Frame.push_single_cell.Goals as goal
 
 pub returns-in_err-push_vertical : goal.returns-in_err-push_vertical
@@ -13,18 +13,16 @@ returns-in_err-push_vertical g c =
     Appends-text (part-text t c.args.row c.args.column p (style_at t.config p) (t.color p) (t.width c.args.column) c.args.text.now c.new-pos.ensures refl refl refl)
     (stopped (written (block_line (style_at t.config p) (t.color p) c.args.text.now (t.width c.args.column) 1 0)) c.from_residual.ensures.0 c.in_err-push_vertical.ensures)
 
-pub push_single_line-requires-clause-width : goal.push_single_line-requires-clause-width
-push_single_line-requires-clause-width g c =
+pub returns-in-Some : goal.returns-in-Some
+returns-in-Some g c =
     let t = frame_table g.D.Dimension.width g.D.Dimension.height g.C.Colors.color c.args.self.now in
-    (part-room t c.args.row c.requires.alone c.requires.height c.args.column c.new-pos.result (style_of c.of-style.result) c.get_width-width.result c.args.text.now c.new-pos.ensures c.of-style.ensures c.get_width-width.ensures c.requires.room).0
+    let p = c.new-pos.result in
+    Appends-text (part-text t c.args.row c.args.column p (style_at t.config p) (t.color p) (t.width p.col) c.args.text.now c.new-pos.ensures refl refl (ap (λ (q : Position). t.width q.col) c.new-pos.ensures))
+    (c.in_ok-push_vertical.ensures then c.push_single_text.ensures)
 
-pub push_single_line-requires-clause-height : goal.push_single_line-requires-clause-height
-push_single_line-requires-clause-height g c =
+pub returns-in-None : goal.returns-in-None
+returns-in-None g c =
     let t = frame_table g.D.Dimension.width g.D.Dimension.height g.C.Colors.color c.args.self.now in
-    (part-room t c.args.row c.requires.alone c.requires.height c.args.column c.new-pos.result (style_of c.of-style.result) c.get_width-width.result c.args.text.now c.new-pos.ensures c.of-style.ensures c.get_width-width.ensures c.requires.room).1
-
-pub returns : goal.returns
-returns g c =
-    let t = frame_table g.D.Dimension.width g.D.Dimension.height g.C.Colors.color c.args.self.now in
-    Appends-text (part-text t c.args.row c.args.column c.new-pos.result (style_of c.of-style.result) _ c.get_width-width.result c.args.text.now c.new-pos.ensures c.of-style.ensures c.get_color.ensures c.get_width-width.ensures)
-    (c.in_ok-push_vertical.ensures then c.push_single_line.ensures)
+    let p = c.new-pos.result in
+    Appends-text (part-text t c.args.row c.args.column p (style_at t.config p) (t.color p) (t.width p.col) c.args.text.now c.new-pos.ensures refl refl (ap (λ (q : Position). t.width q.col) c.new-pos.ensures))
+    (c.in_ok-push_vertical.ensures then c.push_single_text-in-None.ensures)
