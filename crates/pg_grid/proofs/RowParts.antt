@@ -1,5 +1,5 @@
 -- What a column adds to a line of a row.
-use Rattle.std.proofs.Common.{◌≡◌, ℕ, ◌+◌, ◌-◌, ◌<◌, true, List, [], ◌++◌, flat_map, sym, ap, ap₂, ◌∙◌, zero-add, Some, None, ◌≤◌, arith, subst}
+use Rattle.std.proofs.Common.{◌≡◌, ℕ, ◌+◌, ◌-◌, ◌<◌, true, List, [], ◌++◌, flat_map, sym, ap, ap₂, ◌∙◌, zero-add, Some, None, arith}
 use Rattle.std.specs.List.{range_with_len}
 use Rattle.pg_layout.specs.declared.position.Position.{Position}
 use Rattle.pg_layout.specs.Position.{at}
@@ -14,7 +14,8 @@ use Rattle.pg_picture.proofs.PiecesOfLines.{written-append}
 use Rattle.pg_picture.proofs.Ranges.{range-more, range-cut}
 use Rattle.pg_picture.specs.Laws.{cell_line}
 use Rattle.pg_picture.proofs.PlainTables.{row_part_plain}
-use Rattle.pg_picture.proofs.OwnersOfPlaces.{InOrder, owner_alone, owner_found, size_alone, step, step_positive, step_inside, next_left}
+use Rattle.pg_picture.proofs.OwnersOfPlaces.{InOrder, owner_alone, owner_found, size_alone}
+use Rattle.pg_picture.proofs.LeftColumns.{step-some}
 use Rattle.pg_picture.proofs.WalksOfRows.{walk_step, row_part_end, row_part_left, row_part_inner}
 use Rattle.pg_picture.proofs.DrawnRectangles.{single_line, single_room}
 
@@ -82,18 +83,7 @@ written-walk : (f : ℕ → List Piece) (x w : ℕ) → 0 < w → ((y : ℕ) →
 written-walk f x w some quiet = ap written (walk_step f x w some quiet) ∙ written-append (flat_map f (range_with_len 0 x)) (f x)
 
 -- a step along a row, from a left column to the next one
-module _ (t : Table) (order : InOrder t.config.spans t.rows t.columns) (r x w : ℕ) (is : w ≡ columns_or_one (left_span t.config.spans r x)) (left : is_left t.config.spans r x ≡ true) (here : x < t.columns) where
-  step_is : w ≡ step t.config.spans t.rows t.columns order r x
-  step_is = is
-
-  pub step-some : 0 < w
-  step-some = omega (arith, step_positive t.config.spans t.rows t.columns order r x, step_is)
-
-  pub step-inside : x + w ≤ t.columns
-  step-inside = omega (arith, step_inside t.config.spans t.rows t.columns order r x here, step_is)
-
-  pub step-left : is_left t.config.spans r (x + w) ≡ true
-  step-left = subst (λ (k : ℕ). is_left t.config.spans r (x + k) ≡ true) (sym step_is) (next_left t.config.spans t.rows t.columns order r x left)
-
-  pub step-text : (i : ℕ) → written (flat_map (row_part t r i) (range_with_len 0 (x + w))) ≡ written (flat_map (row_part t r i) (range_with_len 0 x)) ++ written (row_part t r i x)
-  step-text i = written-walk (row_part t r i) x w step-some (λ y h k. row_part_inner t order r i x y left here h (omega (arith, k, step_is)))
+pub step-text : (t : Table) (order : InOrder t.config.spans t.rows t.columns) (r x w : ℕ) → w ≡ columns_or_one (left_span t.config.spans r x) → is_left t.config.spans r x ≡ true → x < t.columns → (i : ℕ)
+    → written (flat_map (row_part t r i) (range_with_len 0 (x + w))) ≡ written (flat_map (row_part t r i) (range_with_len 0 x)) ++ written (row_part t r i x)
+step-text t order r x w is left here i =
+    written-walk (row_part t r i) x w (step-some t.config.spans t.rows t.columns order r x w is left here) (λ y h k. row_part_inner t order r i x y left here h (omega (arith, k, is)))

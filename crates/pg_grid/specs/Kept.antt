@@ -1,5 +1,5 @@
 -- What is kept of cells from one of their lines to the next, and that it is right.
-use Rattle.std.specs.Prelude.{◌≡◌, ℕ, ◌-◌, ◌≤◌, ◌<◌, IfSome, slice_index_or, take, None}
+use Rattle.std.specs.Prelude.{◌≡◌, ℕ, ◌-◌, ◌≤◌, ◌<◌, IfSome, slice_index_or, None}
 use Rattle.pg_layout.specs.declared.position.Position.{Position}
 use Rattle.pg_layout.specs.LineCursor.{StandsIn, line_number}
 use Rattle.pg_layout.specs.Text.{Text}
@@ -12,7 +12,6 @@ use Rattle.pg_grid.specs.declared.peekable.kept.Reading.{Reading}
 use Rattle.pg_grid.specs.declared.peekable.kept.KeptCell.{KeptCell}
 use Rattle.pg_grid.specs.declared.peekable.kept.KeptRectangle.{KeptRectangle}
 use Rattle.pg_grid.specs.declared.peekable.kept.KeptCells.{KeptCells}
-use Rattle.pg_grid.specs.declared.peekable.kept_text.KeptText.{KeptText}
 
 -- the text is read up to the line of this number
 pub record Reads (reading : Reading) (text : Text) : Type 0 where
@@ -38,10 +37,6 @@ pub record IsRectangle (t : Table) (kept : KeptRectangle) : Type 0 where
 abbrev pub IsKept : Table → KeptCell → Type 0
 IsKept t cell = IsReading t cell.corner cell.width cell.height cell.reading
 
--- the text that is kept
-abbrev pub kept_text : KeptText → Text
-kept_text kept = take kept.len kept.bytes
-
 -- the text is that of each separator between two rows
 abbrev pub IsSeparator : Table → Text → Type 0
 IsSeparator t text = (r : ℕ) → 0 < r → r < t.rows → text ≡ separator_text (separator_items t r)
@@ -50,4 +45,4 @@ IsSeparator t text = (r : ℕ) → 0 < r → r < t.rows → text ≡ separator_t
 pub record AreKept (t : Table) (kept : KeptCells) : Type 0 where
   pub cells : (x : ℕ) → IfSome (slice_index_or kept.cells x None) (IsKept t)
   pub rectangles : (x : ℕ) → IfSome (slice_index_or kept.rectangles x None) (IsRectangle t)
-  pub separator : IfSome kept.separator (λ text. IsSeparator t (kept_text text))
+  pub separator : IfSome kept.separator (λ text. IsSeparator t text)

@@ -1,23 +1,23 @@
 -- What is drawn of a rectangle in a table that fits: its owner, its size, and the places of its lines.
-use Rattle.std.proofs.Common.{◌≡◌, ℕ, suc, ◌+◌, ◌-◌, ◌^◌, ◌<◌, ◌≤◌, Bool, true, cond, ◌&&◌, ◌==◌, nat_lt, nat_le, List, [], ◌++◌, map, length, sum_by, count_by, refl, sym, ap, ap₂, ◌∙◌, arith, subst, Some, None, append-nil}
+use Rattle.std.proofs.Common.{◌≡◌, ℕ, ◌+◌, ◌-◌, ◌^◌, ◌<◌, ◌≤◌, true, cond, List, map, length, refl, sym, ap, ◌∙◌, arith, subst, Some, append-nil}
 use Rattle.std.specs.List.{range_with_len}
 use Rattle.std.proofs.lemmas.List.FromFn.{length-map-range_with_len}
 use Rattle.std.proofs.lemmas.Bool.Decides.{nat_tests}
 use Rattle.pg_layout.specs.declared.position.Position.{Position}
 use Rattle.pg_layout.specs.Position.{at, is_at}
 use Rattle.pg_config.specs.Config.{has_horizontal, count_horizontal}
-use Rattle.pg_config.specs.Spans.{Span, corner, in_span, owner, is_left, left_span, size_of, rect_rows, rect_columns}
-use Rattle.pg_picture.specs.Marks.{Mark, sep, line, marks_within, place_of}
+use Rattle.pg_config.specs.Spans.{Span, corner, in_span, owner, left_span, size_of, rect_rows, rect_columns}
+use Rattle.pg_picture.specs.Marks.{Mark, sep, line, place_of}
 use Rattle.pg_picture.specs.Pieces.{style_at, block_line}
 use Rattle.pg_picture.specs.Table.{Table, rect_marks, rect_height, rect_width, block_at}
-use Rattle.pg_picture.specs.Fits.{body_height, totals_fit, cell_fits, owner_fits}
+use Rattle.pg_picture.specs.Fits.{body_height, totals_fit, cell_fits}
 use Rattle.pg_picture.specs.FitLaws.{TableFits}
 use Rattle.pg_picture.specs.Rectangles.{IsOwner, rows_height}
 use Rattle.pg_picture.proofs.MarksOfRectangles.{marks_within-run, run_of, row_lines, rows_from}
 use Rattle.pg_picture.proofs.FittingTables.{RectInside, rect_inside, totals_facts, owner_fits-own}
 use Rattle.pg_picture.proofs.SumsOfSizes.{sum_by-part_le}
 use Rattle.pg_picture.proofs.PlacesInRectangles.{place-of_line, place-of_sep, line-within, sep-within}
-use Rattle.pg_picture.proofs.OwnersOfPlaces.{InOrder, Found, left_sound, room_among, owner_is, owner_found, owner_alone, size_of_corner, size_alone}
+use Rattle.pg_picture.proofs.OwnersOfPlaces.{InOrder, Found, left_sound, room_among, owner_is, size_of_corner}
 
 module _ (t : Table) where
   pub rect_of : (order : InOrder t.config.spans t.rows t.columns) (p : Position) → IsOwner t p → RectInside t.config.spans t.rows t.columns p

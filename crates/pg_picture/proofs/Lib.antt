@@ -23,6 +23,7 @@ pub mod HeightsOfRectangles
 pub mod FittingTables
 pub mod SpansByPlaces
 pub mod OwnersOfPlaces
+pub mod LeftColumns
 pub mod WalksOfRows
 pub mod Owners
 pub mod PlacesInRectangles

@@ -1,5 +1,5 @@
 -- Where rectangles share no place, each place has one owner, which owns each place of its rectangle.
-use Rattle.std.proofs.Common.{◌≡◌, ℕ, zero, suc, ◌+◌, ◌<◌, ◌≤◌, Bool, true, false, ◌&&◌, List, [], ◌∷◌, map, find, refl, sym, ap, ◌∙◌, arith, Option, Some, None, unwrap_or, ◌⊎◌, inl, inr, subst}
+use Rattle.std.proofs.Common.{◌≡◌, ℕ, ◌+◌, ◌<◌, ◌≤◌, Bool, true, false, List, [], ◌∷◌, find, refl, sym, ap, ◌∙◌, arith, Option, Some, None, unwrap_or, ◌⊎◌, inl, inr, subst}
 use Rattle.std.specs.List.{list_all}
 use Rattle.std.proofs.lemmas.Bool.{cases_Bool, and_parts, false≢true}
 use Rattle.std.proofs.lemmas.Bool.Decides.{nat_tests}

@@ -1,11 +1,10 @@
 -- Where rectangles share no place, each place has one owner, and one search finds it at the left columns of a row.
-use Rattle.std.proofs.Common.{◌≡◌, ℕ, zero, suc, ◌+◌, ◌-◌, ◌<◌, ◌≤◌, Bool, true, false, ◌&&◌, ◌==◌, nat_lt, List, [], ◌∷◌, ◌++◌, flat_map, find, refl, sym, ap, ◌∙◌, arith, subst, Option, Some, None, unwrap_or, is_some, ◌⊎◌, inl, inr, append-nil, zero-add, if◌then◌else◌}
-use Rattle.std.specs.List.{range_with_len, list_all}
+use Rattle.std.proofs.Common.{◌≡◌, ℕ, ◌+◌, ◌-◌, ◌<◌, ◌≤◌, Bool, true, false, ◌&&◌, ◌==◌, nat_lt, List, [], ◌∷◌, find, refl, sym, ap, ◌∙◌, arith, subst, Option, Some, None, unwrap_or, is_some, ◌⊎◌, inl, inr}
+use Rattle.std.specs.List.{list_all}
 use Rattle.std.proofs.lemmas.Bool.{cases_Bool, false≢true, and_parts}
 use Rattle.std.proofs.lemmas.Bool.Decides.{nat_tests}
-use Rattle.std.proofs.lemmas.List.Concat.{flat_map-append}
 use Rattle.pg_layout.specs.declared.position.Position.{Position}
-use Rattle.pg_layout.specs.Position.{at, is_at}
+use Rattle.pg_layout.specs.Position.{at}
 use Rattle.pg_layout.specs.Places.{Key, same, before, comes, value_at, last_up_to, Each, IsAscending}
 use Rattle.pg_layout.proofs.PlacesOrder.{before-comes}
 use Rattle.pg_config.specs.Spans.{Span, StandAtPlaces, corner, in_span, owner, is_left, begins_above, same_owner, left_span, size_of, span_key}

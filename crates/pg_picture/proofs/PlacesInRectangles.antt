@@ -1,24 +1,18 @@
 -- Where a line of the body stands in a rectangle that it goes through: below the rectangle's rows above it and the separators
 -- between them.
-use Rattle.std.proofs.Common.{◌≡◌, ℕ, zero, suc, ◌+◌, ◌-◌, ◌<◌, ◌≤◌, Bool, true, false, cond, ◌&&◌, ◌==◌, nat_lt, nat_le, List, [], ◌∷◌, ◌++◌, map, length, filter, sum_by, count_by, refl, sym, ap, ap₂, ◌∙◌, append_assoc, arith, add-zero, zero-add, subst, length-append, inl, inr, ◌⊎◌}
-use Rattle.std.specs.List.{range_with_len, position_or_len}
-use Rattle.std.proofs.lemmas.List.{map-append}
+use Rattle.std.proofs.Common.{◌≡◌, ℕ, zero, suc, ◌+◌, ◌-◌, ◌<◌, ◌≤◌, Bool, true, false, cond, List, ◌∷◌, ◌++◌, map, length, filter, sum_by, count_by, refl, sym, ap, ◌∙◌, append_assoc, arith, subst, length-append}
+use Rattle.std.specs.List.{range_with_len}
 use Rattle.std.proofs.lemmas.List.Elements.{filter-append}
 use Rattle.std.proofs.lemmas.List.FromFn.{length-map-range_with_len}
 use Rattle.std.proofs.lemmas.List.Sums.{sum_by-cons}
 use Rattle.std.proofs.lemmas.Bool.Decides.{nat_tests}
-use Rattle.pg_layout.specs.declared.position.Position.{Position}
-use Rattle.pg_config.specs.Config.{Config, has_horizontal, count_horizontal}
-use Rattle.pg_config.specs.Spans.{rect_rows}
+use Rattle.pg_config.specs.Config.{Config, has_horizontal}
 use Rattle.pg_picture.specs.Marks.{Mark, sep, line, same_mark, only_if, marks_of_row, marks_above, body, stands_within, marks_within, place_of}
-use Rattle.pg_picture.specs.Table.{Table, rect_marks, rect_height}
-use Rattle.pg_picture.specs.Fits.{body_height, totals_fit}
 use Rattle.pg_picture.proofs.MarksOfRectangles.{NonePasses, index_in_filter, rows_from, marks_above-add, filter_lines, filter_sep, above_first, above_inside, run_of, row_lines}
-use Rattle.pg_picture.proofs.PlacesOfMarks.{NonePasses-append, none_sep, none_lines, sep_lines, before_line, place_of_line, split_at_line, after_line}
+use Rattle.pg_picture.proofs.PlacesOfMarks.{NonePasses-append, none_sep, sep_lines, before_line, place_of_line, split_at_line, after_line}
 use Rattle.pg_picture.proofs.HeightsOfRectangles.{length-rows_from}
 use Rattle.pg_picture.proofs.BodyLines.{sep-stays}
-use Rattle.pg_picture.proofs.SumsOfSizes.{sum_by-part_le, sum_by-from_more}
-use Rattle.pg_picture.proofs.FittingTables.{totals_facts}
+use Rattle.pg_picture.proofs.SumsOfSizes.{sum_by-from_more}
 
 -- how many lines k rows from a on have, with the separator below each
 abbrev rows_high : Config → (ℕ → ℕ) → ℕ → ℕ → ℕ → ℕ

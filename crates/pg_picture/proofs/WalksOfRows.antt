@@ -1,20 +1,20 @@
 -- Walks along a row, from rectangle to rectangle: what a column adds to a line of the row, or to the separator above it,
 -- is all at the left columns of rectangles.
-use Rattle.std.proofs.Common.{◌≡◌, ℕ, zero, suc, ◌+◌, ◌-◌, ◌<◌, ◌≤◌, Bool, true, false, not, ◌&&◌, ◌||◌, ◌==◌, nat_lt, List, [], ◌∷◌, ◌++◌, flat_map, find, refl, sym, ap, ap₂, ◌∙◌, arith, subst, Option, Some, None, is_some, unwrap_or, ◌⊎◌, inl, inr, append-nil, zero-add, if◌then◌else◌}
+use Rattle.std.proofs.Common.{◌≡◌, ℕ, zero, suc, ◌+◌, ◌<◌, ◌≤◌, Bool, true, false, not, ◌||◌, ◌==◌, nat_lt, List, [], ◌∷◌, ◌++◌, flat_map, find, refl, sym, ap, ap₂, ◌∙◌, arith, subst, Option, Some, None, is_some, unwrap_or, inl, inr, append-nil, zero-add}
 use Rattle.std.specs.List.{range_with_len}
-use Rattle.std.proofs.lemmas.Bool.{cases_Bool, false≢true, and_from}
+use Rattle.std.proofs.lemmas.Bool.{cases_Bool, false≢true}
 use Rattle.std.proofs.lemmas.Bool.Decides.{nat_tests}
 use Rattle.std.proofs.lemmas.List.Concat.{flat_map-append}
 use Rattle.pg_layout.specs.declared.position.Position.{Position}
 use Rattle.pg_layout.specs.Position.{at}
 use Rattle.pg_config.specs.Config.{get_horizontal}
-use Rattle.pg_config.specs.Spans.{Span, corner, in_span, owner, is_left, begins_above, same_owner, left_span, span_above}
+use Rattle.pg_config.specs.Spans.{Span, corner, in_span, owner, is_left, begins_above, left_span, span_above}
 use Rattle.pg_picture.specs.Marks.{sep, line}
 use Rattle.pg_picture.specs.Pieces.{Item, block}
 use Rattle.pg_picture.specs.Table.{Table, block_at, row_part, vertical, is_inside, is_covered, crossing, crossing_at, column_items, horizontal_items, separator_part}
 use Rattle.pg_picture.specs.Rectangles.{columns_or_one}
 use Rattle.pg_picture.proofs.Ranges.{range-add}
-use Rattle.pg_picture.proofs.OwnersOfPlaces.{InOrder, step, step_positive, step_inside, first_left, next_left, not_inside, inner, Inner, owner_found, owner_alone, option_cases, left_sound, room_among, Found, Among, find_cases, owner_is}
+use Rattle.pg_picture.proofs.OwnersOfPlaces.{InOrder, step, step_positive, step_inside, first_left, next_left, not_inside, inner, owner_found, owner_alone, option_cases, left_sound, room_among, Among, find_cases, owner_is}
 
 -- ---- parts that are silent
 

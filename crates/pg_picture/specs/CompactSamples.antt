@@ -1,5 +1,5 @@
 -- Compact tables for worked examples.
-use Rattle.std.specs.Prelude.{ℕ, List, [], slice_index_or, None}
+use Rattle.std.specs.Prelude.{ℕ, List, slice_index_or, None}
 use Rattle.pg_layout.specs.Colors.{Color}
 use Rattle.pg_layout.specs.Text.{Text}
 use Rattle.pg_config.specs.CompactConfig.{CompactSettings, empty_color, default_compact}

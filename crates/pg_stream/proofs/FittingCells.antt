@@ -1,20 +1,18 @@
--- Which cells of a row need room of their own, and how a walk from left column to left column meets them all.
-use Rattle.std.proofs.Common.{◌≡◌, ℕ, ◌+◌, ◌^◌, ◌<◌, ◌≤◌, max, Bool, true, false, not, nat_lt, List, [], ◌∷◌, refl, sym, ap, ◌∙◌, arith, subst, Option, Some, None, SomeIff, is_some, inl, inr, if◌then◌else◌}
+-- Spans that fit the columns of a table fit some number of rows; and the room of a cell by the sizes that were asked.
+use Rattle.std.proofs.Common.{◌≡◌, ℕ, ◌+◌, ◌^◌, ◌<◌, ◌≤◌, max, true, nat_lt, List, [], ◌∷◌, refl, sym, ◌∙◌, arith, Option, Some, None, SomeIff, is_some, inl, inr, if◌then◌else◌}
 use Rattle.std.specs.List.{list_all}
-use Rattle.std.proofs.lemmas.Bool.{cases_Bool, cases_lt, false≢true, and_parts, ltb-true}
+use Rattle.std.proofs.lemmas.Bool.{cases_Bool, and_parts, ltb-true}
 use Rattle.std.proofs.lemmas.Bool.Decides.{nat_tests}
 use Rattle.pg_layout.specs.declared.position.Position.{Position}
 use Rattle.pg_layout.specs.Places.{IsAscending}
-use Rattle.pg_layout.specs.Position.{is_at}
 use Rattle.pg_layout.specs.Text.{Text}
-use Rattle.pg_config.specs.Spans.{Span, StandAtPlaces, owner, rect_rows, is_left, left_span, if_above}
+use Rattle.pg_config.specs.Spans.{Span, StandAtPlaces, rect_rows}
 use Rattle.pg_picture.specs.Fits.{all_apart, span_fits, span_fits_columns, spans_fit, spans_fit_columns, cell_fits}
 use Rattle.pg_picture.specs.Pieces.{style_at}
-use Rattle.pg_picture.specs.Rectangles.{columns_or_one}
 use Rattle.pg_picture.specs.Sizes.{if_fits, sized, height_of_rect}
 use Rattle.pg_picture.specs.Table.{Table, rect_width}
 use Rattle.pg_picture.proofs.FittingTables.{some_is, none_is}
-use Rattle.pg_picture.proofs.OwnersOfPlaces.{InOrder, option_cases, left_sound, owner_found, owner_alone, first_left, step_positive, step_inside, next_left, inner}
+use Rattle.pg_picture.proofs.OwnersOfPlaces.{InOrder}
 use Rattle.pg_stream.specs.Conditions.{HasRoom}
 use Rattle.pg_stream.proofs.CellsBegun.{width-some, height-some}
 
@@ -41,56 +39,6 @@ module _ (spans : List Span) (columns : ℕ) (ascending : IsAscending spans) (pl
   in_order =
       let parts = and_parts (list_all (span_fits_columns columns) spans) (all_apart spans) fit in
       record { ascending = ascending; places = places; fit = rw (fits_by (last_end spans) columns spans parts.0 (omega arith)) parts.1 }
-
-  pub left_first : (r : ℕ) → is_left spans r 0 ≡ true
-  left_first r = first_left spans (last_end spans) columns in_order r
-
-  own_left : (r x : ℕ) → is_left spans r x ≡ true → is_at (owner spans r x) r x ≡ not (is_some (if_above r (left_span spans r x)))
-  own_left r x left =
-      elim (option_cases (left_span spans r x)) [
-        | inl none ↦ rw (none, owner_alone spans (last_end spans) columns in_order r x left none) (grind (arith, nat_tests))
-        | inr some ↦
-            let f = left_sound spans (last_end spans) columns in_order r x some.0 some.1 in
-            elim (cases_Bool (nat_lt some.0.0.1 r)) [
-              | inl y ↦ rw (some.1, owner_found spans (last_end spans) columns in_order r x some.0 some.1, y) (grind (arith, nat_tests, y))
-              | inr n ↦ rw (some.1, owner_found spans (last_end spans) columns in_order r x some.0 some.1, n) (grind (arith, nat_tests, n, f.left, f.holds))
-            ]
-      ]
-
-  -- a left column owns itself, unless the rectangle that is found there begins above
-  pub own_unless : (r x : ℕ) (found : Option Span) (above b : Bool) → is_left spans r x ≡ true → found ≡ left_span spans r x → above ≡ is_some (if_above r found) → above ≡ b → is_at (owner spans r x) r x ≡ not b
-  own_unless r x found above b left is test here =
-      own_left r x left ∙ ap (λ (o : Option Span). not (is_some (if_above r o))) (sym is) ∙ ap not (sym test ∙ here)
-
-  -- ---- a step of the walk
-
-  module _ (r x w : ℕ) (is : w ≡ columns_or_one (left_span spans r x)) (left : is_left spans r x ≡ true) (here : x < columns) where
-    pub step-some : 0 < w
-    step-some = omega (arith, is, step_positive spans (last_end spans) columns in_order r x)
-
-    pub step-inside : x + w ≤ columns
-    step-inside = omega (arith, is, step_inside spans (last_end spans) columns in_order r x here)
-
-    pub step-left : is_left spans r (x + w) ≡ true
-    step-left = subst (λ (k : ℕ). is_left spans r (x + k) ≡ true) (sym is) (next_left spans (last_end spans) columns in_order r x left)
-
-    -- the places that it passes don't own themselves
-    step-other : (y : ℕ) → x < y → y < x + w → is_at (owner spans r y) r y ≡ false
-    unfolding is_left
-    step-other y h k =
-        let other = (inner spans (last_end spans) columns in_order r x y left h (omega (arith, k, is))).not_left in
-        grind (arith, nat_tests, other)
-
-    -- so where all owners before it have what they need, and it has, all owners before the next step have it
-    pub step-all : (P : ℕ → Type 0) → ((y : ℕ) → y < x → is_at (owner spans r y) r y ≡ true → P y) → (is_at (owner spans r x) r x ≡ true → P x) → (y : ℕ) → y < x + w → is_at (owner spans r y) r y ≡ true → P y
-    step-all P before now y h own =
-        elim (cases_lt y x) [
-          | inl l ↦ before y l own
-          | inr g ↦ elim (cases_lt x y) [
-            | inl l ↦ absurd (false≢true (sym (step-other y l h) ∙ own))
-            | inr k ↦ let same : x ≡ y = omega (arith, g, k) in subst P same (now (subst (λ (z : ℕ). is_at (owner spans r z) r z ≡ true) (sym same) own))
-          ]
-        ]
 
 -- ---- room by the sizes that were asked
 

@@ -1,11 +1,10 @@
 //! Whether a row may be printed next.
 
-ghost use Rattle.std.specs.Prelude.{◌≡◌, ◌+◌, ◌^◌, ◌<◌, ◌≤◌, ◌↔◌, ◌-◌, ◌==◌, true, false, nat_lt, map, length, is_some, IfSome, IsTrue};
+ghost use Rattle.std.specs.Prelude.{◌≡◌, ◌+◌, ◌^◌, ◌<◌, ◌≤◌, ◌↔◌, ◌-◌, ◌==◌, true, false, nat_lt, map, length, IfSome, IsTrue};
 ghost use Rattle.pg_layout.specs.Position.{is_at};
-ghost use Rattle.pg_config.specs.Spans.{owner, rect_rows, rect_columns, is_left, left_span, if_above};
+ghost use Rattle.pg_config.specs.Spans.{owner, rect_rows, rect_columns, is_left, left_span};
 ghost use Rattle.pg_picture.specs.Fits.{spans_fit, spans_fit_columns};
 ghost use Rattle.pg_picture.specs.Marks.{marks_of_row};
-ghost use Rattle.pg_picture.specs.Rectangles.{columns_or_one};
 ghost use Rattle.pg_stream.specs.Conditions.{HasRoom, HaveRoom, RowFits};
 ghost use Rattle.pg_stream.specs.Printers.{printing};
 ghost use Rattle.pg_stream.specs.Slots.{separator_height};
@@ -14,7 +13,9 @@ use crate::frame::Frame;
 use crate::row_printer::RowPrinter;
 use pg_config::{Span, SpannedConfig};
 use pg_layout::{Colors, Dimension, Position};
-use pg_picture::fits::{cell_fits, rect_height, rect_width, spans_fit};
+use pg_picture::fits::{
+    begins_above, cell_fits, columns_of, rect_height, rect_width, spans_fit,
+};
 use std::alloc::Allocator;
 use std::convert::AsStr;
 
@@ -145,25 +146,5 @@ impl<'a, D: Dimension, C: Colors, B: Allocator> Frame<'a, D, C, B> {
         ensures { result ≡ separator_height self.now.config.now row }
     {
         usize::from(self.config.has_horizontal(row, row + 1))
-    }
-}
-
-// Whether a search found a rectangle that begins above a row.
-fn begins_above(span: Option<Span>, row: usize) -> bool
-    ensures { result ≡ is_some (if_above row span) }
-{
-    match span {
-        Some(span) => span.0.1 < row,
-        None => false,
-    }
-}
-
-// How many columns a rectangle takes that a search found, and a cell where it found none.
-fn columns_of(span: Option<Span>) -> usize
-    ensures { result ≡ columns_or_one span }
-{
-    match span {
-        None => 1,
-        Some(span) => span.1.1,
     }
 }

@@ -8,7 +8,7 @@ ghost use Rattle.pg_picture.specs.Appending.{Appends};
 ghost use Rattle.pg_picture.specs.Pieces.{written, style_at, block_line, block, items_after, last_color};
 ghost use Rattle.pg_picture.specs.Marks.{sep, line};
 ghost use Rattle.pg_picture.specs.Table.{row_part, separator_part, vertical_at, block_at, rect_width, rect_height, crossing_at};
-ghost use Rattle.pg_picture.specs.Rectangles.{IsOwner, columns_or_one, rows_height};
+ghost use Rattle.pg_picture.specs.Rectangles.{IsOwner, rows_height};
 ghost use Rattle.pg_grid.specs.Kept.{AreKept, IsRectangle};
 ghost use Rattle.pg_grid.specs.Grids.{drawn, CanDraw, shape_of_table, starts};
 
@@ -16,7 +16,7 @@ use crate::peekable::kept::{KeptCells, KeptRectangle};
 use crate::peekable::{PeekableGrid, Shape};
 use pg_config::{Span, SpannedConfig};
 use pg_layout::{ANSIBuf, Colors, Dimension, ExactRecords, PeekableRecords, Position};
-use pg_picture::fits::{rect_height, rect_width};
+use pg_picture::fits::{columns_of, rect_height, rect_width};
 use pg_picture::{CellStyle, Run, push_vertical_at};
 use std::alloc::{AllocError, Allocator};
 
@@ -294,16 +294,6 @@ where
         } = rectangle;
         let style = CellStyle::of(self.config, corner);
         self.push_cell(buf, kept, &style, corner, width, height, number)
-    }
-}
-
-// How many columns a rectangle takes that a search found, and a cell where it found none.
-fn columns_of(span: Option<Span>) -> usize
-    ensures { result ≡ columns_or_one span }
-{
-    match span {
-        None => 1,
-        Some(span) => span.1.1,
     }
 }
 

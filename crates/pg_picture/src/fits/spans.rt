@@ -1,7 +1,10 @@
 //! Whether the rectangles of cells with a span fit a table.
 
-ghost use Rattle.std.specs.Prelude.{◌≡◌, ◌+◌, nat_le};
+ghost use Rattle.std.specs.Prelude.{◌≡◌, ◌+◌, ◌∷◌, nat_le, is_some};
 ghost use Rattle.std.specs.List.{list_all};
+ghost use Rattle.pg_layout.specs.Places.{IsAscending};
+ghost use Rattle.pg_config.specs.Spans.{if_above};
+ghost use Rattle.pg_picture.specs.Rectangles.{columns_or_one};
 ghost use Rattle.pg_picture.specs.Fits.{are_apart, all_apart, span_fits, span_fits_columns, spans_fit, spans_fit_columns};
 
 use pg_config::{Span, SpannedConfig};
@@ -62,6 +65,7 @@ fn ends_within(first: usize, count: usize, last: usize) -> bool
 
 // Whether no place lies in two of the rectangles.
 fn all_apart(spans: &[Span]) -> bool
+    requires { IsAscending spans.now }
     ensures { result ≡ all_apart spans.now }
 {
     for (index, span) in spans.iter().enumerate() {
@@ -72,10 +76,21 @@ fn all_apart(spans: &[Span]) -> bool
     true
 }
 
+// The same of one rectangle and those that follow it. It is apart from all that begin right of it, and
+// these are the last ones.
 fn is_apart(span: Span, others: &[Span]) -> bool
+    requires { IsAscending (span ∷ others.now) }
     ensures { result ≡ list_all (are_apart span) others.now }
 {
-    others.iter().all(|other| are_apart(span, *other))
+    for other in others {
+        if ends_within(span.0.0, span.1.1, other.0.0) {
+            return true;
+        }
+        if !are_apart(span, *other) {
+            return false;
+        }
+    }
+    true
 }
 
 // Whether one of the rectangles ends above or left of the other.
@@ -86,4 +101,29 @@ fn are_apart(span: Span, other: Span) -> bool
         || ends_within(other.0.1, other.1.0, span.0.1)
         || ends_within(span.0.0, span.1.1, other.0.0)
         || ends_within(other.0.0, other.1.1, span.0.0)
+}
+
+/// How many columns the rectangle has that a search found ([`SpannedConfig::left_span`]), and a cell
+/// where it found none.
+///
+/// Takes no memory.
+pub fn columns_of(span: Option<Span>) -> usize
+    ensures { result ≡ columns_or_one span }
+{
+    match span {
+        None => 1,
+        Some(span) => span.1.1,
+    }
+}
+
+/// Whether a search found a rectangle that begins above a row.
+///
+/// Takes no memory.
+pub fn begins_above(span: Option<Span>, row: usize) -> bool
+    ensures { result ≡ is_some (if_above row span) }
+{
+    match span {
+        Some(span) => span.0.1 < row,
+        None => false,
+    }
 }

@@ -1,16 +1,17 @@
 //! The conditions of a whole table.
 
-ghost use Rattle.std.specs.Prelude.{◌≡◌, ◌<◌, true, length, find, option_map};
+ghost use Rattle.std.specs.Prelude.{◌≡◌, ◌<◌, true, length};
 ghost use Rattle.pg_layout.specs.Records.{text_at};
-ghost use Rattle.pg_layout.specs.Position.{at, is_at};
-ghost use Rattle.pg_config.specs.Spans.{owner, in_span};
-ghost use Rattle.pg_picture.specs.Fits.{spans_fit, totals_fit, owner_fits, misfit_of};
+ghost use Rattle.pg_config.specs.Spans.{is_left, left_span};
+ghost use Rattle.pg_picture.specs.Fits.{spans_fit, totals_fit, cell_fits, owner_fits, misfit_of};
+ghost use Rattle.pg_picture.specs.Pieces.{style_at};
 ghost use Rattle.pg_picture.specs.Sizes.{table_of, unless_misfit, first_misfit, row_places, places_from};
+ghost use Rattle.pg_picture.specs.Table.{rect_width, rect_height};
 
 use crate::fits::Misfit;
 use crate::fits::rectangle::{rect_height, rect_width};
 use crate::fits::room::cell_fits;
-use crate::fits::spans::spans_fit;
+use crate::fits::spans::{begins_above, columns_of, spans_fit};
 use crate::fits::totals::totals_fit;
 use pg_config::{Span, SpannedConfig};
 use pg_layout::{Dimension, ExactRecords, PeekableRecords, Position, Records};
@@ -67,7 +68,7 @@ where
     None
 }
 
-// The first cell of a row without room.
+// The first cell of a row without room, from left column to left column.
 fn misfit_in_row<R, A, D>(
     records: &R,
     config: &SpannedConfig<A>,
@@ -83,17 +84,28 @@ where
     requires totals { totals_fit (table_of config.now (D.width dimension.now) (D.height dimension.now) (R.texts records.now) (R.columns records.now)) ≡ true }
     ensures { result ≡ first_misfit (table_of config.now (D.width dimension.now) (D.height dimension.now) (R.texts records.now) (R.columns records.now)) (row_places (R.columns records.now) row 0) }
 {
-    for column in 0..records.count_columns() {
-        if !owner_fits(records, config, dimension, Position::new(row, column)) {
+    let _spans = config.spans();
+    let columns = records.count_columns();
+    let mut column = 0;
+    while column < columns {
+        let pos = Position::new(row, column);
+        let span = config.left_span(pos);
+        if !owner_fits(records, config, dimension, pos, span) {
             return Some(Misfit::Room(row, column));
         }
+        column += columns_of(span);
     }
     None
 }
 
-// Whether a place has room, if it owns itself.
-#[tactic(auto, unfolding(crate::specs::Fits::owner_fits))]
-fn owner_fits<R, A, D>(records: &R, config: &SpannedConfig<A>, dimension: &D, pos: Position) -> bool
+// Whether a place in the left column of its owner has room, if it owns itself.
+fn owner_fits<R, A, D>(
+    records: &R,
+    config: &SpannedConfig<A>,
+    dimension: &D,
+    pos: Position,
+    span: Option<Span>,
+) -> bool
 where
     R: Records + PeekableRecords + ExactRecords,
     A: Allocator,
@@ -102,12 +114,26 @@ where
     requires column { pos.col < R.columns records.now }
     requires spans { spans_fit config.now.spans (length (R.texts records.now)) (R.columns records.now) ≡ true }
     requires totals { totals_fit (table_of config.now (D.width dimension.now) (D.height dimension.now) (R.texts records.now) (R.columns records.now)) ≡ true }
+    requires left { is_left config.now.spans pos.row pos.col ≡ true }
+    requires span { span ≡ left_span config.now.spans pos.row pos.col }
     ensures { result ≡ owner_fits (table_of config.now (D.width dimension.now) (D.height dimension.now) (R.texts records.now) (R.columns records.now)) pos }
 {
-    let owner = owner(config.spans(), pos);
-    if owner.row != pos.row || owner.col != pos.col {
-        return true;
-    }
+    let _spans = config.spans();
+    begins_above(span, pos.row) || has_room(records, config, dimension, pos)
+}
+
+// Whether the rectangle of a place has room for its text.
+fn has_room<R, A, D>(records: &R, config: &SpannedConfig<A>, dimension: &D, pos: Position) -> bool
+where
+    R: Records + PeekableRecords + ExactRecords,
+    A: Allocator,
+    D: Dimension,
+    requires row { pos.row < length (R.texts records.now) }
+    requires column { pos.col < R.columns records.now }
+    requires spans { spans_fit config.now.spans (length (R.texts records.now)) (R.columns records.now) ≡ true }
+    requires totals { totals_fit (table_of config.now (D.width dimension.now) (D.height dimension.now) (R.texts records.now) (R.columns records.now)) ≡ true }
+    ensures { result ≡ cell_fits (style_at config.now pos) (text_at (R.texts records.now) pos) (rect_width (table_of config.now (D.width dimension.now) (D.height dimension.now) (R.texts records.now) (R.columns records.now)) pos) (rect_height (table_of config.now (D.width dimension.now) (D.height dimension.now) (R.texts records.now) (R.columns records.now)) pos) }
+{
     let width = rect_width(config, dimension, pos, records.count_columns());
     let height = rect_height(config, dimension, pos);
     match (width, height) {
@@ -117,31 +143,4 @@ where
         // Rectangles inside a table are no larger than its totals.
         _ => false,
     }
-}
-
-// The owner of a place.
-#[tactic(auto, unfolding(pg_config::specs::Spans::owner))]
-fn owner(spans: &[Span], pos: Position) -> Position
-    ensures { result ≡ owner spans.now pos.row pos.col }
-{
-    match first_at(spans, pos) {
-        Some(span) => Position::new(span.0.1, span.0.0),
-        None => pos,
-    }
-}
-
-// The first rectangle that holds a place.
-fn first_at(spans: &[Span], pos: Position) -> Option<&Span>
-    ensures { option_map (λ x. x.now) result ≡ find (in_span pos.row pos.col) spans.now }
-{
-    spans.iter().find(|span| in_span(pos, **span))
-}
-
-fn in_span(pos: Position, span: Span) -> bool
-    ensures { result ≡ in_span pos.row pos.col span }
-{
-    span.0.1 <= pos.row
-        && pos.row - span.0.1 < span.1.0
-        && span.0.0 <= pos.col
-        && pos.col - span.0.0 < span.1.1
 }

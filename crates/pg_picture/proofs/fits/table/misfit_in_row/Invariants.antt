@@ -1,9 +1,17 @@
-use Rattle.std.proofs.Common.{◌≡◌}
+use Rattle.std.proofs.Common.{◌≡◌, ◌≤◌, ◌-◌, true}
+use Rattle.pg_config.specs.Spans.{is_left}
 use Rattle.pg_picture.specs.Sizes.{table_of, first_misfit, row_places}
 use Rattle.pg_picture.proofs.fits.table.misfit_in_row.Given as goal
 
--- the cells so far have room
+-- the places so far have room, and the next one is in its owner's left column
 abbrev pub invariant-loop-column : goal.invariant-loop-column
 invariant-loop-column g l =
-    first_misfit (table_of l.config (g.D.Dimension.width l.dimension) (g.D.Dimension.height l.dimension) (g.R.Records.texts l.records) (g.R.Records.columns l.records)) (row_places (g.R.Records.columns l.records) l.row 0)
-    ≡ first_misfit (table_of l.config (g.D.Dimension.width l.dimension) (g.D.Dimension.height l.dimension) (g.R.Records.texts l.records) (g.R.Records.columns l.records)) (row_places (g.R.Records.columns l.records) l.row l.column)
+    let t = table_of l.config (g.D.Dimension.width l.dimension) (g.D.Dimension.height l.dimension) (g.R.Records.texts l.records) (g.R.Records.columns l.records) in
+    record {
+      room : first_misfit t (row_places t.columns l.row 0) ≡ first_misfit t (row_places t.columns l.row l.column);
+      left : is_left t.config.spans l.row l.column ≡ true;
+      inside : l.column ≤ t.columns;
+    }
+
+abbrev pub decreases-loop-column : goal.decreases-loop-column
+decreases-loop-column g l = g.R.Records.columns l.records - l.column

@@ -1,54 +1,24 @@
-use Rattle.std.proofs.Common.{◌≡◌, ◌+◌, ◌^◌, nat_lt, List, None, if◌then◌else◌, length, refl, sym, ap, ◌∙◌, arith}
-use Rattle.pg_config.specs.Spans.{Span, rect_rows, owner}
-use Rattle.pg_picture.specs.Table.{rect_width, rect_height}
-use Rattle.pg_picture.specs.Fits.{cell_fits}
-use Rattle.pg_picture.specs.Pieces.{style_at}
-use Rattle.pg_layout.specs.Records.{text_at}
-use Rattle.std.proofs.lemmas.Bool.Decides.{nat_tests}
-use Rattle.pg_picture.specs.Sizes.{table_of, sized, if_fits, height_of_rect}
-use Rattle.pg_picture.proofs.FittingTables.{rect_inside, width_answer, height_answer, owner_fits-own, own_from, some_is, none_is}
+use Rattle.std.proofs.Common.{true, false, length, sym, ◌∙◌}
+use Rattle.pg_picture.specs.Sizes.{table_of}
+use Rattle.pg_picture.proofs.FittingTables.{owner_fits-own}
+use Rattle.pg_picture.proofs.LeftColumns.{own_unless, owner_fits-other}
+use Rattle.pg_picture.proofs.OwnersOfPlaces.{InOrder}
 use Rattle.pg_picture.proofs.fits.table.owner_fits.Goals as goal
 
-pub rect_width-width-requires-clause-some : goal.rect_width-width-requires-clause-some
-rect_width-width-requires-clause-some g c = (rect_inside c.args.config.now.spans (length (g.R.Records.texts c.args.records.now)) (g.R.Records.columns c.args.records.now) c.args.pos c.requires.spans c.requires.row c.requires.column).some_columns
+pub returns-then-begins_above : goal.returns-then-begins_above
+returns-then-begins_above g c =
+    let spans = c.args.config.now.spans in
+    let rows = length (g.R.Records.texts c.args.records.now) in
+    let columns = g.R.Records.columns c.args.records.now in
+    let order : InOrder spans rows columns = record { ascending = c.spans-spans.ensures.ascending; places = c.spans-spans.ensures.places; fit = c.requires.spans } in
+    let other = own_unless spans rows columns order c.args.pos.row c.args.pos.col c.args.span c.begins_above.result true c.requires.left c.requires.span c.begins_above.ensures c.if-begins_above.true in
+    c.if-begins_above.true ∙ sym (owner_fits-other (table_of c.args.config.now (g.D.Dimension.width c.args.dimension.now) (g.D.Dimension.height c.args.dimension.now) (g.R.Records.texts c.args.records.now) (g.R.Records.columns c.args.records.now)) c.args.pos.row c.args.pos.col other)
 
-pub rect_width-width-requires-clause-inside : goal.rect_width-width-requires-clause-inside
-rect_width-width-requires-clause-inside g c = omega (arith, (rect_inside c.args.config.now.spans (length (g.R.Records.texts c.args.records.now)) (g.R.Records.columns c.args.records.now) c.args.pos c.requires.spans c.requires.row c.requires.column).columns_end, c.count_columns.ensures.value)
-
-pub rect_height-height-requires : goal.rect_height-height-requires
-rect_height-height-requires g c = (rect_inside c.args.config.now.spans (length (g.R.Records.texts c.args.records.now)) (g.R.Records.columns c.args.records.now) c.args.pos c.requires.spans c.requires.row c.requires.column).some_rows
-
-pub returns-in-Some-Some : goal.returns-in-Some-Some
-unfolding rect_width
-returns-in-Some-Some g c =
-    let inside = rect_inside c.args.config.now.spans (length (g.R.Records.texts c.args.records.now)) (g.R.Records.columns c.args.records.now) c.args.pos c.requires.spans c.requires.row c.requires.column in
-    let w0 : c.rect_width-width.result ≡ if_fits (rect_width (sized c.args.config.now (g.D.Dimension.width c.args.dimension.now) (g.D.Dimension.height c.args.dimension.now) (length (g.R.Records.texts c.args.records.now)) c.count_columns.result) c.args.pos) = c.rect_width-width.ensures (length (g.R.Records.texts c.args.records.now)) in
-    let w1 : c.rect_width-width.result ≡ if_fits (rect_width (table_of c.args.config.now (g.D.Dimension.width c.args.dimension.now) (g.D.Dimension.height c.args.dimension.now) (g.R.Records.texts c.args.records.now) (g.R.Records.columns c.args.records.now)) c.args.pos) = (rw c.count_columns.ensures.value at w0) in
-    let width = w1 ∙ width_answer (table_of c.args.config.now (g.D.Dimension.width c.args.dimension.now) (g.D.Dimension.height c.args.dimension.now) (g.R.Records.texts c.args.records.now) (g.R.Records.columns c.args.records.now)) c.args.pos c.requires.totals inside in
-    let h1 : c.rect_height-height.result ≡ (if nat_lt (c.args.pos.row + rect_rows c.args.config.now.spans c.args.pos) (2 ^ 64) then if_fits (height_of_rect c.args.config.now (g.D.Dimension.height c.args.dimension.now) c.args.pos) else None) = c.rect_height-height.ensures in
-    let height = h1 ∙ height_answer (table_of c.args.config.now (g.D.Dimension.width c.args.dimension.now) (g.D.Dimension.height c.args.dimension.now) (g.R.Records.texts c.args.records.now) (g.R.Records.columns c.args.records.now)) c.args.pos c.requires.totals inside in
-    let wide = some_is c.in-Some-Some.width (rect_width (table_of c.args.config.now (g.D.Dimension.width c.args.dimension.now) (g.D.Dimension.height c.args.dimension.now) (g.R.Records.texts c.args.records.now) (g.R.Records.columns c.args.records.now)) c.args.pos) (sym c.in-Some-Some.is-0 ∙ width) in
-    let high = some_is c.in-Some-Some.height (rect_height (table_of c.args.config.now (g.D.Dimension.width c.args.dimension.now) (g.D.Dimension.height c.args.dimension.now) (g.R.Records.texts c.args.records.now) (g.R.Records.columns c.args.records.now)) c.args.pos) (sym c.in-Some-Some.is-1 ∙ height) in
-    let found : c.owner-owner.result ≡ owner c.spans.result.now c.args.pos.row c.args.pos.col = c.owner-owner.ensures in
-    let row : c.owner-owner.result.row ≡ c.args.pos.row = grind (arith, nat_tests, c.if-owner-pos.false) in
-    let col : c.owner-owner.result.col ≡ c.args.pos.col = grind (arith, nat_tests, c.if-owner-pos-2.false) in
-    let own = own_from c.args.config.now.spans c.args.pos c.owner-owner.result (found ∙ ap (λ (ss : List Span). owner ss c.args.pos.row c.args.pos.col) c.spans.ensures.all) row col in
-    let same_cell : cell_fits (style_at c.args.config.now c.args.pos) c.get_text.result.now c.in-Some-Some.width c.in-Some-Some.height ≡ cell_fits (style_at c.args.config.now c.args.pos) (text_at (g.R.Records.texts c.args.records.now) c.args.pos) (rect_width (table_of c.args.config.now (g.D.Dimension.width c.args.dimension.now) (g.D.Dimension.height c.args.dimension.now) (g.R.Records.texts c.args.records.now) (g.R.Records.columns c.args.records.now)) c.args.pos) (rect_height (table_of c.args.config.now (g.D.Dimension.width c.args.dimension.now) (g.D.Dimension.height c.args.dimension.now) (g.R.Records.texts c.args.records.now) (g.R.Records.columns c.args.records.now)) c.args.pos) =
-    rw (c.get_text.ensures, wide, high) refl in
-    c.cell_fits.ensures ∙ same_cell ∙ sym (owner_fits-own (table_of c.args.config.now (g.D.Dimension.width c.args.dimension.now) (g.D.Dimension.height c.args.dimension.now) (g.R.Records.texts c.args.records.now) (g.R.Records.columns c.args.records.now)) c.args.pos own)
-
-pub returns-in_default : goal.returns-in_default
-returns-in_default g c =
-    let inside = rect_inside c.args.config.now.spans (length (g.R.Records.texts c.args.records.now)) (g.R.Records.columns c.args.records.now) c.args.pos c.requires.spans c.requires.row c.requires.column in
-    let h1 : c.rect_height-height.result ≡ (if nat_lt (c.args.pos.row + rect_rows c.args.config.now.spans c.args.pos) (2 ^ 64) then if_fits (height_of_rect c.args.config.now (g.D.Dimension.height c.args.dimension.now) c.args.pos) else None) = c.rect_height-height.ensures in
-    let height = h1 ∙ height_answer (table_of c.args.config.now (g.D.Dimension.width c.args.dimension.now) (g.D.Dimension.height c.args.dimension.now) (g.R.Records.texts c.args.records.now) (g.R.Records.columns c.args.records.now)) c.args.pos c.requires.totals inside in
-    absurd (none_is (rect_height (table_of c.args.config.now (g.D.Dimension.width c.args.dimension.now) (g.D.Dimension.height c.args.dimension.now) (g.R.Records.texts c.args.records.now) (g.R.Records.columns c.args.records.now)) c.args.pos) (sym c.in_default.is-1 ∙ height))
-
-pub returns-in_default-2 : goal.returns-in_default-2
-unfolding rect_width
-returns-in_default-2 g c =
-    let inside = rect_inside c.args.config.now.spans (length (g.R.Records.texts c.args.records.now)) (g.R.Records.columns c.args.records.now) c.args.pos c.requires.spans c.requires.row c.requires.column in
-    let w0 : c.rect_width-width.result ≡ if_fits (rect_width (sized c.args.config.now (g.D.Dimension.width c.args.dimension.now) (g.D.Dimension.height c.args.dimension.now) (length (g.R.Records.texts c.args.records.now)) c.count_columns.result) c.args.pos) = c.rect_width-width.ensures (length (g.R.Records.texts c.args.records.now)) in
-    let w1 : c.rect_width-width.result ≡ if_fits (rect_width (table_of c.args.config.now (g.D.Dimension.width c.args.dimension.now) (g.D.Dimension.height c.args.dimension.now) (g.R.Records.texts c.args.records.now) (g.R.Records.columns c.args.records.now)) c.args.pos) = (rw c.count_columns.ensures.value at w0) in
-    let width = w1 ∙ width_answer (table_of c.args.config.now (g.D.Dimension.width c.args.dimension.now) (g.D.Dimension.height c.args.dimension.now) (g.R.Records.texts c.args.records.now) (g.R.Records.columns c.args.records.now)) c.args.pos c.requires.totals inside in
-    absurd (none_is (rect_width (table_of c.args.config.now (g.D.Dimension.width c.args.dimension.now) (g.D.Dimension.height c.args.dimension.now) (g.R.Records.texts c.args.records.now) (g.R.Records.columns c.args.records.now)) c.args.pos) (sym c.in_default.is-0 ∙ width))
+pub returns-else-begins_above : goal.returns-else-begins_above
+returns-else-begins_above g c =
+    let spans = c.args.config.now.spans in
+    let rows = length (g.R.Records.texts c.args.records.now) in
+    let columns = g.R.Records.columns c.args.records.now in
+    let order : InOrder spans rows columns = record { ascending = c.spans-spans.ensures.ascending; places = c.spans-spans.ensures.places; fit = c.requires.spans } in
+    let own = own_unless spans rows columns order c.args.pos.row c.args.pos.col c.args.span c.begins_above.result false c.requires.left c.requires.span c.begins_above.ensures c.if-begins_above.false in
+    c.has_room.ensures ∙ sym (owner_fits-own (table_of c.args.config.now (g.D.Dimension.width c.args.dimension.now) (g.D.Dimension.height c.args.dimension.now) (g.R.Records.texts c.args.records.now) (g.R.Records.columns c.args.records.now)) c.args.pos own)

@@ -7,12 +7,13 @@ use Rattle.pg_picture.specs.Table.{row_part}
 use Rattle.pg_picture.specs.Rectangles.{columns_or_one}
 use Rattle.pg_picture.proofs.Appending.{Appends-text, Gained-none, Gained-text, Gained-more, Gained-all, refused}
 use Rattle.pg_picture.proofs.PiecesOfLines.{written-nil}
+use Rattle.pg_picture.proofs.LeftColumns.{step-some, step-inside, step-left}
 use Rattle.pg_picture.proofs.OwnersOfPlaces.{first_left}
 use Rattle.pg_picture.proofs.FittingTables.{totals_facts}
 use Rattle.pg_grid.specs.declared.peekable.Shape.{Shape}
 use Rattle.pg_grid.specs.Grids.{drawn}
 use Rattle.pg_grid.proofs.CanDraw.{in_order}
-use Rattle.pg_grid.proofs.RowParts.{written-columns_cut, step-some, step-inside, step-left, step-text}
+use Rattle.pg_grid.proofs.RowParts.{written-columns_cut, step-text}
 use Rattle.pg_grid.proofs.peekable.spanned.PeekableGrid+R+ref+SpannedConfig+B+D+C.push_spanned_parts.Goals as goal
 
 pub loop-column-init : goal.loop-column-init
@@ -34,7 +35,7 @@ overflow_add-column g c =
     let spans = t.config.spans in
     let span = c.left_span-span.ensures ∙ ap (λ (p : Position). left_span spans p.row p.col) c.new-pos.ensures in
     let width : c.columns_of-column.result ≡ columns_or_one (left_span spans c.args.row c.loop-column.column) = c.columns_of-column.ensures ∙ ap columns_or_one span in
-    omega (arith, step-inside t (in_order t c.requires.can) c.args.row c.loop-column.column c.columns_of-column.result width c.loop-column.invariant.left here, (totals_facts t c.requires.can.fits.totals).columns)
+    omega (arith, step-inside t.config.spans t.rows t.columns (in_order t c.requires.can) c.args.row c.loop-column.column c.columns_of-column.result width c.loop-column.invariant.left here, (totals_facts t c.requires.can.fits.totals).columns)
 
 pub loop-column-preserved : goal.loop-column-preserved
 loop-column-preserved g c =
@@ -48,8 +49,8 @@ loop-column-preserved g c =
     record {
       gained = Gained-text (sym text) (Gained-more c.loop-column.invariant.gained (Appends-text place c.in_ok-push_spanned_part.ensures.appends));
       kept = c.in_ok-push_spanned_part.ensures.kept;
-      left = step-left t (in_order t c.requires.can) c.args.row c.loop-column.column c.columns_of-column.result width c.loop-column.invariant.left here;
-      inside = step-inside t (in_order t c.requires.can) c.args.row c.loop-column.column c.columns_of-column.result width c.loop-column.invariant.left here;
+      left = step-left t.config.spans t.rows t.columns (in_order t c.requires.can) c.args.row c.loop-column.column c.columns_of-column.result width c.loop-column.invariant.left here;
+      inside = step-inside t.config.spans t.rows t.columns (in_order t c.requires.can) c.args.row c.loop-column.column c.columns_of-column.result width c.loop-column.invariant.left here;
     }
 
 pub loop-column-smaller : goal.loop-column-smaller
@@ -59,7 +60,7 @@ loop-column-smaller g c =
     let spans = t.config.spans in
     let span = c.left_span-span.ensures ∙ ap (λ (p : Position). left_span spans p.row p.col) c.new-pos.ensures in
     let width : c.columns_of-column.result ≡ columns_or_one (left_span spans c.args.row c.loop-column.column) = c.columns_of-column.ensures ∙ ap columns_or_one span in
-    omega (arith, step-some t (in_order t c.requires.can) c.args.row c.loop-column.column c.columns_of-column.result width c.loop-column.invariant.left here, c.loop-column-test.true)
+    omega (arith, step-some t.config.spans t.rows t.columns (in_order t c.requires.can) c.args.row c.loop-column.column c.columns_of-column.result width c.loop-column.invariant.left here, c.loop-column-test.true)
 
 pub returns-clause-appends : goal.returns-clause-appends
 returns-clause-appends g c =

@@ -1,0 +1,86 @@
+-- A walk along a row from left column to left column meets each place that owns itself.
+use Rattle.std.proofs.Common.{◌≡◌, ℕ, zero, suc, ◌+◌, ◌<◌, ◌≤◌, Bool, true, false, not, nat_lt, ◌==◌, List, refl, sym, ap, ◌∙◌, arith, subst, Option, is_some, inl, inr}
+use Rattle.std.proofs.lemmas.Bool.{cases_Bool, cases_lt, false≢true}
+use Rattle.std.proofs.lemmas.Bool.Decides.{nat_tests}
+use Rattle.pg_layout.specs.Position.{at, is_at}
+use Rattle.pg_config.specs.Spans.{Span, owner, is_left, left_span, if_above}
+use Rattle.pg_picture.specs.Fits.{owner_fits}
+use Rattle.pg_picture.specs.Rectangles.{columns_or_one}
+use Rattle.pg_picture.specs.Sizes.{first_misfit, row_places}
+use Rattle.pg_picture.specs.Table.{Table}
+use Rattle.pg_picture.proofs.OwnersOfPlaces.{InOrder, option_cases, left_sound, owner_found, owner_alone, step_positive, step_inside, next_left, inner}
+use Rattle.pg_picture.proofs.Rooms.{next_place}
+
+module _ (spans : List Span) (rows columns : ℕ) (order : InOrder spans rows columns) where
+  own_left : (r x : ℕ) → is_left spans r x ≡ true → is_at (owner spans r x) r x ≡ not (is_some (if_above r (left_span spans r x)))
+  own_left r x left =
+      elim (option_cases (left_span spans r x)) [
+        | inl none ↦ rw (none, owner_alone spans rows columns order r x left none) (grind (arith, nat_tests))
+        | inr some ↦
+            let f = left_sound spans rows columns order r x some.0 some.1 in
+            elim (cases_Bool (nat_lt some.0.0.1 r)) [
+              | inl y ↦ rw (some.1, owner_found spans rows columns order r x some.0 some.1, y) (grind (arith, nat_tests, y))
+              | inr n ↦ rw (some.1, owner_found spans rows columns order r x some.0 some.1, n) (grind (arith, nat_tests, n, f.left, f.holds))
+            ]
+      ]
+
+  -- a left column owns itself, unless the rectangle that is found there begins above
+  pub own_unless : (r x : ℕ) (found : Option Span) (above b : Bool) → is_left spans r x ≡ true → found ≡ left_span spans r x → above ≡ is_some (if_above r found) → above ≡ b → is_at (owner spans r x) r x ≡ not b
+  own_unless r x found above b left is test here =
+      own_left r x left ∙ ap (λ (o : Option Span). not (is_some (if_above r o))) (sym is) ∙ ap not (sym test ∙ here)
+
+  -- ---- a step of the walk
+
+  module _ (r x w : ℕ) (is : w ≡ columns_or_one (left_span spans r x)) (left : is_left spans r x ≡ true) (here : x < columns) where
+    pub step-some : 0 < w
+    step-some = omega (arith, is, step_positive spans rows columns order r x)
+
+    pub step-inside : x + w ≤ columns
+    step-inside = omega (arith, is, step_inside spans rows columns order r x here)
+
+    pub step-left : is_left spans r (x + w) ≡ true
+    step-left = subst (λ (k : ℕ). is_left spans r (x + k) ≡ true) (sym is) (next_left spans rows columns order r x left)
+
+    -- the places that it passes don't own themselves
+    pub step-other : (y : ℕ) → x < y → y < x + w → is_at (owner spans r y) r y ≡ false
+    unfolding is_left
+    step-other y h k =
+        let other = (inner spans rows columns order r x y left h (omega (arith, k, is))).not_left in
+        grind (arith, nat_tests, other)
+
+    -- so where all owners before it have what they need, and it has, all owners before the next step have it
+    pub step-all : (P : ℕ → Type 0) → ((y : ℕ) → y < x → is_at (owner spans r y) r y ≡ true → P y) → (is_at (owner spans r x) r x ≡ true → P x) → (y : ℕ) → y < x + w → is_at (owner spans r y) r y ≡ true → P y
+    step-all P before now y h own =
+        elim (cases_lt y x) [
+          | inl l ↦ before y l own
+          | inr g ↦ elim (cases_lt x y) [
+            | inl l ↦ absurd (false≢true (sym (step-other y l h) ∙ own))
+            | inr k ↦ let same : x ≡ y = omega (arith, g, k) in subst P same (now (subst (λ (z : ℕ). is_at (owner spans r z) r z ≡ true) (sym same) own))
+          ]
+        ]
+
+-- ---- the first place without room
+
+-- a place that another one owns needs none
+pub owner_fits-other : (t : Table) (r c : ℕ) → is_at (owner t.config.spans r c) r c ≡ false → owner_fits t (at r c) ≡ true
+unfolding owner_fits
+owner_fits-other t r c other = rw other refl
+
+-- places with room are passed
+next_places : (t : Table) (columns r x w : ℕ) → x + w ≤ columns → ((y : ℕ) → x ≤ y → y < x + w → owner_fits t (at r y) ≡ true) → first_misfit t (row_places columns r x) ≡ first_misfit t (row_places columns r (x + w))
+next_places t columns r x zero h all = let same : x ≡ x + 0 = omega arith in ap (λ (k : ℕ). first_misfit t (row_places columns r k)) same
+next_places t columns r x (suc w) h all =
+    let same : (x + 1) + w ≡ x + suc w = omega arith in
+    next_place t columns r x (omega (arith, h)) (all x (omega arith) (omega arith))
+    ∙ next_places t columns r (x + 1) w (omega (arith, h)) (λ y l k. all y (omega (arith, l)) (omega (arith, k)))
+    ∙ ap (λ (k : ℕ). first_misfit t (row_places columns r k)) same
+
+-- and so are those of a step whose left column has room
+pub next_left_column : (t : Table) → InOrder t.config.spans t.rows t.columns → (r x w : ℕ) → w ≡ columns_or_one (left_span t.config.spans r x) → is_left t.config.spans r x ≡ true → x < t.columns → owner_fits t (at r x) ≡ true
+    → first_misfit t (row_places t.columns r x) ≡ first_misfit t (row_places t.columns r (x + w))
+next_left_column t order r x w is left here fits =
+    next_places t t.columns r x w (step-inside t.config.spans t.rows t.columns order r x w is left here) (λ y l k.
+      elim (cases_Bool (x == y)) [
+        | inl same ↦ let one : x ≡ y = grind (arith, nat_tests, same) in subst (λ (z : ℕ). owner_fits t (at r z) ≡ true) one fits
+        | inr other ↦ owner_fits-other t r y (step-other t.config.spans t.rows t.columns order r x w is left here y (grind (arith, nat_tests, other, l)) k)
+      ])
