@@ -1,5 +1,5 @@
 -- Whether a table fits has nothing to do with its colours.
-use Rattle.std.proofs.Common.{rules, tests, ◌≡◌, List, map, ℕ, Option, None, Some, Ok, Result, refl, ap, ◌∙◌}
+use Rattle.std.proofs.Common.{rules, tests, ◌≡◌, List, ℕ, Option, None, Some, Ok, refl, ap, ◌∙◌}
 use Rattle.std.specs.Borrow.{Bor}
 use Rattle.pg_layout.specs.declared.position.Position.{Position}
 use Rattle.pg_layout.specs.Colors.{Color}
