@@ -1,2 +1,4 @@
 -- Lemmas of this crate.
+mod Alike
+mod Columns
 mod Counting

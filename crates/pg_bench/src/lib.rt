@@ -12,6 +12,8 @@ mod counted;
 #[cfg(test)]
 mod drawing;
 #[cfg(test)]
+mod given;
+#[cfg(test)]
 mod margins;
 #[cfg(test)]
 mod printing;

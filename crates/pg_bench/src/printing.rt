@@ -14,8 +14,10 @@ use crate::drawing::{Sample, Unhinted, dimension, records};
 use crate::settings::{Setting, tell_all};
 use pg_config::SpannedConfig;
 use pg_layout::{Colors, ConstantDimension, Dimension, NoColors, Position, Records, VecRecords};
-use pg_picture::fits::table_fits;
+use pg_picture::fits::{full_width, spans_fit_columns, table_fits};
 use pg_stream::RowPrinter;
+use pg_testing::refusing::Refusing;
+use pg_testing::repeated::Repeated;
 use std::alloc::{AllocError, Allocator, Global};
 use std::convert::AsStr;
 use std::process::Abort;
@@ -247,4 +249,91 @@ fn a_cell_is_open_before_its_first_line(rt: HostRuntime) -> Result<(), Fail> {
         bytes: 2,
     };
     assert_printed(&rt, rt.alloc(), &sample, "xb", &[first, last])
+}
+
+// A printer of three columns, if they fit.
+fn printer_of_three<'a>(
+    alloc: Global,
+    config: &'a SpannedConfig,
+    dimension: &'a ConstantDimension,
+) -> Result<RowPrinter<'a, &'static str, ConstantDimension, NoColors>, Fail> {
+    if !spans_fit_columns(config, 3) || full_width(config, dimension, 3).is_none() {
+        return Err(Fail::new("three columns don't fit"));
+    }
+    Ok(RowPrinter::new(alloc, config, dimension, &NoColors, 3, None)?)
+}
+
+// Prints a row of three cells `ab` as the last one. Notes what the printer tells before it and, where
+// there is memory, after it, and answers how many of the cells were not taken.
+fn print_only_row<W: Allocator>(
+    alloc: Global,
+    config: &SpannedConfig,
+    dimension: &ConstantDimension,
+    (buf, notes): (&mut String<W>, &mut Vec<Note>),
+) -> Result<usize, Fail> {
+    let printer = printer_of_three(alloc, config, dimension)?;
+    notes.push(note_of(&printer, buf.len()))?;
+    let cell = "ab";
+    if !printer.fits(&[cell, cell, cell], true) {
+        return Err(Fail::new("the row doesn't fit"));
+    }
+    let mut cells = Repeated::new(cell, 3);
+    if let Ok(printer) = printer.row(&mut cells, true, buf) {
+        notes.push(note_of(&printer, buf.len()))?;
+    }
+    Ok(cells.left)
+}
+
+// Prints that row in columns of width 2, as high as one line.
+fn print_narrow_row<W: Allocator>(
+    alloc: Global,
+    buf: &mut String<W>,
+    notes: &mut Vec<Note>,
+) -> Result<usize, Fail> {
+    let dimension = ConstantDimension(vec![in alloc; 2, 2, 2]?, vec![in alloc; 1]?);
+    let config = SpannedConfig::new(alloc);
+    let left = print_only_row(alloc, &config, &dimension, (buf, notes));
+    drop(config);
+    left
+}
+
+/// What a printer tells before its first row.
+const BEFORE: Note = Note {
+    rows: 0,
+    lines: 0,
+    is_ended: false,
+    len: 0,
+    begun: [None, None],
+    drawn: None,
+    bytes: 0,
+};
+
+#[test]
+fn a_row_of_one_line_is_printed_cell_by_cell(rt: HostRuntime) -> Result<(), Fail> {
+    let mut buf = String::new(rt.alloc());
+    let mut notes = Vec::new(rt.alloc());
+    let left = print_narrow_row(rt.alloc(), &mut buf, &mut notes)?;
+    assert_eq!(rt; (buf.as_str(), left), ("ababab", 0));
+    let after = Note {
+        rows: 1,
+        lines: 1,
+        is_ended: true,
+        bytes: 6,
+        ..BEFORE
+    };
+    assert_eq!(rt; notes.as_slice(), [BEFORE, after].as_slice());
+    Ok(())
+}
+
+// The first request for memory is the buffer's for the first cell.
+#[test]
+fn cells_behind_a_refusal_are_not_taken(rt: HostRuntime) -> Result<(), Fail> {
+    let memory = Refusing::only(rt.alloc(), 0);
+    let mut buf = String::new(&memory);
+    let mut notes = Vec::new(rt.alloc());
+    let left = print_narrow_row(rt.alloc(), &mut buf, &mut notes)?;
+    assert!(rt; memory.has_refused() && left >= 2);
+    assert!(rt; "ababab".starts_with(buf.as_str()));
+    assert_eq!(rt; notes.as_slice(), [BEFORE].as_slice());
+    Ok(())
 }

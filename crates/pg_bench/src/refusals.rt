@@ -4,7 +4,7 @@ use crate::drawing::{FOUR, Grid, Sample, draw};
 use crate::settings::{Paint, Setting};
 use pg_layout::{AlignmentHorizontal, AlignmentVertical, Entity, Offset, Position};
 use pg_testing::refusing::Refusing;
-use std::alloc::Global;
+use std::alloc::{AllocError, Global};
 use std::process::Abort;
 use std::test::Fail;
 
@@ -174,18 +174,28 @@ fn a_refusal_leaves_a_beginning_of_colored_points(rt: HostRuntime) -> Result<(),
 }
 
 /// How many rows a long table has.
-const ROWS: usize = 1000;
+pub(crate) const ROWS: usize = 1000;
 
 /// The texts of a row.
 const ROW: &[&str] = &["abc", "abc", "abc"];
 
 /// A table of so many rows.
-const LONG: Sample<'static> = Sample {
+pub(crate) const LONG: Sample<'static> = Sample {
     texts: &[ROW; ROWS],
     widths: &[3, 3, 3],
     heights: &[1; ROWS],
     settings: &[],
 };
+
+/// The text of the long table, whose second line is this.
+pub(crate) fn long_text(alloc: Global, second: &str) -> Result<String, AllocError> {
+    let mut text = String::from_str(alloc, "abcabcabc\n")?;
+    text.push_str(second)?;
+    for _ in 2..ROWS {
+        text.push_str("\nabcabcabc")?;
+    }
+    Ok(text)
+}
 
 // The long table, whose second line is this, is drawn where all requests for
 // memory behind so many are refused: that for the buffer and those of the grid.
@@ -195,11 +205,7 @@ fn assert_long(
     (grid, requests, second): (Grid, u64, &str),
     settings: &[Setting],
 ) -> Result<(), Fail> {
-    let mut text = String::from_str(alloc, "abcabcabc\n")?;
-    text.push_str(second)?;
-    for _ in 2..ROWS {
-        text.push_str("\nabcabcabc")?;
-    }
+    let text = long_text(alloc, second)?;
     let sample = Sample { settings, ..LONG };
     let memory = Refusing::from_on(alloc, requests);
     let mut buf = String::with_capacity(&memory, 9999)?;

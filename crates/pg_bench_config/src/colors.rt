@@ -1,6 +1,7 @@
 //! Colours of border lines and cells: which of several counts, and what counts as one that was set.
 
 use crate::fresh::fresh;
+use crate::prefixes::{color, prefix};
 use pg_config::SpannedConfig;
 use pg_layout::{
     ANSIBuf, ANSIFmt, ANSIStr, Border, Borders, Colors, ColorsMap, Entity, NoColors, Offset,
@@ -13,14 +14,45 @@ use std::test::Fail;
 
 const FIRST: Position = Position { row: 0, col: 0 };
 
-// A colour with this prefix.
-fn color(alloc: Global, prefix: &str) -> Result<ANSIBuf, Fail> {
-    Ok(ANSIBuf::new(alloc, prefix, "</>")?)
+// Colours of the line above the table, of the inner verticals and of the inner crossings on the right.
+fn line_colors(alloc: Global) -> Result<Borders<ANSIBuf>, Fail> {
+    let top = color(alloc, "<t>")?;
+    let vertical = color(alloc, "<v>")?;
+    let crossing = color(alloc, "<x>")?;
+    Ok(Borders {
+        top: Some(top),
+        vertical: Some(vertical),
+        right_intersection: Some(crossing),
+        ..Borders::empty()
+    })
 }
 
-// The prefix of a colour, if there is one.
-fn prefix(color: Option<&ANSIBuf>) -> Option<&str> {
-    Some(color?.prefix())
+// Colours above a cell, right of it, and of the corner below and right of it.
+fn cell_colors(alloc: Global) -> Result<Border<ANSIBuf>, Fail> {
+    let top = color(alloc, "<o>")?;
+    let right = color(alloc, "<p>")?;
+    let corner = color(alloc, "<q>")?;
+    Ok(Border {
+        top: Some(top),
+        right: Some(right),
+        bottom_right: Some(corner),
+        ..Border::empty()
+    })
+}
+
+// The prefixes above the first two cells, right of the first one and of the one below it, and of the
+// crossings at the right end of the separators between three rows of one column.
+fn line_prefixes(config: &SpannedConfig<Global>) -> [Option<&str>; 6] {
+    let (second, below) = (Position::new(0, 1), Position::new(1, 1));
+    let last = Position::new(2, 1);
+    [
+        prefix(config.get_horizontal_color(FIRST, 3)),
+        prefix(config.get_horizontal_color(second, 3)),
+        prefix(config.get_vertical_color(second, 3)),
+        prefix(config.get_vertical_color(below, 3)),
+        prefix(config.get_intersection_color(below, (3, 1))),
+        prefix(config.get_intersection_color(last, (3, 1))),
+    ]
 }
 
 fn override_border_colors(
@@ -28,35 +60,15 @@ fn override_border_colors(
     alloc: Global,
     config: &mut SpannedConfig<Global>,
 ) -> Result<(), Fail> {
-    let mut colors = Borders::empty();
-    colors.top = Some(color(alloc, "<t>")?);
-    colors.vertical = Some(color(alloc, "<v>")?);
-    colors.right_intersection = Some(color(alloc, "<x>")?);
-    config.set_borders_color(colors);
-    let mut border = Border::empty();
-    border.top = Some(color(alloc, "<o>")?);
-    border.right = Some(color(alloc, "<p>")?);
-    border.bottom_right = Some(color(alloc, "<q>")?);
-    config.set_border_color(FIRST, border)?;
-    assert_eq!(rt; prefix(config.get_horizontal_color(FIRST, 3)), Some("<o>"));
-    let second = Position::new(0, 1);
-    assert_eq!(rt; prefix(config.get_horizontal_color(second, 3)), Some("<t>"));
-    assert_eq!(rt; prefix(config.get_vertical_color(second, 3)), Some("<p>"));
-    let below = Position::new(1, 1);
-    assert_eq!(rt; prefix(config.get_vertical_color(below, 3)), Some("<v>"));
+    config.set_borders_color(line_colors(alloc)?);
+    config.set_border_color(FIRST, cell_colors(alloc)?)?;
+    let (o, p, q) = (Some("<o>"), Some("<p>"), Some("<q>"));
     assert_eq!(rt;
-        prefix(config.get_intersection_color(below, (3, 1))),
-        Some("<q>")
-    );
-    let last = Position::new(2, 1);
-    assert_eq!(rt;
-        prefix(config.get_intersection_color(last, (3, 1))),
-        Some("<x>")
+        line_prefixes(config),
+        [o, Some("<t>"), p, Some("<v>"), q, Some("<x>")]
     );
     config.set_borders_color(Borders::empty());
-    assert_eq!(rt; prefix(config.get_horizontal_color(FIRST, 3)), Some("<o>"));
-    assert_eq!(rt; prefix(config.get_horizontal_color(second, 3)), None);
-    assert_eq!(rt; prefix(config.get_vertical_color(below, 3)), None);
+    assert_eq!(rt; line_prefixes(config), [o, None, p, None, q, None]);
     Ok(())
 }
 
@@ -121,14 +133,25 @@ fn the_latest_color_of_a_place_counts(rt: HostRuntime) -> Result<(), Fail> {
 }
 
 #[test]
-fn colors_are_equal_by_both_texts(rt: HostRuntime) -> Result<(), Fail> {
+fn lent_colors_are_equal_by_both_texts(rt: HostRuntime) {
     let red = ANSIStr::new("<r>", "</r>");
     assert!(rt; ANSIStr::default().is_empty() && !ANSIStr::new("", "</r>").is_empty());
     assert!(rt; red == ANSIStr::new("<r>", "</r>") && red != ANSIStr::new("<r>", "</>"));
+}
+
+#[test]
+fn colors_are_equal_by_both_texts(rt: HostRuntime) -> Result<(), Fail> {
     let owned = ANSIBuf::new(rt.alloc(), "<r>", "</r>")?;
     assert!(rt; owned == ANSIBuf::new(rt.alloc(), "<r>", "</r>")?);
     assert!(rt; owned != ANSIBuf::new(rt.alloc(), "<b>", "</r>")? && !owned.is_empty());
     assert_eq!(rt; (owned.prefix(), owned.suffix()), ("<r>", "</r>"));
+    Ok(())
+}
+
+#[test]
+fn colors_of_two_types_are_the_same_by_both_texts(rt: HostRuntime) -> Result<(), Fail> {
+    let red = ANSIStr::new("<r>", "</r>");
+    let owned = ANSIBuf::new(rt.alloc(), "<r>", "</r>")?;
     assert!(rt; same_color(Some(&owned), Some(&red)));
     assert!(rt; !same_color(Some(&owned), Some(&ANSIStr::default())));
     assert!(rt; !same_color::<ANSIBuf, ANSIStr<'_>>(None, Some(&red)));

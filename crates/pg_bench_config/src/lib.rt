@@ -10,11 +10,17 @@ mod fresh;
 #[cfg(test)]
 mod given;
 #[cfg(test)]
+mod helpers;
+#[cfg(test)]
 mod lines;
 #[cfg(test)]
 mod offsets;
 #[cfg(test)]
 mod orders;
+#[cfg(test)]
+mod places;
+#[cfg(test)]
+mod prefixes;
 #[cfg(test)]
 mod refusals;
 #[cfg(test)]

@@ -1,22 +1,35 @@
 //! Single glyphs of horizontals and verticals, counted from their start or their end.
 
 use crate::fresh::fresh;
+use crate::prefixes::{color, prefix};
 use pg_config::SpannedConfig;
-use pg_layout::{ANSIBuf, ANSIFmt, Offset, Position};
+use pg_layout::{Offset, Position};
 use std::alloc::Global;
 use std::process::Abort;
 use std::test::Fail;
 
 const FIRST: Position = Position { row: 0, col: 0 };
 
-// A colour with this prefix.
-fn color(alloc: Global, prefix: &str) -> Result<ANSIBuf, Fail> {
-    Ok(ANSIBuf::new(alloc, prefix, "</>")?)
+// The last of three and of four glyphs of the first horizontal, others of them, and one of the second
+// horizontal.
+fn horizontal_glyphs(config: &SpannedConfig<Global>) -> [Option<char>; 5] {
+    [
+        config.lookup_horizontal_char(FIRST, 2, 3),
+        config.lookup_horizontal_char(FIRST, 2, 4),
+        config.lookup_horizontal_char(FIRST, 3, 4),
+        config.lookup_horizontal_char(FIRST, 1, 4),
+        config.lookup_horizontal_char(Position::new(0, 1), 2, 3),
+    ]
 }
 
-// The prefix of a colour, if there is one.
-fn prefix(color: Option<&ANSIBuf>) -> Option<&str> {
-    Some(color?.prefix())
+// The first of two glyphs and of one glyph of the first vertical, and two of three.
+fn vertical_glyphs(config: &SpannedConfig<Global>) -> [Option<char>; 4] {
+    [
+        config.lookup_vertical_char(FIRST, 0, 2),
+        config.lookup_vertical_char(FIRST, 0, 1),
+        config.lookup_vertical_char(FIRST, 1, 3),
+        config.lookup_vertical_char(FIRST, 2, 3),
+    ]
 }
 
 fn count_glyphs_from_both_ends(
@@ -27,18 +40,10 @@ fn count_glyphs_from_both_ends(
     config.set_horizontal_char(FIRST, Offset::End(0), 'e')?;
     config.set_vertical_char(FIRST, Offset::Start(0), 't')?;
     config.set_vertical_char(FIRST, Offset::End(1), 'b')?;
-    assert_eq!(rt; config.lookup_horizontal_char(FIRST, 2, 3), Some('s'));
-    assert_eq!(rt; config.lookup_horizontal_char(FIRST, 2, 4), Some('s'));
-    assert_eq!(rt; config.lookup_horizontal_char(FIRST, 3, 4), Some('e'));
-    assert_eq!(rt; config.lookup_horizontal_char(FIRST, 1, 4), None);
-    assert_eq!(rt;
-        config.lookup_horizontal_char(Position::new(0, 1), 2, 3),
-        None
-    );
-    assert_eq!(rt; config.lookup_vertical_char(FIRST, 0, 2), Some('t'));
-    assert_eq!(rt; config.lookup_vertical_char(FIRST, 0, 1), Some('t'));
-    assert_eq!(rt; config.lookup_vertical_char(FIRST, 1, 3), Some('b'));
-    assert_eq!(rt; config.lookup_vertical_char(FIRST, 2, 3), None);
+    let across = [Some('s'), Some('s'), Some('e'), None, None];
+    assert_eq!(rt; horizontal_glyphs(config), across);
+    let down = [Some('t'), Some('t'), Some('b'), None];
+    assert_eq!(rt; vertical_glyphs(config), down);
     config.set_horizontal_char(FIRST, Offset::Start(2), 'l')?;
     assert_eq!(rt; config.lookup_horizontal_char(FIRST, 2, 3), Some('l'));
     Ok(())
@@ -47,6 +52,24 @@ fn count_glyphs_from_both_ends(
 #[test]
 fn an_offset_from_the_start_comes_before_one_from_the_end(rt: HostRuntime) -> Result<(), Fail> {
     count_glyphs_from_both_ends(&rt, &mut fresh(rt.alloc()))
+}
+
+// The prefixes of one of three and of two of four glyphs of the first horizontal.
+fn horizontal_prefixes(config: &SpannedConfig<Global>) -> [Option<&str>; 3] {
+    [
+        prefix(config.lookup_horizontal_color(FIRST, 1, 3)),
+        prefix(config.lookup_horizontal_color(FIRST, 2, 4)),
+        prefix(config.lookup_horizontal_color(FIRST, 0, 3)),
+    ]
+}
+
+// The prefixes of the only glyph of the first vertical, of the last of two and of one of three.
+fn vertical_prefixes(config: &SpannedConfig<Global>) -> [Option<&str>; 3] {
+    [
+        prefix(config.lookup_vertical_color(FIRST, 0, 1)),
+        prefix(config.lookup_vertical_color(FIRST, 1, 2)),
+        prefix(config.lookup_vertical_color(FIRST, 1, 3)),
+    ]
 }
 
 fn count_colors_from_both_ends(
@@ -59,23 +82,10 @@ fn count_colors_from_both_ends(
     config.set_vertical_color(FIRST, Offset::End(0), color(alloc, "<b>")?)?;
     config.set_vertical_color(FIRST, Offset::Start(0), color(alloc, "<t>")?)?;
     assert_eq!(rt;
-        prefix(config.lookup_horizontal_color(FIRST, 1, 3)),
-        Some("<s>")
+        horizontal_prefixes(config),
+        [Some("<s>"), Some("<e>"), None]
     );
-    assert_eq!(rt;
-        prefix(config.lookup_horizontal_color(FIRST, 2, 4)),
-        Some("<e>")
-    );
-    assert_eq!(rt; prefix(config.lookup_horizontal_color(FIRST, 0, 3)), None);
-    assert_eq!(rt;
-        prefix(config.lookup_vertical_color(FIRST, 0, 1)),
-        Some("<t>")
-    );
-    assert_eq!(rt;
-        prefix(config.lookup_vertical_color(FIRST, 1, 2)),
-        Some("<b>")
-    );
-    assert_eq!(rt; prefix(config.lookup_vertical_color(FIRST, 1, 3)), None);
+    assert_eq!(rt; vertical_prefixes(config), [Some("<t>"), Some("<b>"), None]);
     Ok(())
 }
 

@@ -1,9 +1,10 @@
 //! Getters whose rule has an order: which of several settings counts.
 
 use crate::fresh::fresh;
+use crate::prefixes::{color, prefix};
 use pg_config::SpannedConfig;
 use pg_layout::{
-    ANSIBuf, ANSIFmt, AlignmentHorizontal, AlignmentVertical, Entity, Indent, Position, Sides,
+    AlignmentHorizontal, AlignmentVertical, Entity, Formatting, Indent, Position, Sides,
 };
 use std::alloc::Global;
 use std::process::Abort;
@@ -13,16 +14,6 @@ const FIRST: Position = Position { row: 0, col: 0 };
 
 /// Row 1, column 1.
 const INNER: Position = Position { row: 1, col: 1 };
-
-// A colour with this prefix.
-fn color(alloc: Global, prefix: &str) -> Result<ANSIBuf, Fail> {
-    Ok(ANSIBuf::new(alloc, prefix, "</>")?)
-}
-
-// The prefix of a colour, if there is one.
-fn prefix(color: Option<&ANSIBuf>) -> Option<&str> {
-    Some(color?.prefix())
-}
 
 // What fills the room beside the texts of (0, 1), (1, 0) and (1, 1).
 fn fills(config: &SpannedConfig<Global>) -> [char; 3] {
@@ -73,10 +64,12 @@ fn assert_cell(
     assert_eq!(rt; prefix(colors.top.as_ref()), paint);
     assert_eq!(rt; prefix(colors.left.as_ref()), None);
     assert_eq!(rt; prefix(config.get_justification_color(INNER)), paint);
-    let formatting = config.get_formatting(INNER);
-    assert_eq!(rt; formatting.horizontal_trim, trims);
-    assert_eq!(rt; formatting.vertical_trim, !trims);
-    assert_eq!(rt; formatting.allow_lines_alignment, trims);
+    let formatting = Formatting {
+        horizontal_trim: trims,
+        vertical_trim: !trims,
+        allow_lines_alignment: trims,
+    };
+    assert_eq!(rt; config.get_formatting(INNER), formatting);
 }
 
 // Sets what has a size, a colour or a switch for an entity.

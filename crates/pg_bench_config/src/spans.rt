@@ -7,28 +7,30 @@ use std::alloc::Global;
 use std::process::Abort;
 use std::test::Fail;
 
+// What is kept of the columns and of the rows of a cell, and whether there are such spans at all.
+fn kept(
+    config: &SpannedConfig<Global>,
+    pos: Position,
+) -> ((Option<usize>, bool), (Option<usize>, bool)) {
+    (
+        (config.get_column_span(pos), config.has_column_spans()),
+        (config.get_row_span(pos), config.has_row_spans()),
+    )
+}
+
 fn span_and_take_away(rt: &impl Abort, config: &mut SpannedConfig<Global>) -> Result<(), Fail> {
     let pos = Position::new(2, 1);
-    assert_eq!(rt;
-        (config.get_column_span(pos), config.get_row_span(pos)),
-        (None, None)
-    );
+    let none = (None, false);
+    assert_eq!(rt; kept(config, pos), (none, none));
     assert_eq!(rt; (config.rect_columns(pos), config.rect_rows(pos)), (1, 1));
     config.set_column_span(pos, 3)?;
-    assert!(rt; config.has_column_spans() && !config.has_row_spans());
+    assert_eq!(rt; kept(config, pos), ((Some(3), true), none));
     config.set_row_span(pos, 0)?;
-    assert!(rt; config.has_column_spans() && config.has_row_spans());
-    assert_eq!(rt;
-        (config.get_column_span(pos), config.get_row_span(pos)),
-        (Some(3), Some(0))
-    );
+    assert_eq!(rt; kept(config, pos), ((Some(3), true), (Some(0), true)));
     config.set_column_span(pos, 1)?;
-    assert_eq!(rt;
-        (config.get_column_span(pos), config.get_row_span(pos)),
-        (None, Some(0))
-    );
+    assert_eq!(rt; kept(config, pos), (none, (Some(0), true)));
     config.set_row_span(pos, 1)?;
-    assert!(rt; !config.has_column_spans() && !config.has_row_spans());
+    assert_eq!(rt; kept(config, pos), (none, none));
     assert!(rt; config.spans().is_empty());
     assert_eq!(rt; config.get_column_span(Position::new(1, 2)), None);
     Ok(())

@@ -4,8 +4,8 @@
 use crate::fresh::fresh;
 use pg_config::SpannedConfig;
 use pg_layout::{
-    ANSIBuf, ANSIFmt, AlignmentHorizontal, AlignmentVertical, Border, Borders, Entity, Indent,
-    Offset, Position, Sides,
+    ANSIBuf, ANSIFmt, AlignmentHorizontal, AlignmentVertical, Border, Borders, Entity, Formatting,
+    Indent, Offset, Position, Sides,
 };
 use pg_testing::refusing::Refusing;
 use std::alloc::{AllocError, Allocator, Global};
@@ -15,22 +15,10 @@ use std::test::Fail;
 const FAR: Position = Position { row: 7, col: 9 };
 
 #[test]
-fn a_configuration_that_was_told_nothing_is_plain(rt: HostRuntime) -> Result<(), Fail> {
+fn a_plain_table_has_no_lines_and_nothing_round_it(rt: HostRuntime) {
     let config = fresh(rt.alloc());
-    let bare = Sides::filled(Indent::zero());
-    assert_eq!(rt; config.get_padding(FAR), bare);
-    assert_eq!(rt; config.get_margin(), bare);
+    assert_eq!(rt; config.get_margin(), Sides::filled(Indent::zero()));
     assert_eq!(rt; config.get_margin_offset(), Sides::filled(Offset::Start(0)));
-    assert_eq!(rt;
-        config.get_alignment_horizontal(FAR),
-        AlignmentHorizontal::Left
-    );
-    assert_eq!(rt; config.get_alignment_vertical(FAR), AlignmentVertical::Top);
-    let formatting = config.get_formatting(FAR);
-    assert!(rt; !formatting.horizontal_trim && !formatting.vertical_trim);
-    assert!(rt; !formatting.allow_lines_alignment);
-    assert_eq!(rt; config.get_justification(FAR), ' ');
-    assert!(rt; config.get_justification_color(FAR).is_none());
     assert!(rt; *config.get_borders() == Borders::empty());
     assert_eq!(rt; config.get_borders_missing(), Some(' '));
     assert!(rt; !config.has_horizontal(0, 3) && !config.has_vertical(3, 3));
@@ -38,7 +26,23 @@ fn a_configuration_that_was_told_nothing_is_plain(rt: HostRuntime) -> Result<(),
         (config.count_horizontal(3), config.count_vertical(3)),
         (0, 0)
     );
-    Ok(())
+}
+
+#[test]
+fn a_plain_cell_stands_left_and_top(rt: HostRuntime) {
+    let config = fresh(rt.alloc());
+    assert_eq!(rt; config.get_padding(FAR), Sides::filled(Indent::zero()));
+    let across = config.get_alignment_horizontal(FAR);
+    assert_eq!(rt; across, AlignmentHorizontal::Left);
+    assert_eq!(rt; config.get_alignment_vertical(FAR), AlignmentVertical::Top);
+    let plain = Formatting {
+        horizontal_trim: false,
+        vertical_trim: false,
+        allow_lines_alignment: false,
+    };
+    assert_eq!(rt; config.get_formatting(FAR), plain);
+    assert_eq!(rt; config.get_justification(FAR), ' ');
+    assert!(rt; config.get_justification_color(FAR).is_none());
 }
 
 fn set_margins(

@@ -1,9 +1,12 @@
 -- The table of records that are read row by row: its texts are those of the rows, it may be printed, and its rows make its picture.
-use Rattle.std.proofs.Common.{◌≡◌, ℕ, suc, ◌+◌, ◌<◌, List, [], ◌∷◌, map, length, slice_index_or, get_or, Option, None, IfSome, All, refl, sym, ap, ap₂, ◌∙◌, subst, arith, add-zero, zero-add}
+use Rattle.std.proofs.Common.{◌≡◌, ℕ, suc, ◌+◌, ◌<◌, List, [], ◌∷◌, map, length, slice_index_or, get_or, Option, None, Some, IfSome, All, refl, sym, ap, ap₂, ◌∙◌, subst, arith, add-zero, zero-add}
 use Rattle.std.specs.List.{range_with_len}
+use Rattle.pg_layout.specs.declared.position.Position.{Position}
+use Rattle.pg_layout.specs.Colors.{Color}
 use Rattle.pg_layout.specs.Position.{at}
-use Rattle.pg_layout.specs.Records.{text_at}
+use Rattle.pg_layout.specs.Records.{AlwaysGives, text_at}
 use Rattle.pg_layout.specs.Text.{Text}
+use Rattle.pg_config.specs.Config.{Config}
 use Rattle.pg_config.specs.Spans.{StandAtPlaces}
 use Rattle.pg_picture.specs.FitLaws.{TableFits}
 use Rattle.pg_picture.specs.Fits.{misfit_of}
@@ -15,6 +18,8 @@ use Rattle.pg_stream.specs.Laws.{texts_of}
 use Rattle.pg_stream.specs.Printing.{Printing, hint_of, printer, rows_text}
 use Rattle.pg_stream.proofs.FittingRows.{may-be-printed}
 use Rattle.pg_stream.proofs.PicturesOfRows.{rows-make}
+use Rattle.pg_grid.specs.IterGrids.{AreRowsFrom}
+use Rattle.pg_grid.proofs.IterRows.{next-row}
 
 -- a list is what it has at its places
 at-places : {A : Type 0} (f : ℕ → A) (a : ℕ) (xs : List A) (d : A) → ((i : ℕ) → i < length xs → f (a + i) ≡ get_or xs i d) → map f (range_with_len a (length xs)) ≡ xs
@@ -45,3 +50,36 @@ module _ (t : Table) (hint : Option ℕ) (exact : IfSome hint (λ n. n ≡ t.row
   rows-picture s is =
       let fit : TableFits t = fits t none some wide in
       ap (λ (q : Printing). rows_text q texts) is ∙ ap (λ (rows : List (List Text)). rows_text (printer t.config t.columns t.width t.height t.color hint) rows) (sym are) ∙ rows-make t hint exact places fit.spans some wide
+
+-- Records of a table that fits gave a first row: the table may be printed by a printer of as many columns as were counted, and that row and
+-- those behind it may be printed and make the picture.
+module _ {S A : Type 0} (is_row : A → List Text → Type 0) (steps : S → Option A → S → Type 0) where
+  pub record Begun (t : Table) (hint : Option ℕ) (columns : ℕ) (row : A) (rows : S) : Type 0 where
+    pub printer_fits : PrinterFits (printer t.config columns t.width t.height t.color hint)
+    pub cells : List Text
+    pub others : List (List Text)
+    pub from : AreRowsFrom is_row steps row rows cells others
+    pub rows_fit : (s : Printing) → s ≡ printer t.config columns t.width t.height t.color hint → RowsFit s (cells ∷ others)
+    pub rows_picture : (s : Printing) → s ≡ printer t.config columns t.width t.height t.color hint → rows_text s (cells ∷ others) ≡ picture (hint_of hint) t
+
+  module _ (config : Config) (width height : ℕ → ℕ) (color : Position → Option Color) (texts : List (List Text)) (columns : ℕ) where
+    abbrev read : Table
+    read = record { config = config; rows = length texts; columns = columns; width = width; height = height; text = text_at texts; color = color }
+
+    pub begun : (hint : Option ℕ) → IfSome hint (λ n. n ≡ length texts) → StandAtPlaces config.spans → misfit_of read ≡ None
+        → (count : ℕ) → count ≡ columns → 0 < count → All (λ (row : List Text). length row ≡ count) texts
+        → (s : S) (row : A) (rows : S) → AlwaysGives is_row steps s texts → steps s (Some row) rows → Begun read hint count row rows
+    begun hint exact places none count value wide even s row rows gives step =
+        let next = next-row is_row steps s row rows texts gives step in
+        let some : 0 < length texts = omega (arith, ap (λ (rows : List (List Text)). length rows) next.all) in
+        let has : 0 < columns = omega (arith, value, wide) in
+        let are = texts-are texts columns (subst (λ (n : ℕ). All (λ (row : List Text). length row ≡ n) texts) value even) in
+        let same = ap (λ n. printer config n width height color hint) value in
+        record {
+          printer_fits = rw value (printer-fits read hint exact places none texts are some has);
+          cells = next.cells;
+          others = next.others;
+          from = next.from;
+          rows_fit = λ p is. subst (λ (rows : List (List Text)). RowsFit p rows) next.all (rows-fit read hint exact places none texts are some has p (is ∙ same));
+          rows_picture = λ p is. ap (λ (rows : List (List Text)). rows_text p rows) (sym next.all) ∙ rows-picture read hint exact places none texts are some has p (is ∙ same);
+        }

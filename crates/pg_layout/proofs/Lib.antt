@@ -7,5 +7,6 @@ pub mod TextWidths
 pub mod LineNumbers
 pub mod Rows
 pub mod Given
+pub mod GivenArrays
 pub mod Computing
 mod RowsText

@@ -71,27 +71,3 @@ fn place_key(pos: Position) -> Key
 {
     (pos.row, pos.col, 0)
 }
-
-#[cfg(test)]
-mod tests {
-    use super::*;
-    use crate::colors::ANSIFmt;
-    use std::test::Fail;
-
-    #[test]
-    fn the_latest_color_of_a_place_counts(rt: HostRuntime) -> Result<(), Fail> {
-        let mut colors = ColorsMap::new(rt.alloc());
-        assert!(rt; colors.is_empty());
-        for prefix in ["<red>", "<blue>"] {
-            colors.set(
-                Position::new(1, 2),
-                ANSIBuf::new(rt.alloc(), prefix, "</>")?,
-            )?;
-        }
-        assert!(rt; !colors.is_empty());
-        let color = colors.get_color(Position::new(1, 2));
-        assert_eq!(rt; color.map(|color| color.prefix()), Some("<blue>"));
-        assert!(rt; colors.get_color(Position::new(2, 1)).is_none());
-        Ok(())
-    }
-}

@@ -268,36 +268,3 @@ fn holds_at<V>(entries: &[(Key, V)], at: usize, key: Key) -> bool
         None => false,
     }
 }
-
-#[cfg(test)]
-mod tests {
-    use super::*;
-    use std::test::Fail;
-
-    #[test]
-    fn finds_what_was_set_last(rt: HostRuntime) -> Result<(), Fail> {
-        let mut places = Places::new(rt.alloc());
-        assert!(rt; places.is_empty());
-        for (key, value) in [
-            ((1, 5, 0), 1u8),
-            ((0, 2, 7), 2),
-            ((1, 1, 0), 3),
-            ((0, 2, 7), 4),
-        ] {
-            places.set(key, value)?;
-        }
-        assert_eq!(rt; places.entries().len(), 3);
-        assert_eq!(rt; places.get((0, 2, 7)).copied(), Some(4));
-        assert_eq!(rt; places.get((0, 2, 6)).copied(), None);
-        assert_eq!(rt; places.last_up_to((0, 2, 6)).map(|entry| entry.1), None);
-        assert_eq!(rt; places.last_up_to((1, 4, 9)).map(|entry| entry.1), Some(3));
-        assert!(rt; places.has_first(1) && !places.has_first(2));
-        assert!(rt; places.has_pair(0, 2) && !places.has_pair(0, 1));
-        places.remove((1, 1, 0));
-        places.remove_second(2);
-        assert_eq!(rt; places.entries().len(), 1);
-        places.remove_first(1);
-        assert!(rt; places.is_empty());
-        Ok(())
-    }
-}

@@ -1,0 +1,47 @@
+//! Values by key, which stand in the order of their keys.
+
+use pg_layout::Places;
+use std::alloc::Global;
+use std::process::Abort;
+use std::test::Fail;
+
+// Four values, of which the last takes the place of the second.
+fn set_values(alloc: Global) -> Result<Places<u8>, Fail> {
+    let mut places = Places::new(alloc);
+    for (key, value) in [
+        ((1, 5, 0), 1u8),
+        ((0, 2, 7), 2),
+        ((1, 1, 0), 3),
+        ((0, 2, 7), 4),
+    ] {
+        places.set(key, value)?;
+    }
+    Ok(places)
+}
+
+fn assert_found(rt: &impl Abort, places: &Places<u8>) {
+    assert_eq!(rt; places.entries().len(), 3);
+    assert_eq!(rt; places.get((0, 2, 7)).copied(), Some(4));
+    assert_eq!(rt; places.get((0, 2, 6)).copied(), None);
+    assert_eq!(rt; places.last_up_to((0, 2, 6)).map(|entry| entry.1), None);
+    assert_eq!(rt; places.last_up_to((1, 4, 9)).map(|entry| entry.1), Some(3));
+    assert!(rt; places.has_first(1) && !places.has_first(2));
+    assert!(rt; places.has_pair(0, 2) && !places.has_pair(0, 1));
+}
+
+fn assert_removed(rt: &impl Abort, places: &mut Places<u8>) {
+    places.remove((1, 1, 0));
+    places.remove_second(2);
+    assert_eq!(rt; places.entries().len(), 1);
+    places.remove_first(1);
+    assert!(rt; places.is_empty());
+}
+
+#[test]
+fn what_was_set_last_is_found_until_it_is_removed(rt: HostRuntime) -> Result<(), Fail> {
+    assert!(rt; Places::<u8>::new(rt.alloc()).is_empty());
+    let mut places = set_values(rt.alloc())?;
+    assert_found(&rt, &places);
+    assert_removed(&rt, &mut places);
+    Ok(())
+}
