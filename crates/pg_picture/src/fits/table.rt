@@ -119,7 +119,17 @@ where
     ensures { result ≡ owner_fits (table_of config.now (D.width dimension.now) (D.height dimension.now) (R.texts records.now) (R.columns records.now)) pos }
 {
     let _spans = config.spans();
-    begins_above(span, pos.row) || has_room(records, config, dimension, pos)
+    match span {
+        // A cell of its own stands in its column and its row.
+        None => cell_fits(
+            records.get_text(pos),
+            config,
+            pos,
+            dimension.get_width(pos.col),
+            dimension.get_height(pos.row),
+        ),
+        Some(_) => begins_above(span, pos.row) || has_room(records, config, dimension, pos),
+    }
 }
 
 // Whether the rectangle of a place has room for its text.
