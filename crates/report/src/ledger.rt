@@ -1,8 +1,14 @@
 //! A ledger that is printed row by row: each line is a row, and is written when the next one is
 //! there, which tells whether it is the last.
 
-ghost use Rattle.std.specs.Prelude.{◌≡◌, ◌≤◌, [], true, IfOk};
-ghost use Rattle.pg_config.specs.Config.{no_indents};
+ghost use Rattle.std.specs.Prelude.{◌≡◌, ◌≢◌, ◌==◌, ◌++◌, [], List, map, true, false, Err, Some, None, string_bytes, IfOk, OnOk};
+ghost use Rattle.std.specs.Io.KnownBytes.{Appends, Keeps};
+ghost use Rattle.pg_config.specs.Config.{default_config, no_indents};
+ghost use Rattle.pg_layout.specs.Text.{Text};
+ghost use Rattle.pg_stream.specs.Conditions.{RowFits};
+ghost use Rattle.pg_stream.specs.Printing.{after_row, row_text, finish_text};
+ghost use Rattle.report.specs.Report.{cells_of, state_of, status_of, written};
+ghost use Rattle.report.specs.declared.fault.Fault.{Fault};
 
 use crate::entry::cells_of;
 use crate::fault::Fault;
@@ -15,14 +21,29 @@ use std::io::{BufRead, BufReader, Lines, Read, Write};
 
 type Printer<'a> = RowPrinter<'a, String, Sizes, NoColors>;
 
-// Writes the lines that stand in the buffer, each with its line feed behind it, and clears it.
-fn write_lines<W: Write>(buf: &mut String, out: &mut W) -> Result<(), Fault> {
-    let lines = buf.strip_prefix('\n').unwrap_or(buf.as_str());
+// Writes lines and a line feed behind them.
+fn write_lines<W: Write>(lines: &str, out: &mut W) -> Result<(), Fault>
+    ensures written { OnOk result (Appends (W.contents out.old) (W.contents out.new) (written true lines.now)) }
+    ensures failed { (fault : _) → result ≡ Err fault → fault ≡ Fault.Write }
+{
     out.write_all(lines.as_bytes()).map_err(|_| Fault::Write)?;
     out.write_all(b"\n").map_err(|_| Fault::Write)?;
-    out.flush().map_err(|_| Fault::Write)?;
-    buf.clear();
-    Ok(())
+    out.flush().map_err(|_| Fault::Write)
+}
+
+// Writes the lines that a call of the printer appended. But for those of the first row each stands behind
+// its line feed.
+fn write_appended<W: Write>(text: &str, is_first: bool, out: &mut W) -> Result<(), Fault>
+    ensures written { OnOk result (Appends (W.contents out.old) (W.contents out.new) (written is_first text.now)) }
+    ensures failed { (fault : _) → result ≡ Err fault → fault ≡ Fault.Write }
+{
+    if is_first {
+        return write_lines(text, out);
+    }
+    match text.strip_prefix('\n') {
+        Some(lines) => write_lines(lines, out),
+        None => Ok(()),
+    }
 }
 
 // Appends a row, if it fits.
@@ -32,7 +53,11 @@ fn append_row<'a>(
     is_last: bool,
     buf: &mut String,
 ) -> Result<Printer<'a>, Fault>
-    ensures { IfOk result (λ after. after.is_ended ≡ is_last) }
+    ensures fits { IfOk result (λ after. RowFits (state_of printer.entry) (map string_bytes cells.items) is_last) }
+    ensures after { IfOk result (λ after. state_of after ≡ after_row (state_of printer.entry) (map string_bytes cells.items) is_last) }
+    ensures appends { IfOk result (λ after. string_bytes buf.new ≡ string_bytes buf.old ++ row_text (state_of printer.entry) (map string_bytes cells.items) is_last) }
+    ensures no_words { (line : _) → result ≢ Err (Fault.Words line) }
+    ensures refused { (line : _) → result ≡ Err (Fault.Room line) → ¬ (RowFits (state_of printer.entry) (map string_bytes cells.items) is_last) }
 {
     if !printer.fits(&cells, is_last) {
         return Err(Fault::Room(printer.rows().saturating_add(1)));
@@ -50,22 +75,31 @@ fn print_line<'a, W: Write>(
     buf: &mut String,
     out: &mut W,
 ) -> Result<Printer<'a>, Fault>
-    ensures { IfOk result (λ after. after.is_ended ≡ is_last) }
+    requires empty { string_bytes buf.old ≡ [] }
+    ensures empty { IfOk result (λ after. string_bytes buf.new ≡ []) }
+    ensures printed { IfOk result (λ after. (cells : List Text) × (cells_of line.now ≡ Some cells) × (state_of after ≡ after_row (state_of printer.entry) cells is_last) × Appends (W.contents out.old) (W.contents out.new) (written ((state_of printer.entry).rows == 0) (row_text (state_of printer.entry) cells is_last))) }
+    ensures no_words { (number : _) → result ≡ Err (Fault.Words number) → cells_of line.now ≡ None }
+    ensures no_room { (number : _) → result ≡ Err (Fault.Room number) → (cells : List Text) → cells_of line.now ≡ Some cells → ¬ (RowFits (state_of printer.entry) cells is_last) }
+    ensures unwritten { (fault : _) → result ≡ Err fault → fault ≢ Fault.Write → Keeps (W.contents out.old) (W.contents out.new) }
 {
     let Some(cells) = cells_of(alloc, line)? else {
         return Err(Fault::Words(printer.rows().saturating_add(1)));
     };
+    let is_first = printer.rows() == 0;
     let printer = append_row(printer, cells, is_last, buf)?;
-    write_lines(buf, out)?;
+    write_appended(buf.as_str(), is_first, out)?;
+    buf.clear();
     Ok(printer)
 }
 
 // Ends the table.
 fn print_end<W: Write>(printer: Printer<'_>, buf: &mut String, out: &mut W) -> Result<(), Fault>
-    requires { printer.is_ended ≡ true }
+    requires ended { printer.is_ended ≡ true }
+    requires empty { string_bytes buf.old ≡ [] }
+    ensures { OnOk result (Appends (W.contents out.old) (W.contents out.new) (written false (finish_text (state_of printer.entry)))) }
 {
     printer.finish(buf)?;
-    write_lines(buf, out)
+    write_appended(buf.as_str(), false, out)
 }
 
 // Prints the row of the first line and those of all lines behind it.
@@ -114,8 +148,7 @@ fn print_with<R: Read + Drop, W: Write>(
     input: R,
     out: &mut W,
 ) -> Result<(), Fault>
-    requires spans { config.old.spans ≡ [] }
-    requires margin { config.old.margin ≡ no_indents }
+    requires { config.old ≡ default_config }
 {
     set_look(config)?;
     print_ledger(alloc, config, input, out)
@@ -136,18 +169,19 @@ fn print<R: Read + Drop, W: Write>(alloc: Global, input: R, out: &mut W) -> Resu
 /// written. Each fault ends the table where it is, after a whole row, and is one line on `err`:
 /// status 2 for a line that isn't three words or whose words don't fit their columns, 4 for want of
 /// memory, 5 for a read or a write that fails. A failed write to `err` changes no status.
-pub(crate) fn run<R: Read + Drop, W1: Write + Drop, W2: Write + Drop>(
+pub(crate) fn run<R: Read + Drop, W1: Write, W2: Write>(
     alloc: Global,
     input: R,
-    mut out: W1,
-    mut err: W2,
+    out: &mut W1,
+    err: &mut W2,
 ) -> u8
-    ensures { result ≤ 5 }
+    ensures status { result ≢ 0 → (fault : Fault) × (result ≡ status_of fault) }
+    ensures silent { result ≡ 0 → Keeps (W2.contents err.old) (W2.contents err.new) }
 {
-    match print(alloc, input, &mut out) {
+    match print(alloc, input, out) {
         Ok(()) => 0,
         Err(fault) => {
-            let _ = fault.tell(&mut err);
+            let _ = fault.tell(err);
             fault.status()
         }
     }

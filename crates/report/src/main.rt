@@ -9,5 +9,6 @@ mod sheet;
 use std::process::ExitCode;
 
 fn main(rt: HostRuntime) -> ExitCode {
-    ExitCode::from(ledger::run(rt.alloc(), rt.stdin(), rt.stdout(), rt.stderr()))
+    let (mut out, mut err) = (rt.stdout(), rt.stderr());
+    ExitCode::from(ledger::run(rt.alloc(), rt.stdin(), &mut out, &mut err))
 }

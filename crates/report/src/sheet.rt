@@ -1,6 +1,7 @@
 //! What the table of a ledger looks like.
 
-ghost use Rattle.std.specs.Prelude.{◌≡◌, ◌==◌, if◌then◌else◌, OnOk};
+ghost use Rattle.std.specs.Prelude.{◌≡◌, OnOk};
+ghost use Rattle.report.specs.Report.{width_of_column, open_borders, with_look};
 
 use pg_config::SpannedConfig;
 use pg_layout::{AlignmentHorizontal, Borders, Dimension, Entity, Indent, Sides};
@@ -15,7 +16,7 @@ pub(crate) const COLUMNS: usize = 3;
 pub(crate) struct Sizes;
 
 impl Dimension for Sizes {
-    ghost width = { λ _ column. if column == 1 then 26 else 12 };
+    ghost width = { λ _ column. width_of_column column };
 
     ghost height = { λ _ _. 1 };
 
@@ -28,8 +29,10 @@ impl Dimension for Sizes {
     }
 }
 
-// The glyphs of ASCII borders.
-fn ascii_borders() -> Borders<char> {
+// The glyphs of ASCII borders, without lines between the rows.
+fn open_borders() -> Borders<char>
+    ensures { result ≡ open_borders }
+{
     let (cross, dash, bar) = (Some('+'), Some('-'), Some('|'));
     Borders {
         top: dash,
@@ -52,11 +55,10 @@ fn ascii_borders() -> Borders<char> {
 
 /// Tells a configuration of ASCII borders, a space at each side of a text, and amounts on the right.
 pub(crate) fn set_look(config: &mut SpannedConfig) -> Result<(), AllocError>
-    ensures spans { config.new.spans ≡ config.old.spans }
-    ensures margin { config.new.margin ≡ config.old.margin }
+    ensures { OnOk result (config.new ≡ with_look config.old) }
 {
     let (beside, none) = (Indent::spaced(1), Indent::zero());
-    config.set_borders(ascii_borders());
+    config.set_borders(open_borders());
     config.set_padding(Entity::Global, Sides::new(beside, beside, none, none))?;
     config.set_alignment_horizontal(Entity::Column(2), AlignmentHorizontal::Right)
 }
