@@ -13,9 +13,7 @@ use crate::frame::Frame;
 use crate::row_printer::RowPrinter;
 use pg_config::{Span, SpannedConfig};
 use pg_layout::{Colors, Dimension, Position};
-use pg_picture::fits::{
-    begins_above, cell_fits, columns_of, rect_height, rect_width, spans_fit,
-};
+use pg_picture::fits::{begins_above, cell_fits, columns_of, rect_height, rect_width, spans_fit};
 use std::alloc::Allocator;
 use std::convert::AsStr;
 
