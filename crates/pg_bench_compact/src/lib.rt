@@ -4,6 +4,8 @@
 #[cfg(test)]
 mod drawing;
 #[cfg(test)]
+mod given;
+#[cfg(test)]
 mod refusals;
 #[cfg(test)]
 mod tables;
