@@ -1,5 +1,6 @@
 -- What a report reads of a line, and what it writes.
-use Rattle.std.specs.Prelude.{ℕ, Bool, true, false, ◌==◌, List, [], ◌∷◌, ◌++◌, length, Option, Some, None, if◌then◌else◌, codes, decimal}
+use Rattle.std.specs.Prelude.{◌≡◌, ℕ, ◌<◌, Bool, true, false, ◌==◌, List, [], ◌∷◌, ◌++◌, map, length, Option, Some, None, if◌then◌else◌, codes, decimal}
+use Rattle.std.specs.Io.BufRead.{first_line, drop_through}
 use Rattle.std.specs.List.{slice_split}
 use Rattle.pg_layout.specs.Text.{Text}
 use Rattle.pg_layout.specs.declared.alignment.AlignmentHorizontal.TheVariants.{Right}
@@ -7,10 +8,10 @@ use Rattle.pg_layout.specs.declared.borders.Borders.{Borders}
 use Rattle.pg_layout.specs.declared.colors.NoColors.{NoColors}
 use Rattle.pg_layout.specs.declared.sides.Indent.{Indent}
 use Rattle.pg_layout.specs.declared.position.Entity.TheVariants.{Global, Column}
-use Rattle.pg_config.specs.Config.{Config, default_config}
+use Rattle.pg_config.specs.Config.{Config}
 use Rattle.pg_config.specs.Settings.{with_setting}
 use Rattle.pg_stream.specs.Printers.{Printer, printing}
-use Rattle.pg_stream.specs.Printing.{Printing, printer}
+use Rattle.pg_stream.specs.Printing.{Printing, rows_text}
 use Rattle.report.specs.declared.fault.Fault.{Fault}
 use Rattle.report.specs.declared.fault.Fault.TheVariants.{Words, Room, Memory, Read, Write}
 use Rattle.report.specs.declared.sheet.Sizes.{Sizes}
@@ -89,5 +90,18 @@ with_look config =
       alignment_horizontal = with_setting (Column 2) Right config.alignment_horizontal;
     }
 
-abbrev pub look : Config
-look = with_look default_config
+-- ---- a whole report
+
+-- the lines that bytes are read as, each without its line feed and a carriage return before that
+abbrev pub AreLinesOf : List ℕ → List Text → Type 0
+AreLinesOf bytes [] = bytes ≡ []
+AreLinesOf bytes (line ∷ lines) = (0 < length bytes) × (line ≡ first_line bytes) × AreLinesOf (drop_through 10 bytes) lines
+
+-- What is written for a first line and the lines behind it that bytes are read as: each has cells, and these rows are printed one after another
+-- and ended.
+pub record Reported (s : Printing) (first : Text) (bytes : List ℕ) (text : Text) : Type 0 where
+  pub lines : List Text
+  pub read : AreLinesOf bytes lines
+  pub rows : List (List Text)
+  pub have : map cells_of (first ∷ lines) ≡ map Some rows
+  pub is : text ≡ written (s.rows == 0) (rows_text s rows)
