@@ -1,11 +1,14 @@
 -- A report as it goes on, line by line: what is still to be reported is reported of all lines, behind what is written.
-use Rattle.std.proofs.Common.{◌≡◌, ℕ, ◌<◌, true, false, ◌==◌, List, [], ◌++◌, length, Option, Some, None, IfSome, Result, Ok, Err, OnOk, refl, ap, sym, ◌∙◌, subst, append_assoc}
+use Rattle.std.proofs.Common.{◌≡◌, ℕ, ◌<◌, true, false, ◌==◌, List, [], ◌∷◌, ◌++◌, length, Option, Some, None, IfSome, Result, Ok, Err, OnOk, refl, ap, sym, ◌∙◌, subst, append_assoc}
 use Rattle.std.specs.Io.BufRead.{first_line, drop_through, DropsThrough}
-use Rattle.std.specs.Io.KnownBytes.{Appends, IsAtEnd}
+use Rattle.std.specs.Io.KnownBytes.{Appends, IsAtEnd, prepend_known}
+use Rattle.std.specs.Io.Buffered.{reader_remaining, reader_inner, reader_buffer, reader_capacity}
+use Rattle.std.specs.declared.io.buffered.BufReader.{BufReader}
+use Rattle.pg_config.specs.Config.{Config}
 use Rattle.std.proofs.KnownBytes.{Appends-nil, Appends-trans}
 use Rattle.pg_layout.specs.Text.{Text}
 use Rattle.pg_stream.specs.Printing.{Printing, row_text, finish_text, after_row}
-use Rattle.report.specs.Report.{written, Reported, cells_of}
+use Rattle.report.specs.Report.{written, Reported, IsReport, begin, cells_of}
 use Rattle.report.proofs.Written.{HasBegun, reported-more, reported-last}
 
 abbrev pub Reporting : Printing → Text → Option (List ℕ) → Option (List ℕ) → Printing → Text → Option (List ℕ) → Option (List ℕ) → Type 0
@@ -49,3 +52,25 @@ module _ (start : Printing) (first : Text) (old : Option (List ℕ)) (s : Printi
 pub on-ok : {U E : Type 0} {A B : Type 0} (r : Result U E) → (A → B) → OnOk r A → OnOk r B
 on-ok (Ok u) f a = f a
 on-ok (Err e) f a = tt
+
+-- a report of all bytes: of none, and of a first line and those behind it
+pub report-none : (config : Config) (read out : Option (List ℕ)) → IsAtEnd read → IfSome read (λ bytes. (text : Text) × IsReport config bytes text × Appends out out text)
+report-none config None out none = tt
+report-none config (Some []) out none = ([], refl, Appends-nil out)
+report-none config (Some (b ∷ bs)) out none = cc
+
+pub report-first : (config : Config) (read left : Option (List ℕ)) (line : Text) (old new : Option (List ℕ)) → IfSome read (λ xs. (0 < length xs) × (line ≡ first_line xs)) → DropsThrough read left 10
+    → IfSome left (λ bytes. (text : Text) × Reported (begin config) line bytes text × Appends old new text) → IfSome read (λ bytes. (text : Text) × IsReport config bytes text × Appends old new text)
+report-first config None left line old new here drops rest = tt
+report-first config (Some []) left line old new here drops rest = elim here.0 [ ]
+report-first config (Some (b ∷ bs)) left line old new (some, is) drops rest =
+    let (text, reported, appends) = subst (λ (k : Option (List ℕ)). IfSome k (λ bytes. (text : Text) × Reported (begin config) line bytes text × Appends old new text)) drops rest in
+    (text, subst (λ (l : Text). Reported (begin config) l (drop_through 10 (b ∷ bs)) text) is reported, appends)
+
+-- what a new reader has left is what its input has
+nothing-in-front : (known : Option (List ℕ)) → prepend_known [] known ≡ known
+nothing-in-front None = refl
+nothing-in-front (Some xs) = refl
+
+pub reader-left : {T A : Type 0} (remaining : T → Option (List ℕ)) (r : BufReader T A) (input : T) → reader_inner r ≡ input → reader_buffer r ≡ [] → reader_capacity r ≡ 8192 → reader_remaining remaining r ≡ remaining input
+reader-left remaining r input inner buffer capacity = rw capacity (rw buffer (nothing-in-front (remaining r.inner) ∙ ap remaining inner))

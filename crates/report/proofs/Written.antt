@@ -1,8 +1,7 @@
 -- What is written row by row makes what is written of all rows.
-use Rattle.std.proofs.Common.{◌≡◌, ℕ, zero, suc, ◌+◌, ◌<◌, Bool, true, false, ◌==◌, List, [], ◌∷◌, ◌++◌, map, length, Option, None, Some, refl, ap, ap₂, sym, ◌∙◌, arith, append_assoc, append-nil, length-append, if◌then◌else◌}
+use Rattle.std.proofs.Common.{◌≡◌, ℕ, zero, suc, ◌+◌, ◌<◌, Bool, true, false, ◌==◌, List, [], ◌∷◌, ◌++◌, map, length, Option, Some, refl, ap, ap₂, sym, ◌∙◌, arith, append_assoc, append-nil, length-append, if◌then◌else◌}
 use Rattle.std.specs.Prelude.{⊤}
 use Rattle.std.specs.Io.BufRead.{first_line, drop_through}
-use Rattle.std.specs.List.{range_with_len}
 use Rattle.std.proofs.lemmas.Bool.Decides.{nat_tests}
 use Rattle.pg_layout.specs.Text.{Text}
 use Rattle.pg_config.specs.Config.{Config}
@@ -13,7 +12,7 @@ use Rattle.pg_picture.specs.Table.{Table}
 use Rattle.pg_picture.proofs.BodyLines.{length-body_lines}
 use Rattle.pg_stream.proofs.DrawnLines.{length_of_row}
 use Rattle.pg_stream.specs.Printing.{Printing, hint_of, lines_at, lines_printed, row_lines, finish_lines, row_text, finish_text, rows_text, after_row, table_known, rows_known}
-use Rattle.report.specs.Report.{written, moved_feed, AreLinesOf, Reported, cells_of}
+use Rattle.report.specs.Report.{written, moved_feed, Reported, cells_of}
 
 -- a text that begins with a line feed; one that is empty or begins so
 abbrev Starts : Text → Type 0

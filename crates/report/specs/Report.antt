@@ -8,10 +8,10 @@ use Rattle.pg_layout.specs.declared.borders.Borders.{Borders}
 use Rattle.pg_layout.specs.declared.colors.NoColors.{NoColors}
 use Rattle.pg_layout.specs.declared.sides.Indent.{Indent}
 use Rattle.pg_layout.specs.declared.position.Entity.TheVariants.{Global, Column}
-use Rattle.pg_config.specs.Config.{Config}
+use Rattle.pg_config.specs.Config.{Config, default_config}
 use Rattle.pg_config.specs.Settings.{with_setting}
 use Rattle.pg_stream.specs.Printers.{Printer, printing}
-use Rattle.pg_stream.specs.Printing.{Printing, rows_text}
+use Rattle.pg_stream.specs.Printing.{Printing, printer, rows_text}
 use Rattle.report.specs.declared.fault.Fault.{Fault}
 use Rattle.report.specs.declared.fault.Fault.TheVariants.{Words, Room, Memory, Read, Write}
 use Rattle.report.specs.declared.sheet.Sizes.{Sizes}
@@ -90,6 +90,9 @@ with_look config =
       alignment_horizontal = with_setting (Column 2) Right config.alignment_horizontal;
     }
 
+abbrev pub look : Config
+look = with_look default_config
+
 -- ---- a whole report
 
 -- the lines that bytes are read as, each without its line feed and a carriage return before that
@@ -105,3 +108,12 @@ pub record Reported (s : Printing) (first : Text) (bytes : List ℕ) (text : Tex
   pub rows : List (List Text)
   pub have : map cells_of (first ∷ lines) ≡ map Some rows
   pub is : text ≡ written (s.rows == 0) (rows_text s rows)
+
+-- a printer of a ledger's rows before its first row
+abbrev pub begin : Config → Printing
+begin config = printer config 3 width_of_column (λ row. 1) (λ pos. None) None
+
+-- What is written for bytes: nothing where there are none, else what is written for their first line and those behind it.
+abbrev pub IsReport : Config → List ℕ → Text → Type 0
+IsReport config [] text = text ≡ []
+IsReport config (b ∷ bs) text = Reported (begin config) (first_line (b ∷ bs)) (drop_through 10 (b ∷ bs)) text

@@ -8,7 +8,7 @@ ghost use Rattle.pg_config.specs.Config.{default_config, no_indents};
 ghost use Rattle.pg_layout.specs.Text.{Text};
 ghost use Rattle.pg_stream.specs.Conditions.{RowFits};
 ghost use Rattle.pg_stream.specs.Printing.{after_row, row_text, finish_text};
-ghost use Rattle.report.specs.Report.{cells_of, state_of, status_of, written, Reported};
+ghost use Rattle.report.specs.Report.{cells_of, state_of, status_of, written, IsReport, Reported};
 ghost use Rattle.report.specs.declared.fault.Fault.{Fault};
 
 use crate::entry::cells_of;
@@ -136,10 +136,12 @@ fn print_ledger<R: Read + Drop, W: Write>(
 ) -> Result<(), Fault>
     requires spans { config.now.spans ≡ [] }
     requires margin { config.now.margin ≡ no_indents }
+    ensures { OnOk result (IfSome (R.remaining input) (λ bytes. (text : Text) × IsReport config.now bytes text × Appends (W.contents out.old) (W.contents out.new) text)) }
 {
-    let mut lines = BufReader::new(alloc, input)
-        .map_err(|_| Fault::Memory)?
-        .lines(alloc);
+    let Ok(reader) = BufReader::new(alloc, input) else {
+        return Err(Fault::Memory);
+    };
+    let mut lines = reader.lines(alloc);
     let Some(first) = lines.next() else {
         return Ok(());
     };

@@ -1,4 +1,4 @@
-use Rattle.std.proofs.Common.{◌≡◌, ℕ, ◌<◌, false, Ok, string_bytes, ap, sym, ◌∙◌, subst, arith}
+use Rattle.std.proofs.Common.{false, string_bytes, ap, sym, ◌∙◌, subst, arith}
 use Rattle.std.specs.Io.Iter.{lines_known_bytes}
 use Rattle.std.specs.Io.KnownBytes.{Appends}
 use Rattle.pg_layout.specs.Text.{Text}
