@@ -1,5 +1,6 @@
 -- What a report reads of a line, and what it writes.
-use Rattle.std.specs.Prelude.{ℕ, Bool, true, false, ◌==◌, List, [], ◌∷◌, ◌++◌, length, Option, Some, None, if◌then◌else◌, codes, decimal}
+use Rattle.std.specs.Prelude.{◌≡◌, ℕ, ◌<◌, Bool, true, false, ◌==◌, List, [], ◌∷◌, ◌++◌, map, length, Option, Some, None, if◌then◌else◌, codes, decimal}
+use Rattle.std.specs.Io.BufRead.{first_line, drop_through}
 use Rattle.std.specs.List.{slice_split}
 use Rattle.pg_layout.specs.Text.{Text}
 use Rattle.pg_layout.specs.declared.alignment.AlignmentHorizontal.TheVariants.{Right}
@@ -10,7 +11,7 @@ use Rattle.pg_layout.specs.declared.position.Entity.TheVariants.{Global, Column}
 use Rattle.pg_config.specs.Config.{Config, default_config}
 use Rattle.pg_config.specs.Settings.{with_setting}
 use Rattle.pg_stream.specs.Printers.{Printer, printing}
-use Rattle.pg_stream.specs.Printing.{Printing, printer}
+use Rattle.pg_stream.specs.Printing.{Printing, printer, rows_text}
 use Rattle.report.specs.declared.fault.Fault.{Fault}
 use Rattle.report.specs.declared.fault.Fault.TheVariants.{Words, Room, Memory, Read, Write}
 use Rattle.report.specs.declared.sheet.Sizes.{Sizes}
@@ -91,3 +92,28 @@ with_look config =
 
 abbrev pub look : Config
 look = with_look default_config
+
+-- ---- a whole report
+
+-- the lines that bytes are read as, each without its line feed and a carriage return before that
+abbrev pub AreLinesOf : List ℕ → List Text → Type 0
+AreLinesOf bytes [] = bytes ≡ []
+AreLinesOf bytes (line ∷ lines) = (0 < length bytes) × (line ≡ first_line bytes) × AreLinesOf (drop_through 10 bytes) lines
+
+-- What is written for a first line and the lines behind it that bytes are read as: each has cells, and these rows are printed one after another
+-- and ended.
+pub record Reported (s : Printing) (first : Text) (bytes : List ℕ) (text : Text) : Type 0 where
+  pub lines : List Text
+  pub read : AreLinesOf bytes lines
+  pub rows : List (List Text)
+  pub have : map cells_of (first ∷ lines) ≡ map Some rows
+  pub is : text ≡ written (s.rows == 0) (rows_text s rows)
+
+-- a printer of a ledger's rows before its first row
+abbrev pub begin : Config → Printing
+begin config = printer config 3 width_of_column (λ row. 1) (λ pos. None) None
+
+-- What is written for bytes: nothing where there are none, else what is written for their first line and those behind it.
+abbrev pub IsReport : Config → List ℕ → Text → Type 0
+IsReport config [] text = text ≡ []
+IsReport config (b ∷ bs) text = Reported (begin config) (first_line (b ∷ bs)) (drop_through 10 (b ∷ bs)) text

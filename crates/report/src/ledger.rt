@@ -1,13 +1,14 @@
 //! A ledger that is printed row by row: each line is a row, and is written when the next one is
 //! there, which tells whether it is the last.
 
-ghost use Rattle.std.specs.Prelude.{◌≡◌, ◌≢◌, ◌==◌, ◌++◌, [], List, map, true, false, Err, Some, None, string_bytes, IfOk, OnOk};
+ghost use Rattle.std.specs.Prelude.{◌≡◌, ◌≢◌, ◌==◌, ◌++◌, [], List, map, true, false, Err, Some, None, string_bytes, IfOk, IfSome, OnOk};
 ghost use Rattle.std.specs.Io.KnownBytes.{Appends, Keeps};
+ghost use Rattle.std.specs.Io.Iter.{lines_known_bytes};
 ghost use Rattle.pg_config.specs.Config.{default_config, no_indents};
 ghost use Rattle.pg_layout.specs.Text.{Text};
 ghost use Rattle.pg_stream.specs.Conditions.{RowFits};
 ghost use Rattle.pg_stream.specs.Printing.{after_row, row_text, finish_text};
-ghost use Rattle.report.specs.Report.{cells_of, state_of, status_of, written};
+ghost use Rattle.report.specs.Report.{cells_of, state_of, status_of, written, IsReport, Reported};
 ghost use Rattle.report.specs.declared.fault.Fault.{Fault};
 
 use crate::entry::cells_of;
@@ -109,12 +110,18 @@ fn print_lines<R: BufRead + Drop, W: Write>(
     first: String,
     rest: Lines<R>,
     out: &mut W,
-) -> Result<(), Fault> {
+) -> Result<(), Fault>
+    requires { (state_of printer).rows ≡ 0 }
+    ensures { OnOk result (IfSome (lines_known_bytes R.remaining rest) (λ bytes. (text : Text) × Reported (state_of printer.entry) (string_bytes first) bytes text × Appends (W.contents out.old) (W.contents out.new) text)) }
+{
     let mut buf = String::new(alloc);
     let mut line = first;
     for next in rest {
         printer = print_line(alloc, printer, &line, false, &mut buf, out)?;
-        line = next.map_err(|_| Fault::Read)?;
+        let Ok(next) = next else {
+            return Err(Fault::Read);
+        };
+        line = next;
     }
     let printer = print_line(alloc, printer, &line, true, &mut buf, out)?;
     print_end(printer, &mut buf, out)
@@ -129,14 +136,18 @@ fn print_ledger<R: Read + Drop, W: Write>(
 ) -> Result<(), Fault>
     requires spans { config.now.spans ≡ [] }
     requires margin { config.now.margin ≡ no_indents }
+    ensures { OnOk result (IfSome (R.remaining input) (λ bytes. (text : Text) × IsReport config.now bytes text × Appends (W.contents out.old) (W.contents out.new) text)) }
 {
-    let mut lines = BufReader::new(alloc, input)
-        .map_err(|_| Fault::Memory)?
-        .lines(alloc);
+    let Ok(reader) = BufReader::new(alloc, input) else {
+        return Err(Fault::Memory);
+    };
+    let mut lines = reader.lines(alloc);
     let Some(first) = lines.next() else {
         return Ok(());
     };
-    let first = first.map_err(|_| Fault::Read)?;
+    let Ok(first) = first else {
+        return Err(Fault::Read);
+    };
     let printer = RowPrinter::new(alloc, config, &Sizes, &NoColors, COLUMNS, None)?;
     print_lines(alloc, printer, first, lines, out)
 }
