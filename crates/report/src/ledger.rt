@@ -8,7 +8,7 @@ ghost use Rattle.pg_config.specs.Config.{default_config, no_indents};
 ghost use Rattle.pg_layout.specs.Text.{Text};
 ghost use Rattle.pg_stream.specs.Conditions.{RowFits};
 ghost use Rattle.pg_stream.specs.Printing.{after_row, row_text, finish_text};
-ghost use Rattle.report.specs.Report.{cells_of, state_of, status_of, written, IsReport, Reported};
+ghost use Rattle.report.specs.Report.{cells_of, state_of, status_of, look, written, IsReport, Reported};
 ghost use Rattle.report.specs.declared.fault.Fault.{Fault};
 
 use crate::entry::cells_of;
@@ -160,13 +160,16 @@ fn print_with<R: Read + Drop, W: Write>(
     out: &mut W,
 ) -> Result<(), Fault>
     requires { config.old ≡ default_config }
+    ensures { OnOk result (IfSome (R.remaining input) (λ bytes. (text : Text) × IsReport look bytes text × Appends (W.contents out.old) (W.contents out.new) text)) }
 {
     set_look(config)?;
     print_ledger(alloc, config, input, out)
 }
 
 // Prints a ledger. The configuration goes back before the answer is looked at.
-fn print<R: Read + Drop, W: Write>(alloc: Global, input: R, out: &mut W) -> Result<(), Fault> {
+fn print<R: Read + Drop, W: Write>(alloc: Global, input: R, out: &mut W) -> Result<(), Fault>
+    ensures { OnOk result (IfSome (R.remaining input) (λ bytes. (text : Text) × IsReport look bytes text × Appends (W.contents out.old) (W.contents out.new) text)) }
+{
     let mut config = SpannedConfig::new(alloc);
     let result = print_with(alloc, &mut config, input, out);
     drop(config);
@@ -187,6 +190,7 @@ pub(crate) fn run<R: Read + Drop, W1: Write, W2: Write>(
     err: &mut W2,
 ) -> u8
     ensures status { result ≢ 0 → (fault : Fault) × (result ≡ status_of fault) }
+    ensures printed { result ≡ 0 → IfSome (R.remaining input) (λ bytes. (text : Text) × IsReport look bytes text × Appends (W1.contents out.old) (W1.contents out.new) text) }
     ensures silent { result ≡ 0 → Keeps (W2.contents err.old) (W2.contents err.new) }
 {
     match print(alloc, input, out) {
