@@ -67,7 +67,7 @@ fn four_cells_in_ascii(rt: HostRuntime) -> Result<(), Fail> {
 }
 
 #[test]
-fn carriage_returns_take_no_columns(rt: HostRuntime) -> Result<(), Fail> {
+fn carriage_returns_take_a_column_each(rt: HostRuntime) -> Result<(), Fail> {
     let sample = Sample {
         texts: &[&["0-0", "123\r\r\r567"], &["1-0", "12345678"]],
         widths: &[3, 9],

@@ -184,7 +184,7 @@ borders ascii
 }
 
 #[test]
-fn carriage_returns_take_no_columns(rt: HostRuntime) -> Result<(), Fail> {
+fn carriage_returns_take_a_column_each(rt: HostRuntime) -> Result<(), Fail> {
     let script = "\
 size 2 2
 widths 3 9

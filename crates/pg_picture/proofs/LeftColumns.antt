@@ -80,7 +80,7 @@ pub next_left_column : (t : Table) → InOrder t.config.spans t.rows t.columns �
     → first_misfit t (row_places t.columns r x) ≡ first_misfit t (row_places t.columns r (x + w))
 next_left_column t order r x w is left here fits =
     next_places t t.columns r x w (step-inside t.config.spans t.rows t.columns order r x w is left here) (λ y l k.
-      elim (cases_Bool (x == y)) [
-        | inl same ↦ let one : x ≡ y = grind (arith, nat_tests, same) in subst (λ (z : ℕ). owner_fits t (at r z) ≡ true) one fits
-        | inr other ↦ owner_fits-other t r y (step-other t.config.spans t.rows t.columns order r x w is left here y (grind (arith, nat_tests, other, l)) k)
-      ])
+    elim (cases_Bool (x == y)) [
+      | inl same ↦ let one : x ≡ y = grind (arith, nat_tests, same) in subst (λ (z : ℕ). owner_fits t (at r z) ≡ true) one fits
+      | inr other ↦ owner_fits-other t r y (step-other t.config.spans t.rows t.columns order r x w is left here y (grind (arith, nat_tests, other, l)) k)
+    ])
