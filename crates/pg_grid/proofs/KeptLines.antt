@@ -1,6 +1,5 @@
 -- Lines that are read on from where the last one ended, and lines that are kept.
-use Rattle.std.proofs.Common.{◌≡◌, ℕ, Bool, true, false, not, List, length, drop, Option, Some, None, Ok, String, string_bytes, refl, ap, ◌∙◌}
-use Rattle.std.proofs.lemmas.Bool.{false≢true}
+use Rattle.std.proofs.Common.{◌≡◌, ℕ, List, length, drop, Option, Some, None, Ok, String, string_bytes, refl, ap, ◌∙◌}
 use Rattle.std.proofs.Math.Seq.{drop-append_seam}
 use Rattle.std.specs.Borrow.{Bor}
 use Rattle.std.specs.Option.{option_map, unwrap_or}
@@ -11,10 +10,6 @@ use Rattle.pg_picture.proofs.Appending.{Appends-gained}
 pub lent-or : (line : Option (Bor (List ℕ))) (other : Bor (List ℕ)) → (unwrap_or line other).now ≡ unwrap_or (option_map (λ x. x.now) line) other.now
 lent-or None other = refl
 lent-or (Some line) other = refl
-
-pub off : (b : Bool) → not b ≡ true → b ≡ false
-off false h = refl
-off true h = absurd (false≢true h)
 
 -- what a buffer has behind its old end is what was appended
 pub text-from : {Z U E : Type 0} {a b : String Z} {u : U} {text : List ℕ} (from : ℕ) → from ≡ length (string_bytes a) → Appends {U = U} {E = E} a b (Ok u) text → drop from (string_bytes b) ≡ text

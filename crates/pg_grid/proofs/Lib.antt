@@ -2,6 +2,7 @@
 pub mod KeptLines
 pub mod RowParts
 pub mod CanDraw
+pub mod BasicTables
 pub mod RectangleParts
 pub mod SeparatorParts
 pub mod CompactRows

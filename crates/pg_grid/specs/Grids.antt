@@ -1,12 +1,12 @@
 -- The tables that the grids draw.
-use Rattle.std.specs.Prelude.{◌≡◌, ℕ, ◌==◌, ◌||◌, Bool, not, List, [], length, Option}
+use Rattle.std.specs.Prelude.{◌≡◌, ℕ, ◌==◌, ◌||◌, ◌&&◌, nat_lt, Bool, true, not, List, [], length, Option, None}
 use Rattle.std.specs.Borrow.{Bor}
 use Rattle.pg_layout.specs.declared.position.Position.{Position}
 use Rattle.pg_layout.specs.Colors.{Color}
 use Rattle.pg_layout.specs.Places.{IsAscending}
 use Rattle.pg_layout.specs.Records.{text_at}
 use Rattle.pg_layout.specs.Text.{Text}
-use Rattle.pg_config.specs.Config.{Config}
+use Rattle.pg_config.specs.Config.{Config, has_padding_color, has_justification, has_offset_chars}
 use Rattle.pg_config.specs.Spans.{Span, StandAtPlaces, begins_above, is_left}
 use Rattle.pg_picture.specs.Table.{Table, table_body}
 use Rattle.pg_picture.specs.FitLaws.{TableFits}
@@ -14,6 +14,8 @@ use Rattle.pg_layout.specs.declared.records.Records as records
 use Rattle.pg_layout.specs.declared.dimension.Dimension as dimension
 use Rattle.pg_layout.specs.declared.colors.Colors as colors
 use Rattle.pg_grid.specs.declared.peekable.Shape.{Shape}
+use Rattle.pg_grid.specs.declared.peekable.path.Path.{Path}
+use Rattle.pg_grid.specs.declared.peekable.path.Path.TheVariants.{Basic, NotSpanned, Spanned}
 use Rattle.pg_grid.specs.declared.peekable.PeekableGrid.{PeekableGrid}
 
 -- The table of a grid's parts: of what its records, its dimension and its colours stand for.
@@ -36,10 +38,6 @@ peekable_table texts columns width height color grid = table_of_parts texts colu
 abbrev pub drawn : {R Cell Columns Rows D C Color : Type 0} → records.Ghosts R Cell Columns Rows → dimension.Ghosts D → colors.Ghosts C Color → PeekableGrid R (Bor Config) D C → Table
 drawn records dimension colors grid = peekable_table records.texts records.columns dimension.width dimension.height colors.color grid
 
--- how many rows and columns a table has, how many lines its body, and whether a cell spans rows or columns
-abbrev pub shape_of_table : Table → Shape
-shape_of_table t = record { rows = t.rows; columns = t.columns; height = length (table_body t); is_spanned = not (length t.config.spans == 0) }
-
 -- what a looked-up grid is made of
 abbrev pub peekable_parts : {R G D C : Type 0} → PeekableGrid R G D C → R × G × D × C
 peekable_parts grid = (grid.records, grid.config, grid.dimension, grid.colors)
@@ -47,6 +45,30 @@ peekable_parts grid = (grid.records, grid.config, grid.dimension, grid.colors)
 -- no cell spans rows or columns
 abbrev pub HasNoSpans : Table → Type 0
 HasNoSpans t = t.config.spans ≡ []
+
+-- no colour of borders or paddings, no justification, no glyph of a part of a line and no margin was set
+unfoldable pub has_borders_alone : Config → Bool
+has_borders_alone config =
+    not ((config.border_colored || has_padding_color config) || (has_justification config || has_offset_chars config))
+    && not ((nat_lt 0 config.margin.left.size || nat_lt 0 config.margin.right.size) || (nat_lt 0 config.margin.top.size || nat_lt 0 config.margin.bottom.size))
+
+-- nor does a cell have a colour
+pub record IsBasic (t : Table) : Type 0 where
+  pub borders : has_borders_alone t.config ≡ true
+  pub colors : (p : Position) → t.color p ≡ None
+
+-- the tables that a path draws
+abbrev pub Draws : Path → Table → Type 0
+Draws Basic t = HasNoSpans t × IsBasic t
+Draws NotSpanned t = HasNoSpans t
+Draws Spanned t = not (length t.config.spans == 0) ≡ true
+
+-- how many rows and columns a table has, how many lines its body, and a path that draws it
+pub record IsShapeOf (t : Table) (shape : Shape) : Type 0 where
+  pub rows : shape.rows ≡ t.rows
+  pub columns : shape.columns ≡ t.columns
+  pub height : shape.height ≡ length (table_body t)
+  pub path : Draws shape.path t
 
 -- a table that fits, whose spans stand at places in their order
 pub record CanDraw (t : Table) : Type 0 where

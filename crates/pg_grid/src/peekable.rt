@@ -1,6 +1,7 @@
 //! The looked-up grid: it reads its records at any place.
 
 use crate::peekable::kept::KeptCells;
+use crate::peekable::path::Path;
 use pg_config::SpannedConfig;
 use pg_layout::{Colors, Dimension, ExactRecords, PeekableRecords};
 use pg_picture::fits::{body_height, full_width};
@@ -10,18 +11,18 @@ use std::alloc::{AllocError, Allocator};
 mod body;
 mod kept;
 mod kept_text;
+mod path;
 mod rows;
 mod separators;
 mod spanned;
 
-/// How many rows and columns a table has, how many lines its body, and whether a cell spans rows or
-/// columns.
+/// How many rows and columns a table has, how many lines its body, and the path that draws it.
 #[derive(Debug, Clone, Copy)]
 struct Shape {
     rows: usize,
     columns: usize,
     height: usize,
-    is_spanned: bool,
+    path: Path,
 }
 
 /// A table printer over records that can be read at any place, a dimension that gives the sizes of
@@ -61,13 +62,13 @@ where
     C: Colors,
     B: Allocator,
 {
-    ghost use Rattle.std.specs.Prelude.{◌≡◌, ◌<◌, ◌==◌, not, length, [], None, IfOk, string_bytes};
+    ghost use Rattle.std.specs.Prelude.{◌≡◌, ◌<◌, ◌==◌, [], None, IfOk, string_bytes};
     ghost use Rattle.pg_picture.specs.Appending.{Appends};
     ghost use Rattle.pg_picture.specs.Fits.{misfit_of};
     ghost use Rattle.pg_picture.specs.Joined.{joined};
     ghost use Rattle.pg_picture.specs.Table.{Known};
     ghost use Rattle.pg_picture.specs.Picture.{picture, picture_lines};
-    ghost use Rattle.pg_grid.specs.Grids.{drawn, CanDraw};
+    ghost use Rattle.pg_grid.specs.Grids.{drawn, CanDraw, Draws};
 
     /// Appends the picture of the table, in which everything fits (`pg_picture::fits::table_fits`). A
     /// table with no rows or no columns appends nothing.
@@ -85,7 +86,7 @@ where
             return Ok(());
         }
         let is_spanned = !self.config.spans().is_empty();
-        self.push_picture(buf, rows, columns, is_spanned)
+        self.push_picture(buf, rows, columns, self.path(is_spanned))
     }
 
     /// The picture of the table as a text of its own, under the conditions of `build`. An error
@@ -105,12 +106,12 @@ where
         buf: &mut String<A>,
         rows: usize,
         columns: usize,
-        is_spanned: bool,
+        path: Path,
     ) -> Result<(), AllocError>
         requires can { CanDraw (drawn R.Records D.Dimension C.Colors self.now) }
         requires rows { rows ≡ (drawn R.Records D.Dimension C.Colors self.now).rows }
         requires columns { columns ≡ (drawn R.Records D.Dimension C.Colors self.now).columns }
-        requires spanned { is_spanned ≡ not (length (drawn R.Records D.Dimension C.Colors self.now).config.spans == 0) }
+        requires path { Draws path (drawn R.Records D.Dimension C.Colors self.now) }
         ensures { Appends buf.old buf.new result (joined (picture_lines Known (drawn R.Records D.Dimension C.Colors self.now))) }
     {
         let width = full_width(self.config, &self.dimension, columns).unwrap();
@@ -119,7 +120,7 @@ where
             rows,
             columns,
             height,
-            is_spanned,
+            path,
         };
         let is_first = self.config.get_margin().top.size == 0;
         let mut kept = KeptCells::new();

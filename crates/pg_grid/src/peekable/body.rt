@@ -10,7 +10,7 @@ ghost use Rattle.pg_picture.specs.Pieces.{written};
 ghost use Rattle.pg_picture.specs.Table.{Known, table_body, side_margin_at};
 ghost use Rattle.pg_picture.specs.Picture.{body_text};
 ghost use Rattle.pg_grid.specs.Kept.{AreKept};
-ghost use Rattle.pg_grid.specs.Grids.{drawn, CanDraw, shape_of_table};
+ghost use Rattle.pg_grid.specs.Grids.{drawn, CanDraw, IsShapeOf};
 
 use crate::peekable::kept::KeptCells;
 use crate::peekable::{PeekableGrid, Shape};
@@ -35,7 +35,7 @@ where
         is_first: bool,
     ) -> Result<(), AllocError>
         requires can { CanDraw (drawn R.Records D.Dimension C.Colors self.now) }
-        requires shape { shape ≡ shape_of_table (drawn R.Records D.Dimension C.Colors self.now) }
+        requires shape { IsShapeOf (drawn R.Records D.Dimension C.Colors self.now) shape }
         requires kept { AreKept (drawn R.Records D.Dimension C.Colors self.now) kept.old }
         ensures appends { Appends buf.old buf.new result (body_text Known (drawn R.Records D.Dimension C.Colors self.now) (lines_before is_first) 0 (table_body (drawn R.Records D.Dimension C.Colors self.now))) }
         ensures kept { AreKept (drawn R.Records D.Dimension C.Colors self.now) kept.new }
@@ -58,7 +58,7 @@ where
         is_first: bool,
     ) -> Result<usize, AllocError>
         requires can { CanDraw (drawn R.Records D.Dimension C.Colors self.now) }
-        requires shape { shape ≡ shape_of_table (drawn R.Records D.Dimension C.Colors self.now) }
+        requires shape { IsShapeOf (drawn R.Records D.Dimension C.Colors self.now) shape }
         requires row { row < (drawn R.Records D.Dimension C.Colors self.now).rows }
         requires room { index + length (marks_of_row (drawn R.Records D.Dimension C.Colors self.now).config (drawn R.Records D.Dimension C.Colors self.now).height row) ≤ shape.height }
         requires kept { AreKept (drawn R.Records D.Dimension C.Colors self.now) kept.old }
@@ -81,7 +81,7 @@ where
         is_first: bool,
     ) -> Result<usize, AllocError>
         requires can { CanDraw (drawn R.Records D.Dimension C.Colors self.now) }
-        requires shape { shape ≡ shape_of_table (drawn R.Records D.Dimension C.Colors self.now) }
+        requires shape { IsShapeOf (drawn R.Records D.Dimension C.Colors self.now) shape }
         requires row { row ≤ (drawn R.Records D.Dimension C.Colors self.now).rows }
         requires room { index + length (only_if (has_horizontal (drawn R.Records D.Dimension C.Colors self.now).config row (drawn R.Records D.Dimension C.Colors self.now).rows) (sep row)) ≤ shape.height }
         requires kept { AreKept (drawn R.Records D.Dimension C.Colors self.now) kept.old }
@@ -106,7 +106,7 @@ where
         is_first: bool,
     ) -> Result<(), AllocError>
         requires can { CanDraw (drawn R.Records D.Dimension C.Colors self.now) }
-        requires shape { shape ≡ shape_of_table (drawn R.Records D.Dimension C.Colors self.now) }
+        requires shape { IsShapeOf (drawn R.Records D.Dimension C.Colors self.now) shape }
         requires room { index + length (only_if (has_horizontal (drawn R.Records D.Dimension C.Colors self.now).config (drawn R.Records D.Dimension C.Colors self.now).rows (drawn R.Records D.Dimension C.Colors self.now).rows) (sep (drawn R.Records D.Dimension C.Colors self.now).rows)) ≤ shape.height }
         requires kept { AreKept (drawn R.Records D.Dimension C.Colors self.now) kept.old }
         ensures appends { Appends buf.old buf.new result (body_text Known (drawn R.Records D.Dimension C.Colors self.now) (lines_before is_first) index (only_if (has_horizontal (drawn R.Records D.Dimension C.Colors self.now).config (drawn R.Records D.Dimension C.Colors self.now).rows (drawn R.Records D.Dimension C.Colors self.now).rows) (sep (drawn R.Records D.Dimension C.Colors self.now).rows))) }
@@ -127,7 +127,7 @@ where
         is_first: bool,
     ) -> Result<usize, AllocError>
         requires can { CanDraw (drawn R.Records D.Dimension C.Colors self.now) }
-        requires shape { shape ≡ shape_of_table (drawn R.Records D.Dimension C.Colors self.now) }
+        requires shape { IsShapeOf (drawn R.Records D.Dimension C.Colors self.now) shape }
         requires row { row < (drawn R.Records D.Dimension C.Colors self.now).rows }
         requires room { index + (drawn R.Records D.Dimension C.Colors self.now).height row ≤ shape.height }
         requires kept { AreKept (drawn R.Records D.Dimension C.Colors self.now) kept.old }
@@ -154,16 +154,16 @@ where
         is_first: bool,
     ) -> Result<(), AllocError>
         requires can { CanDraw (drawn R.Records D.Dimension C.Colors self.now) }
-        requires shape { shape ≡ shape_of_table (drawn R.Records D.Dimension C.Colors self.now) }
+        requires shape { IsShapeOf (drawn R.Records D.Dimension C.Colors self.now) shape }
         requires row { row < (drawn R.Records D.Dimension C.Colors self.now).rows }
         requires number { number < (drawn R.Records D.Dimension C.Colors self.now).height row }
         requires kept { AreKept (drawn R.Records D.Dimension C.Colors self.now) kept.old }
         ensures appends { Appends buf.old buf.new result (body_text Known (drawn R.Records D.Dimension C.Colors self.now) (lines_before is_first) index (line row number ∷ [])) }
         ensures kept { AreKept (drawn R.Records D.Dimension C.Colors self.now) kept.new }
     {
-        push_start(buf, self.config, shape.height, index, is_first)?;
+        self.push_line_start(buf, shape, index, is_first)?;
         self.push_row_line(buf, kept, shape, row, number)?;
-        push_right_margin(buf, self.config, index, Some(shape.height))
+        self.push_line_end(buf, shape, index)
     }
 
     // A separator, between its margins.
@@ -177,30 +177,50 @@ where
         is_first: bool,
     ) -> Result<(), AllocError>
         requires can { CanDraw (drawn R.Records D.Dimension C.Colors self.now) }
-        requires shape { shape ≡ shape_of_table (drawn R.Records D.Dimension C.Colors self.now) }
+        requires shape { IsShapeOf (drawn R.Records D.Dimension C.Colors self.now) shape }
         requires row { row ≤ (drawn R.Records D.Dimension C.Colors self.now).rows }
         requires there { has_horizontal (drawn R.Records D.Dimension C.Colors self.now).config row (drawn R.Records D.Dimension C.Colors self.now).rows ≡ true }
         requires kept { AreKept (drawn R.Records D.Dimension C.Colors self.now) kept.old }
         ensures appends { Appends buf.old buf.new result (body_text Known (drawn R.Records D.Dimension C.Colors self.now) (lines_before is_first) index (sep row ∷ [])) }
         ensures kept { AreKept (drawn R.Records D.Dimension C.Colors self.now) kept.new }
     {
-        push_start(buf, self.config, shape.height, index, is_first)?;
+        self.push_line_start(buf, shape, index, is_first)?;
         self.push_separator(buf, kept, shape, row)?;
+        self.push_line_end(buf, shape, index)
+    }
+
+    // What stands before a line of the body: its line feed, unless the line is the picture's first,
+    // and its left margin, which tables of the basic path don't have.
+    fn push_line_start<A: Allocator>(
+        &self,
+        buf: &mut String<A>,
+        shape: Shape,
+        index: usize,
+        is_first: bool,
+    ) -> Result<(), AllocError>
+        requires shape { IsShapeOf (drawn R.Records D.Dimension C.Colors self.now) shape }
+        ensures { Appends buf.old buf.new result (feed_before ((lines_before is_first + index) == 0) ++ written (side_margin_at (Some shape.height) (drawn R.Records D.Dimension C.Colors self.now).config.margin.left (drawn R.Records D.Dimension C.Colors self.now).config.margin_offset.left (drawn R.Records D.Dimension C.Colors self.now).config.margin_color.left index)) }
+    {
+        push_feed(buf, is_first && index == 0)?;
+        if shape.path.is_basic() {
+            return Ok(());
+        }
+        push_left_margin(buf, self.config, index, Some(shape.height))
+    }
+
+    // What stands behind a line of the body: its right margin.
+    fn push_line_end<A: Allocator>(
+        &self,
+        buf: &mut String<A>,
+        shape: Shape,
+        index: usize,
+    ) -> Result<(), AllocError>
+        requires shape { IsShapeOf (drawn R.Records D.Dimension C.Colors self.now) shape }
+        ensures { Appends buf.old buf.new result (written (side_margin_at (Some shape.height) (drawn R.Records D.Dimension C.Colors self.now).config.margin.right (drawn R.Records D.Dimension C.Colors self.now).config.margin_offset.right (drawn R.Records D.Dimension C.Colors self.now).config.margin_color.right index)) }
+    {
+        if shape.path.is_basic() {
+            return Ok(());
+        }
         push_right_margin(buf, self.config, index, Some(shape.height))
     }
-}
-
-// What stands before a line of a body of this height: its line feed, unless the line is the
-// picture's first, and its left margin.
-fn push_start<B: Allocator, A: Allocator>(
-    buf: &mut String<A>,
-    config: &SpannedConfig<B>,
-    height: usize,
-    index: usize,
-    is_first: bool,
-) -> Result<(), AllocError>
-    ensures { Appends buf.old buf.new result (feed_before ((lines_before is_first + index) == 0) ++ written (side_margin_at (Some height) config.now.margin.left config.now.margin_offset.left config.now.margin_color.left index)) }
-{
-    push_feed(buf, is_first && index == 0)?;
-    push_left_margin(buf, config, index, Some(height))
 }

@@ -9,7 +9,7 @@ ghost use Rattle.pg_picture.specs.Cells.{style_of, facts_of, place_of};
 ghost use Rattle.pg_picture.specs.Table.{row_part, row_line, vertical_at};
 ghost use Rattle.pg_picture.specs.Fits.{cell_fits};
 ghost use Rattle.pg_grid.specs.Kept.{AreKept, Reads};
-ghost use Rattle.pg_grid.specs.Grids.{drawn, CanDraw, HasNoSpans, shape_of_table};
+ghost use Rattle.pg_grid.specs.Grids.{drawn, CanDraw, HasNoSpans, IsShapeOf};
 
 use crate::peekable::kept::{KeptCells, Reading};
 use crate::peekable::{PeekableGrid, Shape};
@@ -37,7 +37,7 @@ where
         line: usize,
     ) -> Result<(), AllocError>
         requires can { CanDraw (drawn R.Records D.Dimension C.Colors self.now) }
-        requires shape { shape ≡ shape_of_table (drawn R.Records D.Dimension C.Colors self.now) }
+        requires shape { IsShapeOf (drawn R.Records D.Dimension C.Colors self.now) shape }
         requires row { row < (drawn R.Records D.Dimension C.Colors self.now).rows }
         requires line { line < D.height self.now.dimension row }
         requires kept { AreKept (drawn R.Records D.Dimension C.Colors self.now) kept.old }
@@ -58,17 +58,17 @@ where
         line: usize,
     ) -> Result<(), AllocError>
         requires can { CanDraw (drawn R.Records D.Dimension C.Colors self.now) }
-        requires shape { shape ≡ shape_of_table (drawn R.Records D.Dimension C.Colors self.now) }
+        requires shape { IsShapeOf (drawn R.Records D.Dimension C.Colors self.now) shape }
         requires row { row < (drawn R.Records D.Dimension C.Colors self.now).rows }
         requires line { line < D.height self.now.dimension row }
         requires kept { AreKept (drawn R.Records D.Dimension C.Colors self.now) kept.old }
         ensures appends { Appends buf.old buf.new result (written (flat_map (row_part (drawn R.Records D.Dimension C.Colors self.now) row line) (range_with_len 0 (drawn R.Records D.Dimension C.Colors self.now).columns))) }
         ensures kept { AreKept (drawn R.Records D.Dimension C.Colors self.now) kept.new }
     {
-        if shape.is_spanned {
+        if shape.path.is_spanned() {
             return self.push_spanned_parts(buf, kept, shape, row, line);
         }
-        self.push_plain_parts(buf, kept, shape.columns, row, line)
+        self.push_plain_parts(buf, kept, shape, row, line)
     }
 
     // The same where no cell spans rows or columns.
@@ -76,13 +76,13 @@ where
         &self,
         buf: &mut String<A>,
         kept: &mut KeptCells,
-        columns: usize,
+        shape: Shape,
         row: usize,
         line: usize,
     ) -> Result<(), AllocError>
         requires can { CanDraw (drawn R.Records D.Dimension C.Colors self.now) }
         requires plain { HasNoSpans (drawn R.Records D.Dimension C.Colors self.now) }
-        requires columns { columns ≡ (drawn R.Records D.Dimension C.Colors self.now).columns }
+        requires shape { IsShapeOf (drawn R.Records D.Dimension C.Colors self.now) shape }
         requires row { row < (drawn R.Records D.Dimension C.Colors self.now).rows }
         requires line { line < D.height self.now.dimension row }
         requires kept { AreKept (drawn R.Records D.Dimension C.Colors self.now) kept.old }
@@ -91,10 +91,10 @@ where
     {
         let is_one = self.config.has_one_style();
         let mut style = CellStyle::of(self.config, Position::new(row, 0));
-        for column in 0..columns {
+        for column in 0..shape.columns {
             let pos = Position::new(row, column);
             self.change_style(&mut style, is_one, pos);
-            self.push_part(buf, kept, &style, columns, pos, line)?;
+            self.push_part(buf, kept, shape, &style, pos, line)?;
         }
         Ok(())
     }
@@ -116,24 +116,25 @@ where
         &self,
         buf: &mut String<A>,
         kept: &mut KeptCells,
+        shape: Shape,
         style: &CellStyle<'_, B>,
-        columns: usize,
         pos: Position,
         line: usize,
     ) -> Result<(), AllocError>
+        requires shape { IsShapeOf (drawn R.Records D.Dimension C.Colors self.now) shape }
         requires style { style_of style.now ≡ style_at (drawn R.Records D.Dimension C.Colors self.now).config pos }
         requires row { pos.row < (drawn R.Records D.Dimension C.Colors self.now).rows }
         requires column { pos.col < (drawn R.Records D.Dimension C.Colors self.now).columns }
         requires line { line < D.height self.now.dimension pos.row }
         requires room { cell_fits (style_at (drawn R.Records D.Dimension C.Colors self.now).config pos) ((drawn R.Records D.Dimension C.Colors self.now).text pos) (D.width self.now.dimension pos.col) (D.height self.now.dimension pos.row) ≡ true }
         requires kept { AreKept (drawn R.Records D.Dimension C.Colors self.now) kept.old }
-        ensures appends { Appends buf.old buf.new result (written (vertical_at (drawn R.Records D.Dimension C.Colors self.now).config columns (D.height self.now.dimension pos.row) pos line) ++ written (block_line (style_at (drawn R.Records D.Dimension C.Colors self.now).config pos) ((drawn R.Records D.Dimension C.Colors self.now).color pos) ((drawn R.Records D.Dimension C.Colors self.now).text pos) (D.width self.now.dimension pos.col) (D.height self.now.dimension pos.row) line)) }
+        ensures appends { Appends buf.old buf.new result (written (vertical_at (drawn R.Records D.Dimension C.Colors self.now).config shape.columns (D.height self.now.dimension pos.row) pos line) ++ written (block_line (style_at (drawn R.Records D.Dimension C.Colors self.now).config pos) ((drawn R.Records D.Dimension C.Colors self.now).color pos) ((drawn R.Records D.Dimension C.Colors self.now).text pos) (D.width self.now.dimension pos.col) (D.height self.now.dimension pos.row) line)) }
         ensures kept { AreKept (drawn R.Records D.Dimension C.Colors self.now) kept.new }
     {
         let height = self.dimension.get_height(pos.row);
         let width = self.dimension.get_width(pos.col);
-        push_vertical_at(buf, self.config, columns, height, pos, line)?;
-        self.push_cell(buf, kept, style, pos, width, height, line)
+        push_vertical_at(buf, self.config, shape.columns, height, pos, line)?;
+        self.push_cell(buf, kept, shape, style, pos, width, height, line)
     }
 
     // The vertical behind the last column.
@@ -165,12 +166,14 @@ where
         &self,
         buf: &mut String<A>,
         kept: &mut KeptCells,
+        shape: Shape,
         style: &CellStyle<'_, B>,
         pos: Position,
         width: usize,
         height: usize,
         line: usize,
     ) -> Result<(), AllocError>
+        requires shape { IsShapeOf (drawn R.Records D.Dimension C.Colors self.now) shape }
         requires style { style_of style.now ≡ style_at (drawn R.Records D.Dimension C.Colors self.now).config pos }
         requires row { pos.row < (drawn R.Records D.Dimension C.Colors self.now).rows }
         requires column { pos.col < (drawn R.Records D.Dimension C.Colors self.now).columns }
@@ -181,9 +184,9 @@ where
         ensures kept { AreKept (drawn R.Records D.Dimension C.Colors self.now) kept.new }
     {
         if height == 1 {
-            return self.push_low_cell(buf, style, pos, width);
+            return self.push_low_cell(buf, shape, style, pos, width);
         }
-        self.push_tall_cell(buf, kept, style, pos, width, height, line)
+        self.push_tall_cell(buf, kept, shape, style, pos, width, height, line)
     }
 
     // The line of a cell of one line.
@@ -191,10 +194,12 @@ where
     fn push_low_cell<A: Allocator>(
         &self,
         buf: &mut String<A>,
+        shape: Shape,
         style: &CellStyle<'_, B>,
         pos: Position,
         width: usize,
     ) -> Result<(), AllocError>
+        requires shape { IsShapeOf (drawn R.Records D.Dimension C.Colors self.now) shape }
         requires style { style_of style.now ≡ style_at (drawn R.Records D.Dimension C.Colors self.now).config pos }
         requires row { pos.row < (drawn R.Records D.Dimension C.Colors self.now).rows }
         requires column { pos.col < (drawn R.Records D.Dimension C.Colors self.now).columns }
@@ -202,7 +207,7 @@ where
         ensures { Appends buf.old buf.new result (written (block_line (style_at (drawn R.Records D.Dimension C.Colors self.now).config pos) ((drawn R.Records D.Dimension C.Colors self.now).color pos) ((drawn R.Records D.Dimension C.Colors self.now).text pos) width 1 0)) }
     {
         let text = self.records.get_text(pos);
-        push_single_line(buf, style, self.colors.get_color(pos), text, width)
+        push_single_line(buf, style, self.color_of(shape, pos), text, width)
     }
 
     // Line `line` of a cell, whose text is read on from its last line where that is kept.
@@ -210,12 +215,14 @@ where
         &self,
         buf: &mut String<A>,
         kept: &mut KeptCells,
+        shape: Shape,
         style: &CellStyle<'_, B>,
         pos: Position,
         width: usize,
         height: usize,
         line: usize,
     ) -> Result<(), AllocError>
+        requires shape { IsShapeOf (drawn R.Records D.Dimension C.Colors self.now) shape }
         requires style { style_of style.now ≡ style_at (drawn R.Records D.Dimension C.Colors self.now).config pos }
         requires row { pos.row < (drawn R.Records D.Dimension C.Colors self.now).rows }
         requires column { pos.col < (drawn R.Records D.Dimension C.Colors self.now).columns }
@@ -226,7 +233,7 @@ where
         ensures kept { AreKept (drawn R.Records D.Dimension C.Colors self.now) kept.new }
     {
         let text = self.records.get_text(pos);
-        let color = self.colors.get_color(pos);
+        let color = self.color_of(shape, pos);
         let mut reading = match kept.reading(pos, width, height) {
             Some(reading) => reading,
             None => begin_reading(style, text, width, height),
@@ -234,6 +241,18 @@ where
         let done = push_read_line(buf, style, color, text, &mut reading, width, height, line);
         kept.keep_reading(pos, width, height, reading);
         done
+    }
+
+    // The colour of a cell, which isn't looked up on the basic path.
+    #[inline(always)]
+    fn color_of(&self, shape: Shape, pos: Position) -> Option<&C::Color>
+        requires shape { IsShapeOf (drawn R.Records D.Dimension C.Colors self.now) shape }
+        ensures { lent_color C.Color.color_of result ≡ (drawn R.Records D.Dimension C.Colors self.now).color pos }
+    {
+        if shape.path.is_basic() {
+            return None;
+        }
+        self.colors.get_color(pos)
     }
 }
 

@@ -7,7 +7,7 @@ ghost use Rattle.pg_picture.specs.Appending.{Appends};
 ghost use Rattle.pg_picture.specs.Pieces.{separator_text, items_after, last_color};
 ghost use Rattle.pg_picture.specs.Table.{separator_items, separator_part, crossing_at, border_items};
 ghost use Rattle.pg_grid.specs.Kept.{AreKept};
-ghost use Rattle.pg_grid.specs.Grids.{drawn, CanDraw, HasNoSpans, shape_of_table};
+ghost use Rattle.pg_grid.specs.Grids.{drawn, CanDraw, HasNoSpans, IsShapeOf};
 
 use crate::peekable::kept::KeptCells;
 use crate::peekable::{PeekableGrid, Shape};
@@ -32,7 +32,7 @@ where
         row: usize,
     ) -> Result<(), AllocError>
         requires can { CanDraw (drawn R.Records D.Dimension C.Colors self.now) }
-        requires shape { shape ≡ shape_of_table (drawn R.Records D.Dimension C.Colors self.now) }
+        requires shape { IsShapeOf (drawn R.Records D.Dimension C.Colors self.now) shape }
         requires row { row ≤ (drawn R.Records D.Dimension C.Colors self.now).rows }
         requires there { has_horizontal (drawn R.Records D.Dimension C.Colors self.now).config row (drawn R.Records D.Dimension C.Colors self.now).rows ≡ true }
         requires kept { AreKept (drawn R.Records D.Dimension C.Colors self.now) kept.old }
@@ -55,7 +55,7 @@ where
         row: usize,
     ) -> Result<(), AllocError>
         requires can { CanDraw (drawn R.Records D.Dimension C.Colors self.now) }
-        requires shape { shape ≡ shape_of_table (drawn R.Records D.Dimension C.Colors self.now) }
+        requires shape { IsShapeOf (drawn R.Records D.Dimension C.Colors self.now) shape }
         requires some { 0 < row }
         requires row { row < (drawn R.Records D.Dimension C.Colors self.now).rows }
         requires there { has_horizontal (drawn R.Records D.Dimension C.Colors self.now).config row (drawn R.Records D.Dimension C.Colors self.now).rows ≡ true }
@@ -68,7 +68,7 @@ where
         }
         let from = buf.len();
         self.push_new_separator(buf, kept, shape, row)?;
-        if !shape.is_spanned && self.config.has_equal_row_lines() {
+        if !shape.path.is_spanned() && self.config.has_equal_row_lines() {
             kept.keep_separator(buf, from);
         }
         Ok(())
@@ -83,7 +83,7 @@ where
         row: usize,
     ) -> Result<(), AllocError>
         requires can { CanDraw (drawn R.Records D.Dimension C.Colors self.now) }
-        requires shape { shape ≡ shape_of_table (drawn R.Records D.Dimension C.Colors self.now) }
+        requires shape { IsShapeOf (drawn R.Records D.Dimension C.Colors self.now) shape }
         requires row { row ≤ (drawn R.Records D.Dimension C.Colors self.now).rows }
         requires there { has_horizontal (drawn R.Records D.Dimension C.Colors self.now).config row (drawn R.Records D.Dimension C.Colors self.now).rows ≡ true }
         requires kept { AreKept (drawn R.Records D.Dimension C.Colors self.now) kept.old }
@@ -105,14 +105,14 @@ where
         row: usize,
     ) -> Result<Run<'a, ANSIBuf<B>>, AllocError>
         requires can { CanDraw (drawn R.Records D.Dimension C.Colors self.now) }
-        requires shape { shape ≡ shape_of_table (drawn R.Records D.Dimension C.Colors self.now) }
+        requires shape { IsShapeOf (drawn R.Records D.Dimension C.Colors self.now) shape }
         requires there { has_horizontal (drawn R.Records D.Dimension C.Colors self.now).config row (drawn R.Records D.Dimension C.Colors self.now).rows ≡ true }
         requires kept { AreKept (drawn R.Records D.Dimension C.Colors self.now) kept.old }
         ensures appends { Appends buf.old buf.new result (items_after run.entry (flat_map (separator_part (drawn R.Records D.Dimension C.Colors self.now) row) (range_with_len 0 (drawn R.Records D.Dimension C.Colors self.now).columns))) }
         ensures color { IfOk result (λ after. after ≡ last_color run.entry (flat_map (separator_part (drawn R.Records D.Dimension C.Colors self.now) row) (range_with_len 0 (drawn R.Records D.Dimension C.Colors self.now).columns))) }
         ensures kept { AreKept (drawn R.Records D.Dimension C.Colors self.now) kept.new }
     {
-        if shape.is_spanned {
+        if shape.path.is_spanned() {
             return self.push_spanned_columns(run, buf, kept, shape, row);
         }
         self.push_plain_columns(run, buf, shape, row)
@@ -127,7 +127,7 @@ where
         row: usize,
     ) -> Result<Run<'a, ANSIBuf<B>>, AllocError>
         requires plain { HasNoSpans (drawn R.Records D.Dimension C.Colors self.now) }
-        requires shape { shape ≡ shape_of_table (drawn R.Records D.Dimension C.Colors self.now) }
+        requires shape { IsShapeOf (drawn R.Records D.Dimension C.Colors self.now) shape }
         ensures appends { Appends buf.old buf.new result (items_after run.entry (flat_map (separator_part (drawn R.Records D.Dimension C.Colors self.now) row) (range_with_len 0 (drawn R.Records D.Dimension C.Colors self.now).columns))) }
         ensures color { IfOk result (λ after. after ≡ last_color run.entry (flat_map (separator_part (drawn R.Records D.Dimension C.Colors self.now) row) (range_with_len 0 (drawn R.Records D.Dimension C.Colors self.now).columns))) }
     {
@@ -162,7 +162,7 @@ where
         shape: Shape,
         row: usize,
     ) -> Result<Run<'a, ANSIBuf<B>>, AllocError>
-        requires shape { shape ≡ shape_of_table (drawn R.Records D.Dimension C.Colors self.now) }
+        requires shape { IsShapeOf (drawn R.Records D.Dimension C.Colors self.now) shape }
         ensures appends { Appends buf.old buf.new result (items_after run.entry (separator_part (drawn R.Records D.Dimension C.Colors self.now) row (drawn R.Records D.Dimension C.Colors self.now).columns)) }
         ensures color { IfOk result (λ after. after ≡ last_color run.entry (separator_part (drawn R.Records D.Dimension C.Colors self.now) row (drawn R.Records D.Dimension C.Colors self.now).columns)) }
     {

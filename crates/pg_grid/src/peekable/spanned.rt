@@ -10,7 +10,7 @@ ghost use Rattle.pg_picture.specs.Marks.{sep, line};
 ghost use Rattle.pg_picture.specs.Table.{row_part, separator_part, vertical_at, block_at, rect_width, rect_height, crossing_at};
 ghost use Rattle.pg_picture.specs.Rectangles.{IsOwner, rows_height};
 ghost use Rattle.pg_grid.specs.Kept.{AreKept, IsRectangle};
-ghost use Rattle.pg_grid.specs.Grids.{drawn, CanDraw, shape_of_table, starts};
+ghost use Rattle.pg_grid.specs.Grids.{drawn, CanDraw, IsShapeOf, starts};
 
 use crate::peekable::kept::{KeptCells, KeptRectangle};
 use crate::peekable::{PeekableGrid, Shape};
@@ -37,7 +37,7 @@ where
         number: usize,
     ) -> Result<(), AllocError>
         requires can { CanDraw (drawn R.Records D.Dimension C.Colors self.now) }
-        requires shape { shape ≡ shape_of_table (drawn R.Records D.Dimension C.Colors self.now) }
+        requires shape { IsShapeOf (drawn R.Records D.Dimension C.Colors self.now) shape }
         requires row { row < (drawn R.Records D.Dimension C.Colors self.now).rows }
         requires number { number < D.height self.now.dimension row }
         requires kept { AreKept (drawn R.Records D.Dimension C.Colors self.now) kept.old }
@@ -65,7 +65,7 @@ where
         number: usize,
     ) -> Result<(), AllocError>
         requires can { CanDraw (drawn R.Records D.Dimension C.Colors self.now) }
-        requires shape { shape ≡ shape_of_table (drawn R.Records D.Dimension C.Colors self.now) }
+        requires shape { IsShapeOf (drawn R.Records D.Dimension C.Colors self.now) shape }
         requires row { pos.row < (drawn R.Records D.Dimension C.Colors self.now).rows }
         requires column { pos.col < (drawn R.Records D.Dimension C.Colors self.now).columns }
         requires number { number < D.height self.now.dimension pos.row }
@@ -78,7 +78,7 @@ where
         match span {
             None => {
                 let style = CellStyle::of(self.config, pos);
-                self.push_part(buf, kept, &style, shape.columns, pos, number)
+                self.push_part(buf, kept, shape, &style, pos, number)
             }
             Some(span) => self.push_rectangle_part(buf, kept, shape, pos, span, number),
         }
@@ -95,7 +95,7 @@ where
         number: usize,
     ) -> Result<(), AllocError>
         requires can { CanDraw (drawn R.Records D.Dimension C.Colors self.now) }
-        requires shape { shape ≡ shape_of_table (drawn R.Records D.Dimension C.Colors self.now) }
+        requires shape { IsShapeOf (drawn R.Records D.Dimension C.Colors self.now) shape }
         requires row { pos.row < (drawn R.Records D.Dimension C.Colors self.now).rows }
         requires number { number < D.height self.now.dimension pos.row }
         requires span { left_span (drawn R.Records D.Dimension C.Colors self.now).config.spans pos.row pos.col ≡ Some span }
@@ -106,7 +106,7 @@ where
         let height = self.dimension.get_height(pos.row);
         push_vertical_at(buf, self.config, shape.columns, height, pos, number)?;
         let rectangle = self.rectangle_at(kept, shape, corner_of(span), pos.row);
-        self.push_rectangle(buf, kept, rectangle, rectangle.above + number)
+        self.push_rectangle(buf, kept, shape, rectangle, rectangle.above + number)
     }
 
     // What all columns add to a separator, from rectangle to rectangle from above.
@@ -119,7 +119,7 @@ where
         row: usize,
     ) -> Result<Run<'a, ANSIBuf<B>>, AllocError>
         requires can { CanDraw (drawn R.Records D.Dimension C.Colors self.now) }
-        requires shape { shape ≡ shape_of_table (drawn R.Records D.Dimension C.Colors self.now) }
+        requires shape { IsShapeOf (drawn R.Records D.Dimension C.Colors self.now) shape }
         requires there { has_horizontal (drawn R.Records D.Dimension C.Colors self.now).config row (drawn R.Records D.Dimension C.Colors self.now).rows ≡ true }
         requires kept { AreKept (drawn R.Records D.Dimension C.Colors self.now) kept.old }
         ensures appends { Appends buf.old buf.new result (items_after run.entry (flat_map (separator_part (drawn R.Records D.Dimension C.Colors self.now) row) (range_with_len 0 (drawn R.Records D.Dimension C.Colors self.now).columns))) }
@@ -147,7 +147,7 @@ where
         span: Option<Span>,
     ) -> Result<Run<'a, ANSIBuf<B>>, AllocError>
         requires can { CanDraw (drawn R.Records D.Dimension C.Colors self.now) }
-        requires shape { shape ≡ shape_of_table (drawn R.Records D.Dimension C.Colors self.now) }
+        requires shape { IsShapeOf (drawn R.Records D.Dimension C.Colors self.now) shape }
         requires column { pos.col < (drawn R.Records D.Dimension C.Colors self.now).columns }
         requires there { has_horizontal (drawn R.Records D.Dimension C.Colors self.now).config pos.row (drawn R.Records D.Dimension C.Colors self.now).rows ≡ true }
         requires starts { starts (drawn R.Records D.Dimension C.Colors self.now).config.spans pos.row pos.col ≡ true }
@@ -174,7 +174,7 @@ where
         span: Span,
     ) -> Result<Run<'a, ANSIBuf<B>>, AllocError>
         requires can { CanDraw (drawn R.Records D.Dimension C.Colors self.now) }
-        requires shape { shape ≡ shape_of_table (drawn R.Records D.Dimension C.Colors self.now) }
+        requires shape { IsShapeOf (drawn R.Records D.Dimension C.Colors self.now) shape }
         requires there { has_horizontal (drawn R.Records D.Dimension C.Colors self.now).config pos.row (drawn R.Records D.Dimension C.Colors self.now).rows ≡ true }
         requires span { span_above (drawn R.Records D.Dimension C.Colors self.now).config.spans pos.row pos.col ≡ Some span }
         requires kept { AreKept (drawn R.Records D.Dimension C.Colors self.now) kept.old }
@@ -185,7 +185,7 @@ where
         let run = run.crossing(buf, self.config, pos, (shape.rows, shape.columns))?;
         let run = run.close_for_block(buf)?;
         let rectangle = self.rectangle_at(kept, shape, corner_of(span), pos.row);
-        self.push_rectangle(buf, kept, rectangle, rectangle.above - 1)?;
+        self.push_rectangle(buf, kept, shape, rectangle, rectangle.above - 1)?;
         Ok(run)
     }
 
@@ -198,7 +198,7 @@ where
         row: usize,
     ) -> KeptRectangle
         requires can { CanDraw (drawn R.Records D.Dimension C.Colors self.now) }
-        requires shape { shape ≡ shape_of_table (drawn R.Records D.Dimension C.Colors self.now) }
+        requires shape { IsShapeOf (drawn R.Records D.Dimension C.Colors self.now) shape }
         requires owner { IsOwner (drawn R.Records D.Dimension C.Colors self.now) corner }
         requires first { corner.row ≤ row }
         requires row { row < (drawn R.Records D.Dimension C.Colors self.now).rows }
@@ -225,7 +225,7 @@ where
     // The rectangle of an owner, above whose first row stands none of its lines.
     fn rectangle_of(&self, shape: Shape, corner: Position) -> KeptRectangle
         requires can { CanDraw (drawn R.Records D.Dimension C.Colors self.now) }
-        requires shape { shape ≡ shape_of_table (drawn R.Records D.Dimension C.Colors self.now) }
+        requires shape { IsShapeOf (drawn R.Records D.Dimension C.Colors self.now) shape }
         requires owner { IsOwner (drawn R.Records D.Dimension C.Colors self.now) corner }
         ensures corner { result.corner ≡ corner }
         ensures row { result.row ≡ corner.row }
@@ -246,7 +246,7 @@ where
     // earlier one. With each row comes the separator below it.
     fn lines_above(&self, shape: Shape, known: KeptRectangle, row: usize) -> usize
         requires can { CanDraw (drawn R.Records D.Dimension C.Colors self.now) }
-        requires shape { shape ≡ shape_of_table (drawn R.Records D.Dimension C.Colors self.now) }
+        requires shape { IsShapeOf (drawn R.Records D.Dimension C.Colors self.now) shape }
         requires known { IsRectangle (drawn R.Records D.Dimension C.Colors self.now) known }
         requires first { known.row ≤ row }
         requires row { row < (drawn R.Records D.Dimension C.Colors self.now).rows }
@@ -275,10 +275,12 @@ where
         &self,
         buf: &mut String<A>,
         kept: &mut KeptCells,
+        shape: Shape,
         rectangle: KeptRectangle,
         number: usize,
     ) -> Result<(), AllocError>
         requires can { CanDraw (drawn R.Records D.Dimension C.Colors self.now) }
+        requires shape { IsShapeOf (drawn R.Records D.Dimension C.Colors self.now) shape }
         requires owner { IsOwner (drawn R.Records D.Dimension C.Colors self.now) rectangle.corner }
         requires is { IsRectangle (drawn R.Records D.Dimension C.Colors self.now) rectangle }
         requires number { number < rect_height (drawn R.Records D.Dimension C.Colors self.now) rectangle.corner }
@@ -293,7 +295,7 @@ where
             ..
         } = rectangle;
         let style = CellStyle::of(self.config, corner);
-        self.push_cell(buf, kept, &style, corner, width, height, number)
+        self.push_cell(buf, kept, shape, &style, corner, width, height, number)
     }
 }
 

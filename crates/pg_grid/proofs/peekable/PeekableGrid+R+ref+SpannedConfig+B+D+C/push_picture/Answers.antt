@@ -1,4 +1,4 @@
-use Rattle.std.proofs.Common.{◌≡◌, ℕ, Bool, true, false, arith, ◌&&◌, ◌==◌, ◌++◌, sym, ap, ap₂, ◌∙◌, refl, replicate, length}
+use Rattle.std.proofs.Common.{◌≡◌, Bool, true, false, arith, ◌&&◌, ◌==◌, ◌++◌, sym, ap, ◌∙◌, refl, replicate, length}
 use Rattle.std.proofs.lemmas.Bool.Decides.{nat_tests}
 use Rattle.pg_layout.specs.declared.sides.Sides.{Sides}
 use Rattle.pg_layout.specs.declared.sides.Indent.{Indent}
@@ -11,7 +11,6 @@ use Rattle.pg_picture.proofs.FittingTables.{some_is, totals_facts}
 use Rattle.pg_picture.proofs.HeightsOfRectangles.{length-table_body}
 use Rattle.pg_grid.specs.Grids.{drawn}
 use Rattle.pg_picture.specs.Picture.{body_text}
-use Rattle.pg_grid.specs.declared.peekable.Shape.{Shape}
 use Rattle.pg_grid.proofs.CanDraw.{width-answer, height-answer, is_some_answer}
 use Rattle.pg_picture.proofs.Pictures.{picture-parts}
 use Rattle.pg_grid.proofs.peekable.PeekableGrid+R+ref+SpannedConfig+B+D+C.push_picture.Goals as goal
@@ -34,8 +33,7 @@ push_body-requires-clause-shape g c =
     let t = drawn g.R.Records g.D.Dimension g.C.Colors c.args.self.now in
     let height : c.unwrap-height.result ≡ length (table_body t) =
     some_is c.unwrap-height.result (body_height t) (sym c.unwrap-height.ensures ∙ height-answer t c.args.rows c.requires.can c.requires.rows c.body_height.ensures) ∙ sym (length-table_body t) in
-    ap₂ (λ (n : ℕ) (m : ℕ). let s : Shape = record { rows = n; columns = m; height = c.unwrap-height.result; is_spanned = c.args.is_spanned } in s) c.requires.rows c.requires.columns
-    ∙ ap₂ (λ (h : ℕ) (b : Bool). let s : Shape = record { rows = t.rows; columns = t.columns; height = h; is_spanned = b } in s) height c.requires.spanned
+    record { rows = c.requires.rows; columns = c.requires.columns; height = height; path = c.requires.path }
 
 pub returns-in_err-push_top_margin : goal.returns-in_err-push_top_margin
 returns-in_err-push_top_margin g c =

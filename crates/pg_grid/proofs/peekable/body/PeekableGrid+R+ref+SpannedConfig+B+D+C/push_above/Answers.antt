@@ -1,7 +1,5 @@
-use Rattle.std.proofs.Common.{ap}
 use Rattle.pg_picture.specs.Joined.{lines_before}
 use Rattle.pg_picture.proofs.Appending.{Gained-none, Gained-all, Appends-text}
-use Rattle.pg_grid.specs.declared.peekable.Shape.{Shape}
 use Rattle.pg_grid.specs.Grids.{drawn}
 use Rattle.pg_picture.proofs.BodyLines.{absent-text}
 use Rattle.pg_grid.proofs.peekable.body.PeekableGrid+R+ref+SpannedConfig+B+D+C.push_above.Goals as goal
@@ -10,4 +8,4 @@ pub returns-then-not-has_horizontal-clause-lines : goal.returns-then-not-has_hor
 returns-then-not-has_horizontal-clause-lines g c =
     let t = drawn g.R.Records g.D.Dimension g.C.Colors c.args.self.now in
     let n = lines_before c.args.is_first in
-    Appends-text (absent-text t n c.args.index c.args.shape.rows c.args.row c.has_horizontal.ensures (ap (λ (s : Shape). s.rows) c.requires.shape) c.if-not-has_horizontal.true) (Gained-all (Gained-none c.args.buf.now))
+    Appends-text (absent-text t n c.args.index c.args.shape.rows c.args.row c.has_horizontal.ensures c.requires.shape.rows c.if-not-has_horizontal.true) (Gained-all (Gained-none c.args.buf.now))

@@ -1,7 +1,6 @@
-use Rattle.std.proofs.Common.{◌≡◌, ◌<◌, ◌∙◌, ap, arith}
+use Rattle.std.proofs.Common.{◌≡◌, ◌<◌, ◌∙◌, arith}
 use Rattle.pg_picture.specs.Joined.{lines_before}
 use Rattle.pg_picture.proofs.Appending.{Gained-none, Gained-text, Gained-more, gained-then, refused, Appends-text}
-use Rattle.pg_grid.specs.declared.peekable.Shape.{Shape}
 use Rattle.pg_grid.specs.Grids.{drawn}
 use Rattle.pg_picture.proofs.BodyLines.{above-none, above-none-text, above-length, above-text, row-room, body-text-cut, last-room, last-text}
 use Rattle.pg_grid.proofs.peekable.body.PeekableGrid+R+ref+SpannedConfig+B+D+C.push_body.Goals as goal
@@ -16,14 +15,14 @@ pub push_row-requires-clause-room : goal.push_row-requires-clause-room
 push_row-requires-clause-room g c =
     let t = drawn g.R.Records g.D.Dimension g.C.Colors c.args.self.now in
     let n = lines_before c.args.is_first in
-    let here : c.loop-row.row < t.rows = omega (arith, ap (λ (s : Shape). s.rows) c.requires.shape) in
-    row-room t n c.loop-row.index c.loop-row.row c.args.shape.height c.loop-row.invariant.index (ap (λ (s : Shape). s.height) c.requires.shape) here
+    let here : c.loop-row.row < t.rows = omega (arith, c.requires.shape.rows) in
+    row-room t n c.loop-row.index c.loop-row.row c.args.shape.height c.loop-row.invariant.index c.requires.shape.height here
 
 pub returns-in_err-index-clause-appends : goal.returns-in_err-index-clause-appends
 returns-in_err-index-clause-appends g c =
     let t = drawn g.R.Records g.D.Dimension g.C.Colors c.args.self.now in
     let n = lines_before c.args.is_first in
-    let here : c.loop-row.row < t.rows = omega (arith, ap (λ (s : Shape). s.rows) c.requires.shape) in
+    let here : c.loop-row.row < t.rows = omega (arith, c.requires.shape.rows) in
     refused _ (body-text-cut t n c.loop-row.index c.loop-row.row c.loop-row.invariant.index here) c.from_residual.ensures.0 c.loop-row.invariant.gained c.in_err-index.ensures.lines
 
 pub loop-row-preserved : goal.loop-row-preserved
@@ -40,12 +39,12 @@ pub push_last-requires-clause-room : goal.push_last-requires-clause-room
 push_last-requires-clause-room g c =
     let t = drawn g.R.Records g.D.Dimension g.C.Colors c.args.self.now in
     let n = lines_before c.args.is_first in
-    let ended : c.loop-row.row ≡ t.rows = omega (arith, ap (λ (s : Shape). s.rows) c.requires.shape) in
-    last-room t n c.loop-row.index c.loop-row.row c.args.shape.height c.loop-row.invariant.index ended (ap (λ (s : Shape). s.height) c.requires.shape)
+    let ended : c.loop-row.row ≡ t.rows = omega (arith, c.requires.shape.rows) in
+    last-room t n c.loop-row.index c.loop-row.row c.args.shape.height c.loop-row.invariant.index ended c.requires.shape.height
 
 pub returns-clause-appends : goal.returns-clause-appends
 returns-clause-appends g c =
     let t = drawn g.R.Records g.D.Dimension g.C.Colors c.args.self.now in
     let n = lines_before c.args.is_first in
-    let ended : c.loop-row.row ≡ t.rows = omega (arith, ap (λ (s : Shape). s.rows) c.requires.shape) in
+    let ended : c.loop-row.row ≡ t.rows = omega (arith, c.requires.shape.rows) in
     Appends-text (last-text t n c.loop-row.index c.loop-row.row c.loop-row.invariant.index ended) (gained-then c.loop-row.invariant.gained c.push_last.ensures.appends)

@@ -2,16 +2,14 @@ use Rattle.std.proofs.Common.{◌≡◌, true, sym, ap, ◌∙◌}
 use Rattle.pg_config.specs.Config.{has_equal_row_lines}
 use Rattle.pg_picture.specs.Pieces.{separator_text}
 use Rattle.pg_picture.proofs.EqualSeparators.{equal_separators}
-use Rattle.pg_grid.specs.declared.peekable.Shape.{Shape}
 use Rattle.pg_grid.specs.Grids.{drawn}
-use Rattle.pg_grid.proofs.CanDraw.{no_spans}
-use Rattle.pg_grid.proofs.KeptLines.{off, text-from}
+use Rattle.pg_grid.proofs.KeptLines.{text-from}
 use Rattle.pg_grid.proofs.peekable.separators.PeekableGrid+R+ref+SpannedConfig+B+D+C.push_inner_separator.Goals as goal
 
 pub returns-then-has_equal_row_lines-clause-kept : goal.returns-then-has_equal_row_lines-clause-kept
 returns-then-has_equal_row_lines-clause-kept g c =
     let t = drawn g.R.Records g.D.Dimension g.C.Colors c.args.self.now in
-    let none = no_spans t (sym (ap (λ (s : Shape). s.is_spanned) c.requires.shape) ∙ off c.args.shape.is_spanned c.if-not-shape.true) in
+    let none = c.is_spanned.ensures t c.requires.shape.path c.if-not-is_spanned.true in
     let equal : has_equal_row_lines t.config ≡ true = sym c.has_equal_row_lines.ensures ∙ c.if-has_equal_row_lines.true in
     let here = text-from c.len-from.result (c.len-from.ensures ∙ c.args.buf.now.bytes.ok.0) c.in_ok-push_new_separator.ensures.appends in
     c.keep_separator.ensures t c.in_ok-push_new_separator.ensures.kept

@@ -1,6 +1,5 @@
 use Rattle.std.proofs.Common.{◌≡◌, ◌+◌, ◌-◌, ℕ, ap, arith, ◌∙◌}
 use Rattle.pg_picture.specs.Rectangles.{rows_height}
-use Rattle.pg_grid.specs.declared.peekable.Shape.{Shape}
 use Rattle.pg_grid.specs.Grids.{drawn}
 use Rattle.pg_grid.proofs.RectangleParts.{lines-more, lines-fit}
 use Rattle.pg_grid.proofs.peekable.spanned.PeekableGrid+R+ref+SpannedConfig+B+D+C.lines_above.Goals as goal
@@ -11,7 +10,7 @@ loop-above-init g c = c.requires.known.above
 pub overflow_add-lines : goal.overflow_add-lines
 overflow_add-lines g c =
     let t = drawn g.R.Records g.D.Dimension g.C.Colors c.args.self.now in
-    let rows : c.args.shape.rows ≡ t.rows = ap (λ (s : Shape). s.rows) c.requires.shape in
+    let rows : c.args.shape.rows ≡ t.rows = c.requires.shape.rows in
     let more = lines-more t c.requires.can c.args.known.corner.row c.loop-above.above (omega (arith, c.requires.known.begun, c.loop-above.auto.above)) c.loop-above.invariant c.get_height.ensures rows c.separators_at.ensures in
     let fit = lines-fit t c.requires.can c.args.known.corner.row (c.loop-above.above + 1) (omega (arith, c.requires.known.begun, c.loop-above.auto.above)) (omega (arith, c.requires.row, c.loop-above-test.true)) in
     omega (arith, more, fit)
@@ -19,7 +18,7 @@ overflow_add-lines g c =
 pub overflow_add-lines-in-loop-above : goal.overflow_add-lines-in-loop-above
 overflow_add-lines-in-loop-above g c =
     let t = drawn g.R.Records g.D.Dimension g.C.Colors c.args.self.now in
-    let rows : c.args.shape.rows ≡ t.rows = ap (λ (s : Shape). s.rows) c.requires.shape in
+    let rows : c.args.shape.rows ≡ t.rows = c.requires.shape.rows in
     let more = lines-more t c.requires.can c.args.known.corner.row c.loop-above.above (omega (arith, c.requires.known.begun, c.loop-above.auto.above)) c.loop-above.invariant c.get_height.ensures rows c.separators_at.ensures in
     let fit = lines-fit t c.requires.can c.args.known.corner.row (c.loop-above.above + 1) (omega (arith, c.requires.known.begun, c.loop-above.auto.above)) (omega (arith, c.requires.row, c.loop-above-test.true)) in
     omega (arith, more, fit)
@@ -27,7 +26,7 @@ overflow_add-lines-in-loop-above g c =
 pub loop-above-preserved : goal.loop-above-preserved
 loop-above-preserved g c =
     let t = drawn g.R.Records g.D.Dimension g.C.Colors c.args.self.now in
-    let rows : c.args.shape.rows ≡ t.rows = ap (λ (s : Shape). s.rows) c.requires.shape in
+    let rows : c.args.shape.rows ≡ t.rows = c.requires.shape.rows in
     lines-more t c.requires.can c.args.known.corner.row c.loop-above.above (omega (arith, c.requires.known.begun, c.loop-above.auto.above)) c.loop-above.invariant c.get_height.ensures rows c.separators_at.ensures
 
 pub returns : goal.returns

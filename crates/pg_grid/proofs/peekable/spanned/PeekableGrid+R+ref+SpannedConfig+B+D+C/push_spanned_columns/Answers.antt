@@ -9,7 +9,6 @@ use Rattle.pg_picture.proofs.Appending.{Appends-text, Gained-none, Gained-text, 
 use Rattle.pg_picture.proofs.FittingTables.{totals_facts}
 use Rattle.pg_picture.proofs.Separators.{items_after-two, last_color-two, items_after-columns_cut}
 use Rattle.pg_picture.proofs.WalksOfRows.{first_start}
-use Rattle.pg_grid.specs.declared.peekable.Shape.{Shape}
 use Rattle.pg_grid.specs.Grids.{drawn}
 use Rattle.pg_grid.proofs.CanDraw.{in_order}
 use Rattle.pg_grid.proofs.SeparatorParts.{above-some, above-inside, above-start, above-parts}
@@ -24,14 +23,14 @@ loop-column-init g c =
 pub returns-in_err-run-clause-appends : goal.returns-in_err-run-clause-appends
 returns-in_err-run-clause-appends g c =
     let t = drawn g.R.Records g.D.Dimension g.C.Colors c.args.self.now in
-    let here : c.loop-column.column < t.columns = omega (arith, c.loop-column-test.true, ap (λ (s : Shape). s.columns) c.requires.shape) in
+    let here : c.loop-column.column < t.columns = omega (arith, c.loop-column-test.true, c.requires.shape.columns) in
     let place = ap (λ (p : Position). items_after c.loop-column.run (separator_part t p.row p.col)) c.new-pos.ensures in
     refused _ (items_after-columns_cut c.args.run (separator_part t c.args.row) c.loop-column.column t.columns c.loop-column.invariant.color here) c.from_residual.ensures.0 c.loop-column.invariant.gained (Appends-text place c.in_err-run.ensures.appends)
 
 pub overflow_add-column : goal.overflow_add-column
 overflow_add-column g c =
     let t = drawn g.R.Records g.D.Dimension g.C.Colors c.args.self.now in
-    let here : c.loop-column.column < t.columns = omega (arith, c.loop-column-test.true, ap (λ (s : Shape). s.columns) c.requires.shape) in
+    let here : c.loop-column.column < t.columns = omega (arith, c.loop-column-test.true, c.requires.shape.columns) in
     let spans = t.config.spans in
     let span = c.span_above-span.ensures ∙ ap (λ (p : Position). span_above spans p.row p.col) c.new-pos.ensures in
     let width : c.columns_of-column.result ≡ columns_or_one (span_above spans c.args.row c.loop-column.column) = c.columns_of-column.ensures ∙ ap columns_or_one span in
@@ -40,7 +39,7 @@ overflow_add-column g c =
 pub loop-column-preserved : goal.loop-column-preserved
 loop-column-preserved g c =
     let t = drawn g.R.Records g.D.Dimension g.C.Colors c.args.self.now in
-    let here : c.loop-column.column < t.columns = omega (arith, c.loop-column-test.true, ap (λ (s : Shape). s.columns) c.requires.shape) in
+    let here : c.loop-column.column < t.columns = omega (arith, c.loop-column-test.true, c.requires.shape.columns) in
     let spans = t.config.spans in
     let span = c.span_above-span.ensures ∙ ap (λ (p : Position). span_above spans p.row p.col) c.new-pos.ensures in
     let width : c.columns_of-column.result ≡ columns_or_one (span_above spans c.args.row c.loop-column.column) = c.columns_of-column.ensures ∙ ap columns_or_one span in
@@ -60,7 +59,7 @@ loop-column-preserved g c =
 pub loop-column-smaller : goal.loop-column-smaller
 loop-column-smaller g c =
     let t = drawn g.R.Records g.D.Dimension g.C.Colors c.args.self.now in
-    let here : c.loop-column.column < t.columns = omega (arith, c.loop-column-test.true, ap (λ (s : Shape). s.columns) c.requires.shape) in
+    let here : c.loop-column.column < t.columns = omega (arith, c.loop-column-test.true, c.requires.shape.columns) in
     let spans = t.config.spans in
     let span = c.span_above-span.ensures ∙ ap (λ (p : Position). span_above spans p.row p.col) c.new-pos.ensures in
     let width : c.columns_of-column.result ≡ columns_or_one (span_above spans c.args.row c.loop-column.column) = c.columns_of-column.ensures ∙ ap columns_or_one span in
@@ -69,11 +68,11 @@ loop-column-smaller g c =
 pub returns-clause-appends : goal.returns-clause-appends
 returns-clause-appends g c =
     let t = drawn g.R.Records g.D.Dimension g.C.Colors c.args.self.now in
-    let ended : c.loop-column.column ≡ t.columns = omega (arith, c.loop-column.invariant.inside, c.loop-column-test.false, ap (λ (s : Shape). s.columns) c.requires.shape) in
+    let ended : c.loop-column.column ≡ t.columns = omega (arith, c.loop-column.invariant.inside, c.loop-column-test.false, c.requires.shape.columns) in
     Appends-text (ap (λ n. items_after c.args.run (flat_map (separator_part t c.args.row) (range_with_len 0 n))) ended) (Gained-all c.loop-column.invariant.gained)
 
 pub returns-clause-color : goal.returns-clause-color
 returns-clause-color g c =
     let t = drawn g.R.Records g.D.Dimension g.C.Colors c.args.self.now in
-    let ended : c.loop-column.column ≡ t.columns = omega (arith, c.loop-column.invariant.inside, c.loop-column-test.false, ap (λ (s : Shape). s.columns) c.requires.shape) in
+    let ended : c.loop-column.column ≡ t.columns = omega (arith, c.loop-column.invariant.inside, c.loop-column-test.false, c.requires.shape.columns) in
     c.loop-column.invariant.color ∙ ap (λ n. last_color c.args.run (flat_map (separator_part t c.args.row) (range_with_len 0 n))) ended

@@ -10,7 +10,6 @@ use Rattle.pg_picture.proofs.PiecesOfLines.{written-nil}
 use Rattle.pg_picture.proofs.LeftColumns.{step-some, step-inside, step-left}
 use Rattle.pg_picture.proofs.OwnersOfPlaces.{first_left}
 use Rattle.pg_picture.proofs.FittingTables.{totals_facts}
-use Rattle.pg_grid.specs.declared.peekable.Shape.{Shape}
 use Rattle.pg_grid.specs.Grids.{drawn}
 use Rattle.pg_grid.proofs.CanDraw.{in_order}
 use Rattle.pg_grid.proofs.RowParts.{written-columns_cut, step-text}
@@ -24,14 +23,14 @@ loop-column-init g c =
 pub returns-in_err-push_spanned_part-clause-appends : goal.returns-in_err-push_spanned_part-clause-appends
 returns-in_err-push_spanned_part-clause-appends g c =
     let t = drawn g.R.Records g.D.Dimension g.C.Colors c.args.self.now in
-    let here : c.loop-column.column < t.columns = omega (arith, c.loop-column-test.true, ap (λ (s : Shape). s.columns) c.requires.shape) in
+    let here : c.loop-column.column < t.columns = omega (arith, c.loop-column-test.true, c.requires.shape.columns) in
     let place = ap (λ (p : Position). written (row_part t p.row c.args.number p.col)) c.new-pos.ensures in
     refused _ (written-columns_cut (row_part t c.args.row c.args.number) c.loop-column.column t.columns here) c.from_residual.ensures.0 c.loop-column.invariant.gained (Appends-text place c.in_err-push_spanned_part.ensures.appends)
 
 pub overflow_add-column : goal.overflow_add-column
 overflow_add-column g c =
     let t = drawn g.R.Records g.D.Dimension g.C.Colors c.args.self.now in
-    let here : c.loop-column.column < t.columns = omega (arith, c.loop-column-test.true, ap (λ (s : Shape). s.columns) c.requires.shape) in
+    let here : c.loop-column.column < t.columns = omega (arith, c.loop-column-test.true, c.requires.shape.columns) in
     let spans = t.config.spans in
     let span = c.left_span-span.ensures ∙ ap (λ (p : Position). left_span spans p.row p.col) c.new-pos.ensures in
     let width : c.columns_of-column.result ≡ columns_or_one (left_span spans c.args.row c.loop-column.column) = c.columns_of-column.ensures ∙ ap columns_or_one span in
@@ -40,7 +39,7 @@ overflow_add-column g c =
 pub loop-column-preserved : goal.loop-column-preserved
 loop-column-preserved g c =
     let t = drawn g.R.Records g.D.Dimension g.C.Colors c.args.self.now in
-    let here : c.loop-column.column < t.columns = omega (arith, c.loop-column-test.true, ap (λ (s : Shape). s.columns) c.requires.shape) in
+    let here : c.loop-column.column < t.columns = omega (arith, c.loop-column-test.true, c.requires.shape.columns) in
     let spans = t.config.spans in
     let span = c.left_span-span.ensures ∙ ap (λ (p : Position). left_span spans p.row p.col) c.new-pos.ensures in
     let width : c.columns_of-column.result ≡ columns_or_one (left_span spans c.args.row c.loop-column.column) = c.columns_of-column.ensures ∙ ap columns_or_one span in
@@ -56,7 +55,7 @@ loop-column-preserved g c =
 pub loop-column-smaller : goal.loop-column-smaller
 loop-column-smaller g c =
     let t = drawn g.R.Records g.D.Dimension g.C.Colors c.args.self.now in
-    let here : c.loop-column.column < t.columns = omega (arith, c.loop-column-test.true, ap (λ (s : Shape). s.columns) c.requires.shape) in
+    let here : c.loop-column.column < t.columns = omega (arith, c.loop-column-test.true, c.requires.shape.columns) in
     let spans = t.config.spans in
     let span = c.left_span-span.ensures ∙ ap (λ (p : Position). left_span spans p.row p.col) c.new-pos.ensures in
     let width : c.columns_of-column.result ≡ columns_or_one (left_span spans c.args.row c.loop-column.column) = c.columns_of-column.ensures ∙ ap columns_or_one span in
@@ -65,5 +64,5 @@ loop-column-smaller g c =
 pub returns-clause-appends : goal.returns-clause-appends
 returns-clause-appends g c =
     let t = drawn g.R.Records g.D.Dimension g.C.Colors c.args.self.now in
-    let ended : c.loop-column.column ≡ t.columns = omega (arith, c.loop-column.invariant.inside, c.loop-column-test.false, ap (λ (s : Shape). s.columns) c.requires.shape) in
+    let ended : c.loop-column.column ≡ t.columns = omega (arith, c.loop-column.invariant.inside, c.loop-column-test.false, c.requires.shape.columns) in
     Appends-text (ap (λ n. written (flat_map (row_part t c.args.row c.args.number) (range_with_len 0 n))) ended) (Gained-all c.loop-column.invariant.gained)

@@ -1,7 +1,6 @@
-use Rattle.std.proofs.Common.{sym, ap, ◌∙◌, arith}
+use Rattle.std.proofs.Common.{sym, ◌∙◌, arith}
 use Rattle.pg_picture.specs.Table.{rect_width, rect_height}
 use Rattle.pg_picture.proofs.FittingTables.{some_is}
-use Rattle.pg_grid.specs.declared.peekable.Shape.{Shape}
 use Rattle.pg_grid.specs.Grids.{drawn}
 use Rattle.pg_grid.proofs.CanDraw.{is_some_answer}
 use Rattle.pg_grid.proofs.RectangleParts.{owner_inside, rect_width-answer, rect_height-answer, lines-none}
@@ -11,10 +10,10 @@ pub rect_width-requires-clause-some : goal.rect_width-requires-clause-some
 rect_width-requires-clause-some g c = (owner_inside (drawn g.R.Records g.D.Dimension g.C.Colors c.args.self.now) c.requires.can c.args.corner c.requires.owner).some_columns
 
 pub rect_width-requires-clause-inside : goal.rect_width-requires-clause-inside
-rect_width-requires-clause-inside g c = omega (arith, (owner_inside (drawn g.R.Records g.D.Dimension g.C.Colors c.args.self.now) c.requires.can c.args.corner c.requires.owner).columns_end, ap (λ (s : Shape). s.columns) c.requires.shape)
+rect_width-requires-clause-inside g c = omega (arith, (owner_inside (drawn g.R.Records g.D.Dimension g.C.Colors c.args.self.now) c.requires.can c.args.corner c.requires.owner).columns_end, c.requires.shape.columns)
 
 pub unwrap-width-requires : goal.unwrap-width-requires
-unwrap-width-requires g c = is_some_answer (rect_width-answer (drawn g.R.Records g.D.Dimension g.C.Colors c.args.self.now) c.requires.can c.args.corner c.requires.owner c.args.shape.columns c.rect_width.result (ap (λ (s : Shape). s.columns) c.requires.shape) c.rect_width.ensures)
+unwrap-width-requires g c = is_some_answer (rect_width-answer (drawn g.R.Records g.D.Dimension g.C.Colors c.args.self.now) c.requires.can c.args.corner c.requires.owner c.args.shape.columns c.rect_width.result c.requires.shape.columns c.rect_width.ensures)
 
 pub rect_height-requires : goal.rect_height-requires
 rect_height-requires g c = (owner_inside (drawn g.R.Records g.D.Dimension g.C.Colors c.args.self.now) c.requires.can c.args.corner c.requires.owner).some_rows
@@ -26,7 +25,7 @@ pub returns-clause-is : goal.returns-clause-is
 returns-clause-is g c =
     let t = drawn g.R.Records g.D.Dimension g.C.Colors c.args.self.now in
     record {
-      width = some_is c.unwrap-width.result (rect_width t c.args.corner) (sym c.unwrap-width.ensures ∙ rect_width-answer t c.requires.can c.args.corner c.requires.owner c.args.shape.columns c.rect_width.result (ap (λ (s : Shape). s.columns) c.requires.shape) c.rect_width.ensures);
+      width = some_is c.unwrap-width.result (rect_width t c.args.corner) (sym c.unwrap-width.ensures ∙ rect_width-answer t c.requires.can c.args.corner c.requires.owner c.args.shape.columns c.rect_width.result c.requires.shape.columns c.rect_width.ensures);
       height = some_is c.unwrap-height.result (rect_height t c.args.corner) (sym c.unwrap-height.ensures ∙ rect_height-answer t c.requires.can c.args.corner c.requires.owner c.rect_height.result c.rect_height.ensures);
       begun = omega arith;
       above = lines-none t c.requires.can c.args.corner.row;
