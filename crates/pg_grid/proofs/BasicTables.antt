@@ -1,4 +1,4 @@
--- Where only borders were set, no margin stands beside a line.
+-- On the basic path no margin stands beside a line.
 use Rattle.std.proofs.Common.{◌≡◌, ℕ, Bool, true, false, not, nat_lt, ◌||◌, List, [], Option, Some, None, refl, ap, ◌∙◌, arith, if◌then◌else◌}
 use Rattle.std.proofs.lemmas.Bool.{and_parts}
 use Rattle.std.proofs.lemmas.Bool.Decides.{nat_tests}
@@ -10,7 +10,7 @@ use Rattle.pg_config.specs.Config.{Config}
 use Rattle.pg_picture.specs.Pieces.{Piece, fill, written}
 use Rattle.pg_picture.specs.Table.{side_margin, side_margin_at}
 use Rattle.pg_picture.proofs.PiecesOfLines.{written-nil}
-use Rattle.pg_grid.specs.Grids.{has_borders_alone}
+use Rattle.pg_grid.specs.Grids.{is_basic_config}
 
 fill-none : (c k : ℕ) (color : Option Color) → k ≡ 0 → fill c k color ≡ []
 unfolding fill
@@ -31,10 +31,10 @@ module _ (config : Config) where
   abbrev pub left_of : ℕ → ℕ → Text
   left_of h i = written (side_margin_at (Some h) config.margin.left config.margin_offset.left config.margin_color.left i)
 
-  module _ (alone : has_borders_alone config ≡ true) where
+  module _ (basic : is_basic_config config ≡ true) where
     no_margin : not ((nat_lt 0 config.margin.left.size || nat_lt 0 config.margin.right.size) || (nat_lt 0 config.margin.top.size || nat_lt 0 config.margin.bottom.size)) ≡ true
-    unfolding has_borders_alone
-    no_margin = (and_parts _ _ alone).1
+    unfolding is_basic_config
+    no_margin = (and_parts _ _ basic).1
 
     pub left-none : (h i : ℕ) → left_of h i ≡ []
     left-none h i = margin-none h config.margin.left config.margin_offset.left config.margin_color.left i (grind (arith, nat_tests, no_margin))

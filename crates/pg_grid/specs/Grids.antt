@@ -47,14 +47,14 @@ abbrev pub HasNoSpans : Table → Type 0
 HasNoSpans t = t.config.spans ≡ []
 
 -- no colour of borders or paddings, no justification, no glyph of a part of a line and no margin was set
-unfoldable pub has_borders_alone : Config → Bool
-has_borders_alone config =
+unfoldable pub is_basic_config : Config → Bool
+is_basic_config config =
     not ((config.border_colored || has_padding_color config) || (has_justification config || has_offset_chars config))
     && not ((nat_lt 0 config.margin.left.size || nat_lt 0 config.margin.right.size) || (nat_lt 0 config.margin.top.size || nat_lt 0 config.margin.bottom.size))
 
--- nor does a cell have a colour
+-- and no cell has a colour
 pub record IsBasic (t : Table) : Type 0 where
-  pub borders : has_borders_alone t.config ≡ true
+  pub config : is_basic_config t.config ≡ true
   pub colors : (p : Position) → t.color p ≡ None
 
 -- the tables that a path draws

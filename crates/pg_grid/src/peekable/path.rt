@@ -3,17 +3,17 @@
 ghost use Rattle.std.specs.Prelude.{◌≡◌, ◌==◌, not, length, false, true};
 ghost use Rattle.pg_config.specs.Config.{Config};
 ghost use Rattle.pg_picture.specs.Table.{Table};
-ghost use Rattle.pg_grid.specs.Grids.{drawn, Draws, IsBasic, HasNoSpans, has_borders_alone};
+ghost use Rattle.pg_grid.specs.Grids.{drawn, Draws, IsBasic, HasNoSpans, is_basic_config};
 
 use crate::peekable::PeekableGrid;
 use pg_config::SpannedConfig;
 use pg_layout::{Colors, Dimension, ExactRecords, PeekableRecords};
 use std::alloc::Allocator;
 
-/// A way to draw the lines of a table. All of them draw the same text where they draw a table.
+/// How the lines of a table are drawn. Where two paths draw a table, they draw the same text.
 #[derive(Debug, Clone, Copy)]
 pub(super) enum Path {
-    /// No cell spans others; no margin stands beside a line, and no cell has a colour.
+    /// No cell spans others; a line has no margins, and no cell has a colour.
     Basic,
     /// No cell spans others.
     NotSpanned,
@@ -51,8 +51,8 @@ where
     C: Colors,
     B: Allocator,
 {
-    // The spanned path, where there are spans; else the basic one, where only borders were set and no
-    // cell has a colour; else the path without spans.
+    // The spanned path, where there are spans; else the basic one, where the configuration is basic and
+    // the colours are empty; else the path without spans.
     pub(super) fn path(&self, is_spanned: bool) -> Path
         requires { is_spanned ≡ not (length (drawn R.Records D.Dimension C.Colors self.now).config.spans == 0) }
         ensures { Draws result (drawn R.Records D.Dimension C.Colors self.now) }
@@ -60,7 +60,7 @@ where
         if is_spanned {
             return Path::Spanned;
         }
-        if has_borders_alone(self.config) && self.colors.is_empty() {
+        if is_basic_config(self.config) && self.colors.is_empty() {
             return Path::Basic;
         }
         Path::NotSpanned
@@ -69,9 +69,9 @@ where
 
 // Whether no colour of borders or paddings, no justification, no glyph of a part of a line and no
 // margin was set.
-#[tactic(auto, unfolding(crate::specs::Grids::has_borders_alone))]
-fn has_borders_alone<B: Allocator>(config: &SpannedConfig<B>) -> bool
-    ensures { result ≡ has_borders_alone config.now }
+#[tactic(auto, unfolding(crate::specs::Grids::is_basic_config))]
+fn is_basic_config<B: Allocator>(config: &SpannedConfig<B>) -> bool
+    ensures { result ≡ is_basic_config config.now }
 {
     let margin = config.get_margin();
     let has_colors = config.has_border_colors() || config.has_padding_color();

@@ -7,5 +7,5 @@ use Rattle.pg_grid.proofs.peekable.body.PeekableGrid+R+ref+SpannedConfig+B+D+C.p
 pub returns-then-is_basic : goal.returns-then-is_basic
 returns-then-is_basic g c =
     let t = drawn g.R.Records g.D.Dimension g.C.Colors c.args.self.now in
-    let none = right-none t.config (c.is_basic.ensures t c.requires.shape.path c.if-is_basic.true).borders c.args.shape.height c.args.index in
+    let none = right-none t.config (c.is_basic.ensures t c.requires.shape.path c.if-is_basic.true).config c.args.shape.height c.args.index in
     Appends-text (sym none) (Gained-all (Gained-none c.args.buf.now))

@@ -18,7 +18,7 @@ returns-in_err-push_feed g c =
 pub returns-then-is_basic : goal.returns-then-is_basic
 returns-then-is_basic g c =
     let t = drawn g.R.Records g.D.Dimension g.C.Colors c.args.self.now in
-    let none = left-none t.config (c.is_basic.ensures t c.requires.shape.path c.if-is_basic.true).borders c.args.shape.height c.args.index in
+    let none = left-none t.config (c.is_basic.ensures t c.requires.shape.path c.if-is_basic.true).config c.args.shape.height c.args.index in
     let first : c.if-is_first.push_feed ≡ ((lines_before c.args.is_first + c.args.index) == 0) = first-of c.args.is_first c.if-is_first.push_feed c.args.index (elim c.if-is_first.branch [ then-is_first w ↦ inl (w.if-is_first.true, w.push_feed-is) | else-is_first w ↦ inr (w.if-is_first.false, w.push_feed-is ∙ w.if-is_first.false) ]) in
     Appends-text (sym (append-nil (feed_before c.if-is_first.push_feed)) ∙ ap₂ (λ b left. feed_before b ++ left) first (sym none)) c.in_ok-push_feed.ensures
 
