@@ -16,7 +16,8 @@ use crate::peekable::{PeekableGrid, Shape};
 use pg_config::SpannedConfig;
 use pg_layout::{ANSIFmt, Colors, Dimension, ExactRecords, PeekableRecords, Position};
 use pg_picture::{
-    CellPlace, CellStyle, TextFacts, push_block_line_of, push_single_line, push_vertical_at,
+    CellPlace, CellStyle, TextFacts, push_block_line_of, push_single_line, push_vertical,
+    push_vertical_at,
 };
 use std::alloc::{AllocError, Allocator};
 
@@ -45,7 +46,7 @@ where
         ensures kept { AreKept (drawn R.Records D.Dimension C.Colors self.now) kept.new }
     {
         self.push_parts(buf, kept, shape, row, line)?;
-        self.push_end(buf, shape.columns, row, line)
+        self.push_end(buf, shape, row, line)
     }
 
     // What all columns add to a line of a row, by the path that the table takes.
@@ -133,7 +134,7 @@ where
     {
         let height = self.dimension.get_height(pos.row);
         let width = self.dimension.get_width(pos.col);
-        push_vertical_at(buf, self.config, shape.columns, height, pos, line)?;
+        self.push_vertical(buf, shape, height, pos, line)?;
         self.push_cell(buf, kept, shape, style, pos, width, height, line)
     }
 
@@ -141,23 +142,40 @@ where
     fn push_end<A: Allocator>(
         &self,
         buf: &mut String<A>,
-        columns: usize,
+        shape: Shape,
         row: usize,
         line: usize,
     ) -> Result<(), AllocError>
-        requires columns { columns ≡ (drawn R.Records D.Dimension C.Colors self.now).columns }
+        requires shape { IsShapeOf (drawn R.Records D.Dimension C.Colors self.now) shape }
         requires line { line < D.height self.now.dimension row }
-        ensures { Appends buf.old buf.new result (written (row_part (drawn R.Records D.Dimension C.Colors self.now) row line columns)) }
+        ensures { Appends buf.old buf.new result (written (row_part (drawn R.Records D.Dimension C.Colors self.now) row line (drawn R.Records D.Dimension C.Colors self.now).columns)) }
     {
         let height = self.dimension.get_height(row);
-        push_vertical_at(
-            buf,
-            self.config,
-            columns,
-            height,
-            Position::new(row, columns),
-            line,
-        )
+        let pos = Position::new(row, shape.columns);
+        self.push_vertical(buf, shape, height, pos, line)
+    }
+
+    // A vertical, on a line of its row, which has so many. Tables of the basic path have no glyphs and
+    // colours of single lines, which aren't looked up there.
+    #[inline(always)]
+    pub(super) fn push_vertical<A: Allocator>(
+        &self,
+        buf: &mut String<A>,
+        shape: Shape,
+        height: usize,
+        pos: Position,
+        line: usize,
+    ) -> Result<(), AllocError>
+        requires shape { IsShapeOf (drawn R.Records D.Dimension C.Colors self.now) shape }
+        requires line { line < height }
+        ensures { Appends buf.old buf.new result (written (vertical_at (drawn R.Records D.Dimension C.Colors self.now).config shape.columns height pos line)) }
+    {
+        if shape.path.is_basic() {
+            let glyph = self.config.get_vertical(pos, shape.columns);
+            let color = self.config.get_vertical_color(pos, shape.columns);
+            return push_vertical(buf, glyph, color);
+        }
+        push_vertical_at(buf, self.config, shape.columns, height, pos, line)
     }
 
     // Line `line` of a cell of so many columns and lines, which has room for its text.

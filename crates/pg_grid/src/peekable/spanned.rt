@@ -17,7 +17,7 @@ use crate::peekable::{PeekableGrid, Shape};
 use pg_config::{Span, SpannedConfig};
 use pg_layout::{ANSIBuf, Colors, Dimension, ExactRecords, PeekableRecords, Position};
 use pg_picture::fits::{columns_of, rect_height, rect_width};
-use pg_picture::{CellStyle, Run, push_vertical_at};
+use pg_picture::{CellStyle, Run};
 use std::alloc::{AllocError, Allocator};
 
 impl<'a, R, D, C, B> PeekableGrid<R, &'a SpannedConfig<B>, D, C>
@@ -104,7 +104,7 @@ where
         ensures kept { AreKept (drawn R.Records D.Dimension C.Colors self.now) kept.new }
     {
         let height = self.dimension.get_height(pos.row);
-        push_vertical_at(buf, self.config, shape.columns, height, pos, number)?;
+        self.push_vertical(buf, shape, height, pos, number)?;
         let rectangle = self.rectangle_at(kept, shape, corner_of(span), pos.row);
         self.push_rectangle(buf, kept, shape, rectangle, rectangle.above + number)
     }

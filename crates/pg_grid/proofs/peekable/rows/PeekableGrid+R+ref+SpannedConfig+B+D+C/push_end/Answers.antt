@@ -1,6 +1,6 @@
 use Rattle.std.proofs.Common.{ap, ◌∙◌}
 use Rattle.pg_picture.specs.Pieces.{written}
-use Rattle.pg_picture.specs.Table.{vertical_at}
+use Rattle.pg_picture.specs.Table.{vertical_at, row_part}
 use Rattle.pg_picture.proofs.Appending.{Appends-text}
 use Rattle.pg_grid.specs.Grids.{drawn}
 use Rattle.pg_grid.proofs.RowParts.{end-text}
@@ -9,5 +9,6 @@ use Rattle.pg_grid.proofs.peekable.rows.PeekableGrid+R+ref+SpannedConfig+B+D+C.p
 pub returns : goal.returns
 returns g c =
     let t = drawn g.R.Records g.D.Dimension g.C.Colors c.args.self.now in
-    let place = ap (λ p. written (vertical_at c.args.self.now.config.now c.args.columns c.get_height-height.result p c.args.line)) c.new.ensures in
-    Appends-text (place ∙ end-text t c.args.columns c.get_height-height.result c.args.row c.args.line c.requires.columns c.get_height-height.ensures) c.push_vertical_at.ensures
+    let place = ap (λ p. written (vertical_at c.args.self.now.config.now c.args.shape.columns c.get_height-height.result p c.args.line)) c.new-pos.ensures in
+    let last = ap (λ n. written (row_part t c.args.row c.args.line n)) c.requires.shape.columns in
+    Appends-text (place ∙ end-text t c.args.shape.columns c.get_height-height.result c.args.row c.args.line c.requires.shape.columns c.get_height-height.ensures ∙ last) c.push_vertical.ensures

@@ -1,14 +1,10 @@
-use Rattle.std.proofs.Common.{◌++◌, ap, sym, ◌∙◌, flat_map}
-use Rattle.std.specs.List.{range_with_len}
+use Rattle.std.proofs.Common.{sym}
 use Rattle.pg_picture.specs.Pieces.{written}
 use Rattle.pg_picture.specs.Table.{row_part, row_line}
 use Rattle.pg_picture.proofs.Appending.{Appends-text, ◌then◌, stopped}
 use Rattle.pg_grid.specs.Grids.{drawn}
 use Rattle.pg_grid.proofs.RowParts.{written-columns}
 use Rattle.pg_grid.proofs.peekable.rows.PeekableGrid+R+ref+SpannedConfig+B+D+C.push_row_line.Goals as goal
-
-pub push_end-requires-clause-columns : goal.push_end-requires-clause-columns
-push_end-requires-clause-columns g c = c.requires.shape.columns
 
 pub returns-in_err-push_parts-clause-appends : goal.returns-in_err-push_parts-clause-appends
 unfolding row_line
@@ -22,5 +18,5 @@ unfolding row_line
 returns-clause-appends g c =
     let t = drawn g.R.Records g.D.Dimension g.C.Colors c.args.self.now in
     let part = row_part t c.args.row c.args.line in
-    Appends-text (ap (λ n. written (flat_map part (range_with_len 0 t.columns)) ++ written (part n)) c.requires.shape.columns ∙ sym (written-columns part t.columns))
+    Appends-text (sym (written-columns part t.columns))
     (c.in_ok-push_parts.ensures.appends then c.push_end.ensures)

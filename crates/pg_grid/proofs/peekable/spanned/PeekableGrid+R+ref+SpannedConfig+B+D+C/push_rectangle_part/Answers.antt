@@ -37,4 +37,4 @@ returns-clause-appends g c =
     Appends-text
     (ap₂ (λ h l. written (vertical_at t.config c.args.shape.columns h c.args.pos c.args.number) ++ l) c.get_height-height.ensures
     (found_line t c.requires.can c.args.pos.row c.args.pos.col c.args.span c.requires.span rectangle.corner (c.rectangle_at-rectangle.ensures.corner ∙ c.corner_of.ensures) rectangle.above above c.args.number c.requires.number))
-    (c.in_ok-push_vertical_at.ensures then c.push_rectangle.ensures.appends)
+    (c.in_ok-push_vertical.ensures then c.push_rectangle.ensures.appends)
