@@ -9,7 +9,6 @@ use std::alloc::{AllocError, Allocator};
 
 mod body;
 mod kept;
-mod kept_text;
 mod rows;
 mod separators;
 mod spanned;

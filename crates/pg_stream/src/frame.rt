@@ -4,6 +4,7 @@ ghost use Rattle.std.specs.Prelude.{◌≡◌, ◌+◌, ◌<◌, ◌≤◌, ◌+
 ghost use Rattle.std.specs.Option.{ForSome};
 ghost use Rattle.pg_picture.specs.Joined.{feed_before};
 ghost use Rattle.pg_picture.specs.Table.{vertical, side_margin_at};
+ghost use Rattle.pg_config.specs.Config.{has_equal_row_lines};
 ghost use Rattle.pg_config.specs.Spans.{rect_rows, rect_columns};
 ghost use Rattle.pg_layout.specs.Text.{lines_of};
 ghost use Rattle.pg_picture.specs.Cells.{style_of};
@@ -139,6 +140,14 @@ impl<'a, D: Dimension, C: Colors, B: Allocator> Frame<'a, D, C, B> {
             return Ok(());
         }
         push_top_margin(buf, self.config, self.width)
+    }
+
+    // Whether the separators above all rows but the first are equal: no cell goes through them, and no
+    // glyph or colour of a row line was set by its place.
+    pub(crate) fn has_equal_separators(&self) -> bool
+        ensures { result ≡ ((length self.now.config.now.spans == 0) && has_equal_row_lines self.now.config.now) }
+    {
+        self.config.spans().is_empty() && self.config.has_equal_row_lines()
     }
 
     // The glyph of a vertical, on a line of its row.

@@ -17,7 +17,7 @@ use crate::open_cells::OpenCells;
 use pg_config::SpannedConfig;
 use pg_layout::{Colors, Dimension};
 use pg_picture::fits::{body_height, full_width};
-use pg_picture::push_bottom_margin;
+use pg_picture::{KeptText, push_bottom_margin};
 use std::alloc::{AllocError, Allocator, Global};
 use std::convert::AsStr;
 use std::marker::Model;
@@ -50,6 +50,8 @@ pub struct RowPrinter<
     pub(crate) frame: Frame<'a, D, C, B>,
     pub(crate) hint: Option<usize>,
     cells: OpenCells<S, A>,
+    /// The text of the separators above all rows but the first, where these are equal and it is short.
+    separator: Option<KeptText>,
     pub(crate) rows: usize,
     pub(crate) lines: usize,
     pub(crate) is_ended: bool,
@@ -57,6 +59,8 @@ pub struct RowPrinter<
 
 impl<'a, S: AsStr, D: Dimension, C: Colors, B: Allocator, A: Allocator> Model
     for RowPrinter<'a, S, D, C, B, A> {
+    ghost use Rattle.std.specs.Prelude.{IfSome};
+    ghost use Rattle.pg_stream.specs.Drawing.{IsSeparator};
     ghost use Rattle.pg_stream.specs.Frames.{frame_table};
     ghost use Rattle.pg_stream.specs.Printers.{Printer, printer_of, printing, IsSound};
 
@@ -64,7 +68,7 @@ impl<'a, S: AsStr, D: Dimension, C: Colors, B: Allocator, A: Allocator> Model
 
     ghost view = { λ p. printer_of p.frame p.hint p.cells p.rows p.lines p.is_ended };
 
-    ghost invariant = { λ p. IsSound (printing D.width D.height C.color (printer_of p.frame p.hint p.cells p.rows p.lines p.is_ended)) (frame_table D.width D.height C.color p.frame) p.frame.width p.frame.height p.cells };
+    ghost invariant = { λ p. IsSound (printing D.width D.height C.color (printer_of p.frame p.hint p.cells p.rows p.lines p.is_ended)) (frame_table D.width D.height C.color p.frame) p.frame.width p.frame.height p.cells × IfSome p.separator (IsSeparator (frame_table D.width D.height C.color p.frame)) };
 }
 
 impl<'a, S: AsStr + Drop, D: Dimension, C: Colors, B: Allocator, A: Allocator> RowPrinter<
@@ -109,6 +113,7 @@ impl<'a, S: AsStr + Drop, D: Dimension, C: Colors, B: Allocator, A: Allocator> R
             },
             hint,
             cells,
+            separator: None,
             rows: 0,
             lines: 0,
             is_ended: false,
@@ -174,13 +179,14 @@ impl<'a, S: AsStr + Drop, D: Dimension, C: Colors, B: Allocator, A: Allocator> R
             frame,
             hint,
             cells: mut open,
+            mut separator,
             rows,
             lines,
             is_ended: _,
         } = self;
         let is_first = frame.config.get_margin().top.size == 0;
         frame.push_top(buf, rows)?;
-        let next = open.push_above(&frame, buf, is_first, lines, rows)?;
+        let next = open.push_above(&frame, &mut separator, buf, is_first, lines, rows)?;
         let height = frame.dimension.get_height(rows);
         let below = next + height;
         if frame.draws_at_once(height) {
@@ -189,6 +195,7 @@ impl<'a, S: AsStr + Drop, D: Dimension, C: Colors, B: Allocator, A: Allocator> R
                 frame,
                 hint,
                 cells: open,
+                separator,
                 rows: rows + 1,
                 lines: below,
                 is_ended: is_last,
@@ -201,6 +208,7 @@ impl<'a, S: AsStr + Drop, D: Dimension, C: Colors, B: Allocator, A: Allocator> R
             frame,
             hint,
             cells: open,
+            separator,
             rows: rows + 1,
             lines: below,
             is_ended: is_last,
@@ -220,6 +228,7 @@ impl<'a, S: AsStr + Drop, D: Dimension, C: Colors, B: Allocator, A: Allocator> R
             frame,
             hint: _,
             cells,
+            separator: _,
             rows,
             lines,
             is_ended: _,
