@@ -10,7 +10,8 @@ ghost use Rattle.pg_picture.specs.Appending.{Appends};
 ghost use Rattle.pg_stream.specs.Conditions.{PrinterFits, RowFits};
 ghost use Rattle.pg_stream.specs.Placed.{slots_of};
 ghost use Rattle.pg_stream.specs.Printers.{printing};
-ghost use Rattle.pg_stream.specs.Printing.{printer, row_text, finish_text, after_row};
+ghost use Rattle.pg_stream.specs.Drawing.{IsSeparator};
+ghost use Rattle.pg_stream.specs.Printing.{printer, frame_of, row_text, finish_text, after_row};
 
 use crate::frame::{Frame, style_of_all};
 use crate::open_cells::OpenCells;
@@ -50,8 +51,6 @@ pub struct RowPrinter<
     pub(crate) frame: Frame<'a, D, C, B>,
     pub(crate) hint: Option<usize>,
     cells: OpenCells<S, A>,
-    /// The text of the separators above all rows but the first, where these are equal and it is short.
-    separator: Option<KeptText>,
     pub(crate) rows: usize,
     pub(crate) lines: usize,
     pub(crate) is_ended: bool,
@@ -59,8 +58,6 @@ pub struct RowPrinter<
 
 impl<'a, S: AsStr, D: Dimension, C: Colors, B: Allocator, A: Allocator> Model
     for RowPrinter<'a, S, D, C, B, A> {
-    ghost use Rattle.std.specs.Prelude.{IfSome};
-    ghost use Rattle.pg_stream.specs.Drawing.{IsSeparator};
     ghost use Rattle.pg_stream.specs.Frames.{frame_table};
     ghost use Rattle.pg_stream.specs.Printers.{Printer, printer_of, printing, IsSound};
 
@@ -68,7 +65,7 @@ impl<'a, S: AsStr, D: Dimension, C: Colors, B: Allocator, A: Allocator> Model
 
     ghost view = { λ p. printer_of p.frame p.hint p.cells p.rows p.lines p.is_ended };
 
-    ghost invariant = { λ p. IsSound (printing D.width D.height C.color (printer_of p.frame p.hint p.cells p.rows p.lines p.is_ended)) (frame_table D.width D.height C.color p.frame) p.frame.width p.frame.height p.cells × IfSome p.separator (IsSeparator (frame_table D.width D.height C.color p.frame)) };
+    ghost invariant = { λ p. IsSound (printing D.width D.height C.color (printer_of p.frame p.hint p.cells p.rows p.lines p.is_ended)) (frame_table D.width D.height C.color p.frame) p.frame.width p.frame.height p.cells };
 }
 
 impl<'a, S: AsStr + Drop, D: Dimension, C: Colors, B: Allocator, A: Allocator> RowPrinter<
@@ -113,7 +110,6 @@ impl<'a, S: AsStr + Drop, D: Dimension, C: Colors, B: Allocator, A: Allocator> R
             },
             hint,
             cells,
-            separator: None,
             rows: 0,
             lines: 0,
             is_ended: false,
@@ -175,18 +171,38 @@ impl<'a, S: AsStr + Drop, D: Dimension, C: Colors, B: Allocator, A: Allocator> R
         ensures appends { (texts : List Text) → AlwaysGives (λ x y. S.text x ≡ y) I.next_gives cells texts → Appends buf.old buf.new result (row_text (printing D.width D.height C.color self.entry) texts is_last) }
         ensures after { (texts : List Text) → AlwaysGives (λ x y. S.text x ≡ y) I.next_gives cells texts → IfOk result (λ p. printing D.width D.height C.color p ≡ after_row (printing D.width D.height C.color self.entry) texts is_last) }
     {
+        self.row_keeping(cells, is_last, &mut None, buf)
+    }
+
+    /// Prints the next row as [`RowPrinter::row`] does, under the same conditions, and copies the
+    /// separator above it where it is kept: `kept` is `None` before the first row, and is handed on from
+    /// call to call. It keeps the text of the separators above all rows but the first, if these are
+    /// equal and it is short.
+    pub fn row_keeping<I: Iterator<Item = S>, W: Allocator>(
+        self,
+        cells: I,
+        is_last: bool,
+        kept: &mut Option<KeptText>,
+        buf: &mut String<W>,
+    ) -> Result<RowPrinter<'a, S, D, C, B, A>, AllocError>
+        requires can { I.can_next cells × IsFinite (I.remaining cells) }
+        requires fits { (texts : List Text) × AlwaysGives (λ x y. S.text x ≡ y) I.next_gives cells texts × RowFits (printing D.width D.height C.color self) texts is_last }
+        requires kept { IfSome kept.old (IsSeparator (frame_of (printing D.width D.height C.color self))) }
+        ensures appends { (texts : List Text) → AlwaysGives (λ x y. S.text x ≡ y) I.next_gives cells texts → Appends buf.old buf.new result (row_text (printing D.width D.height C.color self.entry) texts is_last) }
+        ensures after { (texts : List Text) → AlwaysGives (λ x y. S.text x ≡ y) I.next_gives cells texts → IfOk result (λ p. printing D.width D.height C.color p ≡ after_row (printing D.width D.height C.color self.entry) texts is_last) }
+        ensures kept { IfSome kept.new (IsSeparator (frame_of (printing D.width D.height C.color self.entry))) }
+    {
         let RowPrinter {
             frame,
             hint,
             cells: mut open,
-            mut separator,
             rows,
             lines,
             is_ended: _,
         } = self;
         let is_first = frame.config.get_margin().top.size == 0;
         frame.push_top(buf, rows)?;
-        let next = open.push_above(&frame, &mut separator, buf, is_first, lines, rows)?;
+        let next = open.push_above(&frame, kept, buf, is_first, lines, rows)?;
         let height = frame.dimension.get_height(rows);
         let below = next + height;
         if frame.draws_at_once(height) {
@@ -195,7 +211,6 @@ impl<'a, S: AsStr + Drop, D: Dimension, C: Colors, B: Allocator, A: Allocator> R
                 frame,
                 hint,
                 cells: open,
-                separator,
                 rows: rows + 1,
                 lines: below,
                 is_ended: is_last,
@@ -208,7 +223,6 @@ impl<'a, S: AsStr + Drop, D: Dimension, C: Colors, B: Allocator, A: Allocator> R
             frame,
             hint,
             cells: open,
-            separator,
             rows: rows + 1,
             lines: below,
             is_ended: is_last,
@@ -228,7 +242,6 @@ impl<'a, S: AsStr + Drop, D: Dimension, C: Colors, B: Allocator, A: Allocator> R
             frame,
             hint: _,
             cells,
-            separator: _,
             rows,
             lines,
             is_ended: _,

@@ -23,7 +23,7 @@ push_below-requires-clause-inside g c =
     let s : Printing = printing g.D.Dimension.width g.D.Dimension.height g.C.Colors.color (printer_of q.frame q.hint q.cells q.rows q.lines q.is_ended) in
     let some : 0 < q.rows = omega arith in
     let ended : q.is_ended ≡ true = ended_of q.rows q.is_ended (subst (λ p. ((printing g.D.Dimension.width g.D.Dimension.height g.C.Colors.color p).rows ≡ 0) ⊎ ((printing g.D.Dimension.width g.D.Dimension.height g.C.Colors.color p).is_ended ≡ true)) (sym c.self.view_is) c.requires) some in
-    no_cells s q.frame.width q.frame.height q.cells refl c.self.invariant.0 ended _
+    no_cells s q.frame.width q.frame.height q.cells refl c.self.invariant ended _
 
 pub push_below-requires-clause-tall : goal.push_below-requires-clause-tall
 push_below-requires-clause-tall g c =
@@ -31,7 +31,7 @@ push_below-requires-clause-tall g c =
     let s : Printing = printing g.D.Dimension.width g.D.Dimension.height g.C.Colors.color (printer_of q.frame q.hint q.cells q.rows q.lines q.is_ended) in
     let some : 0 < q.rows = omega arith in
     let ended : q.is_ended ≡ true = ended_of q.rows q.is_ended (subst (λ p. ((printing g.D.Dimension.width g.D.Dimension.height g.C.Colors.color p).rows ≡ 0) ⊎ ((printing g.D.Dimension.width g.D.Dimension.height g.C.Colors.color p).is_ended ≡ true)) (sym c.self.view_is) c.requires) some in
-    no_cells s q.frame.width q.frame.height q.cells refl c.self.invariant.0 ended (IsTall (frame_table g.D.Dimension.width g.D.Dimension.height g.C.Colors.color q.frame))
+    no_cells s q.frame.width q.frame.height q.cells refl c.self.invariant ended (IsTall (frame_table g.D.Dimension.width g.D.Dimension.height g.C.Colors.color q.frame))
 
 pub returns-in_err-push_below : goal.returns-in_err-push_below
 returns-in_err-push_below g c =
@@ -39,7 +39,7 @@ returns-in_err-push_below g c =
     let s : Printing = printing g.D.Dimension.width g.D.Dimension.height g.C.Colors.color (printer_of q.frame q.hint q.cells q.rows q.lines q.is_ended) in
     let some : 0 < q.rows = omega arith in
     let ended : q.is_ended ≡ true = ended_of q.rows q.is_ended (subst (λ p. ((printing g.D.Dimension.width g.D.Dimension.height g.C.Colors.color p).rows ≡ 0) ⊎ ((printing g.D.Dimension.width g.D.Dimension.height g.C.Colors.color p).is_ended ≡ true)) (sym c.self.view_is) c.requires) some in
-    Appends-text (finish_text-is s q.frame.width q.frame.height q.cells refl c.self.invariant.0 ended (c.get_margin-is_first.result.top.size == 0) (has_horizontal s.config q.rows q.rows) some (ap (λ m. m.top.size == 0) c.get_margin-is_first.ensures) refl ∙ ap (λ p. finish_text (printing g.D.Dimension.width g.D.Dimension.height g.C.Colors.color p)) c.self.view_is) (stopped _ c.from_residual.ensures.0 c.in_err-push_below.ensures)
+    Appends-text (finish_text-is s q.frame.width q.frame.height q.cells refl c.self.invariant ended (c.get_margin-is_first.result.top.size == 0) (has_horizontal s.config q.rows q.rows) some (ap (λ m. m.top.size == 0) c.get_margin-is_first.ensures) refl ∙ ap (λ p. finish_text (printing g.D.Dimension.width g.D.Dimension.height g.C.Colors.color p)) c.self.view_is) (stopped _ c.from_residual.ensures.0 c.in_err-push_below.ensures)
 
 pub returns : goal.returns
 returns g c =
@@ -49,5 +49,5 @@ returns g c =
     let ended : q.is_ended ≡ true = ended_of q.rows q.is_ended (subst (λ p. ((printing g.D.Dimension.width g.D.Dimension.height g.C.Colors.color p).rows ≡ 0) ⊎ ((printing g.D.Dimension.width g.D.Dimension.height g.C.Colors.color p).is_ended ≡ true)) (sym c.self.view_is) c.requires) some in
     let margin = q.frame.config.now.margin.bottom in
     let line = written (margin_line margin q.frame.config.now.margin_offset.bottom q.frame.config.now.margin_color.bottom q.frame.width) in
-    Appends-text (finish_text-is s q.frame.width q.frame.height q.cells refl c.self.invariant.0 ended (c.get_margin-is_first.result.top.size == 0) c.has_horizontal-has_last.result some (ap (λ m. m.top.size == 0) c.get_margin-is_first.ensures) c.has_horizontal-has_last.ensures ∙ ap (λ p. finish_text (printing g.D.Dimension.width g.D.Dimension.height g.C.Colors.color p)) c.self.view_is)
+    Appends-text (finish_text-is s q.frame.width q.frame.height q.cells refl c.self.invariant ended (c.get_margin-is_first.result.top.size == 0) c.has_horizontal-has_last.result some (ap (λ m. m.top.size == 0) c.get_margin-is_first.ensures) c.has_horizontal-has_last.ensures ∙ ap (λ p. finish_text (printing g.D.Dimension.width g.D.Dimension.height g.C.Colors.color p)) c.self.view_is)
     (c.in_ok-push_below.ensures then Appends-text (ap (λ b. continued (lines_before b) (replicate margin.size line)) c.is_bare-is_first.ensures) c.push_bottom_margin.ensures)
