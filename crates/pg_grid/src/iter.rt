@@ -134,9 +134,12 @@ where
     ensures { (cells : List Text) (texts : List (List Text)) → AreRowsFrom (Gives (λ x y. T.text x ≡ y) Cells.can_next Cells.next_gives Cells.remaining) Rows.next_gives first rows cells texts → Appends buf.old buf.new result (rows_text (printing D.width D.height C.color printer.entry) (cells ∷ texts)) }
 {
     let mut row = first;
+    let mut separator = None;
     for next in rows {
-        printer = printer.row(row, false, buf)?;
+        printer = printer.row_keeping(row, false, &mut separator, buf)?;
         row = next;
     }
-    printer.row(row, true, buf)?.finish(buf)
+    printer
+        .row_keeping(row, true, &mut separator, buf)?
+        .finish(buf)
 }

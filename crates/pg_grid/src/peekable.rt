@@ -10,7 +10,6 @@ use std::alloc::{AllocError, Allocator};
 
 mod body;
 mod kept;
-mod kept_text;
 mod path;
 mod rows;
 mod separators;

@@ -13,36 +13,36 @@ map-each : {X Y : Type 0} (f g : X → Y) → ((x : X) → f x ≡ g x) → (xs 
 map-each f g same [] = refl
 map-each f g same (x ∷ xs) = ap₂ (λ y ys. y ∷ ys) (same x) (map-each f g same xs)
 
-module _ (config : Config) (r s c rows columns : ℕ) (same : SameLines config (at r c) (at s c) rows columns) where
-  crossing_at-same : crossing_at config rows columns (at r c) ≡ crossing_at config rows columns (at s c)
+module _ (config : Config) (r m s n c columns : ℕ) (same : SameLines config (at r c) m (at s c) n columns) where
+  pub crossing_at-same : crossing_at config m columns (at r c) ≡ crossing_at config n columns (at s c)
   unfolding crossing_at
   crossing_at-same = rw (same.crossing, same.crossing_color) refl
 
-  border_glyph-same : (w g i : ℕ) → border_glyph config (at r c) w g (get_horizontal_color config (at r c) rows) i ≡ border_glyph config (at s c) w g (get_horizontal_color config (at s c) rows) i
+  border_glyph-same : (w g i : ℕ) → border_glyph config (at r c) w g (get_horizontal_color config (at r c) m) i ≡ border_glyph config (at s c) w g (get_horizontal_color config (at s c) n) i
   border_glyph-same w g i = rw (same.char i w, same.char_color i w, same.horizontal_color) refl
 
-  border_items-same : (w : ℕ) (g : Option ℕ) → border_items config (at r c) rows w g ≡ border_items config (at s c) rows w g
+  border_items-same : (w : ℕ) (g : Option ℕ) → border_items config (at r c) m w g ≡ border_items config (at s c) n w g
   border_items-same w None = refl
   border_items-same w (Some g) =
-      map-each (border_glyph config (at r c) w g (get_horizontal_color config (at r c) rows)) (border_glyph config (at s c) w g (get_horizontal_color config (at s c) rows)) (border_glyph-same w g) (range_with_len 0 w)
+      map-each (border_glyph config (at r c) w g (get_horizontal_color config (at r c) m)) (border_glyph config (at s c) w g (get_horizontal_color config (at s c) n)) (border_glyph-same w g) (range_with_len 0 w)
 
-  horizontal-same : (w : ℕ) → border_items config (at r c) rows w (get_horizontal config (at r c) rows) ≡ border_items config (at s c) rows w (get_horizontal config (at s c) rows)
-  horizontal-same w = border_items-same w (get_horizontal config (at r c) rows) ∙ ap (border_items config (at s c) rows w) same.horizontal
+  pub horizontal-same : (w : ℕ) → border_items config (at r c) m w (get_horizontal config (at r c) m) ≡ border_items config (at s c) n w (get_horizontal config (at s c) n)
+  horizontal-same w = border_items-same w (get_horizontal config (at r c) m) ∙ ap (border_items config (at s c) n w) same.horizontal
 
 module _ (t : Table) (none : t.config.spans ≡ []) (equal : has_equal_row_lines t.config ≡ true) (r s : ℕ) (inner_r : IsInner r t.rows) (inner_s : IsInner s t.rows) where
-  lines : (x : ℕ) → SameLines t.config (at r x) (at s x) t.rows t.columns
-  lines x = inner_lines t.config equal r s t.rows inner_r inner_s x t.columns
+  lines : (x : ℕ) → SameLines t.config (at r x) t.rows (at s x) t.rows t.columns
+  lines x = inner_lines t.config equal r t.rows s t.rows inner_r inner_s x t.columns
 
   column_items-same : (x : ℕ) → column_items t r x ≡ column_items t s x
   unfolding column_items
   column_items-same x =
       rw (covered_plain t none r x, covered_plain t none s x)
-      (ap (λ (items : List Item). if nat_lt x t.columns then items else []) (horizontal-same t.config r s x t.rows t.columns (lines x) (t.width x)))
+      (ap (λ (items : List Item). if nat_lt x t.columns then items else []) (horizontal-same t.config r t.rows s t.rows x t.columns (lines x) (t.width x)))
 
   separator_part-same : (x : ℕ) → separator_part t r x ≡ separator_part t s x
   unfolding separator_part
   separator_part-same x =
-      ap₂ (λ (a b : List Item). a ++ b) (rw (crossing_plain t none r x, crossing_plain t none s x) (crossing_at-same t.config r s x t.rows t.columns (lines x))) (column_items-same x)
+      ap₂ (λ (a b : List Item). a ++ b) (rw (crossing_plain t none r x, crossing_plain t none s x) (crossing_at-same t.config r t.rows s t.rows x t.columns (lines x))) (column_items-same x)
 
   pub equal_separators : separator_items t r ≡ separator_items t s
   unfolding separator_items

@@ -56,5 +56,6 @@ mod StraightColumns
 mod DrawnCells
 pub mod PlainPictures
 pub mod EqualSeparators
+pub mod KeptTexts
 pub mod OneStyle
 mod FirstMisfits

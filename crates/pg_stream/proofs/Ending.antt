@@ -7,7 +7,7 @@ use Rattle.pg_layout.specs.declared.position.Position.{Position}
 use Rattle.pg_layout.specs.Position.{at}
 use Rattle.pg_layout.specs.Text.{Text}
 use Rattle.pg_config.specs.Config.{has_horizontal}
-use Rattle.pg_config.specs.Spans.{rect_rows, owner}
+use Rattle.pg_config.specs.Spans.{Span, rect_rows, owner}
 use Rattle.pg_picture.specs.Joined.{continued, lines_before}
 use Rattle.pg_picture.specs.Marks.{Mark, sep, only_if, marks_above, body}
 use Rattle.pg_picture.specs.Pieces.{written, separator_text}
@@ -45,17 +45,17 @@ and_none false c e = refl
 
 -- ---- a separator without open cells
 
-module _ (t : Table) (m : ℕ) (f : Position → Text) (cells : List (Option Placed)) (empty : (x : ℕ) → get_or cells x None ≡ None) where
-  reach-empty : (x : ℕ) → nat_lt x (reach t.config.spans cells x) ≡ false
-  reach-empty x =
-      elim (cases_Bool (nat_lt x (reach t.config.spans cells x))) [
-        | inr e ↦ e
-        | inl e ↦ let r = reaching t.config.spans cells x (ltb-true x (reach t.config.spans cells x) e) in absurd (some_none (sym r.here ∙ empty r.column))
-      ]
-    where
-      some_none : {c : Placed} → Some c ≡ None → ⊥
-      some_none e = cc
+pub reach-empty : (spans : List Span) (cells : List (Option Placed)) → ((x : ℕ) → get_or cells x None ≡ None) → (x : ℕ) → nat_lt x (reach spans cells x) ≡ false
+reach-empty spans cells empty x =
+    elim (cases_Bool (nat_lt x (reach spans cells x))) [
+      | inr e ↦ e
+      | inl e ↦ let r = reaching spans cells x (ltb-true x (reach spans cells x) e) in absurd (some_none (sym r.here ∙ empty r.column))
+    ]
+  where
+    some_none : {c : Placed} → Some c ≡ None → ⊥
+    some_none e = cc
 
+module _ (t : Table) (m : ℕ) (f : Position → Text) (cells : List (Option Placed)) (empty : (x : ℕ) → get_or cells x None ≡ None) where
   covered-none : (x : ℕ) → is_covered (other t m f) m x ≡ false
   unfolding is_covered
   covered-none x = let e : nat_lt m m ≡ false = grind (arith, nat_tests) in rw e refl
@@ -68,7 +68,7 @@ module _ (t : Table) (m : ℕ) (f : Position → Text) (cells : List (Option Pla
   unfolding open_separator_part separator_part column_items
   part-bare x h =
       let here : nat_lt x t.columns ≡ true = grind (arith, nat_tests, h) in
-      rw (reach-empty x, empty x, crossing-bare x, covered-none x, here) refl
+      rw (reach-empty t.config.spans cells empty x, empty x, crossing-bare x, covered-none x, here) refl
 
   last-bare : crossing_at t.config m t.columns (at m t.columns) ≡ separator_part (other t m f) m t.columns
   unfolding separator_part column_items

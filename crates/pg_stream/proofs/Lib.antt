@@ -36,3 +36,4 @@ pub mod SingleRowsPrinted
 pub mod SingleCells
 pub mod FittingCells
 pub mod LineStyles
+pub mod EqualRowLines

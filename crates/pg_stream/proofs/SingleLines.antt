@@ -25,15 +25,15 @@ use Rattle.pg_stream.proofs.PartsOfLists.{partly-all, partly-below}
 use Rattle.pg_stream.proofs.Steps.{open_none}
 use Rattle.pg_stream.proofs.WholePictures.{map_range-same, no_slots}
 
+pub no-span : (spans : List Span) → (length spans == 0) ≡ true → spans ≡ []
+no-span [] none = refl
+no-span (s ∷ ss) none = let some : (length (s ∷ ss) == 0) ≡ false = grind (arith, nat_tests) in absurd (false≢true (sym some ∙ none))
+
 -- a row is drawn at once where it has one line and no span is kept
 pub at-once : (n : ℕ) (spans : List Span) (b : Bool) → b ≡ ((n == 1) && (length spans == 0)) → b ≡ true → (n ≡ 1) × (spans ≡ [])
 at-once n spans b is e =
     let parts = and_parts (n == 1) (length spans == 0) (sym is ∙ e) in
     (grind (arith, nat_tests, parts.0), no-span spans parts.1)
-  where
-    no-span : (spans : List Span) → (length spans == 0) ≡ true → spans ≡ []
-    no-span [] none = refl
-    no-span (s ∷ ss) none = let some : (length (s ∷ ss) == 0) ≡ false = grind (arith, nat_tests) in absurd (false≢true (sym some ∙ none))
 
 module _ {A : Type 0} (f : ℕ → A → A) where
   mapped-at : (xs : List A) (i : ℕ) (d : A) → i < length xs → get_or (mapped f 0 xs) i d ≡ f i (get_or xs i d)

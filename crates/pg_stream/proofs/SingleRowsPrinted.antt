@@ -1,5 +1,5 @@
 -- A row of one line in a table without spans: its text, and the cells that are open after it.
-use Rattle.std.proofs.Common.{◌≡◌, ℕ, ◌+◌, ◌<◌, Bool, true, ◌==◌, List, [], ◌++◌, Option, IfSome, ap, ◌∙◌}
+use Rattle.std.proofs.Common.{◌≡◌, ℕ, ◌+◌, ◌<◌, Bool, true, ◌==◌, List, [], ◌++◌, replicate, Option, None, IfSome, ap, ◌∙◌}
 use Rattle.pg_layout.specs.Text.{Text}
 use Rattle.pg_picture.specs.Fits.{spans_fit}
 use Rattle.pg_picture.specs.Pieces.{written}
@@ -13,6 +13,11 @@ use Rattle.pg_stream.specs.Slots.{separator_height}
 use Rattle.pg_stream.proofs.RowsAppended.{row_text-is, cells_left}
 use Rattle.pg_stream.proofs.RowsPrinted.{slots-are, cells_above, whole-above}
 use Rattle.pg_stream.proofs.SingleLines.{none-above, lines-are, left-as-above}
+
+-- where no cell spans others, none is open between two rows
+pub none-open : (s : Printing) (w : ℕ) (height : Option ℕ) (cells : List (Option Placed)) → s.slots ≡ slots_of cells → IsSound s (frame_of s) w height cells → s.config.spans ≡ [] → cells ≡ replicate s.columns None
+unfolding table_known
+none-open s w height cells slots sound alone = none-above (table_known s 0 []) alone s.rows cells (slots-are s w height cells slots sound 0 [])
 
 module _ (s : Printing) (w : ℕ) (height : Option ℕ) (cells : List (Option Placed)) (slots : s.slots ≡ slots_of cells) (sound : IsSound s (frame_of s) w height cells) (is_last : Bool) (hinted : IfSome s.hint (λ rows. (s.rows < rows) × (is_last ≡ ((s.rows + 1) == rows)))) (last : is_last ≡ true → spans_fit s.config.spans (s.rows + 1) s.columns ≡ true) (alone : s.config.spans ≡ []) (one : s.height s.rows ≡ 1) (texts : List Text) where
   abbrev t : Table
@@ -28,4 +33,4 @@ module _ (s : Printing) (w : ℕ) (height : Option ℕ) (cells : List (Option Pl
   -- the cells that were open above the row are those that are open below it
   pub single-left : cells_above s w height cells slots sound ≡ cells_left s w height cells slots sound is_last hinted last texts
   unfolding table_known
-  single-left = left-as-above t alone s.rows one cells (separator_height s.config s.rows) texts (none-above (table_known s 0 []) alone s.rows cells (slots-are s w height cells slots sound 0 [])) (whole-above s w height cells slots sound)
+  single-left = left-as-above t alone s.rows one cells (separator_height s.config s.rows) texts (none-open s w height cells slots sound alone) (whole-above s w height cells slots sound)

@@ -30,7 +30,7 @@ pub slots-none : (n : ℕ) → slots_of (replicate n None) ≡ replicate n None
 slots-none zero = refl
 slots-none (suc n) = ap (λ l. None ∷ l) (slots-none n)
 
-none-at : (n x : ℕ) → slice_index_or (replicate {A = Option Placed} n None) x None ≡ None
+pub none-at : (n x : ℕ) → slice_index_or (replicate {A = Option Placed} n None) x None ≡ None
 none-at zero x = refl
 none-at (suc n) zero = refl
 none-at (suc n) (suc x) = none-at n x

@@ -1,5 +1,5 @@
 -- What is drawn of open cells: lines of a row, and separators.
-use Rattle.std.specs.Prelude.{ℕ, ◌+◌, Bool, ◌&&◌, ◌==◌, nat_lt, List, [], ◌∷◌, ◌++◌, map, flat_map, replicate, slice_index_or, Option, Some, None, if◌then◌else◌}
+use Rattle.std.specs.Prelude.{◌≡◌, ℕ, ◌+◌, ◌<◌, Bool, ◌&&◌, ◌==◌, nat_lt, List, [], ◌∷◌, ◌++◌, map, flat_map, replicate, slice_index_or, Option, Some, None, if◌then◌else◌}
 use Rattle.std.specs.List.{range_with_len}
 use Rattle.pg_layout.specs.Position.{at}
 use Rattle.pg_layout.specs.Text.{Text, greatest}
@@ -50,6 +50,10 @@ open_separator_part t rows cells r x =
 -- the separator above row r of so many rows, and the crossing behind the last column
 unfoldable pub open_separator : Table → ℕ → List (Option Placed) → ℕ → List Item
 open_separator t rows cells r = flat_map (open_separator_part t rows cells r) (range_with_len 0 t.columns) ++ crossing_at t.config rows t.columns (at r t.columns)
+
+-- no cell spans others, and this is the text of the separator above each row but the first
+abbrev pub IsSeparator : Table → Text → Type 0
+IsSeparator t text = (t.config.spans ≡ []) × ((r : ℕ) → 0 < r → text ≡ separator_text (open_separator t (r + 1) (replicate t.columns None) r))
 
 -- ---- lines of the body
 

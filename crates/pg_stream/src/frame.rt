@@ -4,6 +4,7 @@ ghost use Rattle.std.specs.Prelude.{◌≡◌, ◌+◌, ◌<◌, ◌≤◌, ◌+
 ghost use Rattle.std.specs.Option.{ForSome};
 ghost use Rattle.pg_picture.specs.Joined.{feed_before};
 ghost use Rattle.pg_picture.specs.Table.{vertical, side_margin_at};
+ghost use Rattle.pg_config.specs.Config.{has_equal_row_lines};
 ghost use Rattle.pg_config.specs.Spans.{rect_rows, rect_columns};
 ghost use Rattle.pg_layout.specs.Text.{lines_of};
 ghost use Rattle.pg_picture.specs.Cells.{style_of};
@@ -141,6 +142,14 @@ impl<'a, D: Dimension, C: Colors, B: Allocator> Frame<'a, D, C, B> {
         push_top_margin(buf, self.config, self.width)
     }
 
+    // Whether the separators above all rows but the first are equal: no cell goes through them, and no
+    // glyph or colour of a row line was set by its place.
+    pub(crate) fn has_equal_separators(&self) -> bool
+        ensures { result ≡ ((length self.now.config.now.spans == 0) && has_equal_row_lines self.now.config.now) }
+    {
+        self.config.spans().is_empty() && self.config.has_equal_row_lines()
+    }
+
     // The glyph of a vertical, on a line of its row.
     #[inline(always)]
     pub(crate) fn push_vertical<A: Allocator>(
@@ -180,31 +189,48 @@ impl<'a, D: Dimension, C: Colors, B: Allocator> Frame<'a, D, C, B> {
     {
         let width = rect_width(self.config, self.dimension, pos, self.columns).unwrap();
         let height = rect_height(self.config, self.dimension, pos).unwrap();
-        let style = CellStyle::of(self.config, pos);
-        let place = place_of_text(value.as_str(), &style, width, height);
+        let place = self.place_of_text(value.as_str(), pos, width, height);
         OpenCell::new(value, pos.row, width, place)
     }
-}
 
-// Where a text stands in a cell of so many columns and lines; one of no line shows none.
-fn place_of_text<B: Allocator>(
-    text: &str,
-    style: &CellStyle<'_, B>,
-    width: usize,
-    height: usize,
-) -> CellPlace
-    requires { cell_fits (style_of style.now) text.now width height ≡ true }
-    ensures place { result ≡ place_in (style_of style.now) text.now width height }
-    ensures lines { result.skip + result.shown ≤ length (lines_of text.now) }
-{
-    if height == 0 {
-        return CellPlace {
-            top: 0,
-            shown: 0,
-            skip: 0,
-            left: None,
-        };
+    // Where a text stands in the cell at a place, which has so many columns and lines.
+    fn place_of_text(&self, text: &str, pos: Position, width: usize, height: usize) -> CellPlace
+        requires { cell_fits (style_at self.now.config.now pos) text.now width height ≡ true }
+        ensures place { result ≡ place_in (style_at self.now.config.now pos) text.now width height }
+        ensures lines { result.skip + result.shown ≤ length (lines_of text.now) }
+    {
+        match &self.all {
+            Some(style) => self.place_in_style(style, text, pos, width, height),
+            None => {
+                let style = CellStyle::of(self.config, pos);
+                self.place_in_style(&style, text, pos, width, height)
+            }
+        }
     }
-    let facts = TextFacts::of_text(text, style.formatting);
-    CellPlace::of(facts, style, width, height)
+
+    // The same where the style is known; a cell of no line shows none.
+    fn place_in_style(
+        &self,
+        style: &CellStyle<'_, B>,
+        text: &str,
+        pos: Position,
+        width: usize,
+        height: usize,
+    ) -> CellPlace
+        requires style { style_of style.now ≡ style_at self.now.config.now pos }
+        requires room { cell_fits (style_at self.now.config.now pos) text.now width height ≡ true }
+        ensures place { result ≡ place_in (style_at self.now.config.now pos) text.now width height }
+        ensures lines { result.skip + result.shown ≤ length (lines_of text.now) }
+    {
+        if height == 0 {
+            return CellPlace {
+                top: 0,
+                shown: 0,
+                skip: 0,
+                left: None,
+            };
+        }
+        let facts = TextFacts::of_text(text, style.formatting);
+        CellPlace::of(facts, style, width, height)
+    }
 }

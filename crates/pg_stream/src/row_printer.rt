@@ -10,14 +10,15 @@ ghost use Rattle.pg_picture.specs.Appending.{Appends};
 ghost use Rattle.pg_stream.specs.Conditions.{PrinterFits, RowFits};
 ghost use Rattle.pg_stream.specs.Placed.{slots_of};
 ghost use Rattle.pg_stream.specs.Printers.{printing};
-ghost use Rattle.pg_stream.specs.Printing.{printer, row_text, finish_text, after_row};
+ghost use Rattle.pg_stream.specs.Drawing.{IsSeparator};
+ghost use Rattle.pg_stream.specs.Printing.{printer, frame_of, row_text, finish_text, after_row};
 
 use crate::frame::{Frame, style_of_all};
 use crate::open_cells::OpenCells;
 use pg_config::SpannedConfig;
 use pg_layout::{Colors, Dimension};
 use pg_picture::fits::{body_height, full_width};
-use pg_picture::push_bottom_margin;
+use pg_picture::{KeptText, push_bottom_margin};
 use std::alloc::{AllocError, Allocator, Global};
 use std::convert::AsStr;
 use std::marker::Model;
@@ -170,6 +171,27 @@ impl<'a, S: AsStr + Drop, D: Dimension, C: Colors, B: Allocator, A: Allocator> R
         ensures appends { (texts : List Text) → AlwaysGives (λ x y. S.text x ≡ y) I.next_gives cells texts → Appends buf.old buf.new result (row_text (printing D.width D.height C.color self.entry) texts is_last) }
         ensures after { (texts : List Text) → AlwaysGives (λ x y. S.text x ≡ y) I.next_gives cells texts → IfOk result (λ p. printing D.width D.height C.color p ≡ after_row (printing D.width D.height C.color self.entry) texts is_last) }
     {
+        self.row_keeping(cells, is_last, &mut None, buf)
+    }
+
+    /// Prints the next row as [`RowPrinter::row`] does, under the same conditions, and copies the
+    /// separator above it where it is kept: `kept` is `None` before the first row, and is handed on from
+    /// call to call. It keeps the text of the separators above all rows but the first, if these are
+    /// equal and it is short.
+    pub fn row_keeping<I: Iterator<Item = S>, W: Allocator>(
+        self,
+        cells: I,
+        is_last: bool,
+        kept: &mut Option<KeptText>,
+        buf: &mut String<W>,
+    ) -> Result<RowPrinter<'a, S, D, C, B, A>, AllocError>
+        requires can { I.can_next cells × IsFinite (I.remaining cells) }
+        requires fits { (texts : List Text) × AlwaysGives (λ x y. S.text x ≡ y) I.next_gives cells texts × RowFits (printing D.width D.height C.color self) texts is_last }
+        requires kept { IfSome kept.old (IsSeparator (frame_of (printing D.width D.height C.color self))) }
+        ensures appends { (texts : List Text) → AlwaysGives (λ x y. S.text x ≡ y) I.next_gives cells texts → Appends buf.old buf.new result (row_text (printing D.width D.height C.color self.entry) texts is_last) }
+        ensures after { (texts : List Text) → AlwaysGives (λ x y. S.text x ≡ y) I.next_gives cells texts → IfOk result (λ p. printing D.width D.height C.color p ≡ after_row (printing D.width D.height C.color self.entry) texts is_last) }
+        ensures kept { IfSome kept.new (IsSeparator (frame_of (printing D.width D.height C.color self.entry))) }
+    {
         let RowPrinter {
             frame,
             hint,
@@ -180,7 +202,7 @@ impl<'a, S: AsStr + Drop, D: Dimension, C: Colors, B: Allocator, A: Allocator> R
         } = self;
         let is_first = frame.config.get_margin().top.size == 0;
         frame.push_top(buf, rows)?;
-        let next = open.push_above(&frame, buf, is_first, lines, rows)?;
+        let next = open.push_above(&frame, kept, buf, is_first, lines, rows)?;
         let height = frame.dimension.get_height(rows);
         let below = next + height;
         if frame.draws_at_once(height) {

@@ -1,20 +1,21 @@
 //! Separators, which show the lines of the open cells that go through them.
 
-ghost use Rattle.std.specs.Prelude.{◌≡◌, ◌+◌, ◌≤◌, ◌<◌, ◌^◌, nat_lt, max, length, map, flat_map, slice_index_or, IfOk, OnOk, None};
+ghost use Rattle.std.specs.Prelude.{◌≡◌, ◌+◌, ◌≤◌, ◌<◌, ◌^◌, nat_lt, max, [], length, map, flat_map, replicate, slice_index_or, IfOk, IfSome, OnOk, None, Option, true, ◌&&◌, ◌==◌};
 ghost use Rattle.std.specs.List.{range_with_len};
 ghost use Rattle.pg_config.specs.Spans.{rect_columns};
 ghost use Rattle.pg_layout.specs.Position.{at};
 ghost use Rattle.pg_picture.specs.Appending.{Appends};
 ghost use Rattle.pg_picture.specs.Pieces.{items_after, last_color, separator_text};
 ghost use Rattle.pg_stream.specs.Placed.{draw_cell, AllOpen, IsPlaced, IsTall};
-ghost use Rattle.pg_stream.specs.Drawing.{column_end, reach, cell_items, open_separator_part, open_separator, line_at, above_text, below_text};
+ghost use Rattle.pg_stream.specs.Drawing.{column_end, reach, cell_items, open_separator_part, open_separator, above_text, below_text, IsSeparator};
+ghost use Rattle.pg_picture.specs.Table.{Table};
 ghost use Rattle.pg_stream.specs.Slots.{separator_height};
 ghost use Rattle.pg_stream.specs.Frames.{frame_table};
 
 use crate::frame::Frame;
 use crate::open_cells::OpenCells;
 use pg_layout::{ANSIBuf, Colors, Dimension, Position};
-use pg_picture::{Run, push_right_margin};
+use pg_picture::{KeptText, Run, push_right_margin, push_text};
 use std::alloc::{AllocError, Allocator};
 use std::convert::AsStr;
 
@@ -24,6 +25,7 @@ impl<S: AsStr + Drop, A: Allocator> OpenCells<S, A> {
     pub(crate) fn push_above<'f, D: Dimension, C: Colors, B: Allocator, W: Allocator>(
         &mut self,
         frame: &Frame<'f, D, C, B>,
+        kept: &mut Option<KeptText>,
         buf: &mut String<W>,
         is_first: bool,
         index: usize,
@@ -36,14 +38,19 @@ impl<S: AsStr + Drop, A: Allocator> OpenCells<S, A> {
         requires placed { AllOpen (IsPlaced (frame_table D.width D.height C.color frame.now)) self.old }
         requires tall { 0 < separator_height frame.now.config.now row → AllOpen (IsTall (frame_table D.width D.height C.color frame.now)) self.old }
         requires room { AllOpen (λ x cell. cell.drawn + separator_height frame.now.config.now row < 2 ^ 64) self.old }
+        requires alone { frame.now.config.now.spans ≡ [] → self.old ≡ replicate frame.now.columns None }
+        requires kept { IfSome kept.old (IsSeparator (frame_table D.width D.height C.color frame.now)) }
         ensures appends { Appends buf.old buf.new result (above_text (frame_table D.width D.height C.color frame.now) frame.now.height is_first self.old row index) }
         ensures index { IfOk result (λ next. next ≡ index + separator_height frame.now.config.now row) }
         ensures drawn { OnOk result (self.new ≡ map (draw_cell (separator_height frame.now.config.now row)) self.old) }
+        ensures kept { IfSome kept.new (IsSeparator (frame_table D.width D.height C.color frame.now)) }
     {
         if !frame.config.has_horizontal(row, row + 1) {
             return Ok(index);
         }
-        self.push_separator_line(frame, buf, is_first, index, row, row + 1)?;
+        frame.push_start(buf, is_first, index)?;
+        self.push_kept_separator(frame, kept, buf, row)?;
+        push_right_margin(buf, frame.config, index, frame.height)?;
         self.draw_line();
         Ok(index + 1)
     }
@@ -66,31 +73,45 @@ impl<S: AsStr + Drop, A: Allocator> OpenCells<S, A> {
         if !frame.config.has_horizontal(rows, rows) {
             return Ok(());
         }
-        self.push_separator_line(frame, buf, is_first, index, rows, rows)
-    }
-
-    // The separator above a row of a table of so many rows, or below the last one, as line `index` of
-    // the body.
-    pub(crate) fn push_separator_line<'f, D: Dimension, C: Colors, B: Allocator, W: Allocator>(
-        &self,
-        frame: &Frame<'f, D, C, B>,
-        buf: &mut String<W>,
-        is_first: bool,
-        index: usize,
-        row: usize,
-        rows: usize,
-    ) -> Result<(), AllocError>
-        requires columns { frame.now.columns ≡ length self.now }
-        requires inside { AllOpen (λ x cell. x + rect_columns frame.now.config.now.spans (at cell.begun x) ≤ frame.now.columns) self.now }
-        requires placed { AllOpen (IsPlaced (frame_table D.width D.height C.color frame.now)) self.now }
-        requires tall { AllOpen (IsTall (frame_table D.width D.height C.color frame.now)) self.now }
-        ensures { Appends buf.old buf.new result (line_at frame.now.config.now frame.now.height is_first index (separator_text (open_separator (frame_table D.width D.height C.color frame.now) rows self.now row))) }
-    {
         frame.push_start(buf, is_first, index)?;
-        self.push_separator(frame, buf, row, rows)?;
+        self.push_separator(frame, buf, rows, rows)?;
         push_right_margin(buf, frame.config, index, frame.height)
     }
 
+    // The separator above a row: the one that is kept, or a new one, which is kept where those above
+    // all rows but the first are equal.
+    fn push_kept_separator<'f, D: Dimension, C: Colors, B: Allocator, W: Allocator>(
+        &self,
+        frame: &Frame<'f, D, C, B>,
+        kept: &mut Option<KeptText>,
+        buf: &mut String<W>,
+        row: usize,
+    ) -> Result<(), AllocError>
+        requires columns { frame.now.columns ≡ length self.now }
+        requires row { row + 1 < 2 ^ 64 }
+        requires inside { AllOpen (λ x cell. x + rect_columns frame.now.config.now.spans (at cell.begun x) ≤ frame.now.columns) self.now }
+        requires placed { AllOpen (IsPlaced (frame_table D.width D.height C.color frame.now)) self.now }
+        requires tall { AllOpen (IsTall (frame_table D.width D.height C.color frame.now)) self.now }
+        requires alone { frame.now.config.now.spans ≡ [] → self.now ≡ replicate frame.now.columns None }
+        requires kept { IfSome kept.old (IsSeparator (frame_table D.width D.height C.color frame.now)) }
+        ensures appends { Appends buf.old buf.new result (separator_text (open_separator (frame_table D.width D.height C.color frame.now) (row + 1) self.now row)) }
+        ensures kept { IfSome kept.new (IsSeparator (frame_table D.width D.height C.color frame.now)) }
+    {
+        if row == 0 {
+            return self.push_separator(frame, buf, row, row + 1);
+        }
+        if let Some(text) = text_of(kept) {
+            return push_text(buf, text);
+        }
+        let from = buf.len();
+        self.push_separator(frame, buf, row, row + 1)?;
+        if frame.has_equal_separators() {
+            *kept = KeptText::from_buffer(buf, from);
+        }
+        Ok(())
+    }
+
+    // The separator above a row of a table of so many rows, or below the last one.
     fn push_separator<'f, D: Dimension, C: Colors, B: Allocator, W: Allocator>(
         &self,
         frame: &Frame<'f, D, C, B>,
@@ -196,5 +217,15 @@ impl<S: AsStr + Drop, A: Allocator> OpenCells<S, A> {
         };
         let pos = Position::new(cell.begun(), column);
         end.max(column + frame.config.rect_columns(pos))
+    }
+}
+
+// The text that is kept, if one is.
+fn text_of(kept: &Option<KeptText>) -> Option<&str>
+    ensures { (t : Table) → IfSome kept.now (IsSeparator t) → IfSome result (λ text. IsSeparator t text.now) }
+{
+    match kept {
+        Some(text) => text.as_str(),
+        None => None,
     }
 }

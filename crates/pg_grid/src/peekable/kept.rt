@@ -7,9 +7,8 @@ ghost use Rattle.pg_picture.specs.Cells.{line_if};
 ghost use Rattle.pg_picture.specs.Table.{Table};
 ghost use Rattle.pg_grid.specs.Kept.{Reads, IsReading, IsRectangle, IsSeparator, AreKept};
 
-use crate::peekable::kept_text::KeptText;
 use pg_layout::{LineCursor, Position};
-use pg_picture::CellPlace;
+use pg_picture::{CellPlace, KeptText};
 use std::alloc::Allocator;
 
 /// For how many columns something is kept.

@@ -5,7 +5,7 @@ use Rattle.pg_picture.proofs.Appending.{◌then◌, Appends-text, Gained-none, G
 use Rattle.pg_stream.specs.Conditions.{RowsFit}
 use Rattle.pg_stream.specs.Printers.{printing}
 use Rattle.pg_stream.specs.Printing.{Printing, row_text, finish_text, after_row, rows_text}
-use Rattle.pg_grid.proofs.IterRows.{next-row, no-row, rows_text-more, rows_text-last, row-fits}
+use Rattle.pg_grid.proofs.IterRows.{keeps, next-row, no-row, rows_text-more, rows_text-last, row-fits}
 use Rattle.pg_grid.proofs.iter.print_rows.Goals as goal
 
 pub loop-next-init : goal.loop-next-init
@@ -15,10 +15,11 @@ loop-next-init g c =
       c.requires.rows.1,
       c.requires.given,
       λ cells texts from. record { cells = cells; texts = texts; from = from; so_far = []; gained = Gained-none c.args.buf.now; is = refl },
+      tt,
     )
 
-pub row-requires-clause-fits : goal.row-requires-clause-fits
-row-requires-clause-fits g c =
+pub row_keeping-requires-clause-fits : goal.row_keeping-requires-clause-fits
+row_keeping-requires-clause-fits g c =
     let is_row = Gives (λ x y. g.T.AsStr.text x ≡ y) g.Cells.Iterator.can_next g.Cells.Iterator.next_gives g.Cells.Iterator.remaining in
     let s : Printing = printing g.D.Dimension.width g.D.Dimension.height g.C.Colors.color c.loop-next.printer in
     let (cells, texts, from, fit) = c.loop-next.invariant.2 in
@@ -58,22 +59,23 @@ loop-next-preserved g c =
             gained = Gained-more now.gained (c.in_ok-printer.ensures.appends now.cells now.from.first.gives);
             is = now.is ∙ ap (λ t. now.so_far ++ t) (rows_text-more s now.cells now.texts next.cells next.others next.all ∙ ap (λ (q : Printing). row ++ rows_text q (next.cells ∷ next.others)) (sym after)) ∙ sym (append_assoc now.so_far row _);
           },
+      keeps s _ cells false after _ c.in_ok-printer.ensures.kept,
     )
 
-pub returns-in_err-row : goal.returns-in_err-row
-returns-in_err-row g c = λ cells texts from.
+pub returns-in_err-row_keeping : goal.returns-in_err-row_keeping
+returns-in_err-row_keeping g c = λ cells texts from.
     let is_row = Gives (λ x y. g.T.AsStr.text x ≡ y) g.Cells.Iterator.can_next g.Cells.Iterator.next_gives g.Cells.Iterator.remaining in
     let s : Printing = printing g.D.Dimension.width g.D.Dimension.height g.C.Colors.color c.loop-next.printer in
     let now = c.loop-next.invariant.3 cells texts from in
     let ended = no-row is_row g.Rows.Iterator.next_gives _ _ now.texts now.from.others c.in-None.ensures.steps in
     refused (finish_text (after_row s now.cells true)) (now.is ∙ ap (λ t. now.so_far ++ t) (rows_text-last s now.cells now.texts ended))
-    c.from_residual-in_err-row.ensures.0 now.gained (c.in_err-row.ensures.appends now.cells now.from.first.gives)
+    c.from_residual-in_err-row_keeping.ensures.0 now.gained (c.in_err-row_keeping.ensures.appends now.cells now.from.first.gives)
 
 pub finish-requires : goal.finish-requires
 unfolding after_row
 finish-requires g c =
     let (cells, texts, from, fit) = c.loop-next.invariant.2 in
-    inr (ap (λ (q : Printing). q.is_ended) (c.in_ok-row.ensures.after cells from.first.gives))
+    inr (ap (λ (q : Printing). q.is_ended) (c.in_ok-row_keeping.ensures.after cells from.first.gives))
 
 pub returns : goal.returns
 returns g c = λ cells texts from.
@@ -81,6 +83,6 @@ returns g c = λ cells texts from.
     let s : Printing = printing g.D.Dimension.width g.D.Dimension.height g.C.Colors.color c.loop-next.printer in
     let now = c.loop-next.invariant.3 cells texts from in
     let ended = no-row is_row g.Rows.Iterator.next_gives _ _ now.texts now.from.others c.in-None.ensures.steps in
-    let after = c.in_ok-row.ensures.after now.cells now.from.first.gives in
+    let after = c.in_ok-row_keeping.ensures.after now.cells now.from.first.gives in
     Appends-text (sym (now.is ∙ ap (λ t. now.so_far ++ t) (rows_text-last s now.cells now.texts ended)))
-    (gained-then now.gained (c.in_ok-row.ensures.appends now.cells now.from.first.gives then Appends-text (ap finish_text after) c.finish.ensures))
+    (gained-then now.gained (c.in_ok-row_keeping.ensures.appends now.cells now.from.first.gives then Appends-text (ap finish_text after) c.finish.ensures))

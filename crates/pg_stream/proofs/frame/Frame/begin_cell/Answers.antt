@@ -1,7 +1,6 @@
-use Rattle.std.proofs.Common.{◌≡◌, ◌∙◌, sym, ap₂, subst, refl, ℕ, IsSome}
+use Rattle.std.proofs.Common.{◌≡◌, ◌∙◌, sym, ap, ap₂, subst, refl, ℕ, IsSome}
 use Rattle.pg_layout.specs.Text.{Text}
-use Rattle.pg_picture.specs.Cells.{style_of}
-use Rattle.pg_picture.specs.Pieces.{Style, style_at}
+use Rattle.pg_picture.specs.Pieces.{style_at}
 use Rattle.pg_picture.specs.Sizes.{height_of_rect}
 use Rattle.pg_picture.specs.Table.{rect_width}
 use Rattle.pg_picture.specs.declared.place.CellPlace.{CellPlace}
@@ -21,7 +20,7 @@ place_of_text-place-requires g c =
     let t = frame_table g.D.Dimension.width g.D.Dimension.height g.C.Colors.color c.args.self.now in
     let w = some_is c.unwrap-width.result (rect_width t c.args.pos) (sym c.unwrap-width.ensures ∙ width-some t c.args.pos c.rect_width.result c.requires.room.width (c.rect_width.ensures 0)) in
     let h = some_is c.unwrap-height.result (height_of_rect t.config t.height c.args.pos) (sym c.unwrap-height.ensures ∙ height-some t c.args.pos c.rect_height.result c.requires.room.end c.requires.room.height c.rect_height.ensures) in
-    rw (c.of-style.ensures, c.as_str.ensures, w, h) c.requires.room.room
+    rw (c.as_str.ensures, w, h) c.requires.room.room
 
 pub returns : goal.returns
 returns g c =
@@ -29,7 +28,6 @@ returns g c =
     let text = g.S.AsStr.text c.args.value in
     let w = some_is c.unwrap-width.result (rect_width t c.args.pos) (sym c.unwrap-width.ensures ∙ width-some t c.args.pos c.rect_width.result c.requires.room.width (c.rect_width.ensures 0)) in
     let h = some_is c.unwrap-height.result (height_of_rect t.config t.height c.args.pos) (sym c.unwrap-height.ensures ∙ height-some t c.args.pos c.rect_height.result c.requires.room.end c.requires.room.height c.rect_height.ensures) in
-    let style : style_of c.of-style.result ≡ style_at t.config c.args.pos = c.of-style.ensures in
     let stands : c.place_of_text-place.result ≡ place_in (style_at t.config c.args.pos) text (rect_width t c.args.pos) (height_of_rect t.config t.height c.args.pos) =
-    c.place_of_text-place.ensures.place ∙ ap₂ (λ (s : Style) (x : Text). place_in s x c.unwrap-width.result c.unwrap-height.result) style c.as_str.ensures ∙ ap₂ (λ (m n : ℕ). place_in (style_at t.config c.args.pos) text m n) w h in
+    c.place_of_text-place.ensures.place ∙ ap (λ (x : Text). place_in (style_at t.config c.args.pos) x c.unwrap-width.result c.unwrap-height.result) c.as_str.ensures ∙ ap₂ (λ (m n : ℕ). place_in (style_at t.config c.args.pos) text m n) w h in
     c.new.ensures ∙ ap₂ (λ (m : ℕ) (p : CellPlace). record { begun = c.args.pos.row; text = text; drawn = 0; width = m; place = p }) w stands

@@ -1,9 +1,9 @@
 use Rattle.std.proofs.Common.{ℕ, ◌+◌, ◌<◌, ◌^◌, sym, ap, ◌∙◌, subst, map, arith}
-use Rattle.pg_picture.proofs.Appending.{Gained-none, Gained-all, refused-as, appended-as, Appends-text}
+use Rattle.pg_picture.proofs.Appending.{Gained-none, Gained-all, ◌then◌, stopped, refused-as, appended-as, Appends-text}
 use Rattle.pg_stream.specs.Frames.{frame_table}
 use Rattle.pg_stream.specs.Placed.{draw_cell, AllOpen}
 use Rattle.pg_stream.proofs.PartsOfLines.{drawn-none}
-use Rattle.pg_stream.proofs.SeparatorsOfRows.{above-absent, above-there, height-absent, height-there}
+use Rattle.pg_stream.proofs.SeparatorsOfRows.{above-absent, above-parts, height-absent, height-there}
 use Rattle.pg_stream.proofs.open_cells.OpenCells.push_above.Goals as goal
 
 pub returns-then-not-has_horizontal-clause-appends : goal.returns-then-not-has_horizontal-clause-appends
@@ -16,12 +16,23 @@ pub returns-then-not-has_horizontal-clause-drawn : goal.returns-then-not-has_hor
 returns-then-not-has_horizontal-clause-drawn g c =
     drawn-none c.args.self.now ∙ ap (λ n. map (draw_cell n) c.args.self.now) (sym (height-absent c.args.frame.now.config.now c.args.row c.has_horizontal.ensures c.if-not-has_horizontal.true))
 
-pub push_separator_line-requires-clause-tall : goal.push_separator_line-requires-clause-tall
-push_separator_line-requires-clause-tall g c = let one = height-there c.args.frame.now.config.now c.args.row c.has_horizontal.ensures c.if-not-has_horizontal.false in c.requires.tall (omega (arith, one))
+pub push_kept_separator-requires-clause-tall : goal.push_kept_separator-requires-clause-tall
+push_kept_separator-requires-clause-tall g c = let one = height-there c.args.frame.now.config.now c.args.row c.has_horizontal.ensures c.if-not-has_horizontal.false in c.requires.tall (omega (arith, one))
 
-pub returns-in_err-push_separator_line-clause-appends : goal.returns-in_err-push_separator_line-clause-appends
-returns-in_err-push_separator_line-clause-appends g c =
-    Appends-text (above-there (frame_table g.D.Dimension.width g.D.Dimension.height g.C.Colors.color c.args.frame.now) c.args.frame.now.height c.args.is_first c.args.self.now c.args.row c.args.index c.has_horizontal.ensures c.if-not-has_horizontal.false) (refused-as c.from_residual.ensures.0 c.in_err-push_separator_line.ensures)
+pub returns-in_err-push_start-clause-appends : goal.returns-in_err-push_start-clause-appends
+returns-in_err-push_start-clause-appends g c =
+    Appends-text (above-parts (frame_table g.D.Dimension.width g.D.Dimension.height g.C.Colors.color c.args.frame.now) c.args.frame.now.height c.args.is_first c.args.self.now c.args.row c.args.index c.has_horizontal.ensures c.if-not-has_horizontal.false)
+    (stopped _ c.from_residual.ensures.0 c.in_err-push_start.ensures)
+
+pub returns-in_err-push_kept_separator-clause-appends : goal.returns-in_err-push_kept_separator-clause-appends
+returns-in_err-push_kept_separator-clause-appends g c =
+    Appends-text (above-parts (frame_table g.D.Dimension.width g.D.Dimension.height g.C.Colors.color c.args.frame.now) c.args.frame.now.height c.args.is_first c.args.self.now c.args.row c.args.index c.has_horizontal.ensures c.if-not-has_horizontal.false)
+    (c.in_ok-push_start.ensures then stopped _ c.from_residual-in_err-push_kept_separator.ensures.0 c.in_err-push_kept_separator.ensures.appends)
+
+pub returns-in_err-push_right_margin-clause-appends : goal.returns-in_err-push_right_margin-clause-appends
+returns-in_err-push_right_margin-clause-appends g c =
+    Appends-text (above-parts (frame_table g.D.Dimension.width g.D.Dimension.height g.C.Colors.color c.args.frame.now) c.args.frame.now.height c.args.is_first c.args.self.now c.args.row c.args.index c.has_horizontal.ensures c.if-not-has_horizontal.false)
+    (c.in_ok-push_start.ensures then (c.in_ok-push_kept_separator.ensures.appends then refused-as c.from_residual-in_err-push_right_margin.ensures.0 c.in_err-push_right_margin.ensures))
 
 pub draw_line-requires : goal.draw_line-requires
 draw_line-requires g c =
@@ -33,7 +44,8 @@ overflow_add-result g c = let one = height-there c.args.frame.now.config.now c.a
 
 pub returns-clause-appends : goal.returns-clause-appends
 returns-clause-appends g c =
-    Appends-text (above-there (frame_table g.D.Dimension.width g.D.Dimension.height g.C.Colors.color c.args.frame.now) c.args.frame.now.height c.args.is_first c.args.self.now c.args.row c.args.index c.has_horizontal.ensures c.if-not-has_horizontal.false) (appended-as c.in_ok-push_separator_line.ensures)
+    Appends-text (above-parts (frame_table g.D.Dimension.width g.D.Dimension.height g.C.Colors.color c.args.frame.now) c.args.frame.now.height c.args.is_first c.args.self.now c.args.row c.args.index c.has_horizontal.ensures c.if-not-has_horizontal.false)
+    (c.in_ok-push_start.ensures then (c.in_ok-push_kept_separator.ensures.appends then appended-as c.in_ok-push_right_margin.ensures))
 
 pub returns-clause-index : goal.returns-clause-index
 returns-clause-index g c = let one = height-there c.args.frame.now.config.now c.args.row c.has_horizontal.ensures c.if-not-has_horizontal.false in omega (arith, one)

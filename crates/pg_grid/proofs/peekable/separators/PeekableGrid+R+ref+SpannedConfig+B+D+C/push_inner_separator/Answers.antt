@@ -2,8 +2,8 @@ use Rattle.std.proofs.Common.{◌≡◌, true, sym, ap, ◌∙◌}
 use Rattle.pg_config.specs.Config.{has_equal_row_lines}
 use Rattle.pg_picture.specs.Pieces.{separator_text}
 use Rattle.pg_picture.proofs.EqualSeparators.{equal_separators}
+use Rattle.pg_picture.proofs.KeptTexts.{text-from}
 use Rattle.pg_grid.specs.Grids.{drawn}
-use Rattle.pg_grid.proofs.KeptLines.{text-from}
 use Rattle.pg_grid.proofs.peekable.separators.PeekableGrid+R+ref+SpannedConfig+B+D+C.push_inner_separator.Goals as goal
 
 pub returns-then-has_equal_row_lines-clause-kept : goal.returns-then-has_equal_row_lines-clause-kept

@@ -13,7 +13,7 @@ const BYTES: usize = 512;
 
 /// A text of a few bytes, which lie in the value itself.
 #[derive(Debug, Drop)]
-pub(super) struct KeptText {
+pub struct KeptText {
     bytes: [u8; BYTES],
     len: usize,
 }
@@ -27,8 +27,8 @@ impl Model for KeptText {
 }
 
 impl KeptText {
-    // What stands in a buffer from a place on, if it is short.
-    pub(super) fn from_buffer<A: Allocator>(buf: &String<A>, from: usize) -> Option<KeptText>
+    /// What stands in a buffer from a place on, if it is short.
+    pub fn from_buffer<A: Allocator>(buf: &String<A>, from: usize) -> Option<KeptText>
         ensures { IfSome result (λ text. text ≡ drop from (string_bytes buf.now)) }
     {
         let text = buf.as_str().get(from..)?;
@@ -41,8 +41,8 @@ impl KeptText {
         Some(KeptText { bytes, len })
     }
 
-    // The text.
-    pub(super) fn as_str(&self) -> Option<&str>
+    /// The text.
+    pub fn as_str(&self) -> Option<&str>
         ensures { IfSome result (λ text. text.now ≡ self.now) }
     {
         let text = self.bytes.get(..self.len)?;

@@ -1,19 +1,20 @@
-use Rattle.std.proofs.Common.{◌≡◌, ℕ, ◌+◌, ◌<◌, ◌≤◌, ◌^◌, ◌==◌, refl, sym, ap, ap₂, ◌∙◌, subst, arith, map, length, get_or, None}
+use Rattle.std.proofs.Common.{◌≡◌, ℕ, ◌+◌, ◌<◌, ◌≤◌, ◌^◌, ◌==◌, refl, sym, ap, ap₂, ◌∙◌, subst, arith, map, length, get_or, None, IfSome}
 use Rattle.std.proofs.lemmas.List.{length-map}
 use Rattle.pg_picture.proofs.Appending.{◌then◌, stopped, refused-as, appended-as, Appends-text}
 use Rattle.pg_stream.specs.Conditions.{RowFits}
+use Rattle.pg_stream.specs.Drawing.{IsSeparator}
 use Rattle.pg_stream.specs.Frames.{frame_table}
 use Rattle.pg_stream.specs.Placed.{draw_cell, AllOpen, IsPlaced, IsTall}
 use Rattle.pg_stream.specs.Printers.{printer_of, printing, IsSound}
-use Rattle.pg_stream.specs.Printing.{Printing, row_text, after_row}
+use Rattle.pg_stream.specs.Printing.{Printing, frame_of, row_text, after_row}
 use Rattle.pg_stream.specs.Slots.{separator_height}
 use Rattle.pg_stream.specs.Turns.{IsOwnerAbove, cells_begun, cells_closed}
 use Rattle.pg_stream.proofs.DrawnLines.{length_of_row}
 use Rattle.pg_stream.proofs.RowsPrinted.{inside-now, room-above, tall-above, owner-begins, whole-now, cells_now, tall-now, begun-now, placed-now, room-now}
 use Rattle.pg_stream.proofs.RowsAppended.{row_text-is, after-is, sound-next, open_lines-same}
 use Rattle.pg_stream.proofs.SingleLines.{at-once}
-use Rattle.pg_stream.proofs.SingleRowsPrinted.{single_text-is, single-left}
-use Rattle.pg_stream.proofs.row_printer.RowPrinter.row.Goals as goal
+use Rattle.pg_stream.proofs.SingleRowsPrinted.{none-open, single_text-is, single-left}
+use Rattle.pg_stream.proofs.row_printer.RowPrinter.row_keeping.Goals as goal
 
 pub returns-in_err-push_top-clause-appends : goal.returns-in_err-push_top-clause-appends
 returns-in_err-push_top-clause-appends g c = λ texts gives.
@@ -47,6 +48,15 @@ push_above-requires-clause-tall g c =
     let t = frame_table g.D.Dimension.width g.D.Dimension.height g.C.Colors.color q.frame in
     let fits = subst (λ p. RowFits (printing g.D.Dimension.width g.D.Dimension.height g.C.Colors.color p) c.requires.fits.0 c.args.is_last) (sym c.self.view_is) c.requires.fits.2 in
     tall-above s q.frame.width q.frame.height q.cells refl c.self.invariant
+
+pub push_above-requires-clause-alone : goal.push_above-requires-clause-alone
+push_above-requires-clause-alone g c =
+    let q = c.self.inside in
+    let s : Printing = printing g.D.Dimension.width g.D.Dimension.height g.C.Colors.color (printer_of q.frame q.hint q.cells q.rows q.lines q.is_ended) in
+    none-open s q.frame.width q.frame.height q.cells refl c.self.invariant
+
+pub push_above-requires-clause-kept : goal.push_above-requires-clause-kept
+push_above-requires-clause-kept g c = subst (λ p. IfSome c.args.kept.now (IsSeparator (frame_of (printing g.D.Dimension.width g.D.Dimension.height g.C.Colors.color p)))) (sym c.self.view_is) c.requires.kept
 
 pub push_above-requires-clause-room : goal.push_above-requires-clause-room
 push_above-requires-clause-room g c =
@@ -266,3 +276,18 @@ returns-clause-after g c = λ texts gives.
     ap₂ (λ l n. printing g.D.Dimension.width g.D.Dimension.height g.C.Colors.color (printer_of q.frame q.hint l (q.rows + 1) n c.args.is_last)) left lines
     ∙ after-is s q.frame.width q.frame.height q.cells refl c.self.invariant c.args.is_last fits.hint fits.spans texts
     ∙ ap (λ p. after_row (printing g.D.Dimension.width g.D.Dimension.height g.C.Colors.color p) texts c.args.is_last) c.self.view_is
+
+pub returns-in_err-next-clause-kept : goal.returns-in_err-next-clause-kept
+returns-in_err-next-clause-kept g c = subst (λ p. IfSome c.push_above.new.kept (IsSeparator (frame_of (printing g.D.Dimension.width g.D.Dimension.height g.C.Colors.color p)))) c.self.view_is c.in_err-next.ensures.kept
+
+pub returns-in_err-push_single_row-clause-kept : goal.returns-in_err-push_single_row-clause-kept
+returns-in_err-push_single_row-clause-kept g c = subst (λ p. IfSome c.push_above.new.kept (IsSeparator (frame_of (printing g.D.Dimension.width g.D.Dimension.height g.C.Colors.color p)))) c.self.view_is c.in_ok-next.ensures.kept
+
+pub returns-then-draws_at_once-clause-kept : goal.returns-then-draws_at_once-clause-kept
+returns-then-draws_at_once-clause-kept g c = subst (λ p. IfSome c.push_above.new.kept (IsSeparator (frame_of (printing g.D.Dimension.width g.D.Dimension.height g.C.Colors.color p)))) c.self.view_is c.in_ok-next.ensures.kept
+
+pub returns-in_err-push_lines-clause-kept : goal.returns-in_err-push_lines-clause-kept
+returns-in_err-push_lines-clause-kept g c = subst (λ p. IfSome c.push_above.new.kept (IsSeparator (frame_of (printing g.D.Dimension.width g.D.Dimension.height g.C.Colors.color p)))) c.self.view_is c.in_ok-next.ensures.kept
+
+pub returns-clause-kept : goal.returns-clause-kept
+returns-clause-kept g c = subst (λ p. IfSome c.push_above.new.kept (IsSeparator (frame_of (printing g.D.Dimension.width g.D.Dimension.height g.C.Colors.color p)))) c.self.view_is c.in_ok-next.ensures.kept

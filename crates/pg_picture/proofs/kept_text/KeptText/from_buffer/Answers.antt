@@ -2,7 +2,7 @@ use Rattle.std.proofs.Common.{◌≡◌, ℕ, true, List, ◌++◌, take, length
 use Rattle.std.specs.Str.{IsUtf8, is_utf8}
 use Rattle.std.proofs.Math.Seq.{take-append_seam}
 use Rattle.std.proofs.lemmas.Str.{is_utf8-from_IsUtf8}
-use Rattle.pg_grid.proofs.peekable.kept_text.KeptText.from_buffer.Goals as goal
+use Rattle.pg_picture.proofs.kept_text.KeptText.from_buffer.Goals as goal
 
 -- bytes that begin with a text
 begins-utf8 : (bytes rest text : List ℕ) → bytes ≡ text → IsUtf8 bytes → is_utf8 (take (length text) (bytes ++ rest)) ≡ true
