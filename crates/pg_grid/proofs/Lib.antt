@@ -9,7 +9,6 @@ pub mod CompactRows
 pub mod CompactSeparators
 pub mod CompactBodies
 pub mod CompactPictures
-pub mod IterRows
 pub mod IterTables
 pub mod Headline
 pub mod FittingGrids

@@ -1,8 +1,6 @@
--- The table that a streaming grid draws, and the rows that it still reads.
-use Rattle.std.specs.Prelude.{◌≡◌, ◌⊎◌, ℕ, List, Option, IsErr, Result, String}
+-- The table that a streaming grid draws.
+use Rattle.std.specs.Prelude.{◌≡◌, ◌⊎◌, ℕ, List, IsErr, Result, String}
 use Rattle.std.specs.Borrow.{Bor}
-use Rattle.pg_layout.specs.Records.{AlwaysGives}
-use Rattle.pg_layout.specs.Text.{Text}
 use Rattle.pg_config.specs.Config.{Config}
 use Rattle.pg_picture.specs.Appending.{Appends}
 use Rattle.pg_picture.specs.Table.{Table}
@@ -23,8 +21,3 @@ iter_parts grid = (grid.records, grid.config, grid.dimension, grid.colors)
 -- A call appends the text; or it finds no memory of its own before the first byte, and the buffer stays as it was.
 abbrev pub AppendsOrNothing : {Z U E : Type 0} → String Z → String Z → Result U E → List ℕ → Type 0
 AppendsOrNothing old new result text = Appends old new result text ⊎ (IsErr result × (new ≡ old))
-
--- a row that was taken stands for these cells, and an iterator gives the rows behind it
-pub record AreRowsFrom {S A : Type 0} (is_row : A → List Text → Type 0) (steps : S → Option A → S → Type 0) (row : A) (rows : S) (cells : List Text) (texts : List (List Text)) : Type 0 where
-  pub first : is_row row cells
-  pub others : AlwaysGives is_row steps rows texts

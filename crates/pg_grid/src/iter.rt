@@ -1,20 +1,9 @@
 //! The streaming grid: it reads its records once, row by row, and draws cells over several rows.
 
-ghost use Rattle.std.specs.Prelude.{◌≡◌, ◌∷◌, List};
-ghost use Rattle.std.specs.Iterator.{IsFinite};
-ghost use Rattle.pg_layout.specs.Records.{Gives};
-ghost use Rattle.pg_layout.specs.Text.{Text};
-ghost use Rattle.pg_picture.specs.Appending.{Appends};
-ghost use Rattle.pg_stream.specs.Conditions.{RowsFit};
-ghost use Rattle.pg_stream.specs.Printers.{printing};
-ghost use Rattle.pg_stream.specs.Printing.{rows_text};
-ghost use Rattle.pg_grid.specs.IterGrids.{AreRowsFrom};
-
 use pg_config::SpannedConfig;
 use pg_layout::{Colors, Dimension, Records};
 use pg_stream::RowPrinter;
 use std::alloc::{AllocError, Allocator};
-use std::convert::AsStr;
 
 /// A table printer over records that are read once, a dimension that gives the sizes of columns and
 /// rows, and colours of cells.
@@ -96,7 +85,7 @@ where
             return Ok(());
         }
         let printer = RowPrinter::new(alloc, config, &dimension, &colors, columns, hint)?;
-        print_rows(printer, first, rows, buf)
+        printer.print_rows(first, rows, buf)
     }
 
     /// The picture of the table as a text of its own, under the conditions of `build`. An error
@@ -110,36 +99,4 @@ where
         self.build(alloc, &mut text)?;
         Ok(text)
     }
-}
-
-// The first row and all behind it, and what ends the table. A row is printed when the next one was
-// asked for, which tells whether it is the last.
-fn print_rows<'a, T, D, C, B, A, Cells, Rows, W>(
-    mut printer: RowPrinter<'a, T, D, C, B, A>,
-    first: Cells,
-    rows: Rows,
-    buf: &mut String<W>,
-) -> Result<(), AllocError>
-where
-    T: AsStr + Drop,
-    D: Dimension,
-    C: Colors,
-    B: Allocator,
-    A: Allocator,
-    Cells: Iterator<Item = T>,
-    Rows: Iterator<Item = Cells>,
-    W: Allocator,
-    requires rows { Rows.can_next rows × IsFinite (Rows.remaining rows) }
-    requires given { (cells : List Text) × (texts : List (List Text)) × AreRowsFrom (Gives (λ x y. T.text x ≡ y) Cells.can_next Cells.next_gives Cells.remaining) Rows.next_gives first rows cells texts × RowsFit (printing D.width D.height C.color printer) (cells ∷ texts) }
-    ensures { (cells : List Text) (texts : List (List Text)) → AreRowsFrom (Gives (λ x y. T.text x ≡ y) Cells.can_next Cells.next_gives Cells.remaining) Rows.next_gives first rows cells texts → Appends buf.old buf.new result (rows_text (printing D.width D.height C.color printer.entry) (cells ∷ texts)) }
-{
-    let mut row = first;
-    let mut separator = None;
-    for next in rows {
-        printer = printer.row_keeping(row, false, &mut separator, buf)?;
-        row = next;
-    }
-    printer
-        .row_keeping(row, true, &mut separator, buf)?
-        .finish(buf)
 }

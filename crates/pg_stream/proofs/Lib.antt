@@ -37,3 +37,4 @@ pub mod SingleCells
 pub mod FittingCells
 pub mod LineStyles
 pub mod EqualRowLines
+pub mod RowsInTurn

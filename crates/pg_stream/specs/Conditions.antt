@@ -1,7 +1,8 @@
--- The conditions of a printer of rows.
-use Rattle.std.specs.Prelude.{◌≡◌, ℕ, ◌+◌, ◌-◌, ◌^◌, ◌<◌, Bool, true, false, ◌==◌, List, [], ◌∷◌, length, slice_index_or, IfSome, ⊤}
+-- The conditions of a printer of rows, and the rows that it is given.
+use Rattle.std.specs.Prelude.{◌≡◌, ℕ, ◌+◌, ◌-◌, ◌^◌, ◌<◌, Bool, true, false, ◌==◌, List, [], ◌∷◌, length, slice_index_or, Option, IfSome, ⊤}
 use Rattle.pg_layout.specs.declared.position.Position.{Position}
 use Rattle.pg_layout.specs.Position.{at, is_at}
+use Rattle.pg_layout.specs.Records.{AlwaysGives}
 use Rattle.pg_layout.specs.Text.{Text}
 use Rattle.pg_config.specs.Spans.{rect_rows, owner}
 use Rattle.pg_picture.specs.Fits.{spans_fit, spans_fit_columns, totals_fit, cell_fits}
@@ -48,3 +49,8 @@ abbrev pub RowsFit : Printing → List (List Text) → Type 0
 RowsFit s [] = ⊤
 RowsFit s (cells ∷ []) = RowFits s cells true
 RowsFit s (cells ∷ next ∷ rows) = RowFits s cells false × RowsFit (after_row s cells false) (next ∷ rows)
+
+-- a row that was taken stands for these cells, and an iterator gives the rows behind it
+pub record AreRowsFrom {S A : Type 0} (is_row : A → List Text → Type 0) (steps : S → Option A → S → Type 0) (row : A) (rows : S) (cells : List Text) (texts : List (List Text)) : Type 0 where
+  pub first : is_row row cells
+  pub others : AlwaysGives is_row steps rows texts

@@ -2,6 +2,7 @@
 //! last printed row.
 #![tactic(auto)]
 
+mod all_rows;
 mod frame;
 mod laws;
 mod open_cell;

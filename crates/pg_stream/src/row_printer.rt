@@ -174,11 +174,10 @@ impl<'a, S: AsStr + Drop, D: Dimension, C: Colors, B: Allocator, A: Allocator> R
         self.row_keeping(cells, is_last, &mut None, buf)
     }
 
-    /// Prints the next row as [`RowPrinter::row`] does, under the same conditions, and copies the
-    /// separator above it where it is kept: `kept` is `None` before the first row, and is handed on from
-    /// call to call. It keeps the text of the separators above all rows but the first, if these are
-    /// equal and it is short.
-    pub fn row_keeping<I: Iterator<Item = S>, W: Allocator>(
+    // Prints the next row as `row` does, under the same conditions, and copies the separator above it
+    // where it is kept: `kept` is `None` before the first row, and is handed on from call to call. It
+    // keeps the text of the separators above all rows but the first, if these are equal and it is short.
+    pub(crate) fn row_keeping<I: Iterator<Item = S>, W: Allocator>(
         self,
         cells: I,
         is_last: bool,

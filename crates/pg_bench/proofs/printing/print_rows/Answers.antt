@@ -4,7 +4,7 @@ use Rattle.pg_layout.specs.Text.{Text}
 use Rattle.pg_stream.specs.Conditions.{RowsFit}
 use Rattle.pg_stream.specs.Printers.{printing}
 use Rattle.pg_stream.specs.Printing.{Printing, after_row}
-use Rattle.pg_grid.proofs.IterRows.{next-row, row-fits}
+use Rattle.pg_stream.proofs.RowsInTurn.{next-row, row-fits}
 use Rattle.pg_bench.proofs.printing.print_rows.Goals as goal
 
 pub loop-next-init : goal.loop-next-init

@@ -3,7 +3,7 @@ use Rattle.pg_layout.specs.Records.{Gives}
 use Rattle.pg_layout.specs.Text.{Text}
 use Rattle.pg_stream.specs.Conditions.{RowsFit}
 use Rattle.pg_stream.specs.Printers.{printing}
-use Rattle.pg_grid.specs.IterGrids.{AreRowsFrom}
+use Rattle.pg_stream.specs.Conditions.{AreRowsFrom}
 use Rattle.pg_bench.proofs.printing.print_rows.Given as goal
 
 -- the row that was taken and those behind it may be printed

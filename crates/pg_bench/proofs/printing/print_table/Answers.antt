@@ -5,7 +5,7 @@ use Rattle.pg_stream.specs.Conditions.{RowsFit}
 use Rattle.pg_stream.specs.Printers.{printing}
 use Rattle.pg_stream.specs.Printing.{Printing, printer}
 use Rattle.pg_grid.specs.Grids.{table_of_parts}
-use Rattle.pg_grid.proofs.IterRows.{next-row}
+use Rattle.pg_stream.proofs.RowsInTurn.{next-row}
 use Rattle.pg_grid.proofs.IterTables.{texts-are, printer-fits, rows-fit}
 use Rattle.pg_bench.proofs.printing.print_table.Goals as goal
 

@@ -7,7 +7,7 @@ use Rattle.pg_picture.proofs.Appending.{Appends-text, Gained-none, Gained-all}
 use Rattle.pg_picture.proofs.Pictures.{picture-none}
 use Rattle.pg_stream.specs.Printing.{hint_of}
 use Rattle.pg_grid.specs.IterGrids.{streamed}
-use Rattle.pg_grid.proofs.IterRows.{no-row}
+use Rattle.pg_stream.proofs.RowsInTurn.{no-row}
 use Rattle.pg_grid.proofs.IterTables.{begun}
 use Rattle.pg_grid.proofs.iter.IterGrid+R+D+ref+SpannedConfig+B+C.build.Goals as goal
 

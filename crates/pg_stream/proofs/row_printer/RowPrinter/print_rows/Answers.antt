@@ -5,8 +5,8 @@ use Rattle.pg_picture.proofs.Appending.{◌then◌, Appends-text, Gained-none, G
 use Rattle.pg_stream.specs.Conditions.{RowsFit}
 use Rattle.pg_stream.specs.Printers.{printing}
 use Rattle.pg_stream.specs.Printing.{Printing, row_text, finish_text, after_row, rows_text}
-use Rattle.pg_grid.proofs.IterRows.{keeps, next-row, no-row, rows_text-more, rows_text-last, row-fits}
-use Rattle.pg_grid.proofs.iter.print_rows.Goals as goal
+use Rattle.pg_stream.proofs.RowsInTurn.{keeps, next-row, no-row, rows_text-more, rows_text-last, row-fits}
+use Rattle.pg_stream.proofs.row_printer.RowPrinter.print_rows.Goals as goal
 
 pub loop-next-init : goal.loop-next-init
 loop-next-init g c =
@@ -20,7 +20,7 @@ loop-next-init g c =
 
 pub row_keeping-requires-clause-fits : goal.row_keeping-requires-clause-fits
 row_keeping-requires-clause-fits g c =
-    let is_row = Gives (λ x y. g.T.AsStr.text x ≡ y) g.Cells.Iterator.can_next g.Cells.Iterator.next_gives g.Cells.Iterator.remaining in
+    let is_row = Gives (λ x y. g.S.AsStr.text x ≡ y) g.Cells.Iterator.can_next g.Cells.Iterator.next_gives g.Cells.Iterator.remaining in
     let s : Printing = printing g.D.Dimension.width g.D.Dimension.height g.C.Colors.color c.loop-next.printer in
     let (cells, texts, from, fit) = c.loop-next.invariant.2 in
     let next = next-row is_row g.Rows.Iterator.next_gives _ _ _ texts from.others c.in-Some.ensures.steps in
@@ -28,7 +28,7 @@ row_keeping-requires-clause-fits g c =
 
 pub returns-in_err-printer : goal.returns-in_err-printer
 returns-in_err-printer g c = λ cells texts from.
-    let is_row = Gives (λ x y. g.T.AsStr.text x ≡ y) g.Cells.Iterator.can_next g.Cells.Iterator.next_gives g.Cells.Iterator.remaining in
+    let is_row = Gives (λ x y. g.S.AsStr.text x ≡ y) g.Cells.Iterator.can_next g.Cells.Iterator.next_gives g.Cells.Iterator.remaining in
     let s : Printing = printing g.D.Dimension.width g.D.Dimension.height g.C.Colors.color c.loop-next.printer in
     let now = c.loop-next.invariant.3 cells texts from in
     let next = next-row is_row g.Rows.Iterator.next_gives _ _ _ now.texts now.from.others c.in-Some.ensures.steps in
@@ -37,7 +37,7 @@ returns-in_err-printer g c = λ cells texts from.
 
 pub loop-next-preserved : goal.loop-next-preserved
 loop-next-preserved g c =
-    let is_row = Gives (λ x y. g.T.AsStr.text x ≡ y) g.Cells.Iterator.can_next g.Cells.Iterator.next_gives g.Cells.Iterator.remaining in
+    let is_row = Gives (λ x y. g.S.AsStr.text x ≡ y) g.Cells.Iterator.can_next g.Cells.Iterator.next_gives g.Cells.Iterator.remaining in
     let s : Printing = printing g.D.Dimension.width g.D.Dimension.height g.C.Colors.color c.loop-next.printer in
     let goes = c.in-Some.ensures.goes.on c.loop-next.invariant.1 in
     let (cells, texts, from, fit) = c.loop-next.invariant.2 in
@@ -64,7 +64,7 @@ loop-next-preserved g c =
 
 pub returns-in_err-row_keeping : goal.returns-in_err-row_keeping
 returns-in_err-row_keeping g c = λ cells texts from.
-    let is_row = Gives (λ x y. g.T.AsStr.text x ≡ y) g.Cells.Iterator.can_next g.Cells.Iterator.next_gives g.Cells.Iterator.remaining in
+    let is_row = Gives (λ x y. g.S.AsStr.text x ≡ y) g.Cells.Iterator.can_next g.Cells.Iterator.next_gives g.Cells.Iterator.remaining in
     let s : Printing = printing g.D.Dimension.width g.D.Dimension.height g.C.Colors.color c.loop-next.printer in
     let now = c.loop-next.invariant.3 cells texts from in
     let ended = no-row is_row g.Rows.Iterator.next_gives _ _ now.texts now.from.others c.in-None.ensures.steps in
@@ -79,7 +79,7 @@ finish-requires g c =
 
 pub returns : goal.returns
 returns g c = λ cells texts from.
-    let is_row = Gives (λ x y. g.T.AsStr.text x ≡ y) g.Cells.Iterator.can_next g.Cells.Iterator.next_gives g.Cells.Iterator.remaining in
+    let is_row = Gives (λ x y. g.S.AsStr.text x ≡ y) g.Cells.Iterator.can_next g.Cells.Iterator.next_gives g.Cells.Iterator.remaining in
     let s : Printing = printing g.D.Dimension.width g.D.Dimension.height g.C.Colors.color c.loop-next.printer in
     let now = c.loop-next.invariant.3 cells texts from in
     let ended = no-row is_row g.Rows.Iterator.next_gives _ _ now.texts now.from.others c.in-None.ensures.steps in

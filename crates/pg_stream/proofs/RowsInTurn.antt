@@ -4,10 +4,9 @@ use Rattle.std.specs.Prelude.{String}
 use Rattle.pg_layout.specs.Records.{AlwaysGives}
 use Rattle.pg_layout.specs.Text.{Text}
 use Rattle.pg_picture.specs.Appending.{Gained}
-use Rattle.pg_stream.specs.Conditions.{RowFits, RowsFit}
+use Rattle.pg_stream.specs.Conditions.{AreRowsFrom, RowFits, RowsFit}
 use Rattle.pg_stream.specs.Drawing.{IsSeparator}
 use Rattle.pg_stream.specs.Printing.{Printing, frame_of, row_text, finish_text, after_row, rows_text}
-use Rattle.pg_grid.specs.IterGrids.{AreRowsFrom}
 
 module _ {S A : Type 0} (is_row : A → List Text → Type 0) (steps : S → Option A → S → Type 0) where
   -- the row that was taken next is the first of those that were left
