@@ -1,63 +1,13 @@
 //! Records whose texts are made as they are asked for.
 
-ghost use Rattle.std.specs.Prelude.{◌≡◌, ◌<◌, ℕ, List, None, replicate, length};
-ghost use Rattle.std.specs.Iterator.{YieldsFirstBy, item_count};
+ghost use Rattle.std.specs.Prelude.{◌≡◌, ◌<◌, None, replicate, length};
 ghost use Rattle.pg_layout.specs.Records.{text_at};
 
 use pg_layout::{
     ExactRecords, PeekableRecords, Position, Records, count_lines, get_line, get_line_width,
     get_text_width,
 };
-
-/// The cells of a row, which all say the same.
-#[derive(Debug, Drop)]
-pub(crate) struct MadeCells {
-    text: &'static str,
-    left: usize,
-}
-
-impl Iterator for MadeCells {
-    type Item = &'static str;
-
-    ghost next_gives = { YieldsFirstBy (λ x. x.now) (λ s. replicate s.left s.text.now) };
-
-    ghost remaining = { item_count (λ s. replicate s.left s.text.now) };
-
-    fn next(&mut self) -> Option<&'static str> {
-        if self.left == 0 {
-            return None;
-        }
-        self.left -= 1;
-        Some(self.text)
-    }
-}
-
-/// Rows whose cells all say the same.
-#[derive(Debug, Drop)]
-pub(crate) struct MadeRows {
-    text: &'static str,
-    columns: usize,
-    left: usize,
-}
-
-impl Iterator for MadeRows {
-    type Item = MadeCells;
-
-    ghost next_gives = { YieldsFirstBy (λ c. replicate c.left c.text.now) (λ s. replicate s.left (replicate s.columns s.text.now)) };
-
-    ghost remaining = { item_count (λ s. replicate s.left (replicate s.columns s.text.now)) };
-
-    fn next(&mut self) -> Option<MadeCells> {
-        if self.left == 0 {
-            return None;
-        }
-        self.left -= 1;
-        Some(MadeCells {
-            text: self.text,
-            left: self.columns,
-        })
-    }
-}
+use std::iter::{RepeatN, repeat_n};
 
 /// Records of so many rows and columns whose cells all say the same, and which don't tell how many
 /// rows there are. They take no memory.
@@ -82,9 +32,9 @@ impl MadeRecords {
 impl Records for MadeRecords {
     type Cell = &'static str;
 
-    type Columns = MadeCells;
+    type Columns = RepeatN<&'static str>;
 
-    type Rows = MadeRows;
+    type Rows = RepeatN<RepeatN<&'static str>>;
 
     ghost texts = { λ r. replicate r.rows (replicate r.columns r.text.now) };
 
@@ -92,12 +42,8 @@ impl Records for MadeRecords {
 
     ghost hint = { λ r. None };
 
-    fn iter_rows(self) -> MadeRows {
-        MadeRows {
-            text: self.text,
-            columns: self.columns,
-            left: self.rows,
-        }
+    fn iter_rows(self) -> RepeatN<RepeatN<&'static str>> {
+        repeat_n(repeat_n(self.text, self.columns), self.rows)
     }
 
     fn count_columns(&self) -> usize {

@@ -1,6 +1,5 @@
-use Rattle.std.proofs.Common.{◌≡◌, true, false, List, ◌∷◌, sym, ap, subst, inr}
+use Rattle.std.proofs.Common.{◌≡◌, ◌∷◌, sym, ap, subst, inr}
 use Rattle.pg_layout.specs.Records.{Gives}
-use Rattle.pg_layout.specs.Text.{Text}
 use Rattle.pg_stream.specs.Conditions.{RowsFit}
 use Rattle.pg_stream.specs.Printers.{printing}
 use Rattle.pg_stream.specs.Printing.{Printing, after_row}
