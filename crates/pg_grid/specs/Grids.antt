@@ -46,7 +46,7 @@ peekable_parts grid = (grid.records, grid.config, grid.dimension, grid.colors)
 abbrev pub HasNoSpans : Table → Type 0
 HasNoSpans t = t.config.spans ≡ []
 
--- no colour of borders or paddings, no justification, no glyph of a part of a line and no margin was set
+-- no colour of borders or paddings, no justification and no glyph or colour of a part of a line was set, and no side has a margin
 unfoldable pub is_basic_config : Config → Bool
 is_basic_config config =
     not ((config.border_colored || has_padding_color config) || (has_justification config || has_offset_chars config))

@@ -225,7 +225,7 @@ fn text_of(kept: &Option<KeptText>) -> Option<&str>
     ensures { (t : Table) → IfSome kept.now (IsSeparator t) → IfSome result (λ text. IsSeparator t text.now) }
 {
     match kept {
-        Some(text) => text.as_str(),
+        Some(text) => Some(text.as_str()),
         None => None,
     }
 }

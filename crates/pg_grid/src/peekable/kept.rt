@@ -212,7 +212,7 @@ impl KeptCells {
         ensures { (t : Table) → AreKept t self.now → IfSome result (λ text. IsSeparator t text.now) }
     {
         match &self.separator {
-            Some(text) => text.as_str(),
+            Some(text) => Some(text.as_str()),
             None => None,
         }
     }

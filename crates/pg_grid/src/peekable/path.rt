@@ -67,8 +67,8 @@ where
     }
 }
 
-// Whether no colour of borders or paddings, no justification, no glyph of a part of a line and no
-// margin was set.
+// Whether no colour of borders or paddings, no justification and no glyph or colour of a part of a
+// line was set, and no side has a margin.
 #[tactic(auto, unfolding(crate::specs::Grids::is_basic_config))]
 fn is_basic_config<B: Allocator>(config: &SpannedConfig<B>) -> bool
     ensures { result ≡ is_basic_config config.now }

@@ -18,4 +18,4 @@ pub returns-then-has_equal_separators-clause-kept : goal.returns-then-has_equal_
 returns-then-has_equal_separators-clause-kept g c =
     let t = frame_table g.D.Dimension.width g.D.Dimension.height g.C.Colors.color c.args.frame.now in
     let here = text-from c.len-from.result (c.len-from.ensures ∙ c.args.buf.now.bytes.ok.0) c.in_ok-push_separator.ensures in
-    keeps t c.args.self.now c.args.row (omega arith) c.requires.alone _ c.has_equal_separators.result c.has_equal_separators.ensures c.if-has_equal_separators.true here c.from_buffer.result c.from_buffer.ensures
+    keeps t c.args.self.now c.args.row (omega arith) c.requires.alone _ c.has_equal_separators.result c.has_equal_separators.ensures c.if-has_equal_separators.true here c.from_buffer.result c.from_buffer.ensures.is
