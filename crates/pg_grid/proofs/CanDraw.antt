@@ -1,12 +1,11 @@
 -- A table in which everything fits can be drawn; its width and its height are numbers.
-use Rattle.std.proofs.Common.{◌≡◌, ℕ, ◌+◌, ◌^◌, ◌<◌, ◌==◌, not, true, false, nat_lt, List, [], ◌∷◌, length, Option, Some, None, IsSome, refl, sym, ap, ◌∙◌, subst, sum_by, arith}
-use Rattle.std.proofs.lemmas.Bool.{false≢true}
+use Rattle.std.proofs.Common.{◌≡◌, ℕ, ◌+◌, ◌^◌, ◌<◌, true, nat_lt, Option, Some, None, IsSome, refl, sym, ap, ◌∙◌, subst, sum_by, arith}
 use Rattle.std.specs.List.{range_with_len}
 use Rattle.std.proofs.lemmas.Bool.Decides.{nat_tests}
 use Rattle.pg_layout.specs.declared.position.Position.{Position}
 use Rattle.pg_layout.specs.Places.{IsAscending}
 use Rattle.pg_config.specs.Config.{count_vertical, count_horizontal}
-use Rattle.pg_config.specs.Spans.{Span, StandAtPlaces}
+use Rattle.pg_config.specs.Spans.{StandAtPlaces}
 use Rattle.pg_picture.specs.Pieces.{style_at}
 use Rattle.pg_picture.specs.Table.{Table, total_width, full_width}
 use Rattle.pg_picture.specs.Fits.{misfit_of, cell_fits, body_height}
@@ -16,19 +15,11 @@ use Rattle.pg_picture.proofs.FittingTables.{totals_facts}
 use Rattle.pg_picture.proofs.OwnersOfPlaces.{InOrder}
 use Rattle.pg_grid.specs.Grids.{CanDraw, HasNoSpans}
 
-none_of : (spans : List Span) → not (length spans == 0) ≡ false → spans ≡ []
-none_of [] none = refl
-none_of (s ∷ ss) none = let some : not (length (s ∷ ss) == 0) ≡ true = grind (arith, nat_tests) in absurd (false≢true (sym none ∙ some))
-
 pub can_draw : (t : Table) → IsAscending t.config.spans → StandAtPlaces t.config.spans → misfit_of t ≡ None → 0 < t.rows → 0 < t.columns → CanDraw t
 can_draw t ascending places fitting some_rows some_columns = record { ascending = ascending; places = places; fits = fits t fitting some_rows some_columns }
 
 pub in_order : (t : Table) → CanDraw t → InOrder t.config.spans t.rows t.columns
 in_order t can = record { ascending = can.ascending; places = can.places; fit = can.fits.spans }
-
--- no span is no spans
-pub no_spans : (t : Table) → not (length t.config.spans == 0) ≡ false → HasNoSpans t
-no_spans t none = none_of t.config.spans none
 
 -- without spans a cell has room in its column and its row
 pub plain_room : (t : Table) → CanDraw t → HasNoSpans t → (p : Position) → p.row < t.rows → p.col < t.columns → cell_fits (style_at t.config p) (t.text p) (t.width p.col) (t.height p.row) ≡ true
