@@ -281,8 +281,16 @@ abbrev pub MissingGlyphFillsGaps : Type 0
 MissingGlyphFillsGaps = (t : Table) → IsSome t.config.missing → HasNoGaps t
 
 -- All lines of the body are as wide as the table, side margins aside.
+abbrev pub HasStraightLines : Table → Type 0
+HasStraightLines t = All (λ mark. mark_width t mark ≡ total_width t) (table_body t)
+
 abbrev pub ColumnsAreStraight : Type 0
-ColumnsAreStraight = (t : Table) → CellsFit t → HasNarrowGlyphs t → HasNoGaps t → All (λ mark. mark_width t mark ≡ total_width t) (table_body t)
+ColumnsAreStraight = (t : Table) → CellsFit t → HasNarrowGlyphs t → HasNoGaps t → HasStraightLines t
+
+-- What a printer promises of a table that fits: if it has rows and columns, each of its fills and glyphs takes one column,
+-- and no glyph of a column line is missing, then all lines of the body are as wide as the table.
+abbrev pub IsStraight : Table → Type 0
+IsStraight t = 0 < t.rows → 0 < t.columns → HasNarrowGlyphs t → HasNoGaps t → HasStraightLines t
 
 -- each fill of a margin takes one column
 pub record HasNarrowMargins (t : Table) : Type 0 where
