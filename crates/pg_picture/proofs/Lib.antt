@@ -52,7 +52,7 @@ mod FullCells
 mod GlyphsOfLines
 mod ReachOfRectangles
 mod PartsOfColumns
-mod StraightColumns
+pub mod StraightColumns
 mod DrawnCells
 pub mod PlainPictures
 pub mod EqualSeparators

@@ -17,12 +17,13 @@ use Rattle.pg_layout.specs.Colors.{Color}
 use Rattle.pg_layout.proofs.Computing.{text_words}
 use Rattle.pg_config.specs.Config.{Config, has_horizontal, has_vertical, get_horizontal, get_vertical, get_intersection, get_intersection_color}
 use Rattle.pg_config.specs.Offsets.{lookup_offset}
-use Rattle.pg_config.specs.Spans.{Span, owner}
+use Rattle.pg_config.specs.Spans.{Span, StandAtPlaces, owner}
 use Rattle.pg_picture.specs.Marks.{Mark, sep, line, only_if, place_of}
 use Rattle.pg_picture.specs.Pieces.{Item, spaces, block, fill, style_at, pieces_width, piece_width}
 use Rattle.pg_picture.specs.Table.{Table, Hint, rect_width, rect_height, block_at, is_inside, is_covered, vertical, vertical_at, row_part, row_line, crossing_at, crossing_item, crossing, border_items, horizontal_items, column_items, separator_part, separator_items, total_width, full_width, table_body, rect_marks, is_blank_at, side_margin, margin_line}
-use Rattle.pg_picture.specs.Fits.{all_apart, span_fits_columns, span_fits, spans_fit, spans_fit_columns, cell_fits}
-use Rattle.pg_picture.specs.Laws.{IsNarrow, CellsFit, HasNarrowGlyphs, HasNoGaps, item_width, mark_width, body_line_width, ColumnsAreStraight, MarginsAreStraight}
+use Rattle.pg_picture.specs.Fits.{all_apart, span_fits_columns, span_fits, spans_fit, spans_fit_columns, cell_fits, misfit_of}
+use Rattle.pg_picture.specs.Laws.{IsNarrow, CellsFit, HasNarrowGlyphs, HasNoGaps, item_width, mark_width, body_line_width, ColumnsAreStraight, IsStraight, MarginsAreStraight}
+use Rattle.pg_picture.proofs.Rooms.{fits}
 use Rattle.pg_picture.proofs.SumsOfSizes.{sum_by-from_more}
 use Rattle.pg_picture.proofs.Owners.{HasOwners, apart_from, owners_of, owner-own}
 use Rattle.pg_picture.proofs.MarksOfBodies.{All-body, All-enumerate_from}
@@ -223,6 +224,12 @@ unfolding table_body
 columns_are_straight t fit narrow whole =
     let parts = parts_of t fit narrow whole in
     All-body (λ mark. mark_width t mark ≡ total_width t) t.config t.height t.rows (λ r i h k. row_line-width t parts r i h k) (λ r h drawn. separator_items-width t parts r h drawn)
+
+-- A table that fits promises straight lines, where its spans stand at places.
+pub is_straight : (t : Table) → StandAtPlaces t.config.spans → misfit_of t ≡ None → IsStraight t
+is_straight t places fit rows columns narrow whole =
+    let fitting = fits t fit rows columns in
+    columns_are_straight t (record { places = places; spans = fitting.spans; rooms = fitting.rooms }) narrow whole
 
 -- ---- margins
 
