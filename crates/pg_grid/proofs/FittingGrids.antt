@@ -1,5 +1,6 @@
 -- Whether a table fits has nothing to do with its colours.
-use Rattle.std.proofs.Common.{rules, tests, ◌≡◌, List, ℕ, Option, None, Some, Ok, refl, ap, ◌∙◌}
+use Rattle.std.proofs.Common.{rules, tests, ◌≡◌, List, ℕ, Option, None, Some, Ok, IsOk, refl, ap, ◌∙◌}
+use Rattle.std.proofs.lemmas.Bool.{false≢true}
 use Rattle.std.specs.Borrow.{Bor}
 use Rattle.pg_layout.specs.declared.position.Position.{Position}
 use Rattle.pg_layout.specs.Colors.{Color}
@@ -30,3 +31,8 @@ misfit-parts {R} {D} {C} texts columns width height color {parts} {records} {con
 pub none-of-ok : (m : Option Misfit) {u : Unit {0}} → unless_misfit m ≡ Ok u → m ≡ None
 none-of-ok None is = refl
 none-of-ok (Some m) is = search (rules, tests)
+
+-- the same of a test that succeeded
+pub none-if-ok : (m : Option Misfit) → IsOk (unless_misfit m) → m ≡ None
+none-if-ok None ok = refl
+none-if-ok (Some m) ok = absurd (false≢true ok)

@@ -14,6 +14,7 @@ use Rattle.pg_config.specs.CompactConfig.{settings_of}
 use Rattle.pg_picture.specs.CompactLines.{CompactTable, compact_indent, colored_glyph, compact_cell, Part, part_if, main_part, padding_row, text_row, compact_margin, line_if, separator_row, top_line, bottom_line}
 use Rattle.pg_picture.specs.CompactSizes.{compact_sized}
 use Rattle.pg_picture.specs.Fits.{compact_misfit_of}
+use Rattle.pg_picture.specs.declared.fits.Misfit.{Misfit}
 use Rattle.pg_grid.specs.declared.compact.CompactGrid.{CompactGrid}
 use Rattle.pg_grid.specs.declared.compact.CompactPrinter.{CompactPrinter}
 
@@ -36,6 +37,10 @@ compact_parts grid = (grid.records, grid.dimension, grid.config, grid.colors)
 -- for the side paddings. Its texts don't matter, and nothing is asked of a table with no rows.
 abbrev pub CompactFits : CompactTable → Type 0
 CompactFits t = 0 < t.rows → compact_misfit_of (compact_sized t.config t.width t.columns) ≡ None
+
+-- the first thing that doesn't fit in it
+abbrev pub compact_misfit : CompactTable → Option Misfit
+compact_misfit t = if t.rows == 0 then None else compact_misfit_of (compact_sized t.config t.width t.columns)
 
 -- the table of these texts, as a printer draws it
 abbrev pub printed_table : {D C : Type 0} → (D → ℕ → ℕ) → (C → Position → Option Color) → CompactPrinter D C → List (List Text) → CompactTable

@@ -3,3 +3,4 @@ pub mod CompactGrids
 pub mod IterGrids
 pub mod Laws
 pub mod Kept
+pub mod Printed

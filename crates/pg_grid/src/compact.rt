@@ -1,7 +1,9 @@
 //! The compact grid: it reads its records once, row by row, and shows the first line of each text.
 
+use crate::fault::PrintFault;
 use pg_config::CompactConfig;
-use pg_layout::{Colors, Dimension, Records};
+use pg_layout::{Colors, Dimension, ExactRecords, Records};
+use pg_picture::fits::{Misfit, compact_fits};
 use std::alloc::{AllocError, Allocator};
 
 mod body;
@@ -71,8 +73,9 @@ where
     ghost use Rattle.pg_grid.specs.CompactGrids.{compact_table, CompactFits};
 
     /// Appends the picture of the table, whose records may be read (all records in memory may), have
-    /// at most `usize::MAX` rows, and in which the columns fit where there are rows
-    /// (`pg_picture::fits::compact_fits`). A table with no rows or no columns appends nothing.
+    /// at most `usize::MAX` rows, and in which the columns fit where there are rows: of records that
+    /// know their rows [`CompactGrid::fits`] is the test, and [`CompactGrid::print`] the call that
+    /// makes it first. A table with no rows or no columns appends nothing.
     ///
     /// The rows are read once, each as it is printed. Takes no memory but the buffer's. An error
     /// comes only where the buffer's room is too small for the picture and it gets no more memory;
@@ -93,8 +96,9 @@ where
         printer.push_table(buf, self.records.iter_rows())
     }
 
-    /// The picture of the table as a text of its own, under the conditions of `build`. An error
-    /// comes where no memory is found.
+    /// The picture of the table as a text of its own, under the conditions of `build`; of records that
+    /// know their rows `text` is the call that tests them first. An error comes where no memory is
+    /// found.
     pub fn to_string<A: Allocator>(self, alloc: A) -> Result<String<A>, AllocError>
         requires readable { R.is_readable self.records }
         requires rows { length (R.texts self.records) ≤ usize.MAX }
@@ -104,5 +108,59 @@ where
         let mut text = String::new(alloc);
         self.build(&mut text)?;
         Ok(text)
+    }
+}
+
+impl<'a, R, D, C> CompactGrid<R, D, &'a CompactConfig, C>
+where
+    R: ExactRecords + Drop,
+    D: Dimension + Drop,
+    C: Colors + Drop,
+{
+    ghost use Rattle.std.specs.Prelude.{◌≡◌, ◌≤◌, ◌++◌, ◌↔◌, length, Some, Err, IsOk, IfOk, OnOk, string_bytes};
+    ghost use Rattle.pg_picture.specs.Picture.{compact_picture};
+    ghost use Rattle.pg_picture.specs.Sizes.{unless_misfit};
+    ghost use Rattle.pg_grid.specs.CompactGrids.{compact_table, compact_misfit, CompactFits};
+    ghost use Rattle.pg_grid.specs.Printed.{Prints};
+
+    /// Whether the columns fit: the condition of `build` and `to_string` on its sizes, as a test. It
+    /// answers the first thing that doesn't (`pg_picture::fits::Misfit`), and takes no memory. A table
+    /// with no rows fits. The records stay unread, and their rows can be counted.
+    pub fn fits(&self) -> Result<(), Misfit>
+        ensures exact { result ≡ unless_misfit (compact_misfit (compact_table R.texts R.columns D.width C.color self.now)) }
+        ensures fits { IsOk result → CompactFits (compact_table R.texts R.columns D.width C.color self.now) }
+        ensures counted { length (R.texts self.now.records) ≤ usize.MAX }
+    {
+        if self.records.count_rows() == 0 {
+            return Ok(());
+        }
+        compact_fits(self.config, &self.dimension, self.records.count_columns())
+    }
+
+    /// Appends the picture of the table, whose records may be read (all records in memory may), if the
+    /// columns fit: `fits`, and then `build`.
+    ///
+    /// A table that doesn't fit is refused with what `fits` answers, and the buffer stays as it was.
+    /// Where memory is refused, the buffer holds a beginning of the picture behind what it held
+    /// before.
+    pub fn print<A: Allocator>(self, buf: &mut String<A>) -> Result<(), PrintFault>
+        requires readable { R.is_readable self.records }
+        ensures prints { Prints (compact_misfit (compact_table R.texts R.columns D.width C.color self.entry)) buf.old buf.new result (compact_picture (compact_table R.texts R.columns D.width C.color self.entry)) }
+        ensures printed { OnOk result (string_bytes buf.new ≡ string_bytes buf.old ++ compact_picture (compact_table R.texts R.columns D.width C.color self.entry)) }
+    {
+        self.fits()?;
+        self.build(buf)?;
+        Ok(())
+    }
+
+    /// The picture of the table as a text of its own, under the condition of `print`: `fits`, and then
+    /// `to_string`.
+    pub fn text<A: Allocator>(self, alloc: A) -> Result<String<A>, PrintFault>
+        requires readable { R.is_readable self.records }
+        ensures misfit { (m : _) → (result ≡ Err (PrintFault.Misfit m)) ↔ (compact_misfit (compact_table R.texts R.columns D.width C.color self.entry) ≡ Some m) }
+        ensures text { IfOk result (λ text. string_bytes text ≡ compact_picture (compact_table R.texts R.columns D.width C.color self.entry)) }
+    {
+        self.fits()?;
+        Ok(self.to_string(alloc)?)
     }
 }

@@ -1,7 +1,9 @@
 //! The streaming grid: it reads its records once, row by row, and draws cells over several rows.
 
+use crate::fault::PrintFault;
 use pg_config::SpannedConfig;
-use pg_layout::{Colors, Dimension, Records};
+use pg_layout::{Colors, Dimension, ExactRecords, PeekableRecords, Records};
+use pg_picture::fits::{Misfit, table_fits};
 use pg_stream::RowPrinter;
 use std::alloc::{AllocError, Allocator};
 
@@ -44,13 +46,15 @@ where
 {
     ghost use Rattle.std.specs.Prelude.{◌≡◌, None, IfOk, string_bytes};
     ghost use Rattle.pg_picture.specs.Fits.{misfit_of};
+    ghost use Rattle.pg_picture.specs.Laws.{IsStraight};
     ghost use Rattle.pg_picture.specs.Picture.{picture};
     ghost use Rattle.pg_stream.specs.Printing.{hint_of};
     ghost use Rattle.pg_grid.specs.IterGrids.{AppendsOrNothing, streamed};
 
     /// Appends the picture of the table, whose records may be read (all records in memory may), and in
-    /// which everything fits (`pg_picture::fits::table_fits`). A table with no rows or no columns
-    /// appends nothing, and asks for no memory.
+    /// which everything fits: of records in memory [`IterGrid::fits`] is the test, and
+    /// [`IterGrid::print`] the call that makes it first. A table with no rows or no columns appends
+    /// nothing, and asks for no memory.
     ///
     /// Where the records don't tell how many rows there are, side margins whose offset counts from the
     /// end are drawn whole: that end isn't known while rows still come.
@@ -59,6 +63,7 @@ where
     /// memory for the cells that go on below their row, one piece for the whole table. An error comes
     /// only where no memory is found; the buffer then holds a beginning of the picture behind what it
     /// held before.
+    #[tactic(auto, using(pg_picture::proofs::StraightColumns::is_straight))]
     pub fn build<A: Allocator, W: Allocator>(
         self,
         alloc: A,
@@ -66,7 +71,8 @@ where
     ) -> Result<(), AllocError>
         requires readable { R.is_readable self.records }
         requires fits { misfit_of (streamed R.Records D.Dimension C.Colors self) ≡ None }
-        ensures { AppendsOrNothing buf.old buf.new result (picture (hint_of (R.hint self.entry.records)) (streamed R.Records D.Dimension C.Colors self.entry)) }
+        ensures appends { AppendsOrNothing buf.old buf.new result (picture (hint_of (R.hint self.entry.records)) (streamed R.Records D.Dimension C.Colors self.entry)) }
+        ensures straight { IsStraight (streamed R.Records D.Dimension C.Colors self.entry) }
     {
         let IterGrid {
             records,
@@ -88,8 +94,8 @@ where
         printer.print_rows(first, rows, buf)
     }
 
-    /// The picture of the table as a text of its own, under the conditions of `build`. An error
-    /// comes where no memory is found.
+    /// The picture of the table as a text of its own, under the conditions of `build`; of records in
+    /// memory `text` is the call that tests them first. An error comes where no memory is found.
     pub fn to_string<A: Allocator + Copy>(self, alloc: A) -> Result<String<A>, AllocError>
         requires readable { R.is_readable self.records }
         requires fits { misfit_of (streamed R.Records D.Dimension C.Colors self) ≡ None }
@@ -98,5 +104,62 @@ where
         let mut text = String::new(alloc);
         self.build(alloc, &mut text)?;
         Ok(text)
+    }
+}
+
+impl<'a, R, D, C, B> IterGrid<R, D, &'a SpannedConfig<B>, C>
+where
+    R: PeekableRecords + ExactRecords + Drop,
+    D: Dimension + Drop,
+    C: Colors + Drop,
+    B: Allocator,
+{
+    ghost use Rattle.std.specs.Prelude.{◌≡◌, ◌++◌, ◌↔◌, Some, None, Err, IsOk, IfOk, OnOk, string_bytes};
+    ghost use Rattle.pg_picture.specs.Fits.{misfit_of};
+    ghost use Rattle.pg_picture.specs.Sizes.{unless_misfit};
+    ghost use Rattle.pg_picture.specs.Picture.{picture};
+    ghost use Rattle.pg_stream.specs.Printing.{hint_of};
+    ghost use Rattle.pg_grid.specs.IterGrids.{streamed};
+    ghost use Rattle.pg_grid.specs.Printed.{PrintsOrNothing};
+
+    /// Whether everything fits in the table: the condition of `build` and `to_string` on its sizes, as
+    /// a test. It answers the first thing that doesn't (`pg_picture::fits::Misfit`), and takes no
+    /// memory. The records stay unread.
+    pub fn fits(&self) -> Result<(), Misfit>
+        ensures exact { result ≡ unless_misfit (misfit_of (streamed R.Records D.Dimension C.Colors self.now)) }
+        ensures fits { IsOk result → misfit_of (streamed R.Records D.Dimension C.Colors self.now) ≡ None }
+    {
+        table_fits(&self.records, self.config, &self.dimension)
+    }
+
+    /// Appends the picture of the table, whose records may be read (all records in memory may), if
+    /// everything fits in it: `fits`, and then `build`.
+    ///
+    /// A table that doesn't fit is refused with what `fits` answers, and the buffer stays as it was.
+    /// Where memory is refused, the buffer holds a beginning of the picture behind what it held
+    /// before.
+    pub fn print<A: Allocator, W: Allocator>(
+        self,
+        alloc: A,
+        buf: &mut String<W>,
+    ) -> Result<(), PrintFault>
+        requires readable { R.is_readable self.records }
+        ensures prints { PrintsOrNothing (misfit_of (streamed R.Records D.Dimension C.Colors self.entry)) buf.old buf.new result (picture (hint_of (R.hint self.entry.records)) (streamed R.Records D.Dimension C.Colors self.entry)) }
+        ensures printed { OnOk result (string_bytes buf.new ≡ string_bytes buf.old ++ picture (hint_of (R.hint self.entry.records)) (streamed R.Records D.Dimension C.Colors self.entry)) }
+    {
+        self.fits()?;
+        self.build(alloc, buf)?;
+        Ok(())
+    }
+
+    /// The picture of the table as a text of its own, under the condition of `print`: `fits`, and then
+    /// `to_string`.
+    pub fn text<A: Allocator + Copy>(self, alloc: A) -> Result<String<A>, PrintFault>
+        requires readable { R.is_readable self.records }
+        ensures misfit { (m : _) → (result ≡ Err (PrintFault.Misfit m)) ↔ (misfit_of (streamed R.Records D.Dimension C.Colors self.entry) ≡ Some m) }
+        ensures text { IfOk result (λ text. string_bytes text ≡ picture (hint_of (R.hint self.entry.records)) (streamed R.Records D.Dimension C.Colors self.entry)) }
+    {
+        self.fits()?;
+        Ok(self.to_string(alloc)?)
     }
 }

@@ -1,10 +1,11 @@
 //! The looked-up grid: it reads its records at any place.
 
+use crate::fault::PrintFault;
 use crate::peekable::kept::KeptCells;
 use crate::peekable::path::Path;
 use pg_config::SpannedConfig;
 use pg_layout::{Colors, Dimension, ExactRecords, PeekableRecords};
-use pg_picture::fits::{body_height, full_width};
+use pg_picture::fits::{Misfit, body_height, full_width, table_fits};
 use pg_picture::{push_bottom_margin, push_top_margin};
 use std::alloc::{AllocError, Allocator};
 
@@ -61,35 +62,74 @@ where
     C: Colors,
     B: Allocator,
 {
-    ghost use Rattle.std.specs.Prelude.{◌≡◌, ◌<◌, ◌==◌, [], None, IfOk, string_bytes};
+    ghost use Rattle.std.specs.Prelude.{◌≡◌, ◌<◌, ◌==◌, ◌++◌, ◌↔◌, [], Some, None, Err, IsOk, IfOk, OnOk, string_bytes};
     ghost use Rattle.pg_picture.specs.Appending.{Appends};
     ghost use Rattle.pg_picture.specs.Fits.{misfit_of};
     ghost use Rattle.pg_picture.specs.Joined.{joined};
+    ghost use Rattle.pg_picture.specs.Laws.{IsStraight};
+    ghost use Rattle.pg_picture.specs.Sizes.{unless_misfit};
     ghost use Rattle.pg_picture.specs.Table.{Known};
     ghost use Rattle.pg_picture.specs.Picture.{picture, picture_lines};
     ghost use Rattle.pg_grid.specs.Grids.{drawn, CanDraw, Draws};
+    ghost use Rattle.pg_grid.specs.Printed.{Prints};
 
-    /// Appends the picture of the table, in which everything fits (`pg_picture::fits::table_fits`). A
-    /// table with no rows or no columns appends nothing.
+    /// Whether everything fits in the table: the condition of `build` and `to_string`, as a test. It
+    /// answers the first thing that doesn't (`pg_picture::fits::Misfit`), and takes no memory.
+    pub fn fits(&self) -> Result<(), Misfit>
+        ensures exact { result ≡ unless_misfit (misfit_of (drawn R.Records D.Dimension C.Colors self.now)) }
+        ensures fits { IsOk result → misfit_of (drawn R.Records D.Dimension C.Colors self.now) ≡ None }
+    {
+        table_fits(&self.records, self.config, &self.dimension)
+    }
+
+    /// Appends the picture of the table, if everything fits in it: `fits`, and then `build`.
+    ///
+    /// A table that doesn't fit is refused with what `fits` answers, and the buffer stays as it was.
+    /// Where memory is refused, the buffer holds a beginning of the picture behind what it held
+    /// before.
+    pub fn print<A: Allocator>(&self, buf: &mut String<A>) -> Result<(), PrintFault>
+        ensures prints { Prints (misfit_of (drawn R.Records D.Dimension C.Colors self.now)) buf.old buf.new result (picture Known (drawn R.Records D.Dimension C.Colors self.now)) }
+        ensures printed { OnOk result (string_bytes buf.new ≡ string_bytes buf.old ++ picture Known (drawn R.Records D.Dimension C.Colors self.now)) }
+    {
+        self.fits()?;
+        self.build(buf)?;
+        Ok(())
+    }
+
+    /// The picture of the table as a text of its own, if everything fits in it: `fits`, and then
+    /// `to_string`.
+    pub fn text<A: Allocator>(&self, alloc: A) -> Result<String<A>, PrintFault>
+        ensures misfit { (m : _) → (result ≡ Err (PrintFault.Misfit m)) ↔ (misfit_of (drawn R.Records D.Dimension C.Colors self.now) ≡ Some m) }
+        ensures text { IfOk result (λ text. string_bytes text ≡ picture Known (drawn R.Records D.Dimension C.Colors self.now)) }
+    {
+        self.fits()?;
+        Ok(self.to_string(alloc)?)
+    }
+
+    /// Appends the picture of the table, in which everything fits: [`PeekableGrid::fits`] is the test,
+    /// and [`PeekableGrid::print`] the call that makes it first. A table with no rows or no columns
+    /// appends nothing.
     ///
     /// Takes no memory but the buffer's. An error comes only where the buffer's room is too small
     /// for the picture and it gets no more memory; the buffer then holds a beginning of the picture
     /// behind what it held before.
+    #[tactic(auto, using(pg_picture::proofs::StraightColumns::is_straight))]
     pub fn build<A: Allocator>(&self, buf: &mut String<A>) -> Result<(), AllocError>
         requires fits { misfit_of (drawn R.Records D.Dimension C.Colors self.now) ≡ None }
-        ensures { Appends buf.old buf.new result (picture Known (drawn R.Records D.Dimension C.Colors self.now)) }
+        ensures appends { Appends buf.old buf.new result (picture Known (drawn R.Records D.Dimension C.Colors self.now)) }
+        ensures straight { IsStraight (drawn R.Records D.Dimension C.Colors self.now) }
     {
+        let is_spanned = !self.config.spans().is_empty();
         let rows = self.records.count_rows();
         let columns = self.records.count_columns();
         if rows == 0 || columns == 0 {
             return Ok(());
         }
-        let is_spanned = !self.config.spans().is_empty();
         self.push_picture(buf, rows, columns, self.path(is_spanned))
     }
 
-    /// The picture of the table as a text of its own, under the conditions of `build`. An error
-    /// comes where no memory is found.
+    /// The picture of the table as a text of its own, under the condition of `build`; `text` is the
+    /// call that tests it first. An error comes where no memory is found.
     pub fn to_string<A: Allocator>(&self, alloc: A) -> Result<String<A>, AllocError>
         requires fits { misfit_of (drawn R.Records D.Dimension C.Colors self.now) ≡ None }
         ensures { IfOk result (λ text. string_bytes text ≡ picture Known (drawn R.Records D.Dimension C.Colors self.now)) }

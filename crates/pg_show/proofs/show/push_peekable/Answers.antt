@@ -20,4 +20,4 @@ returns g c =
     let drawn =
     ap (λ parts. picture Known (table_with parts.1.now parts.2.now.0.items parts.2.now.1.items (map (λ row. map string_bytes row) parts.0.now) (columns_of parts.0.now) parts.3.now)) c.new.ensures
     ∙ ap (picture Known) (table-script c.args.script.now) in
-    rw drawn at c.build.ensures
+    rw drawn at c.build.ensures.appends

@@ -11,16 +11,16 @@ use Rattle.pg_stream.proofs.RowsInTurn.{no-row}
 use Rattle.pg_grid.proofs.IterTables.{begun}
 use Rattle.pg_grid.proofs.iter.IterGrid+R+D+ref+SpannedConfig+B+C.build.Goals as goal
 
-pub returns-in_default : goal.returns-in_default
-returns-in_default g c =
+pub returns-in_default-clause-appends : goal.returns-in_default-clause-appends
+returns-in_default-clause-appends g c =
     let t = streamed g.R.Records g.D.Dimension g.C.Colors c.args.self in
     let is_row = Gives (λ x y. g.R.Cell.AsStr.text x ≡ y) g.R.Columns.Iterator.can_next g.R.Columns.Iterator.next_gives g.R.Columns.Iterator.remaining in
     let rows : t.rows ≡ 0 = ap (λ (texts : List (List Text)). length texts) (no-row is_row g.R.Rows.Iterator.next_gives _ _ (g.R.Records.texts c.args.self.records) c.iter_rows-rows.ensures.gives c.in_default.ensures.steps) in
     let none : ((t.rows == 0) || (t.columns == 0)) ≡ true = grind (arith, nat_tests, rows) in
     inl (Appends-text (sym (picture-none (hint_of (g.R.Records.hint c.args.self.records)) t none)) (Gained-all (Gained-none c.args.buf.now)))
 
-pub returns-then-columns-eq0 : goal.returns-then-columns-eq0
-returns-then-columns-eq0 g c =
+pub returns-then-columns-eq0-clause-appends : goal.returns-then-columns-eq0-clause-appends
+returns-then-columns-eq0-clause-appends g c =
     let t = streamed g.R.Records g.D.Dimension g.C.Colors c.args.self in
     let columns : t.columns ≡ 0 = sym c.count_columns-columns.ensures.value ∙ c.if-columns-eq0.true in
     let none : ((t.rows == 0) || (t.columns == 0)) ≡ true = grind (arith, nat_tests, columns) in
@@ -45,8 +45,8 @@ print_rows-requires-clause-given g c =
     _ _ _ c.iter_rows-rows.ensures.gives c.in-Some.ensures.steps in
     (b.cells, b.others, b.from, b.rows_fit _ c.in_ok-printer.ensures)
 
-pub returns : goal.returns
-returns g c =
+pub returns-clause-appends : goal.returns-clause-appends
+returns-clause-appends g c =
     let t = streamed g.R.Records g.D.Dimension g.C.Colors c.args.self in
     let is_row = Gives (λ x y. g.R.Cell.AsStr.text x ≡ y) g.R.Columns.Iterator.can_next g.R.Columns.Iterator.next_gives g.R.Columns.Iterator.remaining in
     let b = begun is_row g.R.Rows.Iterator.next_gives t.config t.width t.height t.color (g.R.Records.texts c.args.self.records) t.columns

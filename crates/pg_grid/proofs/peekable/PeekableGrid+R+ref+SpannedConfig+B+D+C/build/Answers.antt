@@ -8,8 +8,8 @@ use Rattle.pg_picture.proofs.Pictures.{picture-none, picture-some}
 use Rattle.pg_grid.proofs.peekable.PeekableGrid+R+ref+SpannedConfig+B+D+C.build.Goals as goal
 use Rattle.pg_grid.proofs.peekable.PeekableGrid+R+ref+SpannedConfig+B+D+C.build.Goals.{then-rows-eq0-via-then-rows-eq0, then-rows-eq0-via-else-rows-eq0+then-columns-eq0}
 
-pub returns-then-rows-eq0 : goal.returns-then-rows-eq0
-returns-then-rows-eq0 g c =
+pub returns-then-rows-eq0-clause-appends : goal.returns-then-rows-eq0-clause-appends
+returns-then-rows-eq0-clause-appends g c =
     let t = drawn g.R.Records g.D.Dimension g.C.Colors c.args.self.now in
     let none : ((t.rows == 0) || (t.columns == 0)) ≡ true =
     elim c.then-rows-eq0.branch [
@@ -25,8 +25,8 @@ push_picture-requires-clause-can g c =
     let columns : 0 < t.columns = omega (arith, c.count_columns-columns.ensures.value) in
     can_draw t c.spans.ensures.ascending c.spans.ensures.places c.requires.fits rows columns
 
-pub returns : goal.returns
-returns g c =
+pub returns-clause-appends : goal.returns-clause-appends
+returns-clause-appends g c =
     let t = drawn g.R.Records g.D.Dimension g.C.Colors c.args.self.now in
     let rows = c.count_rows-rows.ensures in
     let columns = c.count_columns-columns.ensures.value in
