@@ -24,6 +24,8 @@ mod prefixes;
 #[cfg(test)]
 mod refusals;
 #[cfg(test)]
+mod row_lines;
+#[cfg(test)]
 mod spans;
 #[cfg(test)]
 mod texts;

@@ -4,8 +4,8 @@ use crate::answers::answers;
 use crate::fresh::fresh;
 use pg_config::SpannedConfig;
 use pg_layout::{
-    ANSIBuf, AlignmentHorizontal, AlignmentVertical, Border, Entity, Indent, Offset, Position,
-    Sides,
+    ANSIBuf, AlignmentHorizontal, AlignmentVertical, Border, Entity, HorizontalLine, Indent,
+    Offset, Position, Sides,
 };
 use pg_testing::refusing::Refusing;
 use std::alloc::{AllocError, Allocator, Global};
@@ -19,6 +19,7 @@ const MANY: u64 = 1000;
 #[derive(Debug, Clone, Copy)]
 enum PlaceSetter {
     Border,
+    RowLine,
     BorderColor,
     HorizontalChar,
     HorizontalColor,
@@ -28,8 +29,9 @@ enum PlaceSetter {
     RowSpan,
 }
 
-const PLACE_SETTERS: [PlaceSetter; 8] = [
+const PLACE_SETTERS: [PlaceSetter; 9] = [
     PlaceSetter::Border,
+    PlaceSetter::RowLine,
     PlaceSetter::BorderColor,
     PlaceSetter::HorizontalChar,
     PlaceSetter::HorizontalColor,
@@ -212,6 +214,11 @@ fn border(glyph: char) -> Border<char> {
     border
 }
 
+// A line without a left end.
+fn line(glyph: char) -> HorizontalLine<char> {
+    HorizontalLine::new(Some(glyph), Some(glyph), None, Some(glyph))
+}
+
 // Tells a configuration something of a place.
 fn tell_place<A: Allocator + Copy>(
     config: &mut SpannedConfig<A>,
@@ -223,6 +230,7 @@ fn tell_place<A: Allocator + Copy>(
     let offset = call.offset;
     match setter {
         PlaceSetter::Border => config.set_border(pos, border(call.glyph)),
+        PlaceSetter::RowLine => config.set_row_line(pos.row, pos.col, line(call.glyph)),
         PlaceSetter::BorderColor => {
             let mut border = Border::empty();
             border.left = Some(color(alloc, call)?);

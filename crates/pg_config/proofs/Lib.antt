@@ -3,6 +3,7 @@ pub mod LinesLaw
 pub mod EqualLines
 pub mod OneStyle
 mod OverrideColumns
+pub mod RowLineLaw
 mod KeptSpans
 mod SettingNumbers
 pub mod SettingsForAll

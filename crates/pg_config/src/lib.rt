@@ -10,6 +10,8 @@ mod spanned;
 mod spans;
 
 pub use crate::compact::CompactConfig;
-pub use crate::laws::{lines_before_the_last_stay, the_latest_setting_counts};
+pub use crate::laws::{
+    a_row_line_overrides_its_places, lines_before_the_last_stay, the_latest_setting_counts,
+};
 pub use crate::spanned::SpannedConfig;
 pub use crate::spans::Span;
