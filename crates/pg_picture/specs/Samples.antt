@@ -2,18 +2,14 @@
 use Rattle.std.specs.Prelude.{ℕ, List, [], ◌∷◌, map, slice_index_or, Option, Some, None, codes, ◌+◌}
 use Rattle.std.specs.List.{range_with_len}
 use Rattle.pg_layout.specs.declared.position.Position.{Position}
-use Rattle.pg_layout.specs.declared.borders.Borders.{Borders}
 use Rattle.pg_layout.specs.declared.sides.Indent.{Indent}
 use Rattle.pg_layout.specs.declared.sides.Sides.{Sides}
 use Rattle.pg_layout.specs.Text.{Text}
 use Rattle.pg_layout.specs.Colors.{Color}
+use Rattle.pg_layout.specs.Looks.{ascii}
 use Rattle.pg_config.specs.Config.{Config, default_config}
 use Rattle.pg_config.specs.Settings.{Settings}
 use Rattle.pg_picture.specs.Table.{Table}
-
--- `-`, `|` and `+` at all places
-abbrev pub ascii : Borders ℕ
-ascii = record { top = Some 45; top_left = Some 43; top_right = Some 43; top_intersection = Some 43; bottom = Some 45; bottom_left = Some 43; bottom_right = Some 43; bottom_intersection = Some 43; horizontal = Some 45; left_intersection = Some 43; right_intersection = Some 43; intersection = Some 43; left = Some 124; right = Some 124; vertical = Some 124 }
 
 abbrev pub text_in : List (List Text) → Position → Text
 text_in texts p = slice_index_or (slice_index_or texts p.row []) p.col []
