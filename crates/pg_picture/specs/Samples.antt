@@ -1,6 +1,7 @@
 -- Tables for worked examples.
-use Rattle.std.specs.Prelude.{ℕ, List, [], ◌∷◌, map, slice_index_or, Option, Some, None, codes, ◌+◌}
+use Rattle.std.specs.Prelude.{ℕ, List, [], ◌∷◌, map, flat_map, slice_index_or, Option, Some, None, codes, encode_utf8, ◌+◌}
 use Rattle.std.specs.List.{range_with_len}
+use Rattle.pg_layout.specs.declared.borders.Borders.{Borders}
 use Rattle.pg_layout.specs.declared.position.Position.{Position}
 use Rattle.pg_layout.specs.declared.sides.Indent.{Indent}
 use Rattle.pg_layout.specs.declared.sides.Sides.{Sides}
@@ -9,6 +10,7 @@ use Rattle.pg_layout.specs.Colors.{Color}
 use Rattle.pg_layout.specs.Looks.{ascii}
 use Rattle.pg_config.specs.Config.{Config, default_config}
 use Rattle.pg_config.specs.Settings.{Settings}
+use Rattle.pg_picture.specs.Joined.{joined}
 use Rattle.pg_picture.specs.Table.{Table}
 
 abbrev pub text_in : List (List Text) → Position → Text
@@ -38,6 +40,14 @@ plain = default_config
 
 unfoldable pub bordered : Config
 bordered = record default_config { borders = ascii }
+
+-- the four cells within these borders, each one line of three columns
+abbrev pub grid_in : Borders ℕ → Table
+grid_in borders = table (record plain { borders = borders }) 2 2 (3 ∷ 3 ∷ []) (1 ∷ 1 ∷ []) grid22
+
+-- the text of these lines, told by their characters
+abbrev pub drawing : List (List ℕ) → Text
+drawing lines = joined (map (flat_map encode_utf8) lines)
 
 abbrev pub one : Text → List (List Text)
 one text = (text ∷ []) ∷ []
