@@ -1,5 +1,5 @@
 -- Where nothing was set but for all places, each place has that setting.
-use Rattle.std.proofs.Common.{◌≡◌, ℕ, suc, true, ◌&&◌, ◌==◌, List, [], ◌∷◌, length, None, refl, arith}
+use Rattle.std.proofs.Common.{◌≡◌, true, ◌&&◌, ◌==◌, List, [], ◌∷◌, length, None, refl, arith}
 use Rattle.std.proofs.lemmas.Bool.{and_parts}
 use Rattle.std.proofs.lemmas.Bool.Decides.{nat_tests}
 use Rattle.pg_layout.specs.declared.position.Position.{Position}

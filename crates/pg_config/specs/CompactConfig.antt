@@ -1,5 +1,5 @@
 -- What a compact table is told.
-use Rattle.std.specs.Prelude.{ℕ, [], Option, option_map}
+use Rattle.std.specs.Prelude.{ℕ, [], option_map}
 use Rattle.pg_layout.specs.declared.borders.Borders.{Borders}
 use Rattle.pg_layout.specs.declared.sides.Indent.{Indent}
 use Rattle.pg_layout.specs.declared.sides.Sides.{Sides}

@@ -1,8 +1,10 @@
 -- What was set for single places of the border lines.
-use Rattle.std.specs.Prelude.{◌≡◌, ℕ, ◌+◌, Bool, ◌||◌, ◌==◌, List, [], Option}
+use Rattle.std.specs.Prelude.{◌≡◌, ℕ, zero, suc, ◌+◌, Bool, ◌||◌, ◌==◌, List, [], Option, if◌then◌else◌}
 use Rattle.std.specs.List.{list_any}
 use Rattle.pg_layout.specs.declared.borders.Border.{Border}
+use Rattle.pg_layout.specs.declared.borders.HorizontalLine.{HorizontalLine}
 use Rattle.pg_layout.specs.declared.position.Position.{Position}
+use Rattle.pg_layout.specs.Borders.{ends}
 use Rattle.pg_layout.specs.Places.{Key, value_at, with_some, has_first}
 use Rattle.pg_config.specs.Settings.{has_some}
 
@@ -26,6 +28,22 @@ module _ {G : Type 0} where
     horizontals = with_some (p.row + 1, p.col, 0) b.bottom (with_some (p.row, p.col, 0) b.top o.horizontals);
     verticals = with_some (p.col + 1, p.row, 0) b.right (with_some (p.col, p.row, 0) b.left o.verticals);
     crossings = with_some (p.row + 1, p.col + 1, 0) b.bottom_right (with_some (p.row + 1, p.col, 0) b.bottom_left (with_some (p.row, p.col + 1, 0) b.top_right (with_some (p.row, p.col, 0) b.top_left o.crossings)));
+  }
+
+  -- The first n places of row r get these values, by column. A value that is missing leaves its place as it was.
+  abbrev pub with_row : ℕ → ℕ → (ℕ → Option G) → List (Key × G) → List (Key × G)
+  with_row r zero values es = es
+  with_row r (suc c) values es = with_some (r, c, 0) (values c) (with_row r c values es)
+
+  -- what a line of so many columns has at its crossing c: an end, or what stands between two columns
+  abbrev pub line_crossing : HorizontalLine G → ℕ → ℕ → Option G
+  line_crossing line columns c = ends line.left line.intersection line.right c columns
+
+  -- Row line r of so many columns is this line: its horizontals, and its crossings, which are one more. Of no columns it is none.
+  unfoldable pub with_row_line : ℕ → ℕ → HorizontalLine G → Overrides G → Overrides G
+  with_row_line r columns line o = if columns == 0 then o else record o {
+    horizontals = with_row r columns (λ c. line.main) o.horizontals;
+    crossings = with_row r (columns + 1) (λ c. line_crossing line columns c) o.crossings;
   }
 
   -- the keys of the index begin with the columns of the crossings

@@ -3,9 +3,9 @@
 ghost use Rattle.std.specs.Prelude.{◌≡◌, ◌+◌, ◌^◌, ◌<◌, ◌≤◌, option_map, OnOk, OnErr};
 ghost use Rattle.std.specs.Vec.{vec_len, vec_capacity};
 ghost use Rattle.pg_layout.specs.Places.{IsAscending, with_some};
-ghost use Rattle.pg_config.specs.Overrides.{HasColumns, no_overrides, with_border, horizontal_override, vertical_override, crossing_override, overrides_row, overrides_column, sets_rows};
+ghost use Rattle.pg_config.specs.Overrides.{HasColumns, no_overrides, with_border, with_row, line_crossing, with_row_line, horizontal_override, vertical_override, crossing_override, overrides_row, overrides_column, sets_rows};
 
-use pg_layout::{Border, Key, Position, has_first, put, put_some, value_at};
+use pg_layout::{Border, HorizontalLine, Key, Position, has_first, put, put_some, value_at};
 use std::alloc::{AllocError, Allocator, Global};
 use std::marker::Model;
 
@@ -122,6 +122,91 @@ impl<G: Drop, A: Allocator> Overrides<G, A> {
         put_crossing(crossings, columns, row + 1, col, border.bottom_left);
         put_crossing(crossings, columns, row + 1, col + 1, border.bottom_right);
         Ok(())
+    }
+}
+
+impl<A: Allocator> Overrides<char, A> {
+    /// Gives the horizontals and the crossings of a row line of so many columns the glyphs of this
+    /// line. A glyph that it lacks leaves its places as they were. With no columns nothing changes.
+    ///
+    /// Asks for room first: where memory is refused, nothing changes.
+    #[tactic(auto, unfolding(crate::specs::Overrides::with_row_line))]
+    pub fn set_row_line(
+        &mut self,
+        row: usize,
+        columns: usize,
+        line: HorizontalLine<char>,
+    ) -> Result<(), AllocError>
+        ensures ok { OnOk result (self.new ≡ with_row_line row columns line self.old) }
+        ensures err { OnErr result (self.new ≡ self.old) }
+    {
+        if columns == 0 {
+            return Ok(());
+        }
+        let Some(crossings) = columns.checked_add(1) else {
+            return Err(AllocError);
+        };
+        self.horizontals.reserve(columns)?;
+        self.crossings.reserve(crossings)?;
+        self.crossing_columns.reserve(crossings)?;
+        put_horizontals(&mut self.horizontals, row, columns, line.main);
+        let (crossings, index) = (&mut self.crossings, &mut self.crossing_columns);
+        put_crossings(crossings, index, row, columns, line);
+        Ok(())
+    }
+}
+
+// Gives the first horizontals of a row line this glyph, if there is one. The list has room for them.
+fn put_horizontals<A: Allocator>(
+    horizontals: &mut Vec<(Key, char), A>,
+    row: usize,
+    columns: usize,
+    glyph: Option<char>,
+)
+    requires ascending { IsAscending horizontals.old.items }
+    requires room { vec_len horizontals.old + columns ≤ vec_capacity horizontals.old }
+    ensures items { horizontals.new.items ≡ with_row row columns (λ c. glyph) horizontals.old.items }
+    ensures ascending { IsAscending horizontals.new.items }
+{
+    for col in 0..columns {
+        put_some(horizontals, (row, col, 0), glyph);
+    }
+}
+
+// Gives the crossings of a row line of so many columns the glyphs of this line, and lists their
+// columns. Both lists have room for them.
+fn put_crossings<A: Allocator>(
+    crossings: &mut Vec<(Key, char), A>,
+    index: &mut Vec<(Key, ()), A>,
+    row: usize,
+    columns: usize,
+    line: HorizontalLine<char>,
+)
+    requires ascending { IsAscending crossings.old.items }
+    requires room { vec_len crossings.old + columns < vec_capacity crossings.old }
+    requires ascending_columns { IsAscending index.old.items }
+    requires room_columns { vec_len index.old + columns < vec_capacity index.old }
+    requires has_columns { HasColumns index.old.items crossings.old.items }
+    ensures items { crossings.new.items ≡ with_row row (columns + 1) (λ c. line_crossing line columns c) crossings.old.items }
+    ensures ascending { IsAscending crossings.new.items }
+    ensures ascending_columns { IsAscending index.new.items }
+    ensures has_columns { HasColumns index.new.items crossings.new.items }
+{
+    for col in 0..columns + 1 {
+        put_crossing(crossings, index, row, col, crossing_of(line, columns, col));
+    }
+}
+
+// The glyph of a crossing of a line of so many columns.
+fn crossing_of(line: HorizontalLine<char>, columns: usize, col: usize) -> Option<char>
+    ensures { result ≡ line_crossing line columns col }
+{
+    if col == 0 {
+        line.left
+    } else if col == columns {
+        line.right
+    } else {
+        line.intersection
     }
 }
 

@@ -2,11 +2,11 @@
 
 ghost use Rattle.std.specs.Prelude.{◌≡◌, ◌<◌, ◌+◌, ◌^◌, true, option_map, OnOk, OnErr};
 ghost use Rattle.pg_layout.specs.Borders.{has_side, ends, horizontal_glyph, vertical_glyph, crossing_glyph};
-ghost use Rattle.pg_config.specs.Overrides.{with_border};
+ghost use Rattle.pg_config.specs.Overrides.{with_border, with_row_line};
 ghost use Rattle.pg_config.specs.Config.{missing_if, count_horizontal, count_vertical, has_horizontal, has_vertical, get_horizontal, get_vertical, get_intersection, get_horizontal_color, get_vertical_color, get_intersection_color, has_equal_row_lines};
 
 use crate::spanned::SpannedConfig;
-use pg_layout::{ANSIBuf, Border, Borders, Position};
+use pg_layout::{ANSIBuf, Border, Borders, HorizontalLine, Position};
 use std::alloc::{AllocError, Allocator};
 
 impl<A: Allocator> SpannedConfig<A> {
@@ -48,6 +48,24 @@ impl<A: Allocator> SpannedConfig<A> {
         ensures err { OnErr result (self.new ≡ self.old) }
     {
         self.overrides.set_border(pos, border)
+    }
+
+    /// Overrides the glyphs of one row line across a table of `columns` columns by those that this
+    /// line has: of its horizontals by `main`, of the crossings at its ends by `left` and `right`, and
+    /// of those between by `intersection`. Without columns nothing changes.
+    ///
+    /// Row line 0 is above the first row, and row line `r` below row `r - 1`. Asks for room for all
+    /// these places first, also for those that have a glyph.
+    pub fn set_row_line(
+        &mut self,
+        row: usize,
+        columns: usize,
+        line: HorizontalLine<char>,
+    ) -> Result<(), AllocError>
+        ensures ok { OnOk result (self.new ≡ record self.old { overrides = with_row_line row columns line self.old.overrides }) }
+        ensures err { OnErr result (self.new ≡ self.old) }
+    {
+        self.overrides.set_row_line(row, columns, line)
     }
 
     /// Whether row line `row` of a table of `rows` rows is there.
