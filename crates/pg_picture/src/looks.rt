@@ -2,9 +2,9 @@
 //! [`crate::examples`].
 
 ghost use Rattle.std.specs.Prelude.{◌≡◌, ◌∷◌, [], codes};
-ghost use Rattle.pg_layout.specs.Looks.{ascii, blank, dots, extended, markdown, modern, psql, rounded, sharp};
+ghost use Rattle.pg_layout.specs.Looks.{ascii, blank, dots, extended, markdown, markdown_line, modern, psql, psql_line, rounded, sharp, sharp_line};
 ghost use Rattle.pg_picture.specs.Picture.{picture};
-ghost use Rattle.pg_picture.specs.Samples.{drawing, grid_in};
+ghost use Rattle.pg_picture.specs.Samples.{drawing, grid_in, headed_in};
 ghost use Rattle.pg_picture.specs.Table.{Known};
 
 /// ASCII glyphs at all places.
@@ -120,4 +120,60 @@ pub fn a_table_in_psql()
 #[tactic(auto, unfolding(crate::proofs::Computing::grid_words))]
 pub fn a_table_in_markdown()
     ensures { picture Known (grid_in markdown) ≡ drawing (codes "|0-0|0-1|" ∷ codes "|1-0|1-1|" ∷ []) }
+{}
+
+/// A line below the first row, in single lines.
+///
+/// ```text
+/// ┌───┬───┐
+/// │0-0│0-1│
+/// ├───┼───┤
+/// │1-0│1-1│
+/// │2-0│2-1│
+/// └───┴───┘
+/// ```
+#[tactic(auto, unfolding(crate::proofs::Computing::grid_words, pg_config::specs::Overrides::with_row_line))]
+pub fn a_header_in_sharp()
+    ensures { picture Known (headed_in sharp sharp_line) ≡ drawing (codes "┌───┬───┐" ∷ codes "│0-0│0-1│" ∷ codes "├───┼───┤" ∷ codes "│1-0│1-1│" ∷ codes "│2-0│2-1│" ∷ codes "└───┴───┘" ∷ []) }
+{}
+
+/// The same line between round corners.
+///
+/// ```text
+/// ╭───┬───╮
+/// │0-0│0-1│
+/// ├───┼───┤
+/// │1-0│1-1│
+/// │2-0│2-1│
+/// ╰───┴───╯
+/// ```
+#[tactic(auto, unfolding(crate::proofs::Computing::grid_words, pg_config::specs::Overrides::with_row_line))]
+pub fn a_header_in_rounded()
+    ensures { picture Known (headed_in rounded sharp_line) ≡ drawing (codes "╭───┬───╮" ∷ codes "│0-0│0-1│" ∷ codes "├───┼───┤" ∷ codes "│1-0│1-1│" ∷ codes "│2-0│2-1│" ∷ codes "╰───┴───╯" ∷ []) }
+{}
+
+/// A line below the first row of columns with lines between them.
+///
+/// ```text
+/// 0-0|0-1
+/// ---+---
+/// 1-0|1-1
+/// 2-0|2-1
+/// ```
+#[tactic(auto, unfolding(crate::proofs::Computing::grid_words, pg_config::specs::Overrides::with_row_line))]
+pub fn a_header_in_psql()
+    ensures { picture Known (headed_in psql psql_line) ≡ drawing (codes "0-0|0-1" ∷ codes "---+---" ∷ codes "1-0|1-1" ∷ codes "2-0|2-1" ∷ []) }
+{}
+
+/// A line below the first row that begins and ends with the glyphs at the sides.
+///
+/// ```text
+/// |0-0|0-1|
+/// |---|---|
+/// |1-0|1-1|
+/// |2-0|2-1|
+/// ```
+#[tactic(auto, unfolding(crate::proofs::Computing::grid_words, pg_config::specs::Overrides::with_row_line))]
+pub fn a_header_in_markdown()
+    ensures { picture Known (headed_in markdown markdown_line) ≡ drawing (codes "|0-0|0-1|" ∷ codes "|---|---|" ∷ codes "|1-0|1-1|" ∷ codes "|2-0|2-1|" ∷ []) }
 {}
