@@ -73,27 +73,6 @@ pub(crate) fn color<A: Allocator + Copy>(alloc: A, paint: Paint) -> Result<ANSIB
     ANSIBuf::new(alloc, paint.0, paint.1)
 }
 
-// ASCII glyphs at all fifteen places.
-fn ascii_borders() -> Borders<char> {
-    Borders {
-        top: Some('-'),
-        top_left: Some('+'),
-        top_right: Some('+'),
-        top_intersection: Some('+'),
-        bottom: Some('-'),
-        bottom_left: Some('+'),
-        bottom_right: Some('+'),
-        bottom_intersection: Some('+'),
-        horizontal: Some('-'),
-        left_intersection: Some('+'),
-        right_intersection: Some('+'),
-        intersection: Some('+'),
-        left: Some('|'),
-        right: Some('|'),
-        vertical: Some('|'),
-    }
-}
-
 // Spaces at the four sides of a text.
 fn spaces([left, right, top, bottom]: [usize; 4]) -> Sides<Indent> {
     Sides::new(
@@ -230,7 +209,7 @@ fn tell<A: Allocator + Copy>(
     setting: Setting,
 ) -> Result<(), AllocError> {
     match setting {
-        Setting::Ascii => config.set_borders(ascii_borders()),
+        Setting::Ascii => config.set_borders(Borders::ascii()),
         Setting::Borders(borders) => config.set_borders(borders),
         Setting::Missing(glyph) => config.set_borders_missing(glyph),
         Setting::Margin(margin) => config.set_margin(margin),

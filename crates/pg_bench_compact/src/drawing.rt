@@ -21,30 +21,9 @@ pub(crate) struct Sample<'a> {
     pub(crate) colored: &'a [(usize, usize)],
 }
 
-/// ASCII glyphs at all fifteen places.
-pub(crate) fn ascii() -> Borders<char> {
-    Borders {
-        top: Some('-'),
-        top_left: Some('+'),
-        top_right: Some('+'),
-        top_intersection: Some('+'),
-        bottom: Some('-'),
-        bottom_left: Some('+'),
-        bottom_right: Some('+'),
-        bottom_intersection: Some('+'),
-        horizontal: Some('-'),
-        left_intersection: Some('+'),
-        right_intersection: Some('+'),
-        intersection: Some('+'),
-        left: Some('|'),
-        right: Some('|'),
-        vertical: Some('|'),
-    }
-}
-
 /// A configuration that was told the ASCII glyphs alone.
 pub(crate) fn bordered() -> CompactConfig {
-    CompactConfig::new().set_borders(ascii())
+    CompactConfig::new().set_borders(Borders::ascii())
 }
 
 /// No indent at any side.

@@ -1,7 +1,7 @@
 //! Compact tables.
 
 use crate::drawing::{
-    Sample, WITH_COLORED_CORNER, WITH_MARGINS, ascii, assert_drawn, blue, bordered, no_colors,
+    Sample, WITH_COLORED_CORNER, WITH_MARGINS, assert_drawn, blue, bordered, no_colors,
     no_indents, red, red_corner, with_colored_corner, with_margins,
 };
 use pg_config::CompactConfig;
@@ -156,7 +156,7 @@ fn totals_are_numbers_of_64_bits(rt: HostRuntime) -> Result<(), Fail> {
     let dimension = ConstantDimension(widths, Vec::new(alloc));
     let config = CompactConfig::new();
     assert_eq!(rt; compact_fits(&config, &dimension, 2), Ok(()));
-    let bordered = config.set_borders(ascii());
+    let bordered = config.set_borders(Borders::ascii());
     assert_eq!(rt; compact_fits(&bordered, &dimension, 2), Err(Misfit::Totals));
     let mut margin = no_indents();
     margin.right = Indent::spaced(1);

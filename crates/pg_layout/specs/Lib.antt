@@ -2,6 +2,7 @@ pub mod Text
 pub mod LineCursor
 pub mod Position
 pub mod Borders
+pub mod Looks
 pub mod Colors
 pub mod Places
 pub mod Records

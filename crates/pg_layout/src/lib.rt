@@ -8,6 +8,7 @@ mod colors_map;
 mod dimension;
 mod iter_records;
 mod line_cursor;
+mod looks;
 mod places;
 mod position;
 mod records;

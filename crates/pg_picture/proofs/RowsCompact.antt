@@ -3,11 +3,12 @@ use Rattle.std.proofs.Common.{◌≡◌, ℕ, List, [], ◌∷◌, ◌++◌, ◌
 use Rattle.std.specs.Prelude.{codes}
 use Rattle.pg_layout.specs.declared.alignment.AlignmentHorizontal.TheVariants as across
 use Rattle.pg_layout.specs.Borders.{no_borders}
+use Rattle.pg_layout.specs.Looks.{ascii}
 use Rattle.pg_layout.specs.Text.{Text}
 use Rattle.pg_config.specs.Config.{filled}
 use Rattle.pg_picture.specs.Joined.{joined}
 use Rattle.pg_picture.specs.Picture.{compact_picture}
-use Rattle.pg_picture.specs.Samples.{ascii, grid22, one, color_r, color_b, color_g, indent, spaced}
+use Rattle.pg_picture.specs.Samples.{grid22, one, color_r, color_b, color_g, indent, spaced}
 use Rattle.pg_picture.specs.CompactSamples.{no_color, plain_compact, compact_table}
 use Rattle.pg_picture.proofs.Computing.{grid_words}
 

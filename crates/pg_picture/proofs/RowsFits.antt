@@ -7,6 +7,7 @@ use Rattle.pg_layout.specs.declared.sides.Sides.{Sides}
 use Rattle.pg_layout.specs.declared.position.Position.{Position}
 use Rattle.pg_layout.specs.declared.alignment.AlignmentHorizontal.TheVariants as across
 use Rattle.pg_layout.specs.Borders.{no_borders}
+use Rattle.pg_layout.specs.Looks.{ascii}
 use Rattle.pg_layout.specs.Position.{at}
 use Rattle.pg_layout.specs.Text.{Text}
 use Rattle.pg_config.specs.CompactConfig.{CompactSettings}
@@ -28,7 +29,7 @@ sized config rows columns widths heights texts = record { config = config; rows 
 
 -- `-`, `|` and `+` at all places
 abbrev lined : Config
-lined = record default_config { borders = record { top = Some 45; top_left = Some 43; top_right = Some 43; top_intersection = Some 43; bottom = Some 45; bottom_left = Some 43; bottom_right = Some 43; bottom_intersection = Some 43; horizontal = Some 45; left_intersection = Some 43; right_intersection = Some 43; intersection = Some 43; left = Some 124; right = Some 124; vertical = Some 124 } }
+lined = record default_config { borders = ascii }
 
 abbrev everywhere : {V : Type 0} → V → Settings V
 everywhere v = record { base = Some v; rows = []; columns = []; cells = [] }

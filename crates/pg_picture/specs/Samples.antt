@@ -1,19 +1,19 @@
 -- Tables for worked examples.
-use Rattle.std.specs.Prelude.{ℕ, List, [], ◌∷◌, map, slice_index_or, Option, Some, None, codes, ◌+◌}
+use Rattle.std.specs.Prelude.{ℕ, List, [], ◌∷◌, map, flat_map, slice_index_or, Option, Some, None, codes, encode_utf8, ◌+◌}
 use Rattle.std.specs.List.{range_with_len}
-use Rattle.pg_layout.specs.declared.position.Position.{Position}
 use Rattle.pg_layout.specs.declared.borders.Borders.{Borders}
+use Rattle.pg_layout.specs.declared.borders.HorizontalLine.{HorizontalLine}
+use Rattle.pg_layout.specs.declared.position.Position.{Position}
 use Rattle.pg_layout.specs.declared.sides.Indent.{Indent}
 use Rattle.pg_layout.specs.declared.sides.Sides.{Sides}
 use Rattle.pg_layout.specs.Text.{Text}
 use Rattle.pg_layout.specs.Colors.{Color}
+use Rattle.pg_layout.specs.Looks.{ascii}
 use Rattle.pg_config.specs.Config.{Config, default_config}
+use Rattle.pg_config.specs.Overrides.{no_overrides, with_row_line}
 use Rattle.pg_config.specs.Settings.{Settings}
+use Rattle.pg_picture.specs.Joined.{joined}
 use Rattle.pg_picture.specs.Table.{Table}
-
--- `-`, `|` and `+` at all places
-abbrev pub ascii : Borders ℕ
-ascii = record { top = Some 45; top_left = Some 43; top_right = Some 43; top_intersection = Some 43; bottom = Some 45; bottom_left = Some 43; bottom_right = Some 43; bottom_intersection = Some 43; horizontal = Some 45; left_intersection = Some 43; right_intersection = Some 43; intersection = Some 43; left = Some 124; right = Some 124; vertical = Some 124 }
 
 abbrev pub text_in : List (List Text) → Position → Text
 text_in texts p = slice_index_or (slice_index_or texts p.row []) p.col []
@@ -42,6 +42,18 @@ plain = default_config
 
 unfoldable pub bordered : Config
 bordered = record default_config { borders = ascii }
+
+-- the four cells within these borders, each one line of three columns
+abbrev pub grid_in : Borders ℕ → Table
+grid_in borders = table (record plain { borders = borders }) 2 2 (3 ∷ 3 ∷ []) (1 ∷ 1 ∷ []) grid22
+
+-- six such cells in three rows, with this line below the first row
+abbrev pub headed_in : Borders ℕ → HorizontalLine ℕ → Table
+headed_in borders line = table (record plain { borders = borders; overrides = with_row_line 1 2 line no_overrides }) 3 2 (3 ∷ 3 ∷ []) (1 ∷ 1 ∷ 1 ∷ []) (numbered 3 2)
+
+-- the text of these lines, told by their characters
+abbrev pub drawing : List (List ℕ) → Text
+drawing lines = joined (map (flat_map encode_utf8) lines)
 
 abbrev pub one : Text → List (List Text)
 one text = (text ∷ []) ∷ []

@@ -11,6 +11,7 @@ ghost use Rattle.pg_layout.specs.declared.sides.Offset.TheVariants.{Start, End};
 ghost use Rattle.pg_layout.specs.declared.sides.Sides.{Sides};
 ghost use Rattle.pg_layout.specs.Borders.{no_border, no_borders};
 ghost use Rattle.pg_layout.specs.Colors.{Color};
+ghost use Rattle.pg_layout.specs.Looks.{ascii};
 ghost use Rattle.pg_layout.specs.Position.{at};
 ghost use Rattle.pg_layout.specs.Text.{Text};
 ghost use Rattle.pg_config.specs.CompactConfig.{CompactSettings};
@@ -24,7 +25,7 @@ ghost use Rattle.pg_picture.specs.Table.{Known, Table, Unknown};
 ghost use Rattle.pg_picture.specs.CompactSamples.{plain_compact, compact_table};
 ghost use Rattle.pg_picture.specs.Joined.{joined};
 ghost use Rattle.pg_picture.specs.Picture.{compact_picture, picture};
-ghost use Rattle.pg_picture.specs.Samples.{ascii, bordered, color_b, color_g, color_r, for_all, for_cell, grid22, indent, one, plain, spaced, table};
+ghost use Rattle.pg_picture.specs.Samples.{bordered, color_b, color_g, color_r, for_all, for_cell, grid22, indent, one, plain, spaced, table};
 
 /// Two rows and two columns with borders at all places.
 ///

@@ -13,6 +13,7 @@ mod fill;
 pub mod fits;
 mod kept_text;
 pub mod laws;
+pub mod looks;
 mod margin;
 mod piece;
 mod place;

@@ -2,6 +2,7 @@
 use Rattle.std.specs.Prelude.{◌≡◌, ◌<◌, ℕ, Bool, true, false, ◌&&◌, nat_lt, nat_le, List, length, Option, Some, None, option_map, if◌then◌else◌, codes, string_bytes, ⊤}
 use Rattle.std.specs.Str.{bytes_eq}
 use Rattle.pg_layout.specs.Borders.{no_borders}
+use Rattle.pg_layout.specs.Looks.{ascii}
 use Rattle.pg_layout.specs.declared.alignment.AlignmentHorizontal.{AlignmentHorizontal}
 use Rattle.pg_layout.specs.declared.alignment.AlignmentHorizontal.TheVariants as across
 use Rattle.pg_layout.specs.declared.alignment.AlignmentVertical.{AlignmentVertical}
@@ -86,29 +87,9 @@ change_of (Span place rows columns) = set_span place rows columns
 
 -- ---- what words are names of
 
--- ASCII glyphs at all fifteen places
-abbrev pub ascii_borders : BorderGlyphs ℕ
-ascii_borders = record {
-  top = Some 45;
-  top_left = Some 43;
-  top_right = Some 43;
-  top_intersection = Some 43;
-  bottom = Some 45;
-  bottom_left = Some 43;
-  bottom_right = Some 43;
-  bottom_intersection = Some 43;
-  horizontal = Some 45;
-  left_intersection = Some 43;
-  right_intersection = Some 43;
-  intersection = Some 43;
-  left = Some 124;
-  right = Some 124;
-  vertical = Some 124;
-}
-
 abbrev pub borders_named : Word → Option (BorderGlyphs ℕ)
 borders_named word =
-    if bytes_eq word (codes "ascii") then Some ascii_borders else if bytes_eq word (codes "none") then Some no_borders else None
+    if bytes_eq word (codes "ascii") then Some ascii else if bytes_eq word (codes "none") then Some no_borders else None
 
 abbrev pub horizontal_named : Word → Option AlignmentHorizontal
 horizontal_named word =

@@ -1,7 +1,7 @@
 //! The statements of a script, one a line.
 
 ghost use Rattle.std.specs.Prelude.{◌≡◌, ◌≤◌, ◌<◌, ℕ, length, IfSome, IfOk, option_map};
-ghost use Rattle.pg_show.specs.Statement.{FitsSize, change_of, size_said, widths_said, heights_said, cell_said, borders_said, halign_said, valign_said, pad_said, trim_said, lines_said, margin_said, color_said, color_code_said, span_said, line_said, is_inside, ascii_borders, borders_named, horizontal_named, vertical_named, trims_named, switch_named};
+ghost use Rattle.pg_show.specs.Statement.{FitsSize, change_of, size_said, widths_said, heights_said, cell_said, borders_said, halign_said, valign_said, pad_said, trim_said, lines_said, margin_said, color_said, color_code_said, span_said, line_said, is_inside, borders_named, horizontal_named, vertical_named, trims_named, switch_named};
 ghost use Rattle.pg_show.specs.Told.{indents, terminal_color};
 ghost use Rattle.pg_show.specs.Words.{words_of, first_numbers, first_place, first_number, read_on, end_of};
 ghost use Rattle.pg_show.specs.declared.statement.Size.{Size};
@@ -311,7 +311,7 @@ fn borders_named(word: &str) -> Option<Borders<char>>
     ensures { result ≡ borders_named word.now }
 {
     match word {
-        "ascii" => Some(ascii_borders()),
+        "ascii" => Some(Borders::ascii()),
         "none" => Some(Borders::empty()),
         _ => None,
     }
@@ -359,28 +359,5 @@ fn switch_named(word: &str) -> Option<bool>
         "on" => Some(true),
         "off" => Some(false),
         _ => None,
-    }
-}
-
-// ASCII glyphs at all fifteen places.
-fn ascii_borders() -> Borders<char>
-    ensures { result ≡ ascii_borders }
-{
-    Borders {
-        top: Some('-'),
-        top_left: Some('+'),
-        top_right: Some('+'),
-        top_intersection: Some('+'),
-        bottom: Some('-'),
-        bottom_left: Some('+'),
-        bottom_right: Some('+'),
-        bottom_intersection: Some('+'),
-        horizontal: Some('-'),
-        left_intersection: Some('+'),
-        right_intersection: Some('+'),
-        intersection: Some('+'),
-        left: Some('|'),
-        right: Some('|'),
-        vertical: Some('|'),
     }
 }

@@ -23,15 +23,15 @@ pub(crate) fn set<A: Allocator + Copy>(
 ) -> Result<(), AllocError> {
     match table.look {
         Look::Bare => {}
-        Look::Boxed => frame(config, boxed())?,
-        Look::Plain => frame(config, ascii())?,
+        Look::Boxed => frame(config, Borders::modern())?,
+        Look::Plain => frame(config, Borders::ascii())?,
         Look::Colored => {
-            frame(config, ascii())?;
+            frame(config, Borders::ascii())?;
             color_borders(alloc, config)?;
             color_margins(alloc, config)?;
         }
         Look::Trimmed => {
-            frame(config, ascii())?;
+            frame(config, Borders::ascii())?;
             trim(config)?;
         }
     }
@@ -51,7 +51,7 @@ fn frame<A: Allocator>(
 /// grids, and it has no margin above or below.
 pub(crate) fn compact_settings(look: Look) -> CompactConfig {
     let config = CompactConfig::new()
-        .set_borders(ascii())
+        .set_borders(Borders::ascii())
         .set_padding(side_spaces());
     if look != Look::Colored {
         return config;
@@ -157,46 +157,6 @@ fn everywhere<T: Copy>(value: T) -> Borders<T> {
         left: Some(value),
         right: Some(value),
         vertical: Some(value),
-    }
-}
-
-fn ascii() -> Borders<char> {
-    Borders {
-        top: Some('-'),
-        top_left: Some('+'),
-        top_right: Some('+'),
-        top_intersection: Some('+'),
-        bottom: Some('-'),
-        bottom_left: Some('+'),
-        bottom_right: Some('+'),
-        bottom_intersection: Some('+'),
-        horizontal: Some('-'),
-        left_intersection: Some('+'),
-        right_intersection: Some('+'),
-        intersection: Some('+'),
-        left: Some('|'),
-        right: Some('|'),
-        vertical: Some('|'),
-    }
-}
-
-fn boxed() -> Borders<char> {
-    Borders {
-        top: Some('─'),
-        top_left: Some('┌'),
-        top_right: Some('┐'),
-        top_intersection: Some('┬'),
-        bottom: Some('─'),
-        bottom_left: Some('└'),
-        bottom_right: Some('┘'),
-        bottom_intersection: Some('┴'),
-        horizontal: Some('─'),
-        left_intersection: Some('├'),
-        right_intersection: Some('┤'),
-        intersection: Some('┼'),
-        left: Some('│'),
-        right: Some('│'),
-        vertical: Some('│'),
     }
 }
 

@@ -3,6 +3,7 @@ use Rattle.std.specs.Prelude.{◌≡◌, ℕ, ◌<◌, Bool, true, false, ◌==�
 use Rattle.std.specs.Io.BufRead.{first_line, drop_through}
 use Rattle.std.specs.List.{slice_split}
 use Rattle.pg_layout.specs.Text.{Text}
+use Rattle.pg_layout.specs.Looks.{ascii}
 use Rattle.pg_layout.specs.declared.alignment.AlignmentHorizontal.TheVariants.{Right}
 use Rattle.pg_layout.specs.declared.borders.Borders.{Borders}
 use Rattle.pg_layout.specs.declared.colors.NoColors.{NoColors}
@@ -61,23 +62,7 @@ line_of Write = codes "write failed\n"
 
 -- ASCII glyphs but for lines between rows
 abbrev pub open_borders : Borders ℕ
-open_borders = record {
-  top = Some 45;
-  top_left = Some 43;
-  top_right = Some 43;
-  top_intersection = Some 43;
-  bottom = Some 45;
-  bottom_left = Some 43;
-  bottom_right = Some 43;
-  bottom_intersection = Some 43;
-  horizontal = None;
-  left_intersection = None;
-  right_intersection = None;
-  intersection = None;
-  left = Some 124;
-  right = Some 124;
-  vertical = Some 124;
-}
+open_borders = record ascii { horizontal = None; left_intersection = None; right_intersection = None; intersection = None }
 
 -- a configuration with these borders, a space at each side of a text, and the texts of column 2 on the right
 abbrev pub with_look : Config → Config

@@ -33,23 +33,12 @@ impl Dimension for Sizes {
 fn open_borders() -> Borders<char>
     ensures { result ≡ open_borders }
 {
-    let (cross, dash, bar) = (Some('+'), Some('-'), Some('|'));
     Borders {
-        top: dash,
-        top_left: cross,
-        top_right: cross,
-        top_intersection: cross,
-        bottom: dash,
-        bottom_left: cross,
-        bottom_right: cross,
-        bottom_intersection: cross,
         horizontal: None,
         left_intersection: None,
         right_intersection: None,
         intersection: None,
-        left: bar,
-        right: bar,
-        vertical: bar,
+        ..Borders::ascii()
     }
 }
 

@@ -1,0 +1,245 @@
+//! Borders by name, and the lines below a header that belong to them.
+
+ghost use Rattle.std.specs.Prelude.{◌≡◌};
+ghost use Rattle.pg_layout.specs.Looks.{ascii, modern, sharp, rounded, extended, dots, blank, psql, markdown, sharp_line, psql_line, markdown_line};
+
+use crate::borders::{Borders, HorizontalLine};
+
+/// Looks of whole tables. Each drawing shows two rows and two columns. A look without lines between rows takes
+/// a line below a header from [`HorizontalLine`].
+impl Borders<char> {
+    /// ASCII glyphs at all fifteen places.
+    ///
+    /// ```text
+    /// +---+---+
+    /// |0-0|0-1|
+    /// +---+---+
+    /// |1-0|1-1|
+    /// +---+---+
+    /// ```
+    pub fn ascii() -> Borders<char>
+        ensures { result ≡ ascii }
+    {
+        Borders {
+            top: Some('-'),
+            top_left: Some('+'),
+            top_right: Some('+'),
+            top_intersection: Some('+'),
+            bottom: Some('-'),
+            bottom_left: Some('+'),
+            bottom_right: Some('+'),
+            bottom_intersection: Some('+'),
+            horizontal: Some('-'),
+            left_intersection: Some('+'),
+            right_intersection: Some('+'),
+            intersection: Some('+'),
+            left: Some('|'),
+            right: Some('|'),
+            vertical: Some('|'),
+        }
+    }
+
+    /// Single lines at all fifteen places.
+    ///
+    /// ```text
+    /// ┌───┬───┐
+    /// │0-0│0-1│
+    /// ├───┼───┤
+    /// │1-0│1-1│
+    /// └───┴───┘
+    /// ```
+    pub fn modern() -> Borders<char>
+        ensures { result ≡ modern }
+    {
+        Borders {
+            top: Some('─'),
+            top_left: Some('┌'),
+            top_right: Some('┐'),
+            top_intersection: Some('┬'),
+            bottom: Some('─'),
+            bottom_left: Some('└'),
+            bottom_right: Some('┘'),
+            bottom_intersection: Some('┴'),
+            horizontal: Some('─'),
+            left_intersection: Some('├'),
+            right_intersection: Some('┤'),
+            intersection: Some('┼'),
+            left: Some('│'),
+            right: Some('│'),
+            vertical: Some('│'),
+        }
+    }
+
+    /// Single lines round the table and between columns, and none between rows. The line below its header is
+    /// [`HorizontalLine::sharp`].
+    ///
+    /// ```text
+    /// ┌───┬───┐
+    /// │0-0│0-1│
+    /// │1-0│1-1│
+    /// └───┴───┘
+    /// ```
+    pub fn sharp() -> Borders<char>
+        ensures { result ≡ sharp }
+    {
+        Borders {
+            horizontal: None,
+            left_intersection: None,
+            right_intersection: None,
+            intersection: None,
+            ..Borders::modern()
+        }
+    }
+
+    /// The look [`Borders::sharp`] with round corners. The line below its header is [`HorizontalLine::sharp`].
+    ///
+    /// ```text
+    /// ╭───┬───╮
+    /// │0-0│0-1│
+    /// │1-0│1-1│
+    /// ╰───┴───╯
+    /// ```
+    pub fn rounded() -> Borders<char>
+        ensures { result ≡ rounded }
+    {
+        Borders {
+            top_left: Some('╭'),
+            top_right: Some('╮'),
+            bottom_left: Some('╰'),
+            bottom_right: Some('╯'),
+            ..Borders::sharp()
+        }
+    }
+
+    /// Double lines at all fifteen places.
+    ///
+    /// ```text
+    /// ╔═══╦═══╗
+    /// ║0-0║0-1║
+    /// ╠═══╬═══╣
+    /// ║1-0║1-1║
+    /// ╚═══╩═══╝
+    /// ```
+    pub fn extended() -> Borders<char>
+        ensures { result ≡ extended }
+    {
+        Borders {
+            top: Some('═'),
+            top_left: Some('╔'),
+            top_right: Some('╗'),
+            top_intersection: Some('╦'),
+            bottom: Some('═'),
+            bottom_left: Some('╚'),
+            bottom_right: Some('╝'),
+            bottom_intersection: Some('╩'),
+            horizontal: Some('═'),
+            left_intersection: Some('╠'),
+            right_intersection: Some('╣'),
+            intersection: Some('╬'),
+            left: Some('║'),
+            right: Some('║'),
+            vertical: Some('║'),
+        }
+    }
+
+    /// Dots at all fifteen places.
+    ///
+    /// ```text
+    /// .........
+    /// :0-0:0-1:
+    /// :...:...:
+    /// :1-0:1-1:
+    /// :...:...:
+    /// ```
+    pub fn dots() -> Borders<char>
+        ensures { result ≡ dots }
+    {
+        Borders {
+            top: Some('.'),
+            top_left: Some('.'),
+            top_right: Some('.'),
+            top_intersection: Some('.'),
+            bottom: Some('.'),
+            bottom_left: Some(':'),
+            bottom_right: Some(':'),
+            bottom_intersection: Some(':'),
+            horizontal: Some('.'),
+            left_intersection: Some(':'),
+            right_intersection: Some(':'),
+            intersection: Some(':'),
+            left: Some(':'),
+            right: Some(':'),
+            vertical: Some(':'),
+        }
+    }
+
+    /// One space between columns, and no further line.
+    ///
+    /// ```text
+    /// 0-0 0-1
+    /// 1-0 1-1
+    /// ```
+    pub fn blank() -> Borders<char>
+        ensures { result ≡ blank }
+    {
+        Borders {
+            vertical: Some(' '),
+            ..Borders::empty()
+        }
+    }
+
+    /// Lines between columns alone. The line below its header is [`HorizontalLine::psql`].
+    ///
+    /// ```text
+    /// 0-0|0-1
+    /// 1-0|1-1
+    /// ```
+    pub fn psql() -> Borders<char>
+        ensures { result ≡ psql }
+    {
+        Borders {
+            vertical: Some('|'),
+            ..Borders::empty()
+        }
+    }
+
+    /// Lines between columns and at both sides. The line below its header is [`HorizontalLine::markdown`].
+    ///
+    /// ```text
+    /// |0-0|0-1|
+    /// |1-0|1-1|
+    /// ```
+    pub fn markdown() -> Borders<char>
+        ensures { result ≡ markdown }
+    {
+        Borders {
+            left: Some('|'),
+            right: Some('|'),
+            ..Borders::psql()
+        }
+    }
+}
+
+/// Lines below a header, one for each look that has none between rows.
+impl HorizontalLine<char> {
+    /// The line below a header in the looks [`Borders::sharp`] and [`Borders::rounded`]: `├───┼───┤`.
+    pub fn sharp() -> HorizontalLine<char>
+        ensures { result ≡ sharp_line }
+    {
+        HorizontalLine::new(Some('─'), Some('┼'), Some('├'), Some('┤'))
+    }
+
+    /// The line below a header in the look [`Borders::psql`]: `---+---`.
+    pub fn psql() -> HorizontalLine<char>
+        ensures { result ≡ psql_line }
+    {
+        HorizontalLine::new(Some('-'), Some('+'), None, None)
+    }
+
+    /// The line below a header in the look [`Borders::markdown`]: `|---|---|`.
+    pub fn markdown() -> HorizontalLine<char>
+        ensures { result ≡ markdown_line }
+    {
+        HorizontalLine::new(Some('-'), Some('|'), Some('|'), Some('|'))
+    }
+}
