@@ -38,3 +38,5 @@ pub mod FittingCells
 pub mod LineStyles
 pub mod EqualRowLines
 pub mod RowsInTurn
+pub mod MakingPrinters
+pub mod RowsOfCells
