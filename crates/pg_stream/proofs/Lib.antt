@@ -40,3 +40,4 @@ pub mod EqualRowLines
 pub mod RowsInTurn
 pub mod MakingPrinters
 pub mod RowsOfCells
+pub mod StreamedRows
