@@ -4,12 +4,11 @@ use Rattle.std.specs.Prelude.{String, string_bytes, Result, Ok, Err, OnOk}
 use Rattle.std.proofs.lemmas.Bool.Decides.{nat_tests}
 use Rattle.pg_layout.specs.Records.{AlwaysGives}
 use Rattle.pg_layout.specs.Text.{Text}
-use Rattle.pg_picture.specs.Appending.{Appends}
-use Rattle.pg_picture.proofs.Appending.{◌then◌, stopped, refused-as, appended-as, Gained-none, Gained-all}
+use Rattle.pg_picture.specs.Appending.{Appends, GainedBeginning}
+use Rattle.pg_picture.proofs.Appending.{◌then◌, Appends-beginning, stopped, refused-as, appended-as, Gained-none, Gained-all}
 use Rattle.pg_stream.specs.Conditions.{RowFits, RowsFit}
-use Rattle.pg_stream.specs.Printers.{Printer, printing}
 use Rattle.pg_stream.specs.Printing.{Printing, row_text, finish_text, after_row, rows_text}
-use Rattle.pg_stream.specs.Streams.{Streaming, Stream, streaming, held_text, HeldFits, after_push, rows_left, IsMisfit, text_above, OnlyMemory, TellsRows, AppendsIf, PrintsRows}
+use Rattle.pg_stream.specs.Streams.{Streaming, held_text, HeldFits, after_push, rows_left, IsMisfit, text_above, OnlyMemory, TellsRow, AppendsIf, PrintsRows}
 use Rattle.pg_stream.specs.declared.fault.StreamFault.{StreamFault}
 use Rattle.pg_stream.specs.declared.fault.StreamFault.TheVariants.{Misfit, Row, Memory}
 
@@ -59,6 +58,15 @@ module _ {Z U : Type 0} where
     tells = p.tells;
   }
   stops-as Memory p = record { whole = λ fits. (refused-as refl (p.whole fits).0, tt); misfit = λ no. absurd (no p.tells); tells = p.tells }
+
+  -- what a fault tells
+  pub tells-row : {Fits : Type 0} {row : ℕ} {text : Text} {old new : String Z} {r : Result U StreamFault} (n : ℕ) → AppendsIf Fits row text old new r → r ≡ Err (Row n) → (n ≡ row) × (new ≡ old) × ¬ Fits
+  tells-row {Fits} {row} n p is = let t : TellsRow {U = U} Fits row (Err (Row n)) = subst (λ (q : Result U StreamFault). TellsRow Fits row q) is p.tells in (t.0, (p.misfit t.1).1, t.1)
+
+  pub tells-memory : {Fits : Type 0} {row : ℕ} {text : Text} {old new : String Z} {r : Result U StreamFault} → AppendsIf Fits row text old new r → r ≡ Err Memory → GainedBeginning old new text
+  tells-memory {Fits} {row} {text} {old} {new} p is =
+      let t : TellsRow {U = U} Fits row (Err Memory) = subst (λ (q : Result U StreamFault). TellsRow Fits row q) is p.tells in
+      Appends-beginning (subst (λ (q : Result U StreamFault). Appends old new q text) is (p.whole t).0)
 
   -- ---- rows to the end
 

@@ -1,9 +1,10 @@
 //! A table whose rows come one at a time, and whose last row isn't known before its end.
 
-ghost use Rattle.std.specs.Prelude.{◌≡◌, ◌++◌, [], List, false, map, None, IfOk, OnOk, Err, string_bytes};
+ghost use Rattle.std.specs.Prelude.{◌≡◌, ◌≢◌, ◌++◌, ℕ, [], List, false, map, None, IfOk, OnOk, Err, string_bytes};
 ghost use Rattle.std.specs.Iterator.{IsFinite};
-ghost use Rattle.pg_layout.specs.Records.{AlwaysGives};
+ghost use Rattle.pg_layout.specs.Records.{AlwaysGives, Becomes};
 ghost use Rattle.pg_layout.specs.Text.{Text};
+ghost use Rattle.pg_picture.specs.Appending.{GainedBeginning};
 ghost use Rattle.pg_picture.specs.declared.fits.Misfit.{Misfit};
 ghost use Rattle.pg_stream.specs.Conditions.{PrinterFits, RowFits};
 ghost use Rattle.pg_stream.specs.Printers.{printing};
@@ -15,8 +16,9 @@ use crate::fault::{RowFault, StreamFault};
 use crate::row_printer::RowPrinter;
 use pg_config::SpannedConfig;
 use pg_layout::{Colors, Dimension};
-use std::alloc::{Allocator, Global};
+use std::alloc::{AllocError, Allocator, Global};
 use std::convert::AsStr;
+use std::iter::IntoIterator;
 use std::marker::Model;
 
 /// Prints a table whose rows come one at a time: it holds each row until the next one is there, which
@@ -88,6 +90,23 @@ where
     }
 }
 
+// The cells that anything gives, in a vector.
+fn collect_cells<S: AsStr + Drop, R: IntoIterator<Item = S>, V: Allocator>(
+    alloc: V,
+    row: R,
+) -> Result<Vec<S, V>, AllocError>
+where
+    R::IntoIter: Drop,
+    requires may { (cells : _) → R.into_iter_gives row cells → R.IntoIter.can_next cells × IsFinite (R.IntoIter.remaining cells) }
+    ensures { (texts : List Text) → Becomes R.into_iter_gives (AlwaysGives (λ x y. S.text x ≡ y) R.IntoIter.next_gives) row texts → IfOk result (λ cells. map S.text cells.items ≡ texts) }
+{
+    let mut cells = Vec::new(alloc);
+    for cell in row {
+        cells.push(cell)?;
+    }
+    Ok(cells)
+}
+
 impl<
     'a,
     S: AsStr + Drop,
@@ -146,6 +165,34 @@ impl<
             printer,
             held: Some(cells),
         })
+    }
+
+    /// Holds a row whose cells anything gives that can be iterated over, as an array or the parts of a
+    /// line, and prints the one that was held until now.
+    ///
+    /// The cells stand in a vector of this allocator. Where that finds no memory, nothing is appended.
+    ///
+    /// ```rust
+    /// stream = stream.push_from(alloc, line.split(','), &mut buf)?;
+    /// ```
+    pub fn push_from<R: IntoIterator<Item = S>, W: Allocator>(
+        self,
+        alloc: V,
+        row: R,
+        buf: &mut String<W>,
+    ) -> Result<RowStream<'a, S, D, C, B, A, V>, StreamFault>
+    where
+        R::IntoIter: Drop,
+        requires may { (cells : _) → R.into_iter_gives row cells → R.IntoIter.can_next cells × IsFinite (R.IntoIter.remaining cells) }
+        ensures fits { OnOk result (HeldFits (streaming D.width D.height C.color self.entry)) }
+        ensures appends { OnOk result (string_bytes buf.new ≡ string_bytes buf.old ++ held_text (streaming D.width D.height C.color self.entry)) }
+        ensures after { (texts : List Text) → Becomes R.into_iter_gives (AlwaysGives (λ x y. S.text x ≡ y) R.IntoIter.next_gives) row texts → IfOk result (λ s. streaming D.width D.height C.color s ≡ after_push (streaming D.width D.height C.color self.entry) texts) }
+        ensures misfit { (row : ℕ) → result ≡ Err (StreamFault.Row row) → (row ≡ (streaming D.width D.height C.color self.entry).before.rows) × (buf.new ≡ buf.old) × ¬ (HeldFits (streaming D.width D.height C.color self.entry)) }
+        ensures memory { result ≡ Err StreamFault.Memory → GainedBeginning buf.old buf.new (held_text (streaming D.width D.height C.color self.entry)) }
+        ensures told { (misfit : Misfit) → result ≢ Err (StreamFault.Misfit misfit) }
+    {
+        let cells = collect_cells(alloc, row)?;
+        self.push(cells, buf)
     }
 
     /// Prints the row that is held as the last one, and ends the table. Where no row was pushed, it
