@@ -38,3 +38,6 @@ pub mod FittingCells
 pub mod LineStyles
 pub mod EqualRowLines
 pub mod RowsInTurn
+pub mod MakingPrinters
+pub mod RowsOfCells
+pub mod StreamedRows

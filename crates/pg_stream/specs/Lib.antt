@@ -10,3 +10,4 @@ pub mod Printers
 pub mod Laws
 pub mod SingleRows
 pub mod Styles
+pub mod Streams

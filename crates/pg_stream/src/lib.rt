@@ -3,16 +3,23 @@
 #![tactic(auto)]
 
 mod all_rows;
+mod checked_rows;
+mod conditions;
+mod fault;
 mod frame;
 mod laws;
 mod open_cell;
 mod open_cells;
 mod row_fits;
 mod row_printer;
+mod row_stream;
 mod separators;
 mod single_rows;
 mod turns;
 
+pub use crate::conditions::printer_fits;
+pub use crate::fault::{RowFault, StreamFault};
 pub use crate::laws::{rows_make_the_picture, tables_that_fit_may_be_printed};
 pub use crate::open_cells::OpenCells;
 pub use crate::row_printer::RowPrinter;
+pub use crate::row_stream::RowStream;

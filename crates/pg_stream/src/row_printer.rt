@@ -82,7 +82,8 @@ impl<'a, S: AsStr + Drop, D: Dimension, C: Colors, B: Allocator, A: Allocator> R
     /// The table has a column at least; its rectangles have a size, end inside the columns and share no
     /// place (`pg_picture::fits::spans_fit_columns`); its total width is a number; and where the number
     /// of rows is known, its rectangles and totals fit it (`pg_picture::fits::spans_fit`,
-    /// `pg_picture::fits::totals_fit`). An error comes only where no memory is found.
+    /// `pg_picture::fits::totals_fit`): [`crate::printer_fits`] tests it, and [`RowPrinter::try_new`]
+    /// needs no test before it. An error comes only where no memory is found.
     pub fn new(
         alloc: A,
         config: &'a SpannedConfig<B>,
@@ -92,7 +93,8 @@ impl<'a, S: AsStr + Drop, D: Dimension, C: Colors, B: Allocator, A: Allocator> R
         hint: Option<usize>,
     ) -> Result<RowPrinter<'a, S, D, C, B, A>, AllocError>
         requires { PrinterFits (printer config.now columns (D.width dimension.now) (D.height dimension.now) (C.color colors.now) hint) }
-        ensures { IfOk result (λ p. printing D.width D.height C.color p ≡ printer config.now columns (D.width dimension.now) (D.height dimension.now) (C.color colors.now) hint) }
+        ensures made { IfOk result (λ p. printing D.width D.height C.color p ≡ printer config.now columns (D.width dimension.now) (D.height dimension.now) (C.color colors.now) hint) }
+        ensures empty { IfOk result (λ p. (printing D.width D.height C.color p).rows ≡ 0) }
     {
         let _spans = config.spans();
         let width = full_width(config, dimension, columns).unwrap();
@@ -152,7 +154,7 @@ impl<'a, S: AsStr + Drop, D: Dimension, C: Colors, B: Allocator, A: Allocator> R
     /// with as many rows as are known: those so far at a last row; else those of the hint; else those
     /// that the open cells need, and one more row at least.
     ///
-    /// The row fits (`RowFits`): it has as many cells as there are columns; no last row stands before
+    /// The row fits (`RowFits`, which [`RowPrinter::fits`] tests): it has as many cells as there are columns; no last row stands before
     /// it, and fewer than `usize::MAX - 1` rows; where the number of rows is known, fewer than that
     /// stand before it, and `is_last` holds exactly at the last; at a last row the rectangles fit the
     /// rows so far (`pg_picture::fits::spans_fit`); each rectangle that begins in the row has sizes that
@@ -170,6 +172,7 @@ impl<'a, S: AsStr + Drop, D: Dimension, C: Colors, B: Allocator, A: Allocator> R
         requires fits { (texts : List Text) × AlwaysGives (λ x y. S.text x ≡ y) I.next_gives cells texts × RowFits (printing D.width D.height C.color self) texts is_last }
         ensures appends { (texts : List Text) → AlwaysGives (λ x y. S.text x ≡ y) I.next_gives cells texts → Appends buf.old buf.new result (row_text (printing D.width D.height C.color self.entry) texts is_last) }
         ensures after { (texts : List Text) → AlwaysGives (λ x y. S.text x ≡ y) I.next_gives cells texts → IfOk result (λ p. printing D.width D.height C.color p ≡ after_row (printing D.width D.height C.color self.entry) texts is_last) }
+        ensures ended { IfOk result (λ p. (printing D.width D.height C.color p).is_ended ≡ is_last) }
     {
         self.row_keeping(cells, is_last, &mut None, buf)
     }
@@ -189,6 +192,7 @@ impl<'a, S: AsStr + Drop, D: Dimension, C: Colors, B: Allocator, A: Allocator> R
         requires kept { IfSome kept.old (IsSeparator (frame_of (printing D.width D.height C.color self))) }
         ensures appends { (texts : List Text) → AlwaysGives (λ x y. S.text x ≡ y) I.next_gives cells texts → Appends buf.old buf.new result (row_text (printing D.width D.height C.color self.entry) texts is_last) }
         ensures after { (texts : List Text) → AlwaysGives (λ x y. S.text x ≡ y) I.next_gives cells texts → IfOk result (λ p. printing D.width D.height C.color p ≡ after_row (printing D.width D.height C.color self.entry) texts is_last) }
+        ensures ended { IfOk result (λ p. (printing D.width D.height C.color p).is_ended ≡ is_last) }
         ensures kept { IfSome kept.new (IsSeparator (frame_of (printing D.width D.height C.color self.entry))) }
     {
         let RowPrinter {

@@ -1,0 +1,212 @@
+-- What a stream of rows appends: the row that it holds, and all rows behind it.
+use Rattle.std.proofs.Common.{◌≡◌, ℕ, ◌+◌, ◌<◌, ◌≤◌, Bool, true, false, nat_lt, List, [], ◌∷◌, ◌++◌, Option, Some, None, refl, sym, ap, ◌∙◌, subst, append_assoc, append-nil, arith, inl, inr, if◌then◌else◌}
+use Rattle.std.specs.Prelude.{String, string_bytes, Result, Ok, Err, OnOk}
+use Rattle.std.proofs.lemmas.Bool.Decides.{nat_tests}
+use Rattle.pg_layout.specs.Records.{AlwaysGives}
+use Rattle.pg_layout.specs.Text.{Text}
+use Rattle.pg_picture.specs.Appending.{Appends, GainedBeginning}
+use Rattle.pg_picture.proofs.Appending.{◌then◌, Appends-beginning, stopped, refused-as, appended-as, Gained-none, Gained-all}
+use Rattle.pg_stream.specs.Conditions.{RowFits, RowsFit}
+use Rattle.pg_stream.specs.Printing.{Printing, row_text, finish_text, after_row, rows_text}
+use Rattle.pg_stream.specs.Streams.{Streaming, held_text, HeldFits, after_push, rows_left, IsMisfit, text_above, OnlyMemory, TellsRow, AppendsIf, PrintsRows}
+use Rattle.pg_stream.specs.declared.fault.StreamFault.{StreamFault}
+use Rattle.pg_stream.specs.declared.fault.StreamFault.TheVariants.{Misfit, Row, Memory}
+
+-- ---- rows above one
+
+none-above : (s : Printing) (cells : List Text) (rows : List (List Text)) (n : ℕ) → n ≡ s.rows → text_above s (cells ∷ rows) n ≡ []
+unfolding text_above
+none-above s cells rows n is =
+    let e : nat_lt s.rows n ≡ false = grind (arith, nat_tests) in
+    rw e refl
+
+more-above : (s : Printing) (cells : List Text) (rows : List (List Text)) (n : ℕ) → s.rows < n → text_above s (cells ∷ rows) n ≡ row_text s cells false ++ text_above (after_row s cells false) rows n
+unfolding text_above
+more-above s cells rows n above =
+    let e : nat_lt s.rows n ≡ true = grind (arith, nat_tests) in
+    rw e refl
+
+rows-after : (s : Printing) (cells : List Text) (b : Bool) → (after_row s cells b).rows ≡ s.rows + 1
+unfolding after_row
+rows-after s cells b = refl
+
+misfit-below : (s : Printing) (rows : List (List Text)) (n : ℕ) → IsMisfit s rows n → s.rows ≤ n
+misfit-below s [] n is = absurd is
+misfit-below s (cells ∷ []) n is = omega (arith, is.0)
+misfit-below s (cells ∷ next ∷ rows) n (inl is) = omega (arith, is.0)
+misfit-below s (cells ∷ next ∷ rows) n (inr is) = omega (arith, misfit-below (after_row s cells false) (next ∷ rows) n is.1, rows-after s cells false)
+
+module _ {Z U : Type 0} where
+  -- ---- the held row, as the stream shows it
+
+  pub held-some : {old new : String Z} {r : Result U StreamFault} (s : Streaming) (row : List Text) → s.held ≡ Some row
+      → AppendsIf (RowFits s.before row false) s.before.rows (row_text s.before row false) old new r → AppendsIf (HeldFits s) s.before.rows (held_text s) old new r
+  held-some s row is p = rw is p
+
+  pub held-none : (old : String Z) (s : Streaming) (value : U) → s.held ≡ None → AppendsIf (HeldFits s) s.before.rows (held_text s) old old (Ok value)
+  held-none old s value is = rw is (record { whole = λ fits. (Gained-all (Gained-none old), tt); misfit = λ no. absurd (no tt); tells = tt })
+
+  -- the same under a result of another type
+  pub appends-as : {V : Type 0} {Fits : Type 0} {row : ℕ} {text : Text} {old new : String Z} {value : V} (other : U) → AppendsIf Fits row text old new (Ok value) → AppendsIf Fits row text old new (Ok other)
+  appends-as other p = record { whole = λ fits. (appended-as (p.whole fits).0, tt); misfit = λ no. absurd (no p.tells); tells = p.tells }
+
+  pub stops-as : {V : Type 0} {Fits : Type 0} {row : ℕ} {text : Text} {old new : String Z} (fault : StreamFault) → AppendsIf {U = V} Fits row text old new (Err fault) → AppendsIf {U = U} Fits row text old new (Err fault)
+  stops-as (Misfit m) p = absurd p.tells
+  stops-as (Row n) p = record {
+    whole = λ fits. absurd (p.tells.1 fits);
+    misfit = λ no. (ap (λ k. Err (Row k)) p.tells.0, (p.misfit no).1);
+    tells = p.tells;
+  }
+  stops-as Memory p = record { whole = λ fits. (refused-as refl (p.whole fits).0, tt); misfit = λ no. absurd (no p.tells); tells = p.tells }
+
+  -- what a fault tells
+  pub tells-row : {Fits : Type 0} {row : ℕ} {text : Text} {old new : String Z} {r : Result U StreamFault} (n : ℕ) → AppendsIf Fits row text old new r → r ≡ Err (Row n) → (n ≡ row) × (new ≡ old) × ¬ Fits
+  tells-row {Fits} {row} n p is = let t : TellsRow {U = U} Fits row (Err (Row n)) = subst (λ (q : Result U StreamFault). TellsRow Fits row q) is p.tells in (t.0, (p.misfit t.1).1, t.1)
+
+  pub tells-memory : {Fits : Type 0} {row : ℕ} {text : Text} {old new : String Z} {r : Result U StreamFault} → AppendsIf Fits row text old new r → r ≡ Err Memory → GainedBeginning old new text
+  tells-memory {Fits} {row} {text} {old} {new} p is =
+      let t : TellsRow {U = U} Fits row (Err Memory) = subst (λ (q : Result U StreamFault). TellsRow Fits row q) is p.tells in
+      Appends-beginning (subst (λ (q : Result U StreamFault). Appends old new q text) is (p.whole t).0)
+
+  -- ---- rows to the end
+
+  -- rows that fit, and whose text was appended or refused
+  pub prints-all : {old new : String Z} (r : Result U StreamFault) (s : Printing) (rows : List (List Text)) → RowsFit s rows → Appends old new r (rows_text s rows) → OnlyMemory r → PrintsRows s rows old new r
+  prints-all (Ok value) s rows fit a memory = record { whole = λ fits. (a, tt); tells = fit }
+  prints-all (Err (Misfit m)) s rows fit a memory = absurd memory
+  prints-all (Err (Row n)) s rows fit a memory = absurd memory
+  prints-all (Err Memory) s rows fit a memory = record { whole = λ fits. (a, tt); tells = a }
+
+  pub prints-ok : {old new : String Z} (r : Result U StreamFault) (s : Printing) (rows : List (List Text)) → PrintsRows s rows old new r → OnOk r (string_bytes new ≡ string_bytes old ++ rows_text s rows)
+  prints-ok (Ok value) s rows p = (p.whole p.tells).0.ok
+  prints-ok (Err fault) s rows p = tt
+
+  -- a row that isn't printed stops all behind it
+  last-stops : {V : Type 0} {old new : String Z} (fault : StreamFault) (s : Printing) (row : List Text) → AppendsIf {U = V} (RowFits s row true) s.rows (row_text s row true) old new (Err fault) → PrintsRows {U = U} s (row ∷ []) old new (Err fault)
+  unfolding rows_text
+  last-stops (Misfit m) s row p = absurd p.tells
+  last-stops {old} {new} (Row n) s row p = record {
+    whole = λ fit. absurd (p.tells.1 fit);
+    tells = (p.tells, ap (λ (b : String Z). string_bytes b) (p.misfit p.tells.1).1 ∙ sym (append-nil (string_bytes old)) ∙ ap (λ t. string_bytes old ++ t) (sym (none-above s row [] n p.tells.0)));
+  }
+  last-stops Memory s row p = let a = stopped (finish_text (after_row s row true)) refl (p.whole p.tells).0 in record { whole = λ fit. (a, tt); tells = a }
+
+  row-stops : {V : Type 0} {old new : String Z} (fault : StreamFault) (s : Printing) (row next : List Text) (rows : List (List Text)) → AppendsIf {U = V} (RowFits s row false) s.rows (row_text s row false) old new (Err fault)
+      → PrintsRows {U = U} s (row ∷ next ∷ rows) old new (Err fault)
+  unfolding rows_text
+  row-stops (Misfit m) s row next rows p = absurd p.tells
+  row-stops {old} {new} (Row n) s row next rows p = record {
+    whole = λ fit. absurd (p.tells.1 fit.0);
+    tells = (inl p.tells, ap (λ (b : String Z). string_bytes b) (p.misfit p.tells.1).1 ∙ sym (append-nil (string_bytes old)) ∙ ap (λ t. string_bytes old ++ t) (sym (none-above s row (next ∷ rows) n p.tells.0)));
+  }
+  row-stops Memory s row next rows p = let a = stopped (rows_text (after_row s row false) (next ∷ rows)) refl (p.whole p.tells).0 in record { whole = λ fit. (a, tt); tells = a }
+
+  push-stops : {V : Type 0} {old new : String Z} (fault : StreamFault) (before : Printing) (held : Option (List Text)) (next : List Text) (rows : List (List Text))
+      → AppendsIf {U = V} (HeldFits (record { before = before; held = held })) before.rows (held_text (record { before = before; held = held })) old new (Err fault)
+      → PrintsRows {U = U} before (rows_left (record { before = before; held = held }) (next ∷ rows)) old new (Err fault)
+  push-stops fault before (Some row) next rows p = row-stops fault before row next rows p
+  push-stops (Misfit m) before None next rows p = absurd p.tells
+  push-stops (Row n) before None next rows p = absurd (p.tells.1 tt)
+  push-stops Memory before None next rows p = let a = stopped (rows_text before (next ∷ rows)) refl (p.whole tt).0 in record { whole = λ fit. (a, tt); tells = a }
+
+  -- a row that is printed goes before all behind it
+  same-rows : {V : Type 0} {old mid new : String Z} {value : V} (r : Result U StreamFault) (s : Printing) (rows : List (List Text)) → Appends {U = V} {E = StreamFault} old mid (Ok value) [] → PrintsRows s rows mid new r → PrintsRows s rows old new r
+  same-rows (Ok value) s rows a q = record { whole = λ fit. (a then (q.whole fit).0, tt); tells = q.tells }
+  same-rows (Err (Misfit m)) s rows a q = absurd q.tells
+  same-rows {old} (Err (Row n)) s rows a q = record {
+    whole = λ fit. absurd (q.whole fit).1;
+    tells = (q.tells.0, q.tells.1 ∙ ap (λ t. t ++ text_above s rows n) (a.ok ∙ append-nil (string_bytes old)));
+  }
+  same-rows (Err Memory) s rows a q = let b = a then q.tells in record { whole = λ fit. (b, tt); tells = b }
+
+  row-goes : {V : Type 0} {old mid new : String Z} {value : V} (r : Result U StreamFault) (s : Printing) (row next : List Text) (rows : List (List Text)) → RowFits s row false → Appends {U = V} {E = StreamFault} old mid (Ok value) (row_text s row false)
+      → PrintsRows (after_row s row false) (next ∷ rows) mid new r → PrintsRows s (row ∷ next ∷ rows) old new r
+  unfolding rows_text
+  row-goes (Ok value) s row next rows fits a q = record { whole = λ fit. (a then (q.whole fit.1).0, tt); tells = (fits, q.tells) }
+  row-goes (Err (Misfit m)) s row next rows fits a q = absurd q.tells
+  row-goes {old} (Err (Row n)) s row next rows fits a q =
+      let below : s.rows < n = omega (arith, misfit-below (after_row s row false) (next ∷ rows) n q.tells.0, rows-after s row false) in
+      record {
+        whole = λ fit. absurd (q.whole fit.1).1;
+        tells = (
+          inr (fits, q.tells.0),
+          q.tells.1 ∙ ap (λ t. t ++ text_above (after_row s row false) (next ∷ rows) n) a.ok ∙ append_assoc (string_bytes old) (row_text s row false) _ ∙ ap (λ t. string_bytes old ++ t) (sym (more-above s row (next ∷ rows) n below)),
+        );
+      }
+  row-goes (Err Memory) s row next rows fits a q = let b = a then q.tells in record { whole = λ fit. (b, tt); tells = b }
+
+  push-goes : {V : Type 0} {old mid new : String Z} (r : Result U StreamFault) (value : V) (before : Printing) (held : Option (List Text)) (next : List Text) (rows : List (List Text))
+      → AppendsIf (HeldFits (record { before = before; held = held })) before.rows (held_text (record { before = before; held = held })) old mid (Ok value)
+      → PrintsRows (after_push (record { before = before; held = held }) next).before (next ∷ rows) mid new r
+      → PrintsRows before (rows_left (record { before = before; held = held }) (next ∷ rows)) old new r
+  push-goes r value before None next rows p q = same-rows r before (next ∷ rows) (p.whole tt).0 q
+  push-goes r value before (Some row) next rows p q = row-goes r before row next rows p.tells (p.whole p.tells).0 q
+
+  -- ---- the end
+
+  -- the held row is the last
+  pub end-stops : {V : Type 0} {old new : String Z} (fault : StreamFault) (s : Streaming) (row : List Text) → s.held ≡ Some row → AppendsIf {U = V} (RowFits s.before row true) s.before.rows (row_text s.before row true) old new (Err fault)
+      → PrintsRows {U = U} s.before (rows_left s []) old new (Err fault)
+  end-stops fault s row is p = rw is (last-stops fault s.before row p)
+
+  pub end-some : {V : Type 0} {old mid new : String Z} {value : V} (r : Result U StreamFault) (s : Streaming) (row : List Text) (q : Printing) → s.held ≡ Some row
+      → AppendsIf (RowFits s.before row true) s.before.rows (row_text s.before row true) old mid (Ok value) → q ≡ after_row s.before row true → Appends mid new r (finish_text q) → OnlyMemory r
+      → PrintsRows s.before (rows_left s []) old new r
+  unfolding rows_text
+  end-some {old} {new} r s row q is p after a memory =
+      let b : Appends old new r (rows_text s.before (row ∷ [])) = (p.whole p.tells).0 then rw after at a in
+      rw is (prints-all r s.before (row ∷ []) p.tells b memory)
+
+  -- no row was pushed
+  pub end-none : {old new : String Z} (r : Result U StreamFault) (s : Streaming) → s.held ≡ None → Appends old new r (finish_text s.before) → OnlyMemory r → PrintsRows s.before (rows_left s []) old new r
+  unfolding rows_text
+  end-none r s is a memory = rw is (prints-all r s.before [] tt a memory)
+
+-- ---- rows of an iterator
+
+module _ {I A Z : Type 0} (U : Type 0) (view : A → List Text) (steps : I → Option A → I → Type 0) where
+  -- What is left of the rows, and how what they append is what all rows append: `all` behind the stream that began.
+  pub record Pushed (old now : String Z) (rows : I) (s began : Streaming) (all : List (List Text)) : Type 0 where
+    pub texts : List (List Text)
+    pub left : AlwaysGives (λ x y. view x ≡ y) steps rows texts
+    pub rest : (new : String Z) (r : Result U StreamFault) → PrintsRows s.before (rows_left s texts) now new r → PrintsRows began.before (rows_left began all) old new r
+
+  pub none-pushed : (old : String Z) (rows : I) (s : Streaming) (all : List (List Text)) → AlwaysGives (λ x y. view x ≡ y) steps rows all → Pushed old old rows s s all
+  none-pushed old rows s all gives = record { texts = all; left = gives; rest = λ new r p. p }
+
+  next-pushed : {V : Type 0} {old now after : String Z} {rows later : I} {value : V} (s q began : Streaming) (all : List (List Text)) (x : A) (texts : List (List Text)) → AlwaysGives (λ x y. view x ≡ y) steps rows texts
+      → ((new : String Z) (r : Result U StreamFault) → PrintsRows s.before (rows_left s texts) now new r → PrintsRows began.before (rows_left began all) old new r)
+      → steps rows (Some x) later → AppendsIf (HeldFits s) s.before.rows (held_text s) now after (Ok value) → q ≡ after_push s (view x) → Pushed old after later q began all
+  next-pushed s q began all x [] left rest step p is = absurd (left x _ step)
+  next-pushed {after} {value} s q began all x (y ∷ ys) (some, more) rest step p is =
+      let (same, others) = more x _ step in
+      let is-y : q ≡ after_push s y = is ∙ ap (λ cells. after_push s cells) same in
+      record {
+        texts = ys;
+        left = others;
+        rest = λ new r done. rest new r (push-goes r value s.before s.held y ys p (subst (λ (t : Streaming). PrintsRows t.before (rows_left t ys) after new r) is-y done));
+      }
+
+  pub pushed-next : {V : Type 0} {old now after : String Z} {rows later : I} {value : V} (s q began : Streaming) (all : List (List Text)) (x : A) → Pushed old now rows s began all
+      → steps rows (Some x) later → AppendsIf (HeldFits s) s.before.rows (held_text s) now after (Ok value) → q ≡ after_push s (view x) → Pushed old after later q began all
+  pushed-next s q began all x p step appends is = next-pushed s q began all x p.texts p.left p.rest step appends is
+
+  stops-pushed : {V : Type 0} {old now new : String Z} {rows later : I} (s began : Streaming) (all : List (List Text)) (fault : StreamFault) (x : A) (texts : List (List Text)) → AlwaysGives (λ x y. view x ≡ y) steps rows texts
+      → ((new : String Z) (r : Result U StreamFault) → PrintsRows s.before (rows_left s texts) now new r → PrintsRows began.before (rows_left began all) old new r)
+      → steps rows (Some x) later → AppendsIf {U = V} (HeldFits s) s.before.rows (held_text s) now new (Err fault) → PrintsRows {U = U} began.before (rows_left began all) old new (Err fault)
+  stops-pushed s began all fault x [] left rest step p = absurd (left x _ step)
+  stops-pushed {new} s began all fault x (y ∷ ys) left rest step p = rest new (Err fault) (push-stops fault s.before s.held y ys p)
+
+  pub pushed-stops : {V : Type 0} {old now new : String Z} {rows later : I} (s began : Streaming) (all : List (List Text)) (fault : StreamFault) (x : A) → Pushed old now rows s began all
+      → steps rows (Some x) later → AppendsIf {U = V} (HeldFits s) s.before.rows (held_text s) now new (Err fault) → PrintsRows {U = U} began.before (rows_left began all) old new (Err fault)
+  pushed-stops s began all fault x p step appends = stops-pushed s began all fault x p.texts p.left p.rest step appends
+
+  ends-pushed : {old now new : String Z} {rows later : I} (s began : Streaming) (all : List (List Text)) (r : Result U StreamFault) (texts : List (List Text)) → AlwaysGives (λ x y. view x ≡ y) steps rows texts
+      → ((new : String Z) (r : Result U StreamFault) → PrintsRows s.before (rows_left s texts) now new r → PrintsRows began.before (rows_left began all) old new r)
+      → steps rows None later → PrintsRows s.before (rows_left s []) now new r → PrintsRows began.before (rows_left began all) old new r
+  ends-pushed {new} s began all r [] left rest step p = rest new r p
+  ends-pushed s began all r (y ∷ ys) left rest step p = absurd (left.0 _ step)
+
+  pub pushed-ends : {old now new : String Z} {rows later : I} (s began : Streaming) (all : List (List Text)) (r : Result U StreamFault) → Pushed old now rows s began all
+      → steps rows None later → PrintsRows s.before (rows_left s []) now new r → PrintsRows began.before (rows_left began all) old new r
+  pushed-ends s began all r p step done = ends-pushed s began all r p.texts p.left p.rest step done

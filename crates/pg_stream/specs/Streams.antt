@@ -1,0 +1,90 @@
+-- A stream of rows: it holds the latest row until the next one is there, and appends the others.
+use Rattle.std.specs.Prelude.{◌≡◌, ℕ, ◌++◌, true, false, nat_lt, List, [], ◌∷◌, Option, Some, None, option_map, unwrap_or, IfSome, Result, Ok, Err, String, string_bytes, ⊤, ◌⊎◌, if◌then◌else◌}
+use Rattle.pg_layout.specs.declared.position.Position.{Position}
+use Rattle.pg_layout.specs.Colors.{Color}
+use Rattle.pg_layout.specs.Text.{Text}
+use Rattle.pg_picture.specs.Appending.{Appends}
+use Rattle.pg_stream.specs.Conditions.{RowFits, RowsFit}
+use Rattle.pg_stream.specs.Printers.{Printer, printing}
+use Rattle.pg_stream.specs.Printing.{Printing, row_text, rows_text, after_row}
+use Rattle.pg_stream.specs.declared.fault.StreamFault.{StreamFault}
+use Rattle.pg_stream.specs.declared.fault.StreamFault.TheVariants.{Misfit, Row, Memory}
+
+-- ---- a stream
+
+-- what a stream of rows stands for: the printer of the rows above the held one, and the held row's texts
+pub record Streaming : Type 0 where
+  pub before : Printing
+  pub held : Option (List Text)
+
+-- the same of its printer's parts
+pub record Stream (D C : Type 0) : Type 0 where
+  pub printer : Printer D C
+  pub held : Option (List Text)
+
+abbrev pub streaming : {D C : Type 0} → (D → ℕ → ℕ) → (D → ℕ → ℕ) → (C → Position → Option Color) → Stream D C → Streaming
+streaming width height color s = record { before = printing width height color s.printer; held = s.held }
+
+-- ---- what a stream appends when the next row is there
+
+-- the held row, which isn't the last then
+abbrev pub held_text : Streaming → Text
+held_text s = unwrap_or (option_map (λ row. row_text s.before row false) s.held) []
+
+abbrev pub HeldFits : Streaming → Type 0
+HeldFits s = IfSome s.held (λ row. RowFits s.before row false)
+
+-- and the stream after that, which holds the next row
+abbrev pub after_push : Streaming → List Text → Streaming
+after_push s next = record { before = unwrap_or (option_map (λ row. after_row s.before row false) s.held) s.before; held = Some next }
+
+-- the held row and the rows behind it
+abbrev pub rows_left : Streaming → List (List Text) → List (List Text)
+rows_left s rows = unwrap_or (option_map (λ row. row ∷ rows) s.held) rows
+
+-- ---- rows that may not fit
+
+-- row n of the table is the first of these that doesn't fit, of which the last one is the table's last
+abbrev pub IsMisfit : Printing → List (List Text) → ℕ → Type 0
+IsMisfit s [] n = ⊥
+IsMisfit s (cells ∷ []) n = (n ≡ s.rows) × ¬ (RowFits s cells true)
+IsMisfit s (cells ∷ next ∷ rows) n = ((n ≡ s.rows) × ¬ (RowFits s cells false)) ⊎ (RowFits s cells false × IsMisfit (after_row s cells false) (next ∷ rows) n)
+
+-- the text of the rows above row n of the table, of which none is the last
+unfoldable pub text_above : Printing → List (List Text) → ℕ → Text
+text_above s [] n = []
+text_above s (cells ∷ rows) n = if nat_lt s.rows n then row_text s cells false ++ text_above (after_row s cells false) rows n else []
+
+-- ---- what calls answer
+
+-- memory was refused, or nothing
+abbrev pub OnlyMemory : {U : Type 0} → Result U StreamFault → Type 0
+OnlyMemory (Ok value) = ⊤
+OnlyMemory (Err (Misfit misfit)) = ⊥
+OnlyMemory (Err (Row row)) = ⊥
+OnlyMemory (Err Memory) = ⊤
+
+-- the answer says whether the row fits
+abbrev pub TellsRow : {U : Type 0} → Type 0 → ℕ → Result U StreamFault → Type 0
+TellsRow Fits row (Ok value) = Fits
+TellsRow Fits row (Err (Misfit misfit)) = ⊥
+TellsRow Fits row (Err (Row n)) = (n ≡ row) × ¬ Fits
+TellsRow Fits row (Err Memory) = Fits
+
+-- A call appends this text, if a row fits that has this number. Else it names the row, and appends nothing.
+pub record AppendsIf {Z U : Type 0} (Fits : Type 0) (row : ℕ) (text : Text) (old new : String Z) (result : Result U StreamFault) : Type 0 where
+  pub whole : Fits → Appends old new result text × OnlyMemory result
+  pub misfit : ¬ Fits → (result ≡ Err (Row row)) × (new ≡ old)
+  pub tells : TellsRow Fits row result
+
+-- the answer says whether all rows fit, or names the first that doesn't, and then those above it are appended
+abbrev pub TellsRows : {Z U : Type 0} → Printing → List (List Text) → String Z → String Z → Result U StreamFault → Type 0
+TellsRows s rows old new (Ok value) = RowsFit s rows
+TellsRows s rows old new (Err (Misfit misfit)) = ⊥
+TellsRows s rows old new (Err (Row n)) = IsMisfit s rows n × (string_bytes new ≡ string_bytes old ++ text_above s rows n)
+TellsRows {U} s rows old new (Err Memory) = Appends {U = U} old new (Err Memory) (rows_text s rows)
+
+-- A call appends the text of these rows and ends the table, if they fit. Else it names the first row that doesn't.
+pub record PrintsRows {Z U : Type 0} (s : Printing) (rows : List (List Text)) (old new : String Z) (result : Result U StreamFault) : Type 0 where
+  pub whole : RowsFit s rows → Appends old new result (rows_text s rows) × OnlyMemory result
+  pub tells : TellsRows s rows old new result

@@ -1,0 +1,48 @@
+//! Whether a printer of rows may be made.
+
+ghost use Rattle.std.specs.Prelude.{◌↔◌, IsOk};
+ghost use Rattle.pg_stream.specs.Conditions.{PrinterFits};
+ghost use Rattle.pg_stream.specs.Printing.{printer};
+
+use pg_config::SpannedConfig;
+use pg_layout::{Colors, Dimension};
+use pg_picture::fits::{Misfit, full_width, spans_fit, spans_fit_columns, totals_fit};
+use std::alloc::Allocator;
+
+/// Whether a printer may be made of these parts: the condition of [`RowPrinter::new`], as a test.
+///
+/// `Totals` says that there is no column, or that the columns, their total width or, where the number
+/// of rows is known, a total of the whole table can't be counted; `Spans` that a rectangle is empty,
+/// shares a place with another, or leaves the columns or the rows that are known. Colours don't matter.
+/// Takes no memory.
+///
+/// [`RowPrinter::new`]: crate::RowPrinter::new
+pub fn printer_fits<B: Allocator, D: Dimension, C: Colors>(
+    config: &SpannedConfig<B>,
+    dimension: &D,
+    colors: &C,
+    columns: usize,
+    hint: Option<usize>,
+) -> Result<(), Misfit>
+    ensures { IsOk result ↔ PrinterFits (printer config.now columns (D.width dimension.now) (D.height dimension.now) (C.color colors.now) hint) }
+{
+    if columns == 0 || columns == usize::MAX {
+        return Err(Misfit::Totals);
+    }
+    if !spans_fit_columns(config, columns) {
+        return Err(Misfit::Spans);
+    }
+    let Some(_) = full_width(config, dimension, columns) else {
+        return Err(Misfit::Totals);
+    };
+    let Some(rows) = hint else {
+        return Ok(());
+    };
+    if !spans_fit(config, rows, columns) {
+        return Err(Misfit::Spans);
+    }
+    if !totals_fit(config, dimension, rows, columns) {
+        return Err(Misfit::Totals);
+    }
+    Ok(())
+}

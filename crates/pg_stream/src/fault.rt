@@ -1,0 +1,44 @@
+//! Why rows aren't printed.
+
+ghost use Rattle.std.specs.Prelude.{◌≡◌};
+ghost use Rattle.pg_stream.specs.declared.fault.StreamFault.{StreamFault};
+
+use pg_picture::fits::Misfit;
+use std::alloc::AllocError;
+
+/// Why a printer isn't made, or rows aren't printed to their end.
+#[derive(Debug, Clone, Copy, PartialEq, Eq)]
+pub enum StreamFault {
+    /// What the printer was told doesn't fit. Only a call that makes a printer answers it.
+    Misfit(Misfit),
+    /// The row with this number doesn't fit below those above it. Rows are counted from 0, so it is
+    /// also the number of rows above.
+    Row(usize),
+    /// No memory was found.
+    Memory,
+}
+
+impl From<Misfit> for StreamFault {
+    ghost from_gives = { λ misfit fault. fault ≡ StreamFault.Misfit misfit };
+
+    fn from(misfit: Misfit) -> StreamFault {
+        StreamFault::Misfit(misfit)
+    }
+}
+
+impl From<AllocError> for StreamFault {
+    ghost from_gives = { λ _ fault. fault ≡ StreamFault.Memory };
+
+    fn from(_error: AllocError) -> StreamFault {
+        StreamFault::Memory
+    }
+}
+
+/// Why a row isn't printed.
+#[derive(Debug, Drop)]
+pub enum RowFault<P> {
+    /// The row doesn't fit. Here is the printer, as it was before the call.
+    Misfit(P),
+    /// No memory was found, and the printer is gone.
+    Memory,
+}

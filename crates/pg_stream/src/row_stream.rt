@@ -1,0 +1,247 @@
+//! A table whose rows come one at a time, and whose last row isn't known before its end.
+
+ghost use Rattle.std.specs.Prelude.{◌≡◌, ◌≢◌, ◌++◌, ℕ, [], List, false, map, None, IfOk, OnOk, Err, string_bytes};
+ghost use Rattle.std.specs.Iterator.{IsFinite};
+ghost use Rattle.pg_layout.specs.Records.{AlwaysGives, Becomes};
+ghost use Rattle.pg_layout.specs.Text.{Text};
+ghost use Rattle.pg_picture.specs.Appending.{GainedBeginning};
+ghost use Rattle.pg_picture.specs.declared.fits.Misfit.{Misfit};
+ghost use Rattle.pg_stream.specs.Conditions.{PrinterFits, RowFits};
+ghost use Rattle.pg_stream.specs.Printers.{printing};
+ghost use Rattle.pg_stream.specs.Printing.{printer, row_text, rows_text, after_row};
+ghost use Rattle.pg_stream.specs.Streams.{streaming, held_text, HeldFits, after_push, rows_left, AppendsIf, PrintsRows};
+ghost use Rattle.pg_stream.specs.declared.fault.StreamFault.{StreamFault};
+
+use crate::fault::{RowFault, StreamFault};
+use crate::row_printer::RowPrinter;
+use pg_config::SpannedConfig;
+use pg_layout::{Colors, Dimension};
+use std::alloc::{AllocError, Allocator, Global};
+use std::convert::AsStr;
+use std::iter::IntoIterator;
+use std::marker::Model;
+
+/// Prints a table whose rows come one at a time: it holds each row until the next one is there, which
+/// tells that it isn't the last.
+///
+/// None of its calls has a condition. A row that doesn't fit below those above it is named by its
+/// number (`StreamFault::Row`); the rows above it stand whole, and nothing of its own is appended. It
+/// is found when the row leaves, so when the next one is pushed, or at the end.
+///
+/// Each call takes the stream, and `push` hands it back; after a fault there is none.
+///
+/// ```rust
+/// let mut stream = RowStream::new(alloc, &config, &dimension, &NoColors, 2, None)?;
+/// for line in reader.lines(alloc) {
+///     stream = stream.push(cells_of(alloc, line?)?, &mut buf)?;
+/// }
+/// stream.finish(&mut buf)?;
+/// ```
+#[derive(Drop)]
+pub struct RowStream<
+    'a,
+    S: AsStr,
+    D: Dimension,
+    C: Colors,
+    B: Allocator = Global,
+    A: Allocator = Global,
+    V: Allocator = Global,
+> {
+    printer: RowPrinter<'a, S, D, C, B, A>,
+    held: Option<Vec<S, V>>,
+}
+
+impl<'a, S: AsStr, D: Dimension, C: Colors, B: Allocator, A: Allocator, V: Allocator> Model
+    for RowStream<'a, S, D, C, B, A, V> {
+    ghost use Rattle.std.specs.Prelude.{◌≡◌, map, option_map, None};
+    ghost use Rattle.pg_stream.specs.Streams.{Stream};
+
+    ghost Value = { Stream D C };
+
+    ghost view = { λ s. record { printer = s.printer; held = option_map (λ row. map S.text row.items) s.held } };
+
+    ghost invariant = { λ s. s.held ≡ None → s.printer.rows ≡ 0 };
+}
+
+// Prints a row, or names it by its number.
+fn print_row<'a, S, D, C, B, A, V, W>(
+    printer: RowPrinter<'a, S, D, C, B, A>,
+    cells: Vec<S, V>,
+    is_last: bool,
+    buf: &mut String<W>,
+) -> Result<RowPrinter<'a, S, D, C, B, A>, StreamFault>
+where
+    S: AsStr + Drop,
+    D: Dimension,
+    C: Colors,
+    B: Allocator,
+    A: Allocator,
+    V: Allocator,
+    W: Allocator,
+    ensures prints { AppendsIf (RowFits (printing D.width D.height C.color printer.entry) (map S.text cells.items) is_last) (printing D.width D.height C.color printer.entry).rows (row_text (printing D.width D.height C.color printer.entry) (map S.text cells.items) is_last) buf.old buf.new result }
+    ensures after { IfOk result (λ p. printing D.width D.height C.color p ≡ after_row (printing D.width D.height C.color printer.entry) (map S.text cells.items) is_last) }
+    ensures ended { IfOk result (λ p. (printing D.width D.height C.color p).is_ended ≡ is_last) }
+{
+    let row = printer.rows();
+    match printer.try_row(cells, is_last, buf) {
+        Ok(printer) => Ok(printer),
+        Err(RowFault::Misfit(_)) => Err(StreamFault::Row(row)),
+        Err(RowFault::Memory) => Err(StreamFault::Memory),
+    }
+}
+
+// The cells that anything gives, in a vector.
+fn collect_cells<S: AsStr + Drop, R: IntoIterator<Item = S>, V: Allocator>(
+    alloc: V,
+    row: R,
+) -> Result<Vec<S, V>, AllocError>
+where
+    R::IntoIter: Drop,
+    requires may { (cells : _) → R.into_iter_gives row cells → R.IntoIter.can_next cells × IsFinite (R.IntoIter.remaining cells) }
+    ensures { (texts : List Text) → Becomes R.into_iter_gives (AlwaysGives (λ x y. S.text x ≡ y) R.IntoIter.next_gives) row texts → IfOk result (λ cells. map S.text cells.items ≡ texts) }
+{
+    let mut cells = Vec::new(alloc);
+    for cell in row {
+        cells.push(cell)?;
+    }
+    Ok(cells)
+}
+
+impl<
+    'a,
+    S: AsStr + Drop,
+    D: Dimension,
+    C: Colors,
+    B: Allocator,
+    A: Allocator,
+    V: Allocator,
+> RowStream<'a, S, D, C, B, A, V> {
+    /// A stream of rows of so many columns, before its first row. `hint` is the number of rows, where
+    /// that is known: then margins that end before the last lines do so, and another number of rows
+    /// doesn't fit.
+    ///
+    /// `StreamFault::Misfit` says what doesn't fit of what is told here ([`printer_fits`]).
+    ///
+    /// [`printer_fits`]: crate::printer_fits
+    pub fn new(
+        alloc: A,
+        config: &'a SpannedConfig<B>,
+        dimension: &'a D,
+        colors: &'a C,
+        columns: usize,
+        hint: Option<usize>,
+    ) -> Result<RowStream<'a, S, D, C, B, A, V>, StreamFault>
+        ensures made { IfOk result (λ s. (streaming D.width D.height C.color s).before ≡ printer config.now columns (D.width dimension.now) (D.height dimension.now) (C.color colors.now) hint) }
+        ensures empty { IfOk result (λ s. (streaming D.width D.height C.color s).held ≡ None) }
+        ensures whole { PrinterFits (printer config.now columns (D.width dimension.now) (D.height dimension.now) (C.color colors.now) hint) → (fault : StreamFault) → result ≡ Err fault → fault ≡ StreamFault.Memory }
+        ensures misfit { ¬ (PrinterFits (printer config.now columns (D.width dimension.now) (D.height dimension.now) (C.color colors.now) hint)) → (misfit : Misfit) × (result ≡ Err (StreamFault.Misfit misfit)) }
+    {
+        let printer = RowPrinter::try_new(alloc, config, dimension, colors, columns, hint)?;
+        Ok(RowStream {
+            printer,
+            held: None,
+        })
+    }
+
+    /// Holds a row, and prints the one that was held until now.
+    ///
+    /// `StreamFault::Row` names the row that was held, where that doesn't fit; then nothing is
+    /// appended. Where memory is refused, a beginning of its text is.
+    pub fn push<W: Allocator>(
+        self,
+        cells: Vec<S, V>,
+        buf: &mut String<W>,
+    ) -> Result<RowStream<'a, S, D, C, B, A, V>, StreamFault>
+        ensures appends { OnOk result (string_bytes buf.new ≡ string_bytes buf.old ++ held_text (streaming D.width D.height C.color self.entry)) }
+        ensures after { IfOk result (λ s. streaming D.width D.height C.color s ≡ after_push (streaming D.width D.height C.color self.entry) (map S.text cells.items)) }
+        ensures prints { AppendsIf (HeldFits (streaming D.width D.height C.color self.entry)) (streaming D.width D.height C.color self.entry).before.rows (held_text (streaming D.width D.height C.color self.entry)) buf.old buf.new result }
+    {
+        let RowStream { printer, held } = self;
+        let printer = match held {
+            Some(row) => print_row(printer, row, false, buf)?,
+            None => printer,
+        };
+        Ok(RowStream {
+            printer,
+            held: Some(cells),
+        })
+    }
+
+    /// Holds a row whose cells anything gives that can be iterated over, as an array or the parts of a
+    /// line, and prints the one that was held until now.
+    ///
+    /// The cells stand in a vector of this allocator. Where that finds no memory, nothing is appended.
+    ///
+    /// ```rust
+    /// stream = stream.push_from(alloc, line.split(','), &mut buf)?;
+    /// ```
+    pub fn push_from<R: IntoIterator<Item = S>, W: Allocator>(
+        self,
+        alloc: V,
+        row: R,
+        buf: &mut String<W>,
+    ) -> Result<RowStream<'a, S, D, C, B, A, V>, StreamFault>
+    where
+        R::IntoIter: Drop,
+        requires may { (cells : _) → R.into_iter_gives row cells → R.IntoIter.can_next cells × IsFinite (R.IntoIter.remaining cells) }
+        ensures fits { OnOk result (HeldFits (streaming D.width D.height C.color self.entry)) }
+        ensures appends { OnOk result (string_bytes buf.new ≡ string_bytes buf.old ++ held_text (streaming D.width D.height C.color self.entry)) }
+        ensures after { (texts : List Text) → Becomes R.into_iter_gives (AlwaysGives (λ x y. S.text x ≡ y) R.IntoIter.next_gives) row texts → IfOk result (λ s. streaming D.width D.height C.color s ≡ after_push (streaming D.width D.height C.color self.entry) texts) }
+        ensures misfit { (row : ℕ) → result ≡ Err (StreamFault.Row row) → (row ≡ (streaming D.width D.height C.color self.entry).before.rows) × (buf.new ≡ buf.old) × ¬ (HeldFits (streaming D.width D.height C.color self.entry)) }
+        ensures memory { result ≡ Err StreamFault.Memory → GainedBeginning buf.old buf.new (held_text (streaming D.width D.height C.color self.entry)) }
+        ensures told { (misfit : Misfit) → result ≢ Err (StreamFault.Misfit misfit) }
+    {
+        let cells = collect_cells(alloc, row)?;
+        self.push(cells, buf)
+    }
+
+    /// Prints the row that is held as the last one, and ends the table. Where no row was pushed, it
+    /// appends nothing.
+    pub fn finish<W: Allocator>(self, buf: &mut String<W>) -> Result<(), StreamFault>
+        ensures appends { OnOk result (string_bytes buf.new ≡ string_bytes buf.old ++ rows_text (streaming D.width D.height C.color self.entry).before (rows_left (streaming D.width D.height C.color self.entry) [])) }
+        ensures prints { PrintsRows (streaming D.width D.height C.color self.entry).before (rows_left (streaming D.width D.height C.color self.entry) []) buf.old buf.new result }
+    {
+        let RowStream { printer, held } = self;
+        let printer = match held {
+            Some(row) => print_row(printer, row, true, buf)?,
+            None => printer,
+        };
+        Ok(printer.finish(buf)?)
+    }
+
+    /// Pushes all rows that an iterator gives, and ends the table.
+    ///
+    /// It stops at the first row that doesn't fit: the rows above that one stand whole, and it is named
+    /// by its number. Where memory is refused, a beginning of the text stands.
+    ///
+    /// ```rust
+    /// stream.print_all(rows.into_iter().filter(|row| row.len() == 2), &mut buf)?;
+    /// ```
+    pub fn print_all<I: Iterator<Item = Vec<S, V>> + Drop, W: Allocator>(
+        self,
+        rows: I,
+        buf: &mut String<W>,
+    ) -> Result<(), StreamFault>
+        requires can { I.can_next rows }
+        requires ends { IsFinite (I.remaining rows) }
+        ensures { (texts : List (List Text)) → AlwaysGives (λ x y. map S.text x.items ≡ y) I.next_gives rows texts → PrintsRows (streaming D.width D.height C.color self.entry).before (rows_left (streaming D.width D.height C.color self.entry) texts) buf.old buf.new result }
+    {
+        let mut stream = self;
+        for row in rows {
+            stream = stream.push(row, buf)?;
+        }
+        stream.finish(buf)
+    }
+
+    /// Pushes all rows of a vector, and ends the table, as [`RowStream::print_all`] does.
+    pub fn print_vec<U: Allocator, W: Allocator>(
+        self,
+        rows: Vec<Vec<S, V>, U>,
+        buf: &mut String<W>,
+    ) -> Result<(), StreamFault>
+        ensures appends { OnOk result (string_bytes buf.new ≡ string_bytes buf.old ++ rows_text (streaming D.width D.height C.color self.entry).before (rows_left (streaming D.width D.height C.color self.entry) (map (λ row. map S.text row.items) rows.items))) }
+        ensures prints { PrintsRows (streaming D.width D.height C.color self.entry).before (rows_left (streaming D.width D.height C.color self.entry) (map (λ row. map S.text row.items) rows.items)) buf.old buf.new result }
+    {
+        self.print_all(rows.into_iter(), buf)
+    }
+}
