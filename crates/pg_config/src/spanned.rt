@@ -53,7 +53,8 @@ pub struct SpannedConfig<A: Allocator = Global> {
     no_colors: Sides<Option<ANSIBuf<A>>>,
 }
 
-// Written out, so that a caller lets a configuration go by one call.
+// Written out, so that a caller's proof has one call where it lets a configuration go. A derived drop
+// is unfolded there to the last colour, at each `?`.
 impl<A: Allocator> Drop for SpannedConfig<A> {
     fn drop(self) {
         let SpannedConfig {
@@ -82,25 +83,14 @@ impl<A: Allocator> Drop for SpannedConfig<A> {
             spans,
             no_colors,
         } = self;
-        drop(overrides);
-        drop(border_colors);
-        drop(color_overrides);
-        drop(horizontal_chars);
-        drop(vertical_chars);
-        drop(horizontal_colors);
-        drop(vertical_colors);
-        drop(margin_color);
-        drop(padding);
-        drop(padding_color);
-        drop(alignment_horizontal);
-        drop(alignment_vertical);
-        drop(trim_horizontal);
-        drop(trim_vertical);
-        drop(line_alignment);
-        drop(justification);
-        drop(justification_color);
+        drop((overrides, border_colors, color_overrides));
+        drop((horizontal_chars, vertical_chars));
+        drop((horizontal_colors, vertical_colors));
+        drop((margin_color, padding, padding_color, no_colors));
+        drop((alignment_horizontal, alignment_vertical));
+        drop((trim_horizontal, trim_vertical, line_alignment));
+        drop((justification, justification_color));
         drop(spans);
-        drop(no_colors);
     }
 }
 
