@@ -24,7 +24,7 @@ mod spans;
 ///
 /// A setter that answers an error, which is one of memory, changed nothing. A setting for all cells
 /// takes no memory, nor does a glyph or a colour at a place that has one.
-#[derive(Debug, Drop)]
+#[derive(Debug)]
 pub struct SpannedConfig<A: Allocator = Global> {
     borders: Borders<char>,
     overrides: Overrides<char, A>,
@@ -51,6 +51,47 @@ pub struct SpannedConfig<A: Allocator = Global> {
     spans: Spans<A>,
     // Lent where no padding colour was set.
     no_colors: Sides<Option<ANSIBuf<A>>>,
+}
+
+// Written out, so that a caller's proof has one call where it lets a configuration go. A derived drop
+// is unfolded there to the last colour, at each `?`.
+impl<A: Allocator> Drop for SpannedConfig<A> {
+    fn drop(self) {
+        let SpannedConfig {
+            borders: _,
+            overrides,
+            missing: _,
+            border_colors,
+            color_overrides,
+            border_colored: _,
+            horizontal_chars,
+            vertical_chars,
+            horizontal_colors,
+            vertical_colors,
+            margin: _,
+            margin_offset: _,
+            margin_color,
+            padding,
+            padding_color,
+            alignment_horizontal,
+            alignment_vertical,
+            trim_horizontal,
+            trim_vertical,
+            line_alignment,
+            justification,
+            justification_color,
+            spans,
+            no_colors,
+        } = self;
+        drop((overrides, border_colors, color_overrides));
+        drop((horizontal_chars, vertical_chars));
+        drop((horizontal_colors, vertical_colors));
+        drop((margin_color, padding, padding_color, no_colors));
+        drop((alignment_horizontal, alignment_vertical));
+        drop((trim_horizontal, trim_vertical, line_alignment));
+        drop((justification, justification_color));
+        drop(spans);
+    }
 }
 
 impl<A: Allocator> Model for SpannedConfig<A> {
