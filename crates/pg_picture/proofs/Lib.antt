@@ -58,4 +58,4 @@ pub mod PlainPictures
 pub mod EqualSeparators
 pub mod KeptTexts
 pub mod OneStyle
-mod FirstMisfits
+pub mod FirstMisfits

@@ -1,0 +1,22 @@
+use Rattle.std.proofs.Common.{◌≡◌, ◌+◌, ℕ, sum_by, ap, ◌∙◌, arith}
+use Rattle.std.specs.List.{range_with_len}
+use Rattle.pg_layout.specs.declared.sides.Indent.{Indent}
+use Rattle.pg_layout.specs.declared.sides.Sides.{Sides}
+use Rattle.pg_config.specs.Config.{count_vertical}
+use Rattle.pg_picture.specs.Sizes.{if_fits}
+use Rattle.pg_table.specs.declared.sizes.Axis.TheVariants.{Columns}
+use Rattle.pg_table.proofs.NaturalRoom.{size, full_width-is}
+use Rattle.pg_table.proofs.natural.NaturalTable.full_width.Goals as goal
+
+pub returns : goal.returns
+returns g c =
+    let self = c.args.self.now in
+    let texts = g.R.Records.texts self.records in
+    let columns : ℕ = g.R.Records.columns self.records in
+    let sum : ℕ = sum_by (size self.config.now texts columns (g.C.Colors.color self.colors.now) Columns) (range_with_len 0 columns) in
+    let left = ap (λ (s : Sides Indent). s.left.size) c.get_margin-margin.ensures in
+    let right = ap (λ (s : Sides Indent). s.right.size) c.get_margin-margin.ensures in
+    let total : c.total.result ≡ if_fits sum = rw (c.sizes.ensures.records, c.sizes.ensures.config) at c.total.ensures in
+    let verticals : c.count_vertical-verticals.result ≡ count_vertical self.config.now columns = rw c.count_columns.ensures.value at c.count_vertical-verticals.ensures in
+    let is = full_width-is self.config.now texts columns (g.C.Colors.color self.colors.now) in
+    c.plus-2.ensures _ (c.plus.ensures _ (c.plus-columns.ensures sum total)) ∙ ap (λ n. if_fits n) (omega (arith, is, verticals, left, right))

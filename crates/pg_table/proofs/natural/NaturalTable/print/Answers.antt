@@ -1,0 +1,15 @@
+use Rattle.std.proofs.Common.{◌≡◌, ◌++◌, sym, ap, ◌∙◌, append-nil, string_bytes}
+use Rattle.pg_picture.specs.Table.{Known}
+use Rattle.pg_picture.proofs.Pictures.{picture-none}
+use Rattle.pg_table.specs.Printing.{drawn_of, natural_parts}
+use Rattle.pg_table.proofs.Faults.{prints-nothing}
+use Rattle.pg_table.proofs.natural.NaturalTable.print.Goals as goal
+
+pub returns-then-is_empty-clause-prints : goal.returns-then-is_empty-clause-prints
+returns-then-is_empty-clause-prints g c =
+    prints-nothing (drawn_of g.R.Records.texts g.R.Records.columns g.C.Colors.color (natural_parts c.args.self.now)) c.args.buf.now (sym c.is_empty.ensures ∙ c.if-is_empty.true)
+
+pub returns-then-is_empty-clause-printed : goal.returns-then-is_empty-clause-printed
+returns-then-is_empty-clause-printed g c =
+    let none = picture-none Known (drawn_of g.R.Records.texts g.R.Records.columns g.C.Colors.color (natural_parts c.args.self.now)) (sym c.is_empty.ensures ∙ c.if-is_empty.true) in
+    sym (ap (λ t. string_bytes c.args.buf.now ++ t) none ∙ append-nil (string_bytes c.args.buf.now))

@@ -1,0 +1,4 @@
+pub mod Natural
+pub mod Sizes
+pub mod Printing
+pub mod Laws

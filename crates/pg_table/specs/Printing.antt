@@ -1,0 +1,68 @@
+-- What printing a table at its natural sizes does.
+use Rattle.std.specs.Prelude.{◌≡◌, Bool, not, ◌||◌, ◌==◌, nat_lt, ℕ, List, map, length, Option, Some, None, Result, Err, String, if◌then◌else◌}
+use Rattle.pg_layout.specs.declared.borders.HorizontalLine.{HorizontalLine}
+use Rattle.pg_layout.specs.declared.position.Position.{Position}
+use Rattle.pg_layout.specs.Colors.{Color}
+use Rattle.pg_layout.specs.ColorsMap.{color_at}
+use Rattle.pg_layout.specs.Looks.{ascii}
+use Rattle.pg_layout.specs.Places.{Key}
+use Rattle.pg_layout.specs.Records.{columns_of}
+use Rattle.pg_layout.specs.Text.{Text}
+use Rattle.pg_config.specs.Config.{Config, default_config}
+use Rattle.pg_config.specs.Overrides.{with_row_line}
+use Rattle.pg_picture.specs.Fits.{totals_fit}
+use Rattle.pg_picture.specs.Table.{Table as Drawn}
+use Rattle.pg_grid.specs.IterGrids.{AppendsOrNothing}
+use Rattle.pg_table.specs.Natural.{natural_table}
+use Rattle.pg_table.specs.declared.fault.TableFault.{TableFault}
+use Rattle.pg_table.specs.declared.fault.TableFault.TheVariants.{Spans, Totals, Memory}
+use Rattle.pg_table.specs.declared.natural.NaturalTable.{NaturalTable}
+
+-- ---- faults
+
+-- a table with no rows or no columns
+abbrev pub is_empty : Drawn → Bool
+is_empty t = (t.rows == 0) || (t.columns == 0)
+
+-- why a table with cells isn't printed at its natural sizes: a span is kept, or its totals are no numbers
+unfoldable pub fault_of : Drawn → Option TableFault
+fault_of t =
+    if is_empty t then None
+    else if not (length t.config.spans == 0) then Some Spans
+    else if not (totals_fit t) then Some Totals
+    else None
+
+-- A table with a fault is refused and the buffer stays as it was. Any other is appended, and nothing but want of memory is
+-- refused, before the first byte or in the midst of them.
+abbrev pub Prints : {Z U : Type 0} → Option TableFault → String Z → String Z → Result U TableFault → Text → Type 0
+Prints (Some fault) old new result text = (result ≡ Err fault) × (new ≡ old)
+Prints None old new result text = AppendsOrNothing old new result text × ((fault : TableFault) → result ≡ Err fault → fault ≡ Memory)
+
+-- ---- tables
+
+-- what a lending table is made of: its records, its configuration and its colours
+abbrev pub natural_parts : {R C B : Type 0} → NaturalTable R C B → R × Config × C
+natural_parts t = (t.records, t.config.now, t.colors.now)
+
+-- the table that it draws, by what its records and its colours tell
+abbrev pub drawn_of : {R C : Type 0} → (R → List (List Text)) → (R → ℕ) → (C → Position → Option Color) → R × Config × C → Drawn
+drawn_of texts columns color (records, config, colors) = natural_table config (texts records) (columns records) (color colors)
+
+-- what a table with rows of its own is made of
+pub record Parts (T : Type 0) : Type 0 where
+  pub rows : List (List T)
+  pub config : Config
+  pub colors : List (Key × Color)
+
+-- the table that it draws, by the texts of its cells
+abbrev pub drawn : {T : Type 0} → (T → Text) → Parts T → Drawn
+drawn text t = natural_table t.config (map (λ row. map text row) t.rows) (columns_of t.rows) (λ place. color_at place t.colors)
+
+-- a configuration that was told ASCII borders alone
+abbrev pub ascii_config : Config
+ascii_config = record default_config { borders = ascii }
+
+-- the configuration with this line between row 0 and row 1, where there are so many rows and columns
+abbrev pub with_header_line : HorizontalLine ℕ → ℕ → ℕ → Config → Config
+with_header_line line rows columns config =
+    if nat_lt 1 rows then record config { overrides = with_row_line 1 columns line config.overrides } else config

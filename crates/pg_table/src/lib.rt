@@ -1,0 +1,13 @@
+//! A table builder: rows of texts, drawn as wide and as high as they are.
+#![tactic(auto)]
+
+mod fault;
+mod laws;
+mod natural;
+mod sizes;
+mod table;
+
+pub use crate::fault::TableFault;
+pub use crate::laws::natural_tables_have_room;
+pub use crate::natural::NaturalTable;
+pub use crate::table::Table;

@@ -1,0 +1,219 @@
+//! A table at its natural sizes, over records, settings and colours that are lent to it.
+
+ghost use Rattle.std.specs.Prelude.{◌≡◌};
+ghost use Rattle.pg_table.specs.Printing.{natural_parts};
+
+use crate::fault::TableFault;
+use crate::sizes::{Axis, NaturalSizes, plus};
+use pg_config::SpannedConfig;
+use pg_grid::PeekableGrid;
+use pg_layout::{Colors, ConstantDimension, Dimension, ExactRecords, PeekableRecords};
+use std::alloc::{AllocError, Allocator, Global};
+
+/// A table over records that can be read at any place, at its natural sizes: each column as wide as
+/// its widest cell, and each row as high as its highest one, a cell being its text with the paddings
+/// round it. Nothing is copied: records, settings and colours are lent.
+///
+/// ```text
+/// NaturalTable::new(&records, &config, &NoColors).print(alloc, &mut buf)?;
+/// ```
+#[derive(Debug, Drop)]
+pub struct NaturalTable<'a, R, C, B: Allocator = Global> {
+    records: R,
+    config: &'a SpannedConfig<B>,
+    colors: &'a C,
+}
+
+impl<'a, R, C, B: Allocator> NaturalTable<'a, R, C, B> {
+    /// The table of these records, which may be a reference, of what the configuration was told, and
+    /// of these colours. Takes no memory.
+    pub fn new(
+        records: R,
+        config: &'a SpannedConfig<B>,
+        colors: &'a C,
+    ) -> NaturalTable<'a, R, C, B>
+        ensures { natural_parts result ≡ (records, config.now, colors.now) }
+    {
+        NaturalTable {
+            records,
+            config,
+            colors,
+        }
+    }
+}
+
+impl<'a, R, C, B> NaturalTable<'a, R, C, B>
+where
+    R: PeekableRecords + ExactRecords + Copy,
+    C: Colors,
+    B: Allocator,
+{
+    ghost use Rattle.std.specs.Prelude.{◌≡◌, ◌↔◌, ◌⊎◌, ◌<◌, ◌&&◌, ◌++◌, length, true, false, Some, None, Err, IfOk, IsOk, OnOk, string_bytes};
+    ghost use Rattle.std.specs.Result.{result_err};
+    ghost use Rattle.pg_picture.specs.Appending.{Appends};
+    ghost use Rattle.pg_picture.specs.Fits.{totals_fit, body_height, misfit_of};
+    ghost use Rattle.pg_picture.specs.Laws.{IsStraight};
+    ghost use Rattle.pg_picture.specs.Picture.{picture};
+    ghost use Rattle.pg_picture.specs.Table.{Known, full_width};
+    ghost use Rattle.pg_picture.specs.Sizes.{if_fits};
+    ghost use Rattle.pg_grid.specs.IterGrids.{AppendsOrNothing};
+    ghost use Rattle.pg_table.specs.Natural.{all_fit, natural_sizes};
+    ghost use Rattle.pg_table.specs.Printing.{is_empty, fault_of, drawn_of, Prints};
+    ghost use Rattle.pg_table.specs.declared.sizes.Axis.TheVariants.{Columns, Rows};
+
+    /// The natural widths of the columns and the natural heights of the rows, in terminal columns
+    /// and lines.
+    ///
+    /// `Totals` comes exactly where one of them passes `usize::MAX`, before any memory is taken;
+    /// `Memory` where memory is refused; and no other error.
+    pub fn natural_dimension<A: Allocator + Copy>(
+        &self,
+        alloc: A,
+    ) -> Result<ConstantDimension<A>, TableFault>
+        ensures totals { (result ≡ Err TableFault.Totals) ↔ ((all_fit (natural_sizes Columns self.now.config.now (R.texts self.now.records) (R.columns self.now.records)) && all_fit (natural_sizes Rows self.now.config.now (R.texts self.now.records) (R.columns self.now.records))) ≡ false) }
+        ensures memory { (fault : TableFault) → result ≡ Err fault → fault ≡ TableFault.Totals ⊎ fault ≡ TableFault.Memory }
+        ensures widths { IfOk result (λ d. d.0.items ≡ natural_sizes Columns self.now.config.now (R.texts self.now.records) (R.columns self.now.records)) }
+        ensures heights { IfOk result (λ d. d.1.items ≡ natural_sizes Rows self.now.config.now (R.texts self.now.records) (R.columns self.now.records)) }
+    {
+        let sizes = self.sizes();
+        if !sizes.fit() {
+            return Err(TableFault::Totals);
+        }
+        Ok(sizes.listed(alloc)?)
+    }
+
+    /// Whether the table can be printed at its natural sizes: no span is kept, and the natural
+    /// sizes and the totals are at most `usize::MAX`. A table with no rows or no columns can.
+    ///
+    /// Takes no memory.
+    #[tactic(auto, unfolding(crate::specs::Printing::fault_of))]
+    pub fn fits(&self) -> Result<(), TableFault>
+        ensures { result_err result ≡ fault_of (drawn_of R.texts R.columns C.color (natural_parts self.now)) }
+    {
+        if self.is_empty() {
+            return Ok(());
+        }
+        if !self.config.spans().is_empty() {
+            return Err(TableFault::Spans);
+        }
+        if !self.totals_fit() {
+            return Err(TableFault::Totals);
+        }
+        Ok(())
+    }
+
+    /// Appends the picture of the table at its natural sizes. A table with no rows or no columns
+    /// appends nothing, and takes no memory.
+    ///
+    /// A table that keeps a span is answered by `Spans`; one of which a natural size, the width of a
+    /// line or the number of lines passes `usize::MAX` by `Totals`. Both come before any memory is
+    /// taken, and the buffer stays as it was. `alloc` gives the memory for the sizes. Where memory is
+    /// refused, the answer is `Memory`, and the buffer holds a beginning of the picture behind what
+    /// it held before.
+    pub fn print<A: Allocator + Copy, W: Allocator>(
+        &self,
+        alloc: A,
+        buf: &mut String<W>,
+    ) -> Result<(), TableFault>
+        ensures prints { Prints (fault_of (drawn_of R.texts R.columns C.color (natural_parts self.now))) buf.old buf.new result (picture Known (drawn_of R.texts R.columns C.color (natural_parts self.now))) }
+        ensures printed { OnOk result (string_bytes buf.new ≡ string_bytes buf.old ++ picture Known (drawn_of R.texts R.columns C.color (natural_parts self.now))) }
+        ensures empty { is_empty (drawn_of R.texts R.columns C.color (natural_parts self.now)) ≡ true → IsOk result }
+        ensures straight { IsOk result → IsStraight (drawn_of R.texts R.columns C.color (natural_parts self.now)) }
+    {
+        if self.is_empty() {
+            return Ok(());
+        }
+        self.fits()?;
+        self.push_picture(alloc, buf)?;
+        Ok(())
+    }
+
+    /// The picture of the table at its natural sizes as a text of its own; errors as those of
+    /// [`NaturalTable::print`].
+    pub fn to_string<A: Allocator + Copy>(&self, alloc: A) -> Result<String<A>, TableFault>
+        ensures text { IfOk result (λ text. string_bytes text ≡ picture Known (drawn_of R.texts R.columns C.color (natural_parts self.now))) }
+        ensures fault { (fault : TableFault) → fault_of (drawn_of R.texts R.columns C.color (natural_parts self.now)) ≡ Some fault → result ≡ Err fault }
+        ensures memory { (fault : TableFault) → fault_of (drawn_of R.texts R.columns C.color (natural_parts self.now)) ≡ None → result ≡ Err fault → fault ≡ TableFault.Memory }
+    {
+        let mut text = String::new(alloc);
+        self.print(alloc, &mut text)?;
+        Ok(text)
+    }
+
+    // The natural sizes of its columns and rows.
+    fn sizes(&self) -> NaturalSizes<'a, R, B>
+        ensures records { result.records ≡ self.now.records }
+        ensures config { result.config.now ≡ self.now.config.now }
+    {
+        NaturalSizes::new(self.records, self.config)
+    }
+
+    // Whether there are no cells.
+    fn is_empty(&self) -> bool
+        ensures { result ≡ is_empty (drawn_of R.texts R.columns C.color (natural_parts self.now)) }
+    {
+        self.records.count_rows() == 0 || self.records.count_columns() == 0
+    }
+
+    // Whether the rows and columns can be counted, and the totals are at most `usize::MAX`.
+    #[tactic(auto, unfolding(pg_picture::specs::Fits::totals_fit))]
+    fn totals_fit(&self) -> bool
+        ensures { result ≡ totals_fit (drawn_of R.texts R.columns C.color (natural_parts self.now)) }
+    {
+        self.records.count_rows() < usize::MAX
+            && self.records.count_columns() < usize::MAX
+            && self.full_width().is_some()
+            && self.body_height().is_some()
+    }
+
+    // How many terminal columns a line has, its side margins among them, or None where they pass
+    // `usize::MAX`.
+    fn full_width(&self) -> Option<usize>
+        requires { R.columns self.now.records < usize.MAX }
+        ensures { result ≡ if_fits (full_width (drawn_of R.texts R.columns C.color (natural_parts self.now))) }
+    {
+        let margin = self.config.get_margin();
+        let verticals = self.config.count_vertical(self.records.count_columns());
+        let columns = plus(self.sizes().total(Axis::Columns), verticals);
+        plus(plus(columns, margin.left.size), margin.right.size)
+    }
+
+    // How many lines the body has, or None where they pass `usize::MAX`.
+    fn body_height(&self) -> Option<usize>
+        requires { length (R.texts self.now.records) < usize.MAX }
+        ensures { result ≡ if_fits (body_height (drawn_of R.texts R.columns C.color (natural_parts self.now))) }
+    {
+        let horizontals = self.config.count_horizontal(self.records.count_rows());
+        plus(self.sizes().total(Axis::Rows), horizontals)
+    }
+
+    // Appends the picture of a table with cells and without a fault.
+    fn push_picture<A: Allocator + Copy, W: Allocator>(
+        &self,
+        alloc: A,
+        buf: &mut String<W>,
+    ) -> Result<(), AllocError>
+        requires some { is_empty (drawn_of R.texts R.columns C.color (natural_parts self.now)) ≡ false }
+        requires fits { fault_of (drawn_of R.texts R.columns C.color (natural_parts self.now)) ≡ None }
+        ensures appends { AppendsOrNothing buf.old buf.new result (picture Known (drawn_of R.texts R.columns C.color (natural_parts self.now))) }
+        ensures straight { IsOk result → IsStraight (drawn_of R.texts R.columns C.color (natural_parts self.now)) }
+    {
+        let dimension = self.sizes().listed(alloc)?;
+        self.push_sized(dimension, buf)
+    }
+
+    // Appends the picture of a table that fits, at these sizes.
+    fn push_sized<A: Allocator, W: Allocator>(
+        &self,
+        dimension: ConstantDimension<A>,
+        buf: &mut String<W>,
+    ) -> Result<(), AllocError>
+        requires widths { dimension.0.items ≡ natural_sizes Columns self.now.config.now (R.texts self.now.records) (R.columns self.now.records) }
+        requires heights { dimension.1.items ≡ natural_sizes Rows self.now.config.now (R.texts self.now.records) (R.columns self.now.records) }
+        requires fits { misfit_of (drawn_of R.texts R.columns C.color (natural_parts self.now)) ≡ None }
+        ensures appends { Appends buf.old buf.new result (picture Known (drawn_of R.texts R.columns C.color (natural_parts self.now))) }
+        ensures straight { IsStraight (drawn_of R.texts R.columns C.color (natural_parts self.now)) }
+    {
+        PeekableGrid::new(self.records, self.config, dimension, self.colors).build(buf)
+    }
+}

@@ -1,0 +1,181 @@
+//! The natural sizes of columns and rows.
+
+ghost use Rattle.std.specs.Prelude.{◌≡◌, ℕ, ◌+◌, ◌<◌, IfOk, length, ◌&&◌, sum_by, true};
+ghost use Rattle.std.specs.List.{range_with_len};
+ghost use Rattle.pg_layout.specs.Records.{text_at};
+ghost use Rattle.pg_picture.specs.Sizes.{if_fits};
+ghost use Rattle.pg_table.specs.Natural.{paddings, text_size, cell_size, cell_at, all_fit};
+ghost use Rattle.pg_table.specs.declared.sizes.Axis.TheVariants.{Columns, Rows};
+ghost use Rattle.pg_table.specs.Sizes.{size_of, sizes_of, count_of, cells_of};
+
+use pg_config::SpannedConfig;
+use pg_layout::{ConstantDimension, ExactRecords, PeekableRecords, Position};
+use pg_picture::TextFacts;
+use std::alloc::{AllocError, Allocator};
+
+/// A sum with a number more, or None where it passes `usize::MAX`.
+pub(crate) fn plus(sum: Option<usize>, more: usize) -> Option<usize>
+    ensures { (n : ℕ) → sum ≡ if_fits n → result ≡ if_fits (n + more) }
+{
+    sum?.checked_add(more)
+}
+
+/// What has a size: columns have widths, and rows have heights.
+#[derive(Debug, Clone, Copy)]
+pub(crate) enum Axis {
+    Columns,
+    Rows,
+}
+
+impl Axis {
+    // Cell j of column k, or of row k.
+    fn cell(self, k: usize, j: usize) -> Position
+        ensures { result ≡ cell_at self k j }
+    {
+        match self {
+            Axis::Columns => Position::new(j, k),
+            Axis::Rows => Position::new(k, j),
+        }
+    }
+}
+
+/// The natural sizes of the columns and the rows of records, worked out at each question.
+#[derive(Debug, Drop)]
+pub(crate) struct NaturalSizes<'a, R, B: Allocator> {
+    records: R,
+    config: &'a SpannedConfig<B>,
+}
+
+impl<'a, R: PeekableRecords + ExactRecords, B: Allocator> NaturalSizes<'a, R, B> {
+    /// The natural sizes of these records in a table that is told this.
+    pub(crate) fn new(records: R, config: &'a SpannedConfig<B>) -> NaturalSizes<'a, R, B>
+        ensures records { result.records ≡ records }
+        ensures config { result.config.now ≡ config.now }
+    {
+        NaturalSizes { records, config }
+    }
+
+    // How many columns there are, or rows.
+    fn count(&self, axis: Axis) -> usize
+        ensures { result ≡ count_of R.texts R.columns self.now axis }
+    {
+        match axis {
+            Axis::Columns => self.records.count_columns(),
+            Axis::Rows => self.records.count_rows(),
+        }
+    }
+
+    // How many cells each of them has.
+    fn count_cells(&self, axis: Axis) -> usize
+        ensures { result ≡ cells_of R.texts R.columns self.now axis }
+    {
+        match axis {
+            Axis::Columns => self.records.count_rows(),
+            Axis::Rows => self.records.count_columns(),
+        }
+    }
+
+    // What the paddings of a cell take, or None where it passes `usize::MAX`.
+    fn paddings(&self, axis: Axis, pos: Position) -> Option<usize>
+        ensures { result ≡ if_fits (paddings axis self.now.config.now pos) }
+    {
+        let padding = self.config.get_padding(pos);
+        match axis {
+            Axis::Columns => padding.left.size.checked_add(padding.right.size),
+            Axis::Rows => padding.top.size.checked_add(padding.bottom.size),
+        }
+    }
+
+    // What the text of a cell takes.
+    #[tactic(auto, unfolding(pg_picture::specs::Cells::facts_of))]
+    fn text_size(&self, axis: Axis, pos: Position) -> usize
+        requires row { pos.row < length (R.texts self.now.records) }
+        requires column { pos.col < R.columns self.now.records }
+        ensures { result ≡ text_size axis self.now.config.now (text_at (R.texts self.now.records)) pos }
+    {
+        let facts = TextFacts::of_records(&self.records, pos, self.config.get_formatting(pos));
+        match axis {
+            Axis::Columns => facts.widest,
+            Axis::Rows => facts.shown,
+        }
+    }
+
+    // The width of a cell, or its height, or None where it passes `usize::MAX`.
+    fn cell_size(&self, axis: Axis, pos: Position) -> Option<usize>
+        requires row { pos.row < length (R.texts self.now.records) }
+        requires column { pos.col < R.columns self.now.records }
+        ensures { result ≡ if_fits (cell_size axis self.now.config.now (text_at (R.texts self.now.records)) pos) }
+    {
+        self.paddings(axis, pos)?
+            .checked_add(self.text_size(axis, pos))
+    }
+
+    // The natural size of a column or a row, or None where it passes `usize::MAX`.
+    fn size(&self, axis: Axis, k: usize) -> Option<usize>
+        requires { k < count_of R.texts R.columns self.now axis }
+        ensures { result ≡ if_fits (size_of R.texts R.columns self.now axis k) }
+    {
+        let mut size = self.paddings(axis, axis.cell(k, 0))?;
+        for j in 0..self.count_cells(axis) {
+            size = size.max(self.cell_size(axis, axis.cell(k, j))?);
+        }
+        Some(size)
+    }
+
+    /// Whether all widths and all heights are at most `usize::MAX`. Takes no memory.
+    pub(crate) fn fit(&self) -> bool
+        ensures { result ≡ (all_fit (sizes_of R.texts R.columns self.now Columns) && all_fit (sizes_of R.texts R.columns self.now Rows)) }
+    {
+        self.all_fit(Axis::Columns) && self.all_fit(Axis::Rows)
+    }
+
+    // Whether all sizes of columns, or of rows, are at most `usize::MAX`.
+    fn all_fit(&self, axis: Axis) -> bool
+        ensures { result ≡ all_fit (sizes_of R.texts R.columns self.now axis) }
+    {
+        for k in 0..self.count(axis) {
+            if self.size(axis, k).is_none() {
+                return false;
+            }
+        }
+        true
+    }
+
+    /// The sum of all sizes of columns, or of rows, or None where it passes `usize::MAX`. Takes no
+    /// memory.
+    pub(crate) fn total(&self, axis: Axis) -> Option<usize>
+        ensures { result ≡ if_fits (sum_by (size_of R.texts R.columns self.now axis) (range_with_len 0 (count_of R.texts R.columns self.now axis))) }
+    {
+        let mut sum: usize = 0;
+        for k in 0..self.count(axis) {
+            sum = sum.checked_add(self.size(axis, k)?)?;
+        }
+        Some(sum)
+    }
+
+    /// Lists of them, to be looked up at once.
+    pub(crate) fn listed<A: Allocator + Copy>(
+        &self,
+        alloc: A,
+    ) -> Result<ConstantDimension<A>, AllocError>
+        requires { (all_fit (sizes_of R.texts R.columns self.now Columns) && all_fit (sizes_of R.texts R.columns self.now Rows)) ≡ true }
+        ensures widths { IfOk result (λ d. d.0.items ≡ sizes_of R.texts R.columns self.now Columns) }
+        ensures heights { IfOk result (λ d. d.1.items ≡ sizes_of R.texts R.columns self.now Rows) }
+    {
+        let widths = self.list(alloc, Axis::Columns)?;
+        let heights = self.list(alloc, Axis::Rows)?;
+        Ok(ConstantDimension(widths, heights))
+    }
+
+    // All sizes of columns, or of rows.
+    fn list<A: Allocator>(&self, alloc: A, axis: Axis) -> Result<Vec<usize, A>, AllocError>
+        requires { all_fit (sizes_of R.texts R.columns self.now axis) ≡ true }
+        ensures { IfOk result (λ sizes. sizes.items ≡ sizes_of R.texts R.columns self.now axis) }
+    {
+        let mut sizes = Vec::with_capacity(alloc, self.count(axis))?;
+        for k in 0..self.count(axis) {
+            sizes.push(self.size(axis, k).unwrap_or(0))?;
+        }
+        Ok(sizes)
+    }
+}

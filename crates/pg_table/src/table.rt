@@ -1,0 +1,221 @@
+//! A table of texts of its own.
+
+ghost use Rattle.std.specs.Prelude.{◌≡◌};
+ghost use Rattle.pg_table.specs.Printing.{ascii_config};
+
+use crate::fault::TableFault;
+use crate::natural::NaturalTable;
+use pg_config::SpannedConfig;
+use pg_layout::{
+    AlignmentHorizontal, Borders, ColorsMap, ConstantDimension, Entity, ExactRecords,
+    HorizontalLine, Indent, Records, Sides, VecRecords,
+};
+use std::alloc::{AllocError, Allocator, Global};
+use std::convert::AsStr;
+use std::marker::Model;
+
+/// Rows of texts, drawn at their natural sizes: each column as wide as its widest cell, and each row
+/// as high as its highest one, a cell being its text with the paddings round it.
+///
+/// It has ASCII borders, no paddings, and texts at the left, unless it is told otherwise. Each
+/// setting of [`SpannedConfig`] but a span can be told by [`Table::with_config`].
+///
+/// ```text
+/// let rows = vec![in alloc; vec![in alloc; "a", "b"]?, vec![in alloc; "ccc", "d"]?]?;
+/// let table = Table::new(alloc, rows)?.with_borders(Borders::rounded());
+/// table.print(alloc, &mut buf)?;
+/// ```
+#[derive(Debug, Drop)]
+pub struct Table<T, A: Allocator = Global> {
+    records: VecRecords<T, A>,
+    config: SpannedConfig<A>,
+    colors: ColorsMap<A>,
+}
+
+impl<T, A: Allocator> Model for Table<T, A> {
+    ghost use Rattle.pg_table.specs.Printing.{Parts};
+
+    ghost Value = { Parts T };
+
+    ghost view = { λ t. record { rows = t.records; config = t.config; colors = t.colors } };
+}
+
+// What a table is told before it is told anything: ASCII borders. Takes no memory.
+fn ascii_config<A: Allocator + Copy>(alloc: A) -> SpannedConfig<A>
+    ensures { result ≡ ascii_config }
+{
+    let mut config = SpannedConfig::new(alloc);
+    config.set_borders(Borders::ascii());
+    config
+}
+
+impl<T: AsStr + Drop, A: Allocator + Copy> Table<T, A> {
+    ghost use Rattle.std.specs.Prelude.{◌≡◌, [], map, IfOk, option_map};
+    ghost use Rattle.std.specs.Result.{result_err};
+    ghost use Rattle.pg_layout.specs.Records.{ragged_row};
+
+    /// A table of these rows; `Ragged` with the first row whose length differs from that of row 0,
+    /// where there is one, and no other error.
+    ///
+    /// Takes no memory: `alloc` is kept for later settings. Rows that are refused are dropped.
+    pub fn new(alloc: A, rows: Vec<Vec<T, A>, A>) -> Result<Table<T, A>, TableFault>
+        ensures parts { IfOk result (λ table. table ≡ record { rows = map (λ row. row.items) rows.items; config = ascii_config; colors = [] }) }
+        ensures exact { result_err result ≡ option_map TableFault.Ragged (ragged_row (map (λ row. row.items) rows.items)) }
+    {
+        match VecRecords::new(rows) {
+            Ok(records) => Ok(Table {
+                records,
+                config: ascii_config(alloc),
+                colors: ColorsMap::new(alloc),
+            }),
+            Err(fault) => Err(fault.into()),
+        }
+    }
+}
+
+impl<T, A: Allocator> Table<T, A> {
+    ghost use Rattle.std.specs.Prelude.{◌≡◌};
+    ghost use Rattle.pg_config.specs.Settings.{with_setting};
+
+    /// The table with this padding of all cells. Takes no memory.
+    pub fn with_padding(mut self, padding: Sides<Indent>) -> Table<T, A>
+        ensures { result ≡ record self.entry { config = record self.entry.config { padding = with_setting Entity.Global padding self.entry.config.padding } } }
+    {
+        self.config.set_padding(Entity::Global, padding).unwrap();
+        self
+    }
+
+    /// The table with the texts of all cells at this side. Takes no memory.
+    pub fn with_alignment(mut self, alignment: AlignmentHorizontal) -> Table<T, A>
+        ensures { result ≡ record self.entry { config = record self.entry.config { alignment_horizontal = with_setting Entity.Global alignment self.entry.config.alignment_horizontal } } }
+    {
+        self.config
+            .set_alignment_horizontal(Entity::Global, alignment)
+            .unwrap();
+        self
+    }
+
+    /// The table with these borders, such as [`Borders::rounded`]. A line below its header stays.
+    pub fn with_borders(mut self, borders: Borders<char>) -> Table<T, A>
+        ensures { result ≡ record self.entry { config = record self.entry.config { borders = borders } } }
+    {
+        self.config.set_borders(borders);
+        self
+    }
+
+    /// The table with all that this configuration was told, in place of all that it was told itself:
+    /// borders, paddings, alignments and a line below its header among them.
+    pub fn with_config(mut self, config: SpannedConfig<A>) -> Table<T, A>
+        ensures { result ≡ record self.entry { config = config } }
+    {
+        self.config = config;
+        self
+    }
+
+    /// The table with these colours of cells, in place of all colours that it had.
+    pub fn with_colors(mut self, colors: ColorsMap<A>) -> Table<T, A>
+        ensures { result ≡ record self.entry { colors = colors } }
+    {
+        self.colors = colors;
+        self
+    }
+}
+
+impl<T: AsStr + Drop, A: Allocator> Table<T, A> {
+    ghost use Rattle.std.specs.Prelude.{◌≡◌, length, OnErr, ◌↔◌, ◌⊎◌, ◌&&◌, ◌++◌, true, false, map, Some, None, Err, IfOk, IsOk, OnOk, string_bytes};
+    ghost use Rattle.pg_layout.specs.Records.{columns_of};
+    ghost use Rattle.pg_picture.specs.Laws.{IsStraight};
+    ghost use Rattle.pg_picture.specs.Picture.{picture};
+    ghost use Rattle.pg_picture.specs.Table.{Known};
+    ghost use Rattle.pg_table.specs.Natural.{all_fit, natural_sizes};
+    ghost use Rattle.pg_table.specs.Printing.{is_empty, fault_of, drawn, with_header_line, Prints};
+    ghost use Rattle.pg_table.specs.declared.sizes.Axis.TheVariants.{Columns, Rows};
+
+    /// Draws a line between row 0 and row 1, and no other row line but those of the borders. A glyph
+    /// that the line lacks is as it was; a table of less than two rows has no such line.
+    ///
+    /// Takes memory for its places, one for each column and each column line; where that is refused,
+    /// nothing changes. [`Table::with_header_line`] does the same to a table by value.
+    pub fn set_header_line(&mut self, line: HorizontalLine<char>) -> Result<(), AllocError>
+        ensures ok { OnOk result (self.new ≡ record self.old { config = with_header_line line (length self.old.rows) (columns_of self.old.rows) self.old.config }) }
+        ensures err { OnErr result (self.new ≡ self.old) }
+    {
+        let (rows, columns) = self.size();
+        if rows < 2 {
+            return Ok(());
+        }
+        self.config.set_row_line(1, columns, line)
+    }
+
+    /// The same table with a line between row 0 and row 1 ([`Table::set_header_line`]). Where memory
+    /// is refused the table is let go.
+    ///
+    /// ```text
+    /// let table = table.with_borders(Borders::psql()).with_header_line(HorizontalLine::psql())?;
+    /// ```
+    pub fn with_header_line(mut self, line: HorizontalLine<char>) -> Result<Table<T, A>, TableFault>
+        ensures ok { IfOk result (λ table. table ≡ record self.entry { config = with_header_line line (length self.entry.rows) (columns_of self.entry.rows) self.entry.config }) }
+        ensures memory { (fault : TableFault) → result ≡ Err fault → fault ≡ TableFault.Memory }
+    {
+        match self.set_header_line(line) {
+            Ok(()) => Ok(self),
+            Err(error) => Err(error.into()),
+        }
+    }
+
+    /// The natural widths of the columns and the natural heights of the rows, in terminal columns
+    /// and lines.
+    ///
+    /// `Totals` comes exactly where one of them passes `usize::MAX`, before any memory is taken;
+    /// `Memory` where memory is refused; and no other error.
+    pub fn natural_dimension<B: Allocator + Copy>(
+        &self,
+        alloc: B,
+    ) -> Result<ConstantDimension<B>, TableFault>
+        ensures totals { (result ≡ Err TableFault.Totals) ↔ ((all_fit (natural_sizes Columns self.now.config (map (λ row. map T.text row) self.now.rows) (columns_of self.now.rows)) && all_fit (natural_sizes Rows self.now.config (map (λ row. map T.text row) self.now.rows) (columns_of self.now.rows))) ≡ false) }
+        ensures memory { (fault : TableFault) → result ≡ Err fault → fault ≡ TableFault.Totals ⊎ fault ≡ TableFault.Memory }
+        ensures widths { IfOk result (λ d. d.0.items ≡ natural_sizes Columns self.now.config (map (λ row. map T.text row) self.now.rows) (columns_of self.now.rows)) }
+        ensures heights { IfOk result (λ d. d.1.items ≡ natural_sizes Rows self.now.config (map (λ row. map T.text row) self.now.rows) (columns_of self.now.rows)) }
+    {
+        NaturalTable::new(&self.records, &self.config, &self.colors).natural_dimension(alloc)
+    }
+
+    /// Appends the picture of the table at its natural sizes. A table with no rows or no columns
+    /// appends nothing, and takes no memory.
+    ///
+    /// A table that keeps a span is answered by `Spans`; one of which a natural size, the width of a
+    /// line or the number of lines passes `usize::MAX` by `Totals`. Both come before any memory is
+    /// taken, and the buffer stays as it was. `alloc` gives the memory for the sizes. Where memory is
+    /// refused, the answer is `Memory`, and the buffer holds a beginning of the picture behind what
+    /// it held before.
+    pub fn print<B: Allocator + Copy, W: Allocator>(
+        &self,
+        alloc: B,
+        buf: &mut String<W>,
+    ) -> Result<(), TableFault>
+        ensures prints { Prints (fault_of (drawn T.text self.now)) buf.old buf.new result (picture Known (drawn T.text self.now)) }
+        ensures printed { OnOk result (string_bytes buf.new ≡ string_bytes buf.old ++ picture Known (drawn T.text self.now)) }
+        ensures empty { is_empty (drawn T.text self.now) ≡ true → IsOk result }
+        ensures straight { IsOk result → IsStraight (drawn T.text self.now) }
+    {
+        NaturalTable::new(&self.records, &self.config, &self.colors).print(alloc, buf)
+    }
+
+    /// The picture of the table at its natural sizes as a text of its own; errors as those of
+    /// [`Table::print`].
+    pub fn to_string<B: Allocator + Copy>(&self, alloc: B) -> Result<String<B>, TableFault>
+        ensures text { IfOk result (λ text. string_bytes text ≡ picture Known (drawn T.text self.now)) }
+        ensures fault { (fault : TableFault) → fault_of (drawn T.text self.now) ≡ Some fault → result ≡ Err fault }
+        ensures memory { (fault : TableFault) → fault_of (drawn T.text self.now) ≡ None → result ≡ Err fault → fault ≡ TableFault.Memory }
+    {
+        NaturalTable::new(&self.records, &self.config, &self.colors).to_string(alloc)
+    }
+
+    // How many rows and columns there are.
+    fn size(&self) -> (usize, usize)
+        ensures { result ≡ (length self.now.rows, columns_of self.now.rows) }
+    {
+        let records = &self.records;
+        (records.count_rows(), records.count_columns())
+    }
+}
