@@ -4,6 +4,8 @@
 #[cfg(test)]
 mod cells;
 #[cfg(test)]
+mod checked;
+#[cfg(test)]
 mod colors;
 #[cfg(test)]
 mod conditions;
