@@ -24,4 +24,6 @@ mod settings;
 #[cfg(test)]
 mod spans;
 #[cfg(test)]
+mod streams;
+#[cfg(test)]
 mod texts;
