@@ -26,4 +26,6 @@ mod settings;
 #[cfg(test)]
 mod spans;
 #[cfg(test)]
+mod streams;
+#[cfg(test)]
 mod texts;
