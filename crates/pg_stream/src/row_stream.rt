@@ -1,7 +1,8 @@
 //! A table whose rows come one at a time, and whose last row isn't known before its end.
 
-ghost use Rattle.std.specs.Prelude.{◌≡◌, ◌≢◌, ◌++◌, ℕ, [], List, false, map, None, IfOk, OnOk, Err, string_bytes};
+ghost use Rattle.std.specs.Prelude.{◌≡◌, ◌≢◌, ◌++◌, ℕ, [], List, false, map, None, IfOk, OnOk, Result, Err, string_bytes};
 ghost use Rattle.std.specs.Iterator.{IsFinite};
+ghost use Rattle.std.specs.Result.{result_map_both};
 ghost use Rattle.pg_layout.specs.Records.{AlwaysGives, Becomes};
 ghost use Rattle.pg_layout.specs.Text.{Text};
 ghost use Rattle.pg_picture.specs.Appending.{GainedBeginning};
@@ -9,10 +10,10 @@ ghost use Rattle.pg_picture.specs.declared.fits.Misfit.{Misfit};
 ghost use Rattle.pg_stream.specs.Conditions.{PrinterFits, RowFits};
 ghost use Rattle.pg_stream.specs.Printers.{printing};
 ghost use Rattle.pg_stream.specs.Printing.{printer, row_text, rows_text, after_row};
-ghost use Rattle.pg_stream.specs.Streams.{streaming, held_text, HeldFits, after_push, rows_left, AppendsIf, PrintsRows};
+ghost use Rattle.pg_stream.specs.Streams.{streaming, held_text, HeldFits, after_push, rows_left, AppendsIf, PrintsRows, PrintsResults};
 ghost use Rattle.pg_stream.specs.declared.fault.StreamFault.{StreamFault};
 
-use crate::fault::{RowFault, StreamFault};
+use crate::fault::{RowFault, RowsFault, StreamFault};
 use crate::row_printer::RowPrinter;
 use pg_config::SpannedConfig;
 use pg_layout::{Colors, Dimension};
@@ -243,5 +244,34 @@ impl<
         ensures prints { PrintsRows (streaming D.width D.height C.color self.entry).before (rows_left (streaming D.width D.height C.color self.entry) (map (λ row. map S.text row.items) rows.items)) buf.old buf.new result }
     {
         self.print_all(rows.into_iter(), buf)
+    }
+
+    /// Pushes the rows before the first error that an iterator gives, and ends the table if there is
+    /// none. It stops at a row that doesn't fit as [`RowStream::print_all`] does.
+    ///
+    /// At an error it answers `RowsFault::Source`. The rows before it stand whole, but for the latest:
+    /// it isn't known whether that is the last.
+    ///
+    /// ```rust
+    /// stream.print_results(reader.lines(alloc).map(|line| cells_of(alloc, line)), &mut buf)?;
+    /// ```
+    pub fn print_results<E: Drop, I: Iterator<Item = Result<Vec<S, V>, E>> + Drop, W: Allocator>(
+        self,
+        rows: I,
+        buf: &mut String<W>,
+    ) -> Result<(), RowsFault<E>>
+        requires can { I.can_next rows }
+        requires ends { IsFinite (I.remaining rows) }
+        ensures { (items : List (Result (List Text) E)) → AlwaysGives (λ x y. result_map_both (λ row. map S.text row.items) (λ error. error) x ≡ y) I.next_gives rows items → PrintsResults (streaming D.width D.height C.color self.entry) items buf.old buf.new result }
+    {
+        let mut stream = self;
+        for row in rows {
+            let cells = match row {
+                Ok(cells) => cells,
+                Err(error) => return Err(RowsFault::Source(error)),
+            };
+            stream = stream.push(cells, buf)?;
+        }
+        Ok(stream.finish(buf)?)
     }
 }
