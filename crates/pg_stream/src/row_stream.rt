@@ -25,7 +25,7 @@ use std::marker::Model;
 /// Prints a table whose rows come one at a time: it holds each row until the next one is there, which
 /// tells that it isn't the last.
 ///
-/// None of its calls has a condition. A row that doesn't fit below those above it is named by its
+/// None of its calls asks that a row fits. A row that doesn't fit below those above it is named by its
 /// number (`StreamFault::Row`); the rows above it stand whole, and nothing of its own is appended. It
 /// is found when the row leaves, so when the next one is pushed, or at the end.
 ///
@@ -172,6 +172,7 @@ impl<
     /// line, and prints the one that was held until now.
     ///
     /// The cells stand in a vector of this allocator. Where that finds no memory, nothing is appended.
+    /// Their iterator may be asked, and ends.
     ///
     /// ```rust
     /// stream = stream.push_from(alloc, line.split(','), &mut buf)?;
@@ -213,7 +214,8 @@ impl<
     /// Pushes all rows that an iterator gives, and ends the table.
     ///
     /// It stops at the first row that doesn't fit: the rows above that one stand whole, and it is named
-    /// by its number. Where memory is refused, a beginning of the text stands.
+    /// by its number. Where memory is refused, a beginning of the text stands. The iterator may be asked,
+    /// and ends.
     ///
     /// ```rust
     /// stream.print_all(rows.into_iter().filter(|row| row.len() == 2), &mut buf)?;
@@ -250,7 +252,7 @@ impl<
     /// none. It stops at a row that doesn't fit as [`RowStream::print_all`] does.
     ///
     /// At an error it answers `RowsFault::Source`. The rows before it stand whole, but for the latest:
-    /// it isn't known whether that is the last.
+    /// it isn't known whether that is the last. The iterator may be asked, and ends.
     ///
     /// ```rust
     /// stream.print_results(reader.lines(alloc).map(|line| cells_of(alloc, line)), &mut buf)?;
