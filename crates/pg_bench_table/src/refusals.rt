@@ -92,11 +92,12 @@ fn is_given<A: Allocator + Copy>(
 ) -> Result<bool, Fail> {
     let records = records(alloc, TEXTS)?;
     let given = NaturalTable::new(&records, config, &NoColors).to_string(memory);
+    let is_whole = !memory.has_refused();
     match given {
-        Ok(text) => assert_eq!(rt; text.as_str(), DRAWN),
-        Err(fault) => assert_eq!(rt; fault, TableFault::Memory),
+        Ok(text) => assert_eq!(rt; (is_whole, text.as_str()), (true, DRAWN)),
+        Err(fault) => assert_eq!(rt; (is_whole, fault), (false, TableFault::Memory)),
     }
-    Ok(!memory.has_refused())
+    Ok(is_whole)
 }
 
 #[test]
