@@ -14,7 +14,7 @@ mod tested;
 use crate::fault::Fault;
 use pg_config::{CompactConfig, SpannedConfig};
 use pg_grid::PrintFault;
-use pg_layout::NoColors;
+use pg_layout::{Borders, NoColors};
 use pg_picture::fits::Misfit;
 
 fn main(rt: HostRuntime) -> Result<(), Fault> {
@@ -22,8 +22,8 @@ fn main(rt: HostRuntime) -> Result<(), Fault> {
     let records = parts::records(alloc)?;
     let (wide, narrow) = (parts::sizes(alloc, 9)?, parts::sizes(alloc, 6)?);
     let mut config = SpannedConfig::new(alloc);
-    config.set_borders(parts::ascii());
-    let compact = CompactConfig::new().set_borders(parts::ascii());
+    config.set_borders(Borders::ascii());
+    let compact = CompactConfig::new().set_borders(Borders::ascii());
 
     println!(rt; "checked:")?;
     let mut text = String::new(alloc);

@@ -1,7 +1,7 @@
-//! The parts of the table: its texts, its sizes and its borders.
+//! The parts of the table: its texts and its sizes.
 
 use crate::fault::Fault;
-use pg_layout::{Borders, ConstantDimension, VecRecords};
+use pg_layout::{ConstantDimension, VecRecords};
 use std::alloc::Global;
 
 /// Two rows of a text and a number.
@@ -19,26 +19,4 @@ pub(crate) fn records(alloc: Global) -> Result<VecRecords<String>, Fault> {
 /// This width for the texts and 2 for the numbers; the second row has two lines.
 pub(crate) fn sizes(alloc: Global, width: usize) -> Result<ConstantDimension, Fault> {
     Ok(ConstantDimension(vec![in alloc; width, 2]?, vec![in alloc; 1, 2]?))
-}
-
-/// ASCII glyphs at all fifteen places.
-pub(crate) fn ascii() -> Borders<char> {
-    let (cross, dash, bar) = (Some('+'), Some('-'), Some('|'));
-    Borders {
-        top: dash,
-        top_left: cross,
-        top_right: cross,
-        top_intersection: cross,
-        bottom: dash,
-        bottom_left: cross,
-        bottom_right: cross,
-        bottom_intersection: cross,
-        horizontal: dash,
-        left_intersection: cross,
-        right_intersection: cross,
-        intersection: cross,
-        left: bar,
-        right: bar,
-        vertical: bar,
-    }
 }

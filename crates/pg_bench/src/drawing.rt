@@ -86,10 +86,10 @@ impl<R: Records> Records for Unhinted<R> {
 
 /// A table's parts in memory.
 #[derive(Drop)]
-struct TableParts<'a> {
-    records: VecRecords<&'a str>,
-    dimension: ConstantDimension,
-    colors: ColorsMap,
+pub(crate) struct TableParts<'a> {
+    pub(crate) records: VecRecords<&'a str>,
+    pub(crate) dimension: ConstantDimension,
+    pub(crate) colors: ColorsMap,
 }
 
 /// The texts as records.
@@ -125,8 +125,8 @@ fn cell_colors(alloc: Global, settings: &[Setting]) -> Result<ColorsMap, AllocEr
     Ok(colors)
 }
 
-// The sample's parts.
-fn parts_of<'a>(alloc: Global, sample: &Sample<'a>) -> Result<TableParts<'a>, Fail> {
+/// The sample's parts.
+pub(crate) fn parts_of<'a>(alloc: Global, sample: &Sample<'a>) -> Result<TableParts<'a>, Fail> {
     Ok(TableParts {
         records: records(alloc, sample.texts)?,
         dimension: dimension(alloc, sample)?,

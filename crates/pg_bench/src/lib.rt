@@ -4,6 +4,8 @@
 #[cfg(test)]
 mod cells;
 #[cfg(test)]
+mod checked;
+#[cfg(test)]
 mod colors;
 #[cfg(test)]
 mod conditions;
@@ -23,5 +25,7 @@ mod refusals;
 mod settings;
 #[cfg(test)]
 mod spans;
+#[cfg(test)]
+mod streams;
 #[cfg(test)]
 mod texts;

@@ -107,8 +107,8 @@ fn cells(alloc: Global, texts: &[&str]) -> Result<Vec<String>, AllocError> {
     Ok(cells)
 }
 
-// The texts as records.
-fn records(alloc: Global, texts: &[&[&str]]) -> Result<VecRecords<String>, Fail> {
+/// The texts as records.
+pub(crate) fn records(alloc: Global, texts: &[&[&str]]) -> Result<VecRecords<String>, Fail> {
     let mut rows = Vec::new(alloc);
     for row in texts {
         rows.push(cells(alloc, row)?)?;
@@ -116,8 +116,8 @@ fn records(alloc: Global, texts: &[&[&str]]) -> Result<VecRecords<String>, Fail>
     Ok(VecRecords::new(rows)?)
 }
 
-// The widths of the columns. The heights aren't used, and so are all 0.
-fn dimension(alloc: Global, widths: &[usize]) -> Result<ConstantDimension, AllocError> {
+/// The widths of the columns. The heights aren't used, and so are all 0.
+pub(crate) fn dimension(alloc: Global, widths: &[usize]) -> Result<ConstantDimension, AllocError> {
     Ok(ConstantDimension(widths.to_vec(alloc)?, Vec::new(alloc)))
 }
 

@@ -37,7 +37,8 @@ impl<D: Dimension> Dimension for &D {
     }
 }
 
-/// The widths of the columns and the heights of the rows, and 0 past their ends.
+/// The widths of the columns and the heights of the rows, and 0 past their ends: a row past the end
+/// of the heights is no line high. Where the rows aren't counted before, take [`EvenDimension`].
 #[derive(Debug, Drop)]
 pub struct ConstantDimension<A: Allocator = Global>(
     /// The widths of the columns, in terminal columns.
@@ -57,5 +58,31 @@ impl<A: Allocator> Dimension for ConstantDimension<A> {
 
     fn get_height(&self, row: usize) -> usize {
         self.1.get(row).copied().unwrap_or(0)
+    }
+}
+
+/// The widths of the columns, and 0 past their end; every row has the same height.
+///
+/// It is for a table whose number of rows isn't known, as for rows that come one at a time: past the
+/// end of its heights a [`ConstantDimension`] answers 0, so further rows would fit and show nothing.
+#[derive(Debug, Drop)]
+pub struct EvenDimension<A: Allocator = Global> {
+    /// The widths of the columns, in terminal columns.
+    pub widths: Vec<usize, A>,
+    /// The height of each row, in lines.
+    pub height: usize,
+}
+
+impl<A: Allocator> Dimension for EvenDimension<A> {
+    ghost width = { λ d column. slice_index_or d.widths.items column 0 };
+
+    ghost height = { λ d _. d.height };
+
+    fn get_width(&self, column: usize) -> usize {
+        self.widths.get(column).copied().unwrap_or(0)
+    }
+
+    fn get_height(&self, _row: usize) -> usize {
+        self.height
     }
 }

@@ -20,7 +20,7 @@ pub use crate::alignment::{AlignmentHorizontal, AlignmentVertical, Formatting};
 pub use crate::borders::{Border, Borders, HorizontalLine};
 pub use crate::colors::{ANSIBuf, ANSIFmt, ANSIStr, Colors, NoColors, same_color};
 pub use crate::colors_map::ColorsMap;
-pub use crate::dimension::{ConstantDimension, Dimension};
+pub use crate::dimension::{ConstantDimension, Dimension, EvenDimension};
 pub use crate::iter_records::{IterRecords, IterRows};
 pub use crate::line_cursor::LineCursor;
 pub use crate::places::{Key, Places, has_first, holds, put, put_some, value_at};

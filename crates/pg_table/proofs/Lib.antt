@@ -3,3 +3,4 @@ pub mod ListedSizes
 pub mod Greatest
 pub mod NaturalRoom
 pub mod Faults
+pub mod StraightTables

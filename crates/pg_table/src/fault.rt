@@ -5,7 +5,7 @@ ghost use Rattle.pg_layout.specs.declared.vec_records.RecordsFault.TheVariants a
 ghost use Rattle.pg_table.specs.declared.fault.TableFault.TheVariants.{Ragged, Memory};
 
 use pg_layout::RecordsFault;
-use std::alloc::AllocError;
+use std::alloc::{AllocError, AllocFailed};
 
 /// Why a table can't be made or printed.
 #[derive(Debug, Clone, Copy, PartialEq, Eq)]
@@ -24,6 +24,14 @@ impl From<AllocError> for TableFault {
     ghost from_gives = { λ _ fault. fault ≡ Memory };
 
     fn from(_error: AllocError) -> TableFault {
+        TableFault::Memory
+    }
+}
+
+impl<T: Drop> From<AllocFailed<T>> for TableFault {
+    ghost from_gives = { λ _ fault. fault ≡ Memory };
+
+    fn from(_error: AllocFailed<T>) -> TableFault {
         TableFault::Memory
     }
 }

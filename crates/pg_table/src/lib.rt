@@ -8,6 +8,6 @@ mod sizes;
 mod table;
 
 pub use crate::fault::TableFault;
-pub use crate::laws::natural_tables_have_room;
+pub use crate::laws::{ascii_borders_are_narrow, natural_tables_have_room};
 pub use crate::natural::NaturalTable;
 pub use crate::table::Table;

@@ -58,6 +58,7 @@ where
     ghost use Rattle.pg_picture.specs.Sizes.{if_fits};
     ghost use Rattle.pg_grid.specs.IterGrids.{AppendsOrNothing};
     ghost use Rattle.pg_table.specs.Natural.{all_fit, natural_sizes};
+    ghost use Rattle.pg_table.specs.Laws.{IsEven};
     ghost use Rattle.pg_table.specs.Printing.{is_empty, fault_of, drawn_of, Prints};
     ghost use Rattle.pg_table.specs.declared.sizes.Axis.TheVariants.{Columns, Rows};
 
@@ -119,6 +120,7 @@ where
         ensures printed { OnOk result (string_bytes buf.new ≡ string_bytes buf.old ++ picture Known (drawn_of R.texts R.columns C.color (natural_parts self.now))) }
         ensures empty { is_empty (drawn_of R.texts R.columns C.color (natural_parts self.now)) ≡ true → IsOk result }
         ensures straight { IsOk result → IsStraight (drawn_of R.texts R.columns C.color (natural_parts self.now)) }
+        ensures even { IsOk result → IsEven (drawn_of R.texts R.columns C.color (natural_parts self.now)) }
     {
         if self.is_empty() {
             return Ok(());
@@ -195,8 +197,7 @@ where
     ) -> Result<(), AllocError>
         requires some { is_empty (drawn_of R.texts R.columns C.color (natural_parts self.now)) ≡ false }
         requires fits { fault_of (drawn_of R.texts R.columns C.color (natural_parts self.now)) ≡ None }
-        ensures appends { AppendsOrNothing buf.old buf.new result (picture Known (drawn_of R.texts R.columns C.color (natural_parts self.now))) }
-        ensures straight { IsOk result → IsStraight (drawn_of R.texts R.columns C.color (natural_parts self.now)) }
+        ensures { AppendsOrNothing buf.old buf.new result (picture Known (drawn_of R.texts R.columns C.color (natural_parts self.now))) }
     {
         let dimension = self.sizes().listed(alloc)?;
         self.push_sized(dimension, buf)
@@ -211,8 +212,7 @@ where
         requires widths { dimension.0.items ≡ natural_sizes Columns self.now.config.now (R.texts self.now.records) (R.columns self.now.records) }
         requires heights { dimension.1.items ≡ natural_sizes Rows self.now.config.now (R.texts self.now.records) (R.columns self.now.records) }
         requires fits { misfit_of (drawn_of R.texts R.columns C.color (natural_parts self.now)) ≡ None }
-        ensures appends { Appends buf.old buf.new result (picture Known (drawn_of R.texts R.columns C.color (natural_parts self.now))) }
-        ensures straight { IsStraight (drawn_of R.texts R.columns C.color (natural_parts self.now)) }
+        ensures { Appends buf.old buf.new result (picture Known (drawn_of R.texts R.columns C.color (natural_parts self.now))) }
     {
         PeekableGrid::new(self.records, self.config, dimension, self.colors).build(buf)
     }

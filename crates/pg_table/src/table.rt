@@ -128,6 +128,7 @@ impl<T: AsStr + Drop, A: Allocator> Table<T, A> {
     ghost use Rattle.pg_picture.specs.Picture.{picture};
     ghost use Rattle.pg_picture.specs.Table.{Known};
     ghost use Rattle.pg_table.specs.Natural.{all_fit, natural_sizes};
+    ghost use Rattle.pg_table.specs.Laws.{IsEven};
     ghost use Rattle.pg_table.specs.Printing.{is_empty, fault_of, drawn, with_header_line, Prints};
     ghost use Rattle.pg_table.specs.declared.sizes.Axis.TheVariants.{Columns, Rows};
 
@@ -197,6 +198,7 @@ impl<T: AsStr + Drop, A: Allocator> Table<T, A> {
         ensures printed { OnOk result (string_bytes buf.new ≡ string_bytes buf.old ++ picture Known (drawn T.text self.now)) }
         ensures empty { is_empty (drawn T.text self.now) ≡ true → IsOk result }
         ensures straight { IsOk result → IsStraight (drawn T.text self.now) }
+        ensures even { IsOk result → IsEven (drawn T.text self.now) }
     {
         NaturalTable::new(&self.records, &self.config, &self.colors).print(alloc, buf)
     }

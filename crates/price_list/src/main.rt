@@ -1,55 +1,41 @@
-//! The program `price_list`: a few rows, printed as a table whose columns are as wide as their texts.
+//! The program `price_list`: rows with a header, printed as wide as they are.
 //!
-//! Where a printer's call asks nothing, its caller has nothing to prove.
+//! All settings of a configuration are settings of a table: here the numbers stand at the right.
 #![tactic(auto)]
 
-mod fault;
-mod sizes;
-
-use crate::fault::Fault;
 use pg_config::SpannedConfig;
-use pg_grid::PeekableGrid;
-use pg_layout::{AlignmentHorizontal, Borders, Entity, NoColors, VecRecords};
+use pg_layout::{AlignmentHorizontal, Borders, Entity, HorizontalLine, Indent, Sides};
+use pg_table::{Table, TableFault};
 use std::alloc::{AllocError, Global};
+use std::io;
 
-// ASCII glyphs, and the prices on the right.
-fn set_look(config: &mut SpannedConfig) -> Result<(), AllocError> {
-    let (cross, dash, bar) = (Some('+'), Some('-'), Some('|'));
-    config.set_borders(Borders {
-        top: dash,
-        top_left: cross,
-        top_right: cross,
-        top_intersection: cross,
-        bottom: dash,
-        bottom_left: cross,
-        bottom_right: cross,
-        bottom_intersection: cross,
-        horizontal: dash,
-        left_intersection: cross,
-        right_intersection: cross,
-        intersection: cross,
-        left: bar,
-        right: bar,
-        vertical: bar,
-    });
-    config.set_alignment_horizontal(Entity::Column(2), AlignmentHorizontal::Right)
+// Borders and a space at both sides of each text; quantities and prices at the right.
+fn look(alloc: Global) -> Result<SpannedConfig, AllocError> {
+    let (space, none) = (Indent::spaced(1), Indent::zero());
+    let mut config = SpannedConfig::new(alloc);
+    config.set_borders(Borders::sharp());
+    config.set_padding(Entity::Global, Sides::new(space, space, none, none))?;
+    config.set_alignment_horizontal(Entity::Column(1), AlignmentHorizontal::Right)?;
+    config.set_alignment_horizontal(Entity::Column(2), AlignmentHorizontal::Right)?;
+    Ok(config)
 }
 
-// The table of the prices.
-fn price_table(alloc: Global, config: &SpannedConfig) -> Result<String, Fault> {
+// The table of the prices, with a line below its header.
+fn prices(alloc: Global) -> Result<String, TableFault> {
     let rows = vec![in alloc;
         vec![in alloc; "name", "quantity", "price"]?,
         vec![in alloc; "apples", "12", "3.50"]?,
         vec![in alloc; "rye bread\n(sliced)", "1", "14.20"]?,
     ]?;
-    let dimension = sizes::natural(alloc, &rows)?;
-    let records = VecRecords::new(rows)?;
-    Ok(PeekableGrid::new(&records, config, &dimension, &NoColors).text(alloc)?)
+    let table = Table::new(alloc, rows)?.with_config(look(alloc)?);
+    table
+        .with_header_line(HorizontalLine::sharp())?
+        .to_string(alloc)
 }
 
-fn main(rt: HostRuntime) -> Result<(), Fault> {
-    let mut config = SpannedConfig::new(rt.alloc());
-    set_look(&mut config)?;
-    println!(rt; "{}", price_table(rt.alloc(), &config)?)?;
-    Ok(())
+fn main(rt: HostRuntime) -> io::Result<()> {
+    match prices(rt.alloc()) {
+        Ok(text) => println!(rt; "{text}"),
+        Err(fault) => println!(rt; "{fault:?}"),
+    }
 }

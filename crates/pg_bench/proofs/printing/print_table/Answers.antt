@@ -21,4 +21,4 @@ print_rows-requires-clause-given g c =
     c.hint_count_rows-hint.result (c.hint_count_rows-hint.ensures.exact c.requires.readable) c.spans-spans.ensures.places c.requires.fits
     c.count_columns-columns.result c.count_columns-columns.ensures.value (omega (arith, c.if-columns-eq0.false)) (c.count_columns-columns.ensures.even c.requires.readable)
     _ _ _ c.iter_rows-rows.ensures.gives c.in-Some.ensures.steps in
-    (b.cells, b.others, b.from, b.rows_fit _ c.in_ok-printer.ensures)
+    (b.cells, b.others, b.from, b.rows_fit _ c.in_ok-printer.ensures.made)

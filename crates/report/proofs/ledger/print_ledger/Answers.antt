@@ -14,7 +14,7 @@ new-requires-2 g c = may_begin c.args.config.now _ _ c.requires.spans c.requires
 
 pub print_lines-requires : goal.print_lines-requires
 unfolding printer
-print_lines-requires g c = ap (λ (s : Printing). s.rows) c.in_ok-printer.ensures
+print_lines-requires g c = ap (λ (s : Printing). s.rows) c.in_ok-printer.ensures.made
 
 pub returns : goal.returns
 returns g c =
@@ -29,5 +29,5 @@ returns g c =
     on-ok c.print_lines.result
     (λ rest. subst (λ (k : Option (List ℕ)). IfSome k (λ bytes. (text : Text) × IsReport config bytes text × Appends old end text)) known
     (report-first config read left first old end here.0 here.1
-    (subst (λ (s : Printing). IfSome left (λ bytes. (text : Text) × Reported s first bytes text × Appends old end text)) c.in_ok-printer.ensures rest)))
+    (subst (λ (s : Printing). IfSome left (λ bytes. (text : Text) × Reported s first bytes text × Appends old end text)) c.in_ok-printer.ensures.made rest)))
     c.print_lines.ensures

@@ -43,7 +43,7 @@ print_rows-requires-clause-given g c =
     c.hint_count_rows-hint.result (c.hint_count_rows-hint.ensures.exact c.requires.readable) c.spans-spans.ensures.places c.requires.fits
     c.count_columns-columns.result c.count_columns-columns.ensures.value (omega (arith, c.if-columns-eq0.false)) (c.count_columns-columns.ensures.even c.requires.readable)
     _ _ _ c.iter_rows-rows.ensures.gives c.in-Some.ensures.steps in
-    (b.cells, b.others, b.from, b.rows_fit _ c.in_ok-printer.ensures)
+    (b.cells, b.others, b.from, b.rows_fit _ c.in_ok-printer.ensures.made)
 
 pub returns-clause-appends : goal.returns-clause-appends
 returns-clause-appends g c =
@@ -53,4 +53,4 @@ returns-clause-appends g c =
     c.hint_count_rows-hint.result (c.hint_count_rows-hint.ensures.exact c.requires.readable) c.spans-spans.ensures.places c.requires.fits
     c.count_columns-columns.result c.count_columns-columns.ensures.value (omega (arith, c.if-columns-eq0.false)) (c.count_columns-columns.ensures.even c.requires.readable)
     _ _ _ c.iter_rows-rows.ensures.gives c.in-Some.ensures.steps in
-    inl (Appends-text (b.rows_picture _ c.in_ok-printer.ensures ∙ ap (λ h. picture (hint_of h) t) c.hint_count_rows-hint.ensures.value) (c.print_rows.ensures b.cells b.others b.from))
+    inl (Appends-text (b.rows_picture _ c.in_ok-printer.ensures.made ∙ ap (λ h. picture (hint_of h) t) c.hint_count_rows-hint.ensures.value) (c.print_rows.ensures b.cells b.others b.from))

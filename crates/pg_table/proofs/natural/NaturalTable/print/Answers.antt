@@ -2,7 +2,8 @@ use Rattle.std.proofs.Common.{◌≡◌, ◌++◌, sym, ap, ◌∙◌, append-ni
 use Rattle.pg_picture.specs.Table.{Known}
 use Rattle.pg_picture.proofs.Pictures.{picture-none}
 use Rattle.pg_table.specs.Printing.{drawn_of, natural_parts}
-use Rattle.pg_table.proofs.Faults.{prints-nothing}
+use Rattle.pg_table.proofs.Faults.{fault-empty, prints-nothing}
+use Rattle.pg_table.proofs.StraightTables.{straight, even}
 use Rattle.pg_table.proofs.natural.NaturalTable.print.Goals as goal
 
 pub returns-then-is_empty-clause-prints : goal.returns-then-is_empty-clause-prints
@@ -13,3 +14,25 @@ pub returns-then-is_empty-clause-printed : goal.returns-then-is_empty-clause-pri
 returns-then-is_empty-clause-printed g c =
     let none = picture-none Known (drawn_of g.R.Records.texts g.R.Records.columns g.C.Colors.color (natural_parts c.args.self.now)) (sym c.is_empty.ensures ∙ c.if-is_empty.true) in
     sym (ap (λ t. string_bytes c.args.buf.now ++ t) none ∙ append-nil (string_bytes c.args.buf.now))
+
+pub returns-then-is_empty-clause-straight : goal.returns-then-is_empty-clause-straight
+returns-then-is_empty-clause-straight g c = λ ok.
+    let self = c.args.self.now in
+    straight self.config.now (g.R.Records.texts self.records) (g.R.Records.columns self.records) (g.C.Colors.color self.colors.now)
+    (fault-empty (drawn_of g.R.Records.texts g.R.Records.columns g.C.Colors.color (natural_parts self)) (sym c.is_empty.ensures ∙ c.if-is_empty.true))
+
+pub returns-clause-straight : goal.returns-clause-straight
+returns-clause-straight g c = λ ok.
+    let self = c.args.self.now in
+    straight self.config.now (g.R.Records.texts self.records) (g.R.Records.columns self.records) (g.C.Colors.color self.colors.now) (sym c.in_ok-fits.ensures)
+
+pub returns-then-is_empty-clause-even : goal.returns-then-is_empty-clause-even
+returns-then-is_empty-clause-even g c = λ ok.
+    let self = c.args.self.now in
+    even self.config.now (g.R.Records.texts self.records) (g.R.Records.columns self.records) (g.C.Colors.color self.colors.now)
+    (fault-empty (drawn_of g.R.Records.texts g.R.Records.columns g.C.Colors.color (natural_parts self)) (sym c.is_empty.ensures ∙ c.if-is_empty.true))
+
+pub returns-clause-even : goal.returns-clause-even
+returns-clause-even g c = λ ok.
+    let self = c.args.self.now in
+    even self.config.now (g.R.Records.texts self.records) (g.R.Records.columns self.records) (g.C.Colors.color self.colors.now) (sym c.in_ok-fits.ensures)

@@ -1,0 +1,168 @@
+//! Calls that test their table themselves, where it doesn't fit and where memory is refused.
+
+use crate::drawing::{Sample, WITH_MARGINS, bordered, dimension, records, with_margins};
+use pg_config::CompactConfig;
+use pg_grid::{CompactGrid, PrintFault};
+use pg_layout::{ConstantDimension, Indent, NoColors, Sides, VecRecords};
+use pg_picture::fits::Misfit;
+use pg_testing::refusing::Refusing;
+use std::alloc::{Allocator, Global};
+use std::process::Abort;
+use std::test::Fail;
+
+/// More requests for memory than a call makes.
+const MANY: u64 = 100;
+
+/// The records, the sizes and the configuration of a table.
+type Parts<'a> = (
+    &'a VecRecords<String>,
+    &'a ConstantDimension,
+    &'a CompactConfig,
+);
+
+// What the test of the grid answers.
+fn fits((records, dimension, config): Parts<'_>) -> Result<(), Misfit> {
+    CompactGrid::new(records, config, dimension, NoColors).fits()
+}
+
+// Appends the table of these parts by the checked call.
+fn print<A: Allocator>(
+    (records, dimension, config): Parts<'_>,
+    buf: &mut String<A>,
+) -> Result<(), PrintFault> {
+    CompactGrid::new(records, config, dimension, NoColors).print(buf)
+}
+
+// The text of the table of these parts by the checked call.
+fn text<A: Allocator>(
+    memory: A,
+    (records, dimension, config): Parts<'_>,
+) -> Result<String<A>, PrintFault> {
+    CompactGrid::new(records, config, dimension, NoColors).text(memory)
+}
+
+// Whether memory is refused while the table is printed behind `log:`. The buffer has then gained a
+// beginning of the picture, and else the picture.
+fn is_refused(
+    rt: &impl Abort,
+    memory: &Refusing<Global>,
+    parts: Parts<'_>,
+    picture: &str,
+) -> Result<bool, Fail> {
+    let mut buf = String::from_str(memory, "log:")?;
+    let printed = print(parts, &mut buf);
+    let Some(gained) = buf.as_str().strip_prefix("log:") else {
+        panic!(rt; "the old text is lost");
+    };
+    assert!(rt; picture.starts_with(gained));
+    assert_eq!(rt; printed.is_ok(), gained == picture);
+    let awaited = if memory.has_refused() {
+        Err(PrintFault::Memory)
+    } else {
+        Ok(())
+    };
+    assert_eq!(rt; printed, awaited);
+    Ok(memory.has_refused())
+}
+
+#[test]
+fn a_printed_table_is_refused_for_want_of_memory_alone(rt: HostRuntime) -> Result<(), Fail> {
+    let (alloc, sample) = (rt.alloc(), with_margins());
+    let records = records(alloc, sample.texts)?;
+    let dimension = dimension(alloc, sample.widths)?;
+    let parts = (&records, &dimension, &sample.config);
+    for k in 1..MANY {
+        if !is_refused(&rt, &Refusing::only(alloc, k), parts, WITH_MARGINS)? {
+            assert!(rt; k > 1);
+            return Ok(());
+        }
+    }
+    Err(Fail::new("more requests than were tried"))
+}
+
+#[test]
+fn a_text_is_refused_for_want_of_memory_alone(rt: HostRuntime) -> Result<(), Fail> {
+    let (alloc, sample) = (rt.alloc(), with_margins());
+    let records = records(alloc, sample.texts)?;
+    let dimension = dimension(alloc, sample.widths)?;
+    for k in 0..MANY {
+        let memory = Refusing::only(alloc, k);
+        let given = text(&memory, (&records, &dimension, &sample.config));
+        if !memory.has_refused() {
+            assert!(rt; k > 0);
+            assert_eq!(rt; given.ok().as_deref(), Some(WITH_MARGINS));
+            return Ok(());
+        }
+        assert_eq!(rt; given.err(), Some(PrintFault::Memory));
+    }
+    Err(Fail::new("more requests than were tried"))
+}
+
+// The table of the sample has this misfit: each call answers it, and asks for no memory.
+fn assert_misfit(
+    rt: &impl Abort,
+    alloc: Global,
+    sample: &Sample<'_>,
+    misfit: Misfit,
+) -> Result<(), Fail> {
+    let records = records(alloc, sample.texts)?;
+    let dimension = dimension(alloc, sample.widths)?;
+    let parts = (&records, &dimension, &sample.config);
+    let memory = Refusing::from_on(alloc, 1);
+    let mut buf = String::from_str(&memory, "log:")?;
+    assert_eq!(rt; fits(parts), Err(misfit));
+    assert_eq!(rt; print(parts, &mut buf), Err(PrintFault::Misfit(misfit)));
+    assert_eq!(rt;
+        text(&memory, parts).err(),
+        Some(PrintFault::Misfit(misfit))
+    );
+    assert_eq!(rt; buf.as_str(), "log:");
+    assert_eq!(rt; memory.requests(), 1);
+    Ok(())
+}
+
+/// Two columns, of which the second has no room for its paddings.
+fn without_room(texts: &'static [&'static [&'static str]]) -> Sample<'static> {
+    let padding = Sides::new(
+        Indent::spaced(1),
+        Indent::spaced(1),
+        Indent::zero(),
+        Indent::zero(),
+    );
+    Sample {
+        texts,
+        widths: &[3, 1],
+        config: bordered().set_padding(padding),
+        colored: &[],
+    }
+}
+
+#[test]
+fn the_first_column_without_room_is_named(rt: HostRuntime) -> Result<(), Fail> {
+    assert_misfit(
+        &rt,
+        rt.alloc(),
+        &without_room(&[&["a", ""]]),
+        Misfit::Room(0, 1),
+    )
+}
+
+#[test]
+fn a_total_that_is_no_number_is_named_before_room(rt: HostRuntime) -> Result<(), Fail> {
+    let sample = Sample {
+        widths: &[usize::MAX, 1],
+        ..without_room(&[&["a", ""]])
+    };
+    assert_misfit(&rt, rt.alloc(), &sample, Misfit::Totals)
+}
+
+#[test]
+fn nothing_is_asked_of_a_table_with_no_rows(rt: HostRuntime) -> Result<(), Fail> {
+    let (alloc, sample) = (rt.alloc(), without_room(&[]));
+    let records = records(alloc, sample.texts)?;
+    let dimension = dimension(alloc, sample.widths)?;
+    let parts = (&records, &dimension, &sample.config);
+    assert_eq!(rt; fits(parts), Ok(()));
+    assert_eq!(rt; text(alloc, parts).ok().as_deref(), Some(""));
+    Ok(())
+}
