@@ -1,4 +1,4 @@
-//! The program `price_lists`: it prints tables of articles and prices, whose rows come from a vector,
+//! The program `streamed_rows`: it prints tables of articles and prices, whose rows come from a vector,
 //! from iterators over it, from arrays and from the parts of lines.
 //!
 //! It shows the calls that take all rows at once, or rows of any kind. None of its functions needs a
