@@ -36,7 +36,7 @@ line_of_misfit misfits.Totals = codes "does not fit: totals\n"
 line_of_misfit (misfits.Room row col) = codes "does not fit: room " ++ (decimal row ++ (codes " " ++ (decimal col ++ codes "\n")))
 
 abbrev pub line_of : Fault → Text
-line_of Usage = codes "usage: pgshow compact|iter|peek\n"
+line_of Usage = codes "usage: pgshow compact|iter|peek|table\n"
 line_of (Bad line) = codes "line " ++ (decimal line ++ codes ": bad\n")
 line_of (Misfit misfit) = line_of_misfit misfit
 line_of Memory = codes "out of memory\n"

@@ -84,7 +84,7 @@ impl Fault {
         ensures { OnOk result (Appends (W.contents err.old) (W.contents err.new) (line_of self)) }
     {
         match self {
-            Fault::Usage => writeln!(err, "usage: pgshow compact|iter|peek"),
+            Fault::Usage => writeln!(err, "usage: pgshow compact|iter|peek|table"),
             Fault::Bad(line) => writeln!(err, "line {line}: bad"),
             Fault::Misfit(misfit) => write_misfit(misfit, err),
             Fault::Memory => writeln!(err, "out of memory"),
