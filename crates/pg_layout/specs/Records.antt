@@ -1,8 +1,10 @@
 -- What records stand for: a list of rows, each a list of texts; and what the iterators give that read them.
-use Rattle.std.specs.Prelude.{◌≡◌, ℕ, ◌==◌, not, List, [], ◌∷◌, length, All, IfSome, position, slice_index_or, Option, Some, None}
+use Rattle.std.specs.Prelude.{◌≡◌, ℕ, ◌==◌, not, List, [], ◌∷◌, ◌++◌, codes, decimal, length, All, IfSome, position, slice_index_or, Option, Some, None}
 use Rattle.std.specs.Iterator.{Count, IsFinite}
 use Rattle.pg_layout.specs.Text.{Text}
 use Rattle.pg_layout.specs.declared.position.Position.{Position}
+use Rattle.pg_layout.specs.declared.vec_records.RecordsFault.{RecordsFault}
+use Rattle.pg_layout.specs.declared.vec_records.RecordsFault.TheVariants.{Ragged}
 
 -- rows of texts
 abbrev pub Table : Type 0
@@ -48,3 +50,7 @@ columns_of (row ∷ rows) = length row
 -- the first row whose length differs from that of the first
 abbrev pub ragged_row : {X : Type 0} → List (List X) → Option ℕ
 ragged_row rows = position (λ row. not (length row == columns_of rows)) rows
+
+-- the words for rows that are no records
+abbrev pub records_fault_text : RecordsFault → Text
+records_fault_text (Ragged row) = codes "row " ++ (decimal row ++ codes " has another length than row 0")

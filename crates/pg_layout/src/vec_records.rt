@@ -3,7 +3,7 @@
 ghost use Rattle.std.specs.Prelude.{◌≡◌, ◌==◌, ◌<◌, ℕ, not, [], List, slice_index_or, map, length, position, Some, IfOk, option_map};
 ghost use Rattle.std.specs.Result.{result_err};
 ghost use Rattle.std.specs.Iterator.{YieldsFirstBy, item_count};
-ghost use Rattle.pg_layout.specs.Records.{columns_of, ragged_row, text_at};
+ghost use Rattle.pg_layout.specs.Records.{columns_of, ragged_row, records_fault_text, text_at};
 ghost use Rattle.pg_layout.specs.Text.{lines_of};
 ghost use Rattle.pg_layout.specs.declared.vec_records.RecordsFault.TheVariants.{Ragged};
 
@@ -12,6 +12,8 @@ use crate::records::{ExactRecords, PeekableRecords, Records};
 use crate::text::{count_lines, get_line, get_line_width, get_text_width};
 use std::alloc::{Allocator, Global};
 use std::convert::AsStr;
+use std::error::Error;
+use std::fmt;
 use std::marker::Model;
 
 /// The cells of a row in memory, as their texts.
@@ -62,6 +64,18 @@ pub enum RecordsFault {
     /// This row, counted from 0, is the first whose length differs from that of row 0.
     Ragged(usize),
 }
+
+/// Writes which row has another length than row 0.
+impl fmt::Display for RecordsFault {
+    ghost output = { λ fault. Some (records_fault_text fault) };
+
+    fn fmt<W: fmt::Write>(&self, f: &mut fmt::Formatter<W>) -> fmt::Result {
+        let RecordsFault::Ragged(row) = self;
+        write!(f, "row {row} has another length than row 0")
+    }
+}
+
+impl Error for RecordsFault {}
 
 /// Rows of cells in memory, all of one length.
 #[derive(Debug, Drop)]

@@ -1,5 +1,5 @@
 -- The conditions of a table, as tests.
-use Rattle.std.specs.Prelude.{ℕ, ◌+◌, ◌-◌, ◌^◌, Bool, true, not, ◌&&◌, ◌||◌, ◌==◌, nat_lt, nat_le, List, [], ◌∷◌, map, flat_map, find, sum_by, Option, Some, None, if◌then◌else◌}
+use Rattle.std.specs.Prelude.{ℕ, ◌+◌, ◌-◌, ◌^◌, Bool, true, not, ◌&&◌, ◌||◌, ◌==◌, nat_lt, nat_le, List, [], ◌∷◌, ◌++◌, codes, decimal, map, flat_map, find, sum_by, Option, Some, None, if◌then◌else◌}
 use Rattle.std.specs.List.{range_with_len, list_all}
 use Rattle.std.specs.Option.{option_map}
 use Rattle.pg_layout.specs.declared.position.Position.{Position}
@@ -12,6 +12,12 @@ use Rattle.pg_picture.specs.Table.{Table, rect_width, rect_height, full_width}
 use Rattle.pg_picture.specs.declared.fits.Misfit.{Misfit}
 use Rattle.pg_picture.specs.declared.fits.Misfit.TheVariants.{Spans, Totals, Room}
 use Rattle.pg_picture.specs.CompactLines.{CompactTable, compact_full_width}
+
+-- the words for a misfit
+abbrev pub misfit_text : Misfit → Text
+misfit_text Spans = codes "spans"
+misfit_text Totals = codes "totals"
+misfit_text (Room row col) = codes "room " ++ (decimal row ++ (codes " " ++ decimal col))
 
 -- no place lies in both rectangles
 abbrev pub are_apart : Span → Span → Bool

@@ -2,7 +2,7 @@
 use Rattle.std.specs.Prelude.{◌≡◌, ℕ, Bool, true, false, List, [], ◌∷◌, ◌++◌, Option, Some, None, Result, Ok, Err, String, string_bytes, codes, decimal}
 use Rattle.pg_layout.specs.Text.{Text}
 use Rattle.pg_picture.specs.declared.fits.Misfit.{Misfit as WhatMisfits}
-use Rattle.pg_picture.specs.declared.fits.Misfit.TheVariants as misfits
+use Rattle.pg_picture.specs.Fits.{misfit_text}
 use Rattle.pg_show.specs.Mode.{mode_of}
 use Rattle.pg_show.specs.Script.{told_by}
 use Rattle.pg_show.specs.Show.{misfit_in, text_in}
@@ -29,19 +29,17 @@ abbrev pub status_after : Option Fault → ℕ
 status_after None = 0
 status_after (Some fault) = status_of fault
 
--- the line that tells of a fault
-abbrev pub line_of_misfit : WhatMisfits → Text
-line_of_misfit misfits.Spans = codes "does not fit: spans\n"
-line_of_misfit misfits.Totals = codes "does not fit: totals\n"
-line_of_misfit (misfits.Room row col) = codes "does not fit: room " ++ (decimal row ++ (codes " " ++ (decimal col ++ codes "\n")))
+-- the words for a fault, and the line that tells of it
+abbrev pub fault_text : Fault → Text
+fault_text Usage = codes "usage: pgshow compact|iter|peek|table"
+fault_text (Bad line) = codes "line " ++ (decimal line ++ codes ": bad")
+fault_text (Misfit misfit) = codes "does not fit: " ++ misfit_text misfit
+fault_text Memory = codes "out of memory"
+fault_text Read = codes "read failed"
+fault_text Write = codes "write failed"
 
 abbrev pub line_of : Fault → Text
-line_of Usage = codes "usage: pgshow compact|iter|peek|table\n"
-line_of (Bad line) = codes "line " ++ (decimal line ++ codes ": bad\n")
-line_of (Misfit misfit) = line_of_misfit misfit
-line_of Memory = codes "out of memory\n"
-line_of Read = codes "read failed\n"
-line_of Write = codes "write failed\n"
+line_of fault = fault_text fault ++ codes "\n"
 
 -- whether a fault says that memory, a read or a write failed, and not that the arguments or the script are wrong
 abbrev pub is_failure : Fault → Bool

@@ -1,16 +1,17 @@
 //! Why a run of the program prints no table.
 
-ghost use Rattle.std.specs.Prelude.{◌≡◌, OnOk};
+ghost use Rattle.std.specs.Prelude.{◌≡◌, OnOk, Some};
 ghost use Rattle.std.specs.Io.KnownBytes.{Appends};
-ghost use Rattle.pg_show.specs.Program.{status_of, line_of, line_of_misfit, fault_of_script, fault_of_show};
+ghost use Rattle.pg_show.specs.Program.{status_of, line_of, fault_text, fault_of_script, fault_of_show};
 ghost use Rattle.pg_show.specs.declared.fault.Fault.TheVariants.{Memory};
 
 use crate::script::ScriptFault;
 use crate::show::ShowFault;
 use pg_picture::fits::Misfit;
 use std::alloc::AllocError;
-use std::io;
+use std::error::Error;
 use std::io::Write;
+use std::{fmt, io};
 
 /// Why a run of the program prints no table.
 #[derive(Debug, Clone, Copy)]
@@ -76,31 +77,47 @@ impl Fault {
     pub fn tell<W: Write>(self, err: &mut W) -> io::Result<()>
         ensures { OnOk result (Appends (W.contents err.old) (W.contents err.new) (line_of self)) }
     {
-        self.write_line(err)?;
+        writeln!(err, "{self}")?;
         err.flush()
     }
+}
 
-    fn write_line<W: Write>(self, err: &mut W) -> io::Result<()>
-        ensures { OnOk result (Appends (W.contents err.old) (W.contents err.new) (line_of self)) }
-    {
+/// Writes the words of the line that tells of it.
+impl fmt::Display for Fault {
+    ghost output = { λ fault. Some (fault_text fault) };
+
+    fn fmt<W: fmt::Write>(&self, f: &mut fmt::Formatter<W>) -> fmt::Result {
         match self {
-            Fault::Usage => writeln!(err, "usage: pgshow compact|iter|peek|table"),
-            Fault::Bad(line) => writeln!(err, "line {line}: bad"),
-            Fault::Misfit(misfit) => write_misfit(misfit, err),
-            Fault::Memory => writeln!(err, "out of memory"),
-            Fault::Read => writeln!(err, "read failed"),
-            Fault::Write => writeln!(err, "write failed"),
+            Fault::Usage => write!(f, "usage: pgshow compact|iter|peek|table"),
+            Fault::Bad(line) => write!(f, "line {line}: bad"),
+            Fault::Misfit(misfit) => write!(f, "does not fit: {misfit}"),
+            Fault::Memory => write!(f, "out of memory"),
+            Fault::Read => write!(f, "read failed"),
+            Fault::Write => write!(f, "write failed"),
         }
     }
 }
 
-// Writes the line that tells what doesn't fit.
-fn write_misfit<W: Write>(misfit: Misfit, err: &mut W) -> io::Result<()>
-    ensures { OnOk result (Appends (W.contents err.old) (W.contents err.new) (line_of_misfit misfit)) }
-{
-    match misfit {
-        Misfit::Spans => writeln!(err, "does not fit: spans"),
-        Misfit::Totals => writeln!(err, "does not fit: totals"),
-        Misfit::Room(row, col) => writeln!(err, "does not fit: room {row} {col}"),
+impl Error for Fault {}
+
+/// Writes what the program says of it.
+impl fmt::Display for ScriptFault {
+    ghost output = { λ fault. Some (fault_text (fault_of_script fault)) };
+
+    fn fmt<W: fmt::Write>(&self, f: &mut fmt::Formatter<W>) -> fmt::Result {
+        write!(f, "{}", Fault::from(*self))
     }
 }
+
+impl Error for ScriptFault {}
+
+/// Writes what the program says of it.
+impl fmt::Display for ShowFault {
+    ghost output = { λ fault. Some (fault_text (fault_of_show fault)) };
+
+    fn fmt<W: fmt::Write>(&self, f: &mut fmt::Formatter<W>) -> fmt::Result {
+        write!(f, "{}", Fault::from(*self))
+    }
+}
+
+impl Error for ShowFault {}

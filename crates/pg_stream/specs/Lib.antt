@@ -11,3 +11,4 @@ pub mod Laws
 pub mod SingleRows
 pub mod Styles
 pub mod Streams
+pub mod Faults

@@ -1,10 +1,14 @@
 //! Why rows aren't printed.
 
-ghost use Rattle.std.specs.Prelude.{◌≡◌};
+ghost use Rattle.std.specs.Prelude.{◌≡◌, Some};
+ghost use Rattle.pg_stream.specs.declared.fault.RowsFault.{RowsFault};
 ghost use Rattle.pg_stream.specs.declared.fault.StreamFault.{StreamFault};
+ghost use Rattle.pg_stream.specs.Faults.{stream_fault_text};
 
 use pg_picture::fits::Misfit;
-use std::alloc::AllocError;
+use std::alloc::{AllocError, AllocFailed};
+use std::error::Error;
+use std::fmt;
 
 /// Why a printer isn't made, or rows aren't printed to their end.
 #[derive(Debug, Clone, Copy, PartialEq, Eq)]
@@ -34,6 +38,29 @@ impl From<AllocError> for StreamFault {
     }
 }
 
+impl<T: Drop> From<AllocFailed<T>> for StreamFault {
+    ghost from_gives = { λ _ fault. fault ≡ StreamFault.Memory };
+
+    fn from(_error: AllocFailed<T>) -> StreamFault {
+        StreamFault::Memory
+    }
+}
+
+/// Writes what doesn't fit, or that memory was refused.
+impl fmt::Display for StreamFault {
+    ghost output = { λ fault. Some (stream_fault_text fault) };
+
+    fn fmt<W: fmt::Write>(&self, f: &mut fmt::Formatter<W>) -> fmt::Result {
+        match self {
+            StreamFault::Misfit(misfit) => write!(f, "does not fit: {misfit}"),
+            StreamFault::Row(row) => write!(f, "row {row} does not fit"),
+            StreamFault::Memory => write!(f, "out of memory"),
+        }
+    }
+}
+
+impl Error for StreamFault {}
+
 /// Why a row isn't printed.
 #[derive(Debug, Drop)]
 pub enum RowFault<P> {
@@ -41,4 +68,21 @@ pub enum RowFault<P> {
     Misfit(P),
     /// No memory was found, and the printer is gone.
     Memory,
+}
+
+/// Why rows that may be errors aren't printed to their end.
+#[derive(Debug, Drop)]
+pub enum RowsFault<E> {
+    /// A row isn't printed.
+    Stream(StreamFault),
+    /// This error came in the place of a row.
+    Source(E),
+}
+
+impl<E> From<StreamFault> for RowsFault<E> {
+    ghost from_gives = { λ fault stop. stop ≡ RowsFault.Stream fault };
+
+    fn from(fault: StreamFault) -> RowsFault<E> {
+        RowsFault::Stream(fault)
+    }
 }

@@ -2,3 +2,4 @@ pub mod Natural
 pub mod Sizes
 pub mod Printing
 pub mod Laws
+pub mod Fault
