@@ -141,7 +141,7 @@ heights 1 1
 
 #[test]
 fn anything_but_one_mode_is_wrong(rt: HostRuntime) -> Result<(), Fail> {
-    let refused = ("size 1", "usage: pgshow compact|iter|peek\n", 2);
+    let refused = ("size 1", "usage: pgshow compact|iter|peek|table\n", 2);
     running::assert_refused(&rt, rt.alloc(), &[], refused)?;
     running::assert_refused(&rt, rt.alloc(), &["compact", "compact"], refused)?;
     running::assert_refused(&rt, rt.alloc(), &["Compact"], refused)?;

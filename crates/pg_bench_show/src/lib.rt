@@ -9,3 +9,5 @@ mod running;
 mod scripts;
 #[cfg(test)]
 mod streams;
+#[cfg(test)]
+mod table_scripts;

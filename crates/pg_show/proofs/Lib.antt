@@ -2,6 +2,7 @@
 pub mod EvenRows
 pub mod LineWords
 pub mod LinesRead
+pub mod NaturalTables
 pub mod NumbersOfWords
 pub mod RightAnswers
 pub mod RowsOfTexts

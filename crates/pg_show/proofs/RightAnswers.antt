@@ -9,7 +9,7 @@ use Rattle.pg_show.specs.Show.{misfit_in, text_in, Prints}
 use Rattle.pg_show.specs.Told.{Told}
 use Rattle.pg_show.specs.declared.fault.Fault.{Fault}
 use Rattle.pg_show.specs.declared.mode.Mode.{Mode}
-use Rattle.pg_show.specs.declared.mode.Mode.TheVariants.{Compact, Iter, Peek}
+use Rattle.pg_show.specs.declared.mode.Mode.TheVariants.{Compact, Iter, Peek, Table}
 use Rattle.pg_show.specs.declared.show.ShowFault.{ShowFault}
 use Rattle.pg_show.specs.declared.show.ShowFault.TheVariants as show
 
@@ -36,3 +36,5 @@ Prints-ok E Compact old new u text printed = printed.ok
 Prints-ok E Iter old new u text (inl printed) = printed.ok
 Prints-ok E Iter old new u text (inr refused) = absurd (false≢true refused.0)
 Prints-ok E Peek old new u text printed = printed.ok
+Prints-ok E Table old new u text (inl printed) = printed.ok
+Prints-ok E Table old new u text (inr refused) = absurd (false≢true refused.0)

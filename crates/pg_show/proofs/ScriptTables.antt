@@ -13,8 +13,9 @@ use Rattle.pg_picture.specs.CompactSizes.{compact_sized}
 use Rattle.pg_picture.specs.Fits.{misfit_of, compact_misfit_of, totals_fit, body_height, owner_fits}
 use Rattle.pg_picture.specs.Sizes.{table_of}
 use Rattle.pg_picture.specs.Table.{total_width, full_width, rect_width, rect_height, rect_marks}
+use Rattle.pg_table.specs.Natural.{natural_table}
 use Rattle.pg_show.specs.Script.{told_of_script}
-use Rattle.pg_show.specs.Show.{table_with, compact_table_with, table_of_told, compact_table_of_told, misfit_in}
+use Rattle.pg_show.specs.Show.{table_with, compact_table_with, table_of_told, compact_table_of_told, natural_config, natural_table_of_told, misfit_in}
 use Rattle.pg_show.specs.Told.{Told}
 use Rattle.pg_show.specs.declared.mode.Mode.TheVariants.{Compact}
 use Rattle.pg_show.specs.declared.script.Script.{Script}
@@ -42,6 +43,10 @@ table-script script =
 pub compact_table-script : {A : Type 0} (script : Script A) → compact_table_with (settings_of script.compact) script.dimension.0.items (map (λ row. map string_bytes row) script.records) (columns_of script.records) script.colors ≡ compact_table_of_told (told_of_script script)
 compact_table-script script =
     ap (λ columns. compact_table_with (settings_of script.compact) script.dimension.0.items (map (λ row. map string_bytes row) script.records) columns script.colors) (columns_of-map string_bytes script.records)
+
+pub natural_table-script : {A : Type 0} (script : Script A) → natural_table (natural_config (settings_of script.compact)) (map (λ row. map string_bytes row) script.records) (columns_of script.records) (λ place. None) ≡ natural_table_of_told (told_of_script script)
+natural_table-script script =
+    ap (λ columns. natural_table (natural_config (settings_of script.compact)) (map (λ row. map string_bytes row) script.records) columns (λ place. None)) (columns_of-map string_bytes script.records)
 
 -- what doesn't fit in a compact table with rows
 pub misfit_in-rows : (told : Told) → 0 < length told.texts → misfit_in Compact told ≡ compact_misfit_of (compact_table_of_told told)

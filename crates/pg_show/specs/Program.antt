@@ -31,7 +31,7 @@ status_after (Some fault) = status_of fault
 
 -- the words for a fault, and the line that tells of it
 abbrev pub fault_text : Fault → Text
-fault_text Usage = codes "usage: pgshow compact|iter|peek"
+fault_text Usage = codes "usage: pgshow compact|iter|peek|table"
 fault_text (Bad line) = codes "line " ++ (decimal line ++ codes ": bad")
 fault_text (Misfit misfit) = codes "does not fit: " ++ misfit_text misfit
 fault_text Memory = codes "out of memory"

@@ -88,7 +88,7 @@ impl fmt::Display for Fault {
 
     fn fmt<W: fmt::Write>(&self, f: &mut fmt::Formatter<W>) -> fmt::Result {
         match self {
-            Fault::Usage => write!(f, "usage: pgshow compact|iter|peek"),
+            Fault::Usage => write!(f, "usage: pgshow compact|iter|peek|table"),
             Fault::Bad(line) => write!(f, "line {line}: bad"),
             Fault::Misfit(misfit) => write!(f, "does not fit: {misfit}"),
             Fault::Memory => write!(f, "out of memory"),

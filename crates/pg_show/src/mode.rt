@@ -12,6 +12,8 @@ pub enum Mode {
     Iter,
     /// The printer that looks texts up.
     Peek,
+    /// The builder of tables that are as wide and as high as their texts.
+    Table,
 }
 
 impl Mode {
@@ -23,6 +25,7 @@ impl Mode {
             "compact" => Some(Mode::Compact),
             "iter" => Some(Mode::Iter),
             "peek" => Some(Mode::Peek),
+            "table" => Some(Mode::Table),
             _ => None,
         }
     }

@@ -1,21 +1,24 @@
 //! The table of a script, printed.
 
 ghost use Rattle.std.specs.Prelude.{◌≡◌, ◌↔◌, Some, None, Err};
+ghost use Rattle.pg_config.specs.CompactConfig.{settings_of};
 ghost use Rattle.pg_picture.specs.Appending.{Appends};
 ghost use Rattle.pg_picture.specs.Fits.{misfit_of};
 ghost use Rattle.pg_picture.specs.Sizes.{unless_misfit};
 ghost use Rattle.pg_grid.specs.IterGrids.{AppendsOrNothing};
 ghost use Rattle.pg_show.specs.Script.{told_of_script};
-ghost use Rattle.pg_show.specs.Show.{misfit_in, table_of_told, text_in, Prints};
+ghost use Rattle.pg_show.specs.Show.{fault_of_table, misfit_in, natural_config, table_of_told, text_in, Prints, Shows};
 ghost use Rattle.pg_show.specs.declared.mode.Mode.TheVariants as mode;
 ghost use Rattle.pg_show.specs.declared.show.ShowFault.TheVariants.{Memory};
 ghost use Rattle.pg_show.specs.declared.show.ShowFault.TheVariants as variants;
 
 use crate::mode::Mode;
 use crate::script::Script;
+use pg_config::{CompactConfig, SpannedConfig};
 use pg_grid::{CompactGrid, IterGrid, PeekableGrid};
-use pg_layout::{ExactRecords, Records};
+use pg_layout::{Borders, Entity, ExactRecords, NoColors, Records};
 use pg_picture::fits::{Misfit, compact_fits, table_fits};
+use pg_table::{NaturalTable, TableFault};
 use std::alloc::{AllocError, Allocator};
 
 /// Why a table isn't printed.
@@ -35,6 +38,19 @@ impl From<AllocError> for ShowFault {
     }
 }
 
+impl From<TableFault> for ShowFault {
+    ghost from_gives = { λ found fault. fault ≡ fault_of_table found };
+
+    fn from(fault: TableFault) -> ShowFault {
+        match fault {
+            TableFault::Memory => ShowFault::Memory,
+            TableFault::Spans => ShowFault::Misfit(Misfit::Spans),
+            // The rows of a script are of one length.
+            TableFault::Totals | TableFault::Ragged(_) => ShowFault::Misfit(Misfit::Totals),
+        }
+    }
+}
+
 impl From<Misfit> for ShowFault {
     ghost from_gives = { λ found fault. fault ≡ variants.Misfit found };
 
@@ -47,8 +63,9 @@ impl From<Misfit> for ShowFault {
 ///
 /// A table that doesn't fit is refused before any memory is taken, and the buffer stays as it was.
 /// Where memory is refused the buffer has gained a beginning of the table's text. `alloc` gives the
-/// memory that a printer keeps cells in; only [`Mode::Iter`] takes any.
-pub fn print_script<C: Allocator, A: Allocator, B: Allocator>(
+/// memory that a printer keeps cells in, or the sizes of columns and rows; only [`Mode::Iter`] and
+/// [`Mode::Table`] take any.
+pub fn print_script<C: Allocator + Copy, A: Allocator, B: Allocator>(
     alloc: C,
     script: &Script<A>,
     mode: Mode,
@@ -58,19 +75,91 @@ pub fn print_script<C: Allocator, A: Allocator, B: Allocator>(
     ensures kept { (m : _) → result ≡ Err (ShowFault.Misfit m) → buf.new ≡ buf.old }
     ensures printed { misfit_in mode (told_of_script script.now) ≡ None → Prints mode buf.old buf.new result (text_in mode (told_of_script script.now)) }
 {
-    script_fits(script, mode)?;
-    push_table(alloc, script, mode, buf)?;
+    match mode {
+        Mode::Compact => print_compact(script, buf),
+        Mode::Iter => print_streamed(alloc, script, buf),
+        Mode::Peek => print_peekable(script, buf),
+        Mode::Table => print_natural(alloc, script, buf),
+    }
+}
+
+// Appends the table of a script as a compact one, if it fits.
+fn print_compact<A: Allocator, B: Allocator>(
+    script: &Script<A>,
+    buf: &mut String<B>,
+) -> Result<(), ShowFault>
+    ensures { Shows mode.Compact (told_of_script script.now) buf.old buf.new result }
+{
+    compact_script_fits(script)?;
+    push_compact(script, buf)?;
     Ok(())
 }
 
-// Whether the table of a script fits. Colours don't matter.
-fn script_fits<A: Allocator>(script: &Script<A>, mode: Mode) -> Result<(), Misfit>
-    ensures { result ≡ unless_misfit (misfit_in mode (told_of_script script.now)) }
+// Appends the table of a script, its rows read once, if it fits.
+fn print_streamed<C: Allocator, A: Allocator, B: Allocator>(
+    alloc: C,
+    script: &Script<A>,
+    buf: &mut String<B>,
+) -> Result<(), ShowFault>
+    ensures { Shows mode.Iter (told_of_script script.now) buf.old buf.new result }
 {
-    match mode {
-        Mode::Compact => compact_script_fits(script),
-        Mode::Iter | Mode::Peek => spanned_script_fits(script),
-    }
+    spanned_script_fits(script)?;
+    push_streamed(alloc, script, buf)?;
+    Ok(())
+}
+
+// Appends the table of a script, its texts looked up, if it fits.
+fn print_peekable<A: Allocator, B: Allocator>(
+    script: &Script<A>,
+    buf: &mut String<B>,
+) -> Result<(), ShowFault>
+    ensures { Shows mode.Peek (told_of_script script.now) buf.old buf.new result }
+{
+    spanned_script_fits(script)?;
+    push_peekable(script, buf)?;
+    Ok(())
+}
+
+// Appends the texts of a script at their natural sizes, if these fit.
+fn print_natural<C: Allocator + Copy, A: Allocator, B: Allocator>(
+    alloc: C,
+    script: &Script<A>,
+    buf: &mut String<B>,
+) -> Result<(), ShowFault>
+    ensures { Shows mode.Table (told_of_script script.now) buf.old buf.new result }
+{
+    let config = natural_config(alloc, &script.compact);
+    let printed = print_natural_told(alloc, script, &config, buf);
+    drop(config);
+    printed
+}
+
+// What a table at its natural sizes is told. Takes no memory.
+fn natural_config<C: Allocator + Copy>(alloc: C, told: &CompactConfig) -> SpannedConfig<C>
+    ensures { result ≡ natural_config (settings_of told.now) }
+{
+    let (padding, alignment) = (told.get_padding(), told.get_alignment_horizontal());
+    let mut config = SpannedConfig::new(alloc);
+    config.set_borders(Borders::ascii());
+    config.set_padding(Entity::Global, padding).unwrap();
+    config
+        .set_alignment_horizontal(Entity::Global, alignment)
+        .unwrap();
+    config
+}
+
+// Appends the texts of a script at their natural sizes, where what they are told is there.
+fn print_natural_told<C: Allocator + Copy, A: Allocator, B: Allocator>(
+    alloc: C,
+    script: &Script<A>,
+    config: &SpannedConfig<C>,
+    buf: &mut String<B>,
+) -> Result<(), ShowFault>
+    requires { config.now ≡ natural_config (told_of_script script.now).compact }
+    ensures { Shows mode.Table (told_of_script script.now) buf.old buf.new result }
+{
+    NaturalTable::new(&script.records, config, &NoColors).print(alloc, buf)?;
+    Ok(())
 }
 
 // Whether it fits as a compact table.
@@ -89,23 +178,6 @@ fn spanned_script_fits<A: Allocator>(script: &Script<A>) -> Result<(), Misfit>
     ensures { result ≡ unless_misfit (misfit_of (table_of_told (told_of_script script.now))) }
 {
     table_fits(&&script.records, &script.config, &script.dimension)
-}
-
-// Appends the table of a script, as the grid of the mode prints it.
-fn push_table<C: Allocator, A: Allocator, B: Allocator>(
-    alloc: C,
-    script: &Script<A>,
-    mode: Mode,
-    buf: &mut String<B>,
-) -> Result<(), AllocError>
-    requires { misfit_in mode (told_of_script script.now) ≡ None }
-    ensures { Prints mode buf.old buf.new result (text_in mode (told_of_script script.now)) }
-{
-    match mode {
-        Mode::Compact => push_compact(script, buf),
-        Mode::Iter => push_streamed(alloc, script, buf),
-        Mode::Peek => push_peekable(script, buf),
-    }
 }
 
 // Appends the table of a script, as the compact grid prints it.
