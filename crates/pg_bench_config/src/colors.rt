@@ -1,6 +1,5 @@
 //! Colours of border lines and cells: which of several counts, and what counts as one that was set.
 
-use crate::fresh::fresh;
 use crate::prefixes::{color, prefix};
 use pg_config::SpannedConfig;
 use pg_layout::{
@@ -74,7 +73,7 @@ fn override_border_colors(
 
 #[test]
 fn an_override_comes_before_the_color_of_the_borders(rt: HostRuntime) -> Result<(), Fail> {
-    override_border_colors(&rt, rt.alloc(), &mut fresh(rt.alloc()))
+    override_border_colors(&rt, rt.alloc(), &mut SpannedConfig::new(rt.alloc()))
 }
 
 fn set_empty_colors(
@@ -107,12 +106,12 @@ fn set_plain_glyphs(rt: &impl Abort, config: &mut SpannedConfig<Global>) -> Resu
 
 #[test]
 fn an_empty_color_counts_as_one_that_was_set(rt: HostRuntime) -> Result<(), Fail> {
-    set_empty_colors(&rt, rt.alloc(), &mut fresh(rt.alloc()))
+    set_empty_colors(&rt, rt.alloc(), &mut SpannedConfig::new(rt.alloc()))
 }
 
 #[test]
 fn a_space_counts_as_a_glyph_that_was_set(rt: HostRuntime) -> Result<(), Fail> {
-    set_plain_glyphs(&rt, &mut fresh(rt.alloc()))
+    set_plain_glyphs(&rt, &mut SpannedConfig::new(rt.alloc()))
 }
 
 #[test]

@@ -6,8 +6,6 @@ mod answers;
 #[cfg(test)]
 mod colors;
 #[cfg(test)]
-mod fresh;
-#[cfg(test)]
 mod given;
 #[cfg(test)]
 mod helpers;

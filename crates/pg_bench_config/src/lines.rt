@@ -1,6 +1,5 @@
 //! Border lines: which are there, and which of several glyphs or colours counts.
 
-use crate::fresh::fresh;
 use pg_config::SpannedConfig;
 use pg_layout::{Border, Borders, Position};
 use std::alloc::Global;
@@ -49,7 +48,7 @@ fn override_borders(rt: &impl Abort, config: &mut SpannedConfig<Global>) -> Resu
 
 #[test]
 fn an_override_comes_before_the_glyph_of_the_borders(rt: HostRuntime) -> Result<(), Fail> {
-    override_borders(&rt, &mut fresh(rt.alloc()))
+    override_borders(&rt, &mut SpannedConfig::new(rt.alloc()))
 }
 
 fn set_borders_again(rt: &impl Abort, config: &mut SpannedConfig<Global>) -> Result<(), Fail> {
@@ -71,7 +70,7 @@ fn set_borders_again(rt: &impl Abort, config: &mut SpannedConfig<Global>) -> Res
 
 #[test]
 fn later_borders_leave_overrides(rt: HostRuntime) -> Result<(), Fail> {
-    set_borders_again(&rt, &mut fresh(rt.alloc()))
+    set_borders_again(&rt, &mut SpannedConfig::new(rt.alloc()))
 }
 
 // The glyphs above and left of the first cell, and of the crossing below it: their lines are there, and
@@ -112,7 +111,7 @@ fn vary_the_missing_glyph(rt: &impl Abort, config: &mut SpannedConfig<Global>) {
 
 #[test]
 fn the_missing_glyph_stands_where_a_line_has_none(rt: HostRuntime) {
-    vary_the_missing_glyph(&rt, &mut fresh(rt.alloc()));
+    vary_the_missing_glyph(&rt, &mut SpannedConfig::new(rt.alloc()));
 }
 
 // Which horizontals and how many lines there are in a table of two rows and columns, and the glyphs of two
@@ -144,7 +143,7 @@ fn override_outside_rows(rt: &impl Abort, config: &mut SpannedConfig<Global>) ->
 
 #[test]
 fn a_place_outside_of_the_table_makes_its_row_line(rt: HostRuntime) -> Result<(), Fail> {
-    override_outside_rows(&rt, &mut fresh(rt.alloc()))
+    override_outside_rows(&rt, &mut SpannedConfig::new(rt.alloc()))
 }
 
 // Which verticals and how many lines there are in a table of two rows and columns, and the glyphs of a
@@ -185,5 +184,5 @@ fn override_outside_columns(
 
 #[test]
 fn a_place_outside_of_the_table_makes_its_column_line(rt: HostRuntime) -> Result<(), Fail> {
-    override_outside_columns(&rt, &mut fresh(rt.alloc()))
+    override_outside_columns(&rt, &mut SpannedConfig::new(rt.alloc()))
 }

@@ -1,6 +1,5 @@
 //! Single glyphs of horizontals and verticals, counted from their start or their end.
 
-use crate::fresh::fresh;
 use crate::prefixes::{color, prefix};
 use pg_config::SpannedConfig;
 use pg_layout::{Offset, Position};
@@ -51,7 +50,7 @@ fn count_glyphs_from_both_ends(
 
 #[test]
 fn an_offset_from_the_start_comes_before_one_from_the_end(rt: HostRuntime) -> Result<(), Fail> {
-    count_glyphs_from_both_ends(&rt, &mut fresh(rt.alloc()))
+    count_glyphs_from_both_ends(&rt, &mut SpannedConfig::new(rt.alloc()))
 }
 
 // The prefixes of one of three and of two of four glyphs of the first horizontal.
@@ -93,7 +92,7 @@ fn count_colors_from_both_ends(
 fn an_offset_color_from_the_start_comes_before_one_from_the_end(
     rt: HostRuntime,
 ) -> Result<(), Fail> {
-    count_colors_from_both_ends(&rt, rt.alloc(), &mut fresh(rt.alloc()))
+    count_colors_from_both_ends(&rt, rt.alloc(), &mut SpannedConfig::new(rt.alloc()))
 }
 
 fn override_horizontals(
@@ -114,5 +113,5 @@ fn override_horizontals(
 
 #[test]
 fn a_glyph_or_a_color_overrides_its_horizontal(rt: HostRuntime) -> Result<(), Fail> {
-    override_horizontals(&rt, rt.alloc(), &mut fresh(rt.alloc()))
+    override_horizontals(&rt, rt.alloc(), &mut SpannedConfig::new(rt.alloc()))
 }

@@ -1,6 +1,5 @@
 //! Getters whose rule has an order: which of several settings counts.
 
-use crate::fresh::fresh;
 use crate::prefixes::{color, prefix};
 use pg_config::SpannedConfig;
 use pg_layout::{
@@ -46,7 +45,7 @@ fn fill_by_all_entities(rt: &impl Abort, config: &mut SpannedConfig<Global>) -> 
 
 #[test]
 fn the_latest_setting_counts_and_not_the_narrowest(rt: HostRuntime) -> Result<(), Fail> {
-    fill_by_all_entities(&rt, &mut fresh(rt.alloc()))
+    fill_by_all_entities(&rt, &mut SpannedConfig::new(rt.alloc()))
 }
 
 // What is answered of the cell (1, 1), one getter after the other.
@@ -111,7 +110,7 @@ fn set_a_row_after_a_cell(
 
 #[test]
 fn a_later_row_counts_for_each_getter_of_a_cell(rt: HostRuntime) -> Result<(), Fail> {
-    set_a_row_after_a_cell(&rt, rt.alloc(), &mut fresh(rt.alloc()))
+    set_a_row_after_a_cell(&rt, rt.alloc(), &mut SpannedConfig::new(rt.alloc()))
 }
 
 fn align_a_column_after_a_cell(
@@ -143,5 +142,5 @@ fn align_a_column_after_a_cell(
 
 #[test]
 fn a_later_column_counts_for_alignments(rt: HostRuntime) -> Result<(), Fail> {
-    align_a_column_after_a_cell(&rt, &mut fresh(rt.alloc()))
+    align_a_column_after_a_cell(&rt, &mut SpannedConfig::new(rt.alloc()))
 }

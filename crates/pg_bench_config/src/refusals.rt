@@ -1,7 +1,6 @@
 //! Setters that are refused memory.
 
 use crate::answers::answers;
-use crate::fresh::fresh;
 use pg_config::SpannedConfig;
 use pg_layout::{
     ANSIBuf, AlignmentHorizontal, AlignmentVertical, Border, Entity, HorizontalLine, Indent,
@@ -341,14 +340,14 @@ fn tell_rest<A: Allocator + Copy>(
 // The number of the call that is refused where the k-th request for memory is, if so many come.
 fn call_of_request(alloc: Global, k: u64) -> Option<usize> {
     let memory = Refusing::only(alloc, k);
-    first_refused(&mut fresh(&memory), &memory)
+    first_refused(&mut SpannedConfig::new(&memory), &memory)
 }
 
 // The k-th request for memory alone is refused, at the call of this number. That call changes nothing,
 // and succeeds when it is made again.
 fn refuse_one(rt: &impl Abort, alloc: Global, k: u64, number: usize) -> Result<(), Fail> {
     let memory = Refusing::only(alloc, k);
-    let mut config = fresh(&memory);
+    let mut config = SpannedConfig::new(&memory);
     tell_refused(rt, alloc, &mut config, &memory, number)?;
     tell_rest(&mut config, &memory, number)
 }

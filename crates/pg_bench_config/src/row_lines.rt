@@ -1,7 +1,6 @@
 //! One row line, set across a table.
 
 use crate::answers::answers;
-use crate::fresh::fresh;
 use pg_config::SpannedConfig;
 use pg_layout::{HorizontalLine, Position};
 use std::alloc::Global;
@@ -58,7 +57,7 @@ fn set_full_line(rt: &impl Abort, config: &mut SpannedConfig<Global>) -> Result<
 
 #[test]
 fn a_row_line_has_its_glyphs_and_no_other_line_has(rt: HostRuntime) -> Result<(), Fail> {
-    set_full_line(&rt, &mut fresh(rt.alloc()))
+    set_full_line(&rt, &mut SpannedConfig::new(rt.alloc()))
 }
 
 fn set_part_of_a_line(rt: &impl Abort, config: &mut SpannedConfig<Global>) -> Result<(), Fail> {
@@ -88,7 +87,7 @@ fn set_part_of_a_line(rt: &impl Abort, config: &mut SpannedConfig<Global>) -> Re
 
 #[test]
 fn a_glyph_that_a_row_line_lacks_stays(rt: HostRuntime) -> Result<(), Fail> {
-    set_part_of_a_line(&rt, &mut fresh(rt.alloc()))
+    set_part_of_a_line(&rt, &mut SpannedConfig::new(rt.alloc()))
 }
 
 fn set_line_of_no_columns(
@@ -107,5 +106,5 @@ fn set_line_of_no_columns(
 
 #[test]
 fn a_row_line_of_no_columns_or_of_too_many_changes_nothing(rt: HostRuntime) -> Result<(), Fail> {
-    set_line_of_no_columns(&rt, rt.alloc(), &mut fresh(rt.alloc()))
+    set_line_of_no_columns(&rt, rt.alloc(), &mut SpannedConfig::new(rt.alloc()))
 }

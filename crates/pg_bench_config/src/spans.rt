@@ -1,6 +1,5 @@
 //! Cells that span rows or columns, and the places that they cover.
 
-use crate::fresh::fresh;
 use pg_config::SpannedConfig;
 use pg_layout::Position;
 use std::alloc::Global;
@@ -38,7 +37,7 @@ fn span_and_take_away(rt: &impl Abort, config: &mut SpannedConfig<Global>) -> Re
 
 #[test]
 fn a_span_is_kept_until_it_is_taken_away(rt: HostRuntime) -> Result<(), Fail> {
-    span_and_take_away(&rt, &mut fresh(rt.alloc()))
+    span_and_take_away(&rt, &mut SpannedConfig::new(rt.alloc()))
 }
 
 fn cover_places(rt: &impl Abort, config: &mut SpannedConfig<Global>) -> Result<(), Fail> {
@@ -73,5 +72,5 @@ fn cover_places(rt: &impl Abort, config: &mut SpannedConfig<Global>) -> Result<(
 
 #[test]
 fn a_rectangle_covers_its_other_places(rt: HostRuntime) -> Result<(), Fail> {
-    cover_places(&rt, &mut fresh(rt.alloc()))
+    cover_places(&rt, &mut SpannedConfig::new(rt.alloc()))
 }

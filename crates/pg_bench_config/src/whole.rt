@@ -1,7 +1,6 @@
 //! What a configuration answers that was told nothing, what stands round a table, and how a
 //! configuration grows.
 
-use crate::fresh::fresh;
 use pg_config::SpannedConfig;
 use pg_layout::{
     ANSIBuf, ANSIFmt, AlignmentHorizontal, AlignmentVertical, Border, Borders, Entity, Formatting,
@@ -16,7 +15,7 @@ const FAR: Position = Position { row: 7, col: 9 };
 
 #[test]
 fn a_plain_table_has_no_lines_and_nothing_round_it(rt: HostRuntime) {
-    let config = fresh(rt.alloc());
+    let config = SpannedConfig::new(rt.alloc());
     assert_eq!(rt; config.get_margin(), Sides::filled(Indent::zero()));
     assert_eq!(rt; config.get_margin_offset(), Sides::filled(Offset::Start(0)));
     assert!(rt; *config.get_borders() == Borders::empty());
@@ -30,7 +29,7 @@ fn a_plain_table_has_no_lines_and_nothing_round_it(rt: HostRuntime) {
 
 #[test]
 fn a_plain_cell_stands_left_and_top(rt: HostRuntime) {
-    let config = fresh(rt.alloc());
+    let config = SpannedConfig::new(rt.alloc());
     assert_eq!(rt; config.get_padding(FAR), Sides::filled(Indent::zero()));
     let across = config.get_alignment_horizontal(FAR);
     assert_eq!(rt; across, AlignmentHorizontal::Left);
@@ -73,7 +72,7 @@ fn set_margins(
 
 #[test]
 fn margins_are_answered_as_they_were_set(rt: HostRuntime) -> Result<(), Fail> {
-    set_margins(&rt, rt.alloc(), &mut fresh(rt.alloc()))
+    set_margins(&rt, rt.alloc(), &mut SpannedConfig::new(rt.alloc()))
 }
 
 /// How often a configuration is told the same: by a million calls of setters and more.
@@ -129,5 +128,5 @@ fn tell_often(
 #[test]
 fn what_is_told_again_takes_no_more_memory(rt: HostRuntime) -> Result<(), Fail> {
     let memory = Refusing::from_on(rt.alloc(), u64::MAX);
-    tell_often(&rt, &memory, &mut fresh(&memory))
+    tell_often(&rt, &memory, &mut SpannedConfig::new(&memory))
 }
