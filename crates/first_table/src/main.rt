@@ -10,7 +10,7 @@ fn main(rt: HostRuntime) -> io::Result<()> {
     let alloc = rt.alloc();
     match stock(alloc) {
         Ok(text) => println!(rt; "{text}"),
-        Err(fault) => println!(rt; "{fault:?}"),
+        Err(fault) => println!(rt; "{fault}"),
     }
 }
 

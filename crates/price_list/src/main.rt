@@ -36,6 +36,6 @@ fn prices(alloc: Global) -> Result<String, TableFault> {
 fn main(rt: HostRuntime) -> io::Result<()> {
     match prices(rt.alloc()) {
         Ok(text) => println!(rt; "{text}"),
-        Err(fault) => println!(rt; "{fault:?}"),
+        Err(fault) => println!(rt; "{fault}"),
     }
 }
