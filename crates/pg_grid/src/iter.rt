@@ -56,6 +56,9 @@ where
     /// [`IterGrid::print`] the call that makes it first. A table with no rows or no columns appends
     /// nothing, and asks for no memory.
     ///
+    /// Where each glyph and each fill takes one column, and no glyph of a column line is missing, all
+    /// lines of the body are as wide as the table.
+    ///
     /// Where the records don't tell how many rows there are, side margins whose offset counts from the
     /// end are drawn whole: that end isn't known while rows still come.
     ///

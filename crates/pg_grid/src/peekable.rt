@@ -110,6 +110,9 @@ where
     /// and [`PeekableGrid::print`] the call that makes it first. A table with no rows or no columns
     /// appends nothing.
     ///
+    /// Where each glyph and each fill takes one column, and no glyph of a column line is missing, all
+    /// lines of the body are as wide as the table.
+    ///
     /// Takes no memory but the buffer's. An error comes only where the buffer's room is too small
     /// for the picture and it gets no more memory; the buffer then holds a beginning of the picture
     /// behind what it held before.

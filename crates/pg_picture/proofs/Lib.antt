@@ -49,7 +49,7 @@ mod CompactColors
 mod PictureColors
 mod MarksOfBodies
 mod FullCells
-mod GlyphsOfLines
+pub mod GlyphsOfLines
 mod ReachOfRectangles
 mod PartsOfColumns
 pub mod StraightColumns

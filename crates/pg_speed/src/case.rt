@@ -16,6 +16,9 @@ pub(crate) enum Grid {
     IterMade,
     /// The compact grid, from texts in memory.
     Compact,
+    /// The looked-up grid at the table's natural sizes, which are worked out in each build, from
+    /// texts in memory.
+    Natural,
 }
 
 /// What a table consists of.
@@ -162,7 +165,7 @@ const CELLS1000: Table = Table {
 };
 
 /// The tables that `--all` builds.
-pub(crate) const CASES: [Case; 18] = [
+pub(crate) const CASES: [Case; 19] = [
     Case("peek_basic", Grid::Peekable, BASIC),
     Case("peek_spans", Grid::Peekable, SPANS),
     Case("peek_colored", Grid::Peekable, COLORED),
@@ -181,6 +184,7 @@ pub(crate) const CASES: [Case; 18] = [
     Case("iter_longcell", Grid::Iter, LONGCELL),
     Case("compact_basic", Grid::Compact, BASIC),
     Case("compact_colored", Grid::Compact, COLORED),
+    Case("table_basic", Grid::Natural, BASIC),
 ];
 
 /// Tables of other sizes, some of which take long.

@@ -4,6 +4,7 @@ ghost use Rattle.std.specs.Prelude.{⊤};
 
 use pg_layout::RecordsFault;
 use pg_picture::fits::Misfit;
+use pg_table::TableFault;
 use std::alloc::AllocError;
 use std::process::ExitCode;
 use std::{fmt, io};
@@ -65,6 +66,17 @@ impl From<Misfit> for Failure {
 
     fn from(_misfit: Misfit) -> Failure {
         Failure::Table
+    }
+}
+
+impl From<TableFault> for Failure {
+    ghost from_gives = { λ _ failure. ⊤ };
+
+    fn from(fault: TableFault) -> Failure {
+        match fault {
+            TableFault::Memory => Failure::Memory,
+            _ => Failure::Table,
+        }
     }
 }
 

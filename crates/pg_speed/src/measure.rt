@@ -18,6 +18,7 @@ use pg_layout::{
     VecRecords,
 };
 use pg_picture::fits::{compact_fits, table_fits};
+use pg_table::NaturalTable;
 use std::alloc::{AllocError, Allocator};
 
 /// What is told of the last text that was built.
@@ -70,6 +71,9 @@ fn text_by<A: Allocator + Copy>(
         return streamed_as_made(alloc, table, config, times);
     }
     let records = records(alloc, table)?;
+    if grid == Grid::Natural {
+        return natural(alloc, &records, config, times);
+    }
     let dimension = dimension(alloc, table)?;
     if grid == Grid::Iter {
         return streamed(alloc, &records, &dimension, config, times);
@@ -112,6 +116,22 @@ where
     for _ in 0..times {
         text.clear();
         grid.build(&mut text)?;
+    }
+    Ok(text)
+}
+
+// The text of a table at its natural sizes, built so many times.
+fn natural<A: Allocator + Copy>(
+    alloc: A,
+    records: &VecRecords<String<A>, A>,
+    config: &SpannedConfig<A>,
+    times: usize,
+) -> Result<String<A>, Failure> {
+    let table = NaturalTable::new(records, config, &NoColors);
+    let mut text = String::new(alloc);
+    for _ in 0..times {
+        text.clear();
+        table.print(alloc, &mut text)?;
     }
     Ok(text)
 }

@@ -41,3 +41,4 @@ pub mod RowsInTurn
 pub mod MakingPrinters
 pub mod RowsOfCells
 pub mod StreamedRows
+pub mod StreamedResults

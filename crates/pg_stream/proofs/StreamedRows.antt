@@ -101,7 +101,7 @@ module _ {Z U : Type 0} where
   }
   row-stops Memory s row next rows p = let a = stopped (rows_text (after_row s row false) (next ∷ rows)) refl (p.whole p.tells).0 in record { whole = λ fit. (a, tt); tells = a }
 
-  push-stops : {V : Type 0} {old new : String Z} (fault : StreamFault) (before : Printing) (held : Option (List Text)) (next : List Text) (rows : List (List Text))
+  pub push-stops : {V : Type 0} {old new : String Z} (fault : StreamFault) (before : Printing) (held : Option (List Text)) (next : List Text) (rows : List (List Text))
       → AppendsIf {U = V} (HeldFits (record { before = before; held = held })) before.rows (held_text (record { before = before; held = held })) old new (Err fault)
       → PrintsRows {U = U} before (rows_left (record { before = before; held = held }) (next ∷ rows)) old new (Err fault)
   push-stops fault before (Some row) next rows p = row-stops fault before row next rows p
@@ -135,7 +135,7 @@ module _ {Z U : Type 0} where
       }
   row-goes (Err Memory) s row next rows fits a q = let b = a then q.tells in record { whole = λ fit. (b, tt); tells = b }
 
-  push-goes : {V : Type 0} {old mid new : String Z} (r : Result U StreamFault) (value : V) (before : Printing) (held : Option (List Text)) (next : List Text) (rows : List (List Text))
+  pub push-goes : {V : Type 0} {old mid new : String Z} (r : Result U StreamFault) (value : V) (before : Printing) (held : Option (List Text)) (next : List Text) (rows : List (List Text))
       → AppendsIf (HeldFits (record { before = before; held = held })) before.rows (held_text (record { before = before; held = held })) old mid (Ok value)
       → PrintsRows (after_push (record { before = before; held = held }) next).before (next ∷ rows) mid new r
       → PrintsRows before (rows_left (record { before = before; held = held }) (next ∷ rows)) old new r

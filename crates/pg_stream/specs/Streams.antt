@@ -7,6 +7,8 @@ use Rattle.pg_picture.specs.Appending.{Appends}
 use Rattle.pg_stream.specs.Conditions.{RowFits, RowsFit}
 use Rattle.pg_stream.specs.Printers.{Printer, printing}
 use Rattle.pg_stream.specs.Printing.{Printing, row_text, rows_text, after_row}
+use Rattle.pg_stream.specs.declared.fault.RowsFault.{RowsFault}
+use Rattle.pg_stream.specs.declared.fault.RowsFault.TheVariants.{Stream as InStream, Source}
 use Rattle.pg_stream.specs.declared.fault.StreamFault.{StreamFault}
 use Rattle.pg_stream.specs.declared.fault.StreamFault.TheVariants.{Misfit, Row, Memory}
 
@@ -88,3 +90,29 @@ TellsRows {U} s rows old new (Err Memory) = Appends {U = U} old new (Err Memory)
 pub record PrintsRows {Z U : Type 0} (s : Printing) (rows : List (List Text)) (old new : String Z) (result : Result U StreamFault) : Type 0 where
   pub whole : RowsFit s rows → Appends old new result (rows_text s rows) × OnlyMemory result
   pub tells : TellsRows s rows old new result
+
+-- ---- rows that may be errors
+
+-- the rows before the first error, and that error
+abbrev pub rows_before : {A E : Type 0} → List (Result A E) → List A
+rows_before [] = []
+rows_before (Ok row ∷ items) = row ∷ rows_before items
+rows_before (Err error ∷ items) = []
+
+abbrev pub first_error : {A E : Type 0} → List (Result A E) → Option E
+first_error [] = None
+first_error (Ok row ∷ items) = first_error items
+first_error (Err error ∷ items) = Some error
+
+-- the text of these rows but for the latest, which is held
+unfoldable pub text_but_latest : Printing → List (List Text) → Text
+text_but_latest s [] = []
+text_but_latest s (cells ∷ []) = []
+text_but_latest s (cells ∷ next ∷ rows) = row_text s cells false ++ text_but_latest (after_row s cells false) (next ∷ rows)
+
+-- A call prints the rows before the first error, and ends the table if there is none. At an error it answers that, and the
+-- latest row before it isn't appended, since it isn't known whether it is the last.
+abbrev pub PrintsResults : {Z U E : Type 0} → Streaming → List (Result (List Text) E) → String Z → String Z → Result U (RowsFault E) → Type 0
+PrintsResults s items old new (Ok value) = (first_error items ≡ None) × PrintsRows s.before (rows_left s (rows_before items)) old new (Ok value)
+PrintsResults {U} s items old new (Err (InStream fault)) = PrintsRows {U = U} s.before (rows_left s (rows_before items)) old new (Err fault)
+PrintsResults s items old new (Err (Source error)) = (first_error items ≡ Some error) × (string_bytes new ≡ string_bytes old ++ text_but_latest s.before (rows_left s (rows_before items)))

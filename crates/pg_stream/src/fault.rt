@@ -1,6 +1,7 @@
 //! Why rows aren't printed.
 
 ghost use Rattle.std.specs.Prelude.{◌≡◌, Some};
+ghost use Rattle.pg_stream.specs.declared.fault.RowsFault.{RowsFault};
 ghost use Rattle.pg_stream.specs.declared.fault.StreamFault.{StreamFault};
 ghost use Rattle.pg_stream.specs.Faults.{stream_fault_text};
 
@@ -59,4 +60,21 @@ pub enum RowFault<P> {
     Misfit(P),
     /// No memory was found, and the printer is gone.
     Memory,
+}
+
+/// Why rows that may be errors aren't printed to their end.
+#[derive(Debug, Drop)]
+pub enum RowsFault<E> {
+    /// A row isn't printed.
+    Stream(StreamFault),
+    /// This error came in the place of a row.
+    Source(E),
+}
+
+impl<E> From<StreamFault> for RowsFault<E> {
+    ghost from_gives = { λ fault stop. stop ≡ RowsFault.Stream fault };
+
+    fn from(fault: StreamFault) -> RowsFault<E> {
+        RowsFault::Stream(fault)
+    }
 }

@@ -18,7 +18,7 @@ mod single_rows;
 mod turns;
 
 pub use crate::conditions::printer_fits;
-pub use crate::fault::{RowFault, StreamFault};
+pub use crate::fault::{RowFault, RowsFault, StreamFault};
 pub use crate::laws::{rows_make_the_picture, tables_that_fit_may_be_printed};
 pub use crate::open_cells::OpenCells;
 pub use crate::row_printer::RowPrinter;

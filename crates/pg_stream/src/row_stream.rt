@@ -1,7 +1,8 @@
 //! A table whose rows come one at a time, and whose last row isn't known before its end.
 
-ghost use Rattle.std.specs.Prelude.{◌≡◌, ◌≢◌, ◌++◌, ℕ, [], List, false, map, None, IfOk, OnOk, Err, string_bytes};
+ghost use Rattle.std.specs.Prelude.{◌≡◌, ◌≢◌, ◌++◌, ℕ, [], List, false, map, None, IfOk, OnOk, Result, Err, string_bytes};
 ghost use Rattle.std.specs.Iterator.{IsFinite};
+ghost use Rattle.std.specs.Result.{result_map_both};
 ghost use Rattle.pg_layout.specs.Records.{AlwaysGives, Becomes};
 ghost use Rattle.pg_layout.specs.Text.{Text};
 ghost use Rattle.pg_picture.specs.Appending.{GainedBeginning};
@@ -9,10 +10,10 @@ ghost use Rattle.pg_picture.specs.declared.fits.Misfit.{Misfit};
 ghost use Rattle.pg_stream.specs.Conditions.{PrinterFits, RowFits};
 ghost use Rattle.pg_stream.specs.Printers.{printing};
 ghost use Rattle.pg_stream.specs.Printing.{printer, row_text, rows_text, after_row};
-ghost use Rattle.pg_stream.specs.Streams.{streaming, held_text, HeldFits, after_push, rows_left, AppendsIf, PrintsRows};
+ghost use Rattle.pg_stream.specs.Streams.{streaming, held_text, HeldFits, after_push, rows_left, AppendsIf, PrintsRows, PrintsResults};
 ghost use Rattle.pg_stream.specs.declared.fault.StreamFault.{StreamFault};
 
-use crate::fault::{RowFault, StreamFault};
+use crate::fault::{RowFault, RowsFault, StreamFault};
 use crate::row_printer::RowPrinter;
 use pg_config::SpannedConfig;
 use pg_layout::{Colors, Dimension};
@@ -24,7 +25,7 @@ use std::marker::Model;
 /// Prints a table whose rows come one at a time: it holds each row until the next one is there, which
 /// tells that it isn't the last.
 ///
-/// None of its calls has a condition. A row that doesn't fit below those above it is named by its
+/// None of its calls asks that a row fits. A row that doesn't fit below those above it is named by its
 /// number (`StreamFault::Row`); the rows above it stand whole, and nothing of its own is appended. It
 /// is found when the row leaves, so when the next one is pushed, or at the end.
 ///
@@ -171,6 +172,7 @@ impl<
     /// line, and prints the one that was held until now.
     ///
     /// The cells stand in a vector of this allocator. Where that finds no memory, nothing is appended.
+    /// Their iterator may be asked, and ends.
     ///
     /// ```rust
     /// stream = stream.push_from(alloc, line.split(','), &mut buf)?;
@@ -212,7 +214,8 @@ impl<
     /// Pushes all rows that an iterator gives, and ends the table.
     ///
     /// It stops at the first row that doesn't fit: the rows above that one stand whole, and it is named
-    /// by its number. Where memory is refused, a beginning of the text stands.
+    /// by its number. Where memory is refused, a beginning of the text stands. The iterator may be asked,
+    /// and ends.
     ///
     /// ```rust
     /// stream.print_all(rows.into_iter().filter(|row| row.len() == 2), &mut buf)?;
@@ -243,5 +246,34 @@ impl<
         ensures prints { PrintsRows (streaming D.width D.height C.color self.entry).before (rows_left (streaming D.width D.height C.color self.entry) (map (λ row. map S.text row.items) rows.items)) buf.old buf.new result }
     {
         self.print_all(rows.into_iter(), buf)
+    }
+
+    /// Pushes the rows before the first error that an iterator gives, and ends the table if there is
+    /// none. It stops at a row that doesn't fit as [`RowStream::print_all`] does.
+    ///
+    /// At an error it answers `RowsFault::Source`. The rows before it stand whole, but for the latest:
+    /// it isn't known whether that is the last. The iterator may be asked, and ends.
+    ///
+    /// ```rust
+    /// stream.print_results(reader.lines(alloc).map(|line| cells_of(alloc, line)), &mut buf)?;
+    /// ```
+    pub fn print_results<E: Drop, I: Iterator<Item = Result<Vec<S, V>, E>> + Drop, W: Allocator>(
+        self,
+        rows: I,
+        buf: &mut String<W>,
+    ) -> Result<(), RowsFault<E>>
+        requires can { I.can_next rows }
+        requires ends { IsFinite (I.remaining rows) }
+        ensures { (items : List (Result (List Text) E)) → AlwaysGives (λ x y. result_map_both (λ row. map S.text row.items) (λ error. error) x ≡ y) I.next_gives rows items → PrintsResults (streaming D.width D.height C.color self.entry) items buf.old buf.new result }
+    {
+        let mut stream = self;
+        for row in rows {
+            let cells = match row {
+                Ok(cells) => cells,
+                Err(error) => return Err(RowsFault::Source(error)),
+            };
+            stream = stream.push(cells, buf)?;
+        }
+        Ok(stream.finish(buf)?)
     }
 }

@@ -112,7 +112,7 @@ ends_narrow a b c i n first middle last =
 pub ascii_is_narrow : AsciiIsNarrow
 unfolding default_config horizontal_glyph vertical_glyph crossing_glyph horizontal_override vertical_override crossing_override
 ascii_is_narrow =
-    let inner : (c columns : ℕ) → ends (Some 43) (Some 43) (Some 43) c columns ≡ Some 43 = λ c columns. elim (cases_Bool (c == 0)) [ inl y ↦ rw y refl | inr x ↦ elim (cases_Bool (c == columns)) [ inl y ↦ rw (x, y) refl | inr y ↦ rw (x, y) refl ] ] in
+    let inner : (c columns : ℕ) → ends {A = Option ℕ} (Some 43) (Some 43) (Some 43) c columns ≡ Some 43 = λ c columns. elim (cases_Bool (c == 0)) [ inl y ↦ rw y refl | inr x ↦ elim (cases_Bool (c == columns)) [ inl y ↦ rw (x, y) refl | inr y ↦ rw (x, y) refl ] ] in
     record {
       horizontals = λ r rows. ends_narrow (Some 45) (Some 45) (Some 45) r rows narrow-minus narrow-minus narrow-minus;
       verticals = λ c columns. ends_narrow (Some 124) (Some 124) (Some 124) c columns narrow-bar narrow-bar narrow-bar;

@@ -79,7 +79,7 @@ impl<T, A: Allocator> Table<T, A> {
 
     /// The table with this padding of all cells. Takes no memory.
     pub fn with_padding(mut self, padding: Sides<Indent>) -> Table<T, A>
-        ensures { result ≡ record self.entry { config = record self.entry.config { padding = with_setting Entity.Global padding self.entry.config.padding } } }
+        ensures { result ≡ record self { config = record self.config { padding = with_setting Entity.Global padding self.config.padding } } }
     {
         self.config.set_padding(Entity::Global, padding).unwrap();
         self
@@ -87,7 +87,7 @@ impl<T, A: Allocator> Table<T, A> {
 
     /// The table with the texts of all cells at this side. Takes no memory.
     pub fn with_alignment(mut self, alignment: AlignmentHorizontal) -> Table<T, A>
-        ensures { result ≡ record self.entry { config = record self.entry.config { alignment_horizontal = with_setting Entity.Global alignment self.entry.config.alignment_horizontal } } }
+        ensures { result ≡ record self { config = record self.config { alignment_horizontal = with_setting Entity.Global alignment self.config.alignment_horizontal } } }
     {
         self.config
             .set_alignment_horizontal(Entity::Global, alignment)
@@ -97,7 +97,7 @@ impl<T, A: Allocator> Table<T, A> {
 
     /// The table with these borders, such as [`Borders::rounded`]. A line below its header stays.
     pub fn with_borders(mut self, borders: Borders<char>) -> Table<T, A>
-        ensures { result ≡ record self.entry { config = record self.entry.config { borders = borders } } }
+        ensures { result ≡ record self { config = record self.config { borders = borders } } }
     {
         self.config.set_borders(borders);
         self
@@ -106,7 +106,7 @@ impl<T, A: Allocator> Table<T, A> {
     /// The table with all that this configuration was told, in place of all that it was told itself:
     /// borders, paddings, alignments and a line below its header among them.
     pub fn with_config(mut self, config: SpannedConfig<A>) -> Table<T, A>
-        ensures { result ≡ record self.entry { config = config } }
+        ensures { result ≡ record self { config = config } }
     {
         self.config = config;
         self
@@ -114,7 +114,7 @@ impl<T, A: Allocator> Table<T, A> {
 
     /// The table with these colours of cells, in place of all colours that it had.
     pub fn with_colors(mut self, colors: ColorsMap<A>) -> Table<T, A>
-        ensures { result ≡ record self.entry { colors = colors } }
+        ensures { result ≡ record self { colors = colors } }
     {
         self.colors = colors;
         self
@@ -155,7 +155,7 @@ impl<T: AsStr + Drop, A: Allocator> Table<T, A> {
     /// let table = table.with_borders(Borders::psql()).with_header_line(HorizontalLine::psql())?;
     /// ```
     pub fn with_header_line(mut self, line: HorizontalLine<char>) -> Result<Table<T, A>, TableFault>
-        ensures ok { IfOk result (λ table. table ≡ record self.entry { config = with_header_line line (length self.entry.rows) (columns_of self.entry.rows) self.entry.config }) }
+        ensures ok { IfOk result (λ table. table ≡ record self { config = with_header_line line (length self.rows) (columns_of self.rows) self.config }) }
         ensures memory { (fault : TableFault) → result ≡ Err fault → fault ≡ TableFault.Memory }
     {
         match self.set_header_line(line) {
@@ -178,7 +178,7 @@ impl<T: AsStr + Drop, A: Allocator> Table<T, A> {
         ensures widths { IfOk result (λ d. d.0.items ≡ natural_sizes Columns self.now.config (map (λ row. map T.text row) self.now.rows) (columns_of self.now.rows)) }
         ensures heights { IfOk result (λ d. d.1.items ≡ natural_sizes Rows self.now.config (map (λ row. map T.text row) self.now.rows) (columns_of self.now.rows)) }
     {
-        NaturalTable::new(&self.records, &self.config, &self.colors).natural_dimension(alloc)
+        self.natural().natural_dimension(alloc)
     }
 
     /// Appends the picture of the table at its natural sizes. A table with no rows or no columns
@@ -200,7 +200,7 @@ impl<T: AsStr + Drop, A: Allocator> Table<T, A> {
         ensures straight { IsOk result → IsStraight (drawn T.text self.now) }
         ensures even { IsOk result → IsEven (drawn T.text self.now) }
     {
-        NaturalTable::new(&self.records, &self.config, &self.colors).print(alloc, buf)
+        self.natural().print(alloc, buf)
     }
 
     /// The picture of the table at its natural sizes as a text of its own; errors as those of
@@ -210,7 +210,16 @@ impl<T: AsStr + Drop, A: Allocator> Table<T, A> {
         ensures fault { (fault : TableFault) → fault_of (drawn T.text self.now) ≡ Some fault → result ≡ Err fault }
         ensures memory { (fault : TableFault) → fault_of (drawn T.text self.now) ≡ None → result ≡ Err fault → fault ≡ TableFault.Memory }
     {
-        NaturalTable::new(&self.records, &self.config, &self.colors).to_string(alloc)
+        self.natural().to_string(alloc)
+    }
+
+    // The same table over what is lent.
+    fn natural(&self) -> NaturalTable<'_, &VecRecords<T, A>, ColorsMap<A>, A>
+        ensures records { result.records.now ≡ self.now.rows }
+        ensures config { result.config.now ≡ self.now.config }
+        ensures colors { result.colors.now ≡ self.now.colors }
+    {
+        NaturalTable::new(&self.records, &self.config, &self.colors)
     }
 
     // How many rows and columns there are.

@@ -1,0 +1,146 @@
+//! The program `price_lists`: it prints tables of articles and prices, whose rows come from a vector,
+//! from iterators over it, from arrays and from the parts of lines.
+//!
+//! It shows the calls that take all rows at once, or rows of any kind. None of its functions needs a
+//! proof by hand, nor does [`append_rows`], whose contract says what text it appends.
+#![tactic(auto)]
+
+ghost use Rattle.std.specs.Prelude.{◌≡◌, ◌++◌, map, None, OnOk, string_bytes};
+ghost use Rattle.pg_stream.specs.Printing.{printer, rows_text};
+
+use anyhow::{Result, anyhow};
+use pg_config::SpannedConfig;
+use pg_layout::{Borders, Colors, Dimension, Entity, EvenDimension, Indent, NoColors, Sides};
+use pg_stream::{RowStream, StreamFault};
+use std::alloc::{AllocError, Global};
+
+/// An article and its price.
+const COLUMNS: usize = 2;
+
+// What a fault says. Rows are counted from 0.
+fn told(fault: StreamFault) -> anyhow::Error {
+    match fault {
+        StreamFault::Misfit(_) => anyhow!("the columns do not fit"),
+        StreamFault::Row(row) => anyhow!("row {row} does not fit"),
+        StreamFault::Memory => anyhow!("out of memory"),
+    }
+}
+
+// Verticals, and a space at each side of a text.
+fn set_look(config: &mut SpannedConfig) -> Result<(), AllocError> {
+    let (beside, none) = (Indent::spaced(1), Indent::zero());
+    config.set_borders(Borders {
+        left: Some('|'),
+        vertical: Some('|'),
+        right: Some('|'),
+        ..Borders::empty()
+    });
+    config.set_padding(Entity::Global, Sides::new(beside, beside, none, none))
+}
+
+/// Appends the rows of a vector: where it succeeds, the text of all of them is there.
+pub fn append_rows<D: Dimension, C: Colors>(
+    alloc: Global,
+    config: &SpannedConfig,
+    dimension: &D,
+    colors: &C,
+    rows: Vec<Vec<&str>>,
+    buf: &mut String,
+) -> Result<(), StreamFault>
+    ensures { OnOk result (string_bytes buf.new ≡ string_bytes buf.old ++ rows_text (printer config.now COLUMNS (D.width dimension.now) (D.height dimension.now) (C.color colors.now) None) (map (λ row. map (λ cell. cell.now) row.items) rows.entry.items)) }
+{
+    let stream = RowStream::new(alloc, config, dimension, colors, COLUMNS, None)?;
+    stream.print_vec(rows, buf)
+}
+
+// Appends those of the rows that have a price.
+fn append_priced(
+    alloc: Global,
+    config: &SpannedConfig,
+    dimension: &EvenDimension,
+    rows: Vec<Vec<&str>>,
+    buf: &mut String,
+) -> Result<(), StreamFault> {
+    let stream = RowStream::new(alloc, config, dimension, &NoColors, COLUMNS, None)?;
+    stream.print_all(rows.into_iter().filter(|row| row.len() == COLUMNS), buf)
+}
+
+// Appends rows that stand beside a number.
+fn append_counted(
+    alloc: Global,
+    config: &SpannedConfig,
+    dimension: &EvenDimension,
+    rows: Vec<(u32, Vec<&str>)>,
+    buf: &mut String,
+) -> Result<(), StreamFault> {
+    let hint = Some(rows.len());
+    let stream = RowStream::new(alloc, config, dimension, &NoColors, COLUMNS, hint)?;
+    stream.print_all(rows.into_iter().map(|(_, row)| row), buf)
+}
+
+// Appends a row for each pair.
+fn append_pairs(
+    alloc: Global,
+    config: &SpannedConfig,
+    dimension: &EvenDimension,
+    pairs: &[(&str, &str)],
+    buf: &mut String,
+) -> Result<(), StreamFault> {
+    let mut stream = RowStream::new(alloc, config, dimension, &NoColors, COLUMNS, None)?;
+    for (article, price) in pairs {
+        stream = stream.push_from(alloc, [*article, *price], buf)?;
+    }
+    stream.finish(buf)
+}
+
+// Appends a row for each line, whose parts commas part.
+fn append_lines(
+    alloc: Global,
+    config: &SpannedConfig,
+    dimension: &EvenDimension,
+    lines: &str,
+    buf: &mut String,
+) -> Result<(), StreamFault> {
+    let mut stream = RowStream::new(alloc, config, dimension, &NoColors, COLUMNS, None)?;
+    for line in lines.lines() {
+        stream = stream.push_from(alloc, line.split(','), buf)?;
+    }
+    stream.finish(buf)
+}
+
+fn main(rt: HostRuntime) -> Result<()> {
+    let alloc = rt.alloc();
+    let mut config = SpannedConfig::new(alloc);
+    set_look(&mut config)?;
+    let dimension = EvenDimension {
+        widths: vec![in alloc; 10, 8]?,
+        height: 1,
+    };
+    let mut buf = String::new(alloc);
+    let bread = vec![in alloc; "bread", "2.10"]?;
+    let milk = vec![in alloc; "milk", "0.95"]?;
+    let rows = vec![in alloc; bread, milk]?;
+    append_rows(alloc, &config, &dimension, &NoColors, rows, &mut buf).map_err(told)?;
+    buf.push_str("\n--\n")?;
+    let salt = vec![in alloc; "salt", "0.40"]?;
+    let rows = vec![in alloc; salt, vec![in alloc; "sugar"]?]?;
+    append_priced(alloc, &config, &dimension, rows, &mut buf).map_err(told)?;
+    buf.push_str("\n--\n")?;
+    let rice = vec![in alloc; "rice", "1.80"]?;
+    let rows = vec![in alloc; (3, rice)]?;
+    append_counted(alloc, &config, &dimension, rows, &mut buf).map_err(told)?;
+    buf.push_str("\n--\n")?;
+    let pairs = [("oil", "6.00"), ("oats", "1.20")];
+    append_pairs(alloc, &config, &dimension, &pairs, &mut buf).map_err(told)?;
+    buf.push_str("\n--\n")?;
+    append_lines(
+        alloc,
+        &config,
+        &dimension,
+        "eggs,3.10\nbeans,1.05",
+        &mut buf,
+    )
+    .map_err(told)?;
+    println!(rt; "{buf}")?;
+    Ok(())
+}
