@@ -6,7 +6,7 @@ ghost use Rattle.pg_stream.specs.declared.fault.StreamFault.{StreamFault};
 ghost use Rattle.pg_stream.specs.Faults.{stream_fault_text};
 
 use pg_picture::fits::Misfit;
-use std::alloc::AllocError;
+use std::alloc::{AllocError, AllocFailed};
 use std::error::Error;
 use std::fmt;
 
@@ -34,6 +34,14 @@ impl From<AllocError> for StreamFault {
     ghost from_gives = { λ _ fault. fault ≡ StreamFault.Memory };
 
     fn from(_error: AllocError) -> StreamFault {
+        StreamFault::Memory
+    }
+}
+
+impl<T: Drop> From<AllocFailed<T>> for StreamFault {
+    ghost from_gives = { λ _ fault. fault ≡ StreamFault.Memory };
+
+    fn from(_error: AllocFailed<T>) -> StreamFault {
         StreamFault::Memory
     }
 }

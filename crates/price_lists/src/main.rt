@@ -8,23 +8,14 @@
 ghost use Rattle.std.specs.Prelude.{◌≡◌, ◌++◌, map, None, OnOk, string_bytes};
 ghost use Rattle.pg_stream.specs.Printing.{printer, rows_text};
 
-use anyhow::{Result, anyhow};
 use pg_config::SpannedConfig;
 use pg_layout::{Borders, Colors, Dimension, Entity, EvenDimension, Indent, NoColors, Sides};
 use pg_stream::{RowStream, StreamFault};
 use std::alloc::{AllocError, Global};
+use std::io;
 
 /// An article and its price.
 const COLUMNS: usize = 2;
-
-// What a fault says. Rows are counted from 0.
-fn told(fault: StreamFault) -> anyhow::Error {
-    match fault {
-        StreamFault::Misfit(_) => anyhow!("the columns do not fit"),
-        StreamFault::Row(row) => anyhow!("row {row} does not fit"),
-        StreamFault::Memory => anyhow!("out of memory"),
-    }
-}
 
 // Verticals, and a space at each side of a text.
 fn set_look(config: &mut SpannedConfig) -> Result<(), AllocError> {
@@ -108,8 +99,8 @@ fn append_lines(
     stream.finish(buf)
 }
 
-fn main(rt: HostRuntime) -> Result<()> {
-    let alloc = rt.alloc();
+// All of them, parted by dashes.
+fn lists(alloc: Global) -> Result<String, StreamFault> {
     let mut config = SpannedConfig::new(alloc);
     set_look(&mut config)?;
     let dimension = EvenDimension {
@@ -120,27 +111,27 @@ fn main(rt: HostRuntime) -> Result<()> {
     let bread = vec![in alloc; "bread", "2.10"]?;
     let milk = vec![in alloc; "milk", "0.95"]?;
     let rows = vec![in alloc; bread, milk]?;
-    append_rows(alloc, &config, &dimension, &NoColors, rows, &mut buf).map_err(told)?;
+    append_rows(alloc, &config, &dimension, &NoColors, rows, &mut buf)?;
     buf.push_str("\n--\n")?;
     let salt = vec![in alloc; "salt", "0.40"]?;
     let rows = vec![in alloc; salt, vec![in alloc; "sugar"]?]?;
-    append_priced(alloc, &config, &dimension, rows, &mut buf).map_err(told)?;
+    append_priced(alloc, &config, &dimension, rows, &mut buf)?;
     buf.push_str("\n--\n")?;
     let rice = vec![in alloc; "rice", "1.80"]?;
     let rows = vec![in alloc; (3, rice)]?;
-    append_counted(alloc, &config, &dimension, rows, &mut buf).map_err(told)?;
+    append_counted(alloc, &config, &dimension, rows, &mut buf)?;
     buf.push_str("\n--\n")?;
     let pairs = [("oil", "6.00"), ("oats", "1.20")];
-    append_pairs(alloc, &config, &dimension, &pairs, &mut buf).map_err(told)?;
+    append_pairs(alloc, &config, &dimension, &pairs, &mut buf)?;
     buf.push_str("\n--\n")?;
-    append_lines(
-        alloc,
-        &config,
-        &dimension,
-        "eggs,3.10\nbeans,1.05",
-        &mut buf,
-    )
-    .map_err(told)?;
-    println!(rt; "{buf}")?;
-    Ok(())
+    let lines = "eggs,3.10\nbeans,1.05";
+    append_lines(alloc, &config, &dimension, lines, &mut buf)?;
+    Ok(buf)
+}
+
+fn main(rt: HostRuntime) -> io::Result<()> {
+    match lists(rt.alloc()) {
+        Ok(text) => println!(rt; "{text}"),
+        Err(fault) => println!(rt; "{fault}"),
+    }
 }

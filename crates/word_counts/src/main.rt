@@ -10,21 +10,14 @@
 //! none of this needs a proof by hand.
 #![tactic(auto)]
 
-use anyhow::{Result, anyhow};
+mod fault;
+
+use crate::fault::Fault;
 use pg_config::SpannedConfig;
 use pg_layout::{AlignmentHorizontal, Borders, Entity, EvenDimension, Indent, NoColors, Sides};
-use pg_stream::{RowStream, StreamFault};
+use pg_stream::RowStream;
 use std::alloc::AllocError;
 use std::io::{BufRead, BufReader};
-
-// What a fault says. Lines are counted from 1, rows from 0.
-fn told(fault: StreamFault) -> anyhow::Error {
-    match fault {
-        StreamFault::Misfit(_) => anyhow!("the columns do not fit"),
-        StreamFault::Row(row) => anyhow!("line {}: too wide for its column", row.saturating_add(1)),
-        StreamFault::Memory => anyhow!("out of memory"),
-    }
-}
 
 // Verticals, a space at each side of a text, and numbers on the right.
 fn set_look(config: &mut SpannedConfig) -> Result<(), AllocError> {
@@ -39,7 +32,7 @@ fn set_look(config: &mut SpannedConfig) -> Result<(), AllocError> {
     config.set_alignment_horizontal(Entity::Column(0), AlignmentHorizontal::Right)
 }
 
-fn main(rt: HostRuntime) -> Result<()> {
+fn main(rt: HostRuntime) -> Result<(), Fault> {
     let alloc = rt.alloc();
     let mut config = SpannedConfig::new(alloc);
     set_look(&mut config)?;
@@ -47,17 +40,17 @@ fn main(rt: HostRuntime) -> Result<()> {
         widths: vec![in alloc; 5, 20]?,
         height: 1,
     };
-    let mut stream = RowStream::new(alloc, &config, &dimension, &NoColors, 2, None).map_err(told)?;
+    let mut stream = RowStream::new(alloc, &config, &dimension, &NoColors, 2, None)?;
     let mut buf = String::new(alloc);
     for line in BufReader::new(alloc, rt.stdin())?.lines(alloc) {
         let line = line?;
         let words = line.split_whitespace().count();
         let row = vec![in alloc; format!(in alloc; "{words}")?, line]?;
-        stream = stream.push(row, &mut buf).map_err(told)?;
+        stream = stream.push(row, &mut buf)?;
         print!(rt; "{buf}")?;
         buf.clear();
     }
-    stream.finish(&mut buf).map_err(told)?;
+    stream.finish(&mut buf)?;
     println!(rt; "{buf}")?;
     Ok(())
 }
