@@ -3,7 +3,15 @@ use Rattle.std.specs.Prelude.{◌≡◌, ◌≢◌, ℕ, List, Option, None, Som
 use Rattle.pg_picture.specs.Appending.{Appends}
 use Rattle.pg_picture.specs.declared.fits.Misfit.{Misfit}
 use Rattle.pg_grid.specs.IterGrids.{AppendsOrNothing}
+use Rattle.pg_layout.specs.Text.{Text}
+use Rattle.pg_stream.specs.Faults.{stream_fault_text}
+use Rattle.pg_stream.specs.declared.fault.StreamFault.{StreamFault}
 use Rattle.pg_grid.specs.declared.fault.PrintFault.{PrintFault}
+
+-- the words for a table that isn't printed
+abbrev pub print_fault_text : PrintFault → Text
+print_fault_text (PrintFault.Misfit misfit) = stream_fault_text (StreamFault.Misfit misfit)
+print_fault_text PrintFault.Memory = stream_fault_text StreamFault.Memory
 
 -- A table with a misfit is refused with it, and the buffer stays as it was. One without is appended, and refused for want
 -- of memory alone.

@@ -1,10 +1,14 @@
 //! Why a table isn't printed.
 
-ghost use Rattle.std.specs.Prelude.{◌≡◌};
+ghost use Rattle.std.specs.Prelude.{◌≡◌, Some};
 ghost use Rattle.pg_grid.specs.declared.fault.PrintFault.{PrintFault};
+ghost use Rattle.pg_grid.specs.Printed.{print_fault_text};
 
 use pg_picture::fits::Misfit;
+use pg_stream::StreamFault;
 use std::alloc::AllocError;
+use std::error::Error;
+use std::fmt;
 
 /// Why a table isn't printed.
 #[derive(Debug, Clone, Copy, PartialEq, Eq)]
@@ -30,3 +34,17 @@ impl From<AllocError> for PrintFault {
         PrintFault::Memory
     }
 }
+
+/// Writes what doesn't fit, or that memory was refused.
+impl fmt::Display for PrintFault {
+    ghost output = { λ fault. Some (print_fault_text fault) };
+
+    fn fmt<W: fmt::Write>(&self, f: &mut fmt::Formatter<W>) -> fmt::Result {
+        match self {
+            PrintFault::Misfit(misfit) => write!(f, "{}", StreamFault::Misfit(*misfit)),
+            PrintFault::Memory => write!(f, "{}", StreamFault::Memory),
+        }
+    }
+}
+
+impl Error for PrintFault {}
