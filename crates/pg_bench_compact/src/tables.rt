@@ -1,8 +1,8 @@
 //! Compact tables.
 
 use crate::drawing::{
-    Sample, WITH_COLORED_CORNER, WITH_MARGINS, assert_drawn, blue, bordered, no_colors,
-    no_indents, red, red_corner, with_colored_corner, with_margins,
+    Sample, WITH_COLORED_CORNER, WITH_MARGINS, assert_drawn, blue, bordered, no_colors, no_indents,
+    red, red_corner, with_colored_corner, with_margins,
 };
 use pg_config::CompactConfig;
 use pg_layout::{

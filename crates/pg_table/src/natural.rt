@@ -27,11 +27,7 @@ pub struct NaturalTable<'a, R, C, B: Allocator = Global> {
 impl<'a, R, C, B: Allocator> NaturalTable<'a, R, C, B> {
     /// The table of these records, which may be a reference, of what the configuration was told, and
     /// of these colours. Takes no memory.
-    pub fn new(
-        records: R,
-        config: &'a SpannedConfig<B>,
-        colors: &'a C,
-    ) -> NaturalTable<'a, R, C, B>
+    pub fn new(records: R, config: &'a SpannedConfig<B>, colors: &'a C) -> NaturalTable<'a, R, C, B>
         ensures { natural_parts result ≡ (records, config.now, colors.now) }
     {
         NaturalTable {
