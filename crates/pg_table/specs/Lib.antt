@@ -1,4 +1,5 @@
 pub mod Natural
+pub mod Styles
 pub mod Sizes
 pub mod Printing
 pub mod Laws

@@ -5,6 +5,7 @@ mod fault;
 mod laws;
 mod natural;
 mod sizes;
+mod style;
 mod table;
 
 pub use crate::fault::TableFault;

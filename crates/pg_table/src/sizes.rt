@@ -2,15 +2,17 @@
 
 ghost use Rattle.std.specs.Prelude.{◌≡◌, ℕ, ◌+◌, ◌<◌, IfOk, length, ◌&&◌, sum_by, true};
 ghost use Rattle.std.specs.List.{range_with_len};
+ghost use Rattle.std.specs.Option.{ForSome};
 ghost use Rattle.pg_layout.specs.Records.{text_at};
 ghost use Rattle.pg_picture.specs.Sizes.{if_fits};
 ghost use Rattle.pg_table.specs.Natural.{paddings, text_size, cell_size, cell_at, all_fit};
 ghost use Rattle.pg_table.specs.declared.sizes.Axis.TheVariants.{Columns, Rows};
-ghost use Rattle.pg_table.specs.Sizes.{size_of, sizes_of, count_of, cells_of};
+ghost use Rattle.pg_table.specs.Styles.{IsStyleAt, IsStyleOfAll};
 
+use crate::style::SizeStyle;
 use pg_config::SpannedConfig;
 use pg_layout::{ConstantDimension, ExactRecords, PeekableRecords, Position};
-use pg_picture::TextFacts;
+use pg_picture::{TextFacts, text_width};
 use std::alloc::{AllocError, Allocator};
 
 /// A sum with a number more, or None where it passes `usize::MAX`.
@@ -44,15 +46,23 @@ impl Axis {
 pub(crate) struct NaturalSizes<'a, R, B: Allocator> {
     records: R,
     config: &'a SpannedConfig<B>,
+    all: Option<SizeStyle>,
+    ghost is_of_all: { ForSome all (IsStyleOfAll config.now) },
 }
 
 impl<'a, R: PeekableRecords + ExactRecords, B: Allocator> NaturalSizes<'a, R, B> {
+    ghost use Rattle.pg_table.specs.Sizes.{size_of, sizes_of, count_of, cells_of};
+
     /// The natural sizes of these records in a table that is told this.
     pub(crate) fn new(records: R, config: &'a SpannedConfig<B>) -> NaturalSizes<'a, R, B>
         ensures records { result.records ≡ records }
         ensures config { result.config.now ≡ config.now }
     {
-        NaturalSizes { records, config }
+        NaturalSizes {
+            records,
+            config,
+            all: SizeStyle::of_all(config),
+        }
     }
 
     // How many columns there are, or rows.
@@ -75,28 +85,42 @@ impl<'a, R: PeekableRecords + ExactRecords, B: Allocator> NaturalSizes<'a, R, B>
         }
     }
 
+    // The style of a cell: that of all cells, or its own.
+    #[inline(always)]
+    fn style(&self, pos: Position) -> SizeStyle
+        ensures { IsStyleAt self.now.config.now pos result }
+    {
+        match self.all {
+            Some(style) => style,
+            None => SizeStyle::of(self.config, pos),
+        }
+    }
+
     // What the paddings of a cell take, or None where it passes `usize::MAX`.
     fn paddings(&self, axis: Axis, pos: Position) -> Option<usize>
         ensures { result ≡ if_fits (paddings axis self.now.config.now pos) }
     {
-        let padding = self.config.get_padding(pos);
+        let padding = self.style(pos).padding;
         match axis {
             Axis::Columns => padding.left.size.checked_add(padding.right.size),
             Axis::Rows => padding.top.size.checked_add(padding.bottom.size),
         }
     }
 
-    // What the text of a cell takes.
-    #[tactic(auto, unfolding(pg_picture::specs::Cells::facts_of))]
+    // What the text of a cell takes. Only blank lines that are left out have to be looked for.
+    #[inline(always)]
     fn text_size(&self, axis: Axis, pos: Position) -> usize
         requires row { pos.row < length (R.texts self.now.records) }
         requires column { pos.col < R.columns self.now.records }
         ensures { result ≡ text_size axis self.now.config.now (text_at (R.texts self.now.records)) pos }
     {
-        let facts = TextFacts::of_records(&self.records, pos, self.config.get_formatting(pos));
+        let formatting = self.style(pos).formatting;
         match axis {
-            Axis::Columns => facts.widest,
-            Axis::Rows => facts.shown,
+            Axis::Columns => text_width(self.records.get_text(pos), formatting.horizontal_trim),
+            Axis::Rows if formatting.vertical_trim => {
+                TextFacts::of_records(&self.records, pos, formatting).shown
+            }
+            Axis::Rows => self.records.count_lines(pos),
         }
     }
 
