@@ -97,6 +97,7 @@ impl<'a, R: PeekableRecords + ExactRecords, B: Allocator> NaturalSizes<'a, R, B>
     }
 
     // What the paddings of a cell take, or None where it passes `usize::MAX`.
+    #[inline(always)]
     fn paddings(&self, axis: Axis, pos: Position) -> Option<usize>
         ensures { result ≡ if_fits (paddings axis self.now.config.now pos) }
     {
@@ -107,7 +108,7 @@ impl<'a, R: PeekableRecords + ExactRecords, B: Allocator> NaturalSizes<'a, R, B>
         }
     }
 
-    // What the text of a cell takes. Only blank lines that are left out have to be looked for.
+    // What the text of a cell takes. Lines are looked at one by one where they are trimmed.
     #[inline(always)]
     fn text_size(&self, axis: Axis, pos: Position) -> usize
         requires row { pos.row < length (R.texts self.now.records) }
@@ -116,7 +117,10 @@ impl<'a, R: PeekableRecords + ExactRecords, B: Allocator> NaturalSizes<'a, R, B>
     {
         let formatting = self.style(pos).formatting;
         match axis {
-            Axis::Columns => text_width(self.records.get_text(pos), formatting.horizontal_trim),
+            Axis::Columns if formatting.horizontal_trim => {
+                text_width(self.records.get_text(pos), true)
+            }
+            Axis::Columns => self.records.get_width(pos),
             Axis::Rows if formatting.vertical_trim => {
                 TextFacts::of_records(&self.records, pos, formatting).shown
             }
@@ -125,6 +129,7 @@ impl<'a, R: PeekableRecords + ExactRecords, B: Allocator> NaturalSizes<'a, R, B>
     }
 
     // The width of a cell, or its height, or None where it passes `usize::MAX`.
+    #[inline(always)]
     fn cell_size(&self, axis: Axis, pos: Position) -> Option<usize>
         requires row { pos.row < length (R.texts self.now.records) }
         requires column { pos.col < R.columns self.now.records }
@@ -135,6 +140,7 @@ impl<'a, R: PeekableRecords + ExactRecords, B: Allocator> NaturalSizes<'a, R, B>
     }
 
     // The natural size of a column or a row, or None where it passes `usize::MAX`.
+    #[inline(always)]
     fn size(&self, axis: Axis, k: usize) -> Option<usize>
         requires { k < count_of R.texts R.columns self.now axis }
         ensures { result ≡ if_fits (size_of R.texts R.columns self.now axis k) }
