@@ -36,11 +36,10 @@ fn a_table_of_one_row_has_no_line_below_it(rt: HostRuntime) -> Result<(), Fail> 
 #[test]
 fn a_table_without_cells_may_be_told_a_line(rt: HostRuntime) -> Result<(), Fail> {
     let alloc = rt.alloc();
-    for texts in [[].as_slice(), [[].as_slice(), [].as_slice()].as_slice()] {
-        let headed = table(alloc, texts)?.with_header_line(HorizontalLine::psql())?;
-        assert_text(&rt, alloc, &headed, "")?;
-    }
-    Ok(())
+    let no_rows = table(alloc, &[])?.with_header_line(HorizontalLine::psql())?;
+    assert_text(&rt, alloc, &no_rows, "")?;
+    let no_columns = table(alloc, &[&[], &[]])?.with_header_line(HorizontalLine::psql())?;
+    assert_text(&rt, alloc, &no_columns, "")
 }
 
 #[test]
