@@ -82,7 +82,7 @@ module _ (t : Table) (owners : HasOwners t.config.spans) (k : ℕ) (below : k < 
           | inr e ↦ rw e refl
         ]
 
-    -- the line of D9 is the line that is read off the slots
+    -- the line of a row is the line that is read off the slots
     pub row_line-slots : row_line t k i ≡ slot_line t (map (slot_in_row t k i) (range_with_len 0 t.columns)) k i
     unfolding row_line row_part slot_line slot_part
     row_line-slots =
