@@ -4,9 +4,11 @@ pub mod PlacesLookups
 pub mod PlacesInColor
 pub mod TextLines
 pub mod TextWidths
+pub mod Greatest
 pub mod LineNumbers
 pub mod Rows
 pub mod Given
 pub mod GivenArrays
+mod GivenVectors
 pub mod Computing
 mod RowsText

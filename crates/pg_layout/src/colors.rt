@@ -1,6 +1,6 @@
 //! Colours: what is written before and after a coloured text, and which place has which.
 
-ghost use Rattle.std.specs.Prelude.{◌≡◌, ◌==◌, ◌&&◌, length, IsTrue, IfOk, Option, None, option_map, [], string_bytes};
+ghost use Rattle.std.specs.Prelude.{◌≡◌, ◌==◌, ◌&&◌, length, Bool, true, IsTrue, IfOk, Option, None, option_map, [], string_bytes};
 ghost use Rattle.pg_layout.specs.Colors.{Color, str_color, lent_color, same_color, color_eq, color_eq-equiv};
 ghost use Rattle.std.specs.Cmp.{partial_equiv_from_equiv};
 ghost use Rattle.pg_layout.specs.declared.position.Position.{Position};
@@ -163,19 +163,25 @@ pub trait Colors {
     /// The colour of each place, if it has one.
     ghost color: { Self → Position → Option Color };
 
+    /// Whether it is known that no place has a colour.
+    ghost is_colorless: { Self → Bool };
+
     /// The colour of a place, if it has one.
     fn get_color(&self, pos: Position) -> Option<&Self::Color>
         ensures { lent_color Self.Color.color_of result ≡ color self.now pos };
 
     /// Whether it is known that no place has a colour.
     fn is_empty(&self) -> bool
-        ensures { IsTrue result → (pos : Position) → color self.now pos ≡ None };
+        ensures value { result ≡ is_colorless self.now }
+        ensures nowhere { IsTrue result → (pos : Position) → color self.now pos ≡ None };
 }
 
 impl<C: Colors> Colors for &C {
     type Color = C::Color;
 
     ghost color = { λ c pos. C.color c.now pos };
+
+    ghost is_colorless = { λ c. C.is_colorless c.now };
 
     fn get_color(&self, pos: Position) -> Option<&C::Color> {
         (**self).get_color(pos)
@@ -195,13 +201,13 @@ impl Colors for NoColors {
 
     ghost color = { λ _ _. None };
 
+    ghost is_colorless = { λ _. true };
+
     fn get_color(&self, _pos: Position) -> Option<&ANSIBuf<Global>> {
         None
     }
 
-    fn is_empty(&self) -> bool
-        ensures { IsTrue result }
-    {
+    fn is_empty(&self) -> bool {
         true
     }
 }

@@ -1,6 +1,6 @@
 //! Colours that are set for places one by one.
 
-ghost use Rattle.std.specs.Prelude.{◌≡◌, ◌==◌, [], List, None, length, IsOk, IsSome, IsTrue, OnErr, OnOk};
+ghost use Rattle.std.specs.Prelude.{◌≡◌, ◌==◌, [], List, None, length, IsOk, IsSome, OnErr, OnOk};
 ghost use Rattle.pg_layout.specs.declared.position.Position.{Position};
 ghost use Rattle.pg_layout.specs.Colors.{Color};
 ghost use Rattle.pg_layout.specs.ColorsMap.{IsColored, color_at, place_key};
@@ -53,15 +53,14 @@ impl<A: Allocator> Colors for ColorsMap<A> {
 
     ghost color = { λ m pos. color_at pos m };
 
+    ghost is_colorless = { λ m. length m == 0 };
+
     fn get_color(&self, pos: Position) -> Option<&ANSIBuf<A>> {
         self.colors.get(place_key(pos))
     }
 
     /// Whether no colour was set.
-    fn is_empty(&self) -> bool
-        ensures nothing { result ≡ (length self.now == 0) }
-        ensures nowhere { IsTrue result → (pos : Position) → color_at pos self.now ≡ None }
-    {
+    fn is_empty(&self) -> bool {
         self.colors.is_empty()
     }
 }

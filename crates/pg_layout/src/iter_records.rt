@@ -12,7 +12,7 @@ use std::marker::Model;
 /// The rows of records that an iterator gives.
 #[derive(Debug, Drop)]
 pub struct IterRows<I> {
-    iter: I,
+    pub(crate) iter: I,
 }
 
 impl<I: Iterator> Iterator for IterRows<I>

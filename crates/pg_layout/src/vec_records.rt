@@ -7,6 +7,7 @@ ghost use Rattle.pg_layout.specs.Records.{columns_of, ragged_row, records_fault_
 ghost use Rattle.pg_layout.specs.Text.{lines_of};
 ghost use Rattle.pg_layout.specs.declared.vec_records.RecordsFault.TheVariants.{Ragged};
 
+use crate::iter_records::IterRows;
 use crate::position::Position;
 use crate::records::{ExactRecords, PeekableRecords, Records};
 use crate::text::{count_lines, get_line, get_line_width, get_text_width};
@@ -15,6 +16,7 @@ use std::convert::AsStr;
 use std::error::Error;
 use std::fmt;
 use std::marker::Model;
+use std::vec::IntoIter;
 
 /// The cells of a row in memory, as their texts.
 #[derive(Debug, Drop)]
@@ -78,6 +80,10 @@ impl fmt::Display for RecordsFault {
 impl Error for RecordsFault {}
 
 /// Rows of cells in memory, all of one length.
+///
+/// Hand the records themselves to a printer where nothing else needs them: the printer then owns
+/// them, so it can be kept and returned, and a streaming one lets each cell go once it is drawn.
+/// Hand it `&VecRecords` where they are read again. Neither copies a cell.
 #[derive(Debug, Drop)]
 pub struct VecRecords<T, A: Allocator = Global> {
     rows: Vec<Vec<T, A>, A>,
@@ -197,5 +203,62 @@ impl<T: AsStr, A: Allocator> PeekableRecords for &VecRecords<T, A> {
 
     fn get_width(&self, pos: Position) -> usize {
         get_text_width(self.text_at(pos))
+    }
+}
+
+/// Gives the cells themselves; all else is asked of the lent records.
+impl<T: AsStr + Drop, A: Allocator> Records for VecRecords<T, A> {
+    type Cell = T;
+
+    type Columns = IntoIter<T, A>;
+
+    type Rows = IterRows<IntoIter<Vec<T, A>, A>>;
+
+    ghost texts = { λ r. map (λ row. map T.text row) r };
+
+    ghost columns = { λ r. columns_of r };
+
+    ghost hint = { λ r. Some (length r) };
+
+    fn iter_rows(self) -> IterRows<IntoIter<Vec<T, A>, A>> {
+        IterRows {
+            iter: self.rows.into_iter(),
+        }
+    }
+
+    fn count_columns(&self) -> usize {
+        Records::count_columns(&self)
+    }
+
+    fn hint_count_rows(&self) -> Option<usize> {
+        Records::hint_count_rows(&self)
+    }
+}
+
+impl<T: AsStr + Drop, A: Allocator> ExactRecords for VecRecords<T, A> {
+    fn count_rows(&self) -> usize {
+        ExactRecords::count_rows(&self)
+    }
+}
+
+impl<T: AsStr + Drop, A: Allocator> PeekableRecords for VecRecords<T, A> {
+    fn get_text(&self, pos: Position) -> &str {
+        self.text_at(pos)
+    }
+
+    fn get_line(&self, pos: Position, line: usize) -> &str {
+        get_line(self.get_text(pos), line)
+    }
+
+    fn count_lines(&self, pos: Position) -> usize {
+        PeekableRecords::count_lines(&self, pos)
+    }
+
+    fn get_line_width(&self, pos: Position, line: usize) -> usize {
+        PeekableRecords::get_line_width(&self, pos, line)
+    }
+
+    fn get_width(&self, pos: Position) -> usize {
+        PeekableRecords::get_width(&self, pos)
     }
 }
