@@ -1,19 +1,14 @@
 -- What places are overridden with after a row line is set.
-use Rattle.std.proofs.Common.{◌≡◌, ℕ, zero, suc, ◌+◌, true, false, ◌&&◌, ◌==◌, nat_lt, List, refl, ap, ◌∙◌, arith, Option, Some, None, if◌then◌else◌, inl, inr}
+use Rattle.std.proofs.Common.{◌≡◌, ℕ, zero, suc, ◌+◌, true, false, ◌&&◌, ◌==◌, nat_lt, List, refl, ap, ◌∙◌, arith, Option, if◌then◌else◌, inl, inr}
 use Rattle.std.specs.Option.{option_or}
 use Rattle.std.proofs.lemmas.Bool.{cases_Bool}
 use Rattle.std.proofs.lemmas.Bool.Decides.{nat_tests}
-use Rattle.pg_layout.specs.Places.{Key, same, value_at, with_some}
-use Rattle.pg_layout.proofs.PlacesLookups.{value_at-with_place}
+use Rattle.pg_layout.specs.Places.{Key, same, value_at}
 use Rattle.pg_config.specs.Overrides.{with_row, line_crossing, with_row_line, horizontal_override, vertical_override, crossing_override}
 use Rattle.pg_config.specs.Laws.{RowLineHorizontals, RowLineCrossings, RowLineVerticals}
+use Rattle.pg_config.proofs.Lookups.{value_at-with_some}
 
 module _ {V : Type 0} where
-  -- the key holds the new value if there is one, and any other key what it held before
-  value_at-with_some : (q k : Key) (v : Option V) (es : List (Key × V)) → value_at q (with_some k v es) ≡ (if same k q then option_or v (value_at q es) else value_at q es)
-  value_at-with_some q k None es = elim (cases_Bool (same k q)) [ inl y ↦ rw y refl | inr n ↦ rw n refl ]
-  value_at-with_some q k (Some v) es = value_at-with_place q k v es
-
   -- a place of the row that is among its first ones holds its new value if there is one
   value_at-with_row : (r n a b : ℕ) (values : ℕ → Option V) (es : List (Key × V)) → value_at (a, b, 0) (with_row r n values es) ≡ (if (a == r) && nat_lt b n then option_or (values b) (value_at (a, b, 0) es) else value_at (a, b, 0) es)
   value_at-with_row r zero a b values es =

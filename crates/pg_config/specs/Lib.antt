@@ -4,4 +4,5 @@ pub mod Offsets
 pub mod Spans
 pub mod Config
 pub mod CompactConfig
+pub mod Setters
 pub mod Laws

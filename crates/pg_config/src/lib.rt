@@ -11,7 +11,9 @@ mod spans;
 
 pub use crate::compact::CompactConfig;
 pub use crate::laws::{
-    a_row_line_overrides_its_places, lines_before_the_last_stay, the_latest_setting_counts,
+    a_border_is_answered, a_border_overrides_its_places, a_row_line_overrides_its_places,
+    a_span_is_answered, an_offset_is_answered, lines_before_the_last_stay,
+    the_latest_setting_counts, what_was_set_is_told,
 };
 pub use crate::spanned::SpannedConfig;
 pub use crate::spans::Span;
