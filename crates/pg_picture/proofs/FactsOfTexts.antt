@@ -88,3 +88,8 @@ none-first p (x ∷ xs) none =
 
 pub lines_of-single : (text : Text) → length (lines_of text) ≡ 1 → lines_of text ≡ text ∷ []
 lines_of-single text single = lines_of-one text (none-first is_feed text (omega (arith, length-lines_of text)))
+
+-- without a vertical trim all lines of a text are shown
+pub length-shown : (f : Formatting) (text : Text) → f.vertical_trim ≡ false → length (shown f text) ≡ length (lines_of text)
+unfolding shown kept_lines
+length-shown f text off = rw off (length-map (lines_of text) (trimmed_if f.horizontal_trim))

@@ -3,7 +3,6 @@ use Rattle.std.proofs.Common.{◌≡◌, ℕ, ◌+◌, ◌-◌, ◌<◌, ◌≤�
 use mathlib.Core.Path.{fun_ext}
 use Rattle.std.specs.List.{range_with_len, enumerate_from}
 use Rattle.std.specs.List.{list_any}
-use Rattle.std.proofs.lemmas.List.{length-map}
 use Rattle.std.proofs.lemmas.List.Elements.{All-weaker}
 use Rattle.std.proofs.lemmas.Bool.{cases_Bool, and_parts, or_parts}
 use Rattle.std.proofs.lemmas.Bool.Decides.{nat_tests}
@@ -13,16 +12,17 @@ use Rattle.pg_layout.specs.declared.alignment.Formatting.{Formatting}
 use Rattle.pg_layout.specs.Places.{Key, same, value_at}
 use Rattle.pg_layout.specs.Position.{at}
 use Rattle.pg_layout.specs.Colors.{Color}
-use Rattle.pg_layout.specs.Text.{Text, lines_of}
+use Rattle.pg_layout.specs.Text.{Text}
 use Rattle.pg_config.specs.Settings.{Settings}
 use Rattle.pg_config.specs.Config.{has_horizontal, has_vertical, count_vertical, get_horizontal, get_vertical, get_intersection, get_horizontal_color, get_vertical_color, get_intersection_color, get_padding, get_padding_color, get_alignment_horizontal, get_alignment_vertical, get_formatting, get_justification, get_justification_color}
 use Rattle.pg_config.specs.Spans.{Span, span_key, in_span, has_row_spans, size_of, owner, rect_rows, is_left, begins_above}
 use Rattle.pg_picture.specs.Marks.{Mark, sep, line, only_if, body, marks_within, stands_within, place_of}
-use Rattle.pg_picture.specs.Pieces.{Style, style_at, Piece, written, separator_text, block, trimmed_if, shown, kept_lines, lines_above, inner_width, left_share, text_line, text_height, text_top, block_line}
+use Rattle.pg_picture.specs.Pieces.{Style, style_at, Piece, written, separator_text, block, shown, lines_above, inner_width, left_share, text_line, text_height, text_top, block_line}
 use Rattle.pg_picture.specs.Table.{Table, Hint, rect_marks, rect_height, rect_width, block_at, is_inside, vertical_at, row_part, row_line, is_covered, crossing_at, crossing, column_items, separator_part, separator_items, total_width, full_width, side_margin, margin_lines, mark_text, body_line, table_body}
 use Rattle.pg_picture.specs.Joined.{joined}
 use Rattle.pg_picture.specs.Picture.{top_lines, bottom_lines, body_lines, picture_lines, picture}
 use Rattle.pg_picture.specs.Laws.{aligned_down, IsFull, FullCellsIgnoreAlignment, HasSingleLines, SingleLinesIgnoreAlignment}
+use Rattle.pg_picture.proofs.FactsOfTexts.{length-shown}
 use Rattle.pg_picture.proofs.PlacesOfTexts.{lines_above-none}
 use Rattle.pg_picture.proofs.MarksOfBodies.{All-body, All-enumerate_from, body-same, map-same}
 use Rattle.pg_picture.proofs.PlainTables.{rect_height-one_row}
@@ -142,10 +142,6 @@ one_row [] k none = refl
 one_row (s ∷ ss) k none =
     let parts = or_parts (not (s.1.0 == 1)) (list_any (λ (u : Span). not (u.1.0 == 1)) ss) none in
     elim (cases_Bool (same s.0 k)) [ inl y ↦ rw y (grind (arith, nat_tests, parts.0)) | inr n ↦ rw n (one_row ss k parts.1) ]
-
-length-shown : (f : Formatting) (text : Text) → f.vertical_trim ≡ false → length (shown f text) ≡ length (lines_of text)
-unfolding shown kept_lines
-length-shown f text off = rw off (length-map (lines_of text) (trimmed_if f.horizontal_trim))
 
 single_lines-full : (t : Table) → HasSingleLines t → (r c : ℕ) → r < t.rows → c < t.columns → IsFull t (at r c)
 unfolding rect_rows size_of

@@ -1,5 +1,5 @@
 -- A table's row lines, separators and margins, by coordinates.
-use Rattle.std.specs.Prelude.{ℕ, ◌+◌, ◌-◌, Bool, false, ◌&&◌, nat_lt, nat_le, min, List, [], ◌∷◌, ◌++◌, map, flat_map, length, replicate, sum_by, count_by, Option, Some, None, is_some, unwrap_or, if◌then◌else◌}
+use Rattle.std.specs.Prelude.{ℕ, ◌+◌, ◌-◌, Bool, false, ◌&&◌, ◌||◌, ◌==◌, nat_lt, nat_le, min, List, [], ◌∷◌, ◌++◌, map, flat_map, length, replicate, sum_by, count_by, Option, Some, None, is_some, unwrap_or, if◌then◌else◌}
 use Rattle.std.specs.List.{range_with_len}
 use Rattle.std.specs.Option.{option_or}
 use Rattle.pg_layout.specs.declared.position.Position.{Position}
@@ -24,6 +24,10 @@ pub record Table : Type 0 where
   pub height : ℕ → ℕ
   pub text : Position → Text
   pub color : Position → Option Color
+
+-- a table with no rows or no columns
+abbrev pub is_empty : Table → Bool
+is_empty t = (t.rows == 0) || (t.columns == 0)
 
 -- ---- rectangles
 
