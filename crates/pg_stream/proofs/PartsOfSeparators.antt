@@ -1,32 +1,23 @@
 -- The items of a separator of open cells, one column after the other.
 use Rattle.std.proofs.Common.{◌≡◌, ℕ, ◌+◌, max, Bool, true, false, nat_lt, List, [], ◌∷◌, ◌++◌, map, flat_map, slice_index_or, Option, None, refl, sym, ap, ap₂, ◌∙◌, append_assoc, arith, zero-add}
 use Rattle.std.specs.List.{range_with_len}
-use Rattle.std.proofs.lemmas.List.{map-append}
 use Rattle.pg_layout.specs.Colors.{Color}
 use Rattle.pg_layout.specs.declared.position.Position.{Position}
 use Rattle.pg_layout.specs.Position.{at}
-use Rattle.pg_layout.specs.Text.{greatest}
+use Rattle.pg_layout.proofs.Greatest.{greatest-more}
 use Rattle.pg_config.specs.Spans.{Span}
 use Rattle.pg_picture.specs.Pieces.{Piece, block, written, cut, items_after, last_color, with_cuts, separator_text}
 use Rattle.pg_picture.specs.Table.{Table, crossing_at}
 use Rattle.pg_picture.proofs.CutsOfItems.{items_after-append, items_after-one, last_color-append, with_cuts-close}
-use Rattle.pg_picture.proofs.Ranges.{range-add}
 use Rattle.pg_stream.specs.Drawing.{column_end, reach, cell_items, open_separator_part, open_separator}
 use Rattle.pg_stream.specs.Placed.{Placed}
-
-greatest-append : (xs ys : List ℕ) → greatest (xs ++ ys) ≡ max (greatest xs) (greatest ys)
-greatest-append [] ys = omega arith
-greatest-append (x ∷ xs) ys = let ih = greatest-append xs ys in omega (arith, ih)
 
 -- where k columns end, and one more
 pub reach-more : (spans : List Span) (cells : List (Option Placed)) (k : ℕ) → max (reach spans cells k) (column_end spans (slice_index_or cells k None) k) ≡ reach spans cells (k + 1)
 unfolding reach
 reach-more spans cells k =
-    let f : ℕ → ℕ = λ y. column_end spans (slice_index_or cells y None) y in
-    let e : greatest (map f (range_with_len 0 (k + 1))) ≡ greatest (map f (range_with_len 0 k) ++ f k ∷ []) =
-    ap (λ l. greatest (map f l)) (range-add 0 k 1) ∙ ap greatest (map-append f (range_with_len 0 k) ((0 + k) ∷ [])) ∙ ap (λ n. greatest (map f (range_with_len 0 k) ++ f n ∷ [])) (zero-add k) in
-    let g = greatest-append (map f (range_with_len 0 k)) (f k ∷ []) in
-    omega (arith, e, g)
+    let more = greatest-more (λ y. column_end spans (slice_index_or cells y None) y) k in
+    omega (arith, more)
 
 pub reach-none : (spans : List Span) (cells : List (Option Placed)) → 0 ≡ reach spans cells 0
 unfolding reach

@@ -6,6 +6,7 @@ use Rattle.std.proofs.lemmas.Bool.Decides.{nat_tests}
 use Rattle.pg_layout.specs.declared.position.Position.{Position}
 use Rattle.pg_layout.specs.Position.{at, is_at}
 use Rattle.pg_layout.specs.Text.{greatest}
+use Rattle.pg_layout.proofs.Greatest.{greatest-reaches}
 use Rattle.pg_config.specs.Spans.{Span, rect_rows, rect_columns, owner, is_left, begins_above}
 use Rattle.pg_picture.proofs.Owners.{HasOwners}
 use Rattle.pg_stream.specs.Drawing.{column_end, reach}
@@ -24,14 +25,6 @@ found f x a (suc n) h =
           let less : f a ≤ x = grind (arith, nat_tests, e) in
           let more = found f x (a + 1) n (omega (arith, h, less)) in
           (more.0, omega (arith, more.1), omega (arith, more.2), more.3)
-    ]
-
-reaches : (f : ℕ → ℕ) (a n y : ℕ) → a ≤ y → y < a + n → f y ≤ greatest (map f (range_with_len a n))
-reaches f a zero y h l = absurd (omega (arith, h, l))
-reaches f a (suc n) y h l =
-    elim (cases_Bool (y == a)) [
-      | inl e ↦ let same : y ≡ a = eqb-true y a e in let is = ap f same in omega (arith, is)
-      | inr e ↦ let more : a + 1 ≤ y = grind (arith, nat_tests, h, e) in let ih = reaches f (a + 1) n y more (omega (arith, l)) in omega (arith, ih)
     ]
 
 pub option_cases : (o : Option Placed) → (o ≡ None) ⊎ ((cell : Placed) × (o ≡ Some cell))
@@ -63,7 +56,7 @@ module _ (spans : List Span) (cells : List (Option Placed)) (x : ℕ) where
   unfolding reach
   reached r =
       let f : ℕ → ℕ = λ y. column_end spans (slice_index_or cells y None) y in
-      let least = reaches f 0 x r.column (omega arith) (let b = r.before in omega (arith, b)) in
+      let least = greatest-reaches f 0 x r.column (omega arith) (let b = r.before in omega (arith, b)) in
       let end : column_end spans (slice_index_or cells r.column None) r.column ≡ r.column + rect_columns spans (at r.cell.begun r.column) = ap (λ o. column_end spans o r.column) r.here in
       let past = r.past in
       omega (arith, least, end, past)

@@ -1,11 +1,13 @@
 -- The conditions of a printer of rows, and the rows that it is given.
-use Rattle.std.specs.Prelude.{◌≡◌, ℕ, ◌+◌, ◌-◌, ◌^◌, ◌<◌, Bool, true, false, ◌==◌, List, [], ◌∷◌, length, slice_index_or, Option, IfSome, ⊤}
+use Rattle.std.specs.Prelude.{◌≡◌, ℕ, ◌+◌, ◌-◌, ◌^◌, ◌<◌, Bool, true, false, not, ◌&&◌, ◌==◌, nat_lt, List, [], ◌∷◌, length, slice_index_or, Option, Some, None, IfSome, ⊤, if◌then◌else◌}
 use Rattle.pg_layout.specs.declared.position.Position.{Position}
 use Rattle.pg_layout.specs.Position.{at, is_at}
 use Rattle.pg_layout.specs.Records.{AlwaysGives}
 use Rattle.pg_layout.specs.Text.{Text}
 use Rattle.pg_config.specs.Spans.{rect_rows, owner}
 use Rattle.pg_picture.specs.Fits.{spans_fit, spans_fit_columns, totals_fit, cell_fits}
+use Rattle.pg_picture.specs.declared.fits.Misfit.{Misfit}
+use Rattle.pg_picture.specs.declared.fits.Misfit.TheVariants.{Spans, Totals}
 use Rattle.pg_picture.specs.Marks.{marks_of_row}
 use Rattle.pg_picture.specs.Pieces.{style_at}
 use Rattle.pg_picture.specs.Sizes.{height_of_rect}
@@ -32,6 +34,23 @@ pub record PrinterFits (s : Printing) : Type 0 where
   pub spans : spans_fit_columns s.config.spans s.columns ≡ true
   pub width : full_width (frame_of s) < 2 ^ 64
   pub hint : IfSome s.hint (λ rows. (spans_fit s.config.spans rows s.columns ≡ true) × (totals_fit (record (frame_of s) { rows = rows }) ≡ true))
+
+-- what doesn't fit in a table of so many rows, where that number is known
+abbrev pub rows_misfit : Printing → Option ℕ → Option Misfit
+rows_misfit s None = None
+rows_misfit s (Some rows) =
+    if not (spans_fit s.config.spans rows s.columns) then Some Spans
+    else if not (totals_fit (record (frame_of s) { rows = rows })) then Some Totals
+    else None
+
+-- The first thing that keeps a printer from being made: a number of columns that can't be used, spans that don't fit
+-- the columns, their total width, and then what is known of the whole table.
+unfoldable pub printer_misfit : Printing → Option Misfit
+printer_misfit s =
+    if not (nat_lt 0 s.columns && nat_lt s.columns (2 ^ 64 - 1)) then Some Totals
+    else if not (spans_fit_columns s.config.spans s.columns) then Some Spans
+    else if not (nat_lt (full_width (frame_of s)) (2 ^ 64)) then Some Totals
+    else rows_misfit s s.hint
 
 -- A row that may be printed next: as many cells as there are columns, and room for each that begins here; no last row
 -- before it, and no more rows than are known; spans that end with the last row; and lines that can be counted.

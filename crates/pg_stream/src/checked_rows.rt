@@ -1,9 +1,9 @@
 //! A printer and its rows, tested by the calls themselves.
 
-ghost use Rattle.std.specs.Prelude.{◌≡◌, ◌≢◌, ◌++◌, map, Err, IfOk, string_bytes};
+ghost use Rattle.std.specs.Prelude.{◌≡◌, ◌≢◌, ◌++◌, ◌↔◌, map, Some, Err, IfOk, string_bytes};
 ghost use Rattle.pg_picture.specs.Appending.{Appends, GainedBeginning};
 ghost use Rattle.pg_picture.specs.declared.fits.Misfit.{Misfit};
-ghost use Rattle.pg_stream.specs.Conditions.{PrinterFits, RowFits};
+ghost use Rattle.pg_stream.specs.Conditions.{PrinterFits, RowFits, printer_misfit};
 ghost use Rattle.pg_stream.specs.Printers.{printing};
 ghost use Rattle.pg_stream.specs.Printing.{printer, row_text, after_row};
 ghost use Rattle.pg_stream.specs.declared.fault.RowFault.{RowFault};
@@ -41,7 +41,7 @@ impl<'a, S: AsStr + Drop, D: Dimension, C: Colors, B: Allocator, A: Allocator> R
         ensures made { IfOk result (λ p. printing D.width D.height C.color p ≡ printer config.now columns (D.width dimension.now) (D.height dimension.now) (C.color colors.now) hint) }
         ensures empty { IfOk result (λ p. (printing D.width D.height C.color p).rows ≡ 0) }
         ensures whole { PrinterFits (printer config.now columns (D.width dimension.now) (D.height dimension.now) (C.color colors.now) hint) → (fault : StreamFault) → result ≡ Err fault → fault ≡ StreamFault.Memory }
-        ensures misfit { ¬ (PrinterFits (printer config.now columns (D.width dimension.now) (D.height dimension.now) (C.color colors.now) hint)) → (misfit : Misfit) × (result ≡ Err (StreamFault.Misfit misfit)) }
+        ensures misfit { (misfit : Misfit) → (result ≡ Err (StreamFault.Misfit misfit)) ↔ (printer_misfit (printer config.now columns (D.width dimension.now) (D.height dimension.now) (C.color colors.now) hint) ≡ Some misfit) }
     {
         printer_fits(config, dimension, colors, columns, hint)?;
         Ok(RowPrinter::new(alloc, config, dimension, colors, columns, hint)?)

@@ -1,7 +1,8 @@
 //! Whether a printer of rows may be made.
 
-ghost use Rattle.std.specs.Prelude.{◌↔◌, IsOk};
-ghost use Rattle.pg_stream.specs.Conditions.{PrinterFits};
+ghost use Rattle.std.specs.Prelude.{◌≡◌, ◌↔◌, IsOk};
+ghost use Rattle.pg_picture.specs.Sizes.{unless_misfit};
+ghost use Rattle.pg_stream.specs.Conditions.{PrinterFits, printer_misfit};
 ghost use Rattle.pg_stream.specs.Printing.{printer};
 
 use pg_config::SpannedConfig;
@@ -13,8 +14,9 @@ use std::alloc::Allocator;
 ///
 /// `Totals` says that there is no column, or that the columns, their total width or, where the number
 /// of rows is known, a total of the whole table can't be counted; `Spans` that a rectangle is empty,
-/// shares a place with another, or leaves the columns or the rows that are known. Colours don't matter.
-/// Takes no memory.
+/// shares a place with another, or leaves the columns or the rows that are known. Where several of
+/// these don't fit, the first of them is answered: the columns, their spans, their width, the spans of
+/// the whole table, its totals. Colours don't matter. Takes no memory.
 ///
 /// [`RowPrinter::new`]: crate::RowPrinter::new
 pub fn printer_fits<B: Allocator, D: Dimension, C: Colors>(
@@ -24,7 +26,8 @@ pub fn printer_fits<B: Allocator, D: Dimension, C: Colors>(
     columns: usize,
     hint: Option<usize>,
 ) -> Result<(), Misfit>
-    ensures { IsOk result ↔ PrinterFits (printer config.now columns (D.width dimension.now) (D.height dimension.now) (C.color colors.now) hint) }
+    ensures exact { result ≡ unless_misfit (printer_misfit (printer config.now columns (D.width dimension.now) (D.height dimension.now) (C.color colors.now) hint)) }
+    ensures fits { IsOk result ↔ PrinterFits (printer config.now columns (D.width dimension.now) (D.height dimension.now) (C.color colors.now) hint) }
 {
     if columns == 0 || columns == usize::MAX {
         return Err(Misfit::Totals);

@@ -1,13 +1,13 @@
 //! A table whose rows come one at a time, and whose last row isn't known before its end.
 
-ghost use Rattle.std.specs.Prelude.{◌≡◌, ◌≢◌, ◌++◌, ℕ, [], List, false, map, None, IfOk, OnOk, Result, Err, string_bytes};
+ghost use Rattle.std.specs.Prelude.{◌≡◌, ◌≢◌, ◌++◌, ◌↔◌, ℕ, [], List, false, map, Some, None, IfOk, OnOk, Result, Err, string_bytes};
 ghost use Rattle.std.specs.Iterator.{IsFinite};
 ghost use Rattle.std.specs.Result.{result_map_both};
 ghost use Rattle.pg_layout.specs.Records.{AlwaysGives, Becomes};
 ghost use Rattle.pg_layout.specs.Text.{Text};
 ghost use Rattle.pg_picture.specs.Appending.{GainedBeginning};
 ghost use Rattle.pg_picture.specs.declared.fits.Misfit.{Misfit};
-ghost use Rattle.pg_stream.specs.Conditions.{PrinterFits, RowFits};
+ghost use Rattle.pg_stream.specs.Conditions.{PrinterFits, RowFits, printer_misfit};
 ghost use Rattle.pg_stream.specs.Printers.{printing};
 ghost use Rattle.pg_stream.specs.Printing.{printer, row_text, rows_text, after_row};
 ghost use Rattle.pg_stream.specs.Streams.{streaming, held_text, HeldFits, after_push, rows_left, AppendsIf, PrintsRows, PrintsResults};
@@ -135,13 +135,15 @@ impl<
         ensures made { IfOk result (λ s. (streaming D.width D.height C.color s).before ≡ printer config.now columns (D.width dimension.now) (D.height dimension.now) (C.color colors.now) hint) }
         ensures empty { IfOk result (λ s. (streaming D.width D.height C.color s).held ≡ None) }
         ensures whole { PrinterFits (printer config.now columns (D.width dimension.now) (D.height dimension.now) (C.color colors.now) hint) → (fault : StreamFault) → result ≡ Err fault → fault ≡ StreamFault.Memory }
-        ensures misfit { ¬ (PrinterFits (printer config.now columns (D.width dimension.now) (D.height dimension.now) (C.color colors.now) hint)) → (misfit : Misfit) × (result ≡ Err (StreamFault.Misfit misfit)) }
+        ensures misfit { (misfit : Misfit) → (result ≡ Err (StreamFault.Misfit misfit)) ↔ (printer_misfit (printer config.now columns (D.width dimension.now) (D.height dimension.now) (C.color colors.now) hint) ≡ Some misfit) }
     {
-        let printer = RowPrinter::try_new(alloc, config, dimension, colors, columns, hint)?;
-        Ok(RowStream {
-            printer,
-            held: None,
-        })
+        match RowPrinter::try_new(alloc, config, dimension, colors, columns, hint) {
+            Ok(printer) => Ok(RowStream {
+                printer,
+                held: None,
+            }),
+            Err(fault) => Err(fault),
+        }
     }
 
     /// Holds a row, and prints the one that was held until now.
