@@ -1,12 +1,12 @@
 -- Whether a table fits has nothing to do with its colours.
-use Rattle.std.proofs.Common.{rules, tests, ◌≡◌, List, ℕ, Option, None, Some, Ok, IsOk, refl, ap, ◌∙◌}
+use Rattle.std.proofs.Common.{rules, tests, ◌≡◌, true, List, ℕ, Option, None, Some, Ok, IsOk, refl, ap, ◌∙◌}
 use Rattle.std.proofs.lemmas.Bool.{false≢true}
 use Rattle.std.specs.Borrow.{Bor}
 use Rattle.pg_layout.specs.declared.position.Position.{Position}
 use Rattle.pg_layout.specs.Colors.{Color}
 use Rattle.pg_layout.specs.Text.{Text}
 use Rattle.pg_config.specs.Config.{Config}
-use Rattle.pg_picture.specs.Table.{Table, full_width, total_width, rect_width, rect_height, rect_marks, table_body}
+use Rattle.pg_picture.specs.Table.{Table, is_empty, full_width, total_width, rect_width, rect_height, rect_marks, table_body}
 use Rattle.pg_picture.specs.Sizes.{table_of, unless_misfit}
 use Rattle.pg_picture.specs.declared.fits.Misfit.{Misfit}
 use Rattle.pg_picture.specs.Fits.{misfit_of, totals_fit, owner_fits, body_height}
@@ -26,6 +26,11 @@ misfit-parts {R} {D} {C} texts columns width height color {parts} {records} {con
     ap (λ (p : R × Bor Config × D × C). misfit_of (record (table_of p.1.now (width p.2) (height p.2) (texts p.0) (columns p.0)) { color = color p.3 })) is
     ∙ misfit-any_colors (table_of config.now (width dimension) (height dimension) (texts records) (columns records)) (color colors)
     ∙ fits
+
+-- a table without cells has no misfit
+pub misfit-empty : (t : Table) → is_empty t ≡ true → misfit_of t ≡ None
+unfolding misfit_of
+misfit-empty t empty = rw empty refl
 
 -- what was found to fit has no misfit
 pub none-of-ok : (m : Option Misfit) {u : Unit {0}} → unless_misfit m ≡ Ok u → m ≡ None

@@ -1,6 +1,7 @@
 -- The table of records that are read row by row: its texts are those of the rows, it may be printed, and its rows make its picture.
-use Rattle.std.proofs.Common.{◌≡◌, ℕ, suc, ◌+◌, ◌<◌, List, [], ◌∷◌, map, length, slice_index_or, get_or, Option, None, Some, IfSome, All, refl, sym, ap, ap₂, ◌∙◌, subst, arith, add-zero, zero-add}
+use Rattle.std.proofs.Common.{◌≡◌, ℕ, suc, ◌+◌, ◌<◌, ◌||◌, ◌==◌, false, List, [], ◌∷◌, map, length, slice_index_or, get_or, Option, None, Some, IfSome, All, refl, sym, ap, ap₂, ◌∙◌, subst, arith, add-zero, zero-add}
 use Rattle.std.specs.List.{range_with_len}
+use Rattle.std.proofs.lemmas.Bool.Decides.{nat_tests}
 use Rattle.pg_layout.specs.declared.position.Position.{Position}
 use Rattle.pg_layout.specs.Colors.{Color}
 use Rattle.pg_layout.specs.Position.{at}
@@ -11,7 +12,7 @@ use Rattle.pg_config.specs.Spans.{StandAtPlaces}
 use Rattle.pg_picture.specs.FitLaws.{TableFits}
 use Rattle.pg_picture.specs.Fits.{misfit_of}
 use Rattle.pg_picture.specs.Picture.{picture}
-use Rattle.pg_picture.specs.Table.{Table}
+use Rattle.pg_picture.specs.Table.{Table, is_empty}
 use Rattle.pg_picture.proofs.Rooms.{fits}
 use Rattle.pg_stream.specs.Conditions.{AreRowsFrom, PrinterFits, RowsFit}
 use Rattle.pg_stream.specs.Laws.{texts_of}
@@ -54,6 +55,7 @@ module _ (t : Table) (hint : Option ℕ) (exact : IfSome hint (λ n. n ≡ t.row
 -- those behind it may be printed and make the picture.
 module _ {S A : Type 0} (is_row : A → List Text → Type 0) (steps : S → Option A → S → Type 0) where
   pub record Begun (t : Table) (hint : Option ℕ) (columns : ℕ) (row : A) (rows : S) : Type 0 where
+    pub some : is_empty t ≡ false
     pub printer_fits : PrinterFits (printer t.config columns t.width t.height t.color hint)
     pub cells : List Text
     pub others : List (List Text)
@@ -75,6 +77,7 @@ module _ {S A : Type 0} (is_row : A → List Text → Type 0) (steps : S → Opt
         let are = texts-are texts columns (subst (λ (n : ℕ). All (λ (row : List Text). length row ≡ n) texts) value even) in
         let same = ap (λ n. printer config n width height color hint) value in
         record {
+          some = grind (arith, nat_tests, some, has);
           printer_fits = rw value (printer-fits read hint exact places none texts are some has);
           cells = next.cells;
           others = next.others;

@@ -15,6 +15,7 @@ use Rattle.pg_picture.specs.CompactLines.{CompactTable, compact_indent, colored_
 use Rattle.pg_picture.specs.CompactSizes.{compact_sized}
 use Rattle.pg_picture.specs.Fits.{compact_misfit_of}
 use Rattle.pg_picture.specs.declared.fits.Misfit.{Misfit}
+use Rattle.pg_layout.specs.declared.records.Records as records
 use Rattle.pg_grid.specs.declared.compact.CompactGrid.{CompactGrid}
 use Rattle.pg_grid.specs.declared.compact.CompactPrinter.{CompactPrinter}
 
@@ -28,6 +29,10 @@ compact_table texts columns width color grid = record {
   text = text_at (texts grid.records);
   color = color grid.colors;
 }
+
+-- its records may be read
+abbrev pub MayBeRead : {R Cell Columns Rows D G C : Type 0} → records.Ghosts R Cell Columns Rows → CompactGrid R D G C → Type 0
+MayBeRead records grid = records.is_readable grid.records
 
 -- what a compact grid is made of
 abbrev pub compact_parts : {R D G C : Type 0} → CompactGrid R D G C → R × D × G × C

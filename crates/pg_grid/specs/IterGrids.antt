@@ -3,7 +3,8 @@ use Rattle.std.specs.Prelude.{◌≡◌, ◌⊎◌, ℕ, List, IsErr, Result, St
 use Rattle.std.specs.Borrow.{Bor}
 use Rattle.pg_config.specs.Config.{Config}
 use Rattle.pg_picture.specs.Appending.{Appends}
-use Rattle.pg_picture.specs.Table.{Table}
+use Rattle.pg_picture.specs.Table.{Table, Hint}
+use Rattle.pg_stream.specs.Printing.{hint_of}
 use Rattle.pg_layout.specs.declared.records.Records as records
 use Rattle.pg_layout.specs.declared.dimension.Dimension as dimension
 use Rattle.pg_layout.specs.declared.colors.Colors as colors
@@ -14,10 +15,19 @@ use Rattle.pg_grid.specs.declared.iter.IterGrid.{IterGrid}
 abbrev pub streamed : {R Cell Columns Rows D C Color : Type 0} → records.Ghosts R Cell Columns Rows → dimension.Ghosts D → colors.Ghosts C Color → IterGrid R D (Bor Config) C → Table
 streamed records dimension colors grid = table_of_parts records.texts records.columns dimension.width dimension.height colors.color grid.records grid.config.now grid.dimension grid.colors
 
+-- its records may be read
+abbrev pub MayBeRead : {R Cell Columns Rows D G C : Type 0} → records.Ghosts R Cell Columns Rows → IterGrid R D G C → Type 0
+MayBeRead records grid = records.is_readable grid.records
+
+-- whether the number of its rows is known from the first row on
+abbrev pub told : {R Cell Columns Rows D G C : Type 0} → records.Ghosts R Cell Columns Rows → IterGrid R D G C → Hint
+told records grid = hint_of (records.hint grid.records)
+
 -- what a streaming grid is made of
 abbrev pub iter_parts : {R D G C : Type 0} → IterGrid R D G C → R × G × D × C
 iter_parts grid = (grid.records, grid.config, grid.dimension, grid.colors)
 
--- A call appends the text; or it finds no memory of its own before the first byte, and the buffer stays as it was.
+-- A call appends the text; or the one request for memory of its own, that of the open cells, is refused before the first
+-- byte, and the buffer stays as it was.
 abbrev pub AppendsOrNothing : {Z U E : Type 0} → String Z → String Z → Result U E → List ℕ → Type 0
 AppendsOrNothing old new result text = Appends old new result text ⊎ (IsErr result × (new ≡ old))

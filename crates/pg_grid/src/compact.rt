@@ -67,10 +67,10 @@ where
     D: Dimension + Drop,
     C: Colors + Drop,
 {
-    ghost use Rattle.std.specs.Prelude.{◌≡◌, ◌≤◌, length, IfOk, string_bytes};
+    ghost use Rattle.std.specs.Prelude.{◌≡◌, ◌≤◌, IfOk, string_bytes};
     ghost use Rattle.pg_picture.specs.Appending.{Appends};
     ghost use Rattle.pg_picture.specs.Picture.{compact_picture};
-    ghost use Rattle.pg_grid.specs.CompactGrids.{compact_table, CompactFits};
+    ghost use Rattle.pg_grid.specs.CompactGrids.{compact_table, CompactFits, MayBeRead};
 
     /// Appends the picture of the table, whose records may be read (all records in memory may), have
     /// at most `usize::MAX` rows, and in which the columns fit where there are rows: of records that
@@ -81,8 +81,8 @@ where
     /// comes only where the buffer's room is too small for the picture and it gets no more memory;
     /// the buffer then holds a beginning of the picture behind what it held before.
     pub fn build<A: Allocator>(self, buf: &mut String<A>) -> Result<(), AllocError>
-        requires readable { R.is_readable self.records }
-        requires rows { length (R.texts self.records) ≤ usize.MAX }
+        requires readable { MayBeRead R.Records self }
+        requires rows { (compact_table R.texts R.columns D.width C.color self).rows ≤ usize.MAX }
         requires fits { CompactFits (compact_table R.texts R.columns D.width C.color self) }
         ensures { Appends buf.old buf.new result (compact_picture (compact_table R.texts R.columns D.width C.color self.entry)) }
     {
@@ -100,8 +100,8 @@ where
     /// know their rows `text` is the call that tests them first. An error comes where no memory is
     /// found.
     pub fn to_string<A: Allocator>(self, alloc: A) -> Result<String<A>, AllocError>
-        requires readable { R.is_readable self.records }
-        requires rows { length (R.texts self.records) ≤ usize.MAX }
+        requires readable { MayBeRead R.Records self }
+        requires rows { (compact_table R.texts R.columns D.width C.color self).rows ≤ usize.MAX }
         requires fits { CompactFits (compact_table R.texts R.columns D.width C.color self) }
         ensures { IfOk result (λ text. string_bytes text ≡ compact_picture (compact_table R.texts R.columns D.width C.color self.entry)) }
     {
@@ -117,10 +117,10 @@ where
     D: Dimension + Drop,
     C: Colors + Drop,
 {
-    ghost use Rattle.std.specs.Prelude.{◌≡◌, ◌≤◌, ◌++◌, ◌↔◌, length, Some, Err, IsOk, IfOk, OnOk, string_bytes};
+    ghost use Rattle.std.specs.Prelude.{◌≡◌, ◌≤◌, ◌++◌, ◌↔◌, Some, Err, IsOk, IfOk, OnOk, string_bytes};
     ghost use Rattle.pg_picture.specs.Picture.{compact_picture};
     ghost use Rattle.pg_picture.specs.Sizes.{unless_misfit};
-    ghost use Rattle.pg_grid.specs.CompactGrids.{compact_table, compact_misfit, CompactFits};
+    ghost use Rattle.pg_grid.specs.CompactGrids.{compact_table, compact_misfit, CompactFits, MayBeRead};
     ghost use Rattle.pg_grid.specs.Printed.{Prints};
 
     /// Whether the columns fit: the condition of `build` and `to_string` on its sizes, as a test. It
@@ -129,7 +129,7 @@ where
     pub fn fits(&self) -> Result<(), Misfit>
         ensures exact { result ≡ unless_misfit (compact_misfit (compact_table R.texts R.columns D.width C.color self.now)) }
         ensures fits { IsOk result → CompactFits (compact_table R.texts R.columns D.width C.color self.now) }
-        ensures counted { length (R.texts self.now.records) ≤ usize.MAX }
+        ensures counted { (compact_table R.texts R.columns D.width C.color self.now).rows ≤ usize.MAX }
     {
         if self.records.count_rows() == 0 {
             return Ok(());
@@ -144,23 +144,25 @@ where
     /// Where memory is refused, the buffer holds a beginning of the picture behind what it held
     /// before.
     pub fn print<A: Allocator>(self, buf: &mut String<A>) -> Result<(), PrintFault>
-        requires readable { R.is_readable self.records }
+        requires readable { MayBeRead R.Records self }
         ensures prints { Prints (compact_misfit (compact_table R.texts R.columns D.width C.color self.entry)) buf.old buf.new result (compact_picture (compact_table R.texts R.columns D.width C.color self.entry)) }
         ensures printed { OnOk result (string_bytes buf.new ≡ string_bytes buf.old ++ compact_picture (compact_table R.texts R.columns D.width C.color self.entry)) }
+        ensures misfit { (m : _) → (result ≡ Err (PrintFault.Misfit m)) ↔ (compact_misfit (compact_table R.texts R.columns D.width C.color self.entry) ≡ Some m) }
     {
         self.fits()?;
         self.build(buf)?;
         Ok(())
     }
 
-    /// The picture of the table as a text of its own, under the condition of `print`: `fits`, and then
-    /// `to_string`.
+    /// The picture of the table as a text of its own, under the condition of `print`, as that call
+    /// appends it.
     pub fn text<A: Allocator>(self, alloc: A) -> Result<String<A>, PrintFault>
-        requires readable { R.is_readable self.records }
+        requires readable { MayBeRead R.Records self }
         ensures misfit { (m : _) → (result ≡ Err (PrintFault.Misfit m)) ↔ (compact_misfit (compact_table R.texts R.columns D.width C.color self.entry) ≡ Some m) }
         ensures text { IfOk result (λ text. string_bytes text ≡ compact_picture (compact_table R.texts R.columns D.width C.color self.entry)) }
     {
-        self.fits()?;
-        Ok(self.to_string(alloc)?)
+        let mut text = String::new(alloc);
+        self.print(&mut text)?;
+        Ok(text)
     }
 }

@@ -44,12 +44,12 @@ where
     C: Colors + Drop,
     B: Allocator,
 {
-    ghost use Rattle.std.specs.Prelude.{◌≡◌, None, IfOk, string_bytes};
+    ghost use Rattle.std.specs.Prelude.{◌≡◌, true, None, IsOk, IfOk, string_bytes};
     ghost use Rattle.pg_picture.specs.Fits.{misfit_of};
     ghost use Rattle.pg_picture.specs.Laws.{IsStraight};
     ghost use Rattle.pg_picture.specs.Picture.{picture};
-    ghost use Rattle.pg_stream.specs.Printing.{hint_of};
-    ghost use Rattle.pg_grid.specs.IterGrids.{AppendsOrNothing, streamed};
+    ghost use Rattle.pg_picture.specs.Table.{is_empty};
+    ghost use Rattle.pg_grid.specs.IterGrids.{AppendsOrNothing, MayBeRead, streamed, told};
 
     /// Appends the picture of the table, whose records may be read (all records in memory may), and in
     /// which everything fits: of records in memory [`IterGrid::fits`] is the test, and
@@ -65,17 +65,18 @@ where
     /// The rows are read once, and each is printed when the next one was asked for. `alloc` gives the
     /// memory for the cells that go on below their row, one piece for the whole table. An error comes
     /// only where no memory is found; the buffer then holds a beginning of the picture behind what it
-    /// held before.
+    /// held before, or is as it was, where the piece for the cells was refused.
     #[tactic(auto, using(pg_picture::proofs::StraightColumns::is_straight))]
     pub fn build<A: Allocator, W: Allocator>(
         self,
         alloc: A,
         buf: &mut String<W>,
     ) -> Result<(), AllocError>
-        requires readable { R.is_readable self.records }
+        requires readable { MayBeRead R.Records self }
         requires fits { misfit_of (streamed R.Records D.Dimension C.Colors self) ≡ None }
-        ensures appends { AppendsOrNothing buf.old buf.new result (picture (hint_of (R.hint self.entry.records)) (streamed R.Records D.Dimension C.Colors self.entry)) }
+        ensures appends { AppendsOrNothing buf.old buf.new result (picture (told R.Records self.entry) (streamed R.Records D.Dimension C.Colors self.entry)) }
         ensures straight { IsStraight (streamed R.Records D.Dimension C.Colors self.entry) }
+        ensures empty { is_empty (streamed R.Records D.Dimension C.Colors self.entry) ≡ true → IsOk result × (buf.new ≡ buf.old) }
     {
         let IterGrid {
             records,
@@ -100,9 +101,10 @@ where
     /// The picture of the table as a text of its own, under the conditions of `build`; of records in
     /// memory `text` is the call that tests them first. An error comes where no memory is found.
     pub fn to_string<A: Allocator + Copy>(self, alloc: A) -> Result<String<A>, AllocError>
-        requires readable { R.is_readable self.records }
+        requires readable { MayBeRead R.Records self }
         requires fits { misfit_of (streamed R.Records D.Dimension C.Colors self) ≡ None }
-        ensures { IfOk result (λ text. string_bytes text ≡ picture (hint_of (R.hint self.entry.records)) (streamed R.Records D.Dimension C.Colors self.entry)) }
+        ensures text { IfOk result (λ text. string_bytes text ≡ picture (told R.Records self.entry) (streamed R.Records D.Dimension C.Colors self.entry)) }
+        ensures empty { is_empty (streamed R.Records D.Dimension C.Colors self.entry) ≡ true → IsOk result }
     {
         let mut text = String::new(alloc);
         self.build(alloc, &mut text)?;
@@ -117,12 +119,12 @@ where
     C: Colors + Drop,
     B: Allocator,
 {
-    ghost use Rattle.std.specs.Prelude.{◌≡◌, ◌++◌, ◌↔◌, Some, None, Err, IsOk, IfOk, OnOk, string_bytes};
+    ghost use Rattle.std.specs.Prelude.{◌≡◌, ◌++◌, ◌↔◌, true, Some, None, Err, IsOk, IfOk, OnOk, string_bytes};
     ghost use Rattle.pg_picture.specs.Fits.{misfit_of};
     ghost use Rattle.pg_picture.specs.Sizes.{unless_misfit};
     ghost use Rattle.pg_picture.specs.Picture.{picture};
-    ghost use Rattle.pg_stream.specs.Printing.{hint_of};
-    ghost use Rattle.pg_grid.specs.IterGrids.{streamed};
+    ghost use Rattle.pg_picture.specs.Table.{is_empty};
+    ghost use Rattle.pg_grid.specs.IterGrids.{MayBeRead, streamed, told};
     ghost use Rattle.pg_grid.specs.Printed.{PrintsOrNothing};
 
     /// Whether everything fits in the table: the condition of `build` and `to_string` on its sizes, as
@@ -146,23 +148,27 @@ where
         alloc: A,
         buf: &mut String<W>,
     ) -> Result<(), PrintFault>
-        requires readable { R.is_readable self.records }
-        ensures prints { PrintsOrNothing (misfit_of (streamed R.Records D.Dimension C.Colors self.entry)) buf.old buf.new result (picture (hint_of (R.hint self.entry.records)) (streamed R.Records D.Dimension C.Colors self.entry)) }
-        ensures printed { OnOk result (string_bytes buf.new ≡ string_bytes buf.old ++ picture (hint_of (R.hint self.entry.records)) (streamed R.Records D.Dimension C.Colors self.entry)) }
+        requires readable { MayBeRead R.Records self }
+        ensures prints { PrintsOrNothing (misfit_of (streamed R.Records D.Dimension C.Colors self.entry)) buf.old buf.new result (picture (told R.Records self.entry) (streamed R.Records D.Dimension C.Colors self.entry)) }
+        ensures printed { OnOk result (string_bytes buf.new ≡ string_bytes buf.old ++ picture (told R.Records self.entry) (streamed R.Records D.Dimension C.Colors self.entry)) }
+        ensures misfit { (m : _) → (result ≡ Err (PrintFault.Misfit m)) ↔ (misfit_of (streamed R.Records D.Dimension C.Colors self.entry) ≡ Some m) }
+        ensures empty { is_empty (streamed R.Records D.Dimension C.Colors self.entry) ≡ true → IsOk result × (buf.new ≡ buf.old) }
     {
         self.fits()?;
         self.build(alloc, buf)?;
         Ok(())
     }
 
-    /// The picture of the table as a text of its own, under the condition of `print`: `fits`, and then
-    /// `to_string`.
+    /// The picture of the table as a text of its own, under the condition of `print`, as that call
+    /// appends it.
     pub fn text<A: Allocator + Copy>(self, alloc: A) -> Result<String<A>, PrintFault>
-        requires readable { R.is_readable self.records }
+        requires readable { MayBeRead R.Records self }
         ensures misfit { (m : _) → (result ≡ Err (PrintFault.Misfit m)) ↔ (misfit_of (streamed R.Records D.Dimension C.Colors self.entry) ≡ Some m) }
-        ensures text { IfOk result (λ text. string_bytes text ≡ picture (hint_of (R.hint self.entry.records)) (streamed R.Records D.Dimension C.Colors self.entry)) }
+        ensures text { IfOk result (λ text. string_bytes text ≡ picture (told R.Records self.entry) (streamed R.Records D.Dimension C.Colors self.entry)) }
+        ensures empty { is_empty (streamed R.Records D.Dimension C.Colors self.entry) ≡ true → IsOk result }
     {
-        self.fits()?;
-        Ok(self.to_string(alloc)?)
+        let mut text = String::new(alloc);
+        self.print(alloc, &mut text)?;
+        Ok(text)
     }
 }

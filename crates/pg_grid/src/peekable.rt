@@ -90,20 +90,21 @@ where
     pub fn print<A: Allocator>(&self, buf: &mut String<A>) -> Result<(), PrintFault>
         ensures prints { Prints (misfit_of (drawn R.Records D.Dimension C.Colors self.now)) buf.old buf.new result (picture Known (drawn R.Records D.Dimension C.Colors self.now)) }
         ensures printed { OnOk result (string_bytes buf.new ≡ string_bytes buf.old ++ picture Known (drawn R.Records D.Dimension C.Colors self.now)) }
+        ensures misfit { (m : _) → (result ≡ Err (PrintFault.Misfit m)) ↔ (misfit_of (drawn R.Records D.Dimension C.Colors self.now) ≡ Some m) }
     {
         self.fits()?;
         self.build(buf)?;
         Ok(())
     }
 
-    /// The picture of the table as a text of its own, if everything fits in it: `fits`, and then
-    /// `to_string`.
+    /// The picture of the table as a text of its own, if everything fits in it, as `print` appends it.
     pub fn text<A: Allocator>(&self, alloc: A) -> Result<String<A>, PrintFault>
         ensures misfit { (m : _) → (result ≡ Err (PrintFault.Misfit m)) ↔ (misfit_of (drawn R.Records D.Dimension C.Colors self.now) ≡ Some m) }
         ensures text { IfOk result (λ text. string_bytes text ≡ picture Known (drawn R.Records D.Dimension C.Colors self.now)) }
     {
-        self.fits()?;
-        Ok(self.to_string(alloc)?)
+        let mut text = String::new(alloc);
+        self.print(&mut text)?;
+        Ok(text)
     }
 
     /// Appends the picture of the table, in which everything fits: [`PeekableGrid::fits`] is the test,

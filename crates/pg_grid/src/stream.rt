@@ -1,3 +1,3 @@
 //! Tables printed row by row, of which no more is kept than the cells that go on below.
 
-pub use pg_stream::{OpenCells, RowPrinter};
+pub use pg_stream::{OpenCells, RowPrinter, RowStream};

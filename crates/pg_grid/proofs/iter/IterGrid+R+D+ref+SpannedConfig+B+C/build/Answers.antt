@@ -1,4 +1,5 @@
 use Rattle.std.proofs.Common.{◌≡◌, ◌||◌, ◌==◌, true, List, length, sym, ap, ◌∙◌, arith, inl}
+use Rattle.std.proofs.lemmas.Bool.{false≢true}
 use Rattle.std.proofs.lemmas.Bool.Decides.{nat_tests}
 use Rattle.pg_layout.specs.Records.{Gives}
 use Rattle.pg_layout.specs.Text.{Text}
@@ -54,3 +55,23 @@ returns-clause-appends g c =
     c.count_columns-columns.result c.count_columns-columns.ensures.value (omega (arith, c.if-columns-eq0.false)) (c.count_columns-columns.ensures.even c.requires.readable)
     _ _ _ c.iter_rows-rows.ensures.gives c.in-Some.ensures.steps in
     inl (Appends-text (b.rows_picture _ c.in_ok-printer.ensures.made ∙ ap (λ h. picture (hint_of h) t) c.hint_count_rows-hint.ensures.value) (c.print_rows.ensures b.cells b.others b.from))
+
+pub returns-in_err-printer-clause-empty : goal.returns-in_err-printer-clause-empty
+returns-in_err-printer-clause-empty g c =
+    let t = streamed g.R.Records g.D.Dimension g.C.Colors c.args.self in
+    let is_row = Gives (λ x y. g.R.Cell.AsStr.text x ≡ y) g.R.Columns.Iterator.can_next g.R.Columns.Iterator.next_gives g.R.Columns.Iterator.remaining in
+    let b = begun is_row g.R.Rows.Iterator.next_gives t.config t.width t.height t.color (g.R.Records.texts c.args.self.records) t.columns
+    c.hint_count_rows-hint.result (c.hint_count_rows-hint.ensures.exact c.requires.readable) c.spans-spans.ensures.places c.requires.fits
+    c.count_columns-columns.result c.count_columns-columns.ensures.value (omega (arith, c.if-columns-eq0.false)) (c.count_columns-columns.ensures.even c.requires.readable)
+    _ _ _ c.iter_rows-rows.ensures.gives c.in-Some.ensures.steps in
+    λ empty. absurd (false≢true (sym b.some ∙ empty))
+
+pub returns-clause-empty : goal.returns-clause-empty
+returns-clause-empty g c =
+    let t = streamed g.R.Records g.D.Dimension g.C.Colors c.args.self in
+    let is_row = Gives (λ x y. g.R.Cell.AsStr.text x ≡ y) g.R.Columns.Iterator.can_next g.R.Columns.Iterator.next_gives g.R.Columns.Iterator.remaining in
+    let b = begun is_row g.R.Rows.Iterator.next_gives t.config t.width t.height t.color (g.R.Records.texts c.args.self.records) t.columns
+    c.hint_count_rows-hint.result (c.hint_count_rows-hint.ensures.exact c.requires.readable) c.spans-spans.ensures.places c.requires.fits
+    c.count_columns-columns.result c.count_columns-columns.ensures.value (omega (arith, c.if-columns-eq0.false)) (c.count_columns-columns.ensures.even c.requires.readable)
+    _ _ _ c.iter_rows-rows.ensures.gives c.in-Some.ensures.steps in
+    λ empty. absurd (false≢true (sym b.some ∙ empty))
