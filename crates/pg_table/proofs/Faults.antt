@@ -5,10 +5,10 @@ use Rattle.std.proofs.lemmas.Bool.Decides.{nat_tests}
 use Rattle.pg_config.specs.Spans.{Span}
 use Rattle.pg_picture.specs.Fits.{totals_fit}
 use Rattle.pg_picture.specs.Picture.{picture}
-use Rattle.pg_picture.specs.Table.{Table, Known}
+use Rattle.pg_picture.specs.Table.{Table, Known, is_empty}
 use Rattle.pg_picture.proofs.Appending.{Appends-text, Gained-all, Gained-none}
 use Rattle.pg_picture.proofs.Pictures.{picture-none}
-use Rattle.pg_table.specs.Printing.{is_empty, fault_of, Prints}
+use Rattle.pg_table.specs.Printing.{fault_of, Prints}
 use Rattle.pg_table.specs.declared.fault.TableFault.{TableFault}
 
 -- a table without cells has none

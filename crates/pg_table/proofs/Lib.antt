@@ -1,8 +1,6 @@
 -- Lemmas of this crate.
 pub mod ListedSizes
-pub mod Greatest
-pub mod OneStyle
-pub mod TextSizes
+pub mod CellsBelow
 pub mod NaturalRoom
 pub mod Faults
 pub mod StraightTables

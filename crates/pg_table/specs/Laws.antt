@@ -10,10 +10,10 @@ use Rattle.pg_config.specs.Overrides.{horizontal_override, vertical_override, cr
 use Rattle.pg_picture.specs.Fits.{totals_fit, misfit_of}
 use Rattle.pg_picture.specs.Laws.{IsNarrow, HasNarrowFills, HasNarrowMargins, HasStraightLines, HasStraightMargins}
 use Rattle.pg_picture.specs.Pieces.{style_at}
-use Rattle.pg_picture.specs.Table.{Table, Known}
+use Rattle.pg_picture.specs.Table.{Table, Known, is_empty}
 use Rattle.pg_picture.specs.declared.fits.Misfit.TheVariants.{Totals}
 use Rattle.pg_table.specs.Natural.{natural_sizes, natural_table, all_fit}
-use Rattle.pg_table.specs.Printing.{is_empty, ascii_config}
+use Rattle.pg_table.specs.Printing.{ascii_config}
 use Rattle.pg_table.specs.declared.sizes.Axis.TheVariants.{Columns, Rows}
 
 -- At its natural sizes a table without spans has room for each of its cells: nothing but its totals can misfit.

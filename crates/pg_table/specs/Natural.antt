@@ -1,11 +1,11 @@
 -- A table at its natural sizes: each column as wide as its widest cell, each row as high as its highest one.
-use Rattle.std.specs.Prelude.{ℕ, zero, suc, ◌+◌, ◌^◌, max, nat_lt, Bool, List, map, length, slice_index_or, Option}
+use Rattle.std.specs.Prelude.{ℕ, ◌+◌, ◌^◌, max, nat_lt, Bool, List, map, length, slice_index_or, Option}
 use Rattle.std.specs.List.{range_with_len, list_all}
 use Rattle.pg_layout.specs.declared.position.Position.{Position}
 use Rattle.pg_layout.specs.Colors.{Color}
 use Rattle.pg_layout.specs.Position.{at}
 use Rattle.pg_layout.specs.Records.{text_at}
-use Rattle.pg_layout.specs.Text.{Text}
+use Rattle.pg_layout.specs.Text.{Text, greatest}
 use Rattle.pg_config.specs.Config.{Config, get_padding, get_formatting}
 use Rattle.pg_picture.specs.Pieces.{shown, widest}
 use Rattle.pg_picture.specs.Table.{Table}
@@ -40,16 +40,11 @@ abbrev pub count_cells : Axis → ℕ → ℕ → ℕ
 count_cells Columns rows columns = rows
 count_cells Rows rows columns = columns
 
--- the greatest of f 0 to f (n - 1), and 0 where n is 0
-abbrev pub greatest_below : (ℕ → ℕ) → ℕ → ℕ
-greatest_below f zero = 0
-greatest_below f (suc n) = max (greatest_below f n) (f n)
-
 -- the natural width of column k, or the natural height of row k, of so many cells: the greatest of its cells, and where it
 -- has none the paddings alone
 unfoldable pub natural_size : Axis → Config → (Position → Text) → ℕ → ℕ → ℕ
 natural_size axis config text cells k =
-    max (paddings axis config (cell_at axis k 0)) (greatest_below (λ j. cell_size axis config text (cell_at axis k j)) cells)
+    max (paddings axis config (cell_at axis k 0)) (greatest (map (λ j. cell_size axis config text (cell_at axis k j)) (range_with_len 0 cells)))
 
 -- the natural widths of all columns of texts, or the natural heights of all rows
 unfoldable pub natural_sizes : Axis → Config → List (List Text) → ℕ → List ℕ

@@ -1,5 +1,5 @@
 -- What printing a table at its natural sizes does.
-use Rattle.std.specs.Prelude.{◌≡◌, Bool, not, ◌||◌, ◌==◌, nat_lt, ℕ, List, map, length, Option, Some, None, Result, Err, String, if◌then◌else◌}
+use Rattle.std.specs.Prelude.{◌≡◌, Bool, not, ◌==◌, nat_lt, ℕ, List, map, length, Option, Some, None, Result, Err, String, if◌then◌else◌}
 use Rattle.pg_layout.specs.declared.borders.HorizontalLine.{HorizontalLine}
 use Rattle.pg_layout.specs.declared.position.Position.{Position}
 use Rattle.pg_layout.specs.Colors.{Color}
@@ -11,7 +11,7 @@ use Rattle.pg_layout.specs.Text.{Text}
 use Rattle.pg_config.specs.Config.{Config, default_config}
 use Rattle.pg_config.specs.Overrides.{with_row_line}
 use Rattle.pg_picture.specs.Fits.{totals_fit}
-use Rattle.pg_picture.specs.Table.{Table as Drawn}
+use Rattle.pg_picture.specs.Table.{Table as Drawn, is_empty}
 use Rattle.pg_grid.specs.IterGrids.{AppendsOrNothing}
 use Rattle.pg_table.specs.Natural.{natural_table}
 use Rattle.pg_table.specs.declared.fault.TableFault.{TableFault}
@@ -19,10 +19,6 @@ use Rattle.pg_table.specs.declared.fault.TableFault.TheVariants.{Spans, Totals, 
 use Rattle.pg_table.specs.declared.natural.NaturalTable.{NaturalTable}
 
 -- ---- faults
-
--- a table with no rows or no columns
-abbrev pub is_empty : Drawn → Bool
-is_empty t = (t.rows == 0) || (t.columns == 0)
 
 -- why a table with cells isn't printed at its natural sizes: a span is kept, or its totals are no numbers
 unfoldable pub fault_of : Drawn → Option TableFault

@@ -50,12 +50,12 @@ where
     ghost use Rattle.pg_picture.specs.Fits.{totals_fit, body_height, misfit_of};
     ghost use Rattle.pg_picture.specs.Laws.{IsStraight};
     ghost use Rattle.pg_picture.specs.Picture.{picture};
-    ghost use Rattle.pg_picture.specs.Table.{Known, full_width};
+    ghost use Rattle.pg_picture.specs.Table.{Known, full_width, is_empty};
     ghost use Rattle.pg_picture.specs.Sizes.{if_fits};
     ghost use Rattle.pg_grid.specs.IterGrids.{AppendsOrNothing};
     ghost use Rattle.pg_table.specs.Natural.{all_fit, natural_sizes};
     ghost use Rattle.pg_table.specs.Laws.{IsEven};
-    ghost use Rattle.pg_table.specs.Printing.{is_empty, fault_of, drawn_of, Prints};
+    ghost use Rattle.pg_table.specs.Printing.{fault_of, drawn_of, Prints};
     ghost use Rattle.pg_table.specs.declared.sizes.Axis.TheVariants.{Columns, Rows};
 
     /// The natural widths of the columns and the natural heights of the rows, in terminal columns

@@ -126,10 +126,10 @@ impl<T: AsStr + Drop, A: Allocator> Table<T, A> {
     ghost use Rattle.pg_layout.specs.Records.{columns_of};
     ghost use Rattle.pg_picture.specs.Laws.{IsStraight};
     ghost use Rattle.pg_picture.specs.Picture.{picture};
-    ghost use Rattle.pg_picture.specs.Table.{Known};
+    ghost use Rattle.pg_picture.specs.Table.{Known, is_empty};
     ghost use Rattle.pg_table.specs.Natural.{all_fit, natural_sizes};
     ghost use Rattle.pg_table.specs.Laws.{IsEven};
-    ghost use Rattle.pg_table.specs.Printing.{is_empty, fault_of, drawn, with_header_line, Prints};
+    ghost use Rattle.pg_table.specs.Printing.{fault_of, drawn, with_header_line, Prints};
     ghost use Rattle.pg_table.specs.declared.sizes.Axis.TheVariants.{Columns, Rows};
 
     /// Draws a line between row 0 and row 1, and no other row line but those of the borders. A glyph

@@ -1,9 +1,13 @@
-use Rattle.std.proofs.Common.{◌≡◌, ℕ, max, length, sym, ap, ◌∙◌, arith}
+use Rattle.std.proofs.Common.{◌≡◌, ℕ, ◌+◌, max, map, length, sym, ap, ◌∙◌, arith}
+use Rattle.std.specs.List.{range_with_len}
 use Rattle.pg_layout.specs.Records.{text_at}
+use Rattle.pg_layout.specs.Text.{greatest}
 use Rattle.pg_picture.specs.Sizes.{if_fits}
 use Rattle.pg_picture.proofs.SumsOfSizes.{if_fits-below}
-use Rattle.pg_table.specs.Natural.{paddings, cell_size, cell_at, count_cells, greatest_below, natural_size}
-use Rattle.pg_table.proofs.Greatest.{past-paddings, past-cell}
+use Rattle.pg_table.specs.Natural.{paddings, cell_size, cell_at, count_cells, natural_size}
+use Rattle.pg_layout.proofs.Greatest.{greatest-more}
+use Rattle.pg_table.proofs.CellsBelow.{past-paddings, past-cell}
+use Rattle.pg_table.proofs.ListedSizes.{some-below}
 use Rattle.pg_table.proofs.sizes.NaturalSizes.size.Goals as goal
 
 pub returns-in_err-size : goal.returns-in_err-size
@@ -23,4 +27,14 @@ returns g c =
     let self = c.args.self.now in
     let all : c.loop-j.j ≡ count_cells c.args.axis (length (g.R.Records.texts self.records)) (g.R.Records.columns self.records) = omega (arith, c.loop-j-test.false, c.loop-j.auto.j-end, c.count_cells-j-end.ensures) in
     sym (if_fits-below c.loop-j.size c.loop-j.invariant.0)
-    ∙ ap (λ n. if_fits n) (c.loop-j.invariant.1 ∙ ap (λ n. max (paddings c.args.axis self.config.now (cell_at c.args.axis c.args.k 0)) (greatest_below (λ j. cell_size c.args.axis self.config.now (text_at (g.R.Records.texts self.records)) (cell_at c.args.axis c.args.k j)) n)) all)
+    ∙ ap (λ n. if_fits n) (c.loop-j.invariant.1 ∙ ap (λ n. max (paddings c.args.axis self.config.now (cell_at c.args.axis c.args.k 0)) (greatest (map (λ j. cell_size c.args.axis self.config.now (text_at (g.R.Records.texts self.records)) (cell_at c.args.axis c.args.k j)) (range_with_len 0 n)))) all)
+
+-- one cell more
+pub loop-j-preserved : goal.loop-j-preserved
+loop-j-preserved g c =
+    let self = c.args.self.now in
+    let cell : ℕ → ℕ = λ j. cell_size c.args.axis self.config.now (text_at (g.R.Records.texts self.records)) (cell_at c.args.axis c.args.k j) in
+    let more = greatest-more cell c.loop-j.j in
+    let (is, below) = some-below (cell c.loop-j.j) c.in_ok-cell_size.field-0 (rw c.cell-in-loop-j.ensures at c.in_ok-cell_size.ensures) in
+    let (small, so_far) = c.loop-j.invariant in
+    (omega (arith, c.max-size.ensures, small, is, below), omega (arith, c.max-size.ensures, so_far, is, more))

@@ -5,8 +5,7 @@ use Rattle.pg_config.specs.Config.{get_formatting}
 use Rattle.pg_picture.specs.Cells.{facts_of}
 use Rattle.pg_picture.specs.Pieces.{widest}
 use Rattle.pg_picture.specs.declared.facts.TextFacts.{TextFacts}
-use Rattle.pg_picture.proofs.FactsOfTexts.{widest-untrimmed}
-use Rattle.pg_table.proofs.TextSizes.{shown-untrimmed}
+use Rattle.pg_picture.proofs.FactsOfTexts.{widest-untrimmed, length-shown}
 use Rattle.pg_table.proofs.sizes.NaturalSizes.text_size.Goals as goal
 
 pub returns-in-Columns : goal.returns-in-Columns
@@ -31,4 +30,4 @@ pub returns-in-Rows-2 : goal.returns-in-Rows-2
 returns-in-Rows-2 g c =
     let formatting = get_formatting c.args.self.now.config.now c.args.pos in
     let untrimmed : formatting.vertical_trim ≡ false = ap (λ (f : Formatting). f.vertical_trim) (sym c.style.ensures.formatting) ∙ c.if-formatting-2.false in
-    rw c.in-Rows-2.is (c.count_lines.ensures ∙ shown-untrimmed formatting (text_at (g.R.Records.texts c.args.self.now.records) c.args.pos) untrimmed)
+    rw c.in-Rows-2.is (c.count_lines.ensures ∙ sym (length-shown formatting (text_at (g.R.Records.texts c.args.self.now.records) c.args.pos) untrimmed))
