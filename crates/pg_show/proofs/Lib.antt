@@ -1,4 +1,5 @@
 -- Lemmas of this crate.
+pub mod BytesRead
 pub mod EvenRows
 pub mod LineWords
 pub mod LinesRead

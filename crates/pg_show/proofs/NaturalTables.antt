@@ -6,10 +6,10 @@ use Rattle.pg_layout.specs.Records.{columns_of}
 use Rattle.pg_config.specs.Config.{default_config}
 use Rattle.pg_picture.specs.Fits.{misfit_of, totals_fit}
 use Rattle.pg_picture.specs.Picture.{picture}
-use Rattle.pg_picture.specs.Table.{Table, Known}
+use Rattle.pg_picture.specs.Table.{Table, Known, is_empty}
 use Rattle.pg_picture.specs.declared.fits.Misfit.TheVariants as misfits
 use Rattle.pg_picture.proofs.Appending.{appended-as, refused-as}
-use Rattle.pg_table.specs.Printing.{is_empty, fault_of, Prints}
+use Rattle.pg_table.specs.Printing.{fault_of, Prints}
 use Rattle.pg_table.specs.declared.fault.TableFault.{TableFault}
 use Rattle.pg_table.specs.declared.fault.TableFault.TheVariants.{Totals, Memory}
 use Rattle.pg_table.proofs.NaturalRoom.{natural_tables_have_room}

@@ -1,13 +1,14 @@
 -- The program's answers, where a table was printed and where it wasn't.
-use Rattle.std.proofs.Common.{◌≡◌, [], ◌∷◌, ◌++◌, Option, Some, None, Result, Ok, Err, String, string_bytes, inl, inr, refl, sym, ◌∙◌, ap}
+use Rattle.std.proofs.Common.{◌≡◌, ℕ, List, [], ◌∷◌, ◌++◌, Option, Some, None, Result, Ok, Err, IfSome, false, String, string_bytes, inl, inr, refl, sym, ◌∙◌, ap}
 use Rattle.std.specs.Result.{IsErrAnd}
 use Rattle.std.proofs.lemmas.Bool.{false≢true}
 use Rattle.pg_layout.specs.Text.{Text}
 use Rattle.pg_picture.specs.declared.fits.Misfit.{Misfit}
-use Rattle.pg_show.specs.Program.{Answers, answer_of_told, unless_misfit_shown, fault_of_show, is_failure}
+use Rattle.pg_show.specs.Program.{Answers, answer_of_told, unless_misfit_shown, fault_of_show, is_failure, tells_failure, status_of, status_after, status_of_answer}
 use Rattle.pg_show.specs.Show.{misfit_in, text_in, Prints}
 use Rattle.pg_show.specs.Told.{Told}
 use Rattle.pg_show.specs.declared.fault.Fault.{Fault}
+use Rattle.pg_show.specs.declared.fault.Fault.TheVariants as fault
 use Rattle.pg_show.specs.declared.mode.Mode.{Mode}
 use Rattle.pg_show.specs.declared.mode.Mode.TheVariants.{Compact, Iter, Peek, Table}
 use Rattle.pg_show.specs.declared.show.ShowFault.{ShowFault}
@@ -38,3 +39,23 @@ Prints-ok E Iter old new u text (inr refused) = absurd (false≢true refused.0)
 Prints-ok E Peek old new u text printed = printed.ok
 Prints-ok E Table old new u text (inl printed) = printed.ok
 Prints-ok E Table old new u text (inr refused) = absurd (false≢true refused.0)
+
+-- a status says that memory, a read or a write failed just where its fault does
+is_failure-status : (found : Fault) → is_failure found ≡ tells_failure (status_of found)
+is_failure-status fault.Usage = refl
+is_failure-status (fault.Bad line) = refl
+is_failure-status (fault.Misfit misfit) = refl
+is_failure-status fault.Memory = refl
+is_failure-status fault.Read = refl
+is_failure-status fault.Write = refl
+
+-- the status of a text that is right, or of a fault that is, is that of the right answer
+pub status_of_answer-right : (found : Option Fault) (status : ℕ) (input : Option (List ℕ)) (right : List ℕ → Result Text Fault) (Shown : Text → Type 0)
+    → status ≡ status_after found
+    → (found ≡ None → IfSome input (λ script. (text : Text) × (right script ≡ Ok text) × Shown text))
+    → ((fault : Fault) → found ≡ Some fault → is_failure fault ≡ false → IfSome input (λ script. right script ≡ Err fault))
+    → tells_failure status ≡ false → IfSome input (λ script. status ≡ status_of_answer (right script))
+status_of_answer-right found status None right Shown is shown refused no_failure = tt
+status_of_answer-right None status (Some script) right Shown is shown refused no_failure = is ∙ ap status_of_answer (sym (shown refl).1)
+status_of_answer-right (Some f) status (Some script) right Shown is shown refused no_failure =
+    is ∙ ap status_of_answer (sym (refused f refl (is_failure-status f ∙ ap tells_failure (sym is) ∙ no_failure)))

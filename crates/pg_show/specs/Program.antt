@@ -1,5 +1,5 @@
 -- What the program answers.
-use Rattle.std.specs.Prelude.{◌≡◌, ℕ, Bool, true, false, List, [], ◌∷◌, ◌++◌, Option, Some, None, Result, Ok, Err, String, string_bytes, codes, decimal}
+use Rattle.std.specs.Prelude.{◌≡◌, ℕ, ◌==◌, Bool, true, false, ◌||◌, List, [], ◌∷◌, ◌++◌, Option, Some, None, Result, Ok, Err, String, string_bytes, codes, decimal}
 use Rattle.pg_layout.specs.Text.{Text}
 use Rattle.pg_picture.specs.declared.fits.Misfit.{Misfit as WhatMisfits}
 use Rattle.pg_picture.specs.Fits.{misfit_text}
@@ -50,6 +50,10 @@ is_failure Memory = true
 is_failure Read = true
 is_failure Write = true
 
+-- whether an exit status says so
+abbrev pub tells_failure : ℕ → Bool
+tells_failure status = (status == status_of Memory) || (status == status_of Read)
+
 -- the program's fault where the reading of a script ends in one
 abbrev pub fault_of_script : ScriptFault → Fault
 fault_of_script (script.Bad line) = Bad line
@@ -85,6 +89,11 @@ answer_in (Some mode) script = answer_of_script mode script
 
 abbrev pub answer_to : List (List ℕ) → List ℕ → Result Text Fault
 answer_to words script = answer_in (mode_of words) script
+
+-- the exit status that is right for an answer: 0 for a text, else that of the fault
+abbrev pub status_of_answer : Result Text Fault → ℕ
+status_of_answer (Ok text) = 0
+status_of_answer (Err fault) = status_of fault
 
 -- what was answered is right, or says that memory, a read or a write failed
 abbrev pub Answers : {A : Type 0} → Result Text Fault → Result (String A) Fault → Type 0

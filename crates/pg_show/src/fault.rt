@@ -1,7 +1,8 @@
 //! Why a run of the program prints no table.
 
-ghost use Rattle.std.specs.Prelude.{◌≡◌, OnOk, Some};
+ghost use Rattle.std.specs.Prelude.{◌≡◌, ◌≢◌, OnOk, Some};
 ghost use Rattle.std.specs.Io.KnownBytes.{Appends};
+ghost use Rattle.std.specs.IoError.{error_kind};
 ghost use Rattle.pg_show.specs.Program.{status_of, line_of, fault_text, fault_of_script, fault_of_show};
 ghost use Rattle.pg_show.specs.declared.fault.Fault.TheVariants.{Memory};
 
@@ -10,7 +11,7 @@ use crate::show::ShowFault;
 use pg_picture::fits::Misfit;
 use std::alloc::AllocError;
 use std::error::Error;
-use std::io::Write;
+use std::io::{ErrorKind, Write};
 use std::{fmt, io};
 
 /// Why a run of the program prints no table.
@@ -61,6 +62,18 @@ impl From<ShowFault> for Fault {
 }
 
 impl Fault {
+    /// Why the program's arguments couldn't be read: memory was refused, or they are wrong ones, as
+    /// one that is no text.
+    pub fn of_arguments(error: &io::Error) -> Fault
+        ensures memory { error_kind error.now ≡ ErrorKind.OutOfMemory → result ≡ Fault.Memory }
+        ensures wrong { error_kind error.now ≢ ErrorKind.OutOfMemory → result ≡ Fault.Usage }
+    {
+        match error.kind() {
+            ErrorKind::OutOfMemory => Fault::Memory,
+            _ => Fault::Usage,
+        }
+    }
+
     /// The exit status that tells of it.
     pub fn status(self) -> u8
         ensures { result ≡ status_of self }

@@ -15,7 +15,7 @@ mod words;
 
 pub use crate::fault::Fault;
 pub use crate::mode::Mode;
-pub use crate::program::{Ending, run};
+pub use crate::program::{Ending, run, show_or_tell};
 pub use crate::reading::parse_script;
 pub use crate::script::{Script, ScriptFault};
 pub use crate::show::{ShowFault, print_script};

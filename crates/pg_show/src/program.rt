@@ -1,11 +1,11 @@
 //! The program: arguments and a script in, a table out.
 
-ghost use Rattle.std.specs.Prelude.{◌≡◌, ◌≢◌, List, map, string_bytes, true, false, Some, None, Ok, Err, IfOk, IfSome, OnOk};
+ghost use Rattle.std.specs.Prelude.{◌≡◌, ◌≢◌, ◌^◌, ◌≤◌, List, length, map, string_bytes, true, false, Some, None, Ok, Err, IfOk, IfSome, OnOk};
 ghost use Rattle.std.specs.Io.KnownBytes.{Appends, Keeps};
 ghost use Rattle.pg_layout.specs.Text.{Text};
 ghost use Rattle.pg_show.specs.Mode.{mode_of};
 ghost use Rattle.pg_show.specs.Script.{told_of_script};
-ghost use Rattle.pg_show.specs.Program.{Answers, answer_of_told, answer_of_script, answer_to, is_failure, line_of, status_after};
+ghost use Rattle.pg_show.specs.Program.{Answers, answer_of_told, answer_of_script, answer_to, is_failure, line_of, status_of, status_after, status_of_answer, tells_failure};
 
 use crate::fault::Fault;
 use crate::mode::Mode;
@@ -15,7 +15,8 @@ use crate::show::print_script;
 use std::alloc::Allocator;
 use std::io::{Read, Write};
 
-/// The most reads within which the end of a script is met.
+/// The most reads within which the end of a script is met. Each of them gives a byte at least, so
+/// that a script of fewer bytes is read whole.
 const MOST_READS: u32 = 16_777_216;
 
 /// How a run of the program ended.
@@ -28,6 +29,17 @@ pub struct Ending {
 }
 
 impl Ending {
+    /// Tells of a fault, and ends with it.
+    pub fn with_fault<W: Write>(fault: Fault, err: &mut W) -> Ending
+        ensures fault { result.fault ≡ Some fault }
+        ensures told { result.is_told ≡ true → Appends (W.contents err.old) (W.contents err.new) (line_of fault) }
+    {
+        Ending {
+            fault: Some(fault),
+            is_told: fault.tell(err).is_ok(),
+        }
+    }
+
     /// The exit status: 0 where a table was printed.
     pub fn status(&self) -> u8
         ensures { result ≡ status_after self.now.fault }
@@ -39,21 +51,22 @@ impl Ending {
     }
 }
 
-// All that the input gives.
-fn read_whole<A: Allocator, R: Read>(alloc: A, input: &mut R) -> Result<Vec<u8, A>, Fault>
-    ensures whole { IfOk result (λ bytes. IfSome (R.remaining input.old) (λ script. bytes.items ≡ script)) }
+// All that the input gives, or `None` where there were too many reads.
+fn read_whole<A: Allocator, R: Read>(alloc: A, input: &mut R) -> Result<Option<Vec<u8, A>>, Fault>
+    ensures whole { IfOk result (λ read. IfSome read (λ bytes. IfSome (R.remaining input.old) (λ script. bytes.items ≡ script))) }
+    ensures endless { result ≡ Ok None → IfSome (R.remaining input.old) (λ script. 2 ^ 24 ≤ length script) }
     ensures failed { (fault : _) → result ≡ Err fault → is_failure fault ≡ true }
 {
     let mut block = [0u8; 4096];
     let mut bytes = Vec::new(alloc);
     for _ in 0..MOST_READS {
         match input.read(&mut block) {
-            Ok(0) => return Ok(bytes),
+            Ok(0) => return Ok(Some(bytes)),
             Ok(count) => bytes.extend_from_slice(&block[..count])?,
             Err(_) => return Err(Fault::Read),
         }
     }
-    Err(Fault::Read)
+    Ok(None)
 }
 
 // The text of the script's table, and a line feed.
@@ -93,7 +106,7 @@ fn table_text<A: Allocator + Copy, R: Read>(
 ) -> Result<String<A>, Fault>
     ensures { IfSome (R.remaining input.old) (λ script. Answers (answer_of_script mode script) result) }
 {
-    let bytes = read_whole(alloc, input)?;
+    let bytes = read_whole(alloc, input)?.ok_or(Fault::Read)?;
     text_of_script(alloc, &bytes, mode)
 }
 
@@ -123,12 +136,12 @@ fn show<A: Allocator + Copy, R: Read, W: Write>(
     write_text(text.as_str(), out)
 }
 
-/// Runs the program, and answers how the run ended.
+/// Shows the table of a script, or tells of the fault why there is none.
 ///
-/// `words` are its arguments. A script is read from `input`, and the text of its table and a line
-/// feed are written to `out`. Each fault is one line on `err`, and nothing is written to `out` save
-/// by a write that fails. Wrong arguments are told before anything is read.
-pub fn run<A: Allocator + Copy, R: Read, W1: Write, W2: Write>(
+/// `words` are the program's arguments. A script is read from `input`, and the text of its table and
+/// a line feed are written to `out`. Each fault is one line on `err`, and nothing is written to `out`
+/// save by a write that fails. Wrong arguments are told before anything is read.
+pub fn show_or_tell<A: Allocator + Copy, R: Read, W1: Write, W2: Write>(
     alloc: A,
     words: &[String],
     input: &mut R,
@@ -147,9 +160,27 @@ pub fn run<A: Allocator + Copy, R: Read, W1: Write, W2: Write>(
             fault: None,
             is_told: true,
         },
-        Err(fault) => Ending {
-            fault: Some(fault),
-            is_told: fault.tell(err).is_ok(),
-        },
+        Err(fault) => Ending::with_fault(fault, err),
     }
+}
+
+/// Runs the program, and answers its exit status.
+///
+/// It shows the table of the script on `input`, or tells of the fault why there is none, as
+/// [`show_or_tell`] does. The status is that of the right answer, unless memory, a read or a write
+/// failed, and it is the same where the fault's line couldn't be written.
+pub fn run<A: Allocator + Copy, R: Read, W1: Write, W2: Write>(
+    alloc: A,
+    words: &[String],
+    input: &mut R,
+    out: &mut W1,
+    err: &mut W2,
+) -> u8
+    ensures wrong_arguments { mode_of (map string_bytes words.now) ≡ None → (result ≡ status_of Fault.Usage) × Keeps (R.remaining input.old) (R.remaining input.new) }
+    ensures answered { tells_failure result ≡ false → IfSome (R.remaining input.old) (λ script. result ≡ status_of_answer (answer_to (map string_bytes words.now) script)) }
+    ensures shown { result ≡ 0 → IfSome (R.remaining input.old) (λ script. (text : Text) × (answer_to (map string_bytes words.now) script ≡ Ok text) × Appends (W1.contents out.old) (W1.contents out.new) text) }
+    ensures unwritten { result ≢ 0 → result ≢ status_of Fault.Write → Keeps (W1.contents out.old) (W1.contents out.new) }
+    ensures silent { result ≡ 0 → Keeps (W2.contents err.old) (W2.contents err.new) }
+{
+    show_or_tell(alloc, words, input, out, err).status()
 }

@@ -1,14 +1,16 @@
 //! The table of a script, printed.
 
-ghost use Rattle.std.specs.Prelude.{◌≡◌, ◌↔◌, Some, None, Err};
+ghost use Rattle.std.specs.Prelude.{◌≡◌, ◌↔◌, true, Some, None, Err, IsOk};
 ghost use Rattle.pg_config.specs.CompactConfig.{settings_of};
 ghost use Rattle.pg_picture.specs.Appending.{Appends};
 ghost use Rattle.pg_picture.specs.Fits.{misfit_of};
 ghost use Rattle.pg_picture.specs.Sizes.{unless_misfit};
+ghost use Rattle.pg_picture.specs.Table.{is_empty};
 ghost use Rattle.pg_grid.specs.IterGrids.{AppendsOrNothing};
 ghost use Rattle.pg_show.specs.Script.{told_of_script};
 ghost use Rattle.pg_show.specs.Show.{fault_of_table, misfit_in, natural_config, table_of_told, text_in, Prints, Shows};
 ghost use Rattle.pg_show.specs.declared.mode.Mode.TheVariants as mode;
+ghost use Rattle.pg_show.specs.declared.mode.Mode.TheVariants.{Iter};
 ghost use Rattle.pg_show.specs.declared.show.ShowFault.TheVariants.{Memory};
 ghost use Rattle.pg_show.specs.declared.show.ShowFault.TheVariants as variants;
 
@@ -64,7 +66,7 @@ impl From<Misfit> for ShowFault {
 /// A table that doesn't fit is refused before any memory is taken, and the buffer stays as it was.
 /// Where memory is refused the buffer has gained a beginning of the table's text. `alloc` gives the
 /// memory that a printer keeps cells in, or the sizes of columns and rows; only [`Mode::Iter`] and
-/// [`Mode::Table`] take any.
+/// [`Mode::Table`] take any, and of a table with no rows or no columns neither does.
 pub fn print_script<C: Allocator + Copy, A: Allocator, B: Allocator>(
     alloc: C,
     script: &Script<A>,
@@ -74,6 +76,7 @@ pub fn print_script<C: Allocator + Copy, A: Allocator, B: Allocator>(
     ensures misfit { (m : _) → (result ≡ Err (ShowFault.Misfit m)) ↔ (misfit_in mode (told_of_script script.now) ≡ Some m) }
     ensures kept { (m : _) → result ≡ Err (ShowFault.Misfit m) → buf.new ≡ buf.old }
     ensures printed { misfit_in mode (told_of_script script.now) ≡ None → Prints mode buf.old buf.new result (text_in mode (told_of_script script.now)) }
+    ensures empty { mode ≡ Iter → is_empty (table_of_told (told_of_script script.now)) ≡ true → IsOk result }
 {
     match mode {
         Mode::Compact => print_compact(script, buf),
@@ -101,7 +104,8 @@ fn print_streamed<C: Allocator, A: Allocator, B: Allocator>(
     script: &Script<A>,
     buf: &mut String<B>,
 ) -> Result<(), ShowFault>
-    ensures { Shows mode.Iter (told_of_script script.now) buf.old buf.new result }
+    ensures shows { Shows mode.Iter (told_of_script script.now) buf.old buf.new result }
+    ensures empty { is_empty (table_of_told (told_of_script script.now)) ≡ true → IsOk result }
 {
     spanned_script_fits(script)?;
     push_streamed(alloc, script, buf)?;
@@ -203,7 +207,8 @@ fn push_streamed<C: Allocator, A: Allocator, B: Allocator>(
     buf: &mut String<B>,
 ) -> Result<(), AllocError>
     requires { misfit_in mode.Iter (told_of_script script.now) ≡ None }
-    ensures { AppendsOrNothing buf.old buf.new result (text_in mode.Iter (told_of_script script.now)) }
+    ensures appends { AppendsOrNothing buf.old buf.new result (text_in mode.Iter (told_of_script script.now)) }
+    ensures empty { is_empty (table_of_told (told_of_script script.now)) ≡ true → IsOk result }
 {
     let (dimension, colors) = (&script.dimension, &script.colors);
     IterGrid::new(&script.records, &script.config, dimension, colors).build(alloc, buf)

@@ -1,6 +1,7 @@
 //! The program `pgshow`: it prints the table that a script on standard input tells of.
 #![tactic(auto)]
 
+use pg_show::{Ending, Fault, run};
 use std::process::ExitCode;
 use std::rt::Env;
 use std::{env, io};
@@ -11,10 +12,11 @@ fn arguments(rt: &(impl Env + AllocGlobal)) -> io::Result<Vec<String>> {
     Ok(words)
 }
 
-// Arguments that can't be read are wrong arguments, as none are.
 fn main(rt: HostRuntime) -> ExitCode {
-    let words = arguments(&rt).unwrap_or(Vec::new(rt.alloc()));
     let (mut input, mut out, mut err) = (rt.stdin(), rt.stdout(), rt.stderr());
-    let ending = pg_show::run(rt.alloc(), &words, &mut input, &mut out, &mut err);
-    ExitCode::from(ending.status())
+    let status = match arguments(&rt) {
+        Ok(words) => run(rt.alloc(), &words, &mut input, &mut out, &mut err),
+        Err(error) => Ending::with_fault(Fault::of_arguments(&error), &mut err).status(),
+    };
+    ExitCode::from(status)
 }

@@ -4,7 +4,7 @@ pub returns-in-Compact-clause-misfit : goal.returns-in-Compact-clause-misfit
 returns-in-Compact-clause-misfit g c = rw c.in-Compact.is c.print_compact.ensures.misfit
 
 pub returns-in-Iter-clause-misfit : goal.returns-in-Iter-clause-misfit
-returns-in-Iter-clause-misfit g c = rw c.in-Iter.is c.print_streamed.ensures.misfit
+returns-in-Iter-clause-misfit g c = rw c.in-Iter.is c.print_streamed.ensures.shows.misfit
 
 pub returns-in-Peek-clause-misfit : goal.returns-in-Peek-clause-misfit
 returns-in-Peek-clause-misfit g c = rw c.in-Peek.is c.print_peekable.ensures.misfit
