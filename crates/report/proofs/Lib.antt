@@ -1,5 +1,5 @@
 -- Lemmas of this crate.
+pub mod Going
+pub mod LinesRead
 pub mod Looks
-pub mod WordsOfLines
-pub mod Written
-pub mod Reporting
+pub mod Rows

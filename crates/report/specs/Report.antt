@@ -1,64 +1,51 @@
--- What a report reads of a line, and what it writes.
-use Rattle.std.specs.Prelude.{◌≡◌, ℕ, ◌<◌, Bool, true, false, ◌==◌, List, [], ◌∷◌, ◌++◌, map, length, Option, Some, None, if◌then◌else◌, codes, decimal}
-use Rattle.std.specs.Io.BufRead.{first_line, drop_through}
+-- What a report reads of its input, what it writes of it, and how it ends.
+use Rattle.std.specs.Prelude.{◌≡◌, ℕ, ◌+◌, ◌-◌, ◌^◌, min, Bool, true, false, ◌==◌, List, [], ◌∷◌, ◌++◌, map, length, take, slice_index_or, Option, Some, None, if◌then◌else◌, codes, decimal}
+use Rattle.std.specs.Io.BufRead.{ends_with_byte}
 use Rattle.std.specs.List.{slice_split}
+use Rattle.std.specs.Str.{is_utf8}
+use Rattle.std.specs.Str.Lines.{lines, strip_carriage_return}
 use Rattle.pg_layout.specs.Text.{Text}
 use Rattle.pg_layout.specs.Looks.{ascii}
 use Rattle.pg_layout.specs.declared.alignment.AlignmentHorizontal.TheVariants.{Right}
 use Rattle.pg_layout.specs.declared.borders.Borders.{Borders}
-use Rattle.pg_layout.specs.declared.colors.NoColors.{NoColors}
 use Rattle.pg_layout.specs.declared.sides.Indent.{Indent}
 use Rattle.pg_layout.specs.declared.position.Entity.TheVariants.{Global, Column}
 use Rattle.pg_config.specs.Config.{Config, default_config}
 use Rattle.pg_config.specs.Settings.{with_setting}
-use Rattle.pg_stream.specs.Printers.{Printer, printing}
+use Rattle.pg_stream.specs.Conditions.{RowsFit}
 use Rattle.pg_stream.specs.Printing.{Printing, printer, rows_text}
+use Rattle.pg_stream.specs.Streams.{IsMisfit, text_above}
+use Rattle.pg_stream.specs.declared.fault.StreamFault.{StreamFault}
+use Rattle.pg_stream.specs.declared.fault.StreamFault.TheVariants as stream
 use Rattle.report.specs.declared.fault.Fault.{Fault}
-use Rattle.report.specs.declared.fault.Fault.TheVariants.{Words, Room, Memory, Read, Write}
-use Rattle.report.specs.declared.sheet.Sizes.{Sizes}
+use Rattle.report.specs.declared.fault.Fault.TheVariants.{Text as NoText, Words, Room, Memory, Read, Write}
 
--- the cells of a line: its words, which semicolons part, if they are three
-abbrev pub three_of : List Text → Option (List Text)
-three_of words = if length words == 3 then Some words else None
+-- ---- lines and their rows
 
-abbrev pub cells_of : Text → Option (List Text)
-cells_of line = three_of (slice_split (λ b. b == 59) line)
+-- the line in bytes that end with it, without its line feed and a carriage return before that
+abbrev pub line_in : List ℕ → List ℕ
+line_in bytes = if ends_with_byte 10 bytes then strip_carriage_return (take (length bytes - 1) bytes) else bytes
+
+-- the words of a line, which semicolons part
+abbrev pub words_of : List ℕ → List Text
+words_of line = slice_split (λ b. b == 59) line
+
+-- the row of a line: its words, if it is a text of three; else a row without cells, which fits nowhere
+abbrev pub row_of : List ℕ → List Text
+row_of line = if is_utf8 line then (if length (words_of line) == 3 then words_of line else []) else []
+
+abbrev pub rows_of : List ℕ → List (List Text)
+rows_of bytes = map row_of (lines bytes)
+
+-- why the row of the line with this number doesn't fit, where it doesn't
+abbrev pub fault_of : ℕ → List ℕ → Fault
+fault_of number line = if is_utf8 line then (if length (words_of line) == 3 then Room number else Words number) else NoText number
+
+-- ---- what its table looks like
 
 -- how wide a column and how high a row is
 abbrev pub width_of_column : ℕ → ℕ
 width_of_column column = if column == 1 then 26 else 12
-
--- what a printer of a ledger's rows stands for
-abbrev pub state_of : Printer Sizes NoColors → Printing
-state_of printer = printing (λ sizes column. width_of_column column) (λ sizes row. 1) (λ colors pos. None) printer
-
--- Lines as they are written, each with its line feed behind it. But for the first lines each stands behind its line feed before that; no lines
--- leave nothing to write.
-abbrev pub moved_feed : Text → Text
-moved_feed [] = []
-moved_feed (b ∷ bs) = if b == 10 then bs ++ 10 ∷ [] else []
-
-abbrev pub written : Bool → Text → Text
-written true text = text ++ 10 ∷ []
-written false text = moved_feed text
-
--- the exit status that tells of a fault
-abbrev pub status_of : Fault → ℕ
-status_of (Words line) = 2
-status_of (Room line) = 2
-status_of Memory = 4
-status_of Read = 5
-status_of Write = 5
-
--- the line that tells of a fault
-abbrev pub line_of : Fault → Text
-line_of (Words line) = codes "line " ++ (decimal line ++ codes ": not three words\n")
-line_of (Room line) = codes "line " ++ (decimal line ++ codes ": too wide for its column\n")
-line_of Memory = codes "out of memory\n"
-line_of Read = codes "read failed\n"
-line_of Write = codes "write failed\n"
-
--- ---- what its table looks like
 
 -- ASCII glyphs but for lines between rows
 abbrev pub open_borders : Borders ℕ
@@ -75,30 +62,74 @@ with_look config =
       alignment_horizontal = with_setting (Column 2) Right config.alignment_horizontal;
     }
 
-abbrev pub look : Config
-look = with_look default_config
+-- a printer of its rows before the first one
+abbrev pub begin : Printing
+begin = printer (with_look default_config) 3 width_of_column (λ row. 1) (λ pos. None) None
 
--- ---- a whole report
+-- ---- what is written
 
--- the lines that bytes are read as, each without its line feed and a carriage return before that
-abbrev pub AreLinesOf : List ℕ → List Text → Type 0
-AreLinesOf bytes [] = bytes ≡ []
-AreLinesOf bytes (line ∷ lines) = (0 < length bytes) × (line ≡ first_line bytes) × AreLinesOf (drop_through 10 bytes) lines
+-- the text of so many rows as it is written: with a line feed behind it, and nothing where there are none
+abbrev pub written : ℕ → Text → Text
+written n text = if n == 0 then [] else text ++ 10 ∷ []
 
--- What is written for a first line and the lines behind it that bytes are read as: each has cells, and these rows are printed one after another
--- and ended.
-pub record Reported (s : Printing) (first : Text) (bytes : List ℕ) (text : Text) : Type 0 where
-  pub lines : List Text
-  pub read : AreLinesOf bytes lines
-  pub rows : List (List Text)
-  pub have : map cells_of (first ∷ lines) ≡ map Some rows
-  pub is : text ≡ written (s.rows == 0) (rows_text s rows)
+-- the whole table of these rows
+abbrev pub report_of : List (List Text) → Text
+report_of rows = written (length rows) (rows_text begin rows)
 
--- a printer of a ledger's rows before its first row
-abbrev pub begin : Config → Printing
-begin config = printer config 3 width_of_column (λ row. 1) (λ pos. None) None
+-- the rows above row n, of which none is the last
+abbrev pub report_above : List (List Text) → ℕ → Text
+report_above rows n = written n (text_above begin rows n)
 
--- What is written for bytes: nothing where there are none, else what is written for their first line and those behind it.
-abbrev pub IsReport : Config → List ℕ → Text → Type 0
-IsReport config [] text = text ≡ []
-IsReport config (b ∷ bs) text = Reported (begin config) (first_line (b ∷ bs)) (drop_through 10 (b ∷ bs)) text
+-- ---- how a run ends
+
+-- whether a fault says that memory, a read or a write failed, and not that a line is bad
+abbrev pub is_failure : Fault → Bool
+is_failure (NoText line) = false
+is_failure (Words line) = false
+is_failure (Room line) = false
+is_failure Memory = true
+is_failure Read = true
+is_failure Write = true
+
+-- Row n of these bytes is the first that doesn't fit, and this is told of its line. Lines are counted from 1.
+pub record IsTold (bytes : List ℕ) (n : ℕ) (fault : Fault) : Type 0 where
+  pub first : IsMisfit begin (rows_of bytes) n
+  pub is : fault ≡ fault_of (n + 1) (slice_index_or (lines bytes) n [])
+
+-- What is written where no write fails. Without a fault the rows of all lines fit, and that is their table. A line that is told of is the
+-- first whose row doesn't fit, and that is the rows above it. After any other failure it is some rows, whole and without the table's end.
+abbrev pub Writes : List ℕ → Option Fault → Text → Type 0
+Writes bytes None text = RowsFit begin (rows_of bytes) × (text ≡ report_of (rows_of bytes))
+Writes bytes (Some fault) text = (n : ℕ) × (text ≡ report_above (rows_of bytes) n) × (is_failure fault ≡ false → IsTold bytes n fault)
+
+-- the exit status that tells of a fault
+abbrev pub status_of : Fault → ℕ
+status_of (NoText line) = 2
+status_of (Words line) = 2
+status_of (Room line) = 2
+status_of Memory = 4
+status_of Read = 5
+status_of Write = 5
+
+-- the exit status of a run that ended so: 0 without a fault
+abbrev pub status_after : Option Fault → ℕ
+status_after None = 0
+status_after (Some fault) = status_of fault
+
+-- the words for a fault, and the line that tells of it
+abbrev pub fault_text : Fault → Text
+fault_text (NoText line) = codes "line " ++ (decimal line ++ codes ": not UTF-8")
+fault_text (Words line) = codes "line " ++ (decimal line ++ codes ": not three words")
+fault_text (Room line) = codes "line " ++ (decimal line ++ codes ": too wide for its column")
+fault_text Memory = codes "out of memory"
+fault_text Read = codes "read failed"
+fault_text Write = codes "write failed"
+
+abbrev pub line_of : Fault → Text
+line_of fault = fault_text fault ++ codes "\n"
+
+-- what is told of a fault of the stream, which names a row by the number of rows above it
+abbrev pub told_by : StreamFault → Fault
+told_by (stream.Misfit misfit) = Memory
+told_by (stream.Row row) = Room (min (row + 1) (2 ^ 64 - 1))
+told_by stream.Memory = Memory

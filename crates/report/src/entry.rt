@@ -1,32 +1,44 @@
-//! The lines of a ledger.
+//! The row of a line.
 
-ghost use Rattle.std.specs.Prelude.{◌≡◌, [], ◌∷◌, map, option_map, string_bytes, IfOk};
-ghost use Rattle.report.specs.Report.{cells_of};
+ghost use Rattle.std.specs.Prelude.{◌≡◌, [], true, false, map, Err, IfOk, string_bytes};
+ghost use Rattle.std.specs.List.{slice_split};
+ghost use Rattle.report.specs.Report.{row_of, words_of, fault_of, is_failure};
+ghost use Rattle.report.specs.declared.fault.Fault.{Fault};
 
+use crate::fault::Fault;
+use crate::sheet::COLUMNS;
 use std::alloc::{AllocError, Global};
 
-// The date, the text and the amount of a line, which semicolons part.
-fn words_of(line: &str) -> Option<(&str, &str, &str)>
-    ensures { option_map (λ words. words.0.now ∷ words.1.now ∷ words.2.now ∷ []) result ≡ cells_of line.now }
+// The words of a text, which semicolons part.
+fn words_of(alloc: Global, text: &str) -> Result<Vec<&str>, AllocError>
+    ensures { IfOk result (λ words. map (λ word. word.now) words.items ≡ words_of text.now) }
 {
-    let (date, rest) = line.split_once(';')?;
-    let (text, amount) = rest.split_once(';')?;
-    match amount.split_once(';') {
-        Some(_) => None,
-        None => Some((date, text, amount)),
-    }
+    text.split(';').collect(alloc)
 }
 
-/// The cells of a line, if it is three words.
-pub(crate) fn cells_of(alloc: Global, line: &str) -> Result<Option<Vec<String>>, AllocError>
-    ensures { IfOk result (λ found. option_map (λ cells. map string_bytes cells.items) found ≡ cells_of line.now) }
+// Texts of their own.
+fn owned(alloc: Global, words: &[&str]) -> Result<Vec<String>, AllocError>
+    ensures { IfOk result (λ cells. map string_bytes cells.items ≡ map (λ word. word.now) words.now) }
 {
-    let Some((date, text, amount)) = words_of(line) else {
-        return Ok(None);
+    let mut cells = Vec::with_capacity(alloc, words.len())?;
+    for word in words {
+        cells.push(String::from_str(alloc, word)?)?;
+    }
+    Ok(cells)
+}
+
+/// The cells of the line with this number: its words, if it is a text of three.
+pub(crate) fn cells_of(alloc: Global, number: usize, line: &[u8]) -> Result<Vec<String>, Fault>
+    ensures cells { IfOk result (λ cells. (map string_bytes cells.items ≡ row_of line.now) × (fault_of number line.now ≡ Fault.Room number)) }
+    ensures bad { (fault : Fault) → result ≡ Err fault → is_failure fault ≡ false → (row_of line.now ≡ []) × (fault ≡ fault_of number line.now) }
+    ensures failed { (fault : Fault) → result ≡ Err fault → is_failure fault ≡ true → fault ≡ Fault.Memory }
+{
+    let Ok(text) = str::from_utf8(line) else {
+        return Err(Fault::Text(number));
     };
-    let mut cells = Vec::with_capacity(alloc, 3)?;
-    cells.push(String::from_str(alloc, date)?)?;
-    cells.push(String::from_str(alloc, text)?)?;
-    cells.push(String::from_str(alloc, amount)?)?;
-    Ok(Some(cells))
+    let words = words_of(alloc, text)?;
+    if words.len() != COLUMNS {
+        return Err(Fault::Words(number));
+    }
+    Ok(owned(alloc, &words)?)
 }

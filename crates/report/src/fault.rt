@@ -1,24 +1,27 @@
 //! Why a ledger isn't printed to its end.
 
-ghost use Rattle.std.specs.Prelude.{◌≡◌, OnOk};
+ghost use Rattle.std.specs.Prelude.{◌≡◌, ◌+◌, ◌-◌, ◌^◌, min, OnOk, Some};
 ghost use Rattle.std.specs.Io.KnownBytes.{Appends};
-ghost use Rattle.report.specs.Report.{status_of, line_of};
+ghost use Rattle.report.specs.Report.{status_of, fault_text, line_of, told_by};
 ghost use Rattle.report.specs.declared.fault.Fault.TheVariants.{Memory};
 
+use pg_stream::StreamFault;
 use std::alloc::AllocError;
-use std::io;
 use std::io::Write;
+use std::{fmt, io};
 
 /// Why a ledger isn't printed to its end. Lines are counted from 1.
 #[derive(Debug, Clone, Copy, PartialEq, Eq)]
 pub(crate) enum Fault {
+    /// This line isn't a text.
+    Text(usize),
     /// This line isn't three words.
     Words(usize),
     /// A word of this line is wider than its column.
     Room(usize),
     /// Memory was refused.
     Memory,
-    /// A read failed.
+    /// A read failed, or there were too many lines.
     Read,
     /// A write failed.
     Write,
@@ -32,13 +35,26 @@ impl From<AllocError> for Fault {
     }
 }
 
+/// The first row is that of line 1. What the table looks like fits, so no call answers
+/// `StreamFault::Misfit`.
+impl From<StreamFault> for Fault {
+    ghost from_gives = { λ found fault. fault ≡ told_by found };
+
+    fn from(fault: StreamFault) -> Fault {
+        match fault {
+            StreamFault::Row(row) => Fault::Room(row.saturating_add(1)),
+            StreamFault::Misfit(_) | StreamFault::Memory => Fault::Memory,
+        }
+    }
+}
+
 impl Fault {
     /// The exit status that tells of it.
     pub(crate) fn status(self) -> u8
         ensures { result ≡ status_of self }
     {
         match self {
-            Fault::Words(_) | Fault::Room(_) => 2,
+            Fault::Text(_) | Fault::Words(_) | Fault::Room(_) => 2,
             Fault::Memory => 4,
             Fault::Read | Fault::Write => 5,
         }
@@ -48,19 +64,23 @@ impl Fault {
     pub(crate) fn tell<W: Write>(self, err: &mut W) -> io::Result<()>
         ensures { OnOk result (Appends (W.contents err.old) (W.contents err.new) (line_of self)) }
     {
-        self.write_line(err)?;
+        writeln!(err, "{self}")?;
         err.flush()
     }
+}
 
-    fn write_line<W: Write>(self, err: &mut W) -> io::Result<()>
-        ensures { OnOk result (Appends (W.contents err.old) (W.contents err.new) (line_of self)) }
-    {
+/// Writes the words of the line that tells of it.
+impl fmt::Display for Fault {
+    ghost output = { λ fault. Some (fault_text fault) };
+
+    fn fmt<W: fmt::Write>(&self, f: &mut fmt::Formatter<W>) -> fmt::Result {
         match self {
-            Fault::Words(line) => writeln!(err, "line {line}: not three words"),
-            Fault::Room(line) => writeln!(err, "line {line}: too wide for its column"),
-            Fault::Memory => writeln!(err, "out of memory"),
-            Fault::Read => writeln!(err, "read failed"),
-            Fault::Write => writeln!(err, "write failed"),
+            Fault::Text(line) => write!(f, "line {line}: not UTF-8"),
+            Fault::Words(line) => write!(f, "line {line}: not three words"),
+            Fault::Room(line) => write!(f, "line {line}: too wide for its column"),
+            Fault::Memory => write!(f, "out of memory"),
+            Fault::Read => write!(f, "read failed"),
+            Fault::Write => write!(f, "write failed"),
         }
     }
 }

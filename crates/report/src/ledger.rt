@@ -1,42 +1,66 @@
 //! A ledger that is printed row by row: each line is a row, and is written when the next one is
-//! there, which tells whether it is the last.
+//! there, which tells that it isn't the last.
 
-ghost use Rattle.std.specs.Prelude.{◌≡◌, ◌≢◌, ◌==◌, ◌++◌, [], List, map, true, false, Err, Some, None, string_bytes, IfOk, IfSome, OnOk};
+ghost use Rattle.std.specs.Prelude.{◌≡◌, ◌≢◌, ◌==◌, ◌++◌, ◌∷◌, ◌⊎◌, [], ℕ, List, map, true, Ok, Err, Some, None, string_bytes, IfOk, IfSome, OnOk};
 ghost use Rattle.std.specs.Io.KnownBytes.{Appends, Keeps};
-ghost use Rattle.std.specs.Io.Iter.{lines_known_bytes};
-ghost use Rattle.pg_config.specs.Config.{default_config, no_indents};
+ghost use Rattle.std.specs.Result.{result_err};
+ghost use Rattle.pg_config.specs.Config.{default_config};
 ghost use Rattle.pg_layout.specs.Text.{Text};
-ghost use Rattle.pg_stream.specs.Conditions.{RowFits};
-ghost use Rattle.pg_stream.specs.Printing.{after_row, row_text, finish_text};
-ghost use Rattle.report.specs.Report.{cells_of, state_of, status_of, look, written, IsReport, Reported};
+ghost use Rattle.pg_stream.specs.Conditions.{RowsFit};
+ghost use Rattle.pg_stream.specs.Printing.{rows_text};
+ghost use Rattle.pg_stream.specs.Streams.{after_push, held_text, HeldFits, rows_left};
+ghost use Rattle.report.specs.Report.{Writes, begin, row_of, fault_of, status_after, line_of};
+ghost use Rattle.report.specs.Steps.{state_of, moved, Stays, IsBad, NoEnd};
 ghost use Rattle.report.specs.declared.fault.Fault.{Fault};
 
 use crate::entry::cells_of;
 use crate::fault::Fault;
+use crate::lines::{line_in, read_line};
 use crate::sheet::{COLUMNS, Sizes, set_look};
 use pg_config::SpannedConfig;
 use pg_layout::NoColors;
-use pg_stream::RowPrinter;
+use pg_stream::RowStream;
 use std::alloc::Global;
-use std::io::{BufRead, BufReader, Lines, Read, Write};
+use std::io::{BufRead, BufReader, Read, Write};
 
-type Printer<'a> = RowPrinter<'a, String, Sizes, NoColors>;
+type Rows<'a> = RowStream<'a, String, Sizes, NoColors>;
+
+/// How a run of the program ended.
+#[derive(Debug, Clone, Copy)]
+pub(crate) struct Ending {
+    /// Why the ledger wasn't printed to its end, or `None` where it was.
+    pub(crate) fault: Option<Fault>,
+    /// Whether the line that tells of the fault was written. Without a fault there is none to write.
+    pub(crate) is_told: bool,
+}
+
+impl Ending {
+    /// The exit status: 0 where the ledger was printed.
+    pub(crate) fn status(&self) -> u8
+        ensures { result ≡ status_after self.now.fault }
+    {
+        match self.fault {
+            Some(fault) => fault.status(),
+            None => 0,
+        }
+    }
+}
 
 // Writes lines and a line feed behind them.
 fn write_lines<W: Write>(lines: &str, out: &mut W) -> Result<(), Fault>
-    ensures written { OnOk result (Appends (W.contents out.old) (W.contents out.new) (written true lines.now)) }
-    ensures failed { (fault : _) → result ≡ Err fault → fault ≡ Fault.Write }
+    ensures written { OnOk result (Appends (W.contents out.old) (W.contents out.new) (moved true lines.now)) }
+    ensures failed { (fault : Fault) → result ≡ Err fault → fault ≡ Fault.Write }
 {
     out.write_all(lines.as_bytes()).map_err(|_| Fault::Write)?;
     out.write_all(b"\n").map_err(|_| Fault::Write)?;
     out.flush().map_err(|_| Fault::Write)
 }
 
-// Writes the lines that a call of the printer appended. But for those of the first row each stands behind
-// its line feed.
+// Writes the lines that a call of the stream appended. But for those of the first row each stands
+// behind its line feed, which then goes behind them.
 fn write_appended<W: Write>(text: &str, is_first: bool, out: &mut W) -> Result<(), Fault>
-    ensures written { OnOk result (Appends (W.contents out.old) (W.contents out.new) (written is_first text.now)) }
-    ensures failed { (fault : _) → result ≡ Err fault → fault ≡ Fault.Write }
+    ensures written { OnOk result (Appends (W.contents out.old) (W.contents out.new) (moved is_first text.now)) }
+    ensures failed { (fault : Fault) → result ≡ Err fault → fault ≡ Fault.Write }
 {
     if is_first {
         return write_lines(text, out);
@@ -47,109 +71,86 @@ fn write_appended<W: Write>(text: &str, is_first: bool, out: &mut W) -> Result<(
     }
 }
 
-// Appends a row, if it fits.
-fn append_row<'a>(
-    printer: Printer<'a>,
+// Prints the row above the line with this number, which has these cells.
+fn push_row<'a, W: Write>(
+    rows: Rows<'a>,
+    number: usize,
     cells: Vec<String>,
-    is_last: bool,
     buf: &mut String,
-) -> Result<Printer<'a>, Fault>
-    ensures fits { IfOk result (λ after. RowFits (state_of printer.entry) (map string_bytes cells.items) is_last) }
-    ensures after { IfOk result (λ after. state_of after ≡ after_row (state_of printer.entry) (map string_bytes cells.items) is_last) }
-    ensures appends { IfOk result (λ after. string_bytes buf.new ≡ string_bytes buf.old ++ row_text (state_of printer.entry) (map string_bytes cells.items) is_last) }
-    ensures no_words { (line : _) → result ≢ Err (Fault.Words line) }
-    ensures refused { (line : _) → result ≡ Err (Fault.Room line) → ¬ (RowFits (state_of printer.entry) (map string_bytes cells.items) is_last) }
+    out: &mut W,
+) -> Result<Rows<'a>, Fault>
+    requires { string_bytes buf.old ≡ [] }
+    ensures goes { IfOk result (λ after. HeldFits (state_of rows.entry) × (state_of after ≡ after_push (state_of rows.entry) (map string_bytes cells.items))) }
+    ensures written { OnOk result (Appends (W.contents out.old) (W.contents out.new) (moved (number == 2) (held_text (state_of rows.entry)))) }
+    ensures empty { OnOk result (string_bytes buf.new ≡ []) }
+    ensures stops { (fault : Fault) → result ≡ Err fault → fault ≢ Fault.Write → Stays (state_of rows.entry) fault (W.contents out.old) (W.contents out.new) }
 {
-    if !printer.fits(&cells, is_last) {
-        return Err(Fault::Room(printer.rows().saturating_add(1)));
-    }
-    let after = printer.row(cells.into_iter(), is_last, buf)?;
-    Ok(after)
+    let rows = rows.push(cells, buf)?;
+    write_appended(buf.as_str(), number == 2, out)?;
+    buf.clear();
+    Ok(rows)
 }
 
-// Prints the row of a line.
+// Prints the row above this line. A line that has no cells still tells that the row above it isn't
+// the last one.
 fn print_line<'a, W: Write>(
     alloc: Global,
-    printer: Printer<'a>,
-    line: &str,
-    is_last: bool,
+    rows: Rows<'a>,
+    number: usize,
+    line: &[u8],
     buf: &mut String,
     out: &mut W,
-) -> Result<Printer<'a>, Fault>
-    requires empty { string_bytes buf.old ≡ [] }
-    ensures empty { IfOk result (λ after. string_bytes buf.new ≡ []) }
-    ensures printed { IfOk result (λ after. (cells : List Text) × (cells_of line.now ≡ Some cells) × (state_of after ≡ after_row (state_of printer.entry) cells is_last) × Appends (W.contents out.old) (W.contents out.new) (written ((state_of printer.entry).rows == 0) (row_text (state_of printer.entry) cells is_last))) }
-    ensures no_words { (number : _) → result ≡ Err (Fault.Words number) → cells_of line.now ≡ None }
-    ensures no_room { (number : _) → result ≡ Err (Fault.Room number) → (cells : List Text) → cells_of line.now ≡ Some cells → ¬ (RowFits (state_of printer.entry) cells is_last) }
-    ensures unwritten { (fault : _) → result ≡ Err fault → fault ≢ Fault.Write → Keeps (W.contents out.old) (W.contents out.new) }
+) -> Result<Rows<'a>, Fault>
+    requires { string_bytes buf.old ≡ [] }
+    ensures goes { IfOk result (λ after. HeldFits (state_of rows.entry) × (state_of after ≡ after_push (state_of rows.entry) (row_of line.now)) × (fault_of number line.now ≡ Fault.Room number)) }
+    ensures written { OnOk result (Appends (W.contents out.old) (W.contents out.new) (moved (number == 2) (held_text (state_of rows.entry)))) }
+    ensures empty { OnOk result (string_bytes buf.new ≡ []) }
+    ensures stops { (fault : Fault) → result ≡ Err fault → fault ≢ Fault.Write → Stays (state_of rows.entry) fault (W.contents out.old) (W.contents out.new) ⊎ IsBad (state_of rows.entry) number line.now fault (W.contents out.old) (W.contents out.new) }
 {
-    let Some(cells) = cells_of(alloc, line)? else {
-        return Err(Fault::Words(printer.rows().saturating_add(1)));
-    };
-    let is_first = printer.rows() == 0;
-    let printer = append_row(printer, cells, is_last, buf)?;
-    write_appended(buf.as_str(), is_first, out)?;
-    buf.clear();
-    Ok(printer)
+    match cells_of(alloc, number, line) {
+        Ok(cells) => push_row(rows, number, cells, buf, out),
+        Err(fault) => {
+            push_row(rows, number, Vec::new(alloc), buf, out)?;
+            Err(fault)
+        }
+    }
 }
 
-// Ends the table.
-fn print_end<W: Write>(printer: Printer<'_>, buf: &mut String, out: &mut W) -> Result<(), Fault>
-    requires ended { printer.is_ended ≡ true }
-    requires empty { string_bytes buf.old ≡ [] }
-    ensures { OnOk result (Appends (W.contents out.old) (W.contents out.new) (written false (finish_text (state_of printer.entry)))) }
+// Prints the last row, and ends the table.
+fn print_end<W: Write>(
+    rows: Rows<'_>,
+    is_first: bool,
+    buf: &mut String,
+    out: &mut W,
+) -> Result<(), Fault>
+    requires { string_bytes buf.old ≡ [] }
+    ensures fits { OnOk result (RowsFit (state_of rows.entry).before (rows_left (state_of rows.entry) [])) }
+    ensures written { OnOk result (Appends (W.contents out.old) (W.contents out.new) (moved is_first (rows_text (state_of rows.entry).before (rows_left (state_of rows.entry) [])))) }
+    ensures stops { (fault : Fault) → result ≡ Err fault → fault ≢ Fault.Write → NoEnd (state_of rows.entry) fault (W.contents out.old) (W.contents out.new) }
 {
-    printer.finish(buf)?;
-    write_appended(buf.as_str(), false, out)
+    rows.finish(buf)?;
+    write_appended(buf.as_str(), is_first, out)
 }
 
-// Prints the row of the first line and those of all lines behind it.
+// Prints the rows of all lines.
 fn print_lines<R: BufRead + Drop, W: Write>(
     alloc: Global,
-    mut printer: Printer<'_>,
-    first: String,
-    rest: Lines<R>,
+    mut rows: Rows<'_>,
+    mut reader: R,
     out: &mut W,
 ) -> Result<(), Fault>
-    requires { (state_of printer).rows ≡ 0 }
-    ensures { OnOk result (IfSome (lines_known_bytes R.remaining rest) (λ bytes. (text : Text) × Reported (state_of printer.entry) (string_bytes first) bytes text × Appends (W.contents out.old) (W.contents out.new) text)) }
+    requires { state_of rows ≡ record { before = begin; held = None } }
+    ensures { result ≢ Err Fault.Write → IfSome (R.remaining reader) (λ bytes. (text : Text) × Writes bytes (result_err result) text × Appends (W.contents out.old) (W.contents out.new) text) }
 {
+    let mut bytes = Vec::new(alloc);
     let mut buf = String::new(alloc);
-    let mut line = first;
-    for next in rest {
-        printer = print_line(alloc, printer, &line, false, &mut buf, out)?;
-        let Ok(next) = next else {
-            return Err(Fault::Read);
-        };
-        line = next;
+    for number in 1..usize::MAX {
+        if !read_line(&mut reader, &mut bytes)? {
+            return print_end(rows, number == 2, &mut buf, out);
+        }
+        rows = print_line(alloc, rows, number, line_in(&bytes), &mut buf, out)?;
     }
-    let printer = print_line(alloc, printer, &line, true, &mut buf, out)?;
-    print_end(printer, &mut buf, out)
-}
-
-// Prints the table of a ledger, and nothing where there are no lines.
-fn print_ledger<R: Read + Drop, W: Write>(
-    alloc: Global,
-    config: &SpannedConfig,
-    input: R,
-    out: &mut W,
-) -> Result<(), Fault>
-    requires spans { config.now.spans ≡ [] }
-    requires margin { config.now.margin ≡ no_indents }
-    ensures { OnOk result (IfSome (R.remaining input) (λ bytes. (text : Text) × IsReport config.now bytes text × Appends (W.contents out.old) (W.contents out.new) text)) }
-{
-    let Ok(reader) = BufReader::new(alloc, input) else {
-        return Err(Fault::Memory);
-    };
-    let mut lines = reader.lines(alloc);
-    let Some(first) = lines.next() else {
-        return Ok(());
-    };
-    let Ok(first) = first else {
-        return Err(Fault::Read);
-    };
-    let printer = RowPrinter::new(alloc, config, &Sizes, &NoColors, COLUMNS, None)?;
-    print_lines(alloc, printer, first, lines, out)
+    Err(Fault::Read)
 }
 
 // Tells a configuration what a ledger looks like, and prints the ledger.
@@ -160,15 +161,19 @@ fn print_with<R: Read + Drop, W: Write>(
     out: &mut W,
 ) -> Result<(), Fault>
     requires { config.old ≡ default_config }
-    ensures { OnOk result (IfSome (R.remaining input) (λ bytes. (text : Text) × IsReport look bytes text × Appends (W.contents out.old) (W.contents out.new) text)) }
+    ensures { result ≢ Err Fault.Write → IfSome (R.remaining input) (λ bytes. (text : Text) × Writes bytes (result_err result) text × Appends (W.contents out.old) (W.contents out.new) text) }
 {
     set_look(config)?;
-    print_ledger(alloc, config, input, out)
+    let Ok(reader) = BufReader::new(alloc, input) else {
+        return Err(Fault::Memory);
+    };
+    let rows = RowStream::new(alloc, config, &Sizes, &NoColors, COLUMNS, None)?;
+    print_lines(alloc, rows, reader, out)
 }
 
 // Prints a ledger. The configuration goes back before the answer is looked at.
 fn print<R: Read + Drop, W: Write>(alloc: Global, input: R, out: &mut W) -> Result<(), Fault>
-    ensures { OnOk result (IfSome (R.remaining input) (λ bytes. (text : Text) × IsReport look bytes text × Appends (W.contents out.old) (W.contents out.new) text)) }
+    ensures { result ≢ Err Fault.Write → IfSome (R.remaining input) (λ bytes. (text : Text) × Writes bytes (result_err result) text × Appends (W.contents out.old) (W.contents out.new) text) }
 {
     let mut config = SpannedConfig::new(alloc);
     let result = print_with(alloc, &mut config, input, out);
@@ -176,28 +181,31 @@ fn print<R: Read + Drop, W: Write>(alloc: Global, input: R, out: &mut W) -> Resu
     result
 }
 
-/// Runs the program, and answers its exit status.
+/// Runs the program, and answers how the run ended.
 ///
 /// Each line of `input` is a row: a date, a text and an amount, with semicolons between them. Its
-/// lines of the table are written to `out` when the next line is there. Status 0 once all are
-/// written. Each fault ends the table where it is, after a whole row, and is one line on `err`:
-/// status 2 for a line that isn't three words or whose words don't fit their columns, 4 for want of
-/// memory, 5 for a read or a write that fails. A failed write to `err` changes no status.
+/// lines of the table are written to `out` when the next line is there. Each fault ends the table
+/// where it is, after a whole row, and is one line on `err`. The first line that isn't a row of the
+/// table is told by its number: the rows above it stand, and nothing of its own is written. A failed
+/// write to `err` changes no status.
 pub(crate) fn run<R: Read + Drop, W1: Write, W2: Write>(
     alloc: Global,
     input: R,
     out: &mut W1,
     err: &mut W2,
-) -> u8
-    ensures status { result ≢ 0 → (fault : Fault) × (result ≡ status_of fault) }
-    ensures printed { result ≡ 0 → IfSome (R.remaining input) (λ bytes. (text : Text) × IsReport look bytes text × Appends (W1.contents out.old) (W1.contents out.new) text) }
-    ensures silent { result ≡ 0 → Keeps (W2.contents err.old) (W2.contents err.new) }
+) -> Ending
+    ensures printed { result.fault ≢ Some Fault.Write → IfSome (R.remaining input) (λ bytes. (text : Text) × Writes bytes result.fault text × Appends (W1.contents out.old) (W1.contents out.new) text) }
+    ensures told { (fault : Fault) → result.fault ≡ Some fault → result.is_told ≡ true → Appends (W2.contents err.old) (W2.contents err.new) (line_of fault) }
+    ensures silent { result.fault ≡ None → Keeps (W2.contents err.old) (W2.contents err.new) }
 {
     match print(alloc, input, out) {
-        Ok(()) => 0,
-        Err(fault) => {
-            let _ = fault.tell(err);
-            fault.status()
-        }
+        Ok(()) => Ending {
+            fault: None,
+            is_told: true,
+        },
+        Err(fault) => Ending {
+            fault: Some(fault),
+            is_told: fault.tell(err).is_ok(),
+        },
     }
 }

@@ -4,11 +4,12 @@
 mod entry;
 mod fault;
 mod ledger;
+mod lines;
 mod sheet;
 
 use std::process::ExitCode;
 
 fn main(rt: HostRuntime) -> ExitCode {
     let (mut out, mut err) = (rt.stdout(), rt.stderr());
-    ExitCode::from(ledger::run(rt.alloc(), rt.stdin(), &mut out, &mut err))
+    ExitCode::from(ledger::run(rt.alloc(), rt.stdin(), &mut out, &mut err).status())
 }

@@ -1,59 +1,59 @@
-use Rattle.std.proofs.Common.{false, string_bytes, ap, sym, ◌∙◌, subst, arith}
-use Rattle.std.specs.Io.Iter.{lines_known_bytes}
-use Rattle.std.specs.Io.KnownBytes.{Appends}
-use Rattle.pg_layout.specs.Text.{Text}
-use Rattle.pg_stream.specs.Printing.{Printing, after_row, finish_text}
-use Rattle.report.specs.Report.{state_of, cells_of, written}
-use Rattle.report.proofs.Reporting.{reporting-starts, reporting-more, reporting-ends, on-ok, Reporting}
-use Rattle.report.proofs.Written.{HasBegun, begun-next}
+use Rattle.std.proofs.Common.{◌+◌, List, Ok, Err, ℕ, refl, sym, ap, ◌∙◌, subst, arith, inl, inr}
+use Rattle.std.proofs.KnownBytes.{Keeps-refl}
+use Rattle.std.proofs.lemmas.Result.{err_from_is_err_and}
+use Rattle.pg_stream.specs.Streams.{Streaming}
+use Rattle.report.specs.Report.{line_in}
+use Rattle.report.specs.Steps.{state_of}
+use Rattle.report.specs.declared.fault.Fault.TheVariants.{Read}
+use Rattle.report.proofs.Going.{Going, going-begin, going-fails, going-over, going-stays, going-bad, going-next, Read as WasRead}
 use Rattle.report.proofs.ledger.print_lines.Goals as goal
 
-pub loop-next-init : goal.loop-next-init
-loop-next-init g c =
-    rw c.into_iter-next-iterator.ensures.into_iter_gives (
-      tt,
-      tt,
-      c.new-buf.ensures.bytes,
-      λ some. omega (arith, c.requires, some),
-      reporting-starts (state_of c.args.printer) (string_bytes c.args.first) (lines_known_bytes g.R.Read.remaining c.args.rest) (g.W.Write.contents c.args.out.now),
-    )
+pub loop-number-init : goal.loop-number-init
+loop-number-init g c = (c.new-buf.ensures.bytes, going-begin (g.R.Read.remaining c.args.reader) (g.W.Write.contents c.args.out.now) (state_of c.args.rows) c.requires)
 
-pub loop-next-preserved : goal.loop-next-preserved
-loop-next-preserved g c =
-    let start : Printing = state_of c.args.printer in
-    let s : Printing = state_of c.loop-next.printer in
-    let first : Text = string_bytes c.args.first in
-    let read = lines_known_bytes g.R.Read.remaining c.args.rest in
+pub returns-in_err-read_line : goal.returns-in_err-read_line
+returns-in_err-read_line g c =
+    let p = err_from_is_err_and c.from_residual.result c.from_residual.ensures.1 in
+    let out = g.W.Write.contents c.loop-number.out in
+    rw (p.1, p.2) (λ other. going-fails (g.W.Write.contents c.args.out.now) out (state_of c.loop-number.rows) c.loop-number.number (g.R.Read.remaining c.args.reader) (g.R.Read.remaining c.loop-number.reader) out c.in_err-read_line.field-0.0 c.loop-number.invariant.1 (Keeps-refl out)
+    (c.in_err-read_line.ensures.failed c.in_err-read_line.field-0.0 refl))
+
+pub returns-then-not-branch : goal.returns-then-not-branch
+returns-then-not-branch g c =
+    going-over (g.W.Write.contents c.args.out.now) (g.W.Write.contents c.loop-number.out) (state_of c.loop-number.rows) c.loop-number.number (g.R.Read.remaining c.args.reader) (g.R.Read.remaining c.loop-number.reader) (g.W.Write.contents c.print_end.new.out) c.print_end.result
+    c.loop-number.invariant.1 (c.in_ok-read_line.ensures.end (ap Ok c.if-not-branch.true)) (omega arith) c.print_end.ensures.fits c.print_end.ensures.written c.print_end.ensures.stops
+
+pub returns-in_err-rows : goal.returns-in_err-rows
+returns-in_err-rows g c =
+    let p = err_from_is_err_and c.from_residual-in_err-rows.result c.from_residual-in_err-rows.ensures.1 in
     let old = g.W.Write.contents c.args.out.now in
-    let left = lines_known_bytes g.R.Read.remaining c.loop-next.next-iterator in
-    let rest = lines_known_bytes g.R.Read.remaining c.next.new.self in
-    let done = g.W.Write.contents c.print_line.new.out in
-    let goes = c.in-Some.ensures.goes.on c.loop-next.invariant.1 in
-    let (cells, words, after, wrote) = c.in_ok-printer.ensures.printed in
-    let here = rw c.in-Ok.is at c.in-Some.ensures.steps.1 in (
-      goes.0,
-      goes.1,
-      c.in_ok-printer.ensures.empty,
-      subst (λ (p : Printing). HasBegun p) (sym after) (begun-next s cells false (omega arith)),
-      subst (λ (p : Printing). Reporting start first read old p (string_bytes c.in-Ok.next) rest done) (sym after)
-          (reporting-more start first old s (λ k. omega arith) c.loop-next.invariant.3 (string_bytes c.loop-next.line) cells (ap cells_of (sym c.deref.ensures) ∙ words)
-          read left (g.W.Write.contents c.loop-next.out) c.loop-next.invariant.4 (string_bytes c.in-Ok.next) rest done here.0 here.1 wrote),
-    )
+    let mid = g.W.Write.contents c.loop-number.out in
+    let new = g.W.Write.contents c.print_line.new.out in
+    let s : Streaming = state_of c.loop-number.rows in
+    let given = g.R.Read.remaining c.args.reader in
+    let left = g.R.Read.remaining c.loop-number.reader in
+    let later = g.R.Read.remaining c.read_line.new.reader in
+    let read = subst (λ (line : List ℕ). WasRead left later line) (sym (c.line_in.ensures ∙ ap line_in c.deref.ensures.value)) (c.in_ok-read_line.ensures.read (ap Ok c.if-not-branch.false)) in
+    rw (p.1, p.2) (λ other. elim (c.in_err-rows.ensures.stops c.in_err-rows.field-0.0 refl (λ is. other (ap Err is))) [
+      | inl stays ↦ going-stays old mid s c.loop-number.number given left later new c.line_in.result.now c.in_err-rows.field-0.0 c.loop-number.invariant.1 read (omega arith) stays
+      | inr bad ↦ going-bad old mid s c.loop-number.number given left later new c.line_in.result.now c.in_err-rows.field-0.0 c.loop-number.invariant.1 read bad
+    ])
 
-pub print_end-requires-clause-ended : goal.print_end-requires-clause-ended
-unfolding after_row
-print_end-requires-clause-ended g c =
-    let (cells, words, after, wrote) = c.in_ok-printer-2.ensures.printed in
-    ap (λ (s : Printing). s.is_ended) after
+pub loop-number-preserved : goal.loop-number-preserved
+loop-number-preserved g c =
+    let old = g.W.Write.contents c.args.out.now in
+    let mid = g.W.Write.contents c.loop-number.out in
+    let new = g.W.Write.contents c.print_line.new.out in
+    let given = g.R.Read.remaining c.args.reader in
+    let left = g.R.Read.remaining c.loop-number.reader in
+    let later = g.R.Read.remaining c.read_line.new.reader in
+    let read = subst (λ (line : List ℕ). WasRead left later line) (sym (c.line_in.ensures ∙ ap line_in c.deref.ensures.value)) (c.in_ok-read_line.ensures.read (ap Ok c.if-not-branch.false)) in
+    let (fits, after, room) = c.in_ok-rows.ensures.goes in (
+      c.in_ok-rows.ensures.empty,
+      subst (λ (s : Streaming). Going given later old new s (c.loop-number.number + 1)) (sym after) (going-next old mid (state_of c.loop-number.rows) c.loop-number.number given left later new c.line_in.result.now c.loop-number.invariant.1 read fits room c.in_ok-rows.ensures.written),
+    )
 
 pub returns : goal.returns
-returns g c =
-    let s : Printing = state_of c.loop-next.printer in
-    let (cells, words, after, wrote) = c.in_ok-printer-2.ensures.printed in
-    let end = g.W.Write.contents c.print_end.new.out in
-    let done = g.W.Write.contents c.print_line-2.new.out in
-    on-ok c.print_end.result
-    (λ finish. reporting-ends (state_of c.args.printer) (string_bytes c.args.first) (g.W.Write.contents c.args.out.now) s (λ k. omega arith) c.loop-next.invariant.3 (string_bytes c.loop-next.line) cells (ap cells_of (sym c.deref-2.ensures) ∙ words)
-    (lines_known_bytes g.R.Read.remaining c.args.rest) (lines_known_bytes g.R.Read.remaining c.loop-next.next-iterator) (g.W.Write.contents c.loop-next.out) c.loop-next.invariant.4
-    c.in-None.ensures.steps.1 done end wrote (subst (λ (p : Printing). Appends done end (written false (finish_text p))) after finish))
-    c.print_end.ensures
+returns g c = λ other.
+    let out = g.W.Write.contents c.loop-number.out in
+    going-fails (g.W.Write.contents c.args.out.now) out (state_of c.loop-number.rows) c.loop-number.number (g.R.Read.remaining c.args.reader) (g.R.Read.remaining c.loop-number.reader) out Read c.loop-number.invariant.1 (Keeps-refl out) refl

@@ -1,23 +1,24 @@
-use Rattle.std.proofs.Common.{IfSome, ap, ◌∙◌, subst}
-use Rattle.pg_config.specs.Config.{Config, default_config}
-use Rattle.std.specs.Io.KnownBytes.{Appends}
-use Rattle.pg_layout.specs.Text.{Text}
-use Rattle.report.specs.Report.{with_look, IsReport}
-use Rattle.report.proofs.Reporting.{on-ok}
+use Rattle.std.proofs.Common.{None, refl, sym, ap, ◌∙◌, subst}
+use Rattle.std.proofs.KnownBytes.{Keeps-refl}
+use Rattle.std.proofs.lemmas.Result.{err_from_is_err_and}
+use Rattle.pg_config.specs.Config.{Config}
+use Rattle.pg_stream.specs.Conditions.{PrinterFits}
+use Rattle.pg_stream.specs.Printing.{printer}
+use Rattle.pg_stream.specs.Streams.{Streaming}
+use Rattle.report.specs.Report.{begin, width_of_column, with_look}
+use Rattle.report.specs.declared.fault.Fault.TheVariants.{Memory}
+use Rattle.report.proofs.Going.{going-begin, going-fails}
+use Rattle.report.proofs.Looks.{may_begin}
 use Rattle.report.proofs.ledger.print_with.Goals as goal
 
-pub print_ledger-requires-clause-spans : goal.print_ledger-requires-clause-spans
-unfolding default_config
-print_ledger-requires-clause-spans g c = ap (λ (config : Config). config.spans) c.in_ok-set_look.ensures ∙ ap (λ (config : Config). config.spans) c.requires
-
-pub print_ledger-requires-clause-margin : goal.print_ledger-requires-clause-margin
-unfolding default_config
-print_ledger-requires-clause-margin g c = ap (λ (config : Config). config.margin) c.in_ok-set_look.ensures ∙ ap (λ (config : Config). config.margin) c.requires
-
-pub returns : goal.returns
-returns g c =
-    let old = g.W.Write.contents c.args.out.now in
-    let end = g.W.Write.contents c.print_ledger.new.out in
-    on-ok c.print_ledger.result
-    (λ rest. subst (λ (config : Config). IfSome (g.R.Read.remaining c.args.input) (λ bytes. (text : Text) × IsReport config bytes text × Appends old end text)) (c.in_ok-set_look.ensures ∙ ap with_look c.requires) rest)
-    c.print_ledger.ensures
+-- only memory keeps a stream from being made
+pub returns-in_err-rows : goal.returns-in_err-rows
+returns-in_err-rows g c =
+    let p = err_from_is_err_and c.from_residual-in_err-rows.result c.from_residual-in_err-rows.ensures.1 in
+    let looks = c.in_ok-set_look.ensures ∙ ap with_look c.requires in
+    let fits = subst (λ (config : Config). PrinterFits (printer config 3 width_of_column (λ row. 1) (λ pos. None) None)) (sym looks) may_begin in
+    let memory = c.in_err-rows.ensures.whole fits c.in_err-rows.field-0.0 refl in
+    let given = g.R.Read.remaining c.args.input in
+    let out = g.W.Write.contents c.args.out.now in
+    let start : Streaming = record { before = begin; held = None } in
+    rw (p.1, p.2, memory) (λ other. going-fails out out start 1 given given out Memory (going-begin given out start refl) (Keeps-refl out) refl)

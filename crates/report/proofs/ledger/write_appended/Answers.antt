@@ -4,7 +4,7 @@ use Rattle.std.proofs.KnownBytes.{Appends-nil}
 use Rattle.std.proofs.lemmas.Bool.Decides.{nat_tests}
 use Rattle.std.proofs.lemmas.Str.Pattern.{strip_prefix_char}
 use Rattle.pg_layout.specs.Text.{Text}
-use Rattle.report.specs.Report.{moved_feed}
+use Rattle.report.specs.Steps.{moved_feed}
 use Rattle.report.proofs.ledger.write_appended.Goals as goal
 
 no-feed : (text : Text) → ((rest : Text) → text ≢ 10 ∷ rest) → moved_feed text ≡ []
