@@ -1,6 +1,6 @@
 //! Tables of cells in one row and one column.
 
-use crate::drawing::{FOUR, Sample, assert_drawn};
+use crate::drawing::{FOUR, Sample, assert_cell, assert_drawn};
 use crate::settings::Setting;
 use pg_layout::{AlignmentHorizontal, AlignmentVertical, Borders, Entity};
 use std::alloc::Global;
@@ -28,13 +28,8 @@ fn no_rows_have_no_picture(rt: HostRuntime) -> Result<(), Fail> {
 
 #[test]
 fn a_cell_without_size_has_a_frame(rt: HostRuntime) -> Result<(), Fail> {
-    let sample = Sample {
-        texts: &[&[""]],
-        widths: &[0],
-        heights: &[0],
-        settings: &[Setting::Ascii],
-    };
-    assert_drawn(&rt, rt.alloc(), &sample, EMPTY_FRAME)
+    let settings = [Setting::Ascii];
+    assert_cell(&rt, rt.alloc(), ("", 0, 0), (&settings, EMPTY_FRAME))
 }
 
 #[test]
@@ -46,13 +41,13 @@ fn corners_make_the_sides_of_the_outer_lines(rt: HostRuntime) -> Result<(), Fail
     borders.top_right = Some('┐');
     borders.bottom_left = Some('└');
     borders.bottom_right = Some('┘');
-    let sample = Sample {
-        texts: &[&[""]],
-        widths: &[10],
-        heights: &[0],
-        settings: &[Setting::Borders(borders)],
-    };
-    assert_drawn(&rt, rt.alloc(), &sample, "┌──────────┐\n└──────────┘")
+    let settings = [Setting::Borders(borders)];
+    assert_cell(
+        &rt,
+        rt.alloc(),
+        ("", 10, 0),
+        (&settings, "┌──────────┐\n└──────────┘"),
+    )
 }
 
 #[test]
@@ -96,41 +91,25 @@ fn a_row_of_height_0_has_no_line(rt: HostRuntime) -> Result<(), Fail> {
 
 #[test]
 fn lines_below_the_cell_are_cut(rt: HostRuntime) -> Result<(), Fail> {
-    let sample = Sample {
-        texts: &[&["1\n2\n3"]],
-        widths: &[1],
-        heights: &[2],
-        settings: &[
-            Setting::Padding(Entity::Global, [0, 0, 1, 0]),
-            Setting::Vertical(Entity::Global, AlignmentVertical::Bottom),
-        ],
-    };
-    assert_drawn(&rt, rt.alloc(), &sample, " \n1")
+    let settings = [
+        Setting::Padding(Entity::Global, [0, 0, 1, 0]),
+        Setting::Vertical(Entity::Global, AlignmentVertical::Bottom),
+    ];
+    assert_cell(&rt, rt.alloc(), ("1\n2\n3", 1, 2), (&settings, " \n1"))
 }
 
 #[test]
 fn a_cell_of_height_0_needs_no_room(rt: HostRuntime) -> Result<(), Fail> {
-    let sample = Sample {
-        texts: &[&["abc"]],
-        widths: &[0],
-        heights: &[0],
-        settings: &[
-            Setting::Ascii,
-            Setting::Padding(Entity::Global, [2, 2, 2, 2]),
-        ],
-    };
-    assert_drawn(&rt, rt.alloc(), &sample, EMPTY_FRAME)
+    let settings = [
+        Setting::Ascii,
+        Setting::Padding(Entity::Global, [2, 2, 2, 2]),
+    ];
+    assert_cell(&rt, rt.alloc(), ("abc", 0, 0), (&settings, EMPTY_FRAME))
 }
 
 #[test]
 fn a_table_without_lines_is_empty(rt: HostRuntime) -> Result<(), Fail> {
-    let sample = Sample {
-        texts: &[&["a"]],
-        widths: &[2],
-        heights: &[0],
-        settings: &[],
-    };
-    assert_drawn(&rt, rt.alloc(), &sample, "")
+    assert_cell(&rt, rt.alloc(), ("a", 2, 0), (&[], ""))
 }
 
 // A text in a cell of width 5, aligned so, is drawn as this.
@@ -140,13 +119,9 @@ fn assert_aligned(
     alignment: AlignmentHorizontal,
     (cell, drawn): (&str, &str),
 ) -> Result<(), Fail> {
-    let sample = Sample {
-        texts: &[&[cell]],
-        widths: &[5],
-        heights: &[drawn.split('\n').count()],
-        settings: &[Setting::Horizontal(Entity::Global, alignment)],
-    };
-    assert_drawn(rt, alloc, &sample, drawn)
+    let settings = [Setting::Horizontal(Entity::Global, alignment)];
+    let height = drawn.split('\n').count();
+    assert_cell(rt, alloc, (cell, 5, height), (&settings, drawn))
 }
 
 #[test]
@@ -198,15 +173,15 @@ fn paddings_of_a_column_come_before_those_of_all(rt: HostRuntime) -> Result<(), 
 
 #[test]
 fn paddings_and_alignments_share_a_cell(rt: HostRuntime) -> Result<(), Fail> {
-    let sample = Sample {
-        texts: &[&["ab"]],
-        widths: &[6],
-        heights: &[3],
-        settings: &[
-            Setting::Padding(Entity::Global, [1, 1, 1, 0]),
-            Setting::Horizontal(Entity::Global, AlignmentHorizontal::Center),
-            Setting::Vertical(Entity::Global, AlignmentVertical::Bottom),
-        ],
-    };
-    assert_drawn(&rt, rt.alloc(), &sample, "      \n      \n  ab  ")
+    let settings = [
+        Setting::Padding(Entity::Global, [1, 1, 1, 0]),
+        Setting::Horizontal(Entity::Global, AlignmentHorizontal::Center),
+        Setting::Vertical(Entity::Global, AlignmentVertical::Bottom),
+    ];
+    assert_cell(
+        &rt,
+        rt.alloc(),
+        ("ab", 6, 3),
+        (&settings, "      \n      \n  ab  "),
+    )
 }

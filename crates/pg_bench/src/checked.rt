@@ -83,13 +83,9 @@ fn is_refused(
     };
     assert!(rt; FOUR_TEXT.starts_with(gained));
     assert_eq!(rt; printed.is_ok(), gained == FOUR_TEXT);
-    let awaited = if memory.has_refused() {
-        Err(PrintFault::Memory)
-    } else {
-        Ok(())
-    };
-    assert_eq!(rt; printed, awaited);
-    Ok(memory.has_refused())
+    let is_refused = memory.has_refused();
+    assert_eq!(rt; printed.err(), is_refused.then_some(PrintFault::Memory));
+    Ok(is_refused)
 }
 
 // Each request for memory of `print` is refused in turn. That of number 0 is for `log:` itself.

@@ -1,6 +1,6 @@
 //! Tables with glyphs and colours of their own.
 
-use crate::drawing::{FOUR, Sample, assert_drawn};
+use crate::drawing::{FOUR, Sample, assert_cell, assert_drawn};
 use crate::settings::{Paint, Setting};
 use pg_layout::{AlignmentHorizontal, Border, Borders, Entity, Indent, Offset, Position, Sides};
 use std::alloc::Global;
@@ -44,22 +44,6 @@ fn one_glyph_makes_a_line(rt: HostRuntime) -> Result<(), Fail> {
     assert_drawn(&rt, rt.alloc(), &sample, "0-0 0-1\n    ***\n1-0 1-1")
 }
 
-// A line of text in a cell of width 3 with ASCII borders: its top line is this.
-fn assert_top_line(
-    rt: &impl Abort,
-    alloc: Global,
-    settings: &[Setting],
-    text: &str,
-) -> Result<(), Fail> {
-    let sample = Sample {
-        texts: &[&["abc"]],
-        widths: &[3],
-        heights: &[1],
-        settings,
-    };
-    assert_drawn(rt, alloc, &sample, text)
-}
-
 #[test]
 fn a_glyph_has_a_color_inside_a_colored_line(rt: HostRuntime) -> Result<(), Fail> {
     let settings = [
@@ -72,7 +56,7 @@ fn a_glyph_has_a_color_inside_a_colored_line(rt: HostRuntime) -> Result<(), Fail
 <r>+-</r><b>*</b><r>-+</r>
 |abc|
 +---+";
-    assert_top_line(&rt, rt.alloc(), &settings, text)
+    assert_cell(&rt, rt.alloc(), ("abc", 3, 1), (&settings, text))
 }
 
 #[test]
@@ -86,7 +70,7 @@ fn a_glyph_is_counted_from_the_end(rt: HostRuntime) -> Result<(), Fail> {
 +--<b>*</b>+
 |abc|
 +---+";
-    assert_top_line(&rt, rt.alloc(), &settings, text)
+    assert_cell(&rt, rt.alloc(), ("abc", 3, 1), (&settings, text))
 }
 
 #[test]
@@ -100,23 +84,18 @@ fn a_color_is_closed_round_a_glyph_of_the_same_color(rt: HostRuntime) -> Result<
 <r>+</r><r>-</r><r>--+</r>
 |abc|
 +---+";
-    assert_top_line(&rt, rt.alloc(), &settings, text)
+    assert_cell(&rt, rt.alloc(), ("abc", 3, 1), (&settings, text))
 }
 
 #[test]
 fn a_vertical_has_another_glyph_in_its_last_line(rt: HostRuntime) -> Result<(), Fail> {
     let mut borders = Borders::empty();
     borders.left = Some(':');
-    let sample = Sample {
-        texts: &[&["a\nb"]],
-        widths: &[1],
-        heights: &[2],
-        settings: &[
-            Setting::Borders(borders),
-            Setting::VerticalGlyph(FIRST, Offset::End(0), '#'),
-        ],
-    };
-    assert_drawn(&rt, rt.alloc(), &sample, ":a\n#b")
+    let settings = [
+        Setting::Borders(borders),
+        Setting::VerticalGlyph(FIRST, Offset::End(0), '#'),
+    ];
+    assert_cell(&rt, rt.alloc(), ("a\nb", 1, 2), (&settings, ":a\n#b"))
 }
 
 #[test]
@@ -125,18 +104,14 @@ fn a_vertical_and_a_padding_are_colored(rt: HostRuntime) -> Result<(), Fail> {
     borders.left = Some(':');
     let mut padding = Sides::filled(Indent::spaced(0));
     padding.left = Indent::new(1, '.');
-    let sample = Sample {
-        texts: &[&["a"]],
-        widths: &[2],
-        heights: &[1],
-        settings: &[
-            Setting::Borders(borders),
-            Setting::VerticalColor(FIRST, Offset::Start(0), BLUE),
-            Setting::Filled(Entity::Global, padding),
-            Setting::LeftPaddingColor(Entity::Global, Paint("<p>", "</p>")),
-        ],
-    };
-    assert_drawn(&rt, rt.alloc(), &sample, "<b>:</b><p>.</p>a")
+    let settings = [
+        Setting::Borders(borders),
+        Setting::VerticalColor(FIRST, Offset::Start(0), BLUE),
+        Setting::Filled(Entity::Global, padding),
+        Setting::LeftPaddingColor(Entity::Global, Paint("<p>", "</p>")),
+    ];
+    let drawn = "<b>:</b><p>.</p>a";
+    assert_cell(&rt, rt.alloc(), ("a", 2, 1), (&settings, drawn))
 }
 
 // The row of `ab` and `cd` with this glyph where a line has none is drawn as this.
@@ -174,13 +149,8 @@ fn spaces_beside_a_glyph_take_its_color_where_no_glyph_is_missing(
 
 #[test]
 fn an_empty_text_has_its_color(rt: HostRuntime) -> Result<(), Fail> {
-    let sample = Sample {
-        texts: &[&[""]],
-        widths: &[1],
-        heights: &[1],
-        settings: &[Setting::CellColor(FIRST, RED)],
-    };
-    assert_drawn(&rt, rt.alloc(), &sample, "<r></r> ")
+    let settings = [Setting::CellColor(FIRST, RED)];
+    assert_cell(&rt, rt.alloc(), ("", 1, 1), (&settings, "<r></r> "))
 }
 
 // `a` and `bbb` in a cell of width 5 with coloured points beside them are drawn as this.
@@ -190,16 +160,11 @@ fn assert_justified(
     alignment: AlignmentHorizontal,
     text: &str,
 ) -> Result<(), Fail> {
-    let sample = Sample {
-        texts: &[&["a\nbbb"]],
-        widths: &[5],
-        heights: &[2],
-        settings: &[
-            Setting::Horizontal(Entity::Global, alignment),
-            Setting::Justification(Entity::Global, '.', GREEN),
-        ],
-    };
-    assert_drawn(rt, alloc, &sample, text)
+    let settings = [
+        Setting::Horizontal(Entity::Global, alignment),
+        Setting::Justification(Entity::Global, '.', GREEN),
+    ];
+    assert_cell(rt, alloc, ("a\nbbb", 5, 2), (&settings, text))
 }
 
 #[test]

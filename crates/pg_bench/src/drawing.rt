@@ -247,3 +247,19 @@ pub(crate) fn assert_drawn(
     }
     Ok(())
 }
+
+/// Of one text in a cell of this width and height each grid gives this text, and appends it.
+pub(crate) fn assert_cell(
+    rt: &impl Abort,
+    alloc: Global,
+    (cell, width, height): (&str, usize, usize),
+    (settings, text): (&[Setting], &str),
+) -> Result<(), Fail> {
+    let sample = Sample {
+        texts: &[&[cell]],
+        widths: &[width],
+        heights: &[height],
+        settings,
+    };
+    assert_drawn(rt, alloc, &sample, text)
+}

@@ -1,6 +1,6 @@
 //! Tables with something round them.
 
-use crate::drawing::{Grid, Sample, assert_drawn, assert_drawn_by};
+use crate::drawing::{Grid, Sample, assert_cell, assert_drawn, assert_drawn_by};
 use crate::settings::{Paint, Setting};
 use pg_layout::{Indent, Offset, Position, Sides};
 use std::alloc::Global;
@@ -67,27 +67,12 @@ fn a_margin_ends_above_the_last_line(rt: HostRuntime) -> Result<(), Fail> {
     assert_left_margin(&rt, rt.alloc(), (Grid::Unhinted, offset), whole)
 }
 
-// A cell of width 2 and height 0 between these margins.
-fn assert_between(
-    rt: &impl Abort,
-    alloc: Global,
-    settings: &[Setting],
-    text: &str,
-) -> Result<(), Fail> {
-    let sample = Sample {
-        texts: &[&["a"]],
-        widths: &[2],
-        heights: &[0],
-        settings,
-    };
-    assert_drawn(rt, alloc, &sample, text)
-}
-
 #[test]
 fn margins_stand_round_no_lines(rt: HostRuntime) -> Result<(), Fail> {
-    assert_between(&rt, rt.alloc(), &[], "")?;
+    let cell = ("a", 2, 0);
+    assert_cell(&rt, rt.alloc(), cell, (&[], ""))?;
     let margin = [Setting::Margin(above_and_below('^', 'v'))];
-    assert_between(&rt, rt.alloc(), &margin, "^^\nvv")
+    assert_cell(&rt, rt.alloc(), cell, (&margin, "^^\nvv"))
 }
 
 #[test]
@@ -95,17 +80,13 @@ fn offsets_leave_columns_of_margins_blank(rt: HostRuntime) -> Result<(), Fail> {
     let mut offsets = WHOLE;
     offsets.top = Offset::Start(1);
     offsets.bottom = Offset::End(5);
-    let sample = Sample {
-        texts: &[&["ab"]],
-        widths: &[2],
-        heights: &[1],
-        settings: &[
-            Setting::Margin(above_and_below('^', 'v')),
-            Setting::MarginOffset(offsets),
-            Setting::TopMarginColor(Paint("<c>", "</c>")),
-        ],
-    };
-    assert_drawn(&rt, rt.alloc(), &sample, " <c>^</c>\nab\n  ")
+    let settings = [
+        Setting::Margin(above_and_below('^', 'v')),
+        Setting::MarginOffset(offsets),
+        Setting::TopMarginColor(Paint("<c>", "</c>")),
+    ];
+    let drawn = " <c>^</c>\nab\n  ";
+    assert_cell(&rt, rt.alloc(), ("ab", 2, 1), (&settings, drawn))
 }
 
 #[test]

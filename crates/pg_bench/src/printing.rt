@@ -39,6 +39,17 @@ struct Note {
     bytes: usize,
 }
 
+/// What a printer tells before its first row.
+const BEFORE: Note = Note {
+    rows: 0,
+    lines: 0,
+    is_ended: false,
+    len: 0,
+    begun: [None, None],
+    drawn: None,
+    bytes: 0,
+};
+
 // What the printer tells, where the text is so long.
 fn note_of<T, D, C, B, A>(printer: &RowPrinter<'_, T, D, C, B, A>, bytes: usize) -> Note
 where
@@ -190,11 +201,11 @@ fn each_row_is_printed_before_its_call_returns(rt: HostRuntime) -> Result<(), Fa
     let first = Note {
         rows: 1,
         lines: 2,
-        is_ended: false,
         len: 1,
         begun: [Some(0), None],
         drawn: Some(1),
         bytes: 11,
+        ..BEFORE
     };
     let second = Note {
         rows: 2,
@@ -207,10 +218,8 @@ fn each_row_is_printed_before_its_call_returns(rt: HostRuntime) -> Result<(), Fa
         rows: 3,
         lines: 5,
         is_ended: true,
-        len: 0,
-        begun: [None, None],
-        drawn: None,
         bytes: 29,
+        ..BEFORE
     };
     let text = "\
 +-+-+
@@ -232,21 +241,17 @@ fn a_cell_is_open_before_its_first_line(rt: HostRuntime) -> Result<(), Fail> {
     };
     let first = Note {
         rows: 1,
-        lines: 0,
-        is_ended: false,
         len: 1,
         begun: [Some(0), None],
         drawn: Some(0),
-        bytes: 0,
+        ..BEFORE
     };
     let last = Note {
         rows: 2,
         lines: 1,
         is_ended: true,
-        len: 0,
-        begun: [None, None],
-        drawn: None,
         bytes: 2,
+        ..BEFORE
     };
     assert_printed(&rt, rt.alloc(), &sample, "xb", &[first, last])
 }
@@ -296,17 +301,6 @@ fn print_narrow_row<W: Allocator>(
     drop(config);
     left
 }
-
-/// What a printer tells before its first row.
-const BEFORE: Note = Note {
-    rows: 0,
-    lines: 0,
-    is_ended: false,
-    len: 0,
-    begun: [None, None],
-    drawn: None,
-    bytes: 0,
-};
 
 #[test]
 fn a_row_of_one_line_is_printed_cell_by_cell(rt: HostRuntime) -> Result<(), Fail> {

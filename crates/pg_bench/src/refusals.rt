@@ -32,29 +32,21 @@ fn is_refused(
     Ok(memory.has_refused())
 }
 
-// One request is refused, at each turn the next. The request of number 0 is that for `log:` itself.
-fn assert_one_refused(
+// One request is refused, or all from one on, and at each turn it is the next one. The request of
+// number 0 is that for `log:` itself.
+fn assert_each_refused(
     rt: &impl Abort,
     alloc: Global,
+    is_one: bool,
     drawn: (Grid, &Sample<'_>, &str),
 ) -> Result<(), Fail> {
     for k in 1..MANY {
-        if !is_refused(rt, alloc, &Refusing::only(alloc, k), drawn)? {
-            assert!(rt; k > 1);
-            return Ok(());
-        }
-    }
-    Err(Fail::new("more requests than were tried"))
-}
-
-// All requests from one on are refused, at each turn from the next.
-fn assert_later_refused(
-    rt: &impl Abort,
-    alloc: Global,
-    drawn: (Grid, &Sample<'_>, &str),
-) -> Result<(), Fail> {
-    for k in 1..MANY {
-        if !is_refused(rt, alloc, &Refusing::from_on(alloc, k), drawn)? {
+        let memory = if is_one {
+            Refusing::only(alloc, k)
+        } else {
+            Refusing::from_on(alloc, k)
+        };
+        if !is_refused(rt, alloc, &memory, drawn)? {
             assert!(rt; k > 1);
             return Ok(());
         }
@@ -70,8 +62,9 @@ fn assert_beginnings(
     text: &str,
 ) -> Result<(), Fail> {
     for grid in [Grid::Peekable, Grid::Hinted, Grid::Unhinted] {
-        assert_one_refused(rt, alloc, (grid, sample, text))?;
-        assert_later_refused(rt, alloc, (grid, sample, text))?;
+        for is_one in [true, false] {
+            assert_each_refused(rt, alloc, is_one, (grid, sample, text))?;
+        }
     }
     Ok(())
 }

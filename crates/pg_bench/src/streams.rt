@@ -4,7 +4,7 @@ use crate::settings::{Setting, tell_all};
 use pg_config::SpannedConfig;
 use pg_layout::{EvenDimension, NoColors, Position};
 use pg_picture::fits::Misfit;
-use pg_stream::{RowFault, RowPrinter, RowStream, StreamFault, printer_fits};
+use pg_stream::{RowFault, RowPrinter, RowStream, RowsFault, StreamFault, printer_fits};
 use pg_testing::refusing::Refusing;
 use std::alloc::{AllocError, Allocator, Global};
 use std::process::Abort;
@@ -210,6 +210,74 @@ fn a_row_of_another_length_is_named(rt: HostRuntime) -> Result<(), Fail> {
         ..few
     };
     assert_streamed(&rt, rt.alloc(), many, (Err(StreamFault::Row(1)), "log:ab"))
+}
+
+/// A row, or the number of an error that came in its place.
+type Item = Result<Vec<&'static str>, u8>;
+
+// Prints rows that may be errors, and answers how that ended.
+fn print_items(
+    alloc: Global,
+    items: Vec<Item>,
+    config: &SpannedConfig,
+    buf: &mut String,
+) -> Result<Result<(), RowsFault<u8>>, Fail> {
+    let dimension = narrow(alloc)?;
+    Ok(
+        match RowStream::new(alloc, config, &dimension, &NoColors, COLUMNS, None) {
+            Ok(stream) => stream.print_results(items.into_iter(), buf),
+            Err(fault) => Err(fault.into()),
+        },
+    )
+}
+
+// Four rows, the last one of these cells, and an error in the place of the third where one is told.
+fn items_of(
+    alloc: Global,
+    error: Option<u8>,
+    last: [&'static str; 2],
+) -> Result<Vec<Item>, AllocError> {
+    let third = match error {
+        Some(number) => Err(number),
+        None => Ok(vec![in alloc; "c", "d"]?),
+    };
+    let [left, right] = last;
+    Ok(vec![in alloc;
+        Ok(vec![in alloc; "a", "b"]?),
+        Ok(vec![in alloc; "x", "y"]?),
+        third,
+        Ok(vec![in alloc; left, right]?),
+    ]?)
+}
+
+// The row above the error isn't known to be the last one, so it isn't printed.
+#[test]
+fn rows_that_may_be_errors_stop_at_the_first_one(rt: HostRuntime) -> Result<(), Fail> {
+    let alloc = rt.alloc();
+    let config = SpannedConfig::new(alloc);
+    let mut buf = String::from_str(alloc, "log:")?;
+    let stopped = print_items(
+        alloc,
+        items_of(alloc, Some(7), ["e", "f"])?,
+        &config,
+        &mut buf,
+    )?;
+    assert!(rt; matches!(stopped, Err(RowsFault::Source(7))));
+    assert_eq!(rt; buf.as_str(), "log:ab");
+    buf.clear();
+    let ended = print_items(alloc, items_of(alloc, None, ["e", "f"])?, &config, &mut buf)?;
+    assert!(rt; ended.is_ok());
+    assert_eq!(rt; buf.as_str(), "ab\nxy\ncd\nef");
+    buf.clear();
+    let named = print_items(
+        alloc,
+        items_of(alloc, None, ["ee", "f"])?,
+        &config,
+        &mut buf,
+    )?;
+    assert!(rt; matches!(named, Err(RowsFault::Stream(StreamFault::Row(3)))));
+    assert_eq!(rt; buf.as_str(), "ab\nxy\ncd");
+    Ok(())
 }
 
 #[test]

@@ -1,27 +1,11 @@
 //! Texts of several lines, trimmed and aligned.
 
-use crate::drawing::{Sample, assert_drawn};
+use crate::drawing::assert_cell;
 use crate::settings::Setting;
 use pg_layout::{AlignmentHorizontal, AlignmentVertical, Entity, Indent, Sides};
 use std::alloc::Global;
 use std::process::Abort;
 use std::test::Fail;
-
-// A text in a cell of this width and height is drawn as this.
-fn assert_cell(
-    rt: &impl Abort,
-    alloc: Global,
-    (cell, width, height): (&str, usize, usize),
-    (settings, text): (&[Setting], &str),
-) -> Result<(), Fail> {
-    let sample = Sample {
-        texts: &[&[cell]],
-        widths: &[width],
-        heights: &[height],
-        settings,
-    };
-    assert_drawn(rt, alloc, &sample, text)
-}
 
 // Paddings of no lines whose fills are `t` and `b`.
 fn fills_above_and_below() -> Setting {

@@ -27,30 +27,35 @@ fn run_with(alloc: Global, words: &[&str], script: &str) -> Result<Run, AllocErr
     let words = arguments(alloc, words)?;
     let mut out = Vec::new(alloc);
     let mut err = Vec::new(alloc);
-    let ending = run(alloc, &words, &mut script.as_bytes(), &mut out, &mut err);
-    Ok(Run {
-        status: ending.status(),
-        out,
-        err,
-    })
+    let status = run(alloc, &words, &mut script.as_bytes(), &mut out, &mut err);
+    Ok(Run { status, out, err })
 }
 
-/// With these arguments the script's table is this text and a line feed.
+/// A script whose total width is no number of 64 bits, with the line and the status of its refusal.
+pub(crate) const TOO_WIDE: (&str, &str, u8) = (
+    "size 1 2\nwidths 18446744073709551615 1\n",
+    "does not fit: totals\n",
+    3,
+);
+
+/// With each of these words alone the script's table is this text, the line feed at its end among it.
 pub(crate) fn assert_shown(
     rt: &impl Abort,
     alloc: Global,
-    words: &[&str],
+    modes: &[&str],
     (script, text): (&str, &str),
 ) -> Result<(), Fail> {
-    let run = run_with(alloc, words, script)?;
-    assert_eq!(rt; run.status, 0);
-    assert_eq!(rt; run.out.as_slice(), text.as_bytes());
-    assert_eq!(rt; run.err.len(), 0);
+    for mode in modes {
+        let run = run_with(alloc, &[*mode], script)?;
+        assert_eq!(rt; run.status, 0);
+        assert_eq!(rt; run.out.as_slice(), text.as_bytes());
+        assert_eq!(rt; run.err.len(), 0);
+    }
     Ok(())
 }
 
 /// With these arguments the script is refused with this line and this status.
-pub(crate) fn assert_refused(
+pub(crate) fn assert_refused_with(
     rt: &impl Abort,
     alloc: Global,
     words: &[&str],
@@ -60,5 +65,18 @@ pub(crate) fn assert_refused(
     assert_eq!(rt; run.status, status);
     assert_eq!(rt; run.out.len(), 0);
     assert_eq!(rt; run.err.as_slice(), line.as_bytes());
+    Ok(())
+}
+
+/// With each of these words alone the script is refused with this line and this status.
+pub(crate) fn assert_refused(
+    rt: &impl Abort,
+    alloc: Global,
+    modes: &[&str],
+    refused: (&str, &str, u8),
+) -> Result<(), Fail> {
+    for mode in modes {
+        assert_refused_with(rt, alloc, &[*mode], refused)?;
+    }
     Ok(())
 }

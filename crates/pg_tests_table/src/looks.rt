@@ -27,21 +27,22 @@ fn assert_look(
     assert_drawn(rt, alloc, TEXTS, config, expected)
 }
 
-// The texts within these borders, with this line below their header, have this picture. The line may be
-// told before or after the borders.
+// The texts within these borders have the first picture, and with this line below their header the
+// second one. The line may be told before or after the borders.
 fn assert_headed(
     rt: &impl Abort,
     alloc: Global,
     (borders, line): (Borders<char>, HorizontalLine<char>),
-    text: &str,
+    (text, headed_text): (&str, &str),
 ) -> Result<(), Fail> {
+    assert_look(rt, alloc, borders, text)?;
     let headed = table(alloc, TEXTS)?
         .with_borders(borders)
         .with_header_line(line)?;
-    assert_text(rt, alloc, &headed, text)?;
+    assert_text(rt, alloc, &headed, headed_text)?;
     let mut table = table(alloc, TEXTS)?;
     table.set_header_line(line)?;
-    assert_text(rt, alloc, &table.with_borders(borders), text)
+    assert_text(rt, alloc, &table.with_borders(borders), headed_text)
 }
 
 #[test]
@@ -111,14 +112,12 @@ fn empty_has_no_lines(rt: HostRuntime) -> Result<(), Fail> {
 
 #[test]
 fn sharp_has_one_line_between_rows(rt: HostRuntime) -> Result<(), Fail> {
-    let alloc = rt.alloc();
     let text = "\
 ┌───┬──┐
 │a  │bc│
 │def│g │
 │h  │  │
 └───┴──┘";
-    assert_look(&rt, alloc, Borders::sharp(), text)?;
     let headed = "\
 ┌───┬──┐
 │a  │bc│
@@ -126,24 +125,18 @@ fn sharp_has_one_line_between_rows(rt: HostRuntime) -> Result<(), Fail> {
 │def│g │
 │h  │  │
 └───┴──┘";
-    assert_headed(
-        &rt,
-        alloc,
-        (Borders::sharp(), HorizontalLine::sharp()),
-        headed,
-    )
+    let look = (Borders::sharp(), HorizontalLine::sharp());
+    assert_headed(&rt, rt.alloc(), look, (text, headed))
 }
 
 #[test]
 fn rounded_has_one_line_between_rows(rt: HostRuntime) -> Result<(), Fail> {
-    let alloc = rt.alloc();
     let text = "\
 ╭───┬──╮
 │a  │bc│
 │def│g │
 │h  │  │
 ╰───┴──╯";
-    assert_look(&rt, alloc, Borders::rounded(), text)?;
     let headed = "\
 ╭───┬──╮
 │a  │bc│
@@ -151,42 +144,26 @@ fn rounded_has_one_line_between_rows(rt: HostRuntime) -> Result<(), Fail> {
 │def│g │
 │h  │  │
 ╰───┴──╯";
-    assert_headed(
-        &rt,
-        alloc,
-        (Borders::rounded(), HorizontalLine::sharp()),
-        headed,
-    )
+    let look = (Borders::rounded(), HorizontalLine::sharp());
+    assert_headed(&rt, rt.alloc(), look, (text, headed))
 }
 
 #[test]
 fn psql_has_no_sides(rt: HostRuntime) -> Result<(), Fail> {
-    let alloc = rt.alloc();
     let text = "a  |bc\ndef|g \nh  |  ";
-    assert_look(&rt, alloc, Borders::psql(), text)?;
     let headed = "a  |bc\n---+--\ndef|g \nh  |  ";
-    assert_headed(
-        &rt,
-        alloc,
-        (Borders::psql(), HorizontalLine::psql()),
-        headed,
-    )
+    let look = (Borders::psql(), HorizontalLine::psql());
+    assert_headed(&rt, rt.alloc(), look, (text, headed))
 }
 
 #[test]
 fn markdown_has_bars(rt: HostRuntime) -> Result<(), Fail> {
-    let alloc = rt.alloc();
     let text = "|a  |bc|\n|def|g |\n|h  |  |";
-    assert_look(&rt, alloc, Borders::markdown(), text)?;
     let headed = "\
 |a  |bc|
 |---|--|
 |def|g |
 |h  |  |";
-    assert_headed(
-        &rt,
-        alloc,
-        (Borders::markdown(), HorizontalLine::markdown()),
-        headed,
-    )
+    let look = (Borders::markdown(), HorizontalLine::markdown());
+    assert_headed(&rt, rt.alloc(), look, (text, headed))
 }

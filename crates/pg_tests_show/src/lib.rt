@@ -4,6 +4,8 @@
 #[cfg(test)]
 mod compact_scripts;
 #[cfg(test)]
+mod endings;
+#[cfg(test)]
 mod running;
 #[cfg(test)]
 mod scripts;

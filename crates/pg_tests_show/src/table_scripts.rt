@@ -1,26 +1,14 @@
 //! Scripts, and what the program answers to them with the word `table`.
 
-use crate::running::{self, arguments};
+use crate::running::{arguments, assert_refused, assert_shown};
 use pg_show::run;
 use pg_testing::refusing::Refusing;
 use std::alloc::Global;
 use std::process::Abort;
 use std::test::Fail;
 
-// The script's table is this text and a line feed.
-fn assert_shown(rt: &impl Abort, alloc: Global, script: &str, text: &str) -> Result<(), Fail> {
-    running::assert_shown(rt, alloc, &["table"], (script, text))
-}
-
-// The script is refused with this line and this status.
-fn assert_refused(
-    rt: &impl Abort,
-    alloc: Global,
-    script: &str,
-    (line, status): (&str, u8),
-) -> Result<(), Fail> {
-    running::assert_refused(rt, alloc, &["table"], (script, line, status))
-}
+/// What the program is told.
+const MODES: &[&str] = &["table"];
 
 const FOUR_TEXTS: &str = "\
 size 2 2
@@ -41,7 +29,7 @@ const FOUR_TEXTS_SHOWN: &str = "\
 
 #[test]
 fn sizes_are_those_of_the_texts(rt: HostRuntime) -> Result<(), Fail> {
-    assert_shown(&rt, rt.alloc(), FOUR_TEXTS, FOUR_TEXTS_SHOWN)
+    assert_shown(&rt, rt.alloc(), MODES, (FOUR_TEXTS, FOUR_TEXTS_SHOWN))
 }
 
 #[test]
@@ -63,7 +51,7 @@ halign col 1 left
 |    | e    |
 +----+------+
 ";
-    assert_shown(&rt, rt.alloc(), script, text)
+    assert_shown(&rt, rt.alloc(), MODES, (script, text))
 }
 
 #[test]
@@ -81,7 +69,7 @@ halign all right
 |ddd|
 +---+
 ";
-    assert_shown(&rt, rt.alloc(), script, text)
+    assert_shown(&rt, rt.alloc(), MODES, (script, text))
 }
 
 #[test]
@@ -96,7 +84,7 @@ span 0 0 5 5
 |ab|
 +--+
 ";
-    assert_shown(&rt, rt.alloc(), script, text)
+    assert_shown(&rt, rt.alloc(), MODES, (script, text))
 }
 
 #[test]
@@ -119,33 +107,28 @@ color 0 0 31
 | |
 +-+
 ";
-    assert_shown(&rt, rt.alloc(), script, text)
+    assert_shown(&rt, rt.alloc(), MODES, (script, text))
 }
 
 #[test]
 fn no_rows_or_columns_are_a_line_feed(rt: HostRuntime) -> Result<(), Fail> {
-    assert_shown(&rt, rt.alloc(), "size 0 3", "\n")?;
-    assert_shown(&rt, rt.alloc(), "size 2 0", "\n")?;
-    assert_shown(&rt, rt.alloc(), "size 0 0", "\n")
+    for script in ["size 0 3", "size 2 0", "size 0 0"] {
+        assert_shown(&rt, rt.alloc(), MODES, (script, "\n"))?;
+    }
+    Ok(())
 }
 
 #[test]
 fn totals_past_64_bits_are_refused(rt: HostRuntime) -> Result<(), Fail> {
-    let script = "\
-size 1 1
-cell 0 0 a
-pad all 18446744073709551615 0 0 0
-";
-    assert_refused(&rt, rt.alloc(), script, ("does not fit: totals\n", 3))
+    let script = "size 1 1\ncell 0 0 a\npad all 18446744073709551615 0 0 0\n";
+    let refused = (script, "does not fit: totals\n", 3);
+    assert_refused(&rt, rt.alloc(), MODES, refused)
 }
 
 #[test]
 fn lines_that_are_not_used_are_judged(rt: HostRuntime) -> Result<(), Fail> {
-    let script = "\
-size 1 1
-widths 1 1
-";
-    assert_refused(&rt, rt.alloc(), script, ("line 2: bad\n", 2))
+    let refused = ("size 1 1\nwidths 1 1\n", "line 2: bad\n", 2);
+    assert_refused(&rt, rt.alloc(), MODES, refused)
 }
 
 // Whichever request for memory is refused: a status and a line of its own, and no table.
@@ -157,7 +140,7 @@ fn each_refused_request_ends_the_run(rt: HostRuntime) -> Result<(), Fail> {
         let memory = Refusing::only(alloc, k);
         let (mut out, mut err) = (Vec::new(alloc), Vec::new(alloc));
         let mut input = FOUR_TEXTS.as_bytes();
-        let status = run(&memory, &words, &mut input, &mut out, &mut err).status();
+        let status = run(&memory, &words, &mut input, &mut out, &mut err);
         if !memory.has_refused() {
             assert!(&rt; k > 1);
             assert_eq!(&rt; status, 0);

@@ -4,10 +4,8 @@ use crate::drawing::{Drawn, assert_drawn, bordered};
 use pg_config::SpannedConfig;
 use pg_layout::{AlignmentHorizontal, AlignmentVertical, Entity, Indent, Sides};
 use std::alloc::{AllocError, Global};
+use std::process::Abort;
 use std::test::Fail;
-
-// A text between blank lines, of which the first one is the widest line.
-const BETWEEN_BLANKS: &[&[&str]] = &[&["      \n  a\n\n bb\n "]];
 
 #[test]
 fn an_empty_text_has_one_line(rt: HostRuntime) -> Result<(), Fail> {
@@ -70,71 +68,65 @@ fn trimming(alloc: Global, horizontal: bool, vertical: bool) -> Result<SpannedCo
     Ok(config)
 }
 
+// A text between blank lines, of which the first one is the widest line, is trimmed from left to right,
+// and from top to bottom, or not: then it is so wide and so high, and drawn as this.
+fn assert_trimmed(
+    rt: &impl Abort,
+    alloc: Global,
+    (horizontal, vertical): (bool, bool),
+    (width, height, text): (usize, usize, &str),
+) -> Result<(), Fail> {
+    let texts: &[&[&str]] = &[&["      \n  a\n\n bb\n "]];
+    let expected = Drawn {
+        widths: &[width],
+        heights: &[height],
+        text,
+    };
+    let config = trimming(alloc, horizontal, vertical)?;
+    assert_drawn(rt, alloc, texts, config, expected)
+}
+
 #[test]
 fn untrimmed_texts_keep_their_blanks(rt: HostRuntime) -> Result<(), Fail> {
-    let alloc = rt.alloc();
-    let expected = Drawn {
-        widths: &[6],
-        heights: &[5],
-        text: "\
+    let text = "\
 +------+
 |      |
 |  a   |
 |      |
 | bb   |
 |      |
-+------+",
-    };
-    let config = trimming(alloc, false, false)?;
-    assert_drawn(&rt, alloc, BETWEEN_BLANKS, config, expected)
++------+";
+    assert_trimmed(&rt, rt.alloc(), (false, false), (6, 5, text))
 }
 
 #[test]
 fn vertical_trim_makes_a_row_lower_and_no_column_narrower(rt: HostRuntime) -> Result<(), Fail> {
-    let alloc = rt.alloc();
-    let expected = Drawn {
-        widths: &[6],
-        heights: &[3],
-        text: "\
+    let text = "\
 +------+
 |  a   |
 |      |
 | bb   |
-+------+",
-    };
-    let config = trimming(alloc, false, true)?;
-    assert_drawn(&rt, alloc, BETWEEN_BLANKS, config, expected)
++------+";
+    assert_trimmed(&rt, rt.alloc(), (false, true), (6, 3, text))
 }
 
 #[test]
 fn horizontal_trim_makes_a_column_narrower(rt: HostRuntime) -> Result<(), Fail> {
-    let alloc = rt.alloc();
-    let expected = Drawn {
-        widths: &[2],
-        heights: &[5],
-        text: "\
+    let text = "\
 +--+
 |  |
 |a |
 |  |
 |bb|
 |  |
-+--+",
-    };
-    let config = trimming(alloc, true, false)?;
-    assert_drawn(&rt, alloc, BETWEEN_BLANKS, config, expected)
++--+";
+    assert_trimmed(&rt, rt.alloc(), (true, false), (2, 5, text))
 }
 
 #[test]
 fn both_trims_leave_the_words(rt: HostRuntime) -> Result<(), Fail> {
-    let alloc = rt.alloc();
-    let expected = Drawn {
-        widths: &[2],
-        heights: &[3],
-        text: "+--+\n|a |\n|  |\n|bb|\n+--+",
-    };
-    let config = trimming(alloc, true, true)?;
-    assert_drawn(&rt, alloc, BETWEEN_BLANKS, config, expected)
+    let text = "+--+\n|a |\n|  |\n|bb|\n+--+";
+    assert_trimmed(&rt, rt.alloc(), (true, true), (2, 3, text))
 }
 
 #[test]

@@ -56,13 +56,9 @@ fn is_refused(
     };
     assert!(rt; picture.starts_with(gained));
     assert_eq!(rt; printed.is_ok(), gained == picture);
-    let awaited = if memory.has_refused() {
-        Err(PrintFault::Memory)
-    } else {
-        Ok(())
-    };
-    assert_eq!(rt; printed, awaited);
-    Ok(memory.has_refused())
+    let is_refused = memory.has_refused();
+    assert_eq!(rt; printed.err(), is_refused.then_some(PrintFault::Memory));
+    Ok(is_refused)
 }
 
 #[test]

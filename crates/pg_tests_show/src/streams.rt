@@ -1,10 +1,11 @@
-//! Runs of the program whose reads or writes fail.
+//! Runs of the program whose reads or writes fail, or are many.
 
 use crate::running::arguments;
 use pg_show::run;
 use pg_testing::ledger::Rule;
-use pg_testing::streams::{FailingReader, FailingWriter};
+use pg_testing::streams::{EndlessReader, FailingReader, FailingWriter};
 use std::alloc::Global;
+use std::io::Read;
 use std::process::Abort;
 use std::test::Fail;
 
@@ -24,7 +25,7 @@ fn run_failing(
     let mut input = FailingReader::new(SCRIPT.as_bytes(), reads);
     let mut out = FailingWriter::new(&mut kept, writes);
     let mut err = FailingWriter::new(&mut told, tellings);
-    let status = run(alloc, &words, &mut input, &mut out, &mut err).status();
+    let status = run(alloc, &words, &mut input, &mut out, &mut err);
     Ok((status, kept, told))
 }
 
@@ -72,5 +73,19 @@ fn no_failure_gives_the_table(rt: HostRuntime) -> Result<(), Fail> {
     assert_eq!(&rt; status, 0);
     assert_eq!(&rt; kept.as_slice(), TEXT.as_bytes());
     assert_eq!(&rt; told.len(), 0);
+    Ok(())
+}
+
+// A script of many short reads is read to its end. Without words it is bad behind its last line.
+#[test]
+fn short_reads_are_read_to_the_end(rt: HostRuntime) -> Result<(), Fail> {
+    let alloc = rt.alloc();
+    let words = arguments(alloc, &["peek"])?;
+    let (mut out, mut err) = (Vec::new(alloc), Vec::new(alloc));
+    let mut input = EndlessReader.take(10_000);
+    let status = run(alloc, &words, &mut input, &mut out, &mut err);
+    assert_eq!(&rt; status, 2);
+    assert_eq!(&rt; out.len(), 0);
+    assert_eq!(&rt; err.as_slice(), "line 10001: bad\n".as_bytes());
     Ok(())
 }

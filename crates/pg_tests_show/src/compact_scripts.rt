@@ -1,24 +1,10 @@
 //! Scripts, and what the program answers to them with the word `compact`, and to wrong arguments.
 
-use crate::running;
-use std::alloc::Global;
-use std::process::Abort;
+use crate::running::{TOO_WIDE, assert_refused, assert_refused_with, assert_shown};
 use std::test::Fail;
 
-// The script's table is this text and a line feed.
-fn assert_shown(rt: &impl Abort, alloc: Global, script: &str, text: &str) -> Result<(), Fail> {
-    running::assert_shown(rt, alloc, &["compact"], (script, text))
-}
-
-// The script is refused with this line and this status.
-fn assert_refused(
-    rt: &impl Abort,
-    alloc: Global,
-    script: &str,
-    (line, status): (&str, u8),
-) -> Result<(), Fail> {
-    running::assert_refused(rt, alloc, &["compact"], (script, line, status))
-}
+/// What the program is told.
+const MODES: &[&str] = &["compact"];
 
 #[test]
 fn what_compact_tables_lack_is_not_used(rt: HostRuntime) -> Result<(), Fail> {
@@ -44,7 +30,7 @@ lines all on
 |1-0|1-1|
 +---+---+
 ";
-    assert_shown(&rt, rt.alloc(), script, text)
+    assert_shown(&rt, rt.alloc(), MODES, (script, text))
 }
 
 #[test]
@@ -63,7 +49,7 @@ pad cell 0 1 2 2 0 0
 pad row 0 0 0 1 1
 ";
     let text = "   a    b \n";
-    assert_shown(&rt, rt.alloc(), script, text)
+    assert_shown(&rt, rt.alloc(), MODES, (script, text))
 }
 
 #[test]
@@ -76,7 +62,7 @@ cell 0 1 b
 color 0 1 31
 ";
     let text = "a \x1b[31mb\x1b[0m \n";
-    assert_shown(&rt, rt.alloc(), script, text)
+    assert_shown(&rt, rt.alloc(), MODES, (script, text))
 }
 
 #[test]
@@ -88,7 +74,7 @@ cell 0 0 a
 margin 1 2 1 0 #
 ";
     let text = "####\n#a##\n";
-    assert_shown(&rt, rt.alloc(), script, text)
+    assert_shown(&rt, rt.alloc(), MODES, (script, text))
 }
 
 #[test]
@@ -98,7 +84,7 @@ size 1 1
 widths 1
 cell 0 0 abc\\ndef
 ";
-    assert_shown(&rt, rt.alloc(), script, "abc\n")
+    assert_shown(&rt, rt.alloc(), MODES, (script, "abc\n"))
 }
 
 #[test]
@@ -108,42 +94,32 @@ size 0 2
 widths 18446744073709551615 1
 pad all 9 9 9 9
 ";
-    assert_shown(&rt, rt.alloc(), script, "\n")
+    assert_shown(&rt, rt.alloc(), MODES, (script, "\n"))
 }
 
 #[test]
 fn totals_past_64_bits_are_refused(rt: HostRuntime) -> Result<(), Fail> {
-    let script = "\
-size 1 2
-widths 18446744073709551615 1
-";
-    assert_refused(&rt, rt.alloc(), script, ("does not fit: totals\n", 3))
+    assert_refused(&rt, rt.alloc(), MODES, TOO_WIDE)
 }
 
 #[test]
 fn a_column_narrower_than_its_paddings_is_refused(rt: HostRuntime) -> Result<(), Fail> {
-    let script = "\
-size 2 2
-widths 3 1
-pad all 1 1 0 0
-";
-    assert_refused(&rt, rt.alloc(), script, ("does not fit: room 0 1\n", 3))
+    let script = "size 2 2\nwidths 3 1\npad all 1 1 0 0\n";
+    let refused = (script, "does not fit: room 0 1\n", 3);
+    assert_refused(&rt, rt.alloc(), MODES, refused)
 }
 
 #[test]
 fn lines_that_are_not_used_are_judged(rt: HostRuntime) -> Result<(), Fail> {
-    let script = "\
-size 1 1
-heights 1 1
-";
-    assert_refused(&rt, rt.alloc(), script, ("line 2: bad\n", 2))
+    let refused = ("size 1 1\nheights 1 1\n", "line 2: bad\n", 2);
+    assert_refused(&rt, rt.alloc(), MODES, refused)
 }
 
 #[test]
 fn anything_but_one_mode_is_wrong(rt: HostRuntime) -> Result<(), Fail> {
     let refused = ("size 1", "usage: pgshow compact|iter|peek|table\n", 2);
-    running::assert_refused(&rt, rt.alloc(), &[], refused)?;
-    running::assert_refused(&rt, rt.alloc(), &["compact", "compact"], refused)?;
-    running::assert_refused(&rt, rt.alloc(), &["Compact"], refused)?;
-    running::assert_refused(&rt, rt.alloc(), &[""], refused)
+    assert_refused_with(&rt, rt.alloc(), &[], refused)?;
+    assert_refused_with(&rt, rt.alloc(), &["compact", "compact"], refused)?;
+    assert_refused_with(&rt, rt.alloc(), &["Compact"], refused)?;
+    assert_refused_with(&rt, rt.alloc(), &[""], refused)
 }
