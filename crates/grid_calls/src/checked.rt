@@ -15,10 +15,11 @@ pub(crate) fn push_looked_up(
     PeekableGrid::new(records, config, dimension, &NoColors).print(buf)
 }
 
-/// Appends the table, as the streaming grid prints it.
+/// Appends the table, as the streaming grid prints it, and lets each cell go when it is drawn: the
+/// records are handed over.
 pub(crate) fn push_streamed(
     alloc: Global,
-    records: &VecRecords<String>,
+    records: VecRecords<String>,
     config: &SpannedConfig,
     dimension: &ConstantDimension,
     buf: &mut String,

@@ -29,7 +29,7 @@ fn main(rt: HostRuntime) -> Result<(), Fault> {
     let mut text = String::new(alloc);
     checked::push_looked_up(&records, &config, &wide, &mut text)?;
     text.push('\n')?;
-    checked::push_streamed(alloc, &records, &config, &wide, &mut text)?;
+    checked::push_streamed(alloc, parts::records(alloc)?, &config, &wide, &mut text)?;
     println!(rt; "{text}")?;
     println!(rt;
         "{}",

@@ -16,6 +16,11 @@ pub(crate) enum Grid {
     IterMade,
     /// The compact grid, from texts in memory.
     Compact,
+    /// The looked-up grid by its checked call, which tests the table in each build, from texts in
+    /// memory.
+    Checked,
+    /// A stream of rows, each of which is made when it is pushed.
+    Rows,
     /// The looked-up grid at the table's natural sizes, which are worked out in each build, from
     /// texts in memory.
     Natural,
@@ -187,12 +192,15 @@ pub(crate) const CASES: [Case; 19] = [
     Case("table_basic", Grid::Natural, BASIC),
 ];
 
-/// Tables of other sizes, some of which take long.
-pub(crate) const OTHER_SIZES: [Case; 4] = [
+/// Tables that are printed by other calls, and tables of other sizes, some of which take long.
+pub(crate) const OTHER_SIZES: [Case; 7] = [
     Case("iter_tall10", Grid::IterMade, TALL10),
     Case("iter_tall1000000", Grid::IterMade, TALL1000000),
     Case("peek_cells100", Grid::Peekable, CELLS100),
     Case("peek_cells1000", Grid::Peekable, CELLS1000),
+    Case("peek_checked", Grid::Checked, BASIC),
+    Case("rows_tall", Grid::Rows, TALL),
+    Case("rows_tall1000000", Grid::Rows, TALL1000000),
 ];
 
 impl Case {

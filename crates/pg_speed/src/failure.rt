@@ -2,8 +2,10 @@
 
 ghost use Rattle.std.specs.Prelude.{⊤};
 
+use pg_grid::PrintFault;
 use pg_layout::RecordsFault;
 use pg_picture::fits::Misfit;
+use pg_stream::StreamFault;
 use pg_table::TableFault;
 use std::alloc::AllocError;
 use std::process::ExitCode;
@@ -66,6 +68,28 @@ impl From<Misfit> for Failure {
 
     fn from(_misfit: Misfit) -> Failure {
         Failure::Table
+    }
+}
+
+impl From<PrintFault> for Failure {
+    ghost from_gives = { λ _ failure. ⊤ };
+
+    fn from(fault: PrintFault) -> Failure {
+        match fault {
+            PrintFault::Memory => Failure::Memory,
+            PrintFault::Misfit(_) => Failure::Table,
+        }
+    }
+}
+
+impl From<StreamFault> for Failure {
+    ghost from_gives = { λ _ failure. ⊤ };
+
+    fn from(fault: StreamFault) -> Failure {
+        match fault {
+            StreamFault::Memory => Failure::Memory,
+            _ => Failure::Table,
+        }
     }
 }
 

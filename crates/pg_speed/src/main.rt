@@ -16,6 +16,7 @@ mod dimension;
 mod failure;
 mod made_records;
 mod measure;
+mod rows;
 mod settings;
 mod streamed;
 mod texts;

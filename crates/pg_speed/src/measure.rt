@@ -2,12 +2,13 @@
 
 ghost use Rattle.std.specs.Prelude.{◌≡◌, None};
 ghost use Rattle.pg_picture.specs.Fits.{misfit_of};
-ghost use Rattle.pg_grid.specs.Grids.{peekable_table};
+ghost use Rattle.pg_grid.specs.Grids.{drawn};
 
 use crate::case::{Case, Grid, Look, Table};
 use crate::checksum::checksum;
 use crate::dimension::dimension;
 use crate::failure::Failure;
+use crate::rows::pushed;
 use crate::settings::{colors, compact_settings, set};
 use crate::streamed::{streamed, streamed_as_made};
 use crate::texts::records;
@@ -17,7 +18,7 @@ use pg_layout::{
     Colors, ConstantDimension, Dimension, ExactRecords, NoColors, PeekableRecords, Records,
     VecRecords,
 };
-use pg_picture::fits::{compact_fits, table_fits};
+use pg_picture::fits::compact_fits;
 use pg_table::NaturalTable;
 use std::alloc::{AllocError, Allocator};
 
@@ -70,11 +71,17 @@ fn text_by<A: Allocator + Copy>(
     if grid == Grid::IterMade {
         return streamed_as_made(alloc, table, config, times);
     }
+    if grid == Grid::Rows {
+        return pushed(alloc, table, config, times);
+    }
     let records = records(alloc, table)?;
     if grid == Grid::Natural {
         return natural(alloc, &records, config, times);
     }
     let dimension = dimension(alloc, table)?;
+    if grid == Grid::Checked {
+        return checked(alloc, &records, &dimension, config, times);
+    }
     if grid == Grid::Iter {
         return streamed(alloc, &records, &dimension, config, times);
     }
@@ -94,8 +101,8 @@ fn looked_up<A: Allocator + Copy, C: Colors>(
     colors: &C,
     times: usize,
 ) -> Result<String<A>, Failure> {
-    table_fits(&records, config, &dimension)?;
     let grid = PeekableGrid::new(records, config, dimension, colors);
+    grid.fits()?;
     Ok(rebuilt(alloc, &grid, times)?)
 }
 
@@ -110,12 +117,29 @@ where
     D: Dimension,
     C: Colors,
     A: Allocator + Copy,
-    requires { misfit_of (peekable_table R.Records.texts R.Records.columns D.width D.height C.color grid.now) ≡ None }
+    requires { misfit_of (drawn R.Records D.Dimension C.Colors grid.now) ≡ None }
 {
     let mut text = String::new(alloc);
     for _ in 0..times {
         text.clear();
         grid.build(&mut text)?;
+    }
+    Ok(text)
+}
+
+// The same by the call that tests the table each time.
+fn checked<A: Allocator + Copy>(
+    alloc: A,
+    records: &VecRecords<String<A>, A>,
+    dimension: &ConstantDimension<A>,
+    config: &SpannedConfig<A>,
+    times: usize,
+) -> Result<String<A>, Failure> {
+    let grid = PeekableGrid::new(records, config, dimension, NoColors);
+    let mut text = String::new(alloc);
+    for _ in 0..times {
+        text.clear();
+        grid.print(&mut text)?;
     }
     Ok(text)
 }

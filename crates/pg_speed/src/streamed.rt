@@ -8,7 +8,6 @@ use crate::texts::SAME;
 use pg_config::SpannedConfig;
 use pg_grid::IterGrid;
 use pg_layout::{Dimension, ExactRecords, NoColors, PeekableRecords};
-use pg_picture::fits::table_fits;
 use std::alloc::Allocator;
 
 /// The text of a table whose texts are made as the streaming grid asks for them, built so many times.
@@ -44,11 +43,12 @@ where
     A: Allocator + Copy,
     requires { R.is_readable records }
 {
-    table_fits(&records, config, dimension)?;
+    let grid = IterGrid::new(records, config, dimension, NoColors);
+    grid.fits()?;
     let mut text = String::new(alloc);
     for _ in 0..times {
         text.clear();
-        IterGrid::new(records, config, dimension, NoColors).build(alloc, &mut text)?;
+        grid.build(alloc, &mut text)?;
     }
     Ok(text)
 }

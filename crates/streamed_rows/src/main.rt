@@ -30,7 +30,7 @@ fn set_look(config: &mut SpannedConfig) -> Result<(), AllocError> {
 }
 
 /// Appends the rows of a vector: where it succeeds, the text of all of them is there.
-pub fn append_rows<D: Dimension, C: Colors>(
+fn append_rows<D: Dimension, C: Colors>(
     alloc: Global,
     config: &SpannedConfig,
     dimension: &D,

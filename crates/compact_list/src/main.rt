@@ -1,0 +1,43 @@
+//! The program `compact_list`: a line for each row, and one look for all cells.
+#![tactic(auto)]
+
+use pg_config::CompactConfig;
+use pg_grid::{CompactGrid, PrintFault};
+use pg_layout::{Borders, EvenDimension, Indent, NoColors, Sides, VecRecords};
+use std::alloc::{AllocError, Global};
+use std::io;
+
+fn main(rt: HostRuntime) -> io::Result<()> {
+    match list(rt.alloc()) {
+        Ok(text) => println!(rt; "{text}"),
+        Err(fault) => println!(rt; "{fault}"),
+    }
+}
+
+// What is to be done, as a list.
+fn list(alloc: Global) -> Result<String, PrintFault> {
+    let (space, none) = (Indent::spaced(1), Indent::zero());
+    let config = CompactConfig::new()
+        .set_borders(Borders::rounded())
+        .set_padding(Sides::new(space, space, none, none))
+        .set_margin(Sides::new(Indent::spaced(2), none, none, none));
+    let records = tasks(alloc)?;
+    let dimension = sizes(alloc)?;
+    CompactGrid::new(records, &config, dimension, NoColors).text(alloc)
+}
+
+// The tasks and their days. The second one has a line that isn't shown.
+fn tasks(alloc: Global) -> Result<VecRecords<&'static str>, AllocError> {
+    let roses = vec![in alloc; "water the roses", "today"]?;
+    let call = vec![in alloc; "call Ada\n(about the tickets)", "Friday"]?;
+    let rent = vec![in alloc; "pay the rent", "Monday"]?;
+    Ok(VecRecords::new(vec![in alloc; roses, call, rent]?).unwrap())
+}
+
+// The widths of the columns. Each row has one line, so a compact table asks for no heights.
+fn sizes(alloc: Global) -> Result<EvenDimension, AllocError> {
+    Ok(EvenDimension {
+        widths: vec![in alloc; 17, 8]?,
+        height: 1,
+    })
+}
