@@ -8,6 +8,7 @@ use crate::texts::SAME;
 use pg_config::SpannedConfig;
 use pg_grid::IterGrid;
 use pg_layout::{Dimension, ExactRecords, NoColors, PeekableRecords};
+use pg_picture::fits::table_fits;
 use std::alloc::Allocator;
 
 /// The text of a table whose texts are made as the streaming grid asks for them, built so many times.
@@ -43,12 +44,11 @@ where
     A: Allocator + Copy,
     requires { R.is_readable records }
 {
-    let grid = IterGrid::new(records, config, dimension, NoColors);
-    grid.fits()?;
+    table_fits(&records, config, dimension)?;
     let mut text = String::new(alloc);
     for _ in 0..times {
         text.clear();
-        grid.build(alloc, &mut text)?;
+        IterGrid::new(records, config, dimension, NoColors).build(alloc, &mut text)?;
     }
     Ok(text)
 }
