@@ -3,7 +3,9 @@
 ghost use Rattle.std.specs.Prelude.{◌≡◌, ◌+◌, ◌≤◌};
 ghost use Rattle.pg_picture.specs.Pieces.{style_at, inner_width};
 ghost use Rattle.pg_picture.specs.Cells.{style_of, shows_texts_whole};
+ghost use Rattle.pg_picture.specs.Fits.{cell_fits};
 
+use crate::fits::text_fits;
 use pg_config::SpannedConfig;
 use pg_layout::{
     ANSIBuf, AlignmentHorizontal, AlignmentVertical, Formatting, Indent, Position, Sides,
@@ -54,6 +56,14 @@ impl<'a, A: Allocator> CellStyle<'a, A> {
         ensures { result ≡ inner_width (style_of self.now) width }
     {
         width - (self.padding.left.size + self.padding.right.size)
+    }
+    /// Whether a cell of so many columns and lines has room for a text in this style, as
+    /// [`crate::fits::cell_fits`] says it of a place.
+    pub fn has_room(&self, text: &str, width: usize, height: usize) -> bool
+        ensures { result ≡ cell_fits (style_of self.now) text.now width height }
+    {
+        let trim = self.formatting.horizontal_trim;
+        text_fits(text, self.padding, trim, width, height)
     }
     // Whether line 0 of a cell is line 0 of its text, as it is.
     #[inline(always)]

@@ -11,6 +11,7 @@ use Rattle.pg_picture.specs.Sizes.{if_fits, sized, unless_misfit}
 use Rattle.pg_picture.specs.Table.{full_width, total_width}
 use Rattle.pg_picture.specs.declared.fits.Misfit.{Misfit}
 use Rattle.pg_picture.specs.declared.fits.Misfit.TheVariants.{Spans, Totals}
+use Rattle.pg_picture.proofs.FittingTables.{none_is}
 use Rattle.pg_stream.specs.Conditions.{PrinterFits, rows_misfit, printer_misfit}
 use Rattle.pg_stream.specs.Printing.{Printing, printer, frame_of}
 use Rattle.pg_stream.specs.declared.fault.StreamFault.{StreamFault}
@@ -47,12 +48,9 @@ module _ (config : Config) (columns : ℕ) (width height : ℕ → ℕ) (color :
       found-width hint none =
           let apart : spans_fit_columns config.spans columns ≡ true = sym b-is ∙ b-true in
           elim (cases_Bool (nat_lt (full_width (sized config width height 0 columns)) (2 ^ 64))) [
-            | inl y ↦ absurd (some≢none' (sym (rw y at o-is) ∙ none))
+            | inl y ↦ absurd (none_is _ (sym none ∙ (rw y at o-is)))
             | inr n ↦ rw (counted, apart, n) refl
           ]
-        where
-          some≢none' : {w : ℕ} → Some w ≡ None → ⊥
-          some≢none' e = false≢true (sym (ap (λ (v : Option ℕ). is_some v) e))
 
       module _ (w : ℕ) (wide : o ≡ Some w) where
         -- the rest is that of the rows
@@ -62,11 +60,8 @@ module _ (config : Config) (columns : ℕ) (width height : ℕ → ℕ) (color :
             let apart : spans_fit_columns config.spans columns ≡ true = sym b-is ∙ b-true in
             elim (cases_Bool (nat_lt (full_width (sized config width height 0 columns)) (2 ^ 64))) [
               | inl y ↦ rw (counted, apart, y) refl
-              | inr n ↦ absurd (none≢some (sym (rw n at o-is) ∙ wide))
+              | inr n ↦ absurd (none_is w (sym (rw n at o-is) ∙ wide))
             ]
-          where
-            none≢some : None ≡ Some w → ⊥
-            none≢some e = false≢true (ap (λ (v : Option ℕ). is_some v) e)
 
   module _ (rows : ℕ) (b : Bool) (b-is : b ≡ spans_fit config.spans rows columns) where
     abbrev pub rest : Option Misfit

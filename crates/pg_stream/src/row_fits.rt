@@ -3,8 +3,9 @@
 ghost use Rattle.std.specs.Prelude.{◌≡◌, ◌+◌, ◌^◌, ◌<◌, ◌≤◌, ◌↔◌, ◌-◌, ◌==◌, true, false, nat_lt, map, length, IfSome, IsTrue};
 ghost use Rattle.pg_layout.specs.Position.{is_at};
 ghost use Rattle.pg_config.specs.Spans.{owner, rect_rows, rect_columns, is_left, left_span};
-ghost use Rattle.pg_picture.specs.Fits.{spans_fit, spans_fit_columns};
+ghost use Rattle.pg_picture.specs.Fits.{cell_fits, spans_fit, spans_fit_columns};
 ghost use Rattle.pg_picture.specs.Marks.{marks_of_row};
+ghost use Rattle.pg_picture.specs.Pieces.{style_at};
 ghost use Rattle.pg_stream.specs.Conditions.{HasRoom, HaveRoom, RowFits};
 ghost use Rattle.pg_stream.specs.Printers.{printing};
 ghost use Rattle.pg_stream.specs.Slots.{separator_height};
@@ -84,6 +85,7 @@ impl<'a, D: Dimension, C: Colors, B: Allocator> Frame<'a, D, C, B> {
         requires spans { spans_fit_columns self.now.config.now.spans self.now.columns ≡ true }
         ensures { IsTrue result ↔ HaveRoom (frame_table D.width D.height C.color self.now) row (map S.text cells.now) }
     {
+        // Shows that the spans stand in order.
         let _spans = self.config.spans();
         let mut column = 0;
         while column < self.columns {
@@ -105,6 +107,7 @@ impl<'a, D: Dimension, C: Colors, B: Allocator> Frame<'a, D, C, B> {
         requires span { span ≡ left_span self.now.config.now.spans pos.row pos.col }
         ensures { IsTrue result ↔ (is_at (owner self.now.config.now.spans pos.row pos.col) pos.row pos.col ≡ true → HasRoom (frame_table D.width D.height C.color self.now) pos text.now) }
     {
+        // Shows that the spans stand in order.
         let _spans = self.config.spans();
         begins_above(span, pos.row) || self.has_room(text, pos)
     }
@@ -120,8 +123,18 @@ impl<'a, D: Dimension, C: Colors, B: Allocator> Frame<'a, D, C, B> {
         let width = rect_width(self.config, self.dimension, pos, self.columns);
         let height = rect_height(self.config, self.dimension, pos);
         match (width, height) {
-            (Some(width), Some(height)) => cell_fits(text, self.config, pos, width, height),
+            (Some(width), Some(height)) => self.fits_in_cell(text, pos, width, height),
             _ => false,
+        }
+    }
+
+    // Whether a text has room in the cell at a place, which has so many columns and lines.
+    fn fits_in_cell(&self, text: &str, pos: Position, width: usize, height: usize) -> bool
+        ensures { result ≡ cell_fits (style_at self.now.config.now pos) text.now width height }
+    {
+        match &self.all {
+            Some(style) => style.has_room(text, width, height),
+            None => cell_fits(text, self.config, pos, width, height),
         }
     }
 

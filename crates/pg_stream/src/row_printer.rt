@@ -96,6 +96,7 @@ impl<'a, S: AsStr + Drop, D: Dimension, C: Colors, B: Allocator, A: Allocator> R
         ensures made { IfOk result (λ p. printing D.width D.height C.color p ≡ printer config.now columns (D.width dimension.now) (D.height dimension.now) (C.color colors.now) hint) }
         ensures empty { IfOk result (λ p. (printing D.width D.height C.color p).rows ≡ 0) }
     {
+        // Shows that the spans stand in order.
         let _spans = config.spans();
         let width = full_width(config, dimension, columns).unwrap();
         let height = height_of_body(config, dimension, hint);

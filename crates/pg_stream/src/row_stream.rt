@@ -13,7 +13,7 @@ ghost use Rattle.pg_stream.specs.Printing.{printer, row_text, rows_text, after_r
 ghost use Rattle.pg_stream.specs.Streams.{streaming, held_text, HeldFits, after_push, rows_left, AppendsIf, PrintsRows, PrintsResults};
 ghost use Rattle.pg_stream.specs.declared.fault.StreamFault.{StreamFault};
 
-use crate::fault::{RowFault, RowsFault, StreamFault};
+use crate::fault::{RowsFault, StreamFault};
 use crate::row_printer::RowPrinter;
 use pg_config::SpannedConfig;
 use pg_layout::{Colors, Dimension};
@@ -83,11 +83,12 @@ where
     ensures after { IfOk result (λ p. printing D.width D.height C.color p ≡ after_row (printing D.width D.height C.color printer.entry) (map S.text cells.items) is_last) }
     ensures ended { IfOk result (λ p. (printing D.width D.height C.color p).is_ended ≡ is_last) }
 {
-    let row = printer.rows();
-    match printer.try_row(cells, is_last, buf) {
+    if !printer.fits(&cells, is_last) {
+        return Err(StreamFault::Row(printer.rows()));
+    }
+    match printer.row_of(cells, is_last, buf) {
         Ok(printer) => Ok(printer),
-        Err(RowFault::Misfit(_)) => Err(StreamFault::Row(row)),
-        Err(RowFault::Memory) => Err(StreamFault::Memory),
+        Err(_) => Err(StreamFault::Memory),
     }
 }
 

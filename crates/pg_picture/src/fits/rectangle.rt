@@ -28,6 +28,9 @@ pub fn rect_width<A: Allocator, D: Dimension>(
     ensures { (rows : ℕ) → result ≡ if_fits (rect_width (sized config.now (D.width dimension.now) (D.height dimension.now) rows columns) pos) }
 {
     let count = config.rect_columns(pos);
+    if count == 1 {
+        return Some(dimension.get_width(pos.col));
+    }
     plus(
         sum_widths(dimension, pos.col, count),
         count_verticals(config, pos.col + 1, count - 1, columns),
@@ -48,6 +51,9 @@ pub fn rect_height<A: Allocator, D: Dimension>(
 {
     let count = config.rect_rows(pos);
     let end = pos.row.checked_add(count)?;
+    if count == 1 {
+        return Some(dimension.get_height(pos.row));
+    }
     plus(
         sum_heights(dimension, pos.row, count),
         count_horizontals(config, pos.row + 1, count - 1, end),

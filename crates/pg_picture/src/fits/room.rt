@@ -1,7 +1,7 @@
 //! The room of a cell.
 
 ghost use Rattle.std.specs.Prelude.{◌≡◌, ◌+◌, ◌-◌, ◌≤◌, SomeIff};
-ghost use Rattle.pg_picture.specs.Pieces.{style_at};
+ghost use Rattle.pg_picture.specs.Pieces.{Style, style_at};
 ghost use Rattle.pg_picture.specs.Fits.{cell_fits};
 
 use crate::facts::text_width;
@@ -18,11 +18,32 @@ fn inner_width(padding: Sides<Indent>, width: usize) -> Option<usize>
         .checked_sub(padding.right.size)
 }
 
+/// Whether a cell of so many columns and lines has room for a text with these paddings, whose lines
+/// are trimmed or not.
+#[tactic(auto, unfolding(crate::specs::Fits::cell_fits, crate::specs::Pieces::widest))]
+pub(crate) fn text_fits(
+    text: &str,
+    padding: Sides<Indent>,
+    trim: bool,
+    width: usize,
+    height: usize,
+) -> bool
+    ensures { (style : Style) → style.padding ≡ padding → style.formatting.horizontal_trim ≡ trim → result ≡ cell_fits style text.now width height }
+{
+    if height == 0 {
+        return true;
+    }
+    match inner_width(padding, width) {
+        Some(inner) => padding.top.size <= height && text_width(text, trim) <= inner,
+        None => false,
+    }
+}
+
 /// Whether a cell of so many columns and lines has room for its side paddings beside its widest
 /// line, and for its top padding. A cell of height 0 needs none, and its text isn't read.
 ///
 /// Takes no memory.
-#[tactic(auto, unfolding(crate::specs::Fits::cell_fits, crate::specs::Pieces::style_at, crate::specs::Pieces::widest))]
+#[tactic(auto, unfolding(crate::specs::Pieces::style_at))]
 pub fn cell_fits<A: Allocator>(
     text: &str,
     config: &SpannedConfig<A>,
@@ -32,13 +53,7 @@ pub fn cell_fits<A: Allocator>(
 ) -> bool
     ensures { result ≡ cell_fits (style_at config.now pos) text.now width height }
 {
-    if height == 0 {
-        return true;
-    }
     let padding = config.get_padding(pos);
     let trim = config.get_formatting(pos).horizontal_trim;
-    match inner_width(padding, width) {
-        Some(inner) => padding.top.size <= height && text_width(text, trim) <= inner,
-        None => false,
-    }
+    text_fits(text, padding, trim, width, height)
 }

@@ -84,6 +84,7 @@ where
     requires totals { totals_fit (table_of config.now (D.width dimension.now) (D.height dimension.now) (R.texts records.now) (R.columns records.now)) ≡ true }
     ensures { result ≡ first_misfit (table_of config.now (D.width dimension.now) (D.height dimension.now) (R.texts records.now) (R.columns records.now)) (row_places (R.columns records.now) row 0) }
 {
+    // Shows that the spans stand in order.
     let _spans = config.spans();
     let columns = records.count_columns();
     let mut column = 0;
@@ -118,6 +119,7 @@ where
     requires span { span ≡ left_span config.now.spans pos.row pos.col }
     ensures { result ≡ owner_fits (table_of config.now (D.width dimension.now) (D.height dimension.now) (R.texts records.now) (R.columns records.now)) pos }
 {
+    // Shows that the spans stand in order.
     let _spans = config.spans();
     match span {
         // A cell of its own stands in its column and its row.

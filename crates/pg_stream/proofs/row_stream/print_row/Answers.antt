@@ -1,25 +1,22 @@
-use Rattle.std.proofs.Common.{◌≡◌, Err, refl, ap, ◌∙◌}
+use Rattle.std.proofs.Common.{Err, refl, sym, ap, ◌∙◌}
+use Rattle.std.proofs.lemmas.Bool.{false≢true}
 use Rattle.pg_picture.proofs.Appending.{refused-as}
-use Rattle.pg_stream.specs.declared.fault.RowFault.{RowFault}
 use Rattle.pg_stream.specs.declared.fault.StreamFault.{StreamFault}
 use Rattle.pg_stream.proofs.row_stream.print_row.Goals as goal
 
-pub returns-in-Err-Misfit-clause-prints : goal.returns-in-Err-Misfit-clause-prints
-returns-in-Err-Misfit-clause-prints g c =
-    let is : c.try_row.result ≡ Err (RowFault.Misfit c.in-Err-Misfit.field-0-0) = cc in
-    let (same, unchanged, misfit) = c.try_row.ensures.misfit c.in-Err-Misfit.field-0-0 is in
+pub returns-then-not-fits-clause-prints : goal.returns-then-not-fits-clause-prints
+returns-then-not-fits-clause-prints g c =
     record {
-      whole = λ fits. absurd (misfit fits);
-      misfit = λ _. (ap (λ n. Err (StreamFault.Row n)) c.rows-row.ensures, unchanged);
-      tells = (c.rows-row.ensures, misfit);
+      whole = λ fits. absurd (false≢true (sym c.if-not-fits.true ∙ c.fits.ensures.1 (rw c.deref.ensures.value fits)));
+      misfit = λ _. (ap (λ n. Err (StreamFault.Row n)) c.rows.ensures, refl);
+      tells = (c.rows.ensures, λ fits. absurd (false≢true (sym c.if-not-fits.true ∙ c.fits.ensures.1 (rw c.deref.ensures.value fits))));
     }
 
-pub returns-clause-prints : goal.returns-clause-prints
-returns-clause-prints g c =
-    let is : c.try_row.result ≡ Err RowFault.Memory = cc in
-    let (fits, beginning) = c.try_row.ensures.memory is in
+pub returns-in-Err-clause-prints : goal.returns-in-Err-clause-prints
+returns-in-Err-clause-prints g c =
+    let fits = rw c.deref.ensures.value at (c.fits.ensures.0 c.if-not-fits.false) in
     record {
-      whole = λ _. (refused-as refl (c.in-Err-Memory.ensures.whole fits).0, tt);
+      whole = λ _. (refused-as refl c.in-Err.ensures.appends, tt);
       misfit = λ no. absurd (no fits);
       tells = fits;
     }

@@ -1,10 +1,12 @@
-use Rattle.std.proofs.Common.{◌≡◌, ◌+◌, ◌-◌, ◌^◌, true, nat_lt, sum_by, count_by, refl, sym, ap, ◌∙◌, arith}
+use Rattle.std.proofs.Common.{◌≡◌, ◌+◌, ◌-◌, ◌^◌, ◌<◌, true, nat_lt, sum_by, count_by, refl, sym, ap, ◌∙◌, arith}
 use Rattle.std.specs.List.{range_with_len}
 use Rattle.std.proofs.lemmas.Bool.Decides.{nat_tests}
 use Rattle.pg_config.specs.Config.{has_horizontal}
 use Rattle.pg_config.specs.Spans.{rect_rows}
 use Rattle.pg_picture.specs.Sizes.{if_fits}
+use Rattle.pg_picture.specs.Sizes.{height_of_rect}
 use Rattle.pg_picture.proofs.HeightsOfRectangles.{height_of_rect-sum}
+use Rattle.pg_picture.proofs.SumsOfSizes.{if_fits-below}
 use Rattle.pg_picture.proofs.fits.rectangle.rect_height.Goals as goal
 
 pub returns : goal.returns
@@ -16,3 +18,12 @@ returns g c =
     = rw (c.count_horizontals.ensures, c.in_ok-end.ensures.1, c.rect_rows-count.ensures) refl in
     let whole = sym (height_of_rect-sum c.args.config.now (g.D.Dimension.height c.args.dimension.now) c.args.pos c.requires) in
     rw fits (c.plus.ensures _ c.sum_heights.ensures ∙ ap (λ n. if_fits n) (e ∙ whole))
+
+pub returns-then-count-eq1 : goal.returns-then-count-eq1
+returns-then-count-eq1 g c =
+    let count = c.rect_rows-count.ensures in
+    let one : rect_rows c.args.config.now.spans c.args.pos ≡ 1 = sym count ∙ c.if-count-eq1.true in
+    let fits : nat_lt (c.args.pos.row + rect_rows c.args.config.now.spans c.args.pos) (2 ^ 64) ≡ true = grind (arith, nat_tests, count, c.in_ok-end.ensures.0) in
+    let whole = height_of_rect-sum c.args.config.now (g.D.Dimension.height c.args.dimension.now) c.args.pos c.requires in
+    let height : c.get_height.result ≡ height_of_rect c.args.config.now (g.D.Dimension.height c.args.dimension.now) c.args.pos = sym (whole ∙ rw one (omega (arith, c.get_height.ensures))) in
+    rw fits (sym (if_fits-below c.get_height.result (omega (arith, c.get_height.type_inv))) ∙ ap (λ n. if_fits n) height)

@@ -6,8 +6,8 @@ use Rattle.pg_stream.proofs.frame.Frame.has_room.Goals as goal
 pub returns-in-Some-Some : goal.returns-in-Some-Some
 returns-in-Some-Some g c =
     let t = frame_table g.D.Dimension.width g.D.Dimension.height g.C.Colors.color c.args.self.now in (
-      λ fits. room-from t c.args.pos c.args.text.now c.rect_width-width.result c.rect_height-height.result (c.rect_width-width.ensures 0) c.rect_height-height.ensures c.in-Some-Some.width c.in-Some-Some.height c.in-Some-Some.is-0 c.in-Some-Some.is-1 (sym c.cell_fits.ensures ∙ fits),
-      λ room. c.cell_fits.ensures ∙ room-fits t c.args.pos c.args.text.now c.rect_width-width.result c.rect_height-height.result (c.rect_width-width.ensures 0) c.rect_height-height.ensures c.in-Some-Some.width c.in-Some-Some.height c.in-Some-Some.is-0 c.in-Some-Some.is-1 room,
+      λ fits. room-from t c.args.pos c.args.text.now c.rect_width-width.result c.rect_height-height.result (c.rect_width-width.ensures 0) c.rect_height-height.ensures c.in-Some-Some.width c.in-Some-Some.height c.in-Some-Some.is-0 c.in-Some-Some.is-1 (sym c.fits_in_cell.ensures ∙ fits),
+      λ room. c.fits_in_cell.ensures ∙ room-fits t c.args.pos c.args.text.now c.rect_width-width.result c.rect_height-height.result (c.rect_width-width.ensures 0) c.rect_height-height.ensures c.in-Some-Some.width c.in-Some-Some.height c.in-Some-Some.is-0 c.in-Some-Some.is-1 room,
     )
 
 pub returns-in_default : goal.returns-in_default
