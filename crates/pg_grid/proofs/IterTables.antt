@@ -55,7 +55,6 @@ module _ (t : Table) (hint : Option ℕ) (exact : IfSome hint (λ n. n ≡ t.row
 -- those behind it may be printed and make the picture.
 module _ {S A : Type 0} (is_row : A → List Text → Type 0) (steps : S → Option A → S → Type 0) where
   pub record Begun (t : Table) (hint : Option ℕ) (columns : ℕ) (row : A) (rows : S) : Type 0 where
-    pub some : is_empty t ≡ false
     pub printer_fits : PrinterFits (printer t.config columns t.width t.height t.color hint)
     pub cells : List Text
     pub others : List (List Text)
@@ -67,6 +66,12 @@ module _ {S A : Type 0} (is_row : A → List Text → Type 0) (steps : S → Opt
     abbrev read : Table
     read = record { config = config; rows = length texts; columns = columns; width = width; height = height; text = text_at texts; color = color }
 
+    -- it has cells, where it has columns
+    pub some-cells : 0 < columns → (s : S) (row : A) (rows : S) → AlwaysGives is_row steps s texts → steps s (Some row) rows → is_empty read ≡ false
+    some-cells wide s row rows gives step =
+        let some : 0 < length texts = omega (arith, ap (λ (rows : List (List Text)). length rows) (next-row is_row steps s row rows texts gives step).all) in
+        grind (arith, nat_tests, some, wide)
+
     pub begun : (hint : Option ℕ) → IfSome hint (λ n. n ≡ length texts) → StandAtPlaces config.spans → misfit_of read ≡ None
         → (count : ℕ) → count ≡ columns → 0 < count → All (λ (row : List Text). length row ≡ count) texts
         → (s : S) (row : A) (rows : S) → AlwaysGives is_row steps s texts → steps s (Some row) rows → Begun read hint count row rows
@@ -77,7 +82,6 @@ module _ {S A : Type 0} (is_row : A → List Text → Type 0) (steps : S → Opt
         let are = texts-are texts columns (subst (λ (n : ℕ). All (λ (row : List Text). length row ≡ n) texts) value even) in
         let same = ap (λ n. printer config n width height color hint) value in
         record {
-          some = grind (arith, nat_tests, some, has);
           printer_fits = rw value (printer-fits read hint exact places none texts are some has);
           cells = next.cells;
           others = next.others;

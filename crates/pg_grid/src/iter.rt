@@ -84,6 +84,7 @@ where
             dimension,
             colors,
         } = self;
+        // Shows that the spans stand in order.
         let _spans = config.spans();
         let columns = records.count_columns();
         let hint = records.hint_count_rows();

@@ -1,4 +1,4 @@
-use Rattle.std.proofs.Common.{◌≡◌, ◌||◌, ◌==◌, true, List, length, sym, ap, ◌∙◌, arith, inl}
+use Rattle.std.proofs.Common.{◌≡◌, ◌||◌, ◌==◌, ◌<◌, true, List, length, sym, ap, ◌∙◌, arith, inl}
 use Rattle.std.proofs.lemmas.Bool.{false≢true}
 use Rattle.std.proofs.lemmas.Bool.Decides.{nat_tests}
 use Rattle.pg_layout.specs.Records.{Gives}
@@ -9,7 +9,7 @@ use Rattle.pg_picture.proofs.Pictures.{picture-none}
 use Rattle.pg_stream.specs.Printing.{hint_of}
 use Rattle.pg_grid.specs.IterGrids.{streamed}
 use Rattle.pg_stream.proofs.RowsInTurn.{no-row}
-use Rattle.pg_grid.proofs.IterTables.{begun}
+use Rattle.pg_grid.proofs.IterTables.{begun, some-cells}
 use Rattle.pg_grid.proofs.iter.IterGrid+R+D+ref+SpannedConfig+B+C.build.Goals as goal
 
 pub returns-in_default-clause-appends : goal.returns-in_default-clause-appends
@@ -60,18 +60,14 @@ pub returns-in_err-printer-clause-empty : goal.returns-in_err-printer-clause-emp
 returns-in_err-printer-clause-empty g c =
     let t = streamed g.R.Records g.D.Dimension g.C.Colors c.args.self in
     let is_row = Gives (λ x y. g.R.Cell.AsStr.text x ≡ y) g.R.Columns.Iterator.can_next g.R.Columns.Iterator.next_gives g.R.Columns.Iterator.remaining in
-    let b = begun is_row g.R.Rows.Iterator.next_gives t.config t.width t.height t.color (g.R.Records.texts c.args.self.records) t.columns
-    c.hint_count_rows-hint.result (c.hint_count_rows-hint.ensures.exact c.requires.readable) c.spans-spans.ensures.places c.requires.fits
-    c.count_columns-columns.result c.count_columns-columns.ensures.value (omega (arith, c.if-columns-eq0.false)) (c.count_columns-columns.ensures.even c.requires.readable)
-    _ _ _ c.iter_rows-rows.ensures.gives c.in-Some.ensures.steps in
-    λ empty. absurd (false≢true (sym b.some ∙ empty))
+    let wide : 0 < t.columns = omega (arith, c.count_columns-columns.ensures.value, c.if-columns-eq0.false) in
+    let some = some-cells is_row g.R.Rows.Iterator.next_gives t.config t.width t.height t.color (g.R.Records.texts c.args.self.records) t.columns wide _ _ _ c.iter_rows-rows.ensures.gives c.in-Some.ensures.steps in
+    λ empty. absurd (false≢true (sym some ∙ empty))
 
 pub returns-clause-empty : goal.returns-clause-empty
 returns-clause-empty g c =
     let t = streamed g.R.Records g.D.Dimension g.C.Colors c.args.self in
     let is_row = Gives (λ x y. g.R.Cell.AsStr.text x ≡ y) g.R.Columns.Iterator.can_next g.R.Columns.Iterator.next_gives g.R.Columns.Iterator.remaining in
-    let b = begun is_row g.R.Rows.Iterator.next_gives t.config t.width t.height t.color (g.R.Records.texts c.args.self.records) t.columns
-    c.hint_count_rows-hint.result (c.hint_count_rows-hint.ensures.exact c.requires.readable) c.spans-spans.ensures.places c.requires.fits
-    c.count_columns-columns.result c.count_columns-columns.ensures.value (omega (arith, c.if-columns-eq0.false)) (c.count_columns-columns.ensures.even c.requires.readable)
-    _ _ _ c.iter_rows-rows.ensures.gives c.in-Some.ensures.steps in
-    λ empty. absurd (false≢true (sym b.some ∙ empty))
+    let wide : 0 < t.columns = omega (arith, c.count_columns-columns.ensures.value, c.if-columns-eq0.false) in
+    let some = some-cells is_row g.R.Rows.Iterator.next_gives t.config t.width t.height t.color (g.R.Records.texts c.args.self.records) t.columns wide _ _ _ c.iter_rows-rows.ensures.gives c.in-Some.ensures.steps in
+    λ empty. absurd (false≢true (sym some ∙ empty))
