@@ -13,10 +13,11 @@ use Rattle.pg_config.specs.Overrides.{with_row_line}
 use Rattle.pg_picture.specs.Fits.{totals_fit}
 use Rattle.pg_picture.specs.Table.{Table as Drawn, is_empty}
 use Rattle.pg_grid.specs.IterGrids.{AppendsOrNothing}
-use Rattle.pg_table.specs.Natural.{natural_table}
+use Rattle.pg_table.specs.Natural.{natural_sizes, natural_table}
 use Rattle.pg_table.specs.declared.fault.TableFault.{TableFault}
 use Rattle.pg_table.specs.declared.fault.TableFault.TheVariants.{Spans, Totals, Memory}
 use Rattle.pg_table.specs.declared.natural.NaturalTable.{NaturalTable}
+use Rattle.pg_table.specs.declared.sizes.Axis.{Axis}
 
 -- ---- faults
 
@@ -43,6 +44,10 @@ natural_parts t = (t.records, t.config.now, t.colors.now)
 -- the table that it draws, by what its records and its colours tell
 abbrev pub drawn_of : {R C : Type 0} → (R → List (List Text)) → (R → ℕ) → (C → Position → Option Color) → R × Config × C → Drawn
 drawn_of texts columns color (records, config, colors) = natural_table config (texts records) (columns records) (color colors)
+
+-- its natural sizes, by what its records tell
+abbrev pub sizes_of : {R C : Type 0} → (R → List (List Text)) → (R → ℕ) → Axis → R × Config × C → List ℕ
+sizes_of texts columns axis (records, config, colors) = natural_sizes axis config (texts records) (columns records)
 
 -- what a table with rows of its own is made of
 pub record Parts (T : Type 0) : Type 0 where

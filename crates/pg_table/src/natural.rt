@@ -53,9 +53,9 @@ where
     ghost use Rattle.pg_picture.specs.Table.{Known, full_width, is_empty};
     ghost use Rattle.pg_picture.specs.Sizes.{if_fits};
     ghost use Rattle.pg_grid.specs.IterGrids.{AppendsOrNothing};
-    ghost use Rattle.pg_table.specs.Natural.{all_fit, natural_sizes};
+    ghost use Rattle.pg_table.specs.Natural.{all_fit};
     ghost use Rattle.pg_table.specs.Laws.{IsEven};
-    ghost use Rattle.pg_table.specs.Printing.{fault_of, drawn_of, Prints};
+    ghost use Rattle.pg_table.specs.Printing.{fault_of, drawn_of, natural_parts, sizes_of, Prints};
     ghost use Rattle.pg_table.specs.declared.sizes.Axis.TheVariants.{Columns, Rows};
 
     /// The natural widths of the columns and the natural heights of the rows, in terminal columns
@@ -67,10 +67,10 @@ where
         &self,
         alloc: A,
     ) -> Result<ConstantDimension<A>, TableFault>
-        ensures totals { (result ≡ Err TableFault.Totals) ↔ ((all_fit (natural_sizes Columns self.now.config.now (R.texts self.now.records) (R.columns self.now.records)) && all_fit (natural_sizes Rows self.now.config.now (R.texts self.now.records) (R.columns self.now.records))) ≡ false) }
+        ensures totals { (result ≡ Err TableFault.Totals) ↔ ((all_fit (sizes_of R.texts R.columns Columns (natural_parts self.now)) && all_fit (sizes_of R.texts R.columns Rows (natural_parts self.now))) ≡ false) }
         ensures memory { (fault : TableFault) → result ≡ Err fault → fault ≡ TableFault.Totals ⊎ fault ≡ TableFault.Memory }
-        ensures widths { IfOk result (λ d. d.0.items ≡ natural_sizes Columns self.now.config.now (R.texts self.now.records) (R.columns self.now.records)) }
-        ensures heights { IfOk result (λ d. d.1.items ≡ natural_sizes Rows self.now.config.now (R.texts self.now.records) (R.columns self.now.records)) }
+        ensures widths { IfOk result (λ d. d.0.items ≡ sizes_of R.texts R.columns Columns (natural_parts self.now)) }
+        ensures heights { IfOk result (λ d. d.1.items ≡ sizes_of R.texts R.columns Rows (natural_parts self.now)) }
     {
         let sizes = self.sizes();
         if !sizes.fit() {
@@ -205,8 +205,8 @@ where
         dimension: ConstantDimension<A>,
         buf: &mut String<W>,
     ) -> Result<(), AllocError>
-        requires widths { dimension.0.items ≡ natural_sizes Columns self.now.config.now (R.texts self.now.records) (R.columns self.now.records) }
-        requires heights { dimension.1.items ≡ natural_sizes Rows self.now.config.now (R.texts self.now.records) (R.columns self.now.records) }
+        requires widths { dimension.0.items ≡ sizes_of R.texts R.columns Columns (natural_parts self.now) }
+        requires heights { dimension.1.items ≡ sizes_of R.texts R.columns Rows (natural_parts self.now) }
         requires fits { misfit_of (drawn_of R.texts R.columns C.color (natural_parts self.now)) ≡ None }
         ensures { Appends buf.old buf.new result (picture Known (drawn_of R.texts R.columns C.color (natural_parts self.now))) }
     {
