@@ -1,5 +1,6 @@
 -- Lemmas of this crate.
 pub mod BytesRead
+pub mod Computing
 pub mod EvenRows
 pub mod LineWords
 pub mod LinesRead

@@ -1,6 +1,7 @@
 pub mod Draft
 pub mod Mode
 pub mod Program
+pub mod Samples
 pub mod Script
 pub mod Show
 pub mod Statement

@@ -3,6 +3,7 @@
 
 mod cell_texts;
 mod draft;
+pub mod examples;
 mod fault;
 mod lines;
 mod mode;

@@ -1,0 +1,12 @@
+-- Tables for worked examples.
+use Rattle.pg_config.specs.CompactConfig.{CompactSettings}
+use Rattle.pg_config.specs.Config.{Config}
+use Rattle.pg_show.specs.Told.{Told, told_nothing}
+
+-- two rows and three columns, of which nothing else is told
+abbrev pub two_by_three : Told
+two_by_three = told_nothing (record { rows = 2; columns = 3 })
+
+-- the same with settings, and with those of a compact table
+abbrev pub with_settings : Config → CompactSettings → Told
+with_settings config compact = record two_by_three { config = config; compact = compact }
