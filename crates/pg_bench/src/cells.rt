@@ -1,6 +1,6 @@
 //! Tables of cells in one row and one column.
 
-use crate::drawing::{FOUR, Sample, assert_cell, assert_drawn};
+use crate::drawing::{FOUR, FOUR_TEXT, Sample, assert_cell, assert_drawn};
 use crate::settings::Setting;
 use pg_layout::{AlignmentHorizontal, AlignmentVertical, Borders, Entity};
 use std::alloc::Global;
@@ -52,13 +52,7 @@ fn corners_make_the_sides_of_the_outer_lines(rt: HostRuntime) -> Result<(), Fail
 
 #[test]
 fn four_cells_in_ascii(rt: HostRuntime) -> Result<(), Fail> {
-    let text = "\
-+---+---+
-|0-0|0-1|
-+---+---+
-|1-0|1-1|
-+---+---+";
-    assert_drawn(&rt, rt.alloc(), &FOUR, text)
+    assert_drawn(&rt, rt.alloc(), &FOUR, FOUR_TEXT)
 }
 
 #[test]

@@ -1,6 +1,6 @@
 //! Calls that test their table themselves, where it doesn't fit and where memory is refused.
 
-use crate::drawing::{FOUR, Sample, TableParts, parts_of};
+use crate::drawing::{FOUR, FOUR_TEXT, Sample, TableParts, parts_of};
 use crate::settings::{Setting, tell_all};
 use pg_config::SpannedConfig;
 use pg_grid::{IterGrid, PeekableGrid, PrintFault};
@@ -13,14 +13,6 @@ use std::test::Fail;
 
 /// More requests for memory than a call makes.
 const MANY: u64 = 100;
-
-/// The picture of [`FOUR`].
-const FOUR_TEXT: &str = "\
-+---+---+
-|0-0|0-1|
-+---+---+
-|1-0|1-1|
-+---+---+";
 
 /// Which grid is called.
 #[derive(Debug, Clone, Copy)]

@@ -153,6 +153,58 @@ fn an_empty_text_has_its_color(rt: HostRuntime) -> Result<(), Fail> {
     assert_cell(&rt, rt.alloc(), ("", 1, 1), (&settings, "<r></r> "))
 }
 
+// Three rows of one cell, of heights 1, 0 and 1, that are told this are drawn as this.
+fn assert_hidden(
+    rt: &impl Abort,
+    alloc: Global,
+    settings: &[Setting],
+    text: &str,
+) -> Result<(), Fail> {
+    let sample = Sample {
+        texts: &[&["a"], &["b"], &["c"]],
+        widths: &[1],
+        heights: &[1, 0, 1],
+        settings,
+    };
+    assert_drawn(rt, alloc, &sample, text)
+}
+
+// Its separator has a line all the same.
+#[test]
+fn a_row_of_height_0_has_no_line_where_there_are_colors(rt: HostRuntime) -> Result<(), Fail> {
+    let (hidden, last) = (Position::new(1, 0), Position::new(2, 0));
+    let cell = [Setting::CellColor(hidden, RED)];
+    assert_hidden(&rt, rt.alloc(), &cell, "a\nc")?;
+    let cells = [
+        Setting::CellColor(hidden, RED),
+        Setting::CellColor(last, BLUE),
+    ];
+    assert_hidden(&rt, rt.alloc(), &cells, "a\n<b>c</b>")?;
+    let separators = [Setting::Ascii, Setting::InnerLinesColor(RED)];
+    let text = "\
++-+
+|a|
+<r>+-+</r>
+<r>+-+</r>
+|c|
++-+";
+    assert_hidden(&rt, rt.alloc(), &separators, text)
+}
+
+#[test]
+fn a_colored_row_between_two_of_height_0_is_the_only_line(rt: HostRuntime) -> Result<(), Fail> {
+    let sample = Sample {
+        texts: &[&["a"], &["b"], &["c"]],
+        widths: &[1],
+        heights: &[0, 1, 0],
+        settings: &[
+            Setting::CellColor(FIRST, BLUE),
+            Setting::CellColor(Position { row: 1, col: 0 }, RED),
+        ],
+    };
+    assert_drawn(&rt, rt.alloc(), &sample, "<r>b</r>")
+}
+
 // `a` and `bbb` in a cell of width 5 with coloured points beside them are drawn as this.
 fn assert_justified(
     rt: &impl Abort,

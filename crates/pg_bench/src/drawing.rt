@@ -3,10 +3,10 @@
 ghost use Rattle.std.specs.Prelude.{◌≡◌};
 
 use crate::settings::{Setting, color, tell_all};
-use pg_config::SpannedConfig;
-use pg_grid::{IterGrid, PeekableGrid};
-use pg_layout::{ColorsMap, ConstantDimension, Records, VecRecords};
-use pg_picture::fits::table_fits;
+use pg_config::{CompactConfig, SpannedConfig};
+use pg_grid::{CompactGrid, IterGrid, PeekableGrid};
+use pg_layout::{ColorsMap, ConstantDimension, NoColors, Records, VecRecords};
+use pg_picture::fits::{compact_fits, table_fits};
 use std::alloc::{AllocError, Allocator, Global};
 use std::process::Abort;
 use std::test::Fail;
@@ -25,6 +25,27 @@ pub(crate) const FOUR: Sample<'static> = Sample {
     texts: &[&["0-0", "0-1"], &["1-0", "1-1"]],
     widths: &[3, 3],
     heights: &[1, 1],
+    settings: &[Setting::Ascii],
+};
+
+/// The picture of [`FOUR`].
+pub(crate) const FOUR_TEXT: &str = "\
++---+---+
+|0-0|0-1|
++---+---+
+|1-0|1-1|
++---+---+";
+
+/// The texts `0-0` to `3-3`, of which one has four lines.
+pub(crate) const SIXTEEN: Sample<'static> = Sample {
+    texts: &[
+        &["0-0", "0-1", "0-2", "0-3"],
+        &["1-0", "123\n345\n555\n333", "1-2", "1-3"],
+        &["2-0", "2-1", "2-2", "2-3"],
+        &["3-0", "3-1", "3-2", "3-3"],
+    ],
+    widths: &[3, 3, 3, 3],
+    heights: &[1, 2, 1, 1],
     settings: &[Setting::Ascii],
 };
 
@@ -154,23 +175,23 @@ fn draw_parts<A: Allocator, B: Allocator>(
     Ok(drawn.is_ok())
 }
 
-// The text of a table, as a grid gives it.
-fn text_of_parts(
-    alloc: Global,
+// The text of a table, as a grid gives it where there is memory for all of it.
+fn text_of_parts<A: Allocator + Copy>(
+    memory: A,
     grid: Grid,
     parts: &TableParts<'_>,
     config: &SpannedConfig,
-) -> Result<String, Fail> {
+) -> Result<Option<String<A>>, Fail> {
     let (records, dimension, colors) = (&parts.records, &parts.dimension, &parts.colors);
     table_fits(&records, config, dimension)?;
     let text = match grid {
-        Grid::Peekable => PeekableGrid::new(records, config, dimension, colors).to_string(alloc),
-        Grid::Hinted => IterGrid::new(records, config, dimension, colors).to_string(alloc),
+        Grid::Peekable => PeekableGrid::new(records, config, dimension, colors).to_string(memory),
+        Grid::Hinted => IterGrid::new(records, config, dimension, colors).to_string(memory),
         Grid::Unhinted => {
-            IterGrid::new(Unhinted { records }, config, dimension, colors).to_string(alloc)
+            IterGrid::new(Unhinted { records }, config, dimension, colors).to_string(memory)
         }
     };
-    Ok(text?)
+    Ok(text.ok())
 }
 
 // Appends the sample as a grid draws it by a configuration that is told the settings, and tells
@@ -200,22 +221,41 @@ pub(crate) fn draw<A: Allocator, B: Allocator>(
     is_whole
 }
 
-// The text of the sample, as a grid gives it by a configuration that is told the settings.
-fn text_by(
+/// Appends the sample as the compact grid draws it by this configuration, whatever the sample is told,
+/// and tells whether there was memory for all of it.
+pub(crate) fn draw_compact<A: Allocator>(
     alloc: Global,
-    grid: Grid,
     sample: &Sample<'_>,
-    config: &mut SpannedConfig,
-) -> Result<String, Fail> {
-    tell_all(config, alloc, sample.settings)?;
-    let parts = parts_of(alloc, sample)?;
-    text_of_parts(alloc, grid, &parts, config)
+    config: &CompactConfig,
+    buf: &mut String<A>,
+) -> Result<bool, Fail> {
+    let records = records(alloc, sample.texts)?;
+    let dimension = dimension(alloc, sample)?;
+    compact_fits(config, &dimension, (&records).count_columns())?;
+    let grid = CompactGrid::new(records, config, &dimension, NoColors);
+    Ok(grid.build(buf).is_ok())
 }
 
-// The text of the sample, as a grid gives it.
-fn text_of(alloc: Global, grid: Grid, sample: &Sample<'_>) -> Result<String, Fail> {
+// The text of the sample, as a grid gives it by a configuration that is told the settings.
+fn text_by<A: Allocator + Copy>(
+    (alloc, memory): (Global, A),
+    (grid, sample): (Grid, &Sample<'_>),
+    config: &mut SpannedConfig,
+) -> Result<Option<String<A>>, Fail> {
+    tell_all(config, alloc, sample.settings)?;
+    let parts = parts_of(alloc, sample)?;
+    text_of_parts(memory, grid, &parts, config)
+}
+
+/// The text of the sample, as a grid gives it where there is memory for all of it. The memory of the
+/// text and of the grid is `memory`.
+pub(crate) fn text_of<A: Allocator + Copy>(
+    alloc: Global,
+    memory: A,
+    drawn: (Grid, &Sample<'_>),
+) -> Result<Option<String<A>>, Fail> {
     let mut config = SpannedConfig::new(alloc);
-    let text = text_by(alloc, grid, sample, &mut config);
+    let text = text_by((alloc, memory), drawn, &mut config);
     drop(config);
     text
 }
@@ -230,7 +270,10 @@ pub(crate) fn assert_drawn_by(
     let mut buf = String::from_str(alloc, "log:")?;
     assert!(rt; draw(alloc, alloc, (grid, sample), &mut buf)?);
     assert_eq!(rt; buf.as_str().strip_prefix("log:"), Some(text));
-    assert_eq!(rt; text_of(alloc, grid, sample)?.as_str(), text);
+    assert_eq!(rt;
+        text_of(alloc, alloc, (grid, sample))?.as_deref(),
+        Some(text)
+    );
     Ok(())
 }
 

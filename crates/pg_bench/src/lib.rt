@@ -16,6 +16,8 @@ mod drawing;
 #[cfg(test)]
 mod given;
 #[cfg(test)]
+mod huge;
+#[cfg(test)]
 mod margins;
 #[cfg(test)]
 mod printing;

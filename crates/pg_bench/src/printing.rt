@@ -115,6 +115,7 @@ fn print_table<R: Records, D: Dimension, C: Colors>(
     requires readable { R.is_readable records }
     requires fits { misfit_of (table_of_parts R.texts R.columns D.width D.height C.color records config.now dimension.now colors.now) ≡ None }
 {
+    // Shows that the spans stand in order.
     let _spans = config.spans();
     let columns = records.count_columns();
     let hint = records.hint_count_rows();

@@ -1,8 +1,10 @@
 //! Tables drawn into a buffer while memory is refused.
 
-use crate::drawing::{FOUR, Grid, Sample, draw};
+use crate::drawing::{FOUR, FOUR_TEXT, Grid, SIXTEEN, Sample, draw, draw_compact, text_of};
 use crate::settings::{Paint, Setting};
-use pg_layout::{AlignmentHorizontal, AlignmentVertical, Entity, Offset, Position};
+use crate::spans::{RECTANGLE, RECTANGLE_TEXT};
+use pg_config::CompactConfig;
+use pg_layout::{AlignmentHorizontal, Borders, Entity, Offset, Position};
 use pg_testing::refusing::Refusing;
 use std::alloc::{AllocError, Global};
 use std::process::Abort;
@@ -12,8 +14,6 @@ use std::test::Fail;
 const MANY: u64 = 100;
 
 const FIRST: Position = Position { row: 0, col: 0 };
-
-const INNER: Position = Position { row: 1, col: 1 };
 
 // Draws the table behind `log:`. Where memory is refused, be it the buffer's or the grid's, the buffer
 // has gained a beginning of it. Answers whether memory was refused.
@@ -25,10 +25,12 @@ fn is_refused(
 ) -> Result<bool, Fail> {
     let mut buf = String::from_str(memory, "log:")?;
     let is_whole = draw(alloc, memory, (grid, sample), &mut buf)?;
-    assert!(rt; text.starts_with(buf.as_str()));
-    assert!(rt; buf.starts_with("log:"));
+    let Some(gained) = buf.as_str().strip_prefix("log:") else {
+        panic!(rt; "the old text is lost");
+    };
+    assert!(rt; text.starts_with(gained));
     assert_eq!(rt; is_whole, !memory.has_refused());
-    assert_eq!(rt; is_whole, buf.as_str() == text);
+    assert_eq!(rt; is_whole, gained == text);
     Ok(memory.has_refused())
 }
 
@@ -37,24 +39,20 @@ fn is_refused(
 fn assert_each_refused(
     rt: &impl Abort,
     alloc: Global,
-    is_one: bool,
     drawn: (Grid, &Sample<'_>, &str),
 ) -> Result<(), Fail> {
     for k in 1..MANY {
-        let memory = if is_one {
-            Refusing::only(alloc, k)
-        } else {
-            Refusing::from_on(alloc, k)
-        };
-        if !is_refused(rt, alloc, &memory, drawn)? {
-            assert!(rt; k > 1);
-            return Ok(());
+        for memory in [Refusing::only(alloc, k), Refusing::from_on(alloc, k)] {
+            if !is_refused(rt, alloc, &memory, drawn)? {
+                assert!(rt; k > 1);
+                return Ok(());
+            }
         }
     }
     Err(Fail::new("more requests than were tried"))
 }
 
-// The sample behind `log:` is this text, or where memory is refused a beginning of it.
+// The sample is drawn as this text, or where memory is refused as a beginning of it.
 fn assert_beginnings(
     rt: &impl Abort,
     alloc: Global,
@@ -62,39 +60,19 @@ fn assert_beginnings(
     text: &str,
 ) -> Result<(), Fail> {
     for grid in [Grid::Peekable, Grid::Hinted, Grid::Unhinted] {
-        for is_one in [true, false] {
-            assert_each_refused(rt, alloc, is_one, (grid, sample, text))?;
-        }
+        assert_each_refused(rt, alloc, (grid, sample, text))?;
     }
     Ok(())
 }
 
 #[test]
 fn a_refusal_leaves_a_beginning_of_four_cells(rt: HostRuntime) -> Result<(), Fail> {
-    let text = "log:+---+---+
-|0-0|0-1|
-+---+---+
-|1-0|1-1|
-+---+---+";
-    assert_beginnings(&rt, rt.alloc(), &FOUR, text)
+    assert_beginnings(&rt, rt.alloc(), &FOUR, FOUR_TEXT)
 }
-
-/// The texts `0-0` to `3-3`, of which one has four lines.
-const SIXTEEN: Sample<'static> = Sample {
-    texts: &[
-        &["0-0", "0-1", "0-2", "0-3"],
-        &["1-0", "123\n345\n555\n333", "1-2", "1-3"],
-        &["2-0", "2-1", "2-2", "2-3"],
-        &["3-0", "3-1", "3-2", "3-3"],
-    ],
-    widths: &[3, 3, 3, 3],
-    heights: &[1, 2, 1, 1],
-    settings: &[Setting::Ascii],
-};
 
 #[test]
 fn a_refusal_leaves_a_beginning_of_sixteen_cells(rt: HostRuntime) -> Result<(), Fail> {
-    let text = "log:+---+---+---+---+
+    let text = "+---+---+---+---+
 |0-0|0-1|0-2|0-3|
 +---+---+---+---+
 |1-0|123|1-2|1-3|
@@ -109,27 +87,7 @@ fn a_refusal_leaves_a_beginning_of_sixteen_cells(rt: HostRuntime) -> Result<(), 
 
 #[test]
 fn a_refusal_leaves_a_beginning_of_a_rectangle(rt: HostRuntime) -> Result<(), Fail> {
-    let sample = Sample {
-        settings: &[
-            Setting::Ascii,
-            Setting::RowSpan(INNER, 2),
-            Setting::ColumnSpan(INNER, 2),
-            Setting::Horizontal(Entity::Cell(1, 1), AlignmentHorizontal::Center),
-            Setting::Vertical(Entity::Cell(1, 1), AlignmentVertical::Center),
-        ],
-        ..SIXTEEN
-    };
-    let text = "log:+---+---+---+---+
-|0-0|0-1|0-2|0-3|
-+---+---+---+---+
-|1-0|  123  |1-3|
-|   |  345  |   |
-+---+  555  +---+
-|2-0|  333  |2-3|
-+---+---+---+---+
-|3-0|3-1|3-2|3-3|
-+---+---+---+---+";
-    assert_beginnings(&rt, rt.alloc(), &sample, text)
+    assert_beginnings(&rt, rt.alloc(), &RECTANGLE, RECTANGLE_TEXT)
 }
 
 #[test]
@@ -145,7 +103,7 @@ fn a_refusal_leaves_a_beginning_of_a_colored_line(rt: HostRuntime) -> Result<(),
             Setting::HorizontalColor(FIRST, Offset::Start(1), Paint("<b>", "</b>")),
         ],
     };
-    let text = "log:<r>+-</r><b>*</b><r>-+</r>
+    let text = "<r>+-</r><b>*</b><r>-+</r>
 |abc|
 +---+";
     assert_beginnings(&rt, rt.alloc(), &sample, text)
@@ -162,8 +120,51 @@ fn a_refusal_leaves_a_beginning_of_colored_points(rt: HostRuntime) -> Result<(),
             Setting::Justification(Entity::Global, '.', Paint("<g>", "</g>")),
         ],
     };
-    let text = "log:<g>.</g>a<g>...</g>\n<g>.</g>bbb<g>.</g>";
+    let text = "<g>.</g>a<g>...</g>\n<g>.</g>bbb<g>.</g>";
     assert_beginnings(&rt, rt.alloc(), &sample, text)
+}
+
+// Asks a grid for the text of the table: there is none where memory is refused. Answers whether it was.
+fn is_text_refused(
+    rt: &impl Abort,
+    alloc: Global,
+    memory: &Refusing<Global>,
+    (grid, sample, text): (Grid, &Sample<'_>, &str),
+) -> Result<bool, Fail> {
+    let given = text_of(alloc, memory, (grid, sample))?;
+    let is_refused = memory.has_refused();
+    assert_eq!(rt; given.as_deref(), (!is_refused).then_some(text));
+    Ok(is_refused)
+}
+
+// The grid asks at least so often for memory, and each request is refused once, alone and with all
+// behind it.
+fn assert_each_text_refused(
+    rt: &impl Abort,
+    alloc: Global,
+    drawn: (Grid, &Sample<'_>, &str),
+    least: u64,
+) -> Result<(), Fail> {
+    for k in 0..MANY {
+        for memory in [Refusing::only(alloc, k), Refusing::from_on(alloc, k)] {
+            if !is_text_refused(rt, alloc, &memory, drawn)? {
+                assert!(rt; k >= least);
+                return Ok(());
+            }
+        }
+    }
+    Err(Fail::new("more requests than were tried"))
+}
+
+// The streaming grid asks for its open cells, too.
+#[test]
+fn a_refusal_leaves_no_text(rt: HostRuntime) -> Result<(), Fail> {
+    for (sample, text) in [(&FOUR, FOUR_TEXT), (&RECTANGLE, RECTANGLE_TEXT)] {
+        for (grid, least) in [(Grid::Peekable, 1), (Grid::Hinted, 2), (Grid::Unhinted, 2)] {
+            assert_each_text_refused(&rt, rt.alloc(), (grid, sample, text), least)?;
+        }
+    }
+    Ok(())
 }
 
 /// How many rows a long table has.
@@ -216,6 +217,51 @@ fn a_long_table_asks_for_no_memory_but_the_open_cells(rt: HostRuntime) -> Result
         assert_long(&rt, rt.alloc(), (grid, requests, "   abcabc"), &spans)?;
     }
     Ok(())
+}
+
+// Between these borders the compact grid draws the long table as the looked-up grid does, in so many
+// bytes. All requests for memory but those for the two buffers are refused.
+fn assert_long_alike(
+    rt: &impl Abort,
+    alloc: Global,
+    borders: Borders<char>,
+    (front, bytes): (&str, usize),
+) -> Result<(), Fail> {
+    let settings = [Setting::Borders(borders)];
+    let sample = Sample {
+        settings: &settings,
+        ..LONG
+    };
+    let config = CompactConfig::new().set_borders(borders);
+    let memory = Refusing::from_on(alloc, 2);
+    let mut looked_up = String::with_capacity(&memory, bytes)?;
+    let mut compact = String::with_capacity(&memory, bytes)?;
+    assert!(rt; draw(alloc, &memory, (Grid::Peekable, &sample), &mut looked_up)?);
+    assert!(rt; draw_compact(alloc, &LONG, &config, &mut compact)?);
+    assert_eq!(rt; memory.requests(), 2);
+    assert!(rt; compact.starts_with(front));
+    assert_eq!(rt; compact.len(), bytes);
+    assert_eq!(rt; compact.as_str(), looked_up.as_str());
+    Ok(())
+}
+
+// Without a line at its left and its right a separator has no ends, in which alone the two differ.
+#[test]
+fn a_long_table_is_drawn_alike_by_the_compact_grid(rt: HostRuntime) -> Result<(), Fail> {
+    let plain = Borders::empty();
+    assert_long_alike(&rt, rt.alloc(), plain, ("abcabcabc\nabcabcabc\n", 9999))?;
+    let inner = Borders {
+        top: Some('='),
+        top_intersection: Some('#'),
+        bottom: Some('_'),
+        bottom_intersection: Some('*'),
+        horizontal: Some('-'),
+        intersection: Some('+'),
+        vertical: Some('|'),
+        ..plain
+    };
+    let front = "===#===#===\nabc|abc|abc\n---+---+---\nabc|abc|abc\n---+";
+    assert_long_alike(&rt, rt.alloc(), inner, (front, 24_011))
 }
 
 #[test]

@@ -1,6 +1,6 @@
 //! Tables with cells of several rows and columns.
 
-use crate::drawing::{FOUR, Sample, assert_drawn};
+use crate::drawing::{FOUR, SIXTEEN, Sample, assert_drawn};
 use crate::settings::{Paint, Setting};
 use pg_layout::{AlignmentHorizontal, AlignmentVertical, Borders, Entity, Position};
 use std::test::Fail;
@@ -15,6 +15,36 @@ const README: &str = "\
 +    Papergrid    +------------+----------------+-+
 |                 |Just like this                 |
 +-----------------+------------+----------------+-+";
+
+/// Sixteen cells, of which one has two rows and two columns, and its text in their middle.
+pub(crate) const RECTANGLE: Sample<'static> = Sample {
+    settings: &[
+        Setting::Ascii,
+        Setting::RowSpan(INNER, 2),
+        Setting::ColumnSpan(INNER, 2),
+        Setting::Horizontal(Entity::Cell(1, 1), AlignmentHorizontal::Center),
+        Setting::Vertical(Entity::Cell(1, 1), AlignmentVertical::Center),
+    ],
+    ..SIXTEEN
+};
+
+/// The picture of [`RECTANGLE`].
+pub(crate) const RECTANGLE_TEXT: &str = "\
++---+---+---+---+
+|0-0|0-1|0-2|0-3|
++---+---+---+---+
+|1-0|  123  |1-3|
+|   |  345  |   |
++---+  555  +---+
+|2-0|  333  |2-3|
++---+---+---+---+
+|3-0|3-1|3-2|3-3|
++---+---+---+---+";
+
+#[test]
+fn a_text_of_four_lines_stands_in_a_rectangle(rt: HostRuntime) -> Result<(), Fail> {
+    assert_drawn(&rt, rt.alloc(), &RECTANGLE, RECTANGLE_TEXT)
+}
 
 #[test]
 fn a_title_beside_two_lines(rt: HostRuntime) -> Result<(), Fail> {

@@ -2,7 +2,7 @@
 
 use crate::settings::{Setting, tell_all};
 use pg_config::SpannedConfig;
-use pg_layout::{EvenDimension, NoColors, Position};
+use pg_layout::{EvenDimension, Indent, NoColors, Position, Sides};
 use pg_picture::fits::Misfit;
 use pg_stream::{RowFault, RowPrinter, RowStream, RowsFault, StreamFault, printer_fits};
 use pg_testing::refusing::Refusing;
@@ -15,6 +15,9 @@ const MANY: u64 = 100;
 
 /// Two columns of width 1.
 const COLUMNS: usize = 2;
+
+/// A printer of rows whose cells are texts that live as long as the program.
+type Printer<'a, A = Global> = RowPrinter<'a, &'static str, EvenDimension, NoColors, Global, A>;
 
 /// A stream of rows whose cells are texts that live as long as the program.
 type Stream<'a, A = Global, V = Global> = RowStream<
@@ -444,6 +447,92 @@ fn refused_memory_leaves_a_beginning_of_the_rows(rt: HostRuntime) -> Result<(), 
         drop(config);
         refused?;
         is_told?;
+    }
+    Ok(())
+}
+
+// ASCII borders, and a margin of one column or line at each side.
+fn framed() -> [Setting; 2] {
+    let margin = Sides::filled(Indent::new(1, '#'));
+    [Setting::Ascii, Setting::Margin(margin)]
+}
+
+#[test]
+fn a_stream_of_no_rows_has_no_margins(rt: HostRuntime) -> Result<(), Fail> {
+    let settings = framed();
+    for hint in [None, Some(0)] {
+        let rows = Rows {
+            texts: &[],
+            hint,
+            settings: &settings,
+        };
+        assert_streamed(&rt, rt.alloc(), rows, (Ok(()), "log:"))?;
+    }
+    Ok(())
+}
+
+// Ends a table before its first row, where the number of its rows is known or isn't.
+fn finish_at_once(
+    alloc: Global,
+    config: &mut SpannedConfig,
+    hint: Option<usize>,
+    buf: &mut String,
+) -> Result<(), Fail> {
+    tell_all(config, alloc, &framed())?;
+    let dimension = narrow(alloc)?;
+    let made: Result<Printer<'_>, StreamFault> = RowPrinter::try_new(
+        alloc, config, &dimension, &NoColors, COLUMNS, hint,
+    );
+    let Ok(printer) = made else {
+        return Err(Fail::new("two columns don't fit"));
+    };
+    Ok(printer.finish(buf)?)
+}
+
+#[test]
+fn a_printer_that_ends_before_its_first_row_appends_nothing(rt: HostRuntime) -> Result<(), Fail> {
+    for hint in [None, Some(0), Some(2)] {
+        let mut buf = String::from_str(rt.alloc(), "log:")?;
+        let mut config = SpannedConfig::new(rt.alloc());
+        let finished = finish_at_once(rt.alloc(), &mut config, hint, &mut buf);
+        drop(config);
+        finished?;
+        assert_eq!(rt; buf.as_str(), "log:");
+    }
+    Ok(())
+}
+
+// Makes a printer with this memory, and tells whether there was some for it.
+fn is_made(
+    rt: &impl Abort,
+    memory: &Refusing<Global>,
+    config: &SpannedConfig,
+    dimension: &EvenDimension,
+) -> Result<bool, Fail> {
+    printer_fits(config, dimension, &NoColors, COLUMNS, None)?;
+    let made: Result<Printer<'_, &Refusing<Global>>, AllocError> = RowPrinter::new(
+        memory, config, dimension, &NoColors, COLUMNS, None,
+    );
+    let Ok(printer) = made else {
+        return Ok(false);
+    };
+    assert_eq!(rt; (printer.rows(), printer.lines()), (0, 0));
+    assert_eq!(rt; printer.open_cells().len(), 0);
+    Ok(true)
+}
+
+// A printer is made where its first request is granted, and asks for nothing more.
+#[test]
+fn a_printer_asks_once_for_the_memory_of_its_open_cells(rt: HostRuntime) -> Result<(), Fail> {
+    let alloc = rt.alloc();
+    let config = SpannedConfig::new(alloc);
+    let dimension = narrow(alloc)?;
+    for k in 0..2 {
+        for memory in [Refusing::only(alloc, k), Refusing::from_on(alloc, k)] {
+            let made = is_made(&rt, &memory, &config, &dimension)?;
+            assert_eq!(rt; made, k > 0);
+            assert_eq!(rt; (memory.requests(), memory.has_refused()), (1, k == 0));
+        }
     }
     Ok(())
 }

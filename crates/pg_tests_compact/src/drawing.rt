@@ -146,14 +146,18 @@ pub(crate) fn draw<B: Allocator>(
     Ok(grid.build(buf).is_ok())
 }
 
-// The text of the sample, as the compact grid gives it.
-fn text_of(alloc: Global, sample: &Sample<'_>) -> Result<String, Fail> {
+/// The text of the sample, as the compact grid gives it where there is memory for all of it.
+pub(crate) fn text_of<A: Allocator>(
+    alloc: Global,
+    memory: A,
+    sample: &Sample<'_>,
+) -> Result<Option<String<A>>, Fail> {
     let records = records(alloc, sample.texts)?;
     let dimension = dimension(alloc, sample.widths)?;
     let colors = colors(alloc, sample.colored)?;
     compact_fits(&sample.config, &dimension, (&records).count_columns())?;
     let grid = CompactGrid::new(&records, &sample.config, &dimension, &colors);
-    Ok(grid.to_string(alloc)?)
+    Ok(grid.to_string(memory).ok())
 }
 
 /// The compact grid gives this text, and appends it.
@@ -166,6 +170,6 @@ pub(crate) fn assert_drawn(
     let mut buf = String::from_str(alloc, "log:")?;
     assert!(rt; draw(alloc, sample, &mut buf)?);
     assert_eq!(rt; buf.as_str().strip_prefix("log:"), Some(text));
-    assert_eq!(rt; text_of(alloc, sample)?.as_str(), text);
+    assert_eq!(rt; text_of(alloc, alloc, sample)?.as_deref(), Some(text));
     Ok(())
 }

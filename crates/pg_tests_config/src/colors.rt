@@ -158,47 +158,105 @@ fn colors_of_two_types_are_the_same_by_both_texts(rt: HostRuntime) -> Result<(),
     Ok(())
 }
 
-// Colours three cells, one of them twice.
-fn color_cells<A: Allocator + Copy>(colors: &mut ColorsMap<A>, alloc: A) -> Result<(), AllocError> {
-    for (row, prefix) in [(0, "<a>"), (1, "<b>"), (0, "<c>"), (2, "<d>")] {
-        colors.set(Position::new(row, 0), ANSIBuf::new(alloc, prefix, "</>")?)?;
-    }
-    Ok(())
-}
+/// Three cells are coloured, one of them twice: a place, the prefix of its colour, and those of all
+/// three then, a point where a cell has none.
+const COLORED: [(Position, &str, &str); 4] = [
+    (FIRST, "a", "a.."),
+    (Position { row: 1, col: 2 }, "b", "ab."),
+    (FIRST, "c", "cb."),
+    (Position { row: 2, col: 1 }, "d", "cbd"),
+];
 
 // The prefixes of the three cells.
-fn cell_prefixes<A: Allocator>(colors: &ColorsMap<A>) -> [Option<&str>; 3] {
-    let [first, second, third] = [0, 1, 2].map(|row| colors
-        .get_color(Position::new(row, 0))
-        .map(|c| c.prefix()));
-    [first, second, third]
+fn cell_prefixes<A: Allocator>(alloc: Global, colors: &ColorsMap<A>) -> Result<String, Fail> {
+    let mut text = String::new(alloc);
+    for (row, col) in [(0, 0), (1, 2), (2, 1)] {
+        let color = colors.get_color(Position::new(row, col));
+        text.push_str(color.map(|color| color.prefix()).unwrap_or("."))?;
+    }
+    Ok(text)
 }
 
-// Whether these are the colours that stand after so many of the calls.
-fn stand_after_some_calls(found: [Option<&str>; 3]) -> bool {
-    found == [None, None, None]
-        || found == [Some("<a>"), None, None]
-        || found == [Some("<a>"), Some("<b>"), None]
-        || found == [Some("<c>"), Some("<b>"), None]
+// Gives a cell a colour of this prefix.
+fn set_color<A: Allocator + Copy>(
+    colors: &mut ColorsMap<A>,
+    alloc: A,
+    (pos, prefix): (Position, &str),
+) -> Result<(), AllocError> {
+    colors.set(pos, ANSIBuf::new(alloc, prefix, "</>")?)
 }
 
+// Colours the cells until memory is refused: then they have the colours that they had. Answers whether
+// it was.
+fn is_refused(rt: &impl Abort, alloc: Global, memory: &Refusing<Global>) -> Result<bool, Fail> {
+    let mut colors = ColorsMap::new(memory);
+    let mut before = "...";
+    for (pos, name, after) in COLORED {
+        let is_refused = set_color(&mut colors, memory, (pos, name)).is_err();
+        let wanted = if is_refused { before } else { after };
+        assert_eq!(rt; cell_prefixes(alloc, &colors)?.as_str(), wanted);
+        assert_eq!(rt; memory.has_refused(), is_refused);
+        if is_refused {
+            return Ok(true);
+        }
+        before = after;
+    }
+    Ok(false)
+}
+
+// Each of the four colours asks for its two texts, and the map for its places.
 #[test]
 fn a_refused_color_of_a_cell_changes_nothing(rt: HostRuntime) -> Result<(), Fail> {
     for k in 0..100 {
-        let memory = Refusing::only(rt.alloc(), k);
-        let mut colors = ColorsMap::new(&memory);
-        let told = color_cells(&mut colors, &memory);
-        if told.is_ok() {
-            assert!(rt; !memory.has_refused());
-            assert_eq!(rt;
-                cell_prefixes(&colors),
-                [Some("<c>"), Some("<b>"), Some("<d>")]
-            );
-            return Ok(());
+        for memory in [
+            Refusing::only(rt.alloc(), k),
+            Refusing::from_on(rt.alloc(), k),
+        ] {
+            if !is_refused(&rt, rt.alloc(), &memory)? {
+                assert!(rt; k >= 9);
+                return Ok(());
+            }
         }
-        assert!(rt; memory.has_refused());
-        assert!(rt; stand_after_some_calls(cell_prefixes(&colors)));
     }
     assert!(rt; false, "there are more than a hundred requests");
+    Ok(())
+}
+
+#[test]
+fn a_color_needs_memory_for_both_texts(rt: HostRuntime) {
+    for k in 0..3 {
+        for memory in [
+            Refusing::only(rt.alloc(), k),
+            Refusing::from_on(rt.alloc(), k),
+        ] {
+            let made = ANSIBuf::new(&memory, "<r>", "</r>");
+            let texts = made
+                .as_ref()
+                .ok()
+                .map(|color| (color.prefix(), color.suffix()));
+            let wanted = if k < 2 { None } else { Some(("<r>", "</r>")) };
+            assert_eq!(rt; texts, wanted);
+            assert_eq!(rt; memory.has_refused(), k < 2);
+        }
+    }
+}
+
+#[test]
+fn a_color_is_made_of_any_two_texts(rt: HostRuntime) -> Result<(), Fail> {
+    let long =
+        "a text of more bytes than the short ones together, so that it is a piece of its own";
+    for (prefix, suffix, is_empty) in [
+        ("", "", true),
+        ("<r>", "", false),
+        ("", "</r>", false),
+        ("\u{1b}[31m", "\u{1b}[0m", false),
+        ("日", "本", false),
+        (long, "</r>", false),
+        ("<r>", long, false),
+    ] {
+        let owned = ANSIBuf::new(rt.alloc(), prefix, suffix)?;
+        assert_eq!(rt; (owned.prefix(), owned.suffix()), (prefix, suffix));
+        assert_eq!(rt; owned.is_empty(), is_empty);
+    }
     Ok(())
 }

@@ -6,6 +6,8 @@ mod answers;
 #[cfg(test)]
 mod colors;
 #[cfg(test)]
+mod entities;
+#[cfg(test)]
 mod given;
 #[cfg(test)]
 mod helpers;
@@ -23,6 +25,8 @@ mod prefixes;
 mod refusals;
 #[cfg(test)]
 mod row_lines;
+#[cfg(test)]
+mod setters;
 #[cfg(test)]
 mod spans;
 #[cfg(test)]

@@ -108,3 +108,65 @@ fn set_line_of_no_columns(
 fn a_row_line_of_no_columns_or_of_too_many_changes_nothing(rt: HostRuntime) -> Result<(), Fail> {
     set_line_of_no_columns(&rt, rt.alloc(), &mut SpannedConfig::new(rt.alloc()))
 }
+
+// The glyphs of a row line across so many columns, from its left to its right end, a point where there
+// is none.
+fn line_text(
+    alloc: Global,
+    config: &SpannedConfig<Global>,
+    row: usize,
+    columns: usize,
+) -> Result<String, Fail> {
+    let mut text = String::new(alloc);
+    for col in 0..columns {
+        let pos = Position::new(row, col);
+        let crossing = config.get_intersection(pos, (ROWS, columns));
+        text.push(crossing.unwrap_or('.'))?;
+        text.push(config.get_horizontal(pos, ROWS).unwrap_or('.'))?;
+    }
+    let end = config.get_intersection(Position::new(row, columns), (ROWS, columns));
+    text.push(end.unwrap_or('.'))?;
+    Ok(text)
+}
+
+// A full line, and then its main glyph alone.
+fn set_line_twice(
+    rt: &impl Abort,
+    alloc: Global,
+    config: &mut SpannedConfig<Global>,
+    (row, columns): (usize, usize),
+    [full, main]: [&str; 2],
+) -> Result<(), Fail> {
+    config.set_row_line(row, columns, FULL)?;
+    assert_eq!(rt; line_text(alloc, config, row, columns)?.as_str(), full);
+    assert!(rt; config.has_horizontal(row, ROWS));
+    config.set_row_line(
+        row,
+        columns,
+        HorizontalLine::new(Some('-'), None, None, None),
+    )?;
+    assert_eq!(rt; line_text(alloc, config, row, columns)?.as_str(), main);
+    Ok(())
+}
+
+/// How many rows the tables have whose first, last and other row lines are set.
+const ROWS: usize = 3;
+
+#[test]
+fn a_row_line_is_answered_in_each_row_and_for_each_number_of_columns(
+    rt: HostRuntime,
+) -> Result<(), Fail> {
+    for (line, texts) in [
+        ((0, 1), ["<=>", "<->"]),
+        ((0, 4), ["<=+=+=+=>", "<-+-+-+->"]),
+        ((2, 2), ["<=+=>", "<-+->"]),
+        ((3, 1), ["<=>", "<->"]),
+        ((3, 3), ["<=+=+=>", "<-+-+->"]),
+    ] {
+        let mut config = SpannedConfig::new(rt.alloc());
+        let is_set = set_line_twice(&rt, rt.alloc(), &mut config, line, texts);
+        drop(config);
+        is_set?;
+    }
+    Ok(())
+}

@@ -5,7 +5,7 @@ use Rattle.pg_grid.proofs.FittingGrids.{misfit-parts, none-of-ok}
 use Rattle.pg_bench.proofs.drawing.text_of_parts.Goals as goal
 
 pub to_string-text-requires : goal.to_string-text-requires
-to_string-text-requires c = record {
+to_string-text-requires g c = record {
   fits =
       misfit-parts (λ r. map (λ row. map (λ cell. cell.now) row) r.now) (λ r. columns_of r.now)
       (λ d i. slice_index_or d.now.0.items i 0) (λ d i. slice_index_or d.now.1.items i 0) (λ colors pos. color_at pos colors.now)
@@ -14,14 +14,14 @@ to_string-text-requires c = record {
 }
 
 pub to_string-text-requires-in-Hinted-clause-fits : goal.to_string-text-requires-in-Hinted-clause-fits
-to_string-text-requires-in-Hinted-clause-fits c =
+to_string-text-requires-in-Hinted-clause-fits g c =
     misfit-parts (λ r. map (λ row. map (λ cell. cell.now) row) r.now) (λ r. columns_of r.now)
     (λ d i. slice_index_or d.now.0.items i 0) (λ d i. slice_index_or d.now.1.items i 0) (λ colors pos. color_at pos colors.now)
     c.new-in-Hinted.ensures
     (none-of-ok _ (sym c.table_fits.ensures ∙ c.in_ok-table_fits.was))
 
 pub to_string-text-requires-in-Unhinted-clause-fits : goal.to_string-text-requires-in-Unhinted-clause-fits
-to_string-text-requires-in-Unhinted-clause-fits c =
+to_string-text-requires-in-Unhinted-clause-fits g c =
     misfit-parts (λ r. map (λ row. map (λ cell. cell.now) row) r.records.now) (λ r. columns_of r.records.now)
     (λ d i. slice_index_or d.now.0.items i 0) (λ d i. slice_index_or d.now.1.items i 0) (λ colors pos. color_at pos colors.now)
     c.new-in-Unhinted.ensures
