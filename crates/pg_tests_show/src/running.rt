@@ -5,6 +5,9 @@ use std::alloc::{AllocError, Global};
 use std::process::Abort;
 use std::test::Fail;
 
+/// The words that name a mode.
+pub(crate) const ALL_MODES: [&str; 4] = ["compact", "iter", "peek", "table"];
+
 /// What a run of the program leaves.
 #[derive(Drop)]
 struct Run {
@@ -23,11 +26,12 @@ pub(crate) fn arguments(alloc: Global, words: &[&str]) -> Result<Vec<String>, Al
 }
 
 // Runs the program with these arguments.
-fn run_with(alloc: Global, words: &[&str], script: &str) -> Result<Run, AllocError> {
+fn run_with(alloc: Global, words: &[&str], script: &[u8]) -> Result<Run, AllocError> {
     let words = arguments(alloc, words)?;
     let mut out = Vec::new(alloc);
     let mut err = Vec::new(alloc);
-    let status = run(alloc, &words, &mut script.as_bytes(), &mut out, &mut err);
+    let mut input = script;
+    let status = run(alloc, &words, &mut input, &mut out, &mut err);
     Ok(Run { status, out, err })
 }
 
@@ -46,10 +50,10 @@ pub(crate) fn assert_shown(
     (script, text): (&str, &str),
 ) -> Result<(), Fail> {
     for mode in modes {
-        let run = run_with(alloc, &[*mode], script)?;
-        assert_eq!(rt; run.status, 0);
-        assert_eq!(rt; run.out.as_slice(), text.as_bytes());
-        assert_eq!(rt; run.err.len(), 0);
+        let run = run_with(alloc, &[*mode], script.as_bytes())?;
+        assert_eq!(rt; run.status, 0, "{mode}: {script}");
+        assert_eq!(rt; run.out.as_slice(), text.as_bytes(), "{mode}: {script}");
+        assert_eq!(rt; run.err.len(), 0, "{mode}: {script}");
     }
     Ok(())
 }
@@ -61,10 +65,26 @@ pub(crate) fn assert_refused_with(
     words: &[&str],
     (script, line, status): (&str, &str, u8),
 ) -> Result<(), Fail> {
-    let run = run_with(alloc, words, script)?;
-    assert_eq!(rt; run.status, status);
-    assert_eq!(rt; run.out.len(), 0);
-    assert_eq!(rt; run.err.as_slice(), line.as_bytes());
+    let run = run_with(alloc, words, script.as_bytes())?;
+    assert_eq!(rt; run.status, status, "{script}");
+    assert_eq!(rt; run.out.len(), 0, "{script}");
+    assert_eq!(rt; run.err.as_slice(), line.as_bytes(), "{script}");
+    Ok(())
+}
+
+/// With each of these words alone these bytes, as a script, are bad, and this line says where.
+pub(crate) fn assert_bytes_bad(
+    rt: &impl Abort,
+    alloc: Global,
+    modes: &[&str],
+    (script, line): (&[u8], &str),
+) -> Result<(), Fail> {
+    for mode in modes {
+        let run = run_with(alloc, &[*mode], script)?;
+        assert_eq!(rt; run.status, 2);
+        assert_eq!(rt; run.out.len(), 0);
+        assert_eq!(rt; run.err.as_slice(), line.as_bytes());
+    }
     Ok(())
 }
 

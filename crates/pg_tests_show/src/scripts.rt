@@ -8,8 +8,8 @@ use std::test::Fail;
 /// What the program is told: these two words, in a run each.
 const MODES: &[&str] = &["peek", "iter"];
 
-// One text in a cell of this width and height is shown as this, where this is told besides.
-fn assert_cell(
+/// One text in a cell of this width and height is shown as this, where this is told besides.
+pub(crate) fn assert_cell(
     rt: &impl Abort,
     alloc: Global,
     (cell, width, height): (&str, usize, usize),
@@ -29,9 +29,9 @@ cell 1 0 1-0
 cell 1 1 1-1
 ";
 
-// Those texts in columns of these widths and rows of these heights, with ASCII borders, are shown as
-// this, where this is told besides.
-fn assert_four(
+/// The texts `0-0` to `1-1` in columns of these widths and rows of these heights, with ASCII borders,
+/// are shown as this, where this is told besides.
+pub(crate) fn assert_four(
     rt: &impl Abort,
     alloc: Global,
     (widths, heights): (&str, &str),

@@ -1,10 +1,6 @@
 //! Scripts, and what the program answers to them with the word `table`.
 
-use crate::running::{arguments, assert_refused, assert_shown};
-use pg_show::run;
-use pg_testing::refusing::Refusing;
-use std::alloc::Global;
-use std::process::Abort;
+use crate::running::{assert_refused, assert_shown};
 use std::test::Fail;
 
 /// What the program is told.
@@ -129,27 +125,4 @@ fn totals_past_64_bits_are_refused(rt: HostRuntime) -> Result<(), Fail> {
 fn lines_that_are_not_used_are_judged(rt: HostRuntime) -> Result<(), Fail> {
     let refused = ("size 1 1\nwidths 1 1\n", "line 2: bad\n", 2);
     assert_refused(&rt, rt.alloc(), MODES, refused)
-}
-
-// Whichever request for memory is refused: a status and a line of its own, and no table.
-#[test]
-fn each_refused_request_ends_the_run(rt: HostRuntime) -> Result<(), Fail> {
-    let alloc = rt.alloc();
-    let words = arguments(alloc, &["table"])?;
-    for k in 0..1000 {
-        let memory = Refusing::only(alloc, k);
-        let (mut out, mut err) = (Vec::new(alloc), Vec::new(alloc));
-        let mut input = FOUR_TEXTS.as_bytes();
-        let status = run(&memory, &words, &mut input, &mut out, &mut err);
-        if !memory.has_refused() {
-            assert!(&rt; k > 1);
-            assert_eq!(&rt; status, 0);
-            assert_eq!(&rt; out.as_slice(), FOUR_TEXTS_SHOWN.as_bytes());
-            return Ok(());
-        }
-        assert_eq!(&rt; status, 4);
-        assert_eq!(&rt; out.len(), 0);
-        assert_eq!(&rt; err.as_slice(), "out of memory\n".as_bytes());
-    }
-    panic!(&rt; "requests for memory without end");
 }
