@@ -6,6 +6,8 @@ mod fault;
 mod ledger;
 mod lines;
 mod sheet;
+#[cfg(test)]
+mod tests;
 
 use std::process::ExitCode;
 
