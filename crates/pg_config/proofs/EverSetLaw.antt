@@ -9,7 +9,7 @@ use Rattle.pg_layout.specs.declared.position.Entity.TheVariants.{Global, Row, Co
 use Rattle.pg_layout.specs.declared.position.Position.{Position}
 use Rattle.pg_layout.specs.declared.sides.Offset.{Offset}
 use Rattle.pg_layout.specs.declared.sides.Offset.TheVariants.{Start, End}
-use Rattle.pg_layout.specs.Places.{Key, same, before, with_place, without_first, without_second}
+use Rattle.pg_layout.specs.Places.{Key, same, before, with_place}
 use Rattle.pg_config.specs.Settings.{Settings, has_some, next_number, with_setting, is_set}
 use Rattle.pg_config.specs.Offsets.{Offsets, with_offset, has_offsets}
 use Rattle.pg_config.specs.Config.{Config, default_config, has_padding_color, has_justification, has_offset_chars}
@@ -29,9 +29,9 @@ module _ {V : Type 0} where
   set-is : (entity : Entity) (v : V) (s : Settings V) → is_set (with_setting entity v s) ≡ true
   unfolding is_set with_setting
   set-is Global v s = refl
-  set-is (Row r) v s = let some = some-with_place (r, 0, 0) (next_number s.columns, v) s.rows in rw some (or-true (is_some s.base || has_some (without_first r s.cells)))
-  set-is (Column c) v s = let some = some-with_place (c, 0, 0) (next_number s.rows, v) s.columns in rw (some, or-true (has_some s.rows)) (or-true (is_some s.base || has_some (without_second c s.cells)))
-  set-is (Cell r c) v s = let some = some-with_place (r, c, 0) v s.cells in rw (some, or-true (is_some s.base)) refl
+  set-is (Row r) v s = let some = some-with_place (r, 0, 0) (next_number s, v) s.rows in rw some (or-true (is_some s.base || has_some s.cells))
+  set-is (Column c) v s = let some = some-with_place (c, 0, 0) (next_number s, v) s.columns in rw (some, or-true (has_some s.rows)) (or-true (is_some s.base || has_some s.cells))
+  set-is (Cell r c) v s = let some = some-with_place (r, c, 0) (next_number s, v) s.cells in rw (some, or-true (is_some s.base)) refl
 
   offset-is : (p : Position) (offset : Offset) (v : V) (o : Offsets V) → has_offsets (with_offset p offset v o) ≡ true
   unfolding has_offsets with_offset

@@ -3,6 +3,7 @@ pub mod LinesLaw
 pub mod EqualLines
 pub mod OneStyle
 mod Lookups
+mod TakenBack
 mod OverrideColumns
 pub mod BorderLaw
 pub mod RowLineLaw
@@ -10,9 +11,9 @@ pub mod OffsetLaw
 pub mod SpanLaw
 pub mod EverSetLaw
 mod KeptSpans
-mod SettingNumbers
 pub mod SettingsForAll
 mod SpansAtPlaces
+mod CoveredPlaces
 pub mod SettingsLaw
 pub mod Computing
 pub mod RowsConfig

@@ -135,6 +135,47 @@ five_settings_elsewhere : setting_of five_settings (at 2 2) ≡ Some 1
 unfolding config_words
 five_settings_elsewhere = refl
 
+-- a column, two cells of row 1, and then that row over all three
+abbrev row_over_cells : Settings ℕ
+row_over_cells = with_setting (Row 1) 9 (with_setting (Cell 1 3) 8 (with_setting (Cell 1 2) 7 (with_setting (Column 2) 6 no_numbers)))
+
+the_row_counts_at_the_first_cell : setting_of row_over_cells (at 1 2) ≡ Some 9
+unfolding config_words
+the_row_counts_at_the_first_cell = refl
+
+the_row_counts_at_the_second_cell : setting_of row_over_cells (at 1 3) ≡ Some 9
+unfolding config_words
+the_row_counts_at_the_second_cell = refl
+
+the_row_counts_where_nothing_was : setting_of row_over_cells (at 1 0) ≡ Some 9
+unfolding config_words
+the_row_counts_where_nothing_was = refl
+
+the_column_counts_beside_the_row : setting_of row_over_cells (at 0 2) ≡ Some 6
+unfolding config_words
+the_column_counts_beside_the_row = refl
+
+nothing_counts_beside_both : setting_of row_over_cells (at 0 3) ≡ None
+unfolding config_words
+nothing_counts_beside_both = refl
+
+a_cell_set_again_counts_over_the_row : setting_of (with_setting (Cell 1 3) 5 row_over_cells) (at 1 3) ≡ Some 5
+unfolding config_words
+a_cell_set_again_counts_over_the_row = refl
+
+the_other_cell_stays_under_the_row : setting_of (with_setting (Cell 1 3) 5 row_over_cells) (at 1 2) ≡ Some 9
+unfolding config_words
+the_other_cell_stays_under_the_row = refl
+
+-- a row told three times has one setting, of the number after the last
+a_row_told_again_is_kept_once : (with_setting (Row 1) 9 (with_setting (Row 1) 8 (with_setting (Row 1) 7 no_numbers))).rows ≡ ((1, 0, 0), (2, 9)) ∷ []
+unfolding config_words
+a_row_told_again_is_kept_once = refl
+
+a_setting_for_all_takes_the_others_away : with_setting Global 5 row_over_cells ≡ with_setting Global 5 no_numbers
+unfolding config_words
+a_setting_for_all_takes_the_others_away = refl
+
 -- for every place, whatever was set before
 all_places_take_a_setting_for_all : (s : Settings ℕ) (p : Position) → setting_of (with_setting Global 5 s) p ≡ Some 5
 unfolding config_words

@@ -1,4 +1,5 @@
 pub mod Settings
+pub mod NotedPlaces
 pub mod Overrides
 pub mod Offsets
 pub mod Spans

@@ -71,3 +71,11 @@ module _ {G : Type 0} where
   -- a vertical place or a crossing of column line c is overridden
   unfoldable pub overrides_column : Overrides G → ℕ → Bool
   overrides_column o c = has_first c o.verticals || has_second c o.crossings
+
+-- the overrides, and an index of the columns of their crossings
+pub record Lines (G : Type 0) : Type 0 where
+  pub overrides : Overrides G
+  pub columns : List (Key × Unit {0})
+
+abbrev pub no_lines : {G : Type 0} → Lines G
+no_lines = record { overrides = no_overrides; columns = [] }

@@ -3,6 +3,8 @@
 
 mod compact;
 mod laws;
+mod lines;
+mod noted_places;
 mod offsets;
 mod overrides;
 mod settings;
@@ -16,4 +18,4 @@ pub use crate::laws::{
     the_latest_setting_counts, what_was_set_is_told,
 };
 pub use crate::spanned::SpannedConfig;
-pub use crate::spans::Span;
+pub use crate::spans::{Span, Spans};

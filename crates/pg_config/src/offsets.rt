@@ -70,6 +70,8 @@ impl<V: Drop, A: Allocator> Offsets<V, A> {
     /// Gives a glyph of this place a value. An error where memory is refused; then nothing changes.
     #[tactic(auto, unfolding(crate::specs::Offsets::with_offset))]
     pub fn set(&mut self, pos: Position, offset: Offset, value: V) -> Result<(), AllocError>
+    where
+        A: Clone,
         ensures ok { OnOk result (self.new ≡ with_offset pos offset value self.old) }
         ensures err { OnErr result (self.new ≡ self.old) }
         ensures again { IsSome (offset_at pos offset self.old) → IsOk result }

@@ -1,8 +1,8 @@
-//! Settings by entity: an answer is at most three searches.
+//! Settings by entity: an answer is at most three searches, and a setter is one.
 
-ghost use Rattle.std.specs.Prelude.{◌≡◌, ℕ, [], List, Option, Some, None, option_map, OnOk, OnErr, IsOk, IfSome, if◌then◌else◌};
-ghost use Rattle.pg_layout.specs.Position.{holds};
-ghost use Rattle.pg_config.specs.Settings.{no_settings, next_number, later, setting_of, with_setting, is_set, is_for_all};
+ghost use Rattle.std.specs.Prelude.{◌≡◌, ℕ, suc, ◌<◌, ◌-◌, ◌^◌, Option, Some, None, option_map, OnOk, OnErr, IsOk, IsSome};
+ghost use Rattle.pg_layout.specs.Places.{value_at, with_place};
+ghost use Rattle.pg_config.specs.Settings.{no_settings, latest, value_or, setting_of, with_setting, HasRoom, is_set, is_for_all};
 
 use pg_layout::{Entity, Key, Places, Position};
 use std::alloc::{AllocError, Allocator, Global};
@@ -10,21 +10,27 @@ use std::marker::Model;
 
 /// The settings of one kind: the latest one whose entity holds a place counts there.
 ///
-/// At most one is kept for each row, column and cell, and none that a later one covers.
+/// At most one is kept for each row, column and cell. One that later ones cover stays, unseen, until
+/// its entity or all places are told something.
 #[derive(Debug, Drop)]
 pub struct Settings<V, A: Allocator = Global> {
     base: Option<V>,
     rows: Places<(usize, V), A>,
     columns: Places<(usize, V), A>,
-    cells: Places<V, A>,
+    cells: Places<(usize, V), A>,
+    // The number of the next setting for a row, a column or a cell.
+    next: usize,
 }
 
 impl<V, A: Allocator> Model for Settings<V, A> {
-    ghost use Rattle.pg_config.specs.Settings.{Settings as Parts};
+    ghost use Rattle.std.specs.Prelude.{◌≡◌};
+    ghost use Rattle.pg_config.specs.Settings.{Settings as Parts, next_number};
 
     ghost Value = { Parts V };
 
     ghost view = { λ s. record { base = s.base; rows = s.rows; columns = s.columns; cells = s.cells } };
+
+    ghost invariant = { λ s. s.next ≡ next_number (record { base = s.base; rows = s.rows; columns = s.columns; cells = s.cells }) };
 }
 
 impl<V, A: Allocator + Copy> Settings<V, A> {
@@ -37,6 +43,7 @@ impl<V, A: Allocator + Copy> Settings<V, A> {
             rows: Places::new(alloc),
             columns: Places::new(alloc),
             cells: Places::new(alloc),
+            next: 0,
         }
     }
 }
@@ -66,14 +73,12 @@ impl<V, A: Allocator> Settings<V, A> {
     fn find(&self, pos: Position) -> Option<&V>
         ensures { option_map (λ x. x.now) result ≡ setting_of self.now pos }
     {
-        if let Some(value) = self.cells.get((pos.row, pos.col, 0)) {
-            return Some(value);
-        }
-        later(
+        let line = latest(
             self.rows.get((pos.row, 0, 0)),
             self.columns.get((pos.col, 0, 0)),
-            self.base.as_ref(),
-        )
+        );
+        let cell = self.cells.get((pos.row, pos.col, 0));
+        value_or(&self.base, latest(cell, line))
     }
 
     /// Whether something was set.
@@ -89,15 +94,20 @@ impl<V, A: Allocator> Settings<V, A> {
 }
 
 impl<V: Drop, A: Allocator> Settings<V, A> {
-    /// Sets a value for the places of an entity. The settings that it covers go.
+    /// Sets a value for the places of an entity.
     ///
-    /// An error where memory is refused, or where row and column settings took turns more often
-    /// than a `usize` counts; then nothing changes. A setting for all places takes no memory.
+    /// An error where memory is refused, or where 2^64 - 1 settings were made for rows, columns and
+    /// cells since the last one for all places, so that no number is left; then nothing changes.
+    /// A setting for all places takes all others away and takes no memory, nor does one for an
+    /// entity that has one.
     #[tactic(auto, unfolding(crate::specs::Settings::with_setting))]
     pub fn set(&mut self, entity: Entity, value: V) -> Result<(), AllocError>
+    where
+        A: Clone,
         ensures ok { OnOk result (self.new ≡ with_setting entity value self.old) }
         ensures err { OnErr result (self.new ≡ self.old) }
         ensures global { entity ≡ Entity.Global → IsOk result }
+        ensures again { HasRoom entity self.old → IsOk result }
     {
         match entity {
             Entity::Global => {
@@ -105,60 +115,57 @@ impl<V: Drop, A: Allocator> Settings<V, A> {
                 self.rows.clear();
                 self.columns.clear();
                 self.cells.clear();
+                self.next = 0;
+                Ok(())
             }
-            Entity::Row(row) => {
-                let Some(number) = next_number(self.columns.entries()) else {
-                    return Err(AllocError);
-                };
-                self.rows.set((row, 0, 0), (number, value))?;
-                self.cells.remove_first(row);
+            Entity::Row(row) => set_next(&mut self.rows, &mut self.next, (row, 0, 0), value),
+            Entity::Column(col) => set_next(&mut self.columns, &mut self.next, (col, 0, 0), value),
+            Entity::Cell(row, col) => {
+                set_next(&mut self.cells, &mut self.next, (row, col, 0), value)
             }
-            Entity::Column(col) => {
-                let Some(number) = next_number(self.rows.entries()) else {
-                    return Err(AllocError);
-                };
-                self.columns.set((col, 0, 0), (number, value))?;
-                self.cells.remove_second(col);
-            }
-            Entity::Cell(row, col) => self.cells.set((row, col, 0), value)?,
         }
-        Ok(())
     }
 }
 
-// Of a row's and a column's setting the later one, else the base.
-fn later<'a, V>(
-    row: Option<&'a (usize, V)>,
-    column: Option<&'a (usize, V)>,
-    base: Option<&'a V>,
-) -> Option<&'a V>
-    ensures { option_map (λ x. x.now) result ≡ later (option_map (λ x. x.now) row.entry) (option_map (λ x. x.now) column.entry) (option_map (λ x. x.now) base.entry) }
+// Gives the key a value with the next number, and moves the number on.
+fn set_next<V: Drop, A: Allocator + Clone>(
+    places: &mut Places<(usize, V), A>,
+    next: &mut usize,
+    key: Key,
+    value: V,
+) -> Result<(), AllocError>
+    ensures places { OnOk result (places.new ≡ with_place key (next.old, value) places.old) }
+    ensures next { OnOk result (next.new ≡ suc next.old) }
+    ensures same_places { OnErr result (places.new ≡ places.old) }
+    ensures same_next { OnErr result (next.new ≡ next.old) }
+    ensures again { IsSome (value_at key places.old) → next.old < 2 ^ 64 - 1 → IsOk result }
 {
-    match row {
-        None => match column {
-            None => base,
-            Some(column) => Some(&column.1),
-        },
-        Some(row) => match column {
-            None => Some(&row.1),
-            Some(column) => {
-                if row.0 < column.0 {
-                    Some(&column.1)
-                } else {
-                    Some(&row.1)
-                }
-            }
-        },
+    let number = *next;
+    let Some(after) = number.checked_add(1) else {
+        return Err(AllocError);
+    };
+    places.set(key, (number, value))?;
+    *next = after;
+    Ok(())
+}
+
+// The later of two settings.
+fn latest<'a, V>(a: Option<&'a (usize, V)>, b: Option<&'a (usize, V)>) -> Option<&'a (usize, V)>
+    ensures { option_map (λ x. x.now) result ≡ latest (option_map (λ x. x.now) a.entry) (option_map (λ x. x.now) b.entry) }
+{
+    match (a, b) {
+        (None, _) => b,
+        (_, None) => a,
+        (Some(first), Some(second)) => { if first.0 < second.0 { b } else { a } }
     }
 }
 
-// A number above all of those: `None` only where one of them is the greatest of its type.
-fn next_number<V>(lines: &[(Key, (usize, V))]) -> Option<usize>
-    ensures { IfSome result (λ n. n ≡ next_number lines.now) }
+// The value of the setting, else the base.
+fn value_or<'a, V>(base: &'a Option<V>, setting: Option<&'a (usize, V)>) -> Option<&'a V>
+    ensures { option_map (λ x. x.now) result ≡ value_or base.now (option_map (λ x. x.now) setting.entry) }
 {
-    let mut number = 0;
-    for line in lines {
-        number = number.max(line.1.0.checked_add(1)?);
+    match setting {
+        Some(setting) => Some(&setting.1),
+        None => base.as_ref(),
     }
-    Some(number)
 }

@@ -1,7 +1,7 @@
 //! What a table is told.
 
 ghost use Rattle.std.specs.Prelude.{◌≡◌, option_map, OnOk, OnErr, IsOk, None};
-ghost use Rattle.pg_config.specs.Settings.{with_setting};
+ghost use Rattle.pg_config.specs.Settings.{with_setting, HasRoom};
 ghost use Rattle.pg_config.specs.Config.{filled, default_config, get_padding, get_padding_color, get_alignment_horizontal, get_alignment_vertical, get_formatting, get_justification, get_justification_color, has_padding_color, has_justification, has_one_style};
 
 use crate::offsets::Offsets;
@@ -23,7 +23,9 @@ mod spans;
 /// What a table is told: borders, paddings, alignments, spans, margins and colours.
 ///
 /// A setter that answers an error, which is one of memory, changed nothing. A setting for all cells
-/// takes no memory, nor does a glyph or a colour at a place that has one.
+/// takes no memory, nor does one for a row, a column or a cell that has one, nor a glyph or a colour
+/// at a place that has one. After 2^64 - 1 settings of one kind for rows, columns and cells, the next
+/// one answers that error, too, until all cells are told something of that kind.
 #[derive(Debug)]
 pub struct SpannedConfig<A: Allocator = Global> {
     borders: Borders<char>,
@@ -154,9 +156,12 @@ impl<A: Allocator + Copy> SpannedConfig<A> {
 impl<A: Allocator> SpannedConfig<A> {
     /// Sets what stands between the sides of cells and their texts.
     pub fn set_padding(&mut self, entity: Entity, padding: Sides<Indent>) -> Result<(), AllocError>
+    where
+        A: Clone,
         ensures ok { OnOk result (self.new ≡ record self.old { padding = with_setting entity padding self.old.padding }) }
         ensures err { OnErr result (self.new ≡ self.old) }
         ensures global { entity ≡ Entity.Global → IsOk result }
+        ensures again { HasRoom entity self.old.padding → IsOk result }
     {
         self.padding.set(entity, padding)
     }
@@ -177,9 +182,12 @@ impl<A: Allocator> SpannedConfig<A> {
         entity: Entity,
         color: Sides<Option<ANSIBuf<A>>>,
     ) -> Result<(), AllocError>
+    where
+        A: Clone,
         ensures ok { OnOk result (self.new ≡ record self.old { padding_color = with_setting entity color self.old.padding_color }) }
         ensures err { OnErr result (self.new ≡ self.old) }
         ensures global { entity ≡ Entity.Global → IsOk result }
+        ensures again { HasRoom entity self.old.padding_color → IsOk result }
     {
         self.padding_color.set(entity, color)
     }
@@ -210,9 +218,12 @@ impl<A: Allocator> SpannedConfig<A> {
         entity: Entity,
         alignment: AlignmentHorizontal,
     ) -> Result<(), AllocError>
+    where
+        A: Clone,
         ensures ok { OnOk result (self.new ≡ record self.old { alignment_horizontal = with_setting entity alignment self.old.alignment_horizontal }) }
         ensures err { OnErr result (self.new ≡ self.old) }
         ensures global { entity ≡ Entity.Global → IsOk result }
+        ensures again { HasRoom entity self.old.alignment_horizontal → IsOk result }
     {
         self.alignment_horizontal.set(entity, alignment)
     }
@@ -235,9 +246,12 @@ impl<A: Allocator> SpannedConfig<A> {
         entity: Entity,
         alignment: AlignmentVertical,
     ) -> Result<(), AllocError>
+    where
+        A: Clone,
         ensures ok { OnOk result (self.new ≡ record self.old { alignment_vertical = with_setting entity alignment self.old.alignment_vertical }) }
         ensures err { OnErr result (self.new ≡ self.old) }
         ensures global { entity ≡ Entity.Global → IsOk result }
+        ensures again { HasRoom entity self.old.alignment_vertical → IsOk result }
     {
         self.alignment_vertical.set(entity, alignment)
     }
@@ -256,27 +270,36 @@ impl<A: Allocator> SpannedConfig<A> {
 
     /// Sets whether each line of a text is trimmed of white space.
     pub fn set_trim_horizontal(&mut self, entity: Entity, trims: bool) -> Result<(), AllocError>
+    where
+        A: Clone,
         ensures ok { OnOk result (self.new ≡ record self.old { trim_horizontal = with_setting entity trims self.old.trim_horizontal }) }
         ensures err { OnErr result (self.new ≡ self.old) }
         ensures global { entity ≡ Entity.Global → IsOk result }
+        ensures again { HasRoom entity self.old.trim_horizontal → IsOk result }
     {
         self.trim_horizontal.set(entity, trims)
     }
 
     /// Sets whether blank lines at the front and at the end of a text are left out.
     pub fn set_trim_vertical(&mut self, entity: Entity, trims: bool) -> Result<(), AllocError>
+    where
+        A: Clone,
         ensures ok { OnOk result (self.new ≡ record self.old { trim_vertical = with_setting entity trims self.old.trim_vertical }) }
         ensures err { OnErr result (self.new ≡ self.old) }
         ensures global { entity ≡ Entity.Global → IsOk result }
+        ensures again { HasRoom entity self.old.trim_vertical → IsOk result }
     {
         self.trim_vertical.set(entity, trims)
     }
 
     /// Sets whether each line of a text is aligned by its own width.
     pub fn set_line_alignment(&mut self, entity: Entity, aligns: bool) -> Result<(), AllocError>
+    where
+        A: Clone,
         ensures ok { OnOk result (self.new ≡ record self.old { line_alignment = with_setting entity aligns self.old.line_alignment }) }
         ensures err { OnErr result (self.new ≡ self.old) }
         ensures global { entity ≡ Entity.Global → IsOk result }
+        ensures again { HasRoom entity self.old.line_alignment → IsOk result }
     {
         self.line_alignment.set(entity, aligns)
     }
@@ -309,9 +332,12 @@ impl<A: Allocator> SpannedConfig<A> {
 
     /// Sets the character that fills the room beside a text's lines.
     pub fn set_justification(&mut self, entity: Entity, fill: char) -> Result<(), AllocError>
+    where
+        A: Clone,
         ensures ok { OnOk result (self.new ≡ record self.old { justification = with_setting entity fill self.old.justification }) }
         ensures err { OnErr result (self.new ≡ self.old) }
         ensures global { entity ≡ Entity.Global → IsOk result }
+        ensures again { HasRoom entity self.old.justification → IsOk result }
     {
         self.justification.set(entity, fill)
     }
@@ -331,9 +357,12 @@ impl<A: Allocator> SpannedConfig<A> {
         entity: Entity,
         color: Option<ANSIBuf<A>>,
     ) -> Result<(), AllocError>
+    where
+        A: Clone,
         ensures ok { OnOk result (self.new ≡ record self.old { justification_color = with_setting entity color self.old.justification_color }) }
         ensures err { OnErr result (self.new ≡ self.old) }
         ensures global { entity ≡ Entity.Global → IsOk result }
+        ensures again { HasRoom entity self.old.justification_color → IsOk result }
     {
         self.justification_color.set(entity, color)
     }

@@ -1,6 +1,9 @@
 -- Lemmas of this crate.
 pub mod PlacesOrder
 pub mod PlacesLookups
+mod PlacesInTrees
+pub mod PlacesSearches
+mod PlacesExchanged
 pub mod PlacesInColor
 pub mod TextLines
 pub mod TextWidths

@@ -39,6 +39,8 @@ impl<A: Allocator> ColorsMap<A> {
     ///
     /// Asks for memory only where the place had no colour; where that is refused, nothing changes.
     pub fn set(&mut self, pos: Position, color: ANSIBuf<A>) -> Result<(), AllocError>
+    where
+        A: Clone,
         ensures ok { OnOk result (self.new ≡ with_place (place_key pos) color self.old) }
         ensures latest { OnOk result (IsColored pos color self.old self.new) }
         ensures err { OnErr result (self.new ≡ self.old) }

@@ -23,7 +23,7 @@ pub use crate::colors_map::ColorsMap;
 pub use crate::dimension::{ConstantDimension, Dimension, EvenDimension};
 pub use crate::iter_records::{IterRecords, IterRows};
 pub use crate::line_cursor::LineCursor;
-pub use crate::places::{Key, Places, has_first, holds, put, put_some, value_at};
+pub use crate::places::{Key, Places};
 pub use crate::position::{Entity, Position};
 pub use crate::records::{ExactRecords, PeekableRecords, Records};
 pub use crate::sides::{Indent, Offset, Sides};

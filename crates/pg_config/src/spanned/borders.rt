@@ -42,6 +42,8 @@ impl<A: Allocator> SpannedConfig<A> {
     ///
     /// The place is before the last row and the last column that a `usize` counts.
     pub fn set_border(&mut self, pos: Position, border: Border<char>) -> Result<(), AllocError>
+    where
+        A: Clone,
         requires row { pos.row < usize.MAX }
         requires col { pos.col < usize.MAX }
         ensures ok { OnOk result (self.new ≡ record self.old { overrides = with_border pos border self.old.overrides }) }
@@ -54,14 +56,16 @@ impl<A: Allocator> SpannedConfig<A> {
     /// line has: of its horizontals by `main`, of the crossings at its ends by `left` and `right`, and
     /// of those between by `intersection`. Without columns nothing changes.
     ///
-    /// Row line 0 is above the first row, and row line `r` below row `r - 1`. Asks for room for all
-    /// these places first, also for those that have a glyph.
+    /// Row line 0 is above the first row, and row line `r` below row `r - 1`. Asks for memory also
+    /// where all these places have a glyph: the old ones are noted until the new ones stand.
     pub fn set_row_line(
         &mut self,
         row: usize,
         columns: usize,
         line: HorizontalLine<char>,
     ) -> Result<(), AllocError>
+    where
+        A: Clone,
         ensures ok { OnOk result (self.new ≡ record self.old { overrides = with_row_line row columns line self.old.overrides }) }
         ensures err { OnErr result (self.new ≡ self.old) }
     {
@@ -196,6 +200,8 @@ impl<A: Allocator> SpannedConfig<A> {
         pos: Position,
         border: Border<ANSIBuf<A>>,
     ) -> Result<(), AllocError>
+    where
+        A: Clone,
         requires row { pos.row < usize.MAX }
         requires col { pos.col < usize.MAX }
         ensures ok { OnOk result (self.new ≡ record self.old { color_overrides = with_border pos border self.old.color_overrides; border_colored = true }) }

@@ -16,6 +16,8 @@ impl<A: Allocator> SpannedConfig<A> {
         offset: Offset,
         glyph: char,
     ) -> Result<(), AllocError>
+    where
+        A: Clone,
         ensures ok { OnOk result (self.new ≡ record self.old { horizontal_chars = with_offset pos offset glyph self.old.horizontal_chars }) }
         ensures err { OnErr result (self.new ≡ self.old) }
         ensures again { IsSome (offset_at pos offset self.old.horizontal_chars) → IsOk result }
@@ -39,6 +41,8 @@ impl<A: Allocator> SpannedConfig<A> {
         offset: Offset,
         color: ANSIBuf<A>,
     ) -> Result<(), AllocError>
+    where
+        A: Clone,
         ensures ok { OnOk result (self.new ≡ record self.old { horizontal_colors = with_offset pos offset color self.old.horizontal_colors }) }
         ensures err { OnErr result (self.new ≡ self.old) }
         ensures again { IsSome (offset_at pos offset self.old.horizontal_colors) → IsOk result }
@@ -62,6 +66,8 @@ impl<A: Allocator> SpannedConfig<A> {
         offset: Offset,
         glyph: char,
     ) -> Result<(), AllocError>
+    where
+        A: Clone,
         ensures ok { OnOk result (self.new ≡ record self.old { vertical_chars = with_offset pos offset glyph self.old.vertical_chars }) }
         ensures err { OnErr result (self.new ≡ self.old) }
         ensures again { IsSome (offset_at pos offset self.old.vertical_chars) → IsOk result }
@@ -86,6 +92,8 @@ impl<A: Allocator> SpannedConfig<A> {
         offset: Offset,
         color: ANSIBuf<A>,
     ) -> Result<(), AllocError>
+    where
+        A: Clone,
         ensures ok { OnOk result (self.new ≡ record self.old { vertical_colors = with_offset pos offset color self.old.vertical_colors }) }
         ensures err { OnErr result (self.new ≡ self.old) }
         ensures again { IsSome (offset_at pos offset self.old.vertical_colors) → IsOk result }

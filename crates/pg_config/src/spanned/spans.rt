@@ -5,7 +5,7 @@ ghost use Rattle.pg_layout.specs.Places.{IsAscending, value_at};
 ghost use Rattle.pg_config.specs.Spans.{StandAtPlaces, span_key, rect_rows, rect_columns, with_column_span, with_row_span, get_column_span, get_row_span, has_column_spans, has_row_spans, left_span, span_above, is_visible, is_covered_by_column, is_covered_by_row, is_covered_by_both};
 
 use crate::spanned::SpannedConfig;
-use crate::spans::Span;
+use crate::spans::{Span, Spans};
 use pg_layout::Position;
 use std::alloc::{AllocError, Allocator};
 
@@ -15,6 +15,8 @@ impl<A: Allocator> SpannedConfig<A> {
     ///
     /// Whether the spans fit a table is not asked here (`pg_picture::fits::spans_fit`).
     pub fn set_column_span(&mut self, pos: Position, columns: usize) -> Result<(), AllocError>
+    where
+        A: Clone,
         ensures ok { OnOk result (self.new ≡ record self.old { spans = with_column_span pos columns self.old.spans }) }
         ensures err { OnErr result (self.new ≡ self.old) }
         ensures again { IsSome (value_at (span_key pos) self.old.spans) → IsOk result }
@@ -26,6 +28,8 @@ impl<A: Allocator> SpannedConfig<A> {
     /// Makes a cell span so many rows, itself among them; 1 takes the span away. Asks for memory only
     /// for a cell without a span.
     pub fn set_row_span(&mut self, pos: Position, rows: usize) -> Result<(), AllocError>
+    where
+        A: Clone,
         ensures ok { OnOk result (self.new ≡ record self.old { spans = with_row_span pos rows self.old.spans }) }
         ensures err { OnErr result (self.new ≡ self.old) }
         ensures again { IsSome (value_at (span_key pos) self.old.spans) → IsOk result }
@@ -69,12 +73,14 @@ impl<A: Allocator> SpannedConfig<A> {
     }
 
     /// The rectangles of all cells with a span, in the order of their columns and then rows.
-    pub fn spans(&self) -> &[Span]
+    pub fn spans(&self) -> &Spans<A>
         ensures all { result.now ≡ self.now.spans }
         ensures ascending { IsAscending self.now.spans }
         ensures places { StandAtPlaces self.now.spans }
     {
-        self.spans.entries()
+        // Shows that they stand in order, and at places.
+        let _rectangles = self.spans.iter();
+        &self.spans
     }
 
     /// The rectangle that holds a place and has its left column there, found by one search in the

@@ -1,20 +1,12 @@
-use Rattle.std.proofs.Common.{false, sym, ◌∙◌, ap, subst, arith}
-use Rattle.std.proofs.lemmas.Bool.Decides.{nat_tests}
-use Rattle.pg_layout.specs.Places.{IsAscending, count_to, begins_pair}
-use Rattle.pg_layout.proofs.PlacesOrder.{has_pair_is, has_pair_none}
+use Rattle.std.proofs.Common.{sym, ap, ◌∙◌}
+use Rattle.pg_layout.specs.Places.{has_pair, begins_pair}
+use Rattle.pg_layout.proofs.PlacesInTrees.{has_pair-key, first_is}
 use Rattle.pg_layout.proofs.places.Places.find_pair.Goals as goal
 
 pub returns-in-Some : goal.returns-in-Some
 returns-in-Some g c =
-    let up = subst IsAscending c.self.view_is c.self.invariant in
-    let at = c.count_to-at.ensures ∙ ap (λ es. count_to false (c.args.first, c.args.second, 0) es) (c.deref.ensures.value ∙ c.self.view_is) in
-    let same_list = c.deref-2.ensures.value ∙ c.self.view_is in
-    let entry = (rw (at, same_list) at c.in-Some.ensures.lookup) in
-    c.eq.ensures ∙ ap (λ e. begins_pair c.args.first c.args.second e.0) entry.1 ∙ sym (has_pair_is c.args.first c.args.second c.args.self.now c.in-Some.entry.now up (grind (arith, nat_tests, entry.0)))
+    c.eq.ensures ∙ sym (ap (λ es. has_pair c.args.first c.args.second es) (sym c.self.view_is) ∙ has_pair-key c.args.first c.args.second c.self.inside.entries.entries c.self.invariant ∙ ap (first_is (begins_pair c.args.first c.args.second)) (sym (c.range-entries.ensures.between _) ∙ c.in-Some.ensures.steps))
 
 pub returns-in-None : goal.returns-in-None
 returns-in-None g c =
-    let at = c.count_to-at.ensures ∙ ap (λ es. count_to false (c.args.first, c.args.second, 0) es) (c.deref.ensures.value ∙ c.self.view_is) in
-    let same_list = c.deref-2.ensures.value ∙ c.self.view_is in
-    let entry = (rw (at, same_list) at c.in-None.ensures.lookup) in
-    sym (has_pair_none c.args.first c.args.second c.args.self.now (grind (arith, nat_tests, entry.0)))
+    sym (ap (λ es. has_pair c.args.first c.args.second es) (sym c.self.view_is) ∙ has_pair-key c.args.first c.args.second c.self.inside.entries.entries c.self.invariant ∙ ap (first_is (begins_pair c.args.first c.args.second)) (sym (c.range-entries.ensures.between _) ∙ c.in-None.ensures.steps.0))

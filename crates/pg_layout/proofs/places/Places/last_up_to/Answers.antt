@@ -1,20 +1,12 @@
-use Rattle.std.proofs.Common.{true, Some, sym, ◌∙◌, ap, arith}
-use Rattle.pg_layout.specs.Places.{count_to}
-use Rattle.pg_layout.proofs.PlacesOrder.{last_none, last_some, count-le}
+use Rattle.std.proofs.Common.{sym, ap, ◌∙◌}
+use Rattle.pg_layout.specs.Places.{last_up_to}
+use Rattle.pg_layout.proofs.PlacesInTrees.{last_up_to-key, last_of, last_of-end}
 use Rattle.pg_layout.proofs.places.Places.last_up_to.Goals as goal
 
-pub returns-then-count-eq0 : goal.returns-then-count-eq0
-returns-then-count-eq0 g c =
-    let count = c.count_to-count.ensures ∙ ap (λ es. count_to true c.args.key es) (c.deref.ensures.value ∙ c.self.view_is) in
-    sym (last_none c.args.key c.args.self.now (sym count ∙ c.if-count-eq0.true))
+pub returns-in-Some : goal.returns-in-Some
+returns-in-Some g c =
+    sym (ap (λ es. last_up_to c.args.key es) (sym c.self.view_is) ∙ last_up_to-key c.args.key c.self.inside.entries.entries c.self.invariant ∙ ap last_of (sym (c.range-entries.ensures.between _) ∙ c.in-Some.ensures.steps) ∙ last_of-end _ _)
 
-pub index-requires : goal.index-requires
-index-requires g c =
-    let within = count-le true c.args.key c.deref.result.now in
-    omega (arith, within, c.count_to-count.ensures, c.deref.ensures.len, c.if-count-eq0.false)
-
-pub returns : goal.returns
-returns g c =
-    let count = c.count_to-count.ensures ∙ ap (λ es. count_to true c.args.key es) (c.deref.ensures.value ∙ c.self.view_is) in
-    let entry = (rw (count, c.self.view_is) at c.index.ensures) in
-    ap (λ e. Some e) entry ∙ sym (last_some c.args.key c.args.self.now c.index.result.now (omega (arith, count, c.if-count-eq0.false)))
+pub returns-in-None : goal.returns-in-None
+returns-in-None g c =
+    sym (ap (λ es. last_up_to c.args.key es) (sym c.self.view_is) ∙ last_up_to-key c.args.key c.self.inside.entries.entries c.self.invariant ∙ ap last_of (sym (c.range-entries.ensures.between _) ∙ c.in-None.ensures.steps.0))

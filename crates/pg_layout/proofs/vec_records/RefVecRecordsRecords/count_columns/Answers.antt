@@ -1,4 +1,4 @@
-use Rattle.std.proofs.Common.{◌≡◌, ◌∙◌, sym, ap, None, map, length, All}
+use Rattle.std.proofs.Common.{◌≡◌, ◌∙◌, sym, ap, None, map}
 use Rattle.pg_layout.specs.Records.{columns_of, ragged_row}
 use Rattle.pg_layout.proofs.Rows.{even-texts}
 use Rattle.pg_layout.proofs.vec_records.RefVecRecordsRecords.count_columns.Goals as goal

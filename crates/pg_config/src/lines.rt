@@ -1,0 +1,185 @@
+//! The values of border lines, which change together or not at all.
+
+ghost use Rattle.std.specs.Prelude.{◌≡◌, ◌+◌, ◌^◌, ◌<◌, [], Bool, OnOk};
+ghost use Rattle.pg_layout.specs.Places.{with_some};
+ghost use Rattle.pg_config.specs.NotedPlaces.{settled, settled_at};
+ghost use Rattle.pg_config.specs.Overrides.{HasColumns, no_lines, with_border, with_row, line_crossing, with_row_line};
+
+use crate::noted_places::NotedPlaces;
+use pg_layout::{Border, HorizontalLine, Position};
+use std::alloc::{AllocError, Allocator, Global};
+use std::marker::Model;
+
+/// The values of single places: horizontals and crossings by row and column, verticals by column
+/// and row.
+#[derive(Debug, Drop)]
+pub struct Lines<G, A: Allocator = Global> {
+    pub horizontals: NotedPlaces<G, A>,
+    pub verticals: NotedPlaces<G, A>,
+    pub crossings: NotedPlaces<G, A>,
+    /// An entry at (c, 0, 0) for each column c of the crossings.
+    pub columns: NotedPlaces<(), A>,
+}
+
+impl<G, A: Allocator> Model for Lines<G, A> {
+    ghost use Rattle.pg_config.specs.NotedPlaces.{Noted};
+    ghost use Rattle.pg_config.specs.Overrides.{Lines as Parts};
+
+    ghost Value = { Noted (Parts G) };
+
+    ghost view = { λ l. record { now = record { overrides = record { horizontals = l.horizontals.now; verticals = l.verticals.now; crossings = l.crossings.now }; columns = l.columns.now }; before = record { overrides = record { horizontals = l.horizontals.before; verticals = l.verticals.before; crossings = l.crossings.before }; columns = l.columns.before } } };
+}
+
+impl<G, A: Allocator + Copy> Lines<G, A> {
+    /// No value. Takes no memory.
+    pub fn new(alloc: A) -> Lines<G, A>
+        ensures { result ≡ settled_at no_lines }
+    {
+        Lines {
+            horizontals: NotedPlaces::new(alloc),
+            verticals: NotedPlaces::new(alloc),
+            crossings: NotedPlaces::new(alloc),
+            columns: NotedPlaces::new(alloc),
+        }
+    }
+}
+
+impl<G: Drop, A: Allocator + Clone> Lines<G, A> {
+    /// Has the changes stay, or takes them back. Takes no memory.
+    pub fn settle(&mut self, stays: bool)
+        ensures { self.new ≡ settled stays self.old }
+    {
+        self.horizontals.settle(stays);
+        self.verticals.settle(stays);
+        self.crossings.settle(stays);
+        self.columns.settle(stays);
+    }
+
+    /// Gives the eight places round a cell the values of this border, or some of them where memory
+    /// is refused.
+    #[tactic(auto, unfolding(crate::specs::Overrides::with_border))]
+    pub fn put_border(&mut self, pos: Position, border: Border<G>) -> Result<(), AllocError>
+        requires row { pos.row < usize.MAX }
+        requires col { pos.col < usize.MAX }
+        requires has_columns { HasColumns self.old.now.columns self.old.now.overrides.crossings }
+        ensures ok { OnOk result (self.new.now.overrides ≡ with_border pos border self.old.now.overrides) }
+        ensures has_columns { OnOk result (HasColumns self.new.now.columns self.new.now.overrides.crossings) }
+        ensures before { self.new.before ≡ self.old.before }
+    {
+        let (row, col) = (pos.row, pos.col);
+        self.horizontals.put((row, col, 0), border.top)?;
+        self.horizontals.put((row + 1, col, 0), border.bottom)?;
+        self.verticals.put((col, row, 0), border.left)?;
+        self.verticals.put((col + 1, row, 0), border.right)?;
+        let (crossings, columns) = (&mut self.crossings, &mut self.columns);
+        put_crossing(crossings, columns, row, col, border.top_left)?;
+        put_crossing(crossings, columns, row, col + 1, border.top_right)?;
+        put_crossing(crossings, columns, row + 1, col, border.bottom_left)?;
+        put_crossing(crossings, columns, row + 1, col + 1, border.bottom_right)
+    }
+}
+
+impl<A: Allocator + Clone> Lines<char, A> {
+    /// Gives the horizontals and the crossings of a row line of so many columns the glyphs of this
+    /// line, or some of them where memory is refused.
+    ///
+    /// Asks for room for the notes first, so that a line of more places than there is memory for is
+    /// refused at once.
+    #[tactic(auto, unfolding(crate::specs::Overrides::with_row_line))]
+    pub fn put_row_line(
+        &mut self,
+        row: usize,
+        columns: usize,
+        line: HorizontalLine<char>,
+    ) -> Result<(), AllocError>
+        requires some { 0 < columns }
+        requires has_columns { HasColumns self.old.now.columns self.old.now.overrides.crossings }
+        ensures ok { OnOk result (self.new.now.overrides ≡ with_row_line row columns line self.old.now.overrides) }
+        ensures has_columns { OnOk result (HasColumns self.new.now.columns self.new.now.overrides.crossings) }
+        ensures before { self.new.before ≡ self.old.before }
+    {
+        self.horizontals.reserve(columns)?;
+        self.crossings.reserve(columns)?;
+        put_horizontals(&mut self.horizontals, row, columns, line.main)?;
+        let (crossings, index) = (&mut self.crossings, &mut self.columns);
+        put_crossings(crossings, index, row, columns, line)
+    }
+}
+
+// Gives the first horizontals of a row line this glyph, if there is one, or some of them.
+fn put_horizontals<A: Allocator + Clone>(
+    horizontals: &mut NotedPlaces<char, A>,
+    row: usize,
+    columns: usize,
+    glyph: Option<char>,
+) -> Result<(), AllocError>
+    ensures ok { OnOk result (horizontals.new.now ≡ with_row row columns (λ c. glyph) horizontals.old.now) }
+    ensures before { horizontals.new.before ≡ horizontals.old.before }
+{
+    for col in 0..columns {
+        horizontals.put((row, col, 0), glyph)?;
+    }
+    Ok(())
+}
+
+// Gives the crossings of a row line of so many columns the glyphs of this line, and lists their
+// columns, or some of them.
+fn put_crossings<A: Allocator + Clone>(
+    crossings: &mut NotedPlaces<char, A>,
+    index: &mut NotedPlaces<(), A>,
+    row: usize,
+    columns: usize,
+    line: HorizontalLine<char>,
+) -> Result<(), AllocError>
+    requires has_columns { HasColumns index.old.now crossings.old.now }
+    ensures ok { OnOk result (crossings.new.now ≡ with_row row (columns + 1) (λ c. line_crossing line columns c) crossings.old.now) }
+    ensures has_columns { OnOk result (HasColumns index.new.now crossings.new.now) }
+    ensures before { crossings.new.before ≡ crossings.old.before }
+    ensures before_columns { index.new.before ≡ index.old.before }
+{
+    for col in 0..columns {
+        put_crossing(crossings, index, row, col, crossing_of(line, columns, col))?;
+    }
+    put_crossing(
+        crossings,
+        index,
+        row,
+        columns,
+        crossing_of(line, columns, columns),
+    )
+}
+
+// The glyph of a crossing of a line of so many columns.
+fn crossing_of(line: HorizontalLine<char>, columns: usize, col: usize) -> Option<char>
+    ensures { result ≡ line_crossing line columns col }
+{
+    if col == 0 {
+        line.left
+    } else if col == columns {
+        line.right
+    } else {
+        line.intersection
+    }
+}
+
+// Gives a crossing this value, if there is one, and lists its column, or does one of the two where
+// memory is refused.
+fn put_crossing<G: Drop, A: Allocator + Clone>(
+    crossings: &mut NotedPlaces<G, A>,
+    columns: &mut NotedPlaces<(), A>,
+    row: usize,
+    col: usize,
+    value: Option<G>,
+) -> Result<(), AllocError>
+    requires has_columns { HasColumns columns.old.now crossings.old.now }
+    ensures ok { OnOk result (crossings.new.now ≡ with_some (row, col, 0) value crossings.old.now) }
+    ensures has_columns { OnOk result (HasColumns columns.new.now crossings.new.now) }
+    ensures before { crossings.new.before ≡ crossings.old.before }
+    ensures before_columns { columns.new.before ≡ columns.old.before }
+{
+    let Some(value) = value else {
+        return Ok(());
+    };
+    crossings.put((row, col, 0), Some(value))?;
+    columns.put((col, 0, 0), Some(()))
+}

@@ -1,0 +1,108 @@
+//! Values by key whose latest changes can be taken back.
+
+ghost use Rattle.std.specs.Prelude.{◌≡◌, [], OnOk, OnErr};
+ghost use Rattle.pg_layout.specs.Places.{with_some};
+ghost use Rattle.pg_config.specs.NotedPlaces.{settled, settled_at};
+
+use pg_layout::{Key, Places};
+use std::alloc::{AllocError, Allocator, Global};
+use std::marker::Model;
+
+/// Room for so many notes is kept for the next changes, enough for the border of a cell.
+const KEPT_NOTES: usize = 8;
+
+/// Values by key, with notes of what each changed key held before.
+///
+/// A setter of several values makes its changes one after another, and settles them at its end: they
+/// stay, or, where memory was refused to one of them, all are taken back. That needs no memory: a
+/// key that gets back a value is there, and another one is taken out.
+#[derive(Debug, Drop)]
+pub struct NotedPlaces<V, A: Allocator = Global> {
+    places: Places<V, A>,
+    // What a changed key held, the latest change last.
+    held: Vec<(Key, Option<V>), A>,
+}
+
+impl<V, A: Allocator> Model for NotedPlaces<V, A> {
+    ghost use Rattle.std.specs.Prelude.{List};
+    ghost use Rattle.pg_layout.specs.Places.{Key};
+    ghost use Rattle.pg_config.specs.NotedPlaces.{Noted, taken_back, CanTakeBack};
+
+    ghost Value = { Noted (List (Key × V)) };
+
+    ghost view = { λ p. record { now = p.places; before = taken_back p.held.items p.places } };
+
+    ghost invariant = { λ p. CanTakeBack p.held.items p.places };
+}
+
+impl<V, A: Allocator + Copy> NotedPlaces<V, A> {
+    /// No entries. Takes no memory.
+    pub fn new(alloc: A) -> NotedPlaces<V, A>
+        ensures { result ≡ settled_at [] }
+    {
+        NotedPlaces {
+            places: Places::new(alloc),
+            held: Vec::new(alloc),
+        }
+    }
+}
+
+impl<V, A: Allocator> NotedPlaces<V, A> {
+    /// The values as they are now.
+    #[inline(always)]
+    pub fn places(&self) -> &Places<V, A>
+        ensures { result.now ≡ self.now.now }
+    {
+        &self.places
+    }
+}
+
+impl<V: Drop, A: Allocator + Clone> NotedPlaces<V, A> {
+    /// Makes room for the notes of so many changes. Nothing changes, whether there is room or not.
+    pub fn reserve(&mut self, changes: usize) -> Result<(), AllocError>
+        ensures { self.new ≡ self.old }
+    {
+        self.held.reserve(changes)
+    }
+
+    /// Gives the key this value, if there is one, and notes what it held.
+    ///
+    /// Where memory is refused, for the note or for a new key, nothing changes.
+    pub fn put(&mut self, key: Key, value: Option<V>) -> Result<(), AllocError>
+        ensures ok { OnOk result (self.new.now ≡ with_some key value self.old.now) }
+        ensures err { OnErr result (self.new ≡ self.old) }
+        ensures before { self.new.before ≡ self.old.before }
+    {
+        let Some(value) = value else {
+            return Ok(());
+        };
+        self.held.reserve(1)?;
+        let held = self.places.exchange(key, Some(value))?;
+        let noted = self.held.push((key, held));
+        drop(noted);
+        Ok(())
+    }
+
+    /// Has the changes stay, or takes them back, and forgets the notes. Takes no memory.
+    pub fn settle(&mut self, stays: bool)
+        ensures { self.new ≡ settled stays self.old }
+    {
+        if !stays {
+            self.take_back();
+        }
+        self.held.clear();
+        if self.held.capacity() > KEPT_NOTES {
+            self.held.shrink_to_fit();
+        }
+    }
+
+    // Gives each changed key what it held, the latest change first.
+    fn take_back(&mut self)
+        ensures { self.new ≡ settled_at self.old.before }
+    {
+        while let Some((key, held)) = self.held.pop() {
+            let done = self.places.exchange(key, held);
+            drop(done);
+        }
+    }
+}
