@@ -11,7 +11,7 @@ use Rattle.pg_layout.specs.Records.{text_at, AlwaysGives}
 use Rattle.pg_layout.specs.Text.{Text}
 use Rattle.pg_config.specs.declared.compact.CompactConfig.{CompactConfig}
 use Rattle.pg_config.specs.CompactConfig.{settings_of}
-use Rattle.pg_picture.specs.CompactLines.{CompactTable, compact_indent, colored_glyph, compact_cell, Part, part_if, main_part, padding_row, text_row, compact_margin, line_if, separator_row, top_line, bottom_line}
+use Rattle.pg_picture.specs.CompactLines.{CompactTable, compact_indent, colored_glyph, compact_cell, Part, part_if, main_part, padding_row, text_row, compact_margin, line_if, separator_row, top_line, bottom_line, inner_line}
 use Rattle.pg_picture.specs.CompactSizes.{compact_sized}
 use Rattle.pg_picture.specs.Fits.{compact_misfit_of}
 use Rattle.pg_picture.specs.declared.fits.Misfit.{Misfit}
@@ -102,6 +102,14 @@ padding_column t color x = inner_glyph t x ++ compact_indent 32 (t.width x) colo
 -- what a column adds to a separator: the crossing before it, and its horizontal
 unfoldable pub column_parts : CompactTable → HorizontalLine ℕ → HorizontalLine Color → ℕ → List Part
 column_parts t g c x = (if x == 0 then [] else part_if g.intersection c.intersection) ++ main_part g.main c.main (t.width x)
+
+-- the separator between two rows
+abbrev pub inner_separator : CompactTable → Text
+inner_separator t = separator_row t (inner_line t.config.borders) (inner_line t.config.borders_color)
+
+-- the text is that of each separator between two rows
+abbrev pub IsInnerSeparator : CompactTable → Text → Type 0
+IsInnerSeparator t text = text ≡ inner_separator t
 
 -- the lines of a row, without the separator above it
 unfoldable pub lines_of_row : CompactTable → ℕ → List Text

@@ -43,6 +43,6 @@ IsSeparator t text = (r : ℕ) → 0 < r → r < t.rows → text ≡ separator_t
 
 -- all that is kept is right in this table
 pub record AreKept (t : Table) (kept : KeptCells) : Type 0 where
-  pub cells : (x : ℕ) → IfSome (slice_index_or kept.cells x None) (IsKept t)
-  pub rectangles : (x : ℕ) → IfSome (slice_index_or kept.rectangles x None) (IsRectangle t)
+  pub cells : (x : ℕ) → IfSome (slice_index_or kept.cells.now x None) (IsKept t)
+  pub rectangles : (x : ℕ) → IfSome (slice_index_or kept.rectangles.now x None) (IsRectangle t)
   pub separator : IfSome kept.separator (λ text. IsSeparator t text)

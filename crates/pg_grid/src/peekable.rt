@@ -1,7 +1,6 @@
 //! The looked-up grid: it reads its records at any place.
 
 use crate::fault::PrintFault;
-use crate::peekable::kept::KeptCells;
 use crate::peekable::path::Path;
 use pg_config::SpannedConfig;
 use pg_layout::{Colors, Dimension, ExactRecords, PeekableRecords};
@@ -14,6 +13,7 @@ mod kept;
 mod path;
 mod rows;
 mod separators;
+mod slots;
 mod spanned;
 
 /// How many rows and columns a table has, how many lines its body, and the path that draws it.
@@ -166,9 +166,8 @@ where
             path,
         };
         let is_first = self.config.get_margin().top.size == 0;
-        let mut kept = KeptCells::new();
         push_top_margin(buf, self.config, width)?;
-        self.push_body(buf, &mut kept, shape, is_first)?;
+        self.push_kept_body(buf, shape, is_first)?;
         push_bottom_margin(buf, self.config, width, is_first && height == 0)
     }
 }

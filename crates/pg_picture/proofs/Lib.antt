@@ -22,6 +22,7 @@ pub mod Rooms
 pub mod HeightsOfRectangles
 pub mod FittingTables
 pub mod SpansByPlaces
+pub mod SpansByColumns
 pub mod OwnersOfPlaces
 pub mod LeftColumns
 pub mod WalksOfRows

@@ -1,10 +1,9 @@
 -- The test of spans, place by place.
-use Rattle.std.proofs.Common.{◌≡◌, ℕ, zero, suc, ◌+◌, ◌<◌, ◌≤◌, max, true, false, ◌&&◌, nat_le, List, [], ◌∷◌, length, drop, All, slice_index_or, refl, arith, inl, inr, add-one}
+use Rattle.std.proofs.Common.{◌≡◌, ℕ, zero, suc, ◌+◌, ◌<◌, ◌≤◌, max, true, false, List, [], ◌∷◌, length, All, slice_index_or, refl, arith, inl, inr}
 use Rattle.std.specs.List.{list_all, AllPairs}
 use Rattle.std.proofs.lemmas.Bool.{cases_Bool, and_parts, and_from}
 use Rattle.std.proofs.lemmas.List.Sums.{AllPass-from_list_all, list_all-from_AllPass}
 use Rattle.std.proofs.lemmas.Bool.Decides.{nat_tests}
-use Rattle.pg_layout.specs.Places.{before, Each, IsAscending}
 use Rattle.pg_config.specs.Spans.{Span, in_span}
 use Rattle.pg_picture.specs.Fits.{are_apart, all_apart, span_fits, spans_fit}
 use Rattle.pg_picture.specs.FitLaws.{ShareNoPlace, SpansFitByPlaces}
@@ -75,66 +74,3 @@ spans_fit-by_places spans rows columns = (
   λ h. let p = and_parts (list_all (span_fits rows columns) spans) (all_apart spans) h in record { sizes = sizes_of rows columns spans p.0; inside = ends_of rows columns spans p.0; apart = places_from_test spans p.1 },
   λ f. and_from (list_all (span_fits rows columns) spans) (all_apart spans) (tests_of rows columns spans f.sizes f.inside) (test_from_places spans f.sizes f.apart),
 )
-
--- one rectangle more, and one that isn't apart from a later one
-next_apart : (spans : List Span) (i : ℕ) (d : Span) → i < length spans → list_all (are_apart (slice_index_or spans i d)) (drop (suc i) spans) ≡ true → all_apart (drop i spans) ≡ all_apart (drop (suc i) spans)
-next_apart [] i d l h = absurd (omega (arith, l))
-next_apart (s ∷ ss) zero d l h = rw h refl
-next_apart (s ∷ ss) (suc i) d l h = next_apart ss i d (omega (arith, l)) h
-
-not_apart : (spans : List Span) (i : ℕ) (d : Span) → i < length spans → list_all (are_apart (slice_index_or spans i d)) (drop (suc i) spans) ≡ false → all_apart (drop i spans) ≡ false
-not_apart [] i d l h = absurd (omega (arith, l))
-not_apart (s ∷ ss) zero d l h = rw h refl
-not_apart (s ∷ ss) (suc i) d l h = not_apart ss i d (omega (arith, l)) h
-
-pub apart_next : (spans : List Span) (i : ℕ) (d : Span) → i < length spans → list_all (are_apart (slice_index_or spans i d)) (drop (i + 1) spans) ≡ true → all_apart (drop i spans) ≡ all_apart (drop (i + 1) spans)
-apart_next spans i d l h = rw add-one (next_apart spans i d l (rw add-one at h))
-
-pub apart_stops : (spans : List Span) (i : ℕ) (d : Span) → i < length spans → list_all (are_apart (slice_index_or spans i d)) (drop (i + 1) spans) ≡ false → all_apart (drop i spans) ≡ false
-apart_stops spans i d l h = not_apart spans i d l (rw add-one at h)
-
-pub apart_end : (spans : List Span) (i : ℕ) → length spans ≤ i → all_apart (drop i spans) ≡ true
-apart_end [] zero l = refl
-apart_end [] (suc i) l = refl
-apart_end (s ∷ ss) zero l = absurd (omega (arith, l))
-apart_end (s ∷ ss) (suc i) l = apart_end ss i (omega (arith, l))
-
--- ---- rectangles in their order
-
--- those that follow a rectangle stand in its column or right of it
-each_right : (s : Span) (k : ℕ) (ss : List Span) → k ≤ s.0.0 → Each (λ (t : Span). before s.0 t.0 ≡ true) ss → Each (λ (t : Span). k ≤ t.0.0) ss
-each_right s k [] h all = tt
-each_right s k (t ∷ ts) h all = (grind (arith, nat_tests, h, all.0), each_right s k ts h all.1)
-
--- and are apart from it where they begin behind its last column
-apart_right : (s : Span) (ss : List Span) → Each (λ (t : Span). s.0.0 + s.1.1 ≤ t.0.0) ss → list_all (are_apart s) ss ≡ true
-apart_right s [] all = refl
-apart_right s (t ∷ ts) all =
-    let here : are_apart s t ≡ true = grind (arith, nat_tests, all.0) in
-    rw here (apart_right s ts all.1)
-
--- so the first of those settles the others
-pub apart_behind : (s : Span) (ss : List Span) (i : ℕ) (d : Span) → i < length ss → IsAscending (s ∷ ss) → nat_le (s.0.0 + s.1.1) (slice_index_or ss i d).0.0 ≡ true → list_all (are_apart s) (drop i ss) ≡ true
-apart_behind s [] i d l up h = absurd (omega (arith, l))
-apart_behind s (t ∷ ts) zero d l up h = apart_right s (t ∷ ts) (grind (arith, nat_tests, h), each_right t (s.0.0 + s.1.1) ts (grind (arith, nat_tests, h)) up.1.0)
-apart_behind s (t ∷ ts) (suc i) d l up h = apart_behind s ts i d (omega (arith, l)) (up.0.1, up.1.1) h
-
-other_next : (s : Span) (ss : List Span) (i : ℕ) (d : Span) → i < length ss → list_all (are_apart s) (drop i ss) ≡ (are_apart s (slice_index_or ss i d) && list_all (are_apart s) (drop (suc i) ss))
-other_next s [] i d l = absurd (omega (arith, l))
-other_next s (t ∷ ts) zero d l = refl
-other_next s (t ∷ ts) (suc i) d l = other_next s ts i d (omega (arith, l))
-
-pub apart_other : (s : Span) (ss : List Span) (i : ℕ) (d : Span) → i < length ss → list_all (are_apart s) (drop i ss) ≡ (are_apart s (slice_index_or ss i d) && list_all (are_apart s) (drop (i + 1) ss))
-apart_other s ss i d l = rw add-one (other_next s ss i d l)
-
-pub apart_none : (s : Span) (ss : List Span) (i : ℕ) → length ss ≤ i → list_all (are_apart s) (drop i ss) ≡ true
-apart_none s [] zero l = refl
-apart_none s [] (suc i) l = refl
-apart_none s (t ∷ ts) zero l = absurd (omega (arith, l))
-apart_none s (t ∷ ts) (suc i) l = apart_none s ts i (omega (arith, l))
-
--- those from one on
-pub ascending-drop : (ss : List Span) (i : ℕ) (d : Span) → i < length ss → IsAscending ss → IsAscending (slice_index_or ss i d ∷ drop (suc i) ss)
-ascending-drop [] i d l up = absurd (omega (arith, l))
-ascending-drop (s ∷ ss) zero d l up = up
-ascending-drop (s ∷ ss) (suc i) d l up = ascending-drop ss i d (omega (arith, l)) up.1

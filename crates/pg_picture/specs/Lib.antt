@@ -4,6 +4,7 @@ pub mod Pieces
 pub mod Table
 pub mod CompactLines
 pub mod Fits
+pub mod SpansByColumns
 pub mod Joined
 pub mod Cells
 pub mod Sizes

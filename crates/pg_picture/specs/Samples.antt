@@ -83,4 +83,4 @@ for_all v = record { base = Some v; rows = []; columns = []; cells = [] }
 
 -- a setting for one cell
 abbrev pub for_cell : {V : Type 0} → ℕ → ℕ → V → Settings V
-for_cell r c v = record { base = None; rows = []; columns = []; cells = ((r, c, 0), v) ∷ [] }
+for_cell r c v = record { base = None; rows = []; columns = []; cells = ((r, c, 0), (0, v)) ∷ [] }

@@ -1,7 +1,7 @@
 //! What is known of a text before it is placed: its blank lines, its shown lines and its width.
 
-ghost use Rattle.std.specs.Prelude.{◌≡◌, ◌+◌, ◌<◌, ◌∷◌, [], IfSome, length, map};
-ghost use Rattle.pg_layout.specs.Text.{lines_of, width_of, greatest};
+ghost use Rattle.std.specs.Prelude.{◌≡◌, ◌&&◌, ◌+◌, ◌<◌, ◌∷◌, [], IfSome, length, map};
+ghost use Rattle.pg_layout.specs.Text.{lines_of, width_of, greatest, is_blank};
 ghost use Rattle.pg_layout.specs.Records.{text_at};
 ghost use Rattle.pg_picture.specs.Pieces.{trimmed_if};
 ghost use Rattle.pg_picture.specs.Cells.{with_line, empty_lines_of, facts_of};
@@ -74,6 +74,27 @@ pub(crate) fn trim_if(line: &str, trim: bool) -> &str
     if trim { line.trim() } else { line }
 }
 
+// Whether a line is left out at the front and at the end of its text, and how many terminal columns
+// it takes. It is trimmed once for both.
+#[inline(always)]
+#[tactic(auto, unfolding(crate::specs::Pieces::trimmed_if, pg_layout::specs::Text::is_blank))]
+fn line_facts(line: &str, formatting: Formatting) -> (bool, usize)
+    ensures left_out { result.0 ≡ (formatting.vertical_trim && is_blank line.now) }
+    ensures width { result.1 ≡ width_of (trimmed_if formatting.horizontal_trim line.now) }
+{
+    if !formatting.horizontal_trim && !formatting.vertical_trim {
+        return (false, get_line_width(line));
+    }
+    let trimmed = line.trim();
+    let is_left_out = formatting.vertical_trim && trimmed.is_empty();
+    let shown = if formatting.horizontal_trim {
+        trimmed
+    } else {
+        line
+    };
+    (is_left_out, get_line_width(shown))
+}
+
 /// How many terminal columns a text takes that is one line; nothing where it has more lines.
 #[inline(always)]
 pub(crate) fn single_line_width(text: &str) -> Option<usize>
@@ -144,8 +165,9 @@ impl TextFacts {
         };
         let mut widest = 0;
         for line in get_lines(text) {
-            ends = ends.with_line(formatting.vertical_trim && is_blank(line));
-            widest = widest.max(get_line_width(trim_if(line, formatting.horizontal_trim)));
+            let (is_left_out, width) = line_facts(line, formatting);
+            ends = ends.with_line(is_left_out);
+            widest = widest.max(width);
         }
         TextFacts {
             shown: ends.shown,

@@ -18,22 +18,23 @@ mod margin;
 mod piece;
 mod place;
 mod run;
+mod separator_keeper;
 mod share;
 mod style;
 mod table_margins;
 mod vertical;
 
-pub use crate::cell::{push_block_line, push_block_line_of, push_single_line, push_text_line};
+pub use crate::cell::{push_block_line_of, push_single_line, push_text_line};
 pub use crate::compact_cell::{push_border_glyph, push_compact_cell, push_compact_indent};
 pub use crate::compact_margin::push_compact_margin;
 pub use crate::compact_run::CompactRun;
 pub use crate::facts::{TextFacts, count_empty_lines, text_width};
-pub use crate::fill::{push_char, push_repeated, push_text};
-pub use crate::kept_text::KeptText;
+pub use crate::fill::{push_char, push_text};
 pub use crate::margin::{push_feed, push_margin_lines, push_side_margin};
-pub use crate::piece::{push_fill, push_words};
+pub use crate::piece::push_fill;
 pub use crate::place::CellPlace;
 pub use crate::run::Run;
+pub use crate::separator_keeper::SeparatorKeeper;
 pub use crate::share::{calculate_indent, indent_from_top};
 pub use crate::style::CellStyle;
 pub use crate::table_margins::{

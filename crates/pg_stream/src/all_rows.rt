@@ -11,6 +11,7 @@ ghost use Rattle.pg_stream.specs.Printing.{rows_text};
 
 use crate::row_printer::RowPrinter;
 use pg_layout::{Colors, Dimension};
+use pg_picture::SeparatorKeeper;
 use std::alloc::{AllocError, Allocator};
 use std::convert::AsStr;
 
@@ -39,7 +40,7 @@ impl<'a, S: AsStr + Drop, D: Dimension, C: Colors, B: Allocator, A: Allocator> R
     {
         let mut printer = self;
         let mut row = first;
-        let mut separator = None;
+        let mut separator = SeparatorKeeper::new();
         for next in rows {
             printer = printer.row_keeping(row, false, &mut separator, buf)?;
             row = next;

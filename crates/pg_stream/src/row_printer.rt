@@ -18,7 +18,7 @@ use crate::open_cells::OpenCells;
 use pg_config::SpannedConfig;
 use pg_layout::{Colors, Dimension};
 use pg_picture::fits::{body_height, full_width};
-use pg_picture::{KeptText, push_bottom_margin};
+use pg_picture::{SeparatorKeeper, push_bottom_margin};
 use std::alloc::{AllocError, Allocator, Global};
 use std::convert::AsStr;
 use std::marker::Model;
@@ -175,7 +175,7 @@ impl<'a, S: AsStr + Drop, D: Dimension, C: Colors, B: Allocator, A: Allocator> R
         ensures after { (texts : List Text) → AlwaysGives (λ x y. S.text x ≡ y) I.next_gives cells texts → IfOk result (λ p. printing D.width D.height C.color p ≡ after_row (printing D.width D.height C.color self.entry) texts is_last) }
         ensures ended { IfOk result (λ p. (printing D.width D.height C.color p).is_ended ≡ is_last) }
     {
-        self.row_keeping(cells, is_last, &mut None, buf)
+        self.row_keeping(cells, is_last, &mut SeparatorKeeper::new(), buf)
     }
 
     // Prints the next row as `row` does, under the same conditions, and copies the separator above it
@@ -185,7 +185,7 @@ impl<'a, S: AsStr + Drop, D: Dimension, C: Colors, B: Allocator, A: Allocator> R
         self,
         cells: I,
         is_last: bool,
-        kept: &mut Option<KeptText>,
+        kept: &mut SeparatorKeeper,
         buf: &mut String<W>,
     ) -> Result<RowPrinter<'a, S, D, C, B, A>, AllocError>
         requires can { I.can_next cells × IsFinite (I.remaining cells) }

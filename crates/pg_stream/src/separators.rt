@@ -8,14 +8,13 @@ ghost use Rattle.pg_picture.specs.Appending.{Appends};
 ghost use Rattle.pg_picture.specs.Pieces.{items_after, last_color, separator_text};
 ghost use Rattle.pg_stream.specs.Placed.{draw_cell, AllOpen, IsPlaced, IsTall};
 ghost use Rattle.pg_stream.specs.Drawing.{column_end, reach, cell_items, open_separator_part, open_separator, above_text, below_text, IsSeparator};
-ghost use Rattle.pg_picture.specs.Table.{Table};
 ghost use Rattle.pg_stream.specs.Slots.{separator_height};
 ghost use Rattle.pg_stream.specs.Frames.{frame_table};
 
 use crate::frame::Frame;
 use crate::open_cells::OpenCells;
 use pg_layout::{ANSIBuf, Colors, Dimension, Position};
-use pg_picture::{KeptText, Run, push_right_margin, push_text};
+use pg_picture::{Run, SeparatorKeeper, push_right_margin, push_text};
 use std::alloc::{AllocError, Allocator};
 use std::convert::AsStr;
 
@@ -25,7 +24,7 @@ impl<S: AsStr + Drop, A: Allocator> OpenCells<S, A> {
     pub(crate) fn push_above<'f, D: Dimension, C: Colors, B: Allocator, W: Allocator>(
         &mut self,
         frame: &Frame<'f, D, C, B>,
-        kept: &mut Option<KeptText>,
+        kept: &mut SeparatorKeeper,
         buf: &mut String<W>,
         is_first: bool,
         index: usize,
@@ -83,7 +82,7 @@ impl<S: AsStr + Drop, A: Allocator> OpenCells<S, A> {
     fn push_kept_separator<'f, D: Dimension, C: Colors, B: Allocator, W: Allocator>(
         &self,
         frame: &Frame<'f, D, C, B>,
-        kept: &mut Option<KeptText>,
+        kept: &mut SeparatorKeeper,
         buf: &mut String<W>,
         row: usize,
     ) -> Result<(), AllocError>
@@ -100,13 +99,13 @@ impl<S: AsStr + Drop, A: Allocator> OpenCells<S, A> {
         if row == 0 {
             return self.push_separator(frame, buf, row, row + 1);
         }
-        if let Some(text) = text_of(kept) {
+        if let Some(text) = kept.text() {
             return push_text(buf, text);
         }
         let from = buf.len();
         self.push_separator(frame, buf, row, row + 1)?;
         if frame.has_equal_separators() {
-            *kept = KeptText::from_buffer(buf, from);
+            kept.keep(buf, from);
         }
         Ok(())
     }
@@ -217,15 +216,5 @@ impl<S: AsStr + Drop, A: Allocator> OpenCells<S, A> {
         };
         let pos = Position::new(cell.begun(), column);
         end.max(column + frame.config.rect_columns(pos))
-    }
-}
-
-// The text that is kept, if one is.
-fn text_of(kept: &Option<KeptText>) -> Option<&str>
-    ensures { (t : Table) → IfSome kept.now (IsSeparator t) → IfSome result (λ text. IsSeparator t text.now) }
-{
-    match kept {
-        Some(text) => Some(text.as_str()),
-        None => None,
     }
 }

@@ -1,21 +1,22 @@
 //! The lines of a compact table, one below the other.
 
-ghost use Rattle.std.specs.Prelude.{◌≡◌, ◌≤◌, ◌<◌, ◌==◌, ◌-◌, ◌+◌, ◌++◌, ◌^◌, [], ◌∷◌, ℕ, List, All, length, flat_map, replicate, drop, slice_index_or};
+ghost use Rattle.std.specs.Prelude.{◌≡◌, ◌≤◌, ◌<◌, ◌==◌, ◌-◌, ◌+◌, ◌++◌, ◌^◌, [], ◌∷◌, ℕ, List, All, IfSome, false, length, flat_map, replicate, drop, slice_index_or};
 ghost use Rattle.std.specs.Iterator.{IsFinite};
 ghost use Rattle.std.specs.List.{range_with_len};
+ghost use Rattle.pg_layout.specs.Borders.{has_inner_horizontal};
 ghost use Rattle.pg_layout.specs.Colors.{str_color};
 ghost use Rattle.pg_layout.specs.Records.{Gives};
 ghost use Rattle.pg_picture.specs.Appending.{Appends};
 ghost use Rattle.pg_picture.specs.CompactLines.{compact_full_width, line_if, separator_row, padding_row, text_row, row_lines};
 ghost use Rattle.pg_picture.specs.Joined.{continued, fed, feed_before, lines_before};
 ghost use Rattle.pg_picture.specs.Picture.{compact_picture};
-ghost use Rattle.pg_grid.specs.CompactGrids.{printed_table, IsRow, AreRows, line_colors, lines_of_row, head_lines, foot_lines, CompactFits};
+ghost use Rattle.pg_grid.specs.CompactGrids.{printed_table, IsRow, AreRows, IsInnerSeparator, inner_separator, line_colors, lines_of_row, head_lines, foot_lines, CompactFits};
 
 use crate::compact::CompactPrinter;
-use crate::compact::separators::{bottom_line, inner_line, top_line};
+use crate::compact::separators::{bottom_line, top_line};
 use pg_layout::{ANSIStr, Colors, Dimension, HorizontalLine};
 use pg_picture::fits::compact_full_width;
-use pg_picture::{push_compact_margin, push_feed};
+use pg_picture::{SeparatorKeeper, push_compact_margin, push_feed};
 use std::alloc::{AllocError, Allocator};
 use std::convert::AsStr;
 
@@ -105,10 +106,11 @@ impl<D: Dimension, C: Colors> CompactPrinter<'_, D, C> {
         requires given { (texts : List (List (List ℕ))) × AreRows (Gives (λ x y. T.text x ≡ y) Cells.can_next Cells.next_gives Cells.remaining) Rows.next_gives self.now.columns 1 texts rows }
         ensures { (texts : List (List (List ℕ))) → AreRows (Gives (λ x y. T.text x ≡ y) Cells.can_next Cells.next_gives Cells.remaining) Rows.next_gives self.now.columns 1 texts rows → Appends buf.old buf.new result (fed (flat_map (row_lines (printed_table D.width C.color self.now texts)) (range_with_len 1 (length texts - 1)))) }
     {
+        let mut kept = SeparatorKeeper::new();
         let mut row = 0;
         for cells in rows {
             row += 1;
-            self.push_next_row(buf, row, cells)?;
+            self.push_next_row(buf, &mut kept, row, cells)?;
         }
         Ok(())
     }
@@ -117,6 +119,7 @@ impl<D: Dimension, C: Colors> CompactPrinter<'_, D, C> {
     fn push_next_row<T, Cells, A>(
         &self,
         buf: &mut String<A>,
+        kept: &mut SeparatorKeeper,
         row: usize,
         cells: Cells,
     ) -> Result<(), AllocError>
@@ -126,16 +129,11 @@ impl<D: Dimension, C: Colors> CompactPrinter<'_, D, C> {
         A: Allocator,
         requires next { 0 < row }
         requires cells { Cells.can_next cells × IsFinite (Cells.remaining cells) }
-        ensures { (texts : List (List (List ℕ))) → IsRow T.text Cells.next_gives self.now.columns texts row cells → Appends buf.old buf.new result (fed (row_lines (printed_table D.width C.color self.now texts) row)) }
+        requires kept { IfSome kept.old (IsInnerSeparator (printed_table D.width C.color self.now [])) }
+        ensures appends { (texts : List (List (List ℕ))) → IsRow T.text Cells.next_gives self.now.columns texts row cells → Appends buf.old buf.new result (fed (row_lines (printed_table D.width C.color self.now texts) row)) }
+        ensures kept { IfSome kept.new (IsInnerSeparator (printed_table D.width C.color self.now [])) }
     {
-        let (borders, colors) = (self.config.get_borders(), self.config.get_borders_color());
-        self.push_separator_if(
-            buf,
-            borders.has_horizontal(),
-            inner_line(borders),
-            inner_line(colors),
-            false,
-        )?;
+        self.push_inner_separator(buf, kept)?;
         self.push_row(buf, row, cells, false)
     }
 
@@ -206,6 +204,23 @@ impl<D: Dimension, C: Colors> CompactPrinter<'_, D, C> {
     {
         push_feed(buf, is_first)?;
         self.push_padding_row(buf, color)
+    }
+
+    // The separator between two rows, where its line is there, after its line feed.
+    fn push_inner_separator<A: Allocator>(
+        &self,
+        buf: &mut String<A>,
+        kept: &mut SeparatorKeeper,
+    ) -> Result<(), AllocError>
+        requires kept { IfSome kept.old (IsInnerSeparator (printed_table D.width C.color self.now [])) }
+        ensures appends { Appends buf.old buf.new result (continued (lines_before false) (line_if (has_inner_horizontal self.now.config.now.borders) (inner_separator (printed_table D.width C.color self.now [])))) }
+        ensures kept { IfSome kept.new (IsInnerSeparator (printed_table D.width C.color self.now [])) }
+    {
+        if !self.config.get_borders().has_horizontal() {
+            return Ok(());
+        }
+        push_feed(buf, false)?;
+        self.push_kept_separator(buf, kept)
     }
 
     // A separator where its line is there, after the line feed that parts it from the line before.

@@ -1,14 +1,14 @@
 //! Separators.
 
-ghost use Rattle.std.specs.Prelude.{◌≡◌, ◌==◌, if◌then◌else◌, [], None, IfOk, flat_map};
+ghost use Rattle.std.specs.Prelude.{◌≡◌, ◌==◌, if◌then◌else◌, [], None, IfOk, IfSome, flat_map};
 ghost use Rattle.std.specs.List.{range_with_len};
 ghost use Rattle.pg_picture.specs.Appending.{Appends};
 ghost use Rattle.pg_picture.specs.CompactLines.{parts, parts_after, top_line, bottom_line, inner_line, open_parts, open_color, separator_row};
-ghost use Rattle.pg_grid.specs.CompactGrids.{printed_table, line_colors, column_parts};
+ghost use Rattle.pg_grid.specs.CompactGrids.{printed_table, IsInnerSeparator, inner_separator, line_colors, column_parts};
 
 use crate::compact::CompactPrinter;
 use pg_layout::{ANSIStr, Borders, Colors, Dimension, HorizontalLine};
-use pg_picture::{CompactRun, push_compact_indent};
+use pg_picture::{CompactRun, SeparatorKeeper, push_compact_indent, push_text};
 use std::alloc::{AllocError, Allocator};
 
 // The glyphs of the line above the first row, or their colours.
@@ -36,7 +36,7 @@ pub(super) fn bottom_line<T: Copy>(borders: &Borders<T>) -> HorizontalLine<T>
 }
 
 // The glyphs of the line between two rows, or their colours; it ends with those of a row's sides.
-pub(super) fn inner_line<T: Copy>(borders: &Borders<T>) -> HorizontalLine<T>
+fn inner_line<T: Copy>(borders: &Borders<T>) -> HorizontalLine<T>
     ensures { result ≡ inner_line borders.now }
 {
     HorizontalLine::new(
@@ -55,6 +55,26 @@ fn crossing_before(column: usize, crossing: Option<char>) -> Option<char>
 }
 
 impl<D: Dimension, C: Colors> CompactPrinter<'_, D, C> {
+    // The separator between two rows: the one that is kept, or a new one, which is kept.
+    pub(super) fn push_kept_separator<A: Allocator>(
+        &self,
+        buf: &mut String<A>,
+        kept: &mut SeparatorKeeper,
+    ) -> Result<(), AllocError>
+        requires kept { IfSome kept.old (IsInnerSeparator (printed_table D.width C.color self.now [])) }
+        ensures appends { Appends buf.old buf.new result (inner_separator (printed_table D.width C.color self.now [])) }
+        ensures kept { IfSome kept.new (IsInnerSeparator (printed_table D.width C.color self.now [])) }
+    {
+        if let Some(text) = kept.text() {
+            return push_text(buf, text);
+        }
+        let from = buf.len();
+        let (borders, colors) = (self.config.get_borders(), self.config.get_borders_color());
+        self.push_separator(buf, inner_line(borders), inner_line(colors))?;
+        kept.keep(buf, from);
+        Ok(())
+    }
+
     // A separator of these glyphs in these colours, between the side margins.
     pub(super) fn push_separator<A: Allocator>(
         &self,

@@ -30,7 +30,7 @@ where
     pub(super) fn push_body<A: Allocator>(
         &self,
         buf: &mut String<A>,
-        kept: &mut KeptCells,
+        kept: &mut KeptCells<'_>,
         shape: Shape,
         is_first: bool,
     ) -> Result<(), AllocError>
@@ -51,7 +51,7 @@ where
     fn push_row<A: Allocator>(
         &self,
         buf: &mut String<A>,
-        kept: &mut KeptCells,
+        kept: &mut KeptCells<'_>,
         shape: Shape,
         row: usize,
         index: usize,
@@ -74,7 +74,7 @@ where
     fn push_above<A: Allocator>(
         &self,
         buf: &mut String<A>,
-        kept: &mut KeptCells,
+        kept: &mut KeptCells<'_>,
         shape: Shape,
         row: usize,
         index: usize,
@@ -100,7 +100,7 @@ where
     fn push_last<A: Allocator>(
         &self,
         buf: &mut String<A>,
-        kept: &mut KeptCells,
+        kept: &mut KeptCells<'_>,
         shape: Shape,
         index: usize,
         is_first: bool,
@@ -120,7 +120,7 @@ where
     fn push_lines<A: Allocator>(
         &self,
         buf: &mut String<A>,
-        kept: &mut KeptCells,
+        kept: &mut KeptCells<'_>,
         shape: Shape,
         row: usize,
         index: usize,
@@ -146,7 +146,7 @@ where
     fn push_line<A: Allocator>(
         &self,
         buf: &mut String<A>,
-        kept: &mut KeptCells,
+        kept: &mut KeptCells<'_>,
         shape: Shape,
         row: usize,
         number: usize,
@@ -170,7 +170,7 @@ where
     fn push_separator_line<A: Allocator>(
         &self,
         buf: &mut String<A>,
-        kept: &mut KeptCells,
+        kept: &mut KeptCells<'_>,
         shape: Shape,
         row: usize,
         index: usize,

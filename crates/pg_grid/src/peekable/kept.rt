@@ -1,18 +1,14 @@
 //! What is kept of cells from one of their lines to the next, so that it isn't worked out again.
 
-ghost use Rattle.std.specs.Prelude.{◌≡◌, ◌≤◌, ◌<◌, ℕ, List, IfSome, IsTrue, length, slice_index_or, [], drop, string_bytes};
+ghost use Rattle.std.specs.Prelude.{◌≡◌, ◌≤◌, ◌<◌, ℕ, List, IfSome, IsTrue, length, slice_index_or, [], None};
 ghost use Rattle.pg_layout.specs.LineCursor.{StandsIn, line_number};
 ghost use Rattle.pg_layout.specs.Text.{lines_of};
 ghost use Rattle.pg_picture.specs.Cells.{line_if};
 ghost use Rattle.pg_picture.specs.Table.{Table};
-ghost use Rattle.pg_grid.specs.Kept.{Reads, IsReading, IsRectangle, IsSeparator, AreKept};
+ghost use Rattle.pg_grid.specs.Kept.{Reads, IsReading, IsRectangle, AreKept};
 
 use pg_layout::{LineCursor, Position};
-use pg_picture::{CellPlace, KeptText};
-use std::alloc::Allocator;
-
-/// For how many columns something is kept.
-const COLUMNS: usize = 16;
+use pg_picture::{CellPlace, SeparatorKeeper};
 
 /// Where the lines of a text stand in their cell, and how far the text was read.
 #[derive(Debug, Clone, Copy)]
@@ -96,7 +92,7 @@ fn moved(mut cursor: LineCursor, text: &str, from: usize, to: usize) -> LineCurs
 
 /// A cell of so many columns and lines whose text was read as far as its last line needed.
 #[derive(Debug, Clone, Copy)]
-struct KeptCell {
+pub(super) struct KeptCell {
     corner: Position,
     width: usize,
     height: usize,
@@ -135,24 +131,37 @@ impl KeptRectangle {
     }
 }
 
-/// What is kept of the cells whose left column is one of the first few, at most one for each column,
-/// and the text of a separator between two rows, if all of these are equal and it is short.
-#[derive(Debug, Drop)]
-pub(super) struct KeptCells {
-    cells: [Option<KeptCell>; COLUMNS],
-    rectangles: [Option<KeptRectangle>; COLUMNS],
-    separator: Option<KeptText>,
+/// No slot of so many columns holds anything.
+pub(super) fn no_slots<T: Copy, const COLUMNS: usize>() -> [Option<T>; COLUMNS]
+    ensures { (column : ℕ) → slice_index_or result column None ≡ None }
+{
+    [None; COLUMNS]
 }
 
-impl KeptCells {
-    // Nothing is kept.
-    pub(super) fn new() -> KeptCells
+/// What is kept of the cells whose left column has a slot, at most one for each column, and the text
+/// of a separator between two rows, if all of these are equal.
+#[derive(Drop)]
+pub(super) struct KeptCells<'k> {
+    cells: &'k mut [Option<KeptCell>],
+    rectangles: &'k mut [Option<KeptRectangle>],
+    pub(super) separator: SeparatorKeeper,
+}
+
+impl<'k> KeptCells<'k> {
+    // Nothing is kept in these slots, which are as many as there are columns of which it may be.
+    #[inline(always)]
+    pub(super) fn new(
+        cells: &'k mut [Option<KeptCell>],
+        rectangles: &'k mut [Option<KeptRectangle>],
+    ) -> KeptCells<'k>
+        requires cells { (column : ℕ) → slice_index_or cells.old column None ≡ None }
+        requires rectangles { (column : ℕ) → slice_index_or rectangles.old column None ≡ None }
         ensures { (t : Table) → AreKept t result }
     {
         KeptCells {
-            cells: [None; COLUMNS],
-            rectangles: [None; COLUMNS],
-            separator: None,
+            cells,
+            rectangles,
+            separator: SeparatorKeeper::new(),
         }
     }
 
@@ -160,7 +169,7 @@ impl KeptCells {
     pub(super) fn reading(&self, corner: Position, width: usize, height: usize) -> Option<Reading>
         ensures { (t : Table) → AreKept t self.now → IfSome result (IsReading t corner width height) }
     {
-        if corner.col >= COLUMNS {
+        if corner.col >= self.cells.len() {
             return None;
         }
         let cell = self.cells[corner.col]?;
@@ -181,7 +190,7 @@ impl KeptCells {
     )
         ensures { (t : Table) → AreKept t self.old → IsReading t corner width height reading → AreKept t self.new }
     {
-        if corner.col < COLUMNS {
+        if corner.col < self.cells.len() {
             self.cells[corner.col] = Some(KeptCell {
                 corner,
                 width,
@@ -196,7 +205,7 @@ impl KeptCells {
         ensures of { IfSome result (λ kept. (kept.corner ≡ corner) × (kept.row ≤ row)) }
         ensures is { (t : Table) → AreKept t self.now → IfSome result (IsRectangle t) }
     {
-        if corner.col >= COLUMNS {
+        if corner.col >= self.rectangles.len() {
             return None;
         }
         let rectangle = self.rectangles[corner.col]?;
@@ -207,28 +216,11 @@ impl KeptCells {
         }
     }
 
-    // The text of the separators between two rows, if that is kept.
-    pub(super) fn separator(&self) -> Option<&str>
-        ensures { (t : Table) → AreKept t self.now → IfSome result (λ text. IsSeparator t text.now) }
-    {
-        match &self.separator {
-            Some(text) => Some(text.as_str()),
-            None => None,
-        }
-    }
-
-    // Keeps what stands in a buffer from a place on, as the text of the separators between two rows.
-    pub(super) fn keep_separator<A: Allocator>(&mut self, buf: &String<A>, from: usize)
-        ensures { (t : Table) → AreKept t self.old → IsSeparator t (drop from (string_bytes buf.now)) → AreKept t self.new }
-    {
-        self.separator = KeptText::from_buffer(buf, from);
-    }
-
     // Keeps a rectangle.
     pub(super) fn keep_rectangle(&mut self, rectangle: KeptRectangle)
         ensures { (t : Table) → AreKept t self.old → IsRectangle t rectangle → AreKept t self.new }
     {
-        if rectangle.corner.col < COLUMNS {
+        if rectangle.corner.col < self.rectangles.len() {
             self.rectangles[rectangle.corner.col] = Some(rectangle);
         }
     }

@@ -32,7 +32,7 @@ where
     pub(super) fn push_row_line<A: Allocator>(
         &self,
         buf: &mut String<A>,
-        kept: &mut KeptCells,
+        kept: &mut KeptCells<'_>,
         shape: Shape,
         row: usize,
         line: usize,
@@ -53,7 +53,7 @@ where
     fn push_parts<A: Allocator>(
         &self,
         buf: &mut String<A>,
-        kept: &mut KeptCells,
+        kept: &mut KeptCells<'_>,
         shape: Shape,
         row: usize,
         line: usize,
@@ -76,7 +76,7 @@ where
     fn push_plain_parts<A: Allocator>(
         &self,
         buf: &mut String<A>,
-        kept: &mut KeptCells,
+        kept: &mut KeptCells<'_>,
         shape: Shape,
         row: usize,
         line: usize,
@@ -116,7 +116,7 @@ where
     pub(super) fn push_part<A: Allocator>(
         &self,
         buf: &mut String<A>,
-        kept: &mut KeptCells,
+        kept: &mut KeptCells<'_>,
         shape: Shape,
         style: &CellStyle<'_, B>,
         pos: Position,
@@ -183,7 +183,7 @@ where
     pub(super) fn push_cell<A: Allocator>(
         &self,
         buf: &mut String<A>,
-        kept: &mut KeptCells,
+        kept: &mut KeptCells<'_>,
         shape: Shape,
         style: &CellStyle<'_, B>,
         pos: Position,
@@ -232,7 +232,7 @@ where
     fn push_tall_cell<A: Allocator>(
         &self,
         buf: &mut String<A>,
-        kept: &mut KeptCells,
+        kept: &mut KeptCells<'_>,
         shape: Shape,
         style: &CellStyle<'_, B>,
         pos: Position,

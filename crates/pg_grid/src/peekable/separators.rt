@@ -27,7 +27,7 @@ where
     pub(super) fn push_separator<A: Allocator>(
         &self,
         buf: &mut String<A>,
-        kept: &mut KeptCells,
+        kept: &mut KeptCells<'_>,
         shape: Shape,
         row: usize,
     ) -> Result<(), AllocError>
@@ -50,7 +50,7 @@ where
     fn push_inner_separator<A: Allocator>(
         &self,
         buf: &mut String<A>,
-        kept: &mut KeptCells,
+        kept: &mut KeptCells<'_>,
         shape: Shape,
         row: usize,
     ) -> Result<(), AllocError>
@@ -63,13 +63,13 @@ where
         ensures appends { Appends buf.old buf.new result (separator_text (separator_items (drawn R.Records D.Dimension C.Colors self.now) row)) }
         ensures kept { AreKept (drawn R.Records D.Dimension C.Colors self.now) kept.new }
     {
-        if let Some(text) = kept.separator() {
+        if let Some(text) = kept.separator.text() {
             return push_text(buf, text);
         }
         let from = buf.len();
         self.push_new_separator(buf, kept, shape, row)?;
         if !shape.path.is_spanned() && self.config.has_equal_row_lines() {
-            kept.keep_separator(buf, from);
+            kept.separator.keep(buf, from);
         }
         Ok(())
     }
@@ -78,7 +78,7 @@ where
     fn push_new_separator<A: Allocator>(
         &self,
         buf: &mut String<A>,
-        kept: &mut KeptCells,
+        kept: &mut KeptCells<'_>,
         shape: Shape,
         row: usize,
     ) -> Result<(), AllocError>
@@ -100,7 +100,7 @@ where
         &self,
         run: Run<'a, ANSIBuf<B>>,
         buf: &mut String<A>,
-        kept: &mut KeptCells,
+        kept: &mut KeptCells<'_>,
         shape: Shape,
         row: usize,
     ) -> Result<Run<'a, ANSIBuf<B>>, AllocError>

@@ -31,7 +31,7 @@ where
     pub(super) fn push_spanned_parts<A: Allocator>(
         &self,
         buf: &mut String<A>,
-        kept: &mut KeptCells,
+        kept: &mut KeptCells<'_>,
         shape: Shape,
         row: usize,
         number: usize,
@@ -58,7 +58,7 @@ where
     fn push_spanned_part<A: Allocator>(
         &self,
         buf: &mut String<A>,
-        kept: &mut KeptCells,
+        kept: &mut KeptCells<'_>,
         shape: Shape,
         pos: Position,
         span: Option<Span>,
@@ -88,7 +88,7 @@ where
     fn push_rectangle_part<A: Allocator>(
         &self,
         buf: &mut String<A>,
-        kept: &mut KeptCells,
+        kept: &mut KeptCells<'_>,
         shape: Shape,
         pos: Position,
         span: Span,
@@ -114,7 +114,7 @@ where
         &self,
         mut run: Run<'a, ANSIBuf<B>>,
         buf: &mut String<A>,
-        kept: &mut KeptCells,
+        kept: &mut KeptCells<'_>,
         shape: Shape,
         row: usize,
     ) -> Result<Run<'a, ANSIBuf<B>>, AllocError>
@@ -141,7 +141,7 @@ where
         &self,
         run: Run<'a, ANSIBuf<B>>,
         buf: &mut String<A>,
-        kept: &mut KeptCells,
+        kept: &mut KeptCells<'_>,
         shape: Shape,
         pos: Position,
         span: Option<Span>,
@@ -168,7 +168,7 @@ where
         &self,
         run: Run<'a, ANSIBuf<B>>,
         buf: &mut String<A>,
-        kept: &mut KeptCells,
+        kept: &mut KeptCells<'_>,
         shape: Shape,
         pos: Position,
         span: Span,
@@ -192,7 +192,7 @@ where
     // The rectangle of an owner, and how many of its lines stand above a row of it.
     fn rectangle_at(
         &self,
-        kept: &mut KeptCells,
+        kept: &mut KeptCells<'_>,
         shape: Shape,
         corner: Position,
         row: usize,
@@ -274,7 +274,7 @@ where
     fn push_rectangle<A: Allocator>(
         &self,
         buf: &mut String<A>,
-        kept: &mut KeptCells,
+        kept: &mut KeptCells<'_>,
         shape: Shape,
         rectangle: KeptRectangle,
         number: usize,

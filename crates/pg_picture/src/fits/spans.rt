@@ -1,19 +1,23 @@
 //! Whether the rectangles of cells with a span fit a table.
 
-ghost use Rattle.std.specs.Prelude.{◌≡◌, ◌+◌, ◌∷◌, nat_le, is_some};
+ghost use Rattle.std.specs.Prelude.{◌≡◌, ◌+◌, ◌^◌, ◌<◌, ◌≤◌, None, MatchOption, nat_le, is_some, true};
 ghost use Rattle.std.specs.List.{list_all};
-ghost use Rattle.pg_layout.specs.Places.{IsAscending};
+ghost use Rattle.pg_layout.specs.Places.{Each, IsAscending};
+ghost use Rattle.pg_layout.specs.Position.{at};
 ghost use Rattle.pg_config.specs.Spans.{if_above};
 ghost use Rattle.pg_picture.specs.Rectangles.{columns_or_one};
-ghost use Rattle.pg_picture.specs.Fits.{are_apart, all_apart, span_fits, span_fits_columns, spans_fit, spans_fit_columns};
+ghost use Rattle.pg_picture.specs.Fits.{all_apart, span_fits, span_fits_columns, spans_fit, spans_fit_columns};
+ghost use Rattle.pg_picture.specs.SpansByColumns.{HasEnd, is_past, columns_apart, rows_apart, apart_right, apart_at};
 
-use pg_config::{Span, SpannedConfig};
+use pg_config::{Span, SpannedConfig, Spans};
+use pg_layout::Position;
 use std::alloc::Allocator;
 
 /// Whether every rectangle of a cell with a span has at least one row and one column, ends inside
 /// a table of so many rows and columns, and shares no place with another one.
 ///
-/// Takes no memory.
+/// It asks for a search in each column that a rectangle has and in which one begins. Takes no
+/// memory.
 #[tactic(auto, unfolding(crate::specs::Fits::spans_fit))]
 pub fn spans_fit<A: Allocator>(config: &SpannedConfig<A>, rows: usize, columns: usize) -> bool
     ensures { result ≡ spans_fit config.now.spans rows columns }
@@ -31,16 +35,16 @@ pub fn spans_fit_columns<A: Allocator>(config: &SpannedConfig<A>, columns: usize
     all_fit_columns(spans, columns) && all_apart(spans)
 }
 
-fn all_fit(spans: &[Span], rows: usize, columns: usize) -> bool
+fn all_fit<A: Allocator>(spans: &Spans<A>, rows: usize, columns: usize) -> bool
     ensures { result ≡ list_all (span_fits rows columns) spans.now }
 {
-    spans.iter().all(|span| span_fits(*span, rows, columns))
+    spans.iter().all(|(corner, size)| span_fits((*corner, *size), rows, columns))
 }
 
-fn all_fit_columns(spans: &[Span], columns: usize) -> bool
+fn all_fit_columns<A: Allocator>(spans: &Spans<A>, columns: usize) -> bool
     ensures { result ≡ list_all (span_fits_columns columns) spans.now }
 {
-    spans.iter().all(|span| span_fits_columns(*span, columns))
+    spans.iter().all(|(corner, size)| span_fits_columns((*corner, *size), columns))
 }
 
 // Ends of rectangles may pass the greatest number, so they aren't computed.
@@ -64,43 +68,112 @@ fn ends_within(first: usize, count: usize, last: usize) -> bool
 }
 
 // Whether no place lies in two of the rectangles.
-fn all_apart(spans: &[Span]) -> bool
-    requires { IsAscending spans.now }
+fn all_apart<A: Allocator>(spans: &Spans<A>) -> bool
+    requires ascending { IsAscending spans.now }
+    requires ends { Each HasEnd spans.now }
     ensures { result ≡ all_apart spans.now }
 {
-    for (index, span) in spans.iter().enumerate() {
-        if !is_apart(*span, &spans[index + 1..]) {
+    columns_apart(spans) && rows_apart(spans)
+}
+
+// Whether in each column each rectangle ends above the next one.
+fn columns_apart<A: Allocator>(spans: &Spans<A>) -> bool
+    ensures { result ≡ columns_apart None spans.now }
+{
+    let mut above = None;
+    for (corner, size) in spans.iter() {
+        let span = (*corner, *size);
+        if !is_past(above, span) {
+            return false;
+        }
+        above = Some(span);
+    }
+    true
+}
+
+// Whether a rectangle begins in another column than the one above it, or below its end.
+fn is_past(above: Option<Span>, span: Span) -> bool
+    ensures { result ≡ is_past above span }
+{
+    match above {
+        Some(above) => above.0.0 != span.0.0 || ends_within(above.0.1, above.1.0, span.0.1),
+        None => true,
+    }
+}
+
+// Whether each rectangle is apart from all that begin right of its first column.
+fn rows_apart<A: Allocator>(spans: &Spans<A>) -> bool
+    requires ascending { IsAscending spans.now }
+    requires ends { Each HasEnd spans.now }
+    requires columns { columns_apart None spans.now ≡ true }
+    ensures { result ≡ rows_apart spans.now }
+{
+    for (corner, size) in spans.iter() {
+        if !is_apart((*corner, *size), spans) {
             return false;
         }
     }
     true
 }
 
-// The same of one rectangle and those that follow it. It is apart from all that begin right of it, and
-// these are the last ones.
-fn is_apart(span: Span, others: &[Span]) -> bool
-    requires { IsAscending (span ∷ others.now) }
-    ensures { result ≡ list_all (are_apart span) others.now }
+// The same of one rectangle, by a search in each column that it has and in which one begins.
+fn is_apart<A: Allocator>(span: Span, spans: &Spans<A>) -> bool
+    requires end { HasEnd span }
+    requires ascending { IsAscending spans.now }
+    requires ends { Each HasEnd spans.now }
+    requires columns { columns_apart None spans.now ≡ true }
+    ensures { result ≡ list_all (apart_right span) spans.now }
 {
-    for other in others {
-        if ends_within(span.0.0, span.1.1, other.0.0) {
-            return true;
-        }
-        if !are_apart(span, *other) {
+    let end = span.0.0 + span.1.1;
+    let mut from = span.0.0 + 1;
+    while let Some(column) = next_column(spans, from, end) {
+        if !is_apart_at(span, spans, column) {
             return false;
         }
+        from = column + 1;
     }
     true
 }
 
-// Whether one of the rectangles ends above or left of the other.
-fn are_apart(span: Span, other: Span) -> bool
-    ensures { result ≡ are_apart span other }
+// The first column in which a rectangle begins, from one column on and left of another.
+fn next_column<A: Allocator>(spans: &Spans<A>, from: usize, end: usize) -> Option<usize>
+    requires { IsAscending spans.now }
+    ensures { MatchOption result
+        (Each (λ t. from ≤ t.0.0 → end ≤ t.0.0) spans.now)
+        (λ column. (from ≤ column) × (column < end) × Each (λ t. from ≤ t.0.0 → column ≤ t.0.0) spans.now) }
 {
-    ends_within(span.0.1, span.1.0, other.0.1)
-        || ends_within(other.0.1, other.1.0, span.0.1)
-        || ends_within(span.0.0, span.1.1, other.0.0)
-        || ends_within(other.0.0, other.1.1, span.0.0)
+    if end <= from {
+        return None;
+    }
+    match spans.next_from(Position { row: 0, col: from }) {
+        Some(next) if next.0.0 < end => Some(next.0.0),
+        _ => None,
+    }
+}
+
+// Whether the rectangle is apart from the last one of the column that begins above its end.
+fn is_apart_at<A: Allocator>(span: Span, spans: &Spans<A>, column: usize) -> bool
+    requires ascending { IsAscending spans.now }
+    requires column { column + 1 < 2 ^ 64 }
+    ensures { result ≡ apart_at spans.now span column }
+{
+    match spans.last_before(place_below(span, column)) {
+        Some(last) => last.0.0 != column || ends_within(last.0.1, last.1.0, span.0.1),
+        None => true,
+    }
+}
+
+// The place of the column below the end of the rectangle; where its row is past the greatest number,
+// the first one of the next column.
+fn place_below(span: Span, column: usize) -> Position
+    requires { column + 1 < 2 ^ 64 }
+    ensures above { span.0.1 + span.1.0 < 2 ^ 64 → result ≡ at (span.0.1 + span.1.0) column }
+    ensures column { 2 ^ 64 ≤ span.0.1 + span.1.0 → result ≡ at 0 (column + 1) }
+{
+    match span.0.1.checked_add(span.1.0) {
+        Some(row) => Position::new(row, column),
+        None => Position::new(0, column + 1),
+    }
 }
 
 /// How many columns the rectangle has that a search found ([`SpannedConfig::left_span`]), and a cell

@@ -29,7 +29,8 @@ loop-cells-preserved g c =
           let (left, gained) = c.loop-cells.invariant.3 texts all in
           let taken = row-taken is_row g.Rows.Iterator.next_gives c.args.self.now.columns _ _ _ (c.loop-cells.row + 1) texts left c.in-Some.ensures.steps in
           let row : ℕ → List Text = row_lines (printed_table g.D.Dimension.width g.C.Colors.color c.args.self.now texts) in
-          (taken.rest, Gained-text (sym (next_rows-more row c.loop-cells.row)) (Gained-more gained (c.in_ok-push_next_row.ensures texts (record { gives = taken.stands.gives; even = taken.even })))),
+          (taken.rest, Gained-text (sym (next_rows-more row c.loop-cells.row)) (Gained-more gained (c.in_ok-push_next_row.ensures.appends texts (record { gives = taken.stands.gives; even = taken.even })))),
+      c.in_ok-push_next_row.ensures.kept,
     )
 
 pub returns-in_err-push_next_row : goal.returns-in_err-push_next_row
@@ -38,7 +39,7 @@ returns-in_err-push_next_row g c = λ texts all.
     let (left, gained) = c.loop-cells.invariant.3 texts all in
     let taken = row-taken is_row g.Rows.Iterator.next_gives c.args.self.now.columns _ _ _ (c.loop-cells.row + 1) texts left c.in-Some.ensures.steps in
     let row : ℕ → List Text = row_lines (printed_table g.D.Dimension.width g.C.Colors.color c.args.self.now texts) in
-    refused _ (next_rows-cut row c.loop-cells.row (length texts - 1) (omega (arith, taken.rest.begun))) c.from_residual.ensures.0 gained (c.in_err-push_next_row.ensures texts (record { gives = taken.stands.gives; even = taken.even }))
+    refused _ (next_rows-cut row c.loop-cells.row (length texts - 1) (omega (arith, taken.rest.begun))) c.from_residual.ensures.0 gained (c.in_err-push_next_row.ensures.appends texts (record { gives = taken.stands.gives; even = taken.even }))
 
 pub returns : goal.returns
 returns g c = λ texts all.

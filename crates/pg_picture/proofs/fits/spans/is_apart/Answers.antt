@@ -1,26 +1,24 @@
-use Rattle.std.proofs.Common.{◌&&◌, ◌+◌, drop, ap, sym, ◌∙◌}
-use Rattle.std.specs.List.{list_all}
-use Rattle.pg_config.specs.Spans.{Span}
-use Rattle.pg_picture.specs.Fits.{are_apart}
-use Rattle.pg_picture.proofs.SpansByPlaces.{apart_behind, apart_other, apart_none}
+use Rattle.std.proofs.Common.{◌∙◌, ◌+◌, ◌<◌, rules, arith, refl, sym, false, true}
+use Rattle.pg_picture.proofs.SpansByColumns.{before_first, column_more, columns_end, column_not}
 use Rattle.pg_picture.proofs.fits.spans.is_apart.Goals as goal
 
-pub returns-then-ends_within : goal.returns-then-ends_within
-returns-then-ends_within c =
-    let d : Span = ((0, 0, 0), (0, 0)) in
-    sym (c.loop-other.invariant ∙ apart_behind c.args.span c.args.others.now c.loop-other.other-index d c.loop-other-test.true c.requires (sym c.ends_within.ensures ∙ c.if-ends_within.true))
+pub loop-column-init : goal.loop-column-init
+loop-column-init g c = record { end = search rules; right = omega arith; apart = before_first c.args.span c.args.spans.now }
 
-pub returns-then-not-are_apart : goal.returns-then-not-are_apart
-returns-then-not-are_apart c =
-    let d : Span = ((0, 0, 0), (0, 0)) in
-    let rest = list_all (are_apart c.args.span) (drop (c.loop-other.other-index + 1) c.args.others.now) in
-    sym (c.loop-other.invariant ∙ apart_other c.args.span c.args.others.now c.loop-other.other-index d c.loop-other-test.true ∙ ap (λ b. b && rest) (sym c.are_apart.ensures ∙ c.if-not-are_apart.true))
+pub returns-then-not-is_apart_at : goal.returns-then-not-is_apart_at
+returns-then-not-is_apart_at g c =
+    let next = c.in-Some.ensures in
+    let left : c.args.span.0.0 < c.in-Some.column = omega (arith, next.0) in
+    sym (column_not c.args.span c.in-Some.column c.args.spans.now c.requires.end c.requires.ends left next.1 (sym c.is_apart_at.ensures ∙ c.if-not-is_apart_at.true))
 
-pub loop-other-preserved : goal.loop-other-preserved
-loop-other-preserved c =
-    let d : Span = ((0, 0, 0), (0, 0)) in
-    let rest = list_all (are_apart c.args.span) (drop (c.loop-other.other-index + 1) c.args.others.now) in
-    c.loop-other.invariant ∙ apart_other c.args.span c.args.others.now c.loop-other.other-index d c.loop-other-test.true ∙ ap (λ b. b && rest) (sym c.are_apart.ensures ∙ c.if-not-are_apart.false)
+pub loop-column-preserved : goal.loop-column-preserved
+loop-column-preserved g c =
+    let next = c.in-Some.ensures in
+    record {
+      end = search rules;
+      right = omega (arith, next.0);
+      apart = column_more c.args.span c.loop-column.from c.in-Some.column c.args.spans.now c.requires.ascending c.requires.columns next.2 (sym c.is_apart_at.ensures ∙ c.if-not-is_apart_at.false) c.loop-column.invariant.apart;
+    }
 
 pub returns : goal.returns
-returns c = sym (c.loop-other.invariant ∙ apart_none c.args.span c.args.others.now c.loop-other.other-index c.loop-other-test.false)
+returns g c = sym (columns_end c.args.span c.loop-column.from (c.args.span.0.0 + c.args.span.1.1) c.args.spans.now refl c.in_default.ensures c.loop-column.invariant.apart)

@@ -1,8 +1,15 @@
-use Rattle.std.proofs.Common.{◌≡◌, drop}
-use Rattle.std.specs.List.{list_all}
-use Rattle.pg_picture.specs.Fits.{are_apart}
+use Rattle.std.proofs.Common.{◌≡◌, ◌+◌, ◌-◌, ◌<◌}
+use Rattle.pg_layout.specs.Places.{Each}
+use Rattle.pg_picture.proofs.SpansByColumns.{ApartBefore}
 use Rattle.pg_picture.proofs.fits.spans.is_apart.Given as goal
 
--- the rectangle is apart from those so far
-abbrev pub invariant-loop-other : goal.invariant-loop-other
-invariant-loop-other l = list_all (are_apart l.span) l.others ≡ list_all (are_apart l.span) (drop l.other-index l.others)
+-- the rectangles that begin left of the column are told apart
+abbrev pub invariant-loop-column : goal.invariant-loop-column
+invariant-loop-column g l = record {
+  end : l.end ≡ l.span.0.0 + l.span.1.1;
+  right : l.span.0.0 < l.from;
+  apart : Each (ApartBefore l.span l.from) l.spans;
+}
+
+abbrev pub decreases-loop-column : goal.decreases-loop-column
+decreases-loop-column g l = l.end - l.from

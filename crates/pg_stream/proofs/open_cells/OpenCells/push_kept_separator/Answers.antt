@@ -1,8 +1,6 @@
-use Rattle.std.proofs.Common.{Option, IfSome, ◌∙◌, subst, arith}
-use Rattle.std.specs.Borrow.{Bor}
-use Rattle.pg_layout.specs.Text.{Text}
+use Rattle.std.proofs.Common.{◌∙◌, arith}
 use Rattle.pg_picture.proofs.Appending.{Appends-text}
-use Rattle.pg_picture.proofs.KeptTexts.{text-from}
+use Rattle.pg_picture.proofs.KeptTexts.{text-from, lent-text}
 use Rattle.pg_stream.specs.Drawing.{IsSeparator}
 use Rattle.pg_stream.specs.Frames.{frame_table}
 use Rattle.pg_stream.proofs.EqualRowLines.{kept-is, keeps}
@@ -11,11 +9,11 @@ use Rattle.pg_stream.proofs.open_cells.OpenCells.push_kept_separator.Goals as go
 pub returns-in-Some-clause-appends : goal.returns-in-Some-clause-appends
 returns-in-Some-clause-appends g c =
     let t = frame_table g.D.Dimension.width g.D.Dimension.height g.C.Colors.color c.args.frame.now in
-    let kept = subst (λ (o : Option (Bor Text)). IfSome o (λ text. IsSeparator t text.now)) c.in-Some.is (c.text_of.ensures t c.requires.kept) in
+    let kept = lent-text (IsSeparator t) c.text.result c.args.kept.now c.in-Some.text c.text.ensures c.in-Some.is c.requires.kept in
     Appends-text (kept-is t c.args.self.now c.args.row (omega arith) c.requires.alone c.in-Some.text.now kept) c.push_text.ensures
 
 pub returns-then-has_equal_separators-clause-kept : goal.returns-then-has_equal_separators-clause-kept
 returns-then-has_equal_separators-clause-kept g c =
     let t = frame_table g.D.Dimension.width g.D.Dimension.height g.C.Colors.color c.args.frame.now in
     let here = text-from c.len-from.result (c.len-from.ensures ∙ c.args.buf.now.bytes.ok.0) c.in_ok-push_separator.ensures in
-    keeps t c.args.self.now c.args.row (omega arith) c.requires.alone _ c.has_equal_separators.result c.has_equal_separators.ensures c.if-has_equal_separators.true here c.from_buffer.result c.from_buffer.ensures.is
+    keeps t c.args.self.now c.args.row (omega arith) c.requires.alone _ c.has_equal_separators.result c.has_equal_separators.ensures c.if-has_equal_separators.true here c.keep.new.self c.keep.ensures.is
