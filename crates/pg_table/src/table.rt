@@ -79,6 +79,8 @@ impl<T, A: Allocator> Table<T, A> {
 
     /// The table with this padding of all cells. Takes no memory.
     pub fn with_padding(mut self, padding: Sides<Indent>) -> Table<T, A>
+    where
+        A: Clone,
         ensures { result ≡ record self { config = record self.config { padding = with_setting Entity.Global padding self.config.padding } } }
     {
         self.config.set_padding(Entity::Global, padding).unwrap();
@@ -87,6 +89,8 @@ impl<T, A: Allocator> Table<T, A> {
 
     /// The table with the texts of all cells at this side. Takes no memory.
     pub fn with_alignment(mut self, alignment: AlignmentHorizontal) -> Table<T, A>
+    where
+        A: Clone,
         ensures { result ≡ record self { config = record self.config { alignment_horizontal = with_setting Entity.Global alignment self.config.alignment_horizontal } } }
     {
         self.config
@@ -138,6 +142,8 @@ impl<T: AsStr + Drop, A: Allocator> Table<T, A> {
     /// Takes memory for its places, one for each column and each column line; where that is refused,
     /// nothing changes. [`Table::with_header_line`] does the same to a table by value.
     pub fn set_header_line(&mut self, line: HorizontalLine<char>) -> Result<(), AllocError>
+    where
+        A: Clone,
         ensures ok { OnOk result (self.new ≡ record self.old { config = with_header_line line (length self.old.rows) (columns_of self.old.rows) self.old.config }) }
         ensures err { OnErr result (self.new ≡ self.old) }
     {
@@ -155,6 +161,8 @@ impl<T: AsStr + Drop, A: Allocator> Table<T, A> {
     /// let table = table.with_borders(Borders::psql()).with_header_line(HorizontalLine::psql())?;
     /// ```
     pub fn with_header_line(mut self, line: HorizontalLine<char>) -> Result<Table<T, A>, TableFault>
+    where
+        A: Clone,
         ensures ok { IfOk result (λ table. table ≡ record self { config = with_header_line line (length self.rows) (columns_of self.rows) self.config }) }
         ensures memory { (fault : TableFault) → result ≡ Err fault → fault ≡ TableFault.Memory }
     {
