@@ -18,6 +18,8 @@ mod given;
 #[cfg(test)]
 mod huge;
 #[cfg(test)]
+mod kept;
+#[cfg(test)]
 mod margins;
 #[cfg(test)]
 mod printing;
@@ -25,6 +27,8 @@ mod printing;
 mod refusals;
 #[cfg(test)]
 mod settings;
+#[cfg(test)]
+mod span_fits;
 #[cfg(test)]
 mod spans;
 #[cfg(test)]

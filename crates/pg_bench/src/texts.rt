@@ -3,6 +3,7 @@
 use crate::drawing::assert_cell;
 use crate::settings::Setting;
 use pg_layout::{AlignmentHorizontal, AlignmentVertical, Entity, Indent, Sides};
+use pg_picture::count_empty_lines;
 use std::alloc::Global;
 use std::process::Abort;
 use std::test::Fail;
@@ -112,4 +113,12 @@ fn a_fill_may_be_two_columns_wide(rt: HostRuntime) -> Result<(), Fail> {
     padding.left = Indent::new(1, '日');
     let settings = [Setting::Filled(Entity::Global, padding)];
     assert_cell(&rt, rt.alloc(), ("a", 2, 1), (&settings, "日a"))
+}
+
+#[test]
+fn blank_lines_are_counted_before_and_behind_the_others(rt: HostRuntime) {
+    assert_eq!(rt; count_empty_lines(" \n\na\n \nb\n"), (3, 2, 1));
+    assert_eq!(rt; count_empty_lines("a"), (1, 0, 0));
+    assert_eq!(rt; count_empty_lines("\n \n"), (0, 3, 0));
+    assert_eq!(rt; count_empty_lines(""), (0, 1, 0));
 }

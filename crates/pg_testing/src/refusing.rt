@@ -15,7 +15,8 @@ use std::cell::Cell;
 ///
 /// To refuse each request in turn, run the same work with `k` = 0, 1, 2 and so on, until
 /// [`has_refused`](Refusing::has_refused) answers `false` after it: then no request came as late
-/// as that, and each was refused once.
+/// as that, and each was refused once. Work that changes nothing where it is refused can be run
+/// again and again with one allocator ([`refuse_only`](Refusing::refuse_only)).
 pub struct Refusing<B: Allocator> {
     inner: B,
     ledger: Cell<Ledger>,
@@ -30,6 +31,11 @@ impl<B: Allocator> Refusing<B> {
     /// Refuses the `k`-th request alone: the ones before it and after it are passed on.
     pub fn only(inner: B, k: u64) -> Refusing<B> {
         Refusing::by_rule(inner, Rule::Only(k))
+    }
+
+    /// From now on refuses the `k`-th of the requests to come alone; counts anew from 0.
+    pub fn refuse_only(&self, k: u64) {
+        self.ledger.set(Ledger::new(Rule::Only(k)));
     }
 
     fn by_rule(inner: B, rule: Rule) -> Refusing<B> {

@@ -9,6 +9,8 @@ use pg_layout::{
     ANSIStr, AlignmentHorizontal, Borders, ConstantDimension, Indent, NoColors, Sides,
 };
 use pg_picture::fits::{Misfit, compact_fits};
+use std::alloc::{AllocError, Global};
+use std::process::Abort;
 use std::test::Fail;
 
 // A table of these texts in columns of these widths, with no colours.
@@ -49,6 +51,42 @@ fn an_inner_separator_ends_with_the_sides_of_the_rows(rt: HostRuntime) -> Result
 |b|
 +-+";
     assert_drawn(&rt, rt.alloc(), &sample, text)
+}
+
+// Appends a character so many times.
+fn push_times(buf: &mut String, c: char, count: usize) -> Result<(), AllocError> {
+    for _ in 0..count {
+        buf.push(c)?;
+    }
+    Ok(())
+}
+
+// Rows of an empty cell, with separators of so many bytes between them and no other line.
+fn assert_separators(rt: &impl Abort, alloc: Global, bytes: usize) -> Result<(), Fail> {
+    let mut glyphs = Borders::empty();
+    glyphs.horizontal = Some('-');
+    let config = CompactConfig::new().set_borders(glyphs);
+    let widths = [bytes];
+    let sample = plain(&[&[""], &[""], &[""], &[""]], &widths, config);
+    let mut text = String::new(alloc);
+    push_times(&mut text, ' ', bytes)?;
+    for _below in 0..3 {
+        text.push('\n')?;
+        push_times(&mut text, '-', bytes)?;
+        text.push('\n')?;
+        push_times(&mut text, ' ', bytes)?;
+    }
+    assert_drawn(rt, alloc, &sample, text.as_str())
+}
+
+#[test]
+fn the_longest_kept_separator_is_whole(rt: HostRuntime) -> Result<(), Fail> {
+    assert_separators(&rt, rt.alloc(), 512)
+}
+
+#[test]
+fn a_separator_too_long_to_be_kept_is_whole(rt: HostRuntime) -> Result<(), Fail> {
+    assert_separators(&rt, rt.alloc(), 513)
 }
 
 #[test]

@@ -42,6 +42,27 @@ pub(crate) fn answers<A: Allocator>(
     Ok(text)
 }
 
+/// What the getters for one place answer in some rows, at the columns below this number, in a table
+/// of as many rows and columns.
+pub(crate) fn answers_in_rows<A: Allocator>(
+    alloc: Global,
+    config: &SpannedConfig<A>,
+    rows: &[usize],
+    reach: usize,
+) -> Result<String, Fail> {
+    let mut text = String::new(alloc);
+    for row in rows {
+        for col in 0..reach {
+            let pos = Position::new(*row, col);
+            write_borders(config, pos, reach, &mut text)?;
+            write_cell(config, pos, &mut text)?;
+            write_spans(config, pos, &mut text)?;
+            write_offsets(config, pos, &mut text)?;
+        }
+    }
+    Ok(text)
+}
+
 // The two texts of a colour, if there is one.
 fn texts<A: Allocator>(color: Option<&ANSIBuf<A>>) -> Option<(&str, &str)> {
     let color = color?;
@@ -78,7 +99,10 @@ fn write_whole<A: Allocator>(config: &SpannedConfig<A>, text: &mut String) -> Re
         config.has_column_spans(),
         config.has_row_spans()
     )?;
-    write!(text, "{:?} {:?}", config.has_offset_chars(), config.spans())?;
+    write!(text, "{:?}", config.has_offset_chars())?;
+    for span in config.spans().iter() {
+        write!(text, "{span:?}")?;
+    }
     Ok(())
 }
 

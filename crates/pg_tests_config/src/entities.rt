@@ -198,3 +198,42 @@ fn a_row_a_column_and_a_cell_are_told_all_of_a_cell(rt: HostRuntime) -> Result<(
     }
     Ok(())
 }
+
+// Tells a column, a cell and a row that cross the same things, in turn and often.
+fn tell_often(alloc: Global, config: &mut SpannedConfig<Global>) -> Result<(), Fail> {
+    for _ in 0..1000 {
+        tell(alloc, config, Entity::Column(2), first())?;
+        tell(alloc, config, Entity::Cell(1, 2), nothing())?;
+        tell(alloc, config, Entity::Row(1), second())?;
+    }
+    Ok(())
+}
+
+// What is answered where they cross, in the row, in the column and beside them.
+fn assert_crossing(rt: &impl Abort, config: &SpannedConfig<Global>, wanted: [Told<'_>; 4]) {
+    for ((row, col), told) in [(1, 2), (1, 0), (0, 2), (0, 0)].into_iter().zip(wanted) {
+        let pos = Position::new(row, col);
+        assert_eq!(rt; answered(config, pos), told, "at {pos:?}");
+    }
+}
+
+fn cross_often(
+    rt: &impl Abort,
+    alloc: Global,
+    config: &mut SpannedConfig<Global>,
+) -> Result<(), Fail> {
+    tell_often(alloc, config)?;
+    assert_crossing(rt, config, [second(), second(), first(), nothing()]);
+    tell(alloc, config, Entity::Cell(1, 2), nothing())?;
+    assert_crossing(rt, config, [nothing(), second(), first(), nothing()]);
+    tell(alloc, config, Entity::Column(2), first())?;
+    assert_crossing(rt, config, [first(), second(), first(), nothing()]);
+    tell(alloc, config, Entity::Global, second())?;
+    assert_crossing(rt, config, [second(), second(), second(), second()]);
+    Ok(())
+}
+
+#[test]
+fn the_latest_counts_however_often_all_are_told(rt: HostRuntime) -> Result<(), Fail> {
+    cross_often(&rt, rt.alloc(), &mut SpannedConfig::new(rt.alloc()))
+}

@@ -6,6 +6,8 @@ mod answers;
 #[cfg(test)]
 mod colors;
 #[cfg(test)]
+mod crowds;
+#[cfg(test)]
 mod entities;
 #[cfg(test)]
 mod given;

@@ -36,6 +36,12 @@ fn fill_by_all_entities(rt: &impl Abort, config: &mut SpannedConfig<Global>) -> 
         (Entity::Global, 'h', ['h', 'h', 'h']),
         (Entity::Row(0), 'i', ['i', 'h', 'h']),
         (Entity::Row(2), 'j', ['i', 'h', 'h']),
+        (Entity::Cell(1, 1), 'k', ['i', 'h', 'k']),
+        (Entity::Cell(1, 0), 'l', ['i', 'l', 'k']),
+        (Entity::Row(1), 'm', ['i', 'm', 'm']),
+        (Entity::Column(1), 'n', ['n', 'm', 'n']),
+        (Entity::Cell(1, 0), 'o', ['n', 'o', 'n']),
+        (Entity::Row(1), 'p', ['n', 'p', 'p']),
     ] {
         config.set_justification(entity, fill)?;
         assert_eq!(rt; fills(config), wanted, "after {fill:?} for {entity:?}");

@@ -12,11 +12,11 @@ use std::process::Abort;
 use std::test::Fail;
 
 /// More requests for memory than the calls of a test make.
-const MANY: u64 = 1000;
+pub(crate) const MANY: u64 = 1000;
 
 /// A setter for a place, which may be refused memory.
 #[derive(Debug, Clone, Copy)]
-enum PlaceSetter {
+pub(crate) enum PlaceSetter {
     Border,
     RowLine,
     BorderColor,
@@ -42,7 +42,7 @@ const PLACE_SETTERS: [PlaceSetter; 9] = [
 
 /// A setter for an entity, which may be refused memory.
 #[derive(Debug, Clone, Copy)]
-enum EntitySetter {
+pub(crate) enum EntitySetter {
     Padding,
     PaddingColor,
     AlignmentHorizontal,
@@ -68,14 +68,14 @@ const ENTITY_SETTERS: [EntitySetter; 9] = [
 
 /// Whom a call of a setter is for, and what it hands in.
 #[derive(Debug, Clone, Copy)]
-struct Call {
-    row: u8,
-    col: u8,
-    entity: Entity,
-    offset: Offset,
-    size: usize,
-    glyph: char,
-    prefix: &'static str,
+pub(crate) struct Call {
+    pub(crate) row: u8,
+    pub(crate) col: u8,
+    pub(crate) entity: Entity,
+    pub(crate) offset: Offset,
+    pub(crate) size: usize,
+    pub(crate) glyph: char,
+    pub(crate) prefix: &'static str,
 }
 
 const CALLS: [Call; 13] = [
@@ -219,7 +219,7 @@ fn line(glyph: char) -> HorizontalLine<char> {
 }
 
 // Tells a configuration something of a place.
-fn tell_place<A: Allocator + Copy>(
+pub(crate) fn tell_place<A: Allocator + Copy>(
     config: &mut SpannedConfig<A>,
     alloc: A,
     setter: PlaceSetter,
@@ -248,7 +248,7 @@ fn tell_place<A: Allocator + Copy>(
 }
 
 // Tells a configuration something of an entity.
-fn tell_entity<A: Allocator + Copy>(
+pub(crate) fn tell_entity<A: Allocator + Copy>(
     config: &mut SpannedConfig<A>,
     alloc: A,
     setter: EntitySetter,

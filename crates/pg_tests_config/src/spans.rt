@@ -74,3 +74,29 @@ fn cover_places(rt: &impl Abort, config: &mut SpannedConfig<Global>) -> Result<(
 fn a_rectangle_covers_its_other_places(rt: HostRuntime) -> Result<(), Fail> {
     cover_places(&rt, &mut SpannedConfig::new(rt.alloc()))
 }
+
+// Spans stand in the order of their columns and then rows, whatever the order of their setters.
+fn read_in_order(rt: &impl Abort, config: &mut SpannedConfig<Global>) -> Result<(), Fail> {
+    for (row, col) in [(1, 4), (3, 0), (0, 4), (2, 2)] {
+        config.set_row_span(Position::new(row, col), 2)?;
+    }
+    let spans = config.spans();
+    let mut entries = spans.iter();
+    for (row, col) in [(3, 0), (2, 2), (0, 4), (1, 4)] {
+        let entry = entries.next().map(|(key, size)| (*key, *size));
+        assert_eq!(rt; entry, Some(((col, row, 0), (2, 1))));
+    }
+    assert_eq!(rt; entries.next().is_none(), true);
+    let next = spans.next_from(Position::new(1, 2));
+    assert_eq!(rt; next, Some(((2, 2, 0), (2, 1))));
+    assert_eq!(rt; spans.next_from(Position::new(2, 4)), None);
+    let last = spans.last_before(Position::new(0, 4));
+    assert_eq!(rt; last, Some(((2, 2, 0), (2, 1))));
+    assert_eq!(rt; spans.last_before(Position::new(3, 0)), None);
+    Ok(())
+}
+
+#[test]
+fn spans_are_read_in_order_and_found_by_their_places(rt: HostRuntime) -> Result<(), Fail> {
+    read_in_order(&rt, &mut SpannedConfig::new(rt.alloc()))
+}

@@ -79,7 +79,10 @@ fn margins_are_answered_as_they_were_set(rt: HostRuntime) -> Result<(), Fail> {
 const ROUNDS: u64 = 30_000;
 
 // Tells a configuration what has no colour, of one row, one column and some cells.
-fn tell<A: Allocator>(config: &mut SpannedConfig<A>, glyph: char) -> Result<(), AllocError> {
+fn tell<A: Allocator + Clone>(
+    config: &mut SpannedConfig<A>,
+    glyph: char,
+) -> Result<(), AllocError> {
     let pos = Position::new(1, 2);
     for entity in [
         Entity::Row(1),
@@ -121,7 +124,7 @@ fn tell_often(
     }
     assert_eq!(rt; memory.requests(), requests);
     assert_eq!(rt; config.get_justification(Position::new(1, 2)), 'b');
-    assert_eq!(rt; config.spans().len(), 1);
+    assert_eq!(rt; config.spans().iter().count(), 1);
     Ok(())
 }
 

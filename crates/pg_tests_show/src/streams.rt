@@ -185,3 +185,10 @@ fn short_reads_are_read_to_the_end(rt: HostRuntime) -> Result<(), Fail> {
     }
     Ok(())
 }
+
+// An input that goes on after 16,777,216 reads is given up, whatever it is.
+#[test]
+fn a_reader_without_an_end_is_given_up(rt: HostRuntime) -> Result<(), Fail> {
+    let input = &mut EndlessReader;
+    assert_reader_refused(&rt, rt.alloc(), ("peek", input), ("read failed\n", 5))
+}
