@@ -1,5 +1,7 @@
 //! The tables that are built, by name.
 
+use crate::growth::{LARGE, SMALL};
+
 /// A name, the grid that prints, and the table.
 #[derive(Debug, Clone, Copy)]
 pub(crate) struct Case(pub(crate) &'static str, pub(crate) Grid, pub(crate) Table);
@@ -24,6 +26,9 @@ pub(crate) enum Grid {
     /// The looked-up grid at the table's natural sizes, which are worked out in each build, from
     /// texts in memory.
     Natural,
+    /// The looked-up grid by its checked call, from texts in memory; in each build all settings and
+    /// colours are told anew.
+    Told,
 }
 
 /// What a table consists of.
@@ -38,6 +43,7 @@ pub(crate) struct Table {
     pub(crate) words: Words,
     pub(crate) look: Look,
     pub(crate) spanning: Spanning,
+    pub(crate) telling: Telling,
 }
 
 /// What the cells of a table say.
@@ -49,7 +55,7 @@ pub(crate) enum Words {
     Lines,
     /// A few wide characters.
     Wide,
-    /// The same line a thousand times.
+    /// The same line, as many times as the row has lines.
     Long,
     /// The same three letters in each cell.
     Same,
@@ -79,11 +85,38 @@ pub(crate) enum Spanning {
     Blocks,
     /// A cell of two rows and three columns in each tenth column of each tenth row.
     Tiles,
+    /// A cell of two rows and two columns in each second column of each second row, so that no cell
+    /// is left that spans nothing.
+    Squares,
     /// The first cell, down to the last row.
     Tall,
 }
 
-const BASIC: Table = Table {
+/// What a table that is told anew is told of single cells and rows.
+#[derive(Debug, Clone, Copy)]
+pub(crate) enum Telling {
+    /// Nothing.
+    Nothing,
+    /// A colour, a padding and an alignment of each cell.
+    Cells(Order),
+    /// A border of each cell, row by row.
+    Borders,
+    /// An alignment of each cell, row by row, and then one of each row.
+    RowsAfterCells,
+}
+
+/// In which order cells are told of.
+#[derive(Debug, Clone, Copy)]
+pub(crate) enum Order {
+    /// Row by row.
+    Natural,
+    /// From the last cell to the first.
+    Reversed,
+    /// Each cell far from the one before.
+    Scattered,
+}
+
+pub(crate) const BASIC: Table = Table {
     rows: 100,
     columns: 10,
     width: 12,
@@ -91,6 +124,7 @@ const BASIC: Table = Table {
     words: Words::Letters,
     look: Look::Plain,
     spanning: Spanning::Nothing,
+    telling: Telling::Nothing,
 };
 
 const SPANS: Table = Table {
@@ -115,7 +149,7 @@ const UNICODE: Table = Table {
     ..BASIC
 };
 
-const BOX: Table = Table {
+pub(crate) const BOX: Table = Table {
     look: Look::Boxed,
     ..UNICODE
 };
@@ -203,10 +237,13 @@ pub(crate) const OTHER_SIZES: [Case; 7] = [
     Case("rows_tall1000000", Grid::Rows, TALL1000000),
 ];
 
+/// All cases, as they are listed.
+pub(crate) const LISTS: [&[Case]; 4] = [&CASES, &SMALL, &OTHER_SIZES, &LARGE];
+
 impl Case {
     /// The case of this name.
     pub(crate) fn named(name: &str) -> Option<Case> {
-        among(&CASES, name).or(among(&OTHER_SIZES, name))
+        LISTS.into_iter().find_map(|cases| among(cases, name))
     }
 }
 

@@ -2,8 +2,9 @@
 //! be measured, and tells how many bytes the last text has and its checksum.
 #![tactic(auto)]
 
-use crate::case::{CASES, Case, OTHER_SIZES};
+use crate::case::{CASES, Case, LISTS};
 use crate::failure::Failure;
+use crate::growth::SMALL;
 use crate::measure::measure;
 use std::alloc::Global;
 use std::process::ExitCode;
@@ -14,19 +15,22 @@ mod case;
 mod checksum;
 mod dimension;
 mod failure;
+mod growth;
 mod made_records;
 mod measure;
 mod rows;
 mod settings;
 mod streamed;
+mod telling;
 mod texts;
+mod told;
 
 /// What the arguments ask for.
 #[derive(Debug, Clone, Copy)]
 enum Request {
     /// The names of the cases.
     List,
-    /// Each case but those of other sizes, built so many times.
+    /// Each case but those of other sizes and larger ones, built so many times.
     All(usize),
     /// One case, built so many times.
     One(Case, usize),
@@ -52,8 +56,10 @@ fn count(word: &String) -> Result<usize, Failure> {
 }
 
 fn list(rt: &impl Print) -> Result<(), Failure> {
-    list_cases(rt, &CASES)?;
-    list_cases(rt, &OTHER_SIZES)
+    for cases in LISTS {
+        list_cases(rt, cases)?;
+    }
+    Ok(())
 }
 
 fn list_cases(rt: &impl Print, cases: &[Case]) -> Result<(), Failure> {
@@ -64,7 +70,12 @@ fn list_cases(rt: &impl Print, cases: &[Case]) -> Result<(), Failure> {
 }
 
 fn all(rt: &impl Print, alloc: Global, times: usize) -> Result<(), Failure> {
-    for case in CASES {
+    each(rt, alloc, &CASES, times)?;
+    each(rt, alloc, &SMALL, times)
+}
+
+fn each(rt: &impl Print, alloc: Global, cases: &[Case], times: usize) -> Result<(), Failure> {
+    for &case in cases {
         let text = measure(alloc, case, times)?;
         println!(rt; "{} {} {:016x}", case.0, text.bytes, text.checksum)?;
     }

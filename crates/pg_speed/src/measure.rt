@@ -12,6 +12,7 @@ use crate::rows::pushed;
 use crate::settings::{colors, compact_settings, set};
 use crate::streamed::{streamed, streamed_as_made};
 use crate::texts::records;
+use crate::told::told;
 use pg_config::{CompactConfig, SpannedConfig};
 use pg_grid::{CompactGrid, PeekableGrid};
 use pg_layout::{
@@ -38,6 +39,7 @@ pub(crate) fn measure<A: Allocator + Copy>(
     let Case(_, grid, table) = case;
     let text = match grid {
         Grid::Compact => compact_text(alloc, table, times),
+        Grid::Told => told(alloc, table, times),
         _ => spanned_text(alloc, grid, table, times),
     }?;
     Ok(Measured {

@@ -1,5 +1,7 @@
 //! The settings of the tables.
 
+ghost use Rattle.std.specs.Prelude.{◌<◌};
+
 use crate::case::{Look, Spanning, Table};
 use pg_config::{CompactConfig, SpannedConfig};
 use pg_layout::{
@@ -39,7 +41,7 @@ pub(crate) fn set<A: Allocator + Copy>(
 }
 
 // Borders, and spaces between them and the texts.
-fn frame<A: Allocator>(
+fn frame<A: Allocator + Copy>(
     config: &mut SpannedConfig<A>,
     borders: Borders<char>,
 ) -> Result<(), AllocError> {
@@ -63,40 +65,54 @@ pub(crate) fn compact_settings(look: Look) -> CompactConfig {
 }
 
 // Lets cells span others.
-fn span<A: Allocator>(config: &mut SpannedConfig<A>, table: Table) -> Result<(), AllocError> {
+fn span<A: Allocator + Copy>(
+    config: &mut SpannedConfig<A>,
+    table: Table,
+) -> Result<(), AllocError> {
     match table.spanning {
         Spanning::Nothing => Ok(()),
         Spanning::Blocks => span_blocks(config, table.rows),
-        Spanning::Tiles => span_tiles(config, table.rows, table.columns),
+        Spanning::Tiles => span_tiles(config, table, 10, (2, 3)),
+        Spanning::Squares => span_tiles(config, table, 2, (2, 2)),
         Spanning::Tall => config.set_row_span(Position::new(0, 0), table.rows),
     }
 }
 
-// Each tenth column of each tenth row begins a tile.
-fn span_tiles<A: Allocator>(
+// Tiles of so many rows and columns, so far from each other.
+fn span_tiles<A: Allocator + Copy>(
     config: &mut SpannedConfig<A>,
-    rows: usize,
-    columns: usize,
-) -> Result<(), AllocError> {
-    for row in (0..rows).step_by(10) {
-        span_tiles_of_row(config, row, columns)?;
+    table: Table,
+    distance: usize,
+    size: (usize, usize),
+) -> Result<(), AllocError>
+    requires { 0 < distance }
+{
+    for row in (0..table.rows).step_by(distance) {
+        span_tiles_of_row(config, row, table.columns, distance, size)?;
     }
     Ok(())
 }
 
-fn span_tiles_of_row<A: Allocator>(
+fn span_tiles_of_row<A: Allocator + Copy>(
     config: &mut SpannedConfig<A>,
     row: usize,
     columns: usize,
-) -> Result<(), AllocError> {
-    for column in (0..columns).step_by(10) {
-        span_cell(config, Position::new(row, column))?;
+    distance: usize,
+    size: (usize, usize),
+) -> Result<(), AllocError>
+    requires { 0 < distance }
+{
+    for column in (0..columns).step_by(distance) {
+        span_cell(config, Position::new(row, column), size)?;
     }
     Ok(())
 }
 
 // Each fourth row begins a block in the middle of which the text stands.
-fn span_blocks<A: Allocator>(config: &mut SpannedConfig<A>, rows: usize) -> Result<(), AllocError> {
+fn span_blocks<A: Allocator + Copy>(
+    config: &mut SpannedConfig<A>,
+    rows: usize,
+) -> Result<(), AllocError> {
     for row in 0..rows {
         if row % 4 == 0 {
             span_block(config, Position::new(row, 3 * ((row / 4) % 3)))?;
@@ -105,20 +121,24 @@ fn span_blocks<A: Allocator>(config: &mut SpannedConfig<A>, rows: usize) -> Resu
     Ok(())
 }
 
-fn span_block<A: Allocator>(
+fn span_block<A: Allocator + Copy>(
     config: &mut SpannedConfig<A>,
     pos: Position,
 ) -> Result<(), AllocError> {
     let cell = Entity::Cell(pos.row, pos.col);
-    span_cell(config, pos)?;
+    span_cell(config, pos, (2, 3))?;
     config.set_alignment_horizontal(cell, AlignmentHorizontal::Center)?;
     config.set_alignment_vertical(cell, AlignmentVertical::Center)
 }
 
-// A cell of two rows and three columns.
-fn span_cell<A: Allocator>(config: &mut SpannedConfig<A>, pos: Position) -> Result<(), AllocError> {
-    config.set_row_span(pos, 2)?;
-    config.set_column_span(pos, 3)
+// A cell of so many rows and columns.
+fn span_cell<A: Allocator + Copy>(
+    config: &mut SpannedConfig<A>,
+    pos: Position,
+    (rows, columns): (usize, usize),
+) -> Result<(), AllocError> {
+    config.set_row_span(pos, rows)?;
+    config.set_column_span(pos, columns)
 }
 
 // One space left and right of each text.
@@ -132,7 +152,7 @@ fn side_spaces() -> Sides<Indent> {
 }
 
 // Texts stand trimmed in the middle of their cells.
-fn trim<A: Allocator>(config: &mut SpannedConfig<A>) -> Result<(), AllocError> {
+fn trim<A: Allocator + Copy>(config: &mut SpannedConfig<A>) -> Result<(), AllocError> {
     config.set_trim_horizontal(Entity::Global, true)?;
     config.set_trim_vertical(Entity::Global, true)?;
     config.set_alignment_horizontal(Entity::Global, AlignmentHorizontal::Center)?;
@@ -273,12 +293,20 @@ fn color_row<A: Allocator + Copy>(
 ) -> Result<(), AllocError> {
     for column in 0..columns {
         if (row % 3 + column % 3) % 3 == 0 {
-            let prefix = PREFIXES[(row % 7 + column % 7) % 7];
-            let color = ANSIBuf::new(alloc, prefix, PLAIN)?;
-            colors.set(Position::new(row, column), color)?;
+            color_cell(alloc, colors, Position::new(row, column))?;
         }
     }
     Ok(())
+}
+
+/// Gives a cell one of seven colours.
+pub(crate) fn color_cell<A: Allocator + Copy>(
+    alloc: A,
+    colors: &mut ColorsMap<A>,
+    pos: Position,
+) -> Result<(), AllocError> {
+    let prefix = PREFIXES[(pos.row % 7 + pos.col % 7) % 7];
+    colors.set(pos, ANSIBuf::new(alloc, prefix, PLAIN)?)
 }
 
 const PREFIXES: [&str; 7] = [

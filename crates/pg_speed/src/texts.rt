@@ -23,7 +23,7 @@ fn texts<A: Allocator + Copy>(
 ) -> Result<Vec<Vec<String<A>, A>, A>, AllocError> {
     let mut rows = Vec::new(alloc);
     for row in 0..table.rows {
-        rows.push(texts_of_row(alloc, row, table.columns, table.words)?)?;
+        rows.push(texts_of_row(alloc, row, table)?)?;
     }
     Ok(rows)
 }
@@ -31,25 +31,24 @@ fn texts<A: Allocator + Copy>(
 fn texts_of_row<A: Allocator + Copy>(
     alloc: A,
     row: usize,
-    columns: usize,
-    words: Words,
+    table: Table,
 ) -> Result<Vec<String<A>, A>, AllocError> {
     let mut texts = Vec::new(alloc);
-    for column in 0..columns {
-        texts.push(text(alloc, row, column, words)?)?;
+    for column in 0..table.columns {
+        texts.push(text(alloc, row, column, table)?)?;
     }
     Ok(texts)
 }
 
-/// The text of a cell.
-pub(crate) fn text<A: Allocator>(
+// The text of a cell.
+fn text<A: Allocator>(
     alloc: A,
     row: usize,
     column: usize,
-    words: Words,
+    table: Table,
 ) -> Result<String<A>, AllocError> {
     let mut text = String::new(alloc);
-    match words {
+    match table.words {
         Words::Letters => push_letters(
             &mut text,
             place(row, column, 0),
@@ -57,7 +56,7 @@ pub(crate) fn text<A: Allocator>(
         ),
         Words::Lines => push_lines(&mut text, row, column),
         Words::Wide => push_wide(&mut text, row, column),
-        Words::Long => push_long(&mut text),
+        Words::Long => push_long(&mut text, table.height),
         Words::Same => text.push_str(SAME),
     }?;
     Ok(text)
@@ -138,10 +137,10 @@ fn push_wide<A: Allocator>(
     Ok(())
 }
 
-// A thousand lines.
-fn push_long<A: Allocator>(text: &mut String<A>) -> Result<(), AllocError> {
+// So many lines, one at least.
+fn push_long<A: Allocator>(text: &mut String<A>, lines: usize) -> Result<(), AllocError> {
     text.push_str(SAME)?;
-    for _ in 1..1000 {
+    for _ in 1..lines {
         text.push('\n')?;
         text.push_str(SAME)?;
     }
