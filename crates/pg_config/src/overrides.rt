@@ -80,6 +80,7 @@ impl<G, A: Allocator> Overrides<G, A> {
 
     /// Whether a vertical or a crossing of this column line has a value.
     #[tactic(auto, unfolding(crate::specs::Overrides::overrides_column))]
+    #[inline(always)]
     pub fn has_column(&self, column: usize) -> bool
         ensures { result ≡ overrides_column self.now column }
     {

@@ -48,6 +48,15 @@ impl<A: Allocator> Spans<A> {
         self.sizes.iter()
     }
 
+    /// Tells a proof that the keys ascend and are those of places. It does nothing when it runs.
+    #[inline(always)]
+    pub fn stand_in_order(&self)
+        ensures ascending { IsAscending self.now }
+        ensures places { StandAtPlaces self.now }
+    {
+        self.sizes.stand_in_order()
+    }
+
     /// Whether no cell has a span.
     #[inline(always)]
     pub fn is_empty(&self) -> bool

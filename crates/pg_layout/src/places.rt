@@ -46,6 +46,15 @@ impl<V, A: Allocator> Places<V, A> {
         self.entries.iter()
     }
 
+    /// Tells a proof that the keys ascend. It does nothing when it runs.
+    #[inline(always)]
+    pub fn stand_in_order(&self)
+        ensures { IsAscending self.now }
+    {
+        // To look inside is what tells it.
+        let _count = self.entries.len();
+    }
+
     /// Whether there is no entry.
     #[inline(always)]
     pub fn is_empty(&self) -> bool

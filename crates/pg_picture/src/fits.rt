@@ -13,7 +13,7 @@ mod totals;
 
 pub use crate::fits::compact::{compact_fits, compact_full_width};
 pub use crate::fits::laws::{heights_are_lines, no_misfit_means_fits, spans_fit_by_places};
-pub use crate::fits::rectangle::{rect_height, rect_width};
+pub use crate::fits::rectangle::{height_of_rows, rect_height, rect_width, width_of_columns};
 pub use crate::fits::room::cell_fits;
 pub(crate) use crate::fits::room::text_fits;
 pub use crate::fits::spans::{begins_above, columns_of, spans_fit, spans_fit_columns};

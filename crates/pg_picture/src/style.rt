@@ -48,6 +48,7 @@ impl<'a, A: Allocator> CellStyle<'a, A> {
             justification_color: config.get_justification_color(pos),
         }
     }
+
     // How many of a cell's columns the side paddings leave. The cell has room for them.
     #[inline(always)]
     #[tactic(auto, unfolding(crate::specs::Pieces::inner_width))]
@@ -57,6 +58,7 @@ impl<'a, A: Allocator> CellStyle<'a, A> {
     {
         width - (self.padding.left.size + self.padding.right.size)
     }
+
     /// Whether a cell of so many columns and lines has room for a text in this style, as
     /// [`crate::fits::cell_fits`] says it of a place.
     pub fn has_room(&self, text: &str, width: usize, height: usize) -> bool
@@ -65,6 +67,7 @@ impl<'a, A: Allocator> CellStyle<'a, A> {
         let trim = self.formatting.horizontal_trim;
         text_fits(text, self.padding, trim, width, height)
     }
+
     // Whether line 0 of a cell is line 0 of its text, as it is.
     #[inline(always)]
     pub(crate) fn shows_texts_whole(&self) -> bool

@@ -23,7 +23,7 @@ ghost use Rattle.pg_stream.specs.Turns.{place_in, new_cell};
 use crate::open_cell::OpenCell;
 use pg_config::SpannedConfig;
 use pg_layout::{AlignmentHorizontal, AlignmentVertical, Colors, Dimension, Position};
-use pg_picture::fits::{rect_height, rect_width};
+use pg_picture::fits::{height_of_rows, width_of_columns};
 use pg_picture::{
     CellPlace, CellStyle, TextFacts, push_block_line_of, push_feed, push_left_margin,
     push_top_margin, push_vertical_at,
@@ -187,8 +187,15 @@ impl<'a, D: Dimension, C: Colors, B: Allocator> Frame<'a, D, C, B> {
         requires room { HasRoom (frame_table D.width D.height C.color self.now) pos (S.text value) }
         ensures { result ≡ new_cell (frame_table D.width D.height C.color self.now) pos (S.text value) }
     {
-        let width = rect_width(self.config, self.dimension, pos, self.columns).unwrap();
-        let height = rect_height(self.config, self.dimension, pos).unwrap();
+        let (rows, columns) = self.config.rect_size(pos);
+        let width = width_of_columns(
+            self.config,
+            self.dimension,
+            pos,
+            columns,
+            self.columns,
+        ).unwrap();
+        let height = height_of_rows(self.config, self.dimension, pos, rows).unwrap();
         let place = self.place_of_text(value.as_str(), pos, width, height);
         OpenCell::new(value, pos.row, width, place)
     }

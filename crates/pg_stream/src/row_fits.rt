@@ -14,7 +14,9 @@ use crate::frame::Frame;
 use crate::row_printer::RowPrinter;
 use pg_config::{Span, SpannedConfig};
 use pg_layout::{Colors, Dimension, Position};
-use pg_picture::fits::{begins_above, cell_fits, columns_of, rect_height, rect_width, spans_fit};
+use pg_picture::fits::{
+    begins_above, cell_fits, columns_of, height_of_rows, spans_fit, width_of_columns,
+};
 use std::alloc::Allocator;
 use std::convert::AsStr;
 
@@ -120,8 +122,9 @@ impl<'a, D: Dimension, C: Colors, B: Allocator> Frame<'a, D, C, B> {
         requires inside { pos.col + rect_columns self.now.config.now.spans pos ≤ self.now.columns }
         ensures { IsTrue result ↔ HasRoom (frame_table D.width D.height C.color self.now) pos text.now }
     {
-        let width = rect_width(self.config, self.dimension, pos, self.columns);
-        let height = rect_height(self.config, self.dimension, pos);
+        let (rows, columns) = self.config.rect_size(pos);
+        let width = width_of_columns(self.config, self.dimension, pos, columns, self.columns);
+        let height = height_of_rows(self.config, self.dimension, pos, rows);
         match (width, height) {
             (Some(width), Some(height)) => self.fits_in_cell(text, pos, width, height),
             _ => false,

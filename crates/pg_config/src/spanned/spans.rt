@@ -57,19 +57,26 @@ impl<A: Allocator> SpannedConfig<A> {
     }
 
     /// How many columns the rectangle of a place has: its span, or 1.
-    #[tactic(auto, unfolding(crate::specs::Spans::rect_columns))]
     pub fn rect_columns(&self, pos: Position) -> usize
         ensures { result ≡ rect_columns self.now.spans pos }
     {
-        self.spans.size(pos).1
+        self.rect_size(pos).1
     }
 
     /// How many rows the rectangle of a place has: its span, or 1.
-    #[tactic(auto, unfolding(crate::specs::Spans::rect_rows))]
     pub fn rect_rows(&self, pos: Position) -> usize
         ensures { result ≡ rect_rows self.now.spans pos }
     {
-        self.spans.size(pos).0
+        self.rect_size(pos).0
+    }
+
+    /// How many rows and columns the rectangle of a place has, by one search for both.
+    #[tactic(auto, unfolding(crate::specs::Spans::rect_rows, crate::specs::Spans::rect_columns))]
+    pub fn rect_size(&self, pos: Position) -> (usize, usize)
+        ensures rows { result.0 ≡ rect_rows self.now.spans pos }
+        ensures columns { result.1 ≡ rect_columns self.now.spans pos }
+    {
+        self.spans.size(pos)
     }
 
     /// The rectangles of all cells with a span, in the order of their columns and then rows.
@@ -79,7 +86,7 @@ impl<A: Allocator> SpannedConfig<A> {
         ensures places { StandAtPlaces self.now.spans }
     {
         // Shows that they stand in order, and at places.
-        let _rectangles = self.spans.iter();
+        self.spans.stand_in_order();
         &self.spans
     }
 

@@ -16,7 +16,7 @@ use crate::peekable::kept::{KeptCells, KeptRectangle};
 use crate::peekable::{PeekableGrid, Shape};
 use pg_config::{Span, SpannedConfig};
 use pg_layout::{ANSIBuf, Colors, Dimension, ExactRecords, PeekableRecords, Position};
-use pg_picture::fits::{columns_of, rect_height, rect_width};
+use pg_picture::fits::{columns_of, height_of_rows, width_of_columns};
 use pg_picture::{CellStyle, Run};
 use std::alloc::{AllocError, Allocator};
 
@@ -231,8 +231,15 @@ where
         ensures row { result.row ≡ corner.row }
         ensures is { IsRectangle (drawn R.Records D.Dimension C.Colors self.now) result }
     {
-        let width = rect_width(self.config, &self.dimension, corner, shape.columns).unwrap();
-        let height = rect_height(self.config, &self.dimension, corner).unwrap();
+        let (rows, columns) = self.config.rect_size(corner);
+        let width = width_of_columns(
+            self.config,
+            &self.dimension,
+            corner,
+            columns,
+            shape.columns,
+        ).unwrap();
+        let height = height_of_rows(self.config, &self.dimension, corner, rows).unwrap();
         KeptRectangle {
             corner,
             width,

@@ -27,7 +27,23 @@ pub fn rect_width<A: Allocator, D: Dimension>(
     requires inside { pos.col + rect_columns config.now.spans pos ≤ columns }
     ensures { (rows : ℕ) → result ≡ if_fits (rect_width (sized config.now (D.width dimension.now) (D.height dimension.now) rows columns) pos) }
 {
-    let count = config.rect_columns(pos);
+    width_of_columns(config, dimension, pos, config.rect_columns(pos), columns)
+}
+
+/// What [`rect_width`] answers, for a rectangle of which it is known how many columns it has
+/// ([`SpannedConfig::rect_size`] tells columns and rows by one search).
+pub fn width_of_columns<A: Allocator, D: Dimension>(
+    config: &SpannedConfig<A>,
+    dimension: &D,
+    pos: Position,
+    count: usize,
+    columns: usize,
+) -> Option<usize>
+    requires count { count ≡ rect_columns config.now.spans pos }
+    requires some { 0 < rect_columns config.now.spans pos }
+    requires inside { pos.col + rect_columns config.now.spans pos ≤ columns }
+    ensures { (rows : ℕ) → result ≡ if_fits (rect_width (sized config.now (D.width dimension.now) (D.height dimension.now) rows columns) pos) }
+{
     if count == 1 {
         return Some(dimension.get_width(pos.col));
     }
@@ -49,7 +65,20 @@ pub fn rect_height<A: Allocator, D: Dimension>(
     requires { 0 < rect_rows config.now.spans pos }
     ensures { result ≡ (if nat_lt (pos.row + rect_rows config.now.spans pos) (2 ^ 64) then if_fits (height_of_rect config.now (D.height dimension.now) pos) else None) }
 {
-    let count = config.rect_rows(pos);
+    height_of_rows(config, dimension, pos, config.rect_rows(pos))
+}
+
+/// What [`rect_height`] answers, for a rectangle of which it is known how many rows it has.
+pub fn height_of_rows<A: Allocator, D: Dimension>(
+    config: &SpannedConfig<A>,
+    dimension: &D,
+    pos: Position,
+    count: usize,
+) -> Option<usize>
+    requires count { count ≡ rect_rows config.now.spans pos }
+    requires some { 0 < rect_rows config.now.spans pos }
+    ensures { result ≡ (if nat_lt (pos.row + rect_rows config.now.spans pos) (2 ^ 64) then if_fits (height_of_rect config.now (D.height dimension.now) pos) else None) }
+{
     let end = pos.row.checked_add(count)?;
     if count == 1 {
         return Some(dimension.get_height(pos.row));

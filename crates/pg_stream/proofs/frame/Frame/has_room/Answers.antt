@@ -6,16 +6,16 @@ use Rattle.pg_stream.proofs.frame.Frame.has_room.Goals as goal
 pub returns-in-Some-Some : goal.returns-in-Some-Some
 returns-in-Some-Some g c =
     let t = frame_table g.D.Dimension.width g.D.Dimension.height g.C.Colors.color c.args.self.now in (
-      λ fits. room-from t c.args.pos c.args.text.now c.rect_width-width.result c.rect_height-height.result (c.rect_width-width.ensures 0) c.rect_height-height.ensures c.in-Some-Some.width c.in-Some-Some.height c.in-Some-Some.is-0 c.in-Some-Some.is-1 (sym c.fits_in_cell.ensures ∙ fits),
-      λ room. c.fits_in_cell.ensures ∙ room-fits t c.args.pos c.args.text.now c.rect_width-width.result c.rect_height-height.result (c.rect_width-width.ensures 0) c.rect_height-height.ensures c.in-Some-Some.width c.in-Some-Some.height c.in-Some-Some.is-0 c.in-Some-Some.is-1 room,
+      λ fits. room-from t c.args.pos c.args.text.now c.width_of_columns-width.result c.height_of_rows-height.result (c.width_of_columns-width.ensures 0) c.height_of_rows-height.ensures c.in-Some-Some.width c.in-Some-Some.height c.in-Some-Some.is-0 c.in-Some-Some.is-1 (sym c.fits_in_cell.ensures ∙ fits),
+      λ room. c.fits_in_cell.ensures ∙ room-fits t c.args.pos c.args.text.now c.width_of_columns-width.result c.height_of_rows-height.result (c.width_of_columns-width.ensures 0) c.height_of_rows-height.ensures c.in-Some-Some.width c.in-Some-Some.height c.in-Some-Some.is-0 c.in-Some-Some.is-1 room,
     )
 
 pub returns-in_default : goal.returns-in_default
 returns-in_default g c =
     let t = frame_table g.D.Dimension.width g.D.Dimension.height g.C.Colors.color c.args.self.now in
-    (λ no. cc, λ room. absurd (room-high t c.args.pos c.args.text.now c.rect_width-width.result c.rect_height-height.result (c.rect_width-width.ensures 0) c.rect_height-height.ensures room c.in_default.is-1))
+    (λ no. cc, λ room. absurd (room-high t c.args.pos c.args.text.now c.width_of_columns-width.result c.height_of_rows-height.result (c.width_of_columns-width.ensures 0) c.height_of_rows-height.ensures room c.in_default.is-1))
 
 pub returns-in_default-2 : goal.returns-in_default-2
 returns-in_default-2 g c =
     let t = frame_table g.D.Dimension.width g.D.Dimension.height g.C.Colors.color c.args.self.now in
-    (λ no. cc, λ room. absurd (room-wide t c.args.pos c.args.text.now c.rect_width-width.result c.rect_height-height.result (c.rect_width-width.ensures 0) c.rect_height-height.ensures room c.in_default.is-0))
+    (λ no. cc, λ room. absurd (room-wide t c.args.pos c.args.text.now c.width_of_columns-width.result c.height_of_rows-height.result (c.width_of_columns-width.ensures 0) c.height_of_rows-height.ensures room c.in_default.is-0))
