@@ -1,6 +1,6 @@
 //! The cells of a compact table, and what stands between them.
 
-ghost use Rattle.std.specs.Prelude.{◌≡◌, ◌≤◌, ◌+◌, ◌-◌, ◌++◌, nat_le, option_map, if◌then◌else◌};
+ghost use Rattle.std.specs.Prelude.{◌≡◌, ◌≤◌, ◌+◌, ◌-◌, ◌++◌, nat_le, option_map, IfSome, IsSome, if◌then◌else◌};
 ghost use Rattle.pg_layout.specs.Text.{width_of};
 ghost use Rattle.pg_layout.specs.Colors.{str_color, lent_color};
 ghost use Rattle.pg_config.specs.CompactConfig.{settings_of};
@@ -94,7 +94,7 @@ fn free_shares(alignment: AlignmentHorizontal, got: usize, room: usize) -> (usiz
     calculate_indent(alignment, got, room)
 }
 
-// The left padding, and the share left of the line.
+// The left padding, and the share left of the line: one run where both are plain spaces.
 fn push_left_side<A: Allocator>(
     buf: &mut String<A>,
     padding: Indent,
@@ -103,11 +103,14 @@ fn push_left_side<A: Allocator>(
 ) -> Result<(), AllocError>
     ensures { Appends buf.old buf.new result (compact_indent padding.fill padding.size (str_color color.entry) ++ repeated 32 share) }
 {
+    if let Some(size) = spaces_together(padding, color, share) {
+        return push_repeated(buf, ' ', size);
+    }
     push_compact_indent(buf, padding, color)?;
     push_repeated(buf, ' ', share)
 }
 
-// The share right of the line, and the right padding.
+// The share right of the line, and the right padding: one run where both are plain spaces.
 fn push_right_side<A: Allocator>(
     buf: &mut String<A>,
     padding: Indent,
@@ -116,6 +119,22 @@ fn push_right_side<A: Allocator>(
 ) -> Result<(), AllocError>
     ensures { Appends buf.old buf.new result (repeated 32 share ++ compact_indent padding.fill padding.size (str_color color.entry)) }
 {
+    if let Some(size) = spaces_together(padding, color, share) {
+        return push_repeated(buf, ' ', size);
+    }
     push_repeated(buf, ' ', share)?;
     push_compact_indent(buf, padding, color)
+}
+
+// How many spaces a padding makes together with a share beside it, where it is of plain spaces.
+#[inline(always)]
+fn spaces_together(padding: Indent, color: ANSIStr<'_>, share: usize) -> Option<usize>
+    ensures plain { IsSome result → compact_indent padding.fill padding.size (str_color color.entry) ≡ repeated 32 padding.size }
+    ensures size { IfSome result (λ size. size ≡ padding.size + share) }
+{
+    if padding.fill == ' ' && color.is_empty() {
+        padding.size.checked_add(share)
+    } else {
+        None
+    }
 }
