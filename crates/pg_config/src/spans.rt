@@ -48,9 +48,9 @@ impl<A: Allocator> Spans<A> {
         self.sizes.iter()
     }
 
-    /// Tells a proof that the keys ascend and are those of places. It does nothing when it runs.
+    // Tells a proof that the keys ascend and are those of places. It does nothing when it runs.
     #[inline(always)]
-    pub fn stand_in_order(&self)
+    pub(crate) fn stand_in_order(&self)
         ensures ascending { IsAscending self.now }
         ensures places { StandAtPlaces self.now }
     {

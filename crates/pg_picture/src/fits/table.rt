@@ -9,7 +9,7 @@ ghost use Rattle.pg_picture.specs.Sizes.{table_of, unless_misfit, first_misfit, 
 ghost use Rattle.pg_picture.specs.Table.{rect_width, rect_height};
 
 use crate::fits::Misfit;
-use crate::fits::rectangle::{height_of_rows, width_of_columns};
+use crate::fits::rectangle::{rect_height, rect_width};
 use crate::fits::room::cell_fits;
 use crate::fits::spans::{begins_above, columns_of, spans_fit};
 use crate::fits::totals::totals_fit;
@@ -146,9 +146,8 @@ where
     requires totals { totals_fit (table_of config.now (D.width dimension.now) (D.height dimension.now) (R.texts records.now) (R.columns records.now)) ≡ true }
     ensures { result ≡ cell_fits (style_at config.now pos) (text_at (R.texts records.now) pos) (rect_width (table_of config.now (D.width dimension.now) (D.height dimension.now) (R.texts records.now) (R.columns records.now)) pos) (rect_height (table_of config.now (D.width dimension.now) (D.height dimension.now) (R.texts records.now) (R.columns records.now)) pos) }
 {
-    let (rows, columns) = config.rect_size(pos);
-    let width = width_of_columns(config, dimension, pos, columns, records.count_columns());
-    let height = height_of_rows(config, dimension, pos, rows);
+    let width = rect_width(config, dimension, pos, records.count_columns());
+    let height = rect_height(config, dimension, pos);
     match (width, height) {
         (Some(width), Some(height)) => {
             cell_fits(records.get_text(pos), config, pos, width, height)
