@@ -45,4 +45,4 @@ IsSeparator t text = (r : ℕ) → 0 < r → r < t.rows → text ≡ separator_t
 pub record AreKept (t : Table) (kept : KeptCells) : Type 0 where
   pub cells : (x : ℕ) → IfSome (slice_index_or kept.cells.now x None) (IsKept t)
   pub rectangles : (x : ℕ) → IfSome (slice_index_or kept.rectangles.now x None) (IsRectangle t)
-  pub separator : IfSome kept.separator (λ text. IsSeparator t text)
+  pub separator : IfSome kept.separator.text (λ text. IsSeparator t text)

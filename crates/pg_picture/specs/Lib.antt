@@ -15,3 +15,4 @@ pub mod Samples
 pub mod CompactSizes
 pub mod CompactSamples
 pub mod Rectangles
+pub mod KeptSeparators

@@ -11,7 +11,6 @@ pub mod examples;
 mod facts;
 mod fill;
 pub mod fits;
-mod kept_text;
 pub mod laws;
 pub mod looks;
 mod margin;
@@ -34,7 +33,7 @@ pub use crate::margin::{push_feed, push_margin_lines, push_side_margin};
 pub use crate::piece::push_fill;
 pub use crate::place::CellPlace;
 pub use crate::run::Run;
-pub use crate::separator_keeper::SeparatorKeeper;
+pub use crate::separator_keeper::{SEPARATOR_ROOM, SeparatorKeeper};
 pub use crate::share::{calculate_indent, indent_from_top};
 pub use crate::style::CellStyle;
 pub use crate::table_margins::{

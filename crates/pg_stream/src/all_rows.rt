@@ -11,7 +11,7 @@ ghost use Rattle.pg_stream.specs.Printing.{rows_text};
 
 use crate::row_printer::RowPrinter;
 use pg_layout::{Colors, Dimension};
-use pg_picture::SeparatorKeeper;
+use pg_picture::{SEPARATOR_ROOM, SeparatorKeeper};
 use std::alloc::{AllocError, Allocator};
 use std::convert::AsStr;
 
@@ -40,7 +40,8 @@ impl<'a, S: AsStr + Drop, D: Dimension, C: Colors, B: Allocator, A: Allocator> R
     {
         let mut printer = self;
         let mut row = first;
-        let mut separator = SeparatorKeeper::new();
+        let mut room = [0; SEPARATOR_ROOM];
+        let mut separator = SeparatorKeeper::new(&mut room);
         for next in rows {
             printer = printer.row_keeping(row, false, &mut separator, buf)?;
             row = next;

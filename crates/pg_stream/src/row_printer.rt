@@ -175,7 +175,7 @@ impl<'a, S: AsStr + Drop, D: Dimension, C: Colors, B: Allocator, A: Allocator> R
         ensures after { (texts : List Text) → AlwaysGives (λ x y. S.text x ≡ y) I.next_gives cells texts → IfOk result (λ p. printing D.width D.height C.color p ≡ after_row (printing D.width D.height C.color self.entry) texts is_last) }
         ensures ended { IfOk result (λ p. (printing D.width D.height C.color p).is_ended ≡ is_last) }
     {
-        self.row_keeping(cells, is_last, &mut SeparatorKeeper::new(), buf)
+        self.row_keeping(cells, is_last, &mut SeparatorKeeper::new(&mut []), buf)
     }
 
     // Prints the next row as `row` does, under the same conditions, and copies the separator above it
@@ -185,16 +185,16 @@ impl<'a, S: AsStr + Drop, D: Dimension, C: Colors, B: Allocator, A: Allocator> R
         self,
         cells: I,
         is_last: bool,
-        kept: &mut SeparatorKeeper,
+        kept: &mut SeparatorKeeper<'_>,
         buf: &mut String<W>,
     ) -> Result<RowPrinter<'a, S, D, C, B, A>, AllocError>
         requires can { I.can_next cells × IsFinite (I.remaining cells) }
         requires fits { (texts : List Text) × AlwaysGives (λ x y. S.text x ≡ y) I.next_gives cells texts × RowFits (printing D.width D.height C.color self) texts is_last }
-        requires kept { IfSome kept.old (IsSeparator (frame_of (printing D.width D.height C.color self))) }
+        requires kept { IfSome kept.old.text (IsSeparator (frame_of (printing D.width D.height C.color self))) }
         ensures appends { (texts : List Text) → AlwaysGives (λ x y. S.text x ≡ y) I.next_gives cells texts → Appends buf.old buf.new result (row_text (printing D.width D.height C.color self.entry) texts is_last) }
         ensures after { (texts : List Text) → AlwaysGives (λ x y. S.text x ≡ y) I.next_gives cells texts → IfOk result (λ p. printing D.width D.height C.color p ≡ after_row (printing D.width D.height C.color self.entry) texts is_last) }
         ensures ended { IfOk result (λ p. (printing D.width D.height C.color p).is_ended ≡ is_last) }
-        ensures kept { IfSome kept.new (IsSeparator (frame_of (printing D.width D.height C.color self.entry))) }
+        ensures kept { IfSome kept.new.text (IsSeparator (frame_of (printing D.width D.height C.color self.entry))) }
     {
         let RowPrinter {
             frame,

@@ -24,7 +24,7 @@ impl<S: AsStr + Drop, A: Allocator> OpenCells<S, A> {
     pub(crate) fn push_above<'f, D: Dimension, C: Colors, B: Allocator, W: Allocator>(
         &mut self,
         frame: &Frame<'f, D, C, B>,
-        kept: &mut SeparatorKeeper,
+        kept: &mut SeparatorKeeper<'_>,
         buf: &mut String<W>,
         is_first: bool,
         index: usize,
@@ -38,11 +38,11 @@ impl<S: AsStr + Drop, A: Allocator> OpenCells<S, A> {
         requires tall { 0 < separator_height frame.now.config.now row → AllOpen (IsTall (frame_table D.width D.height C.color frame.now)) self.old }
         requires room { AllOpen (λ x cell. cell.drawn + separator_height frame.now.config.now row < 2 ^ 64) self.old }
         requires alone { frame.now.config.now.spans ≡ [] → self.old ≡ replicate frame.now.columns None }
-        requires kept { IfSome kept.old (IsSeparator (frame_table D.width D.height C.color frame.now)) }
+        requires kept { IfSome kept.old.text (IsSeparator (frame_table D.width D.height C.color frame.now)) }
         ensures appends { Appends buf.old buf.new result (above_text (frame_table D.width D.height C.color frame.now) frame.now.height is_first self.old row index) }
         ensures index { IfOk result (λ next. next ≡ index + separator_height frame.now.config.now row) }
         ensures drawn { OnOk result (self.new ≡ map (draw_cell (separator_height frame.now.config.now row)) self.old) }
-        ensures kept { IfSome kept.new (IsSeparator (frame_table D.width D.height C.color frame.now)) }
+        ensures kept { IfSome kept.new.text (IsSeparator (frame_table D.width D.height C.color frame.now)) }
     {
         if !frame.config.has_horizontal(row, row + 1) {
             return Ok(index);
@@ -82,7 +82,7 @@ impl<S: AsStr + Drop, A: Allocator> OpenCells<S, A> {
     fn push_kept_separator<'f, D: Dimension, C: Colors, B: Allocator, W: Allocator>(
         &self,
         frame: &Frame<'f, D, C, B>,
-        kept: &mut SeparatorKeeper,
+        kept: &mut SeparatorKeeper<'_>,
         buf: &mut String<W>,
         row: usize,
     ) -> Result<(), AllocError>
@@ -92,9 +92,9 @@ impl<S: AsStr + Drop, A: Allocator> OpenCells<S, A> {
         requires placed { AllOpen (IsPlaced (frame_table D.width D.height C.color frame.now)) self.now }
         requires tall { AllOpen (IsTall (frame_table D.width D.height C.color frame.now)) self.now }
         requires alone { frame.now.config.now.spans ≡ [] → self.now ≡ replicate frame.now.columns None }
-        requires kept { IfSome kept.old (IsSeparator (frame_table D.width D.height C.color frame.now)) }
+        requires kept { IfSome kept.old.text (IsSeparator (frame_table D.width D.height C.color frame.now)) }
         ensures appends { Appends buf.old buf.new result (separator_text (open_separator (frame_table D.width D.height C.color frame.now) (row + 1) self.now row)) }
-        ensures kept { IfSome kept.new (IsSeparator (frame_table D.width D.height C.color frame.now)) }
+        ensures kept { IfSome kept.new.text (IsSeparator (frame_table D.width D.height C.color frame.now)) }
     {
         if row == 0 {
             return self.push_separator(frame, buf, row, row + 1);

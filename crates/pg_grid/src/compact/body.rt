@@ -16,7 +16,7 @@ use crate::compact::CompactPrinter;
 use crate::compact::separators::{bottom_line, top_line};
 use pg_layout::{ANSIStr, Colors, Dimension, HorizontalLine};
 use pg_picture::fits::compact_full_width;
-use pg_picture::{SeparatorKeeper, push_compact_margin, push_feed};
+use pg_picture::{SEPARATOR_ROOM, SeparatorKeeper, push_compact_margin, push_feed};
 use std::alloc::{AllocError, Allocator};
 use std::convert::AsStr;
 
@@ -106,7 +106,8 @@ impl<D: Dimension, C: Colors> CompactPrinter<'_, D, C> {
         requires given { (texts : List (List (List ℕ))) × AreRows (Gives (λ x y. T.text x ≡ y) Cells.can_next Cells.next_gives Cells.remaining) Rows.next_gives self.now.columns 1 texts rows }
         ensures { (texts : List (List (List ℕ))) → AreRows (Gives (λ x y. T.text x ≡ y) Cells.can_next Cells.next_gives Cells.remaining) Rows.next_gives self.now.columns 1 texts rows → Appends buf.old buf.new result (fed (flat_map (row_lines (printed_table D.width C.color self.now texts)) (range_with_len 1 (length texts - 1)))) }
     {
-        let mut kept = SeparatorKeeper::new();
+        let mut room = [0; SEPARATOR_ROOM];
+        let mut kept = SeparatorKeeper::new(&mut room);
         let mut row = 0;
         for cells in rows {
             row += 1;
@@ -119,7 +120,7 @@ impl<D: Dimension, C: Colors> CompactPrinter<'_, D, C> {
     fn push_next_row<T, Cells, A>(
         &self,
         buf: &mut String<A>,
-        kept: &mut SeparatorKeeper,
+        kept: &mut SeparatorKeeper<'_>,
         row: usize,
         cells: Cells,
     ) -> Result<(), AllocError>
@@ -129,9 +130,9 @@ impl<D: Dimension, C: Colors> CompactPrinter<'_, D, C> {
         A: Allocator,
         requires next { 0 < row }
         requires cells { Cells.can_next cells × IsFinite (Cells.remaining cells) }
-        requires kept { IfSome kept.old (IsInnerSeparator (printed_table D.width C.color self.now [])) }
+        requires kept { IfSome kept.old.text (IsInnerSeparator (printed_table D.width C.color self.now [])) }
         ensures appends { (texts : List (List (List ℕ))) → IsRow T.text Cells.next_gives self.now.columns texts row cells → Appends buf.old buf.new result (fed (row_lines (printed_table D.width C.color self.now texts) row)) }
-        ensures kept { IfSome kept.new (IsInnerSeparator (printed_table D.width C.color self.now [])) }
+        ensures kept { IfSome kept.new.text (IsInnerSeparator (printed_table D.width C.color self.now [])) }
     {
         self.push_inner_separator(buf, kept)?;
         self.push_row(buf, row, cells, false)
@@ -210,11 +211,11 @@ impl<D: Dimension, C: Colors> CompactPrinter<'_, D, C> {
     fn push_inner_separator<A: Allocator>(
         &self,
         buf: &mut String<A>,
-        kept: &mut SeparatorKeeper,
+        kept: &mut SeparatorKeeper<'_>,
     ) -> Result<(), AllocError>
-        requires kept { IfSome kept.old (IsInnerSeparator (printed_table D.width C.color self.now [])) }
+        requires kept { IfSome kept.old.text (IsInnerSeparator (printed_table D.width C.color self.now [])) }
         ensures appends { Appends buf.old buf.new result (continued (lines_before false) (line_if (has_inner_horizontal self.now.config.now.borders) (inner_separator (printed_table D.width C.color self.now [])))) }
-        ensures kept { IfSome kept.new (IsInnerSeparator (printed_table D.width C.color self.now [])) }
+        ensures kept { IfSome kept.new.text (IsInnerSeparator (printed_table D.width C.color self.now [])) }
     {
         if !self.config.get_borders().has_horizontal() {
             return Ok(());

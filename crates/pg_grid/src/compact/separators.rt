@@ -59,11 +59,11 @@ impl<D: Dimension, C: Colors> CompactPrinter<'_, D, C> {
     pub(super) fn push_kept_separator<A: Allocator>(
         &self,
         buf: &mut String<A>,
-        kept: &mut SeparatorKeeper,
+        kept: &mut SeparatorKeeper<'_>,
     ) -> Result<(), AllocError>
-        requires kept { IfSome kept.old (IsInnerSeparator (printed_table D.width C.color self.now [])) }
+        requires kept { IfSome kept.old.text (IsInnerSeparator (printed_table D.width C.color self.now [])) }
         ensures appends { Appends buf.old buf.new result (inner_separator (printed_table D.width C.color self.now [])) }
-        ensures kept { IfSome kept.new (IsInnerSeparator (printed_table D.width C.color self.now [])) }
+        ensures kept { IfSome kept.new.text (IsInnerSeparator (printed_table D.width C.color self.now [])) }
     {
         if let Some(text) = kept.text() {
             return push_text(buf, text);

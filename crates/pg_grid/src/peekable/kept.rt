@@ -144,15 +144,17 @@ pub(super) fn no_slots<T: Copy, const COLUMNS: usize>() -> [Option<T>; COLUMNS]
 pub(super) struct KeptCells<'k> {
     cells: &'k mut [Option<KeptCell>],
     rectangles: &'k mut [Option<KeptRectangle>],
-    pub(super) separator: SeparatorKeeper,
+    pub(super) separator: SeparatorKeeper<'k>,
 }
 
 impl<'k> KeptCells<'k> {
-    // Nothing is kept in these slots, which are as many as there are columns of which it may be.
+    // Nothing is kept in these slots, which are as many as there are columns of which it may be,
+    // and in the room of the separator.
     #[inline(always)]
     pub(super) fn new(
         cells: &'k mut [Option<KeptCell>],
         rectangles: &'k mut [Option<KeptRectangle>],
+        separator: &'k mut [u8],
     ) -> KeptCells<'k>
         requires cells { (column : ℕ) → slice_index_or cells.old column None ≡ None }
         requires rectangles { (column : ℕ) → slice_index_or rectangles.old column None ≡ None }
@@ -161,7 +163,7 @@ impl<'k> KeptCells<'k> {
         KeptCells {
             cells,
             rectangles,
-            separator: SeparatorKeeper::new(),
+            separator: SeparatorKeeper::new(separator),
         }
     }
 

@@ -11,6 +11,7 @@ use crate::peekable::kept::{KeptCell, KeptCells, KeptRectangle, no_slots};
 use crate::peekable::{PeekableGrid, Shape};
 use pg_config::SpannedConfig;
 use pg_layout::{Colors, Dimension, ExactRecords, PeekableRecords};
+use pg_picture::SEPARATOR_ROOM;
 use std::alloc::{AllocError, Allocator};
 
 /// How many columns a table has at most that needs few slots.
@@ -41,21 +42,22 @@ where
         requires shape { IsShapeOf (drawn R.Records D.Dimension C.Colors self.now) shape }
         ensures { Appends buf.old buf.new result (body_text Known (drawn R.Records D.Dimension C.Colors self.now) (lines_before is_first) 0 (table_body (drawn R.Records D.Dimension C.Colors self.now))) }
     {
+        let mut separator = [0; SEPARATOR_ROOM];
         if shape.columns <= FEW || !self.may_have_tall_cells(shape) {
             let mut cells: [Option<KeptCell>; FEW] = no_slots();
             let mut rectangles: [Option<KeptRectangle>; FEW] = no_slots();
-            let mut kept = KeptCells::new(&mut cells, &mut rectangles);
+            let mut kept = KeptCells::new(&mut cells, &mut rectangles, &mut separator);
             return self.push_body(buf, &mut kept, shape, is_first);
         }
         if shape.columns <= SOME {
             let mut cells: [Option<KeptCell>; SOME] = no_slots();
             let mut rectangles: [Option<KeptRectangle>; SOME] = no_slots();
-            let mut kept = KeptCells::new(&mut cells, &mut rectangles);
+            let mut kept = KeptCells::new(&mut cells, &mut rectangles, &mut separator);
             return self.push_body(buf, &mut kept, shape, is_first);
         }
         let mut cells: [Option<KeptCell>; MANY] = no_slots();
         let mut rectangles: [Option<KeptRectangle>; MANY] = no_slots();
-        let mut kept = KeptCells::new(&mut cells, &mut rectangles);
+        let mut kept = KeptCells::new(&mut cells, &mut rectangles, &mut separator);
         self.push_body(buf, &mut kept, shape, is_first)
     }
 

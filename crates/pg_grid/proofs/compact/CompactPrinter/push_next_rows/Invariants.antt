@@ -18,4 +18,4 @@ invariant-loop-cells g l =
     ((texts : List (List Text)) → AreRows is_row g.Rows.Iterator.next_gives l.self.columns 1 texts l.fn.rows →
     AreRows is_row g.Rows.Iterator.next_gives l.self.columns (l.row + 1) texts l.cells-iterator ×
     Gained l.fn.buf l.buf (fed (flat_map (row_lines (printed_table g.D.Dimension.width g.C.Colors.color l.self texts)) (range_with_len 1 l.row)))) ×
-    IfSome l.kept (IsInnerSeparator (printed_table g.D.Dimension.width g.C.Colors.color l.self []))
+    IfSome l.kept.text (IsInnerSeparator (printed_table g.D.Dimension.width g.C.Colors.color l.self []))

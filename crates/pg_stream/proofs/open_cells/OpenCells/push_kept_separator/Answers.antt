@@ -9,11 +9,11 @@ use Rattle.pg_stream.proofs.open_cells.OpenCells.push_kept_separator.Goals as go
 pub returns-in-Some-clause-appends : goal.returns-in-Some-clause-appends
 returns-in-Some-clause-appends g c =
     let t = frame_table g.D.Dimension.width g.D.Dimension.height g.C.Colors.color c.args.frame.now in
-    let kept = lent-text (IsSeparator t) c.text.result c.args.kept.now c.in-Some.text c.text.ensures c.in-Some.is c.requires.kept in
+    let kept = lent-text (IsSeparator t) c.text.result c.args.kept.now.text c.in-Some.text c.text.ensures c.in-Some.is c.requires.kept in
     Appends-text (kept-is t c.args.self.now c.args.row (omega arith) c.requires.alone c.in-Some.text.now kept) c.push_text.ensures
 
 pub returns-then-has_equal_separators-clause-kept : goal.returns-then-has_equal_separators-clause-kept
 returns-then-has_equal_separators-clause-kept g c =
     let t = frame_table g.D.Dimension.width g.D.Dimension.height g.C.Colors.color c.args.frame.now in
     let here = text-from c.len-from.result (c.len-from.ensures ∙ c.args.buf.now.bytes.ok.0) c.in_ok-push_separator.ensures in
-    keeps t c.args.self.now c.args.row (omega arith) c.requires.alone _ c.has_equal_separators.result c.has_equal_separators.ensures c.if-has_equal_separators.true here c.keep.new.self c.keep.ensures.is
+    keeps t c.args.self.now c.args.row (omega arith) c.requires.alone _ c.has_equal_separators.result c.has_equal_separators.ensures c.if-has_equal_separators.true here c.keep.new.self.text c.keep.ensures.is

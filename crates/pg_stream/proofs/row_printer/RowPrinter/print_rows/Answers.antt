@@ -10,7 +10,7 @@ use Rattle.pg_stream.proofs.row_printer.RowPrinter.print_rows.Goals as goal
 
 pub loop-next-init : goal.loop-next-init
 loop-next-init g c =
-    rw (c.into_iter-next-iterator.ensures.into_iter_gives, c.new-separator.ensures) (
+    rw (c.into_iter-next-iterator.ensures.into_iter_gives, c.new-separator.ensures.text) (
       c.requires.rows.0,
       c.requires.rows.1,
       c.requires.given,

@@ -20,4 +20,4 @@ invariant-loop-next g l =
     (goal.iterator-loop-next g).is_finite l.next-iterator ×
     ((cells : List Text) × (texts : List (List Text)) × AreRowsFrom is_row steps l.row l.next-iterator cells texts × RowsFit now (cells ∷ texts)) ×
     ((cells : List Text) (texts : List (List Text)) → AreRowsFrom is_row steps l.fn.first l.fn.rows cells texts → Printed is_row steps l.fn.buf l.buf l.row l.next-iterator now (rows_text start (cells ∷ texts))) ×
-    IfSome l.separator (IsSeparator (frame_of now))
+    IfSome l.separator.text (IsSeparator (frame_of now))

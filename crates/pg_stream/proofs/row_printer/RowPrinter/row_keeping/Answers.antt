@@ -278,16 +278,16 @@ returns-clause-after g c = λ texts gives.
     ∙ ap (λ p. after_row (printing g.D.Dimension.width g.D.Dimension.height g.C.Colors.color p) texts c.args.is_last) c.self.view_is
 
 pub returns-in_err-next-clause-kept : goal.returns-in_err-next-clause-kept
-returns-in_err-next-clause-kept g c = subst (λ p. IfSome c.push_above.new.kept (IsSeparator (frame_of (printing g.D.Dimension.width g.D.Dimension.height g.C.Colors.color p)))) c.self.view_is c.in_err-next.ensures.kept
+returns-in_err-next-clause-kept g c = subst (λ p. IfSome c.push_above.new.kept.text (IsSeparator (frame_of (printing g.D.Dimension.width g.D.Dimension.height g.C.Colors.color p)))) c.self.view_is c.in_err-next.ensures.kept
 
 pub returns-in_err-push_single_row-clause-kept : goal.returns-in_err-push_single_row-clause-kept
-returns-in_err-push_single_row-clause-kept g c = subst (λ p. IfSome c.push_above.new.kept (IsSeparator (frame_of (printing g.D.Dimension.width g.D.Dimension.height g.C.Colors.color p)))) c.self.view_is c.in_ok-next.ensures.kept
+returns-in_err-push_single_row-clause-kept g c = subst (λ p. IfSome c.push_above.new.kept.text (IsSeparator (frame_of (printing g.D.Dimension.width g.D.Dimension.height g.C.Colors.color p)))) c.self.view_is c.in_ok-next.ensures.kept
 
 pub returns-then-draws_at_once-clause-kept : goal.returns-then-draws_at_once-clause-kept
-returns-then-draws_at_once-clause-kept g c = subst (λ p. IfSome c.push_above.new.kept (IsSeparator (frame_of (printing g.D.Dimension.width g.D.Dimension.height g.C.Colors.color p)))) c.self.view_is c.in_ok-next.ensures.kept
+returns-then-draws_at_once-clause-kept g c = subst (λ p. IfSome c.push_above.new.kept.text (IsSeparator (frame_of (printing g.D.Dimension.width g.D.Dimension.height g.C.Colors.color p)))) c.self.view_is c.in_ok-next.ensures.kept
 
 pub returns-in_err-push_lines-clause-kept : goal.returns-in_err-push_lines-clause-kept
-returns-in_err-push_lines-clause-kept g c = subst (λ p. IfSome c.push_above.new.kept (IsSeparator (frame_of (printing g.D.Dimension.width g.D.Dimension.height g.C.Colors.color p)))) c.self.view_is c.in_ok-next.ensures.kept
+returns-in_err-push_lines-clause-kept g c = subst (λ p. IfSome c.push_above.new.kept.text (IsSeparator (frame_of (printing g.D.Dimension.width g.D.Dimension.height g.C.Colors.color p)))) c.self.view_is c.in_ok-next.ensures.kept
 
 pub returns-clause-kept : goal.returns-clause-kept
-returns-clause-kept g c = subst (λ p. IfSome c.push_above.new.kept (IsSeparator (frame_of (printing g.D.Dimension.width g.D.Dimension.height g.C.Colors.color p)))) c.self.view_is c.in_ok-next.ensures.kept
+returns-clause-kept g c = subst (λ p. IfSome c.push_above.new.kept.text (IsSeparator (frame_of (printing g.D.Dimension.width g.D.Dimension.height g.C.Colors.color p)))) c.self.view_is c.in_ok-next.ensures.kept

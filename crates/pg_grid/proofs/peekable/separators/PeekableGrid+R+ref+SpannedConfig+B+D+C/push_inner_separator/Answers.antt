@@ -18,11 +18,11 @@ returns-then-has_equal_row_lines-clause-kept g c =
     record {
       cells = kept.cells;
       rectangles = kept.rectangles;
-      separator = kept-text (IsSeparator t) c.keep.new.self (drop c.len-from.result (string_bytes c.push_new_separator.new.buf)) c.keep.ensures.is
+      separator = kept-text (IsSeparator t) c.keep.new.self.text (drop c.len-from.result (string_bytes c.push_new_separator.new.buf)) c.keep.ensures.is
           (λ r some less. here ∙ ap separator_text (equal_separators t none equal c.args.row r (record { some = c.requires.some; less = c.requires.row }) (record { some = some; less = less })));
     }
 
 pub returns-in-Some-clause-appends : goal.returns-in-Some-clause-appends
 returns-in-Some-clause-appends g c =
     let t = drawn g.R.Records g.D.Dimension g.C.Colors c.args.self.now in
-    Appends-text (lent-text (IsSeparator t) c.text.result c.args.kept.now.separator c.in-Some.text c.text.ensures c.in-Some.is c.requires.kept.separator c.args.row c.requires.some c.requires.row) c.push_text.ensures
+    Appends-text (lent-text (IsSeparator t) c.text.result c.args.kept.now.separator.text c.in-Some.text c.text.ensures c.in-Some.is c.requires.kept.separator c.args.row c.requires.some c.requires.row) c.push_text.ensures

@@ -1,0 +1,8 @@
+-- What a keeper of a separator holds.
+use Rattle.std.specs.Prelude.{ℕ, Option}
+use Rattle.pg_layout.specs.Text.{Text}
+
+-- the text that is kept, if one is, and the number of bytes for which there is room
+pub record Keeping : Type 0 where
+  pub text : Option Text
+  pub room : ℕ
