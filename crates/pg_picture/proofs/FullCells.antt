@@ -8,7 +8,6 @@ use Rattle.std.proofs.lemmas.Bool.{cases_Bool, and_parts, or_parts}
 use Rattle.std.proofs.lemmas.Bool.Decides.{nat_tests}
 use Rattle.pg_layout.specs.declared.position.Position.{Position}
 use Rattle.pg_layout.specs.declared.alignment.AlignmentVertical.{AlignmentVertical}
-use Rattle.pg_layout.specs.declared.alignment.Formatting.{Formatting}
 use Rattle.pg_layout.specs.Places.{Key, same, value_at}
 use Rattle.pg_layout.specs.Position.{at}
 use Rattle.pg_layout.specs.Colors.{Color}

@@ -7,6 +7,7 @@ pub mod TextsOfRows
 pub mod RowsOfTables
 pub mod WholePictures
 pub mod PlacesInRows
+pub mod PlainRooms
 pub mod LinesOfSlots
 pub mod SeparatorsOfSlots
 pub mod Printers

@@ -18,6 +18,7 @@ use Rattle.pg_stream.specs.Placed.{Placed, slot_of, slots_of, draw_cell}
 use Rattle.pg_stream.specs.SingleRows.{single_part, single_line}
 use Rattle.pg_stream.specs.Slots.{slot_block}
 use Rattle.pg_stream.specs.Turns.{new_cell, begin_cell, close_cell, mapped, cells_begun, cells_closed}
+use Rattle.pg_stream.proofs.PlainRooms.{height-plain, own-plain}
 use Rattle.pg_stream.proofs.OpenLists.{drawn-at}
 use Rattle.pg_stream.proofs.OwnersOfCells.{columns-same}
 use Rattle.pg_stream.proofs.PartsOfLines.{drawn-none, lines-none, lines-more, line-now}
@@ -77,13 +78,10 @@ module _ (t : Table) (none : t.config.spans ≡ []) (k : ℕ) where
 
   module _ (one : t.height k ≡ 1) where
     pub height-one : (x : ℕ) → height_of_rect t.config t.height (at k x) ≡ 1
-    height-one x =
-        let T : Table = record t { rows = k + 1 } in
-        let rows : rect_rows t.config.spans (at k x) ≡ 1 = rect_rows_plain t none (at k x) in
-        sym (rect_height-of_rect T (at k x) (omega (arith, rows)) (omega (arith, rows))) ∙ rect_height_plain T none (at k x) (omega arith) ∙ one
+    height-one x = height-plain t none k x ∙ one
 
     pub own-one : (x : ℕ) → is_at (owner t.config.spans k x) k x ≡ true
-    own-one x = rw (owner_plain t none k x) (grind (arith, nat_tests))
+    own-one x = own-plain t none k x
 
     begun-at : (cells : List (Option Placed)) (texts : List Text) (x : ℕ) → x < length cells → get_or (cells_begun t k texts cells) x None ≡ Some (new_cell t (at k x) (slice_index_or texts x []))
     unfolding cells_begun begin_cell

@@ -1,6 +1,6 @@
 //! Whether a row may be printed next.
 
-ghost use Rattle.std.specs.Prelude.{◌≡◌, ◌+◌, ◌^◌, ◌<◌, ◌≤◌, ◌↔◌, ◌-◌, ◌==◌, true, false, nat_lt, map, length, IfSome, IsTrue};
+ghost use Rattle.std.specs.Prelude.{◌≡◌, ◌+◌, ◌^◌, ◌<◌, ◌≤◌, ◌↔◌, ◌-◌, ◌==◌, true, false, nat_lt, [], map, length, IfSome, IsTrue};
 ghost use Rattle.pg_layout.specs.Position.{is_at};
 ghost use Rattle.pg_config.specs.Spans.{owner, rect_rows, rect_columns, is_left, left_span};
 ghost use Rattle.pg_picture.specs.Fits.{cell_fits, spans_fit, spans_fit_columns};
@@ -83,12 +83,15 @@ impl<'a, D: Dimension, C: Colors, B: Allocator> Frame<'a, D, C, B> {
 
     // Whether each cell that begins in a row has room for its text.
     fn have_room<S: AsStr>(&self, row: usize, cells: &[S]) -> bool
+        requires row { row + 1 < 2 ^ 64 }
         requires whole { length cells.now ≡ self.now.columns }
         requires spans { spans_fit_columns self.now.config.now.spans self.now.columns ≡ true }
         ensures { IsTrue result ↔ HaveRoom (frame_table D.width D.height C.color self.now) row (map S.text cells.now) }
     {
-        // Shows that the spans stand in order.
-        let _spans = self.config.spans();
+        let spans = self.config.spans();
+        if spans.is_empty() {
+            return self.plain_cells_have_room(row, cells);
+        }
         let mut column = 0;
         while column < self.columns {
             let pos = Position::new(row, column);
@@ -97,6 +100,25 @@ impl<'a, D: Dimension, C: Colors, B: Allocator> Frame<'a, D, C, B> {
                 return false;
             }
             column += columns_of(span);
+        }
+        true
+    }
+
+    // The same where no cell spans rows or columns: each is as wide as its column and as high as the
+    // row.
+    fn plain_cells_have_room<S: AsStr>(&self, row: usize, cells: &[S]) -> bool
+        requires row { row + 1 < 2 ^ 64 }
+        requires plain { self.now.config.now.spans ≡ [] }
+        requires whole { length cells.now ≡ self.now.columns }
+        ensures { IsTrue result ↔ HaveRoom (frame_table D.width D.height C.color self.now) row (map S.text cells.now) }
+    {
+        let height = self.dimension.get_height(row);
+        for column in 0..self.columns {
+            let pos = Position::new(row, column);
+            let width = self.dimension.get_width(column);
+            if !self.fits_in_cell(cells[column].as_str(), pos, width, height) {
+                return false;
+            }
         }
         true
     }

@@ -81,12 +81,12 @@ fn assert_separators(rt: &impl Abort, alloc: Global, bytes: usize) -> Result<(),
 
 #[test]
 fn the_longest_kept_separator_is_whole(rt: HostRuntime) -> Result<(), Fail> {
-    assert_separators(&rt, rt.alloc(), 512)
+    assert_separators(&rt, rt.alloc(), 8192)
 }
 
 #[test]
 fn a_separator_too_long_to_be_kept_is_whole(rt: HostRuntime) -> Result<(), Fail> {
-    assert_separators(&rt, rt.alloc(), 513)
+    assert_separators(&rt, rt.alloc(), 8193)
 }
 
 #[test]

@@ -1,4 +1,4 @@
-use Rattle.std.proofs.Common.{◌∙◌, ◌+◌, ◌<◌, rules, arith, refl, sym, false, true}
+use Rattle.std.proofs.Common.{◌∙◌, ◌+◌, ◌<◌, rules, arith, refl, sym}
 use Rattle.pg_picture.proofs.SpansByColumns.{before_first, column_more, columns_end, column_not}
 use Rattle.pg_picture.proofs.fits.spans.is_apart.Goals as goal
 

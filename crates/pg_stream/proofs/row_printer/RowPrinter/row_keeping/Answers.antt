@@ -56,7 +56,7 @@ push_above-requires-clause-alone g c =
     none-open s q.frame.width q.frame.height q.cells refl c.self.invariant
 
 pub push_above-requires-clause-kept : goal.push_above-requires-clause-kept
-push_above-requires-clause-kept g c = subst (λ p. IfSome c.args.kept.now (IsSeparator (frame_of (printing g.D.Dimension.width g.D.Dimension.height g.C.Colors.color p)))) (sym c.self.view_is) c.requires.kept
+push_above-requires-clause-kept g c = subst (λ p. IfSome c.args.kept.now.text (IsSeparator (frame_of (printing g.D.Dimension.width g.D.Dimension.height g.C.Colors.color p)))) (sym c.self.view_is) c.requires.kept
 
 pub push_above-requires-clause-room : goal.push_above-requires-clause-room
 push_above-requires-clause-room g c =
