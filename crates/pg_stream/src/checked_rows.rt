@@ -55,6 +55,7 @@ impl<'a, S: AsStr + Drop, D: Dimension, C: Colors, B: Allocator, A: Allocator> R
     ///     printer = printer.row_of(cells, is_last, buf)?;
     /// }
     /// ```
+    #[inline(always)]
     pub fn row_of<V: Allocator, W: Allocator>(
         self,
         cells: Vec<S, V>,

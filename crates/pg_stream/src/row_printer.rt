@@ -163,6 +163,7 @@ impl<'a, S: AsStr + Drop, D: Dimension, C: Colors, B: Allocator, A: Allocator> R
     /// far, with those of this row, are a number.
     ///
     /// Takes no memory but the buffer's.
+    #[inline(always)]
     pub fn row<I: Iterator<Item = S>, W: Allocator>(
         self,
         cells: I,

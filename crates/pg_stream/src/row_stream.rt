@@ -65,6 +65,7 @@ impl<'a, S: AsStr, D: Dimension, C: Colors, B: Allocator, A: Allocator, V: Alloc
 }
 
 // Prints a row, or names it by its number.
+#[inline(always)]
 fn print_row<'a, S, D, C, B, A, V, W>(
     printer: RowPrinter<'a, S, D, C, B, A>,
     cells: Vec<S, V>,
@@ -151,6 +152,7 @@ impl<
     ///
     /// `StreamFault::Row` names the row that was held, where that doesn't fit; then nothing is
     /// appended. Where memory is refused, a beginning of its text is.
+    #[inline(always)]
     pub fn push<W: Allocator>(
         self,
         cells: Vec<S, V>,
