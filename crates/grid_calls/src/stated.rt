@@ -3,7 +3,7 @@
 ghost use Rattle.std.specs.Prelude.{◌≡◌, ◌++◌, OnOk, string_bytes};
 ghost use Rattle.pg_picture.specs.Table.{Known};
 ghost use Rattle.pg_picture.specs.Picture.{picture};
-ghost use Rattle.pg_grid.specs.Grids.{table_of_parts};
+ghost use Rattle.pg_picture.specs.Grids.{table_of_parts};
 
 use pg_config::SpannedConfig;
 use pg_grid::{PeekableGrid, PrintFault};

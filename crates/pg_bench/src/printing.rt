@@ -7,7 +7,7 @@ ghost use Rattle.pg_layout.specs.Text.{Text};
 ghost use Rattle.pg_stream.specs.Conditions.{RowsFit};
 ghost use Rattle.pg_stream.specs.Printers.{printing};
 ghost use Rattle.pg_picture.specs.Fits.{misfit_of};
-ghost use Rattle.pg_grid.specs.Grids.{table_of_parts};
+ghost use Rattle.pg_picture.specs.Grids.{table_of_parts};
 ghost use Rattle.pg_stream.specs.Conditions.{AreRowsFrom};
 
 use crate::drawing::{Sample, Unhinted, dimension, records};

@@ -11,8 +11,8 @@ use Rattle.pg_layout.specs.declared.records.Records as records
 use Rattle.pg_layout.specs.declared.dimension.Dimension as dimension
 use Rattle.pg_layout.specs.declared.colors.Colors as colors
 use Rattle.pg_grid.specs.declared.iter.IterGrid.{IterGrid}
-use Rattle.pg_grid.specs.declared.peekable.PeekableGrid.{PeekableGrid}
-use Rattle.pg_grid.specs.Grids.{drawn}
+use Rattle.pg_peekable.specs.declared.grid.PeekableGrid.{PeekableGrid}
+use Rattle.pg_peekable.specs.Grids.{drawn}
 use Rattle.pg_grid.specs.IterGrids.{streamed}
 use Rattle.pg_grid.specs.Laws.{KnowsMargins, HaveSameParts, TextsAreOne}
 

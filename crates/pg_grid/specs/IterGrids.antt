@@ -1,14 +1,13 @@
 -- The table that a streaming grid draws.
-use Rattle.std.specs.Prelude.{◌≡◌, ◌⊎◌, ℕ, List, IsErr, Result, String}
+use Rattle.std.specs.Prelude.{ℕ}
 use Rattle.std.specs.Borrow.{Bor}
 use Rattle.pg_config.specs.Config.{Config}
-use Rattle.pg_picture.specs.Appending.{Appends}
 use Rattle.pg_picture.specs.Table.{Table, Hint}
 use Rattle.pg_stream.specs.Printing.{hint_of}
 use Rattle.pg_layout.specs.declared.records.Records as records
 use Rattle.pg_layout.specs.declared.dimension.Dimension as dimension
 use Rattle.pg_layout.specs.declared.colors.Colors as colors
-use Rattle.pg_grid.specs.Grids.{table_of_parts}
+use Rattle.pg_picture.specs.Grids.{table_of_parts}
 use Rattle.pg_grid.specs.declared.iter.IterGrid.{IterGrid}
 
 -- the table of a streaming grid: of what its records, its dimension and its colours stand for
@@ -26,8 +25,3 @@ told records grid = hint_of (records.hint grid.records)
 -- what a streaming grid is made of
 abbrev pub iter_parts : {R D G C : Type 0} → IterGrid R D G C → R × G × D × C
 iter_parts grid = (grid.records, grid.config, grid.dimension, grid.colors)
-
--- A call appends the text; or the one request for memory of its own, that of the open cells, is refused before the first
--- byte, and the buffer stays as it was.
-abbrev pub AppendsOrNothing : {Z U E : Type 0} → String Z → String Z → Result U E → List ℕ → Type 0
-AppendsOrNothing old new result text = Appends old new result text ⊎ (IsErr result × (new ≡ old))

@@ -1,6 +1,2 @@
-pub mod Grids
-pub mod CompactGrids
 pub mod IterGrids
 pub mod Laws
-pub mod Kept
-pub mod Printed

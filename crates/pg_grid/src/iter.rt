@@ -1,8 +1,8 @@
 //! The streaming grid: it reads its records once, row by row, and draws cells over several rows.
 
-use crate::fault::PrintFault;
 use pg_config::SpannedConfig;
 use pg_layout::{Colors, Dimension, ExactRecords, PeekableRecords, Records};
+use pg_picture::PrintFault;
 use pg_picture::fits::{Misfit, table_fits};
 use pg_stream::RowPrinter;
 use std::alloc::{AllocError, Allocator};
@@ -45,11 +45,12 @@ where
     B: Allocator,
 {
     ghost use Rattle.std.specs.Prelude.{◌≡◌, true, None, IsOk, IfOk, string_bytes};
+    ghost use Rattle.pg_picture.specs.Appending.{AppendsOrNothing};
     ghost use Rattle.pg_picture.specs.Fits.{misfit_of};
     ghost use Rattle.pg_picture.specs.Laws.{IsStraight};
     ghost use Rattle.pg_picture.specs.Picture.{picture};
     ghost use Rattle.pg_picture.specs.Table.{is_empty};
-    ghost use Rattle.pg_grid.specs.IterGrids.{AppendsOrNothing, MayBeRead, streamed, told};
+    ghost use Rattle.pg_grid.specs.IterGrids.{MayBeRead, streamed, told};
 
     /// Appends the picture of the table, whose records may be read (all records in memory may), and in
     /// which everything fits: of records in memory [`IterGrid::fits`] is the test, and
@@ -126,7 +127,7 @@ where
     ghost use Rattle.pg_picture.specs.Picture.{picture};
     ghost use Rattle.pg_picture.specs.Table.{is_empty};
     ghost use Rattle.pg_grid.specs.IterGrids.{MayBeRead, streamed, told};
-    ghost use Rattle.pg_grid.specs.Printed.{PrintsOrNothing};
+    ghost use Rattle.pg_picture.specs.Printed.{PrintsOrNothing};
 
     /// Whether everything fits in the table: the condition of `build` and `to_string` on its sizes, as
     /// a test. It answers the first thing that doesn't (`pg_picture::fits::Misfit`), and takes no

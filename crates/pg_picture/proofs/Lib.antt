@@ -60,3 +60,4 @@ pub mod EqualSeparators
 pub mod KeptTexts
 pub mod OneStyle
 pub mod FirstMisfits
+pub mod FittingGrids

@@ -1,5 +1,5 @@
 -- Sums of sizes that may not fit.
-use Rattle.std.proofs.Common.{◌≡◌, ℕ, ◌+◌, ◌-◌, ◌^◌, ◌<◌, ◌≤◌, true, false, nat_lt, [], ◌∷◌, sum_by, refl, ap, ◌∙◌, arith, Some, None, zero-add, subst, inl, inr}
+use Rattle.std.proofs.Common.{◌≡◌, ℕ, ◌+◌, ◌-◌, ◌^◌, ◌<◌, ◌≤◌, true, false, nat_lt, [], ◌∷◌, sum_by, refl, sym, ap, ◌∙◌, arith, Option, Some, None, IsSome, zero-add, subst, inl, inr}
 use Rattle.std.specs.List.{range_with_len}
 use Rattle.std.proofs.lemmas.List.Sums.{sum_by-append}
 use Rattle.std.proofs.lemmas.Bool.{cases_lt}
@@ -13,6 +13,13 @@ if_fits-past n h = let e : nat_lt n (2 ^ 64) ≡ false = grind (arith, nat_tests
 
 pub if_fits-below : (n : ℕ) → n < 2 ^ 64 → if_fits n ≡ Some n
 if_fits-below n h = let e : nat_lt n (2 ^ 64) ≡ true = grind (arith, nat_tests, h) in rw e refl
+
+-- an answer that is there
+pub some_answer : {answer : Option ℕ} (n : ℕ) → n < 2 ^ 64 → answer ≡ if_fits n → answer ≡ Some n
+some_answer n small is = is ∙ if_fits-below n small
+
+pub is_some_answer : {answer : Option ℕ} {n : ℕ} → answer ≡ Some n → IsSome answer
+is_some_answer {answer} is = let P : Option ℕ → Type 0 = λ o. IsSome o in subst P (sym is) refl
 
 -- what doesn't fit leaves nothing above it that does
 pub if_fits-above : (n m : ℕ) → (n < 2 ^ 64 → ⊥) → n ≤ m → if_fits m ≡ None

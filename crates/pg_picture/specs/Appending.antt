@@ -1,5 +1,5 @@
 -- What it means that a call appends a text to a buffer. A text is the list of its bytes.
-use Rattle.std.specs.Prelude.{◌≡◌, ℕ, ◌+◌, ◌<◌, ◌≤◌, List, ◌++◌, length, take, OnOk, OnErr, Result, string_bytes, string_capacity, String}
+use Rattle.std.specs.Prelude.{◌≡◌, ◌⊎◌, ℕ, ◌+◌, ◌<◌, ◌≤◌, List, ◌++◌, length, take, OnOk, OnErr, IsErr, Result, string_bytes, string_capacity, String}
 
 -- the buffer has gained the text, or after a refusal a beginning of it; only a text that the buffer has no room for is refused
 pub record Appends {Z U E : Type 0} (old new : String Z) (result : Result U E) (text : List ℕ) : Type 0 where
@@ -13,6 +13,11 @@ pub record Appends {Z U E : Type 0} (old new : String Z) (result : Result U E) (
   pub full : OnErr result (string_capacity old < length (string_bytes old) + length text)
   -- no room is lost
   pub capacity : string_capacity old ≤ string_capacity new
+
+-- A call appends the text; or the one request for memory of its own, that of the open cells, is refused before the first
+-- byte, and the buffer stays as it was.
+abbrev pub AppendsOrNothing : {Z U E : Type 0} → String Z → String Z → Result U E → List ℕ → Type 0
+AppendsOrNothing old new result text = Appends old new result text ⊎ (IsErr result × (new ≡ old))
 
 -- the buffer has gained the text, with no refusal so far
 pub record Gained {Z : Type 0} (old new : String Z) (text : List ℕ) : Type 0 where

@@ -16,3 +16,5 @@ pub mod CompactSizes
 pub mod CompactSamples
 pub mod Rectangles
 pub mod KeptSeparators
+pub mod Grids
+pub mod Printed

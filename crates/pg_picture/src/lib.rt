@@ -9,6 +9,7 @@ mod compact_run;
 mod cut;
 pub mod examples;
 mod facts;
+mod fault;
 mod fill;
 pub mod fits;
 pub mod laws;
@@ -28,6 +29,7 @@ pub use crate::compact_cell::{push_border_glyph, push_compact_cell, push_compact
 pub use crate::compact_margin::push_compact_margin;
 pub use crate::compact_run::CompactRun;
 pub use crate::facts::{TextFacts, count_empty_lines, text_width};
+pub use crate::fault::PrintFault;
 pub use crate::fill::{push_char, push_text};
 pub use crate::margin::{push_feed, push_margin_lines, push_side_margin};
 pub use crate::piece::push_fill;

@@ -10,14 +10,13 @@ use Rattle.pg_layout.specs.declared.position.Entity.TheVariants.{Global}
 use Rattle.pg_config.specs.Config.{Config, default_config}
 use Rattle.pg_config.specs.CompactConfig.{CompactSettings}
 use Rattle.pg_config.specs.Settings.{with_setting}
-use Rattle.pg_picture.specs.Appending.{Appends}
+use Rattle.pg_picture.specs.Appending.{Appends, AppendsOrNothing}
 use Rattle.pg_picture.specs.CompactLines.{CompactTable}
 use Rattle.pg_picture.specs.Fits.{misfit_of, compact_misfit_of}
 use Rattle.pg_picture.specs.Picture.{picture, compact_picture}
 use Rattle.pg_picture.specs.Table.{Table, Known}
 use Rattle.pg_picture.specs.declared.fits.Misfit.{Misfit}
 use Rattle.pg_picture.specs.declared.fits.Misfit.TheVariants.{Spans, Totals}
-use Rattle.pg_grid.specs.IterGrids.{AppendsOrNothing}
 use Rattle.pg_table.specs.Natural.{natural_table}
 use Rattle.pg_show.specs.Told.{Told}
 use Rattle.pg_show.specs.declared.mode.Mode.{Mode}

@@ -2,11 +2,10 @@
 
 ghost use Rattle.std.specs.Prelude.{◌≡◌, ◌↔◌, true, Some, None, Err, IsOk};
 ghost use Rattle.pg_config.specs.CompactConfig.{settings_of};
-ghost use Rattle.pg_picture.specs.Appending.{Appends};
+ghost use Rattle.pg_picture.specs.Appending.{Appends, AppendsOrNothing};
 ghost use Rattle.pg_picture.specs.Fits.{misfit_of};
 ghost use Rattle.pg_picture.specs.Sizes.{unless_misfit};
 ghost use Rattle.pg_picture.specs.Table.{is_empty};
-ghost use Rattle.pg_grid.specs.IterGrids.{AppendsOrNothing};
 ghost use Rattle.pg_show.specs.Script.{told_of_script};
 ghost use Rattle.pg_show.specs.Show.{fault_of_table, misfit_in, natural_config, table_of_told, text_in, Prints, Shows};
 ghost use Rattle.pg_show.specs.declared.mode.Mode.TheVariants as mode;

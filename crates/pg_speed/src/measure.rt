@@ -2,7 +2,7 @@
 
 ghost use Rattle.std.specs.Prelude.{◌≡◌, None};
 ghost use Rattle.pg_picture.specs.Fits.{misfit_of};
-ghost use Rattle.pg_grid.specs.Grids.{drawn};
+ghost use Rattle.pg_peekable.specs.Grids.{drawn};
 
 use crate::case::{Case, Grid, Look, Table};
 use crate::checksum::checksum;

@@ -5,6 +5,7 @@ ghost use Rattle.pg_stream.specs.declared.fault.RowsFault.{RowsFault};
 ghost use Rattle.pg_stream.specs.declared.fault.StreamFault.{StreamFault};
 ghost use Rattle.pg_stream.specs.Faults.{stream_fault_text};
 
+use pg_picture::PrintFault;
 use pg_picture::fits::Misfit;
 use std::alloc::{AllocError, AllocFailed};
 use std::error::Error;
@@ -52,9 +53,9 @@ impl fmt::Display for StreamFault {
 
     fn fmt<W: fmt::Write>(&self, f: &mut fmt::Formatter<W>) -> fmt::Result {
         match self {
-            StreamFault::Misfit(misfit) => write!(f, "does not fit: {misfit}"),
+            StreamFault::Misfit(misfit) => write!(f, "{}", PrintFault::Misfit(*misfit)),
             StreamFault::Row(row) => write!(f, "row {row} does not fit"),
-            StreamFault::Memory => write!(f, "out of memory"),
+            StreamFault::Memory => write!(f, "{}", PrintFault::Memory),
         }
     }
 }

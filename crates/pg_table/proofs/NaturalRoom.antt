@@ -16,7 +16,7 @@ use Rattle.pg_picture.specs.Table.{Table, is_empty, rect_width, rect_height, ful
 use Rattle.pg_picture.proofs.FittingTables.{widths_fit, heights_fit}
 use Rattle.pg_picture.proofs.PlainTables.{rect_width_plain, rect_height_plain}
 use Rattle.pg_picture.proofs.Rooms.{misfit_of-totals}
-use Rattle.pg_grid.proofs.FittingGrids.{misfit-empty}
+use Rattle.pg_picture.proofs.FittingGrids.{misfit-empty}
 use Rattle.pg_table.specs.Laws.{NaturalTablesHaveRoom}
 use Rattle.pg_table.specs.Natural.{cell_size, cell_at, count, count_cells, natural_size, natural_sizes, natural_table, all_fit}
 use Rattle.pg_table.specs.declared.sizes.Axis.{Axis}

@@ -12,7 +12,7 @@ use Rattle.pg_config.specs.Config.{Config, default_config}
 use Rattle.pg_config.specs.Overrides.{with_row_line}
 use Rattle.pg_picture.specs.Fits.{totals_fit}
 use Rattle.pg_picture.specs.Table.{Table as Drawn, is_empty}
-use Rattle.pg_grid.specs.IterGrids.{AppendsOrNothing}
+use Rattle.pg_picture.specs.Appending.{AppendsOrNothing}
 use Rattle.pg_table.specs.Natural.{natural_sizes, natural_table}
 use Rattle.pg_table.specs.declared.fault.TableFault.{TableFault}
 use Rattle.pg_table.specs.declared.fault.TableFault.TheVariants.{Spans, Totals, Memory}

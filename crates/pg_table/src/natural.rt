@@ -6,8 +6,8 @@ ghost use Rattle.pg_table.specs.Printing.{natural_parts};
 use crate::fault::TableFault;
 use crate::sizes::{Axis, NaturalSizes, plus};
 use pg_config::SpannedConfig;
-use pg_grid::PeekableGrid;
 use pg_layout::{Colors, ConstantDimension, Dimension, ExactRecords, PeekableRecords};
+use pg_peekable::PeekableGrid;
 use std::alloc::{AllocError, Allocator, Global};
 
 /// A table over records that can be read at any place, at its natural sizes: each column as wide as
@@ -46,13 +46,12 @@ where
 {
     ghost use Rattle.std.specs.Prelude.{◌≡◌, ◌↔◌, ◌⊎◌, ◌<◌, ◌&&◌, ◌++◌, length, true, false, Some, None, Err, IfOk, IsOk, OnOk, string_bytes};
     ghost use Rattle.std.specs.Result.{result_err};
-    ghost use Rattle.pg_picture.specs.Appending.{Appends};
+    ghost use Rattle.pg_picture.specs.Appending.{Appends, AppendsOrNothing};
     ghost use Rattle.pg_picture.specs.Fits.{totals_fit, body_height, misfit_of};
     ghost use Rattle.pg_picture.specs.Laws.{IsStraight};
     ghost use Rattle.pg_picture.specs.Picture.{picture};
     ghost use Rattle.pg_picture.specs.Table.{Known, full_width, is_empty};
     ghost use Rattle.pg_picture.specs.Sizes.{if_fits};
-    ghost use Rattle.pg_grid.specs.IterGrids.{AppendsOrNothing};
     ghost use Rattle.pg_table.specs.Natural.{all_fit};
     ghost use Rattle.pg_table.specs.Laws.{IsEven};
     ghost use Rattle.pg_table.specs.Printing.{fault_of, drawn_of, natural_parts, sizes_of, Prints};

@@ -1,9 +1,10 @@
 //! Calls that test their table themselves, where it doesn't fit and where memory is refused.
 
 use crate::drawing::{Sample, WITH_MARGINS, bordered, dimension, records, with_margins};
+use pg_compact::CompactGrid;
 use pg_config::CompactConfig;
-use pg_grid::{CompactGrid, PrintFault};
 use pg_layout::{ConstantDimension, Indent, NoColors, Sides, VecRecords};
+use pg_picture::PrintFault;
 use pg_picture::fits::Misfit;
 use pg_testing::refusing::Refusing;
 use std::alloc::{Allocator, Global};

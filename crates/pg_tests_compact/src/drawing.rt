@@ -1,7 +1,7 @@
 //! How the tests draw a compact table.
 
+use pg_compact::CompactGrid;
 use pg_config::CompactConfig;
-use pg_grid::CompactGrid;
 use pg_layout::{
     ANSIBuf, ANSIStr, Borders, ColorsMap, ConstantDimension, Indent, Position, Records, Sides,
     VecRecords,

@@ -3,8 +3,8 @@
 ghost use Rattle.std.specs.Prelude.{map, replicate};
 
 use crate::drawing::bordered;
+use pg_compact::CompactGrid;
 use pg_config::CompactConfig;
-use pg_grid::CompactGrid;
 use pg_layout::{ConstantDimension, Indent, IterRecords, NoColors, Sides};
 use pg_testing::repeated::Repeated;
 use std::alloc::Allocator;

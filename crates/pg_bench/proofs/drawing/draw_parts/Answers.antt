@@ -1,7 +1,7 @@
 use Rattle.std.proofs.Common.{◌∙◌, sym, map, slice_index_or}
 use Rattle.pg_layout.specs.ColorsMap.{color_at}
 use Rattle.pg_layout.specs.Records.{columns_of}
-use Rattle.pg_grid.proofs.FittingGrids.{misfit-parts, none-of-ok}
+use Rattle.pg_picture.proofs.FittingGrids.{misfit-parts, none-of-ok}
 use Rattle.pg_bench.proofs.drawing.draw_parts.Goals as goal
 
 pub build-drawn-requires : goal.build-drawn-requires

@@ -1,6 +1,6 @@
 use Rattle.std.proofs.Common.{◌≡◌, arith}
 use Rattle.pg_layout.specs.Records.{Gives}
-use Rattle.pg_grid.specs.Grids.{table_of_parts}
+use Rattle.pg_picture.specs.Grids.{table_of_parts}
 use Rattle.pg_grid.proofs.IterTables.{begun}
 use Rattle.pg_bench.proofs.printing.print_table.Goals as goal
 

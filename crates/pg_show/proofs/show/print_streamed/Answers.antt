@@ -1,7 +1,7 @@
 use Rattle.std.proofs.Common.{◌∙◌, sym, ap, is_ok}
 use Rattle.std.proofs.lemmas.Bool.{false≢true}
 use Rattle.pg_picture.specs.Sizes.{unless_misfit}
-use Rattle.pg_grid.proofs.FittingGrids.{misfit-empty}
+use Rattle.pg_picture.proofs.FittingGrids.{misfit-empty}
 use Rattle.pg_show.proofs.show.print_streamed.Goals as goal
 
 -- a table without cells fits

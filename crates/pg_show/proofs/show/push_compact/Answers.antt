@@ -5,7 +5,7 @@ use Rattle.pg_picture.specs.CompactSizes.{compact_sized}
 use Rattle.pg_picture.specs.Fits.{compact_misfit_of}
 use Rattle.pg_picture.specs.Picture.{compact_picture}
 use Rattle.pg_picture.proofs.Appending.{Appends-text, Gained-none, Gained-all}
-use Rattle.pg_grid.proofs.CompactPictures.{no_rows-text}
+use Rattle.pg_compact.proofs.CompactPictures.{no_rows-text}
 use Rattle.pg_show.specs.Script.{told_of_script}
 use Rattle.pg_show.specs.Show.{compact_table_with, compact_table_of_told}
 use Rattle.pg_show.proofs.ScriptTables.{misfit_of-compact_table_with, misfit_in-rows, compact_table-script}

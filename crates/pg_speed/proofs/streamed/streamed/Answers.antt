@@ -1,5 +1,5 @@
 use Rattle.std.proofs.Common.{◌∙◌, sym, ap, subst, None}
-use Rattle.pg_grid.proofs.FittingGrids.{misfit-parts, none-of-ok}
+use Rattle.pg_picture.proofs.FittingGrids.{misfit-parts, none-of-ok}
 use Rattle.pg_speed.proofs.streamed.streamed.Goals as goal
 
 pub build-requires : goal.build-requires

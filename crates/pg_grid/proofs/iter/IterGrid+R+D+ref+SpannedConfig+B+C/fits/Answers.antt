@@ -1,7 +1,7 @@
 use Rattle.std.proofs.Common.{None, ap, ◌∙◌, subst, IsOk}
 use Rattle.pg_picture.specs.Sizes.{unless_misfit}
 use Rattle.pg_grid.specs.IterGrids.{streamed}
-use Rattle.pg_grid.proofs.FittingGrids.{misfit-any_colors, none-if-ok}
+use Rattle.pg_picture.proofs.FittingGrids.{misfit-any_colors, none-if-ok}
 use Rattle.pg_grid.proofs.iter.IterGrid+R+D+ref+SpannedConfig+B+C.fits.Goals as goal
 
 pub returns-clause-exact : goal.returns-clause-exact

@@ -1,0 +1,60 @@
+-- The picture of a compact table in which everything fits.
+use Rattle.std.proofs.Common.{◌≡◌, ℕ, ◌-◌, ◌^◌, ◌<◌, ◌==◌, ◌&&◌, ◌||◌, nat_lt, true, false, List, [], length, Option, Some, None, is_some, refl, sym, ap, ◌∙◌, arith, inl, inr}
+use Rattle.std.proofs.lemmas.Bool.{cases_Bool, false≢true}
+use Rattle.std.proofs.lemmas.Bool.Decides.{nat_tests}
+use Rattle.pg_layout.specs.declared.position.Position.{Position}
+use Rattle.pg_layout.specs.Colors.{Color}
+use Rattle.pg_layout.specs.Text.{Text}
+use Rattle.pg_config.specs.CompactConfig.{settings_of}
+use Rattle.pg_picture.specs.CompactLines.{CompactTable, compact_width, compact_full_width}
+use Rattle.pg_picture.specs.CompactSizes.{compact_sized}
+use Rattle.pg_picture.specs.Fits.{compact_misfit_of}
+use Rattle.pg_picture.specs.Picture.{compact_picture}
+use Rattle.pg_picture.specs.Sizes.{if_fits}
+use Rattle.pg_picture.specs.declared.fits.Misfit.{Misfit}
+use Rattle.pg_compact.specs.declared.grid.CompactPrinter.{CompactPrinter}
+use Rattle.pg_compact.specs.CompactGrids.{printed_table, CompactFits}
+use Rattle.pg_picture.proofs.SumsOfSizes.{some_answer}
+
+pub no_columns-text : (t : CompactTable) → t.columns ≡ 0 → [] ≡ compact_picture t
+unfolding compact_picture
+no_columns-text t none = let e : ((t.rows == 0) || (t.columns == 0)) ≡ true = grind (arith, nat_tests, none) in rw e refl
+
+pub no_rows-text : (t : CompactTable) → t.rows ≡ 0 → [] ≡ compact_picture t
+unfolding compact_picture
+no_rows-text t none = let e : ((t.rows == 0) || (t.columns == 0)) ≡ true = grind (arith, nat_tests, none) in rw e refl
+
+-- what the totals of a table are that has no misfit
+pub record CompactTotals (t : CompactTable) : Type 0 where
+  pub columns : t.columns < 2 ^ 64 - 1
+  pub width : compact_full_width t < 2 ^ 64
+
+pub compact-totals : (t : CompactTable) → compact_misfit_of t ≡ None → 0 < t.columns → CompactTotals t
+unfolding compact_misfit_of
+compact-totals t fits some =
+    let columns : (t.columns == 0) ≡ false = grind (arith, nat_tests, some) in
+    elim (cases_Bool (nat_lt t.columns (2 ^ 64 - 1) && nat_lt (compact_full_width t) (2 ^ 64))) [
+      | inl both ↦ record { columns = grind (arith, nat_tests, both); width = grind (arith, nat_tests, both) }
+      | inr over ↦ absurd (false≢true (sym (ap (λ (o : Option Misfit). is_some o) (rw (columns, over) at fits))))
+    ]
+
+module _ {D C : Type 0} (width : D → ℕ → ℕ) (color : C → Position → Option Color) (p : CompactPrinter D C) (texts : List (List Text)) where
+  -- the texts don't matter to what fits
+  sized-misfit : compact_misfit_of (compact_sized (settings_of p.config.now) (width p.dimension) p.columns) ≡ compact_misfit_of (printed_table width color p texts)
+  unfolding compact_misfit_of compact_full_width compact_width
+  sized-misfit = refl
+
+  pub totals-fit : CompactFits (printed_table width color p texts) → 0 < length texts → 0 < p.columns → CompactTotals (printed_table width color p texts)
+  totals-fit fits rows columns = compact-totals (printed_table width color p texts) (sym sized-misfit ∙ fits rows) columns
+
+  same-width : compact_full_width (compact_sized (settings_of p.config.now) (width p.dimension) p.columns) ≡ compact_full_width (printed_table width color p [])
+  unfolding compact_full_width compact_width
+  same-width = refl
+
+  any-texts : compact_full_width (printed_table width color p []) ≡ compact_full_width (printed_table width color p texts)
+  unfolding compact_full_width compact_width
+  any-texts = refl
+
+  -- what the call answers that adds up the widths
+  pub width-answer : {answer : Option ℕ} → CompactTotals (printed_table width color p texts) → answer ≡ if_fits (compact_full_width (compact_sized (settings_of p.config.now) (width p.dimension) p.columns)) → answer ≡ Some (compact_full_width (printed_table width color p []))
+  width-answer totals is = some_answer (compact_full_width (printed_table width color p [])) (omega (arith, any-texts, totals.width)) (is ∙ ap if_fits same-width)

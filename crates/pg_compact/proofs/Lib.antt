@@ -1,0 +1,5 @@
+-- Lemmas of this crate.
+pub mod CompactRows
+pub mod CompactSeparators
+pub mod CompactBodies
+pub mod CompactPictures

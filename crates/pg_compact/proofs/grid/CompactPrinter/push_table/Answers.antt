@@ -1,0 +1,113 @@
+use Rattle.std.proofs.Common.{◌≡◌, ◌<◌, ◌-◌, ◌++◌, [], length, flat_map, sym, ◌∙◌, arith}
+use Rattle.std.specs.List.{range_with_len}
+use Rattle.pg_layout.specs.Records.{Gives}
+use Rattle.pg_picture.specs.CompactLines.{row_lines}
+use Rattle.pg_picture.specs.Joined.{continued, fed, lines_before}
+use Rattle.pg_picture.proofs.Appending.{Appends-text, Gained-none, Gained-all, ◌then◌, stopped}
+use Rattle.pg_picture.proofs.FittingTables.{some_is}
+use Rattle.pg_compact.specs.CompactGrids.{printed_table, lines_of_row, foot_lines}
+use Rattle.pg_picture.proofs.SumsOfSizes.{is_some_answer}
+use Rattle.pg_compact.proofs.CompactBodies.{table-text}
+use Rattle.pg_compact.proofs.CompactPictures.{no_columns-text, no_rows-text, totals-fit, width-answer}
+use Rattle.pg_compact.proofs.CompactRows.{row-taken, rows-ended}
+use Rattle.pg_compact.proofs.grid.CompactPrinter.push_table.Goals as goal
+
+pub returns-then-self-eq0 : goal.returns-then-self-eq0
+returns-then-self-eq0 g c = λ texts all.
+    Appends-text (no_columns-text (printed_table g.D.Dimension.width g.C.Colors.color c.args.self.now texts) c.if-self-eq0.true) (Gained-all (Gained-none c.args.buf.now))
+
+pub returns-in_default : goal.returns-in_default
+returns-in_default g c = λ texts all.
+    let is_row = Gives (λ x y. g.T.AsStr.text x ≡ y) g.Cells.Iterator.can_next g.Cells.Iterator.next_gives g.Cells.Iterator.remaining in
+    let ended = rows-ended is_row g.Rows.Iterator.next_gives c.args.self.now.columns _ _ 0 texts all c.in_default.ensures.steps in
+    Appends-text (no_rows-text (printed_table g.D.Dimension.width g.C.Colors.color c.args.self.now texts) ended) (Gained-all (Gained-none c.args.buf.now))
+
+pub compact_full_width-requires : goal.compact_full_width-requires
+compact_full_width-requires g c =
+    let is_row = Gives (λ x y. g.T.AsStr.text x ≡ y) g.Cells.Iterator.can_next g.Cells.Iterator.next_gives g.Cells.Iterator.remaining in
+    let (texts, all, fits) = c.requires.given in
+    let taken = row-taken is_row g.Rows.Iterator.next_gives c.args.self.now.columns _ _ _ 0 texts all c.in-Some.ensures.steps in
+    let columns : 0 < c.args.self.now.columns = omega arith in
+    (totals-fit g.D.Dimension.width g.C.Colors.color c.args.self.now texts fits taken.rest.begun columns).columns
+
+pub unwrap-width-requires : goal.unwrap-width-requires
+unwrap-width-requires g c =
+    let is_row = Gives (λ x y. g.T.AsStr.text x ≡ y) g.Cells.Iterator.can_next g.Cells.Iterator.next_gives g.Cells.Iterator.remaining in
+    let (texts, all, fits) = c.requires.given in
+    let taken = row-taken is_row g.Rows.Iterator.next_gives c.args.self.now.columns _ _ _ 0 texts all c.in-Some.ensures.steps in
+    let columns : 0 < c.args.self.now.columns = omega arith in
+    let totals = totals-fit g.D.Dimension.width g.C.Colors.color c.args.self.now texts fits taken.rest.begun columns in
+    is_some_answer (width-answer g.D.Dimension.width g.C.Colors.color c.args.self.now texts totals c.compact_full_width.ensures)
+
+pub push_head-requires : goal.push_head-requires
+push_head-requires g c =
+    let is_row = Gives (λ x y. g.T.AsStr.text x ≡ y) g.Cells.Iterator.can_next g.Cells.Iterator.next_gives g.Cells.Iterator.remaining in
+    let (texts, all, fits) = c.requires.given in
+    let taken = row-taken is_row g.Rows.Iterator.next_gives c.args.self.now.columns _ _ _ 0 texts all c.in-Some.ensures.steps in
+    let columns : 0 < c.args.self.now.columns = omega arith in
+    let totals = totals-fit g.D.Dimension.width g.C.Colors.color c.args.self.now texts fits taken.rest.begun columns in
+    some_is c.unwrap-width.result _ (sym c.unwrap-width.ensures ∙ width-answer g.D.Dimension.width g.C.Colors.color c.args.self.now texts totals c.compact_full_width.ensures)
+
+pub push_foot-requires : goal.push_foot-requires
+push_foot-requires g c =
+    let is_row = Gives (λ x y. g.T.AsStr.text x ≡ y) g.Cells.Iterator.can_next g.Cells.Iterator.next_gives g.Cells.Iterator.remaining in
+    let (texts, all, fits) = c.requires.given in
+    let taken = row-taken is_row g.Rows.Iterator.next_gives c.args.self.now.columns _ _ _ 0 texts all c.in-Some.ensures.steps in
+    let columns : 0 < c.args.self.now.columns = omega arith in
+    let totals = totals-fit g.D.Dimension.width g.C.Colors.color c.args.self.now texts fits taken.rest.begun columns in
+    some_is c.unwrap-width.result _ (sym c.unwrap-width.ensures ∙ width-answer g.D.Dimension.width g.C.Colors.color c.args.self.now texts totals c.compact_full_width.ensures)
+
+pub push_row-requires : goal.push_row-requires
+push_row-requires g c =
+    let is_row = Gives (λ x y. g.T.AsStr.text x ≡ y) g.Cells.Iterator.can_next g.Cells.Iterator.next_gives g.Cells.Iterator.remaining in
+    let (texts, all, fits) = c.requires.given in
+    let taken = row-taken is_row g.Rows.Iterator.next_gives c.args.self.now.columns _ _ _ 0 texts all c.in-Some.ensures.steps in
+    record { cells = (taken.stands.can_next, taken.stands.ends) }
+
+pub push_next_rows-requires-clause-rows : goal.push_next_rows-requires-clause-rows
+push_next_rows-requires-clause-rows g c =
+    let goes = c.in-Some.ensures.goes.on c.requires.rows.1 in
+    (goes.0, goes.1)
+
+pub push_next_rows-requires-clause-given : goal.push_next_rows-requires-clause-given
+push_next_rows-requires-clause-given g c =
+    let is_row = Gives (λ x y. g.T.AsStr.text x ≡ y) g.Cells.Iterator.can_next g.Cells.Iterator.next_gives g.Cells.Iterator.remaining in
+    let (texts, all, fits) = c.requires.given in
+    (texts, (row-taken is_row g.Rows.Iterator.next_gives c.args.self.now.columns _ _ _ 0 texts all c.in-Some.ensures.steps).rest)
+
+pub returns-in_err-push_head : goal.returns-in_err-push_head
+returns-in_err-push_head g c = λ texts all.
+    let is_row = Gives (λ x y. g.T.AsStr.text x ≡ y) g.Cells.Iterator.can_next g.Cells.Iterator.next_gives g.Cells.Iterator.remaining in
+    let taken = row-taken is_row g.Rows.Iterator.next_gives c.args.self.now.columns _ _ _ 0 texts all c.in-Some.ensures.steps in
+    let columns : 0 < c.args.self.now.columns = omega arith in
+    let t = printed_table g.D.Dimension.width g.C.Colors.color c.args.self.now texts in
+    let foot = foot_lines (printed_table g.D.Dimension.width g.C.Colors.color c.args.self.now []) in
+    Appends-text (table-text g.D.Dimension.width g.C.Colors.color c.args.self.now texts taken.rest.begun columns c.has_no_head-is_first.ensures)
+    (stopped (continued (lines_before c.has_no_head-is_first.result) (lines_of_row t 0) ++ (fed (flat_map (row_lines t) (range_with_len 1 (length texts - 1))) ++ fed foot)) c.from_residual.ensures.0 c.in_err-push_head.ensures)
+
+pub returns-in_err-push_row : goal.returns-in_err-push_row
+returns-in_err-push_row g c = λ texts all.
+    let is_row = Gives (λ x y. g.T.AsStr.text x ≡ y) g.Cells.Iterator.can_next g.Cells.Iterator.next_gives g.Cells.Iterator.remaining in
+    let taken = row-taken is_row g.Rows.Iterator.next_gives c.args.self.now.columns _ _ _ 0 texts all c.in-Some.ensures.steps in
+    let columns : 0 < c.args.self.now.columns = omega arith in
+    let t = printed_table g.D.Dimension.width g.C.Colors.color c.args.self.now texts in
+    let foot = foot_lines (printed_table g.D.Dimension.width g.C.Colors.color c.args.self.now []) in
+    Appends-text (table-text g.D.Dimension.width g.C.Colors.color c.args.self.now texts taken.rest.begun columns c.has_no_head-is_first.ensures)
+    (c.in_ok-push_head.ensures then stopped (fed (flat_map (row_lines t) (range_with_len 1 (length texts - 1))) ++ fed foot) c.from_residual-in_err-push_row.ensures.0 (c.in_err-push_row.ensures texts (record { gives = taken.stands.gives; even = taken.even })))
+
+pub returns-in_err-push_next_rows : goal.returns-in_err-push_next_rows
+returns-in_err-push_next_rows g c = λ texts all.
+    let is_row = Gives (λ x y. g.T.AsStr.text x ≡ y) g.Cells.Iterator.can_next g.Cells.Iterator.next_gives g.Cells.Iterator.remaining in
+    let taken = row-taken is_row g.Rows.Iterator.next_gives c.args.self.now.columns _ _ _ 0 texts all c.in-Some.ensures.steps in
+    let columns : 0 < c.args.self.now.columns = omega arith in
+    let foot = foot_lines (printed_table g.D.Dimension.width g.C.Colors.color c.args.self.now []) in
+    Appends-text (table-text g.D.Dimension.width g.C.Colors.color c.args.self.now texts taken.rest.begun columns c.has_no_head-is_first.ensures)
+    (c.in_ok-push_head.ensures then (c.in_ok-push_row.ensures texts (record { gives = taken.stands.gives; even = taken.even }) then stopped (fed foot) c.from_residual-in_err-push_next_rows.ensures.0 (c.in_err-push_next_rows.ensures texts taken.rest)))
+
+pub returns : goal.returns
+returns g c = λ texts all.
+    let is_row = Gives (λ x y. g.T.AsStr.text x ≡ y) g.Cells.Iterator.can_next g.Cells.Iterator.next_gives g.Cells.Iterator.remaining in
+    let taken = row-taken is_row g.Rows.Iterator.next_gives c.args.self.now.columns _ _ _ 0 texts all c.in-Some.ensures.steps in
+    let columns : 0 < c.args.self.now.columns = omega arith in
+    Appends-text (table-text g.D.Dimension.width g.C.Colors.color c.args.self.now texts taken.rest.begun columns c.has_no_head-is_first.ensures)
+    (c.in_ok-push_head.ensures then (c.in_ok-push_row.ensures texts (record { gives = taken.stands.gives; even = taken.even }) then (c.in_ok-push_next_rows.ensures texts taken.rest then c.push_foot.ensures)))

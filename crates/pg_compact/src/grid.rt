@@ -1,0 +1,164 @@
+//! The compact grid: it reads its records once, row by row, and shows the first line of each text.
+
+use pg_config::CompactConfig;
+use pg_layout::{Colors, Dimension, ExactRecords, Records};
+use pg_picture::PrintFault;
+use pg_picture::fits::{Misfit, compact_fits};
+use std::alloc::{AllocError, Allocator};
+
+/// A table printer over records that are read once, a dimension that gives the widths of columns,
+/// and colours of cells.
+///
+/// Each cell shows the first line of its text, and each row has one text line. The heights of the
+/// dimension aren't used, and there are no spans.
+#[derive(Debug, Clone, Drop)]
+pub struct CompactGrid<R, D, G, C> {
+    records: R,
+    dimension: D,
+    config: G,
+    colors: C,
+}
+
+// What a compact table's lines are drawn by, whatever the texts of its rows.
+#[derive(Drop)]
+pub(crate) struct CompactPrinter<'a, D, C> {
+    pub(crate) config: &'a CompactConfig,
+    pub(crate) dimension: D,
+    pub(crate) colors: C,
+    pub(crate) columns: usize,
+}
+
+impl<R, D, G, C> CompactGrid<R, D, G, C> {
+    ghost use Rattle.std.specs.Prelude.{◌≡◌};
+    ghost use Rattle.pg_compact.specs.CompactGrids.{compact_parts};
+
+    /// A grid of these parts.
+    pub fn new(records: R, config: G, dimension: D, colors: C) -> CompactGrid<R, D, G, C>
+        ensures { compact_parts result ≡ (records, dimension, config, colors) }
+    {
+        CompactGrid {
+            records,
+            dimension,
+            config,
+            colors,
+        }
+    }
+}
+
+impl<R, D, G, C: Drop> CompactGrid<R, D, G, C> {
+    ghost use Rattle.std.specs.Prelude.{◌≡◌};
+    ghost use Rattle.pg_compact.specs.CompactGrids.{compact_parts};
+
+    /// The same grid with these colours in place of its own.
+    pub fn with_colors<Colors>(self, colors: Colors) -> CompactGrid<R, D, G, Colors>
+        ensures { compact_parts result ≡ ((compact_parts self).0, (compact_parts self).1, (compact_parts self).2, colors) }
+    {
+        CompactGrid::new(self.records, self.config, self.dimension, colors)
+    }
+}
+
+impl<'a, R, D, C> CompactGrid<R, D, &'a CompactConfig, C>
+where
+    R: Records,
+    D: Dimension + Drop,
+    C: Colors + Drop,
+{
+    ghost use Rattle.std.specs.Prelude.{◌≡◌, ◌≤◌, IfOk, string_bytes};
+    ghost use Rattle.pg_picture.specs.Appending.{Appends};
+    ghost use Rattle.pg_picture.specs.Picture.{compact_picture};
+    ghost use Rattle.pg_compact.specs.CompactGrids.{compact_table, CompactFits, MayBeRead};
+
+    /// Appends the picture of the table, whose records may be read (all records in memory may), have
+    /// at most `usize::MAX` rows, and in which the columns fit where there are rows: of records that
+    /// know their rows [`CompactGrid::fits`] is the test, and [`CompactGrid::print`] the call that
+    /// makes it first. A table with no rows or no columns appends nothing.
+    ///
+    /// The rows are read once, each as it is printed. Takes no memory but the buffer's. An error
+    /// comes only where the buffer's room is too small for the picture and it gets no more memory;
+    /// the buffer then holds a beginning of the picture behind what it held before.
+    pub fn build<A: Allocator>(self, buf: &mut String<A>) -> Result<(), AllocError>
+        requires readable { MayBeRead R.Records self }
+        requires rows { (compact_table R.texts R.columns D.width C.color self).rows ≤ usize.MAX }
+        requires fits { CompactFits (compact_table R.texts R.columns D.width C.color self) }
+        ensures { Appends buf.old buf.new result (compact_picture (compact_table R.texts R.columns D.width C.color self.entry)) }
+    {
+        let columns = self.records.count_columns();
+        let printer = CompactPrinter {
+            config: self.config,
+            dimension: self.dimension,
+            colors: self.colors,
+            columns,
+        };
+        printer.push_table(buf, self.records.iter_rows())
+    }
+
+    /// The picture of the table as a text of its own, under the conditions of `build`; of records that
+    /// know their rows `text` is the call that tests them first. An error comes where no memory is
+    /// found.
+    pub fn to_string<A: Allocator>(self, alloc: A) -> Result<String<A>, AllocError>
+        requires readable { MayBeRead R.Records self }
+        requires rows { (compact_table R.texts R.columns D.width C.color self).rows ≤ usize.MAX }
+        requires fits { CompactFits (compact_table R.texts R.columns D.width C.color self) }
+        ensures { IfOk result (λ text. string_bytes text ≡ compact_picture (compact_table R.texts R.columns D.width C.color self.entry)) }
+    {
+        let mut text = String::new(alloc);
+        self.build(&mut text)?;
+        Ok(text)
+    }
+}
+
+impl<'a, R, D, C> CompactGrid<R, D, &'a CompactConfig, C>
+where
+    R: ExactRecords + Drop,
+    D: Dimension + Drop,
+    C: Colors + Drop,
+{
+    ghost use Rattle.std.specs.Prelude.{◌≡◌, ◌≤◌, ◌++◌, ◌↔◌, Some, Err, IsOk, IfOk, OnOk, string_bytes};
+    ghost use Rattle.pg_picture.specs.Picture.{compact_picture};
+    ghost use Rattle.pg_picture.specs.Sizes.{unless_misfit};
+    ghost use Rattle.pg_compact.specs.CompactGrids.{compact_table, compact_misfit, CompactFits, MayBeRead};
+    ghost use Rattle.pg_picture.specs.Printed.{Prints};
+
+    /// Whether the columns fit: the condition of `build` and `to_string` on its sizes, as a test. It
+    /// answers the first thing that doesn't (`pg_picture::fits::Misfit`), and takes no memory. A table
+    /// with no rows fits. The records stay unread, and their rows can be counted.
+    pub fn fits(&self) -> Result<(), Misfit>
+        ensures exact { result ≡ unless_misfit (compact_misfit (compact_table R.texts R.columns D.width C.color self.now)) }
+        ensures fits { IsOk result → CompactFits (compact_table R.texts R.columns D.width C.color self.now) }
+        ensures counted { (compact_table R.texts R.columns D.width C.color self.now).rows ≤ usize.MAX }
+    {
+        if self.records.count_rows() == 0 {
+            return Ok(());
+        }
+        compact_fits(self.config, &self.dimension, self.records.count_columns())
+    }
+
+    /// Appends the picture of the table, whose records may be read (all records in memory may), if the
+    /// columns fit: `fits`, and then `build`.
+    ///
+    /// A table that doesn't fit is refused with what `fits` answers, and the buffer stays as it was.
+    /// Where memory is refused, the buffer holds a beginning of the picture behind what it held
+    /// before.
+    pub fn print<A: Allocator>(self, buf: &mut String<A>) -> Result<(), PrintFault>
+        requires readable { MayBeRead R.Records self }
+        ensures prints { Prints (compact_misfit (compact_table R.texts R.columns D.width C.color self.entry)) buf.old buf.new result (compact_picture (compact_table R.texts R.columns D.width C.color self.entry)) }
+        ensures printed { OnOk result (string_bytes buf.new ≡ string_bytes buf.old ++ compact_picture (compact_table R.texts R.columns D.width C.color self.entry)) }
+        ensures misfit { (m : _) → (result ≡ Err (PrintFault.Misfit m)) ↔ (compact_misfit (compact_table R.texts R.columns D.width C.color self.entry) ≡ Some m) }
+    {
+        self.fits()?;
+        self.build(buf)?;
+        Ok(())
+    }
+
+    /// The picture of the table as a text of its own, under the condition of `print`, as that call
+    /// appends it.
+    pub fn text<A: Allocator>(self, alloc: A) -> Result<String<A>, PrintFault>
+        requires readable { MayBeRead R.Records self }
+        ensures misfit { (m : _) → (result ≡ Err (PrintFault.Misfit m)) ↔ (compact_misfit (compact_table R.texts R.columns D.width C.color self.entry) ≡ Some m) }
+        ensures text { IfOk result (λ text. string_bytes text ≡ compact_picture (compact_table R.texts R.columns D.width C.color self.entry)) }
+    {
+        let mut text = String::new(alloc);
+        self.print(&mut text)?;
+        Ok(text)
+    }
+}

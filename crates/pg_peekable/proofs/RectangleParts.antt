@@ -1,0 +1,120 @@
+-- The size of a rectangle as the calls answer it, and the lines above a row as a loop adds them up.
+use Rattle.std.proofs.Common.{◌≡◌, ℕ, ◌+◌, ◌-◌, ◌^◌, ◌<◌, ◌≤◌, cond, true, nat_lt, Option, None, Some, refl, sym, ap, ◌∙◌, arith, subst, if◌then◌else◌}
+use Rattle.pg_layout.specs.declared.position.Position.{Position}
+use Rattle.pg_config.specs.Config.{has_horizontal}
+use Rattle.pg_config.specs.Spans.{Span, corner, left_span, rect_rows}
+use Rattle.pg_picture.specs.Marks.{Mark, sep, line, place_of}
+use Rattle.pg_picture.specs.Pieces.{written, style_at, block_line}
+use Rattle.pg_picture.specs.Table.{Table, rect_marks, rect_width, rect_height, block_at}
+use Rattle.pg_picture.specs.Sizes.{if_fits, sized, height_of_rect}
+use Rattle.pg_picture.specs.Rectangles.{IsOwner, rows_height}
+use Rattle.pg_picture.proofs.SumsOfSizes.{sum_by-from_more}
+use Rattle.pg_picture.proofs.FittingTables.{RectInside, rect_width-sized, rect_height_fits, width_answer, height_answer}
+use Rattle.pg_picture.proofs.OwnersOfPlaces.{InOrder}
+use Rattle.pg_picture.proofs.DrawnRectangles.{rect_of, rows_height-fits, line_place, line_inside, sep_place, sep_inside, corner_owns, corner_from, corner_to, corner_inside}
+use Rattle.pg_peekable.specs.declared.kept.KeptRectangle.{KeptRectangle}
+use Rattle.pg_peekable.specs.Grids.{CanDraw}
+use Rattle.pg_peekable.specs.Kept.{IsRectangle}
+use Rattle.pg_peekable.proofs.CanDraw.{in_order}
+
+module _ (t : Table) (can : CanDraw t) where
+  pub owner_inside : (p : Position) → IsOwner t p → RectInside t.config.spans t.rows t.columns p
+  owner_inside p o = rect_of t (in_order t can) p o
+
+  pub rect_width-answer : (p : Position) → IsOwner t p → (columns : ℕ) (answer : Option ℕ) → columns ≡ t.columns
+      → ((rows : ℕ) → answer ≡ if_fits (rect_width (sized t.config t.width t.height rows columns) p)) → answer ≡ Some (rect_width t p)
+  rect_width-answer p o columns answer is answers =
+      answers t.rows
+      ∙ ap (λ n. if_fits (rect_width (sized t.config t.width t.height t.rows n) p)) is
+      ∙ ap if_fits (rect_width-sized t p)
+      ∙ width_answer t p can.fits.totals (owner_inside p o)
+
+  pub rect_height-answer : (p : Position) → IsOwner t p → (answer : Option ℕ)
+      → answer ≡ (if nat_lt (p.row + rect_rows t.config.spans p) (2 ^ 64) then if_fits (height_of_rect t.config t.height p) else None) → answer ≡ Some (rect_height t p)
+  rect_height-answer p o answer answers = answers ∙ height_answer t p can.fits.totals (owner_inside p o)
+
+  -- one row more
+  rows_height-more : (a k : ℕ) → rows_height t a (k + 1) ≡ rows_height t a k + (t.height (a + k) + cond (has_horizontal t.config ((a + 1) + k) t.rows) 1 0)
+  rows_height-more a k =
+      let f : ℕ → ℕ = λ r. cond (has_horizontal t.config r t.rows) 1 0 in
+      omega (arith, sum_by-from_more t.height a k, sum_by-from_more f (a + 1) k)
+
+  pub lines-none : (first : ℕ) → 0 ≡ rows_height t first (first - first)
+  lines-none first = let e : first - first ≡ 0 = omega arith in rw e refl
+
+  pub lines-more : (first above : ℕ) {lines high separator rows : ℕ} → first ≤ above → lines ≡ rows_height t first (above - first) → high ≡ t.height above → rows ≡ t.rows → separator ≡ cond (has_horizontal t.config (above + 1) rows) 1 0
+      → lines + (high + separator) ≡ rows_height t first (above + 1 - first)
+  lines-more first above {lines} {high} {separator} {rows} h is high_is rows_is separator_is =
+      let f : ℕ → ℕ = λ r. cond (has_horizontal t.config r t.rows) 1 0 in
+      let more = rows_height-more first (above - first) in
+      let one : t.height (first + (above - first)) ≡ t.height above = ap t.height (omega (arith, h)) in
+      let two : f ((first + 1) + (above - first)) ≡ f (above + 1) = ap f (omega (arith, h)) in
+      let three : separator ≡ f (above + 1) = separator_is ∙ ap (λ (n : ℕ). cond (has_horizontal t.config (above + 1) n) 1 0) rows_is in
+      let step : above + 1 - first ≡ (above - first) + 1 = omega (arith, h) in
+      let next : rows_height t first (above + 1 - first) ≡ rows_height t first ((above - first) + 1) = ap (λ (k : ℕ). rows_height t first k) step in
+      omega (arith, more, one, two, three, next, is, high_is)
+
+  pub lines-fit : (first above : ℕ) → first ≤ above → above ≤ t.rows → rows_height t first (above - first) < 2 ^ 64
+  lines-fit first above h k = rows_height-fits t can.fits.totals first (above - first) (omega (arith, h, k))
+
+-- the lines of a kept rectangle above its row
+pub above-row : (t : Table) (kept : KeptRectangle) (row : ℕ) → IsRectangle t kept → kept.row ≡ row → kept.above ≡ rows_height t kept.corner.row (row - kept.corner.row)
+above-row t kept row is here = is.above ∙ ap (λ (r : ℕ). rows_height t kept.corner.row (r - kept.corner.row)) here
+
+-- a line of a block, by its number
+block-line : (t : Table) (p : Position) (mark : Mark) (number : ℕ) → number ≡ place_of mark (rect_marks t p)
+    → block_line (style_at t.config p) (t.color p) (t.text p) (rect_width t p) (rect_height t p) number ≡ block_at t p mark
+unfolding block_at
+block-line t p mark number is = ap (λ n. block_line (style_at t.config p) (t.color p) (t.text p) (rect_width t p) (rect_height t p) n) is
+
+-- ---- the lines of a rectangle that a search found
+
+module _ (t : Table) (can : CanDraw t) (r x : ℕ) (s : Span) (found : left_span t.config.spans r x ≡ Some s) (q : Position) (is : q ≡ corner s) where
+  order : InOrder t.config.spans t.rows t.columns
+  order = in_order t can
+
+  pub found_owner : IsOwner t q
+  found_owner = subst (λ (p : Position). IsOwner t p) (sym is) (corner_owns t order r x s found)
+
+  pub found_from : q.row ≤ r
+  found_from = subst (λ (p : Position). p.row ≤ r) (sym is) (corner_from t order r x s found)
+
+  -- where `above` lines of the rectangle stand above row r
+  module _ (above : ℕ) (sum : above ≡ rows_height t q.row (r - q.row)) where
+    sum_of : above ≡ rows_height t s.0.1 (r - s.0.1)
+    sum_of = sum ∙ ap (λ (p : Position). rows_height t p.row (r - p.row)) is
+
+    pub found_inside : (i : ℕ) → i < t.height r → above + i < rect_height t q
+    found_inside i h =
+        let less = line_inside t (corner s) r (corner_from t order r x s found) (corner_to t order r x s found) (corner_inside t order r x s found) i h in
+        subst (λ (p : Position). above + i < rect_height t p) (sym is) (omega (arith, less, sum_of))
+
+    pub found_fits : (i : ℕ) → i < t.height r → above + i < 2 ^ 64
+    found_fits i h = omega (arith, found_inside i h, rect_height_fits t q can.fits.totals)
+
+    pub found_line : (i : ℕ) → i < t.height r
+        → written (block_line (style_at t.config q) (t.color q) (t.text q) (rect_width t q) (rect_height t q) (above + i)) ≡ written (block_at t (corner s) (line r i))
+    found_line i h =
+        let place = line_place t (corner s) r (corner_from t order r x s found) (corner_to t order r x s found) (corner_inside t order r x s found) i h in
+        ap (λ (p : Position). written (block_line (style_at t.config p) (t.color p) (t.text p) (rect_width t p) (rect_height t p) (above + i))) is
+        ∙ ap written (block-line t (corner s) (line r i) (above + i) (omega (arith, place, sum_of)))
+
+    -- and the one on the separator above row r, where the rectangle begins above it
+    module _ (below : s.0.1 < r) (there : has_horizontal t.config r t.rows ≡ true) where
+      place_of_sep : place_of (sep r) (rect_marks t (corner s)) + 1 ≡ above
+      place_of_sep =
+          let place = sep_place t (corner s) r (corner_from t order r x s found) (corner_to t order r x s found) (corner_inside t order r x s found) below there in
+          omega (arith, place, sum_of)
+
+      pub found_some : 1 ≤ above
+      found_some = omega (arith, place_of_sep)
+
+      pub found_sep_inside : above - 1 < rect_height t q
+      found_sep_inside =
+          let less = sep_inside t (corner s) r (corner_from t order r x s found) (corner_to t order r x s found) (corner_inside t order r x s found) below there in
+          subst (λ (p : Position). above - 1 < rect_height t p) (sym is) (omega (arith, less, sum_of))
+
+      pub found_sep : block_line (style_at t.config q) (t.color q) (t.text q) (rect_width t q) (rect_height t q) (above - 1) ≡ block_at t (corner s) (sep r)
+      found_sep =
+          ap (λ (p : Position). block_line (style_at t.config p) (t.color p) (t.text p) (rect_width t p) (rect_height t p) (above - 1)) is
+          ∙ block-line t (corner s) (sep r) (above - 1) (omega (arith, place_of_sep))

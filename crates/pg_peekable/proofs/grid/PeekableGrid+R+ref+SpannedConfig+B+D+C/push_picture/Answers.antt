@@ -1,0 +1,76 @@
+use Rattle.std.proofs.Common.{◌≡◌, Bool, true, false, arith, ◌&&◌, ◌==◌, ◌++◌, sym, ap, ◌∙◌, refl, replicate, length}
+use Rattle.std.proofs.lemmas.Bool.Decides.{nat_tests}
+use Rattle.pg_layout.specs.declared.sides.Sides.{Sides}
+use Rattle.pg_layout.specs.declared.sides.Indent.{Indent}
+use Rattle.pg_picture.specs.Joined.{continued, lines_before}
+use Rattle.pg_picture.specs.Pieces.{written}
+use Rattle.pg_picture.specs.Table.{Known, margin_line, table_body, full_width}
+use Rattle.pg_picture.specs.Fits.{body_height}
+use Rattle.pg_picture.proofs.Appending.{Appends-text, ◌then◌, stopped}
+use Rattle.pg_picture.proofs.FittingTables.{some_is, totals_facts}
+use Rattle.pg_picture.proofs.HeightsOfRectangles.{length-table_body}
+use Rattle.pg_peekable.specs.Grids.{drawn}
+use Rattle.pg_picture.specs.Picture.{body_text}
+use Rattle.pg_picture.proofs.SumsOfSizes.{is_some_answer}
+use Rattle.pg_peekable.proofs.CanDraw.{width-answer, height-answer}
+use Rattle.pg_picture.proofs.Pictures.{picture-parts}
+use Rattle.pg_peekable.proofs.grid.PeekableGrid+R+ref+SpannedConfig+B+D+C.push_picture.Goals as goal
+use Rattle.pg_peekable.proofs.grid.PeekableGrid+R+ref+SpannedConfig+B+D+C.push_picture.Goals.{then-is_first, else-is_first}
+
+pub full_width-requires : goal.full_width-requires
+full_width-requires g c = omega (arith, c.requires.columns, (totals_facts (drawn g.R.Records g.D.Dimension g.C.Colors c.args.self.now) c.requires.can.fits.totals).columns)
+
+pub body_height-requires : goal.body_height-requires
+body_height-requires g c = omega (arith, c.requires.rows, (totals_facts (drawn g.R.Records g.D.Dimension g.C.Colors c.args.self.now) c.requires.can.fits.totals).rows)
+
+pub unwrap-width-requires : goal.unwrap-width-requires
+unwrap-width-requires g c = is_some_answer (width-answer (drawn g.R.Records g.D.Dimension g.C.Colors c.args.self.now) c.args.columns c.requires.can c.requires.columns c.full_width.ensures)
+
+pub unwrap-height-requires : goal.unwrap-height-requires
+unwrap-height-requires g c = is_some_answer (height-answer (drawn g.R.Records g.D.Dimension g.C.Colors c.args.self.now) c.args.rows c.requires.can c.requires.rows c.body_height.ensures)
+
+pub push_kept_body-requires-clause-shape : goal.push_kept_body-requires-clause-shape
+push_kept_body-requires-clause-shape g c =
+    let t = drawn g.R.Records g.D.Dimension g.C.Colors c.args.self.now in
+    let height : c.unwrap-height.result ≡ length (table_body t) =
+    some_is c.unwrap-height.result (body_height t) (sym c.unwrap-height.ensures ∙ height-answer t c.args.rows c.requires.can c.requires.rows c.body_height.ensures) ∙ sym (length-table_body t) in
+    record { rows = c.requires.rows; columns = c.requires.columns; height = height; path = c.requires.path }
+
+pub returns-in_err-push_top_margin : goal.returns-in_err-push_top_margin
+returns-in_err-push_top_margin g c =
+    let t = drawn g.R.Records g.D.Dimension g.C.Colors c.args.self.now in
+    let wide = some_is c.unwrap-width.result (full_width t) (sym c.unwrap-width.ensures ∙ width-answer t c.args.columns c.requires.can c.requires.columns c.full_width.ensures) in
+    let high = some_is c.unwrap-height.result (body_height t) (sym c.unwrap-height.ensures ∙ height-answer t c.args.rows c.requires.can c.requires.rows c.body_height.ensures) ∙ sym (length-table_body t) in
+    let first : Bool = t.config.margin.top.size == 0 in
+    let last : Bool = first && (c.unwrap-height.result == 0) in
+    Appends-text (picture-parts Known t c.unwrap-width.result c.unwrap-height.result {is_first = first} {is_last = last} wide high refl refl)
+    (stopped
+    (body_text Known t (lines_before first) 0 (table_body t)
+    ++ continued (lines_before last) (replicate t.config.margin.bottom.size (written (margin_line t.config.margin.bottom t.config.margin_offset.bottom t.config.margin_color.bottom c.unwrap-width.result))))
+    c.from_residual.ensures.0 c.in_err-push_top_margin.ensures)
+
+pub returns-in_err-push_kept_body : goal.returns-in_err-push_kept_body
+returns-in_err-push_kept_body g c =
+    let t = drawn g.R.Records g.D.Dimension g.C.Colors c.args.self.now in
+    let wide = some_is c.unwrap-width.result (full_width t) (sym c.unwrap-width.ensures ∙ width-answer t c.args.columns c.requires.can c.requires.columns c.full_width.ensures) in
+    let high = some_is c.unwrap-height.result (body_height t) (sym c.unwrap-height.ensures ∙ height-answer t c.args.rows c.requires.can c.requires.rows c.body_height.ensures) ∙ sym (length-table_body t) in
+    let first : Bool = c.get_margin.result.top.size == 0 in
+    let last : Bool = first && (c.unwrap-height.result == 0) in
+    Appends-text (picture-parts Known t c.unwrap-width.result c.unwrap-height.result {is_first = first} {is_last = last} wide high (ap (λ (m : Sides Indent). m.top.size == 0) c.get_margin.ensures) refl)
+    (c.in_ok-push_top_margin.ensures then stopped
+    (continued (lines_before last) (replicate t.config.margin.bottom.size (written (margin_line t.config.margin.bottom t.config.margin_offset.bottom t.config.margin_color.bottom c.unwrap-width.result))))
+    c.from_residual-in_err-push_kept_body.ensures.0 c.in_err-push_kept_body.ensures)
+
+pub returns : goal.returns
+returns g c =
+    let t = drawn g.R.Records g.D.Dimension g.C.Colors c.args.self.now in
+    let wide = some_is c.unwrap-width.result (full_width t) (sym c.unwrap-width.ensures ∙ width-answer t c.args.columns c.requires.can c.requires.columns c.full_width.ensures) in
+    let high = some_is c.unwrap-height.result (body_height t) (sym c.unwrap-height.ensures ∙ height-answer t c.args.rows c.requires.can c.requires.rows c.body_height.ensures) ∙ sym (length-table_body t) in
+    let first : Bool = c.get_margin.result.top.size == 0 in
+    let last : c.if-is_first.push_bottom_margin ≡ (first && (c.unwrap-height.result == 0)) =
+    elim c.if-is_first.branch [
+      | then-is_first w ↦ (let e : first ≡ true = grind (arith, nat_tests, w.if-is_first.true) in w.push_bottom_margin-is ∙ ap (λ b. b && (c.unwrap-height.result == 0)) (sym e))
+      | else-is_first w ↦ (let e : first ≡ false = grind (arith, nat_tests, w.if-is_first.false) in w.push_bottom_margin-is ∙ e ∙ ap (λ b. b && (c.unwrap-height.result == 0)) (sym e))
+    ] in
+    Appends-text (picture-parts Known t c.unwrap-width.result c.unwrap-height.result {is_first = first} {is_last = c.if-is_first.push_bottom_margin} wide high (ap (λ (m : Sides Indent). m.top.size == 0) c.get_margin.ensures) last)
+    (c.in_ok-push_top_margin.ensures then (c.in_ok-push_kept_body.ensures then c.push_bottom_margin.ensures))

@@ -1,0 +1,164 @@
+//! The looked-up grid: it reads its records at any place.
+
+use crate::path::Path;
+use pg_config::SpannedConfig;
+use pg_layout::{Colors, Dimension, ExactRecords, PeekableRecords};
+use pg_picture::fits::{Misfit, body_height, full_width, table_fits};
+use pg_picture::{PrintFault, push_bottom_margin, push_top_margin};
+use std::alloc::{AllocError, Allocator};
+
+/// How many rows and columns a table has, how many lines its body, and the path that draws it.
+#[derive(Debug, Clone, Copy)]
+pub(crate) struct Shape {
+    pub(crate) rows: usize,
+    pub(crate) columns: usize,
+    pub(crate) height: usize,
+    pub(crate) path: Path,
+}
+
+/// A table printer over records that can be read at any place, a dimension that gives the sizes of
+/// columns and rows, and colours of cells.
+///
+/// The table is that of its parts: the rows and columns of the records, the widths and heights of
+/// the dimension, what the configuration was told, and the colours.
+#[derive(Debug, Clone, Drop)]
+pub struct PeekableGrid<R, G, D, C> {
+    pub(crate) records: R,
+    pub(crate) config: G,
+    pub(crate) dimension: D,
+    pub(crate) colors: C,
+}
+
+impl<R, G, D, C> PeekableGrid<R, G, D, C> {
+    ghost use Rattle.std.specs.Prelude.{◌≡◌};
+    ghost use Rattle.pg_peekable.specs.Grids.{peekable_parts};
+
+    /// A grid of these parts.
+    pub fn new(records: R, config: G, dimension: D, colors: C) -> PeekableGrid<R, G, D, C>
+        ensures { peekable_parts result ≡ (records, config, dimension, colors) }
+    {
+        PeekableGrid {
+            records,
+            config,
+            dimension,
+            colors,
+        }
+    }
+}
+
+impl<'a, R, D, C, B> PeekableGrid<R, &'a SpannedConfig<B>, D, C>
+where
+    R: PeekableRecords + ExactRecords,
+    D: Dimension,
+    C: Colors,
+    B: Allocator,
+{
+    ghost use Rattle.std.specs.Prelude.{◌≡◌, ◌<◌, ◌==◌, ◌++◌, ◌↔◌, [], Some, None, Err, IsOk, IfOk, OnOk, string_bytes};
+    ghost use Rattle.pg_picture.specs.Appending.{Appends};
+    ghost use Rattle.pg_picture.specs.Fits.{misfit_of};
+    ghost use Rattle.pg_picture.specs.Joined.{joined};
+    ghost use Rattle.pg_picture.specs.Laws.{IsStraight};
+    ghost use Rattle.pg_picture.specs.Sizes.{unless_misfit};
+    ghost use Rattle.pg_picture.specs.Table.{Known};
+    ghost use Rattle.pg_picture.specs.Picture.{picture, picture_lines};
+    ghost use Rattle.pg_peekable.specs.Grids.{drawn, CanDraw, Draws};
+    ghost use Rattle.pg_picture.specs.Printed.{Prints};
+
+    /// Whether everything fits in the table: the condition of `build` and `to_string`, as a test. It
+    /// answers the first thing that doesn't (`pg_picture::fits::Misfit`), and takes no memory.
+    pub fn fits(&self) -> Result<(), Misfit>
+        ensures exact { result ≡ unless_misfit (misfit_of (drawn R.Records D.Dimension C.Colors self.now)) }
+        ensures fits { IsOk result → misfit_of (drawn R.Records D.Dimension C.Colors self.now) ≡ None }
+    {
+        table_fits(&self.records, self.config, &self.dimension)
+    }
+
+    /// Appends the picture of the table, if everything fits in it: `fits`, and then `build`.
+    ///
+    /// A table that doesn't fit is refused with what `fits` answers, and the buffer stays as it was.
+    /// Where memory is refused, the buffer holds a beginning of the picture behind what it held
+    /// before.
+    pub fn print<A: Allocator>(&self, buf: &mut String<A>) -> Result<(), PrintFault>
+        ensures prints { Prints (misfit_of (drawn R.Records D.Dimension C.Colors self.now)) buf.old buf.new result (picture Known (drawn R.Records D.Dimension C.Colors self.now)) }
+        ensures printed { OnOk result (string_bytes buf.new ≡ string_bytes buf.old ++ picture Known (drawn R.Records D.Dimension C.Colors self.now)) }
+        ensures misfit { (m : _) → (result ≡ Err (PrintFault.Misfit m)) ↔ (misfit_of (drawn R.Records D.Dimension C.Colors self.now) ≡ Some m) }
+    {
+        self.fits()?;
+        self.build(buf)?;
+        Ok(())
+    }
+
+    /// The picture of the table as a text of its own, if everything fits in it, as `print` appends it.
+    pub fn text<A: Allocator>(&self, alloc: A) -> Result<String<A>, PrintFault>
+        ensures misfit { (m : _) → (result ≡ Err (PrintFault.Misfit m)) ↔ (misfit_of (drawn R.Records D.Dimension C.Colors self.now) ≡ Some m) }
+        ensures text { IfOk result (λ text. string_bytes text ≡ picture Known (drawn R.Records D.Dimension C.Colors self.now)) }
+    {
+        let mut text = String::new(alloc);
+        self.print(&mut text)?;
+        Ok(text)
+    }
+
+    /// Appends the picture of the table, in which everything fits: [`PeekableGrid::fits`] is the test,
+    /// and [`PeekableGrid::print`] the call that makes it first. A table with no rows or no columns
+    /// appends nothing.
+    ///
+    /// Where each glyph and each fill takes one column, and no glyph of a column line is missing, all
+    /// lines of the body are as wide as the table.
+    ///
+    /// Takes no memory but the buffer's. An error comes only where the buffer's room is too small
+    /// for the picture and it gets no more memory; the buffer then holds a beginning of the picture
+    /// behind what it held before.
+    #[tactic(auto, using(pg_picture::proofs::StraightColumns::is_straight))]
+    pub fn build<A: Allocator>(&self, buf: &mut String<A>) -> Result<(), AllocError>
+        requires fits { misfit_of (drawn R.Records D.Dimension C.Colors self.now) ≡ None }
+        ensures appends { Appends buf.old buf.new result (picture Known (drawn R.Records D.Dimension C.Colors self.now)) }
+        ensures straight { IsStraight (drawn R.Records D.Dimension C.Colors self.now) }
+    {
+        let is_spanned = !self.config.spans().is_empty();
+        let rows = self.records.count_rows();
+        let columns = self.records.count_columns();
+        if rows == 0 || columns == 0 {
+            return Ok(());
+        }
+        self.push_picture(buf, rows, columns, self.path(is_spanned))
+    }
+
+    /// The picture of the table as a text of its own, under the condition of `build`; `text` is the
+    /// call that tests it first. An error comes where no memory is found.
+    pub fn to_string<A: Allocator>(&self, alloc: A) -> Result<String<A>, AllocError>
+        requires fits { misfit_of (drawn R.Records D.Dimension C.Colors self.now) ≡ None }
+        ensures { IfOk result (λ text. string_bytes text ≡ picture Known (drawn R.Records D.Dimension C.Colors self.now)) }
+    {
+        let mut text = String::new(alloc);
+        self.build(&mut text)?;
+        Ok(text)
+    }
+
+    // The picture of a table with rows and columns.
+    fn push_picture<A: Allocator>(
+        &self,
+        buf: &mut String<A>,
+        rows: usize,
+        columns: usize,
+        path: Path,
+    ) -> Result<(), AllocError>
+        requires can { CanDraw (drawn R.Records D.Dimension C.Colors self.now) }
+        requires rows { rows ≡ (drawn R.Records D.Dimension C.Colors self.now).rows }
+        requires columns { columns ≡ (drawn R.Records D.Dimension C.Colors self.now).columns }
+        requires path { Draws path (drawn R.Records D.Dimension C.Colors self.now) }
+        ensures { Appends buf.old buf.new result (joined (picture_lines Known (drawn R.Records D.Dimension C.Colors self.now))) }
+    {
+        let width = full_width(self.config, &self.dimension, columns).unwrap();
+        let height = body_height(self.config, &self.dimension, rows).unwrap();
+        let shape = Shape {
+            rows,
+            columns,
+            height,
+            path,
+        };
+        let is_first = self.config.get_margin().top.size == 0;
+        push_top_margin(buf, self.config, width)?;
+        self.push_kept_body(buf, shape, is_first)?;
+        push_bottom_margin(buf, self.config, width, is_first && height == 0)
+    }
+}

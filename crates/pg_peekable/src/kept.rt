@@ -1,0 +1,229 @@
+//! What is kept of cells from one of their lines to the next, so that it isn't worked out again.
+
+ghost use Rattle.std.specs.Prelude.{◌≡◌, ◌≤◌, ◌<◌, ℕ, List, IfSome, IsTrue, length, slice_index_or, [], None};
+ghost use Rattle.pg_layout.specs.LineCursor.{StandsIn, line_number};
+ghost use Rattle.pg_layout.specs.Text.{lines_of};
+ghost use Rattle.pg_picture.specs.Cells.{line_if};
+ghost use Rattle.pg_picture.specs.Table.{Table};
+ghost use Rattle.pg_peekable.specs.Kept.{Reads, IsReading, IsRectangle, AreKept};
+
+use pg_layout::{LineCursor, Position};
+use pg_picture::{CellPlace, SeparatorKeeper};
+
+/// Where the lines of a text stand in their cell, and how far the text was read.
+#[derive(Debug, Clone, Copy)]
+pub(super) struct Reading {
+    pub(super) place: CellPlace,
+    // The number of the line at which the cursor stands.
+    next: usize,
+    cursor: LineCursor,
+}
+
+impl Reading {
+    // Nothing was read of a text that stands at this place.
+    pub(super) fn new(place: CellPlace) -> Reading
+        ensures place { result.place ≡ place }
+        ensures reads { (text : List ℕ) → Reads result text }
+    {
+        Reading {
+            place,
+            next: 0,
+            cursor: LineCursor::new(),
+        }
+    }
+
+    // The line of this number, or an empty one. It is found at once where it is the next one.
+    pub(super) fn line_if<'t>(&mut self, text: &'t str, line: Option<usize>) -> &'t str
+        requires reads { Reads self.old text.now }
+        requires there { IfSome line (λ k. k < length (lines_of text.now)) }
+        ensures line { result.now ≡ line_if text.now line }
+        ensures reads { Reads self.new text.now }
+        ensures place { self.new.place ≡ self.old.place }
+    {
+        match line {
+            Some(line) => self.line(text, line),
+            None => "",
+        }
+    }
+
+    // The line of this number.
+    fn line<'t>(&mut self, text: &'t str, line: usize) -> &'t str
+        requires reads { Reads self.old text.now }
+        requires there { line < length (lines_of text.now) }
+        ensures line { result.now ≡ slice_index_or (lines_of text.now) line [] }
+        ensures reads { Reads self.new text.now }
+        ensures place { self.new.place ≡ self.old.place }
+    {
+        let mut cursor = self.cursor_at(text, line);
+        let found = cursor.next_line(text).unwrap_or("");
+        self.cursor = cursor;
+        self.next = line + 1;
+        found
+    }
+
+    // A cursor at the line of this number: this one, moved on, or a new one for an earlier line.
+    fn cursor_at(&self, text: &str, line: usize) -> LineCursor
+        requires reads { Reads self.now text.now }
+        requires there { line < length (lines_of text.now) }
+        ensures stands { StandsIn result text.now }
+        ensures number { line_number result text.now ≡ line }
+    {
+        if line < self.next {
+            return moved(LineCursor::new(), text, 0, line);
+        }
+        moved(self.cursor, text, self.next, line)
+    }
+}
+
+// A cursor at one line of a text, moved to another that isn't before it.
+fn moved(mut cursor: LineCursor, text: &str, from: usize, to: usize) -> LineCursor
+    requires stands { StandsIn cursor text.now }
+    requires from { line_number cursor text.now ≡ from }
+    requires order { from ≤ to }
+    requires there { to < length (lines_of text.now) }
+    ensures stands { StandsIn result text.now }
+    ensures number { line_number result text.now ≡ to }
+{
+    for _ in from..to {
+        let _line = cursor.next_line(text);
+    }
+    cursor
+}
+
+/// A cell of so many columns and lines whose text was read as far as its last line needed.
+#[derive(Debug, Clone, Copy)]
+pub(super) struct KeptCell {
+    corner: Position,
+    width: usize,
+    height: usize,
+    reading: Reading,
+}
+
+impl KeptCell {
+    // Whether it is the cell of this place, and as large as this.
+    fn is_for(&self, corner: Position, width: usize, height: usize) -> bool
+        ensures { IsTrue result → (self.now.corner ≡ corner) × (self.now.width ≡ width) × (self.now.height ≡ height) }
+    {
+        self.corner.row == corner.row
+            && self.corner.col == corner.col
+            && self.width == width
+            && self.height == height
+    }
+}
+
+/// The rectangle of a cell: how many columns and lines it has, and how many of these stand above a
+/// row.
+#[derive(Debug, Clone, Copy)]
+pub(super) struct KeptRectangle {
+    pub(super) corner: Position,
+    pub(super) width: usize,
+    pub(super) height: usize,
+    pub(super) row: usize,
+    pub(super) above: usize,
+}
+
+impl KeptRectangle {
+    // Whether it is the rectangle of this place, and its row isn't below this one.
+    fn is_for(&self, corner: Position, row: usize) -> bool
+        ensures { IsTrue result → (self.now.corner ≡ corner) × (self.now.row ≤ row) }
+    {
+        self.corner.row == corner.row && self.corner.col == corner.col && self.row <= row
+    }
+}
+
+/// No slot of so many columns holds anything.
+pub(super) fn no_slots<T: Copy, const COLUMNS: usize>() -> [Option<T>; COLUMNS]
+    ensures { (column : ℕ) → slice_index_or result column None ≡ None }
+{
+    [None; COLUMNS]
+}
+
+/// What is kept of the cells whose left column has a slot, at most one for each column, and the text
+/// of a separator between two rows, if all of these are equal.
+#[derive(Drop)]
+pub(super) struct KeptCells<'k> {
+    cells: &'k mut [Option<KeptCell>],
+    rectangles: &'k mut [Option<KeptRectangle>],
+    pub(super) separator: SeparatorKeeper<'k>,
+}
+
+impl<'k> KeptCells<'k> {
+    // Nothing is kept in these slots, which are as many as there are columns of which it may be,
+    // and in the room of the separator.
+    #[inline(always)]
+    pub(super) fn new(
+        cells: &'k mut [Option<KeptCell>],
+        rectangles: &'k mut [Option<KeptRectangle>],
+        separator: &'k mut [u8],
+    ) -> KeptCells<'k>
+        requires cells { (column : ℕ) → slice_index_or cells.old column None ≡ None }
+        requires rectangles { (column : ℕ) → slice_index_or rectangles.old column None ≡ None }
+        ensures { (t : Table) → AreKept t result }
+    {
+        KeptCells {
+            cells,
+            rectangles,
+            separator: SeparatorKeeper::new(separator),
+        }
+    }
+
+    // How far the text of a cell of this size was read, if that is kept.
+    pub(super) fn reading(&self, corner: Position, width: usize, height: usize) -> Option<Reading>
+        ensures { (t : Table) → AreKept t self.now → IfSome result (IsReading t corner width height) }
+    {
+        if corner.col >= self.cells.len() {
+            return None;
+        }
+        let cell = self.cells[corner.col]?;
+        if cell.is_for(corner, width, height) {
+            Some(cell.reading)
+        } else {
+            None
+        }
+    }
+
+    // Keeps how far the text of a cell of this size was read.
+    pub(super) fn keep_reading(
+        &mut self,
+        corner: Position,
+        width: usize,
+        height: usize,
+        reading: Reading,
+    )
+        ensures { (t : Table) → AreKept t self.old → IsReading t corner width height reading → AreKept t self.new }
+    {
+        if corner.col < self.cells.len() {
+            self.cells[corner.col] = Some(KeptCell {
+                corner,
+                width,
+                height,
+                reading,
+            });
+        }
+    }
+
+    // The rectangle of a place and its lines above this row or an earlier one, if that is kept.
+    pub(super) fn rectangle(&self, corner: Position, row: usize) -> Option<KeptRectangle>
+        ensures of { IfSome result (λ kept. (kept.corner ≡ corner) × (kept.row ≤ row)) }
+        ensures is { (t : Table) → AreKept t self.now → IfSome result (IsRectangle t) }
+    {
+        if corner.col >= self.rectangles.len() {
+            return None;
+        }
+        let rectangle = self.rectangles[corner.col]?;
+        if rectangle.is_for(corner, row) {
+            Some(rectangle)
+        } else {
+            None
+        }
+    }
+
+    // Keeps a rectangle.
+    pub(super) fn keep_rectangle(&mut self, rectangle: KeptRectangle)
+        ensures { (t : Table) → AreKept t self.old → IsRectangle t rectangle → AreKept t self.new }
+    {
+        if rectangle.corner.col < self.rectangles.len() {
+            self.rectangles[rectangle.corner.col] = Some(rectangle);
+        }
+    }
+}

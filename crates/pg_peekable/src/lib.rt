@@ -1,0 +1,13 @@
+//! The looked-up printer: it reads its records at any place, and draws cells over rows and columns.
+#![tactic(auto)]
+
+mod body;
+mod grid;
+mod kept;
+mod path;
+mod rows;
+mod separators;
+mod slots;
+mod spanned;
+
+pub use crate::grid::PeekableGrid;
