@@ -1,6 +1,6 @@
 //! Laws of what a configuration answers. The functions do nothing: their contracts are the laws.
 
-ghost use Rattle.pg_config.specs.Laws.{TheLatestCounts, ABorderOverridesItsPlaces, ABorderIsAnswered, ABorderOfColorsIsAnswered, RowLineHorizontals, RowLineCrossings, RowLineVerticals, RowLinesStay, ColumnLinesStay, AStartIsAnswered, AnEndIsAnswered, AnOffsetMarksItsPlace, AColumnSpanIsAnswered, ARowSpanIsAnswered, WhatWasSetIsTold, NothingWasSetAtFirst};
+ghost use Rattle.pg_laws.specs.SettingLaws.{TheLatestCounts, ABorderOverridesItsPlaces, ABorderIsAnswered, ABorderOfColorsIsAnswered, RowLineHorizontals, RowLineCrossings, RowLineVerticals, RowLinesStay, ColumnLinesStay, AStartIsAnswered, AnEndIsAnswered, AnOffsetMarksItsPlace, AColumnSpanIsAnswered, ARowSpanIsAnswered, WhatWasSetIsTold, NothingWasSetAtFirst};
 
 /// After a setter, the places that its entity holds have the new value, and all others what they
 /// had before.

@@ -17,7 +17,8 @@ use Rattle.pg_config.specs.Overrides.{Overrides, with_border, with_row_line, hor
 use Rattle.pg_config.specs.Offsets.{Offsets, offset_at, with_offset, lookup_offset, is_offset_at}
 use Rattle.pg_config.specs.Spans.{Span, span_key, rect_rows, rect_columns, with_column_span, with_row_span, unless_one, get_column_span, get_row_span, in_span, owner, is_visible}
 use Rattle.pg_config.specs.Config.{Config, missing_if, has_horizontal, has_vertical, get_horizontal, get_vertical, get_intersection, get_horizontal_color, get_vertical_color, get_intersection_color, has_padding_color, has_justification, has_offset_chars, default_config}
-use Rattle.pg_config.specs.Setters.{Setter, set_padding_color, set_justification, set_justification_color, set_borders_color, set_border_color, set_horizontal_char, set_horizontal_color, set_vertical_char, set_vertical_color, after}
+use Rattle.pg_config.specs.Lines.{SameForRows, SameForColumns}
+use Rattle.pg_laws.specs.Setters.{Setter, set_padding_color, set_justification, set_justification_color, set_borders_color, set_border_color, set_horizontal_char, set_horizontal_color, set_vertical_char, set_vertical_color, after}
 
 -- ---- settings by entity
 
@@ -91,22 +92,6 @@ pub record BorderColors (p : Position) (b : Border Color) (old new : Config) (q 
 
 abbrev pub ABorderOfColorsIsAnswered : Type 0
 ABorderOfColorsIsAnswered = (p : Position) (b : Border Color) (config : Config) (q : Position) (rows columns : ℕ) → BorderColors p b config (record config { color_overrides = with_border p b config.color_overrides; border_colored = true }) q rows columns
-
--- tables of m and of n rows have the same at p
-pub record SameForRows (config : Config) (p : Position) (columns m n : ℕ) : Type 0 where
-  pub line : has_horizontal config p.row m ≡ has_horizontal config p.row n
-  pub horizontal : get_horizontal config p m ≡ get_horizontal config p n
-  pub crossing : get_intersection config p m columns ≡ get_intersection config p n columns
-  pub horizontal_color : get_horizontal_color config p m ≡ get_horizontal_color config p n
-  pub crossing_color : get_intersection_color config p m columns ≡ get_intersection_color config p n columns
-
--- tables of m and of n columns have the same at p
-pub record SameForColumns (config : Config) (p : Position) (rows m n : ℕ) : Type 0 where
-  pub line : has_vertical config p.col m ≡ has_vertical config p.col n
-  pub vertical : get_vertical config p m ≡ get_vertical config p n
-  pub crossing : get_intersection config p rows m ≡ get_intersection config p rows n
-  pub vertical_color : get_vertical_color config p m ≡ get_vertical_color config p n
-  pub crossing_color : get_intersection_color config p rows m ≡ get_intersection_color config p rows n
 
 -- A row line before the last one doesn't depend on the number of rows.
 abbrev pub RowLinesStay : Type 0
