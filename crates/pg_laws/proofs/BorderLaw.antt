@@ -11,8 +11,8 @@ use Rattle.pg_layout.specs.Places.{Key, same, value_at, with_some, has_first}
 use Rattle.pg_layout.specs.Position.{is_at}
 use Rattle.pg_config.specs.Overrides.{Overrides, with_border, has_second, horizontal_override, vertical_override, crossing_override, overrides_row, overrides_column}
 use Rattle.pg_config.specs.Config.{Config, missing_if, has_horizontal, has_vertical, get_horizontal, get_vertical, get_intersection, get_horizontal_color, get_vertical_color, get_intersection_color}
-use Rattle.pg_laws.specs.SettingLaws.{border_horizontal, border_vertical, border_crossing, border_row, border_column, ABorderOverridesItsPlaces, ABorderIsAnswered, ABorderOfColorsIsAnswered}
 use Rattle.pg_config.proofs.Lookups.{or_swap, value_at-with_some, any-with_some}
+use Rattle.pg_laws.specs.SettingLaws.{border_horizontal, border_vertical, border_crossing, border_row, border_column, ABorderOverridesItsPlaces, ABorderIsAnswered, ABorderOfColorsIsAnswered}
 
 -- ---- overrides
 

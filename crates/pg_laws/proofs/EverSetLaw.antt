@@ -13,9 +13,9 @@ use Rattle.pg_layout.specs.Places.{Key, same, before, with_place}
 use Rattle.pg_config.specs.Settings.{Settings, has_some, next_number, with_setting, is_set}
 use Rattle.pg_config.specs.Offsets.{Offsets, with_offset, has_offsets}
 use Rattle.pg_config.specs.Config.{Config, default_config, has_padding_color, has_justification, has_offset_chars}
+use Rattle.pg_config.proofs.Lookups.{or_swap}
 use Rattle.pg_laws.specs.Setters.{Setter, set_padding_color, set_justification, set_justification_color, set_borders_color, set_border_color, set_horizontal_char, set_horizontal_color, set_vertical_char, set_vertical_color, after}
 use Rattle.pg_laws.specs.SettingLaws.{sets_padding_color, sets_justification, sets_offset, sets_border_color, WhatWasSetIsTold, NothingWasSetAtFirst}
-use Rattle.pg_config.proofs.Lookups.{or_swap}
 
 some-with_place : {V : Type 0} (k : Key) (v : V) (es : List (Key × V)) → has_some (with_place k v es) ≡ true
 some-with_place k v [] = refl

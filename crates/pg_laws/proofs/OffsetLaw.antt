@@ -9,8 +9,8 @@ use Rattle.pg_layout.specs.Places.{same, begins_pair, has_pair}
 use Rattle.pg_layout.specs.Position.{is_at}
 use Rattle.pg_layout.proofs.PlacesLookups.{value_at-with_place}
 use Rattle.pg_config.specs.Offsets.{with_offset, lookup_offset, is_offset_at}
-use Rattle.pg_laws.specs.SettingLaws.{AStartIsAnswered, AnEndIsAnswered, AnOffsetMarksItsPlace}
 use Rattle.pg_config.proofs.Lookups.{or_swap, any-with_place}
+use Rattle.pg_laws.specs.SettingLaws.{AStartIsAnswered, AnEndIsAnswered, AnOffsetMarksItsPlace}
 
 pub start_answers : {V : Type 0} → AStartIsAnswered V
 unfolding lookup_offset with_offset

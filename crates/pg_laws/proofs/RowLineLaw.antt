@@ -5,8 +5,8 @@ use Rattle.std.proofs.lemmas.Bool.{cases_Bool}
 use Rattle.std.proofs.lemmas.Bool.Decides.{nat_tests}
 use Rattle.pg_layout.specs.Places.{Key, same, value_at}
 use Rattle.pg_config.specs.Overrides.{with_row, line_crossing, with_row_line, horizontal_override, vertical_override, crossing_override}
-use Rattle.pg_laws.specs.SettingLaws.{RowLineHorizontals, RowLineCrossings, RowLineVerticals}
 use Rattle.pg_config.proofs.Lookups.{value_at-with_some}
+use Rattle.pg_laws.specs.SettingLaws.{RowLineHorizontals, RowLineCrossings, RowLineVerticals}
 
 module _ {V : Type 0} where
   -- a place of the row that is among its first ones holds its new value if there is one

@@ -9,8 +9,8 @@ use Rattle.pg_layout.specs.Places.{Key, same, before, with_place, without_place,
 use Rattle.pg_layout.specs.Position.{at, is_at}
 use Rattle.pg_layout.proofs.PlacesLookups.{value_at-with_place, value_at-without_place}
 use Rattle.pg_config.specs.Spans.{Span, span_key, corner, size_of, rect_rows, rect_columns, with_size, with_column_span, with_row_span, unless_one, get_column_span, get_row_span, in_span, corner_or, owner, is_covered_by_column, is_covered_by_row, is_covered_by_both, is_visible}
-use Rattle.pg_laws.specs.SettingLaws.{others, is_held, is_held_before, AnswersSpan, AColumnSpanIsAnswered, ARowSpanIsAnswered}
 use Rattle.pg_config.proofs.Lookups.{or_swap}
+use Rattle.pg_laws.specs.SettingLaws.{others, is_held, is_held_before, AnswersSpan, AColumnSpanIsAnswered, ARowSpanIsAnswered}
 
 abbrev Size : Type 0
 Size = ℕ × ℕ
