@@ -102,7 +102,7 @@ fn print_by(
     config: &mut SpannedConfig,
     buf: &mut String,
 ) -> Result<Result<(), StreamFault>, Fail> {
-    tell_all(config, alloc, rows.settings)?;
+    tell_all(config, rows.settings)?;
     let dimension = narrow(alloc)?;
     let texts = rows_of(alloc, rows.texts)?;
     let stream = match RowStream::new(alloc, config, &dimension, &NoColors, COLUMNS, rows.hint) {
@@ -442,7 +442,7 @@ fn assert_each_refused(
 fn refused_memory_leaves_a_beginning_of_the_rows(rt: HostRuntime) -> Result<(), Fail> {
     for is_pushed in [true, false] {
         let mut config = SpannedConfig::new(rt.alloc());
-        let is_told = tell_all(&mut config, rt.alloc(), &[Setting::Ascii]);
+        let is_told = tell_all(&mut config, &[Setting::Ascii]);
         let refused = assert_each_refused(&rt, rt.alloc(), &config, is_pushed);
         drop(config);
         refused?;
@@ -478,7 +478,7 @@ fn finish_at_once(
     hint: Option<usize>,
     buf: &mut String,
 ) -> Result<(), Fail> {
-    tell_all(config, alloc, &framed())?;
+    tell_all(config, &framed())?;
     let dimension = narrow(alloc)?;
     let made: Result<Printer<'_>, StreamFault> = RowPrinter::try_new(
         alloc, config, &dimension, &NoColors, COLUMNS, hint,
