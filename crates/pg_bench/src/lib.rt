@@ -32,6 +32,4 @@ mod span_fits;
 #[cfg(test)]
 mod spans;
 #[cfg(test)]
-mod streams;
-#[cfg(test)]
 mod texts;

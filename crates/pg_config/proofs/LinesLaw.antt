@@ -2,10 +2,11 @@
 use Rattle.std.proofs.Common.{◌≡◌, ℕ, ◌<◌, Bool, true, false, ◌||◌, ◌==◌, nat_lt, refl, ap, arith}
 use Rattle.std.proofs.lemmas.Bool.Decides.{nat_tests}
 use Rattle.pg_layout.specs.declared.borders.Borders.{Borders}
+use Rattle.pg_layout.specs.declared.position.Position.{Position}
 use Rattle.pg_layout.specs.Borders.{ends, has_side, horizontal_glyph, vertical_glyph, crossing_glyph}
 use Rattle.pg_config.specs.Overrides.{overrides_row, overrides_column}
 use Rattle.pg_config.specs.Config.{Config, has_horizontal, has_vertical, get_horizontal, get_vertical, get_intersection, get_horizontal_color, get_vertical_color, get_intersection_color}
-use Rattle.pg_config.specs.Laws.{RowLinesStay, ColumnLinesStay}
+use Rattle.pg_config.specs.Lines.{SameForRows, SameForColumns}
 
 -- a number below the last isn't the last
 below : (i n : ℕ) → i < n → (i == n) ≡ false
@@ -46,7 +47,7 @@ has_vertical-stays : (config : Config) (c m n : ℕ) → c < m → c < n → has
 unfolding has_vertical
 has_vertical-stays config c m n h k = ap (λ b. b || overrides_column config.overrides c) (has_side-stays _ _ _ c m n h k)
 
-pub rows_stay : RowLinesStay
+pub rows_stay : (config : Config) (p : Position) (columns m n : ℕ) → p.row < m → p.row < n → SameForRows config p columns m n
 unfolding get_horizontal get_intersection get_horizontal_color get_intersection_color
 rows_stay config p columns m n h k = record {
   line = has_horizontal-stays config p.row m n h k;
@@ -56,7 +57,7 @@ rows_stay config p columns m n h k = record {
   crossing_color = rw (crossing_glyph-stays_rows config.border_colors p.row p.col columns m n h k) refl;
 }
 
-pub columns_stay : ColumnLinesStay
+pub columns_stay : (config : Config) (p : Position) (rows m n : ℕ) → p.col < m → p.col < n → SameForColumns config p rows m n
 unfolding get_vertical get_intersection get_vertical_color get_intersection_color
 columns_stay config p rows m n h k = record {
   line = has_vertical-stays config p.col m n h k;

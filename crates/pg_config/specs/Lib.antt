@@ -5,5 +5,4 @@ pub mod Offsets
 pub mod Spans
 pub mod Config
 pub mod CompactConfig
-pub mod Setters
-pub mod Laws
+pub mod Lines

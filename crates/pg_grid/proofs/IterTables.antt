@@ -9,7 +9,7 @@ use Rattle.pg_layout.specs.Records.{AlwaysGives, text_at}
 use Rattle.pg_layout.specs.Text.{Text}
 use Rattle.pg_config.specs.Config.{Config}
 use Rattle.pg_config.specs.Spans.{StandAtPlaces}
-use Rattle.pg_picture.specs.FitLaws.{TableFits}
+use Rattle.pg_picture.specs.Fitting.{TableFits}
 use Rattle.pg_picture.specs.Fits.{misfit_of}
 use Rattle.pg_picture.specs.Picture.{picture}
 use Rattle.pg_picture.specs.Table.{Table, is_empty}

@@ -2,7 +2,7 @@
 use Rattle.std.specs.Prelude.{◌≡◌, ◌⊎◌, ℕ, Option, IsSome}
 use Rattle.std.specs.Borrow.{Bor}
 use Rattle.pg_config.specs.Config.{Config}
-use Rattle.pg_picture.specs.Laws.{IsFromStart}
+use Rattle.pg_picture.specs.Plain.{IsFromStart}
 use Rattle.pg_picture.specs.Picture.{picture}
 use Rattle.pg_picture.specs.Table.{Table, Known}
 use Rattle.pg_stream.specs.Printing.{hint_of}

@@ -47,7 +47,7 @@ where
     ghost use Rattle.std.specs.Prelude.{◌≡◌, true, None, IsOk, IfOk, string_bytes};
     ghost use Rattle.pg_picture.specs.Appending.{AppendsOrNothing};
     ghost use Rattle.pg_picture.specs.Fits.{misfit_of};
-    ghost use Rattle.pg_picture.specs.Laws.{IsStraight};
+    ghost use Rattle.pg_picture.specs.Straight.{IsStraight};
     ghost use Rattle.pg_picture.specs.Picture.{picture};
     ghost use Rattle.pg_picture.specs.Table.{is_empty};
     ghost use Rattle.pg_grid.specs.IterGrids.{MayBeRead, streamed, told};

@@ -9,7 +9,7 @@ use Rattle.pg_config.specs.Config.{Config, has_padding_color, has_justification,
 use Rattle.pg_config.specs.Spans.{Span, StandAtPlaces, begins_above, is_left}
 use Rattle.pg_picture.specs.Grids.{table_of_parts}
 use Rattle.pg_picture.specs.Table.{Table, table_body}
-use Rattle.pg_picture.specs.FitLaws.{TableFits}
+use Rattle.pg_picture.specs.Fitting.{TableFits}
 use Rattle.pg_layout.specs.declared.records.Records as records
 use Rattle.pg_layout.specs.declared.dimension.Dimension as dimension
 use Rattle.pg_layout.specs.declared.colors.Colors as colors

@@ -57,7 +57,7 @@ where
     ghost use Rattle.pg_picture.specs.Appending.{Appends};
     ghost use Rattle.pg_picture.specs.Fits.{misfit_of};
     ghost use Rattle.pg_picture.specs.Joined.{joined};
-    ghost use Rattle.pg_picture.specs.Laws.{IsStraight};
+    ghost use Rattle.pg_picture.specs.Straight.{IsStraight};
     ghost use Rattle.pg_picture.specs.Sizes.{unless_misfit};
     ghost use Rattle.pg_picture.specs.Table.{Known};
     ghost use Rattle.pg_picture.specs.Picture.{picture, picture_lines};

@@ -9,7 +9,6 @@ use Rattle.pg_picture.specs.Joined.{joined, continued}
 use Rattle.pg_picture.specs.Fits.{spans_fit, spans_fit_columns, body_height, totals_fit, cell_fits, owner_fits, places, misfit_of, compact_misfit_of}
 use Rattle.pg_picture.specs.Picture.{top_lines, bottom_lines, body_lines, picture_lines, picture, compact_picture}
 use Rattle.pg_picture.specs.Samples.{plain, bordered}
-use Rattle.pg_picture.specs.CompactSamples.{plain_compact}
 
 unfoldable pub picture_words : Unit {0}
 unfolding config_words joined continued marks_of_row marks_above body marks_within place_of repeated written pieces_width fill style_at trimmed_if kept_lines shown widest shares lines_above inner_width left_share text_line text_height text_top block_line cut with_cuts separator_text rect_marks rect_height rect_width block_at is_inside vertical_at row_part row_line is_covered crossing_at crossing column_items separator_part separator_items total_width full_width margin_line margin_lines is_blank_at side_margin mark_text body_line table_body compact_indent compact_width compact_full_width with_margins between_sides compact_cell_of text_row padding_row main_part parts parts_after separator_row compact_margin row_lines compact_lines spans_fit spans_fit_columns body_height totals_fit cell_fits owner_fits places misfit_of compact_misfit_of
@@ -17,5 +16,5 @@ picture_words = tt
 
 -- `unfolding grid_words` lets it compute a whole picture of a sample.
 unfoldable pub grid_words : Unit {0}
-unfolding picture_words top_lines bottom_lines body_lines picture_lines picture compact_picture plain bordered default_compact plain_compact
+unfolding picture_words top_lines bottom_lines body_lines picture_lines picture compact_picture plain bordered default_compact
 grid_words = tt

@@ -1,5 +1,5 @@
 -- The glyphs of column lines: none where the line isn't there, and one where it is and nothing is missing.
-use Rattle.std.proofs.Common.{◌≡◌, ℕ, ◌≤◌, Bool, true, false, ◌&&◌, ◌||◌, ◌==◌, nat_lt, List, [], ◌∷◌, refl, sym, arith, Option, Some, None, is_some, inl, inr}
+use Rattle.std.proofs.Common.{◌≡◌, ℕ, ◌≤◌, Bool, true, false, ◌&&◌, ◌||◌, ◌==◌, nat_lt, List, [], ◌∷◌, refl, sym, arith, Option, Some, None, IsSome, is_some, inl, inr}
 use Rattle.std.specs.Option.{option_or}
 use Rattle.std.proofs.lemmas.Bool.{cases_Bool, false≢true, or_parts}
 use Rattle.std.proofs.lemmas.Bool.Decides.{nat_tests}
@@ -10,7 +10,8 @@ use Rattle.pg_layout.specs.Places.{Key, same, begins, has_first, value_at}
 use Rattle.pg_layout.specs.Position.{at}
 use Rattle.pg_config.specs.Overrides.{vertical_override, crossing_override, overrides_column, has_second}
 use Rattle.pg_config.specs.Config.{Config, missing_if, has_horizontal, has_vertical, get_vertical, get_intersection}
-use Rattle.pg_picture.specs.Laws.{MissingGlyphFillsGaps}
+use Rattle.pg_picture.specs.Table.{Table}
+use Rattle.pg_picture.specs.Straight.{HasNoGaps}
 
 -- ---- glyphs that stand in for missing ones
 
@@ -26,7 +27,7 @@ missing-some config there missing h = rw h missing
 both : (a b : Bool) → a ≡ true → b ≡ true → (a && b) ≡ true
 both a b h k = rw (h, k) refl
 
-pub missing_glyph_fills_gaps : MissingGlyphFillsGaps
+pub missing_glyph_fills_gaps : (t : Table) → IsSome t.config.missing → HasNoGaps t
 unfolding get_vertical get_intersection
 missing_glyph_fills_gaps t missing = record {
   verticals = λ r c h k there.

@@ -9,7 +9,7 @@ use Rattle.pg_config.specs.Config.{get_horizontal}
 use Rattle.pg_config.specs.Spans.{size_of, rect_rows, rect_columns, owner, is_left, same_owner, begins_above}
 use Rattle.pg_picture.specs.Marks.{Mark, line, place_of}
 use Rattle.pg_picture.specs.Table.{Table, rect_marks, rect_height, rect_width, block_at, row_part, vertical, is_inside, is_covered, crossing, crossing_at, column_items, horizontal_items}
-use Rattle.pg_picture.specs.Laws.{cell_line}
+use Rattle.pg_picture.specs.Plain.{cell_line}
 use Rattle.pg_picture.proofs.MarksOfRectangles.{marks_within-run, run_of, row_lines, rows_from}
 
 -- the index of line i among the lines of its row

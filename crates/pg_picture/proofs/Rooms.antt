@@ -9,9 +9,9 @@ use Rattle.pg_config.specs.Spans.{owner}
 use Rattle.pg_picture.specs.declared.fits.Misfit.{Misfit}
 use Rattle.pg_picture.specs.declared.fits.Misfit.TheVariants.{Spans, Totals, Room}
 use Rattle.pg_picture.specs.Pieces.{style_at}
-use Rattle.pg_picture.specs.Table.{Table, rect_marks, rect_height, rect_width, total_width, full_width}
-use Rattle.pg_picture.specs.Fits.{spans_fit, body_height, totals_fit, cell_fits, owner_fits, places, misfit_of}
-use Rattle.pg_picture.specs.FitLaws.{TableFits, ColorsDontMatter}
+use Rattle.pg_picture.specs.Table.{Table}
+use Rattle.pg_picture.specs.Fits.{spans_fit, totals_fit, cell_fits, owner_fits, places, misfit_of}
+use Rattle.pg_picture.specs.Fitting.{TableFits}
 use Rattle.pg_picture.specs.Sizes.{first_misfit, row_places, places_from}
 use Rattle.pg_picture.proofs.PlainTables.{rect_width_plain, rect_height_plain}
 
@@ -98,6 +98,26 @@ module _ (t : Table) where
         ]
       ]
 
+  -- where each place has room, no place of a row misfits, and none of all rows
+  module _ (rooms : (r c : ℕ) → r < t.rows → c < t.columns → owner_fits t (at r c) ≡ true) where
+    no_misfit_in_row : (r a k : ℕ) → r < t.rows → a + k ≤ t.columns → first_misfit t (map (at r) (range_with_len a k)) ≡ None
+    no_misfit_in_row r a zero h l = refl
+    no_misfit_in_row r a (suc k) h l = misfit_later (at r a) (map (at r) (range_with_len (a + 1) k)) (rooms r a h (omega (arith, l))) ∙ no_misfit_in_row r (a + 1) k h (omega (arith, l))
+
+    no_misfit_in_rows : (a k : ℕ) → a + k ≤ t.rows → first_misfit t (flat_map (λ r. map (at r) (range_with_len 0 t.columns)) (range_with_len a k)) ≡ None
+    no_misfit_in_rows a zero l = refl
+    no_misfit_in_rows a (suc k) l =
+        misfit_after (map (at a) (range_with_len 0 t.columns)) (flat_map (λ r. map (at r) (range_with_len 0 t.columns)) (range_with_len (a + 1) k)) (no_misfit_in_row a 0 t.columns (omega (arith, l)) (omega arith))
+        ∙ no_misfit_in_rows (a + 1) k (omega (arith, l))
+
+  pub fitting_tables_have_none : TableFits t → misfit_of t ≡ None
+  unfolding misfit_of places
+  fitting_tables_have_none fit =
+      elim (cases_Bool ((t.rows == 0) || (t.columns == 0))) [
+        | inl y ↦ rw y refl
+        | inr n ↦ rw (n, fit.spans, fit.totals) (no_misfit_in_rows fit.rooms 0 t.rows (omega arith))
+      ]
+
   own_plain : (p : Position) → t.config.spans ≡ [] → is_at (owner t.config.spans p.row p.col) p.row p.col ≡ true
   unfolding owner
   own_plain p none = let own : is_at (at p.row p.col) p.row p.col ≡ true = grind (arith, nat_tests) in subst (λ spans. is_at (owner spans p.row p.col) p.row p.col ≡ true) (sym none) own
@@ -148,7 +168,3 @@ module _ (t : Table) where
   misfit_of-rooms size spans totals =
       let z : t.rows - 0 ≡ t.rows = omega arith in
       rw (size, spans, totals, z) refl
-
-pub misfit_of-colors : ColorsDontMatter
-unfolding misfit_of owner_fits rect_width rect_height rect_marks totals_fit full_width total_width body_height
-misfit_of-colors t color = refl

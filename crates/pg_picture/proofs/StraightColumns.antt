@@ -22,7 +22,7 @@ use Rattle.pg_picture.specs.Marks.{Mark, sep, line, only_if, place_of}
 use Rattle.pg_picture.specs.Pieces.{Item, spaces, block, fill, style_at, pieces_width, piece_width}
 use Rattle.pg_picture.specs.Table.{Table, Hint, rect_width, rect_height, block_at, is_inside, is_covered, vertical, vertical_at, row_part, row_line, crossing_at, crossing_item, crossing, border_items, horizontal_items, column_items, separator_part, separator_items, total_width, full_width, table_body, rect_marks, is_blank_at, side_margin, margin_line}
 use Rattle.pg_picture.specs.Fits.{all_apart, span_fits_columns, span_fits, spans_fit, spans_fit_columns, cell_fits, misfit_of}
-use Rattle.pg_picture.specs.Laws.{IsNarrow, CellsFit, HasNarrowGlyphs, HasNoGaps, item_width, mark_width, body_line_width, ColumnsAreStraight, IsStraight, MarginsAreStraight}
+use Rattle.pg_picture.specs.Straight.{IsNarrow, CellsFit, HasNarrowGlyphs, HasNoGaps, HasNarrowMargins, HasStraightLines, HasStraightMargins, item_width, mark_width, body_line_width, IsStraight}
 use Rattle.pg_picture.proofs.Rooms.{fits}
 use Rattle.pg_picture.proofs.SumsOfSizes.{sum_by-from_more}
 use Rattle.pg_picture.proofs.Owners.{HasOwners, apart_from, owners_of, owner-own}
@@ -219,7 +219,7 @@ module _ (t : Table) (fit : CellsFit t) (narrow : HasNarrowGlyphs t) (whole : Ha
     horizontals = λ r c h k. horizontal-width t.config (at r c) t.rows (t.width c) (get_horizontal t.config (at r c) t.rows) (narrow.horizontals r c h k) (λ i. narrow.horizontal_offsets r c i h k);
   }
 
-pub columns_are_straight : ColumnsAreStraight
+pub columns_are_straight : (t : Table) → CellsFit t → HasNarrowGlyphs t → HasNoGaps t → HasStraightLines t
 unfolding table_body
 columns_are_straight t fit narrow whole =
     let parts = parts_of t fit narrow whole in
@@ -252,7 +252,7 @@ margin_line-width indent (End n) color w narrow =
     let rest = fill 32 (min n w) None in
     omega (arith, pieces_width-append front rest, pieces_width-fill indent.fill (w - min n w) color narrow, pieces_width-fill 32 (min n w) None space-narrow)
 
-pub margins_are_straight : MarginsAreStraight
+pub margins_are_straight : (hint : Hint) (t : Table) → CellsFit t → HasNarrowGlyphs t → HasNoGaps t → HasNarrowMargins t → HasStraightMargins hint t
 unfolding full_width
 margins_are_straight hint t fit narrow whole margins =
     let marks : List Mark = table_body t in

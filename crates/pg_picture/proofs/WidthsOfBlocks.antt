@@ -6,7 +6,7 @@ use Rattle.pg_layout.specs.Colors.{Color}
 use Rattle.pg_layout.specs.Text.{Text, width_of}
 use Rattle.pg_picture.specs.Pieces.{Style, Piece, words, piece_width, pieces_width, fill, shares, inner_width, shown, widest, left_share, line_with, text_line, text_top, text_height, block_line}
 use Rattle.pg_picture.specs.Fits.{cell_fits}
-use Rattle.pg_picture.specs.Laws.{IsNarrow, HasNarrowFills}
+use Rattle.pg_picture.specs.Straight.{IsNarrow, HasNarrowFills}
 use Rattle.pg_picture.proofs.PlacesOfTexts.{left_share-le, shown-le-widest, cell_fits-width}
 
 pub pieces_width-append : (xs ys : List Piece) → pieces_width (xs ++ ys) ≡ pieces_width xs + pieces_width ys

@@ -8,12 +8,12 @@ pub mod SpansByColumns
 pub mod Joined
 pub mod Cells
 pub mod Sizes
-pub mod FitLaws
-pub mod Laws
+pub mod Fitting
+pub mod Straight
+pub mod Plain
 pub mod Picture
 pub mod Samples
 pub mod CompactSizes
-pub mod CompactSamples
 pub mod Rectangles
 pub mod KeptSeparators
 pub mod Grids

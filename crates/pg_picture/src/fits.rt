@@ -4,7 +4,6 @@ ghost use Rattle.std.specs.Prelude.{Some};
 ghost use Rattle.pg_picture.specs.Fits.{misfit_text};
 
 mod compact;
-mod laws;
 mod rectangle;
 mod room;
 mod spans;
@@ -12,7 +11,6 @@ mod table;
 mod totals;
 
 pub use crate::fits::compact::{compact_fits, compact_full_width};
-pub use crate::fits::laws::{heights_are_lines, no_misfit_means_fits, spans_fit_by_places};
 pub use crate::fits::rectangle::{height_of_rows, rect_height, rect_width, width_of_columns};
 pub use crate::fits::room::cell_fits;
 pub(crate) use crate::fits::room::text_fits;

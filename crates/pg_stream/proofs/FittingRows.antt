@@ -6,7 +6,7 @@ use Rattle.pg_layout.specs.declared.position.Position.{Position}
 use Rattle.pg_layout.specs.Position.{at, is_at}
 use Rattle.pg_layout.specs.Text.{Text}
 use Rattle.pg_config.specs.Spans.{StandAtPlaces, owner}
-use Rattle.pg_picture.specs.FitLaws.{TableFits}
+use Rattle.pg_picture.specs.Fitting.{TableFits}
 use Rattle.pg_picture.specs.Fits.{spans_fit, body_height, totals_fit, cell_fits}
 use Rattle.pg_picture.specs.Marks.{marks_of_row, marks_above}
 use Rattle.pg_picture.specs.Pieces.{style_at}

@@ -7,7 +7,7 @@ use Rattle.pg_layout.specs.declared.position.Position.{Position}
 use Rattle.pg_layout.specs.Position.{at}
 use Rattle.pg_layout.specs.Text.{Text}
 use Rattle.pg_config.specs.Config.{get_horizontal}
-use Rattle.pg_config.specs.Laws.{SameForRows}
+use Rattle.pg_config.specs.Lines.{SameForRows}
 use Rattle.pg_config.specs.Spans.{owner, is_left, begins_above}
 use Rattle.pg_config.proofs.LinesLaw.{rows_stay}
 use Rattle.pg_picture.specs.Pieces.{Item}

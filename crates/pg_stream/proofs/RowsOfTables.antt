@@ -10,7 +10,7 @@ use Rattle.pg_layout.specs.declared.sides.Offset.TheVariants.{Start, End}
 use Rattle.pg_layout.specs.Position.{at}
 use Rattle.pg_layout.specs.Text.{Text, greatest}
 use Rattle.pg_config.specs.Config.{Config, has_horizontal, get_horizontal}
-use Rattle.pg_config.specs.Laws.{SameForRows}
+use Rattle.pg_config.specs.Lines.{SameForRows}
 use Rattle.pg_config.specs.Spans.{Span, rect_rows, owner, is_left}
 use Rattle.pg_config.proofs.LinesLaw.{rows_stay}
 use Rattle.pg_picture.specs.Marks.{Mark, sep, line, only_if, marks_of_row, marks_above, body}

@@ -9,19 +9,18 @@ use Rattle.pg_layout.specs.Position.{at}
 use Rattle.pg_layout.specs.Records.{text_at}
 use Rattle.pg_layout.specs.Text.{Text}
 use Rattle.pg_config.specs.Config.{Config, get_padding, get_formatting, count_vertical, count_horizontal}
-use Rattle.pg_picture.specs.FitLaws.{TableFits}
+use Rattle.pg_picture.specs.Fitting.{TableFits}
 use Rattle.pg_picture.specs.Fits.{spans_fit, totals_fit, cell_fits, owner_fits, misfit_of, body_height}
 use Rattle.pg_picture.specs.Pieces.{Style, style_at, widest}
 use Rattle.pg_picture.specs.Table.{Table, is_empty, rect_width, rect_height, full_width, total_width}
 use Rattle.pg_picture.proofs.FittingTables.{widths_fit, heights_fit}
 use Rattle.pg_picture.proofs.PlainTables.{rect_width_plain, rect_height_plain}
-use Rattle.pg_picture.proofs.Rooms.{misfit_of-totals}
+use Rattle.pg_picture.proofs.Rooms.{misfit_of-totals, fitting_tables_have_none}
 use Rattle.pg_picture.proofs.FittingGrids.{misfit-empty}
 use Rattle.pg_table.specs.Laws.{NaturalTablesHaveRoom}
 use Rattle.pg_table.specs.Natural.{cell_size, cell_at, count, count_cells, natural_size, natural_sizes, natural_table, all_fit}
 use Rattle.pg_table.specs.declared.sizes.Axis.{Axis}
 use Rattle.pg_table.specs.declared.sizes.Axis.TheVariants.{Columns, Rows}
-use Rattle.pg_picture.proofs.FirstMisfits.{fitting_tables_have_none}
 use Rattle.pg_table.proofs.CellsBelow.{cell-below}
 use Rattle.pg_table.proofs.ListedSizes.{size-at, all_fit-each, sum-listed}
 

@@ -12,7 +12,7 @@ use Rattle.pg_layout.proofs.TextWidths.{width_of-plain}
 use Rattle.pg_config.specs.Config.{Config, default_config, missing_if, get_horizontal, get_vertical, get_intersection}
 use Rattle.pg_config.specs.Offsets.{Offsets, no_offsets, lookup_offset}
 use Rattle.pg_config.specs.Overrides.{horizontal_override, vertical_override, crossing_override}
-use Rattle.pg_picture.specs.Laws.{IsNarrow, HasNarrowFills, HasNarrowGlyphs, CellsFit, IsStraight}
+use Rattle.pg_picture.specs.Straight.{IsNarrow, HasNarrowFills, HasNarrowGlyphs, CellsFit, IsStraight}
 use Rattle.pg_picture.specs.Pieces.{style_at}
 use Rattle.pg_picture.specs.Table.{Table, Known}
 use Rattle.pg_picture.specs.Fits.{totals_fit}

@@ -8,7 +8,7 @@ use Rattle.pg_config.specs.Config.{Config}
 use Rattle.pg_config.specs.Offsets.{no_offsets}
 use Rattle.pg_config.specs.Overrides.{horizontal_override, vertical_override, crossing_override}
 use Rattle.pg_picture.specs.Fits.{totals_fit, misfit_of}
-use Rattle.pg_picture.specs.Laws.{IsNarrow, HasNarrowFills, HasNarrowMargins, HasStraightLines, HasStraightMargins}
+use Rattle.pg_picture.specs.Straight.{IsNarrow, HasNarrowFills, HasNarrowMargins, HasStraightLines, HasStraightMargins}
 use Rattle.pg_picture.specs.Pieces.{style_at}
 use Rattle.pg_picture.specs.Table.{Table, Known, is_empty}
 use Rattle.pg_picture.specs.declared.fits.Misfit.TheVariants.{Totals}

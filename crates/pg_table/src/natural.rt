@@ -48,7 +48,7 @@ where
     ghost use Rattle.std.specs.Result.{result_err};
     ghost use Rattle.pg_picture.specs.Appending.{Appends, AppendsOrNothing};
     ghost use Rattle.pg_picture.specs.Fits.{totals_fit, body_height, misfit_of};
-    ghost use Rattle.pg_picture.specs.Laws.{IsStraight};
+    ghost use Rattle.pg_picture.specs.Straight.{IsStraight};
     ghost use Rattle.pg_picture.specs.Picture.{picture};
     ghost use Rattle.pg_picture.specs.Table.{Known, full_width, is_empty};
     ghost use Rattle.pg_picture.specs.Sizes.{if_fits};

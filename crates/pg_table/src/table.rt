@@ -128,7 +128,7 @@ impl<T, A: Allocator> Table<T, A> {
 impl<T: AsStr + Drop, A: Allocator> Table<T, A> {
     ghost use Rattle.std.specs.Prelude.{◌≡◌, length, OnErr, ◌↔◌, ◌⊎◌, ◌&&◌, ◌++◌, true, false, map, Some, None, Err, IfOk, IsOk, OnOk, string_bytes};
     ghost use Rattle.pg_layout.specs.Records.{columns_of};
-    ghost use Rattle.pg_picture.specs.Laws.{IsStraight};
+    ghost use Rattle.pg_picture.specs.Straight.{IsStraight};
     ghost use Rattle.pg_picture.specs.Picture.{picture};
     ghost use Rattle.pg_picture.specs.Table.{Known, is_empty};
     ghost use Rattle.pg_table.specs.Natural.{all_fit, natural_sizes};

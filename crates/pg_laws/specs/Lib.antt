@@ -1,0 +1,6 @@
+pub mod Setters
+pub mod SettingLaws
+pub mod FitLaws
+pub mod Laws
+pub mod Samples
+pub mod CompactSamples

@@ -1,0 +1,8 @@
+//! Laws of configurations and of pictures, and worked examples. The functions do nothing: their contracts are what holds.
+#![tactic(auto)]
+
+pub mod examples;
+pub mod fits;
+pub mod laws;
+pub mod looks;
+pub mod settings;
