@@ -7,6 +7,7 @@ mod PlacesExchanged
 pub mod PlacesInColor
 pub mod TextLines
 pub mod TextWidths
+pub mod TrimmedLines
 pub mod Greatest
 pub mod LineNumbers
 pub mod Rows

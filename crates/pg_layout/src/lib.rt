@@ -29,6 +29,6 @@ pub use crate::records::{ExactRecords, PeekableRecords, Records};
 pub use crate::sides::{Indent, Offset, Sides};
 pub use crate::text::{
     Lines, count_lines, first_line, get_line, get_line_width, get_lines, get_text_width, is_blank,
-    is_plain,
+    is_plain, trim_line,
 };
 pub use crate::vec_records::{RecordsFault, VecColumns, VecRecords, VecRows};

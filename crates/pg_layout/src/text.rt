@@ -1,6 +1,8 @@
 //! The lines of a text, how many terminal columns they take, and which of them are blank.
 
-ghost use Rattle.std.specs.Prelude.{◌≡◌, ◌==◌, ◌<◌, ◌∷◌, [], ℕ, length, slice_index_or, option_map};
+ghost use Rattle.std.specs.Prelude.{◌≡◌, ◌==◌, ◌&&◌, ◌||◌, ◌<◌, ◌-◌, ◌∷◌, [], ℕ, length, slice_index, slice_index_or, option_map};
+ghost use Rattle.std.specs.Char.{is_ascii_graphic};
+ghost use Rattle.std.specs.Str.{trim};
 ghost use Rattle.std.specs.List.{list_all, position_or_len};
 ghost use Rattle.std.specs.Iterator.{YieldsFirstRef, item_count};
 ghost use Rattle.pg_layout.specs.Text.{lines_of, lines_left, width_of, text_width_of, is_blank, first_line_of, is_plain_byte};
@@ -113,11 +115,30 @@ pub fn get_text_width(text: &str) -> usize
     get_lines(text).fold(0, |width, line| width.max(get_line_width(line)))
 }
 
+// Whether bytes are none, or begin and end with an ASCII byte that is seen.
+#[inline(always)]
+fn has_seen_ends(bytes: &[u8]) -> bool
+    ensures { result ≡ (length bytes.now == 0 || (is_ascii_graphic (slice_index bytes.now 0) && is_ascii_graphic (slice_index bytes.now (length bytes.now - 1)))) }
+{
+    bytes.is_empty() || (bytes[0].is_ascii_graphic() && bytes[bytes.len() - 1].is_ascii_graphic())
+}
+
+/// A line without the (Unicode) white space at its start and at its end.
+pub fn trim_line(line: &str) -> &str
+    ensures { result.now ≡ trim line.now }
+{
+    let inner = line.trim_ascii();
+    if has_seen_ends(inner.as_bytes()) {
+        return inner;
+    }
+    line.trim()
+}
+
 /// Whether a line is empty or made of (Unicode) white space alone.
 pub fn is_blank(line: &str) -> bool
     ensures { result ≡ is_blank line.now }
 {
-    line.trim().is_empty()
+    trim_line(line).is_empty()
 }
 
 /// The text before the first line feed, less one carriage return directly before that line feed;

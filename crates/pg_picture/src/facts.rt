@@ -8,7 +8,7 @@ ghost use Rattle.pg_picture.specs.Cells.{with_line, empty_lines_of, facts_of};
 
 use pg_layout::{
     Formatting, PeekableRecords, Position, count_lines, get_line_width, get_lines, get_text_width,
-    is_blank, is_plain,
+    is_blank, is_plain, trim_line,
 };
 
 /// How many of the lines read so far are blank at the front, are blank at the end, and stand
@@ -71,7 +71,7 @@ pub fn count_empty_lines(text: &str) -> (usize, usize, usize)
 pub(crate) fn trim_if(line: &str, trim: bool) -> &str
     ensures { result.now ≡ trimmed_if trim line.now }
 {
-    if trim { line.trim() } else { line }
+    if trim { trim_line(line) } else { line }
 }
 
 // Whether a line is left out at the front and at the end of its text, and how many terminal columns
@@ -85,7 +85,7 @@ fn line_facts(line: &str, formatting: Formatting) -> (bool, usize)
     if !formatting.horizontal_trim && !formatting.vertical_trim {
         return (false, get_line_width(line));
     }
-    let trimmed = line.trim();
+    let trimmed = trim_line(line);
     let is_left_out = formatting.vertical_trim && trimmed.is_empty();
     let shown = if formatting.horizontal_trim {
         trimmed
@@ -118,7 +118,7 @@ pub fn text_width(text: &str, trim: bool) -> usize
     if !trim {
         return get_text_width(text);
     }
-    get_lines(text).fold(0, |width, line| width.max(get_line_width(line.trim())))
+    get_lines(text).fold(0, |width, line| width.max(get_line_width(trim_line(line))))
 }
 
 /// What is known of a text before it is placed in a cell.
