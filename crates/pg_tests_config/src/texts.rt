@@ -2,6 +2,7 @@
 
 use pg_layout::{
     LineCursor, count_lines, first_line, get_line_width, get_lines, get_text_width, is_blank,
+    trim_line,
 };
 
 #[test]
@@ -66,6 +67,35 @@ fn a_line_of_white_space_is_blank(rt: HostRuntime) {
         (" a ", false),
     ] {
         assert_eq!(rt; is_blank(line), blank, "of {line:?}");
+    }
+}
+
+#[test]
+fn a_line_is_trimmed_of_white_space_at_its_ends(rt: HostRuntime) {
+    for (line, trimmed) in [
+        ("", ""),
+        ("a", "a"),
+        ("abc", "abc"),
+        ("  abc ", "abc"),
+        ("\tabc\r", "abc"),
+        (" a  b\tc ", "a  b\tc"),
+        (" ", ""),
+        (" \t \r", ""),
+        ("\u{B}a\u{B}", "a"),
+        ("\u{A0}abc\u{A0}", "abc"),
+        ("\u{3000}abc\u{3000}", "abc"),
+        (" \u{3000} abc \u{A0} ", "abc"),
+        ("\u{A0} \u{3000}", ""),
+        ("a\u{A0}b", "a\u{A0}b"),
+        ("\u{200B}a", "\u{200B}a"),
+        ("\u{1}a\u{7F}", "\u{1}a\u{7F}"),
+        ("日本", "日本"),
+        (" 日本 ", "日本"),
+        ("日\u{3000}本\u{3000}", "日\u{3000}本"),
+        (" a本", "a本"),
+        ("本a ", "本a"),
+    ] {
+        assert_eq!(rt; trim_line(line), trimmed, "of {line:?}");
     }
 }
 
