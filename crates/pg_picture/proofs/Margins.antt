@@ -1,5 +1,6 @@
 -- The texts of margins: a line of a top or bottom one, and a side margin.
-use Rattle.std.proofs.Common.{◌≡◌, ℕ, ◌+◌, ◌-◌, ◌<◌, true, false, nat_lt, min, Option, Some, None, ◌++◌, refl, sym, ap, ◌∙◌, arith}
+use Rattle.std.proofs.Common.{◌≡◌, ℕ, ◌+◌, ◌-◌, ◌<◌, true, false, inl, inr, [], nat_lt, min, Option, Some, None, ◌++◌, refl, sym, ap, ◌∙◌, arith}
+use Rattle.std.proofs.lemmas.Bool.{cases_Bool}
 use Rattle.std.proofs.lemmas.Bool.Decides.{nat_tests}
 use Rattle.pg_layout.specs.declared.sides.Indent.{Indent}
 use Rattle.pg_layout.specs.declared.sides.Offset.{Offset}
@@ -39,6 +40,16 @@ pub written-side_filled : (height : Option ℕ) (indent : Indent) (offset : Offs
 unfolding side_margin
 written-side_filled (Some h) indent offset color i blank = rw blank refl
 written-side_filled None indent offset color i blank = rw blank refl
+
+-- one without columns
+pub written-side_none : (height : Option ℕ) (indent : Indent) (offset : Offset) (color : Option Color) (i : ℕ) → indent.size ≡ 0
+    → [] ≡ written (side_margin_at height indent offset color i)
+unfolding repeated written fill
+written-side_none height indent offset color i none =
+    elim (cases_Bool (is_blank_in height offset i)) [
+      | inl blank ↦ ap (λ n. repeated 32 n) (sym none) ∙ written-side_blank height indent offset color i blank
+      | inr filled ↦ ap (λ n. written (fill indent.fill n color)) (sym none) ∙ written-side_filled height indent offset color i filled
+    ]
 
 -- where the height isn't known, a side margin is the same for each height that has the line
 pub side_margin-unknown : (indent : Indent) (offset : Offset) (color : Option Color) (i h : ℕ) → i < h

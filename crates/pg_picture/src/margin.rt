@@ -31,7 +31,25 @@ pub fn push_feed<A: Allocator>(buf: &mut String<A>, is_first: bool) -> Result<()
 ///
 /// An offset that is counted from the last line leaves nothing blank where the height isn't known.
 /// An error comes only where the buffer's room is too small; the buffer then holds a beginning.
+#[inline(always)]
 pub fn push_side_margin<C: ANSIFmt, A: Allocator>(
+    buf: &mut String<A>,
+    indent: Indent,
+    offset: Offset,
+    color: Option<&C>,
+    line: usize,
+    height: Option<usize>,
+) -> Result<(), AllocError>
+    ensures { Appends buf.old buf.new result (written (side_margin_at height indent offset (lent_color C.color_of color.entry) line)) }
+{
+    if indent.size == 0 {
+        return Ok(());
+    }
+    push_margin_columns(buf, indent, offset, color, line, height)
+}
+
+// The same, of a margin that may have columns.
+fn push_margin_columns<C: ANSIFmt, A: Allocator>(
     buf: &mut String<A>,
     indent: Indent,
     offset: Offset,

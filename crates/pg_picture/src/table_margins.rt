@@ -11,6 +11,7 @@ use pg_config::SpannedConfig;
 use std::alloc::{AllocError, Allocator};
 
 /// Appends the left margin at a line of the body, of which `height` is the number of lines.
+#[inline(always)]
 pub fn push_left_margin<B: Allocator, A: Allocator>(
     buf: &mut String<A>,
     config: &SpannedConfig<B>,
@@ -32,6 +33,7 @@ pub fn push_left_margin<B: Allocator, A: Allocator>(
 }
 
 /// Appends the right margin at a line of the body, of which `height` is the number of lines.
+#[inline(always)]
 pub fn push_right_margin<B: Allocator, A: Allocator>(
     buf: &mut String<A>,
     config: &SpannedConfig<B>,

@@ -182,6 +182,7 @@ impl<'a, S: AsStr + Drop, D: Dimension, C: Colors, B: Allocator, A: Allocator> R
     // Prints the next row as `row` does, under the same conditions, and copies the separator above it
     // where it is kept: `kept` is `None` before the first row, and is handed on from call to call. It
     // keeps the text of the separators above all rows but the first, if these are equal and it is short.
+    #[inline(always)]
     pub(crate) fn row_keeping<I: Iterator<Item = S>, W: Allocator>(
         self,
         cells: I,

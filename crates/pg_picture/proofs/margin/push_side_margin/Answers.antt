@@ -1,10 +1,6 @@
-use Rattle.std.proofs.Common.{sym, ◌∙◌}
-use Rattle.pg_picture.proofs.Appending.{Appends-text}
-use Rattle.pg_picture.proofs.Margins.{written-side_blank, written-side_filled}
+use Rattle.pg_picture.proofs.Appending.{Appends-text, Gained-none, Gained-all}
+use Rattle.pg_picture.proofs.Margins.{written-side_none}
 use Rattle.pg_picture.proofs.margin.push_side_margin.Goals as goal
 
-pub returns-then-is_blank : goal.returns-then-is_blank
-returns-then-is_blank g c = Appends-text (written-side_blank c.args.height c.args.indent c.args.offset _ c.args.line (sym c.is_blank.ensures ∙ c.if-is_blank.true)) c.push_repeated.ensures
-
-pub returns : goal.returns
-returns g c = Appends-text (written-side_filled c.args.height c.args.indent c.args.offset _ c.args.line (sym c.is_blank.ensures ∙ c.if-is_blank.false)) c.push_fill.ensures
+pub returns-then-indent-eq0 : goal.returns-then-indent-eq0
+returns-then-indent-eq0 g c = Appends-text (written-side_none c.args.height c.args.indent c.args.offset _ c.args.line c.if-indent-eq0.true) (Gained-all (Gained-none c.args.buf.now))
