@@ -13,7 +13,7 @@ use Rattle.pg_picture.proofs.Rooms.{fits, cell_fits_plain}
 use Rattle.pg_picture.proofs.FittingTables.{totals_facts}
 use Rattle.pg_picture.proofs.OwnersOfPlaces.{InOrder}
 use Rattle.pg_picture.proofs.SumsOfSizes.{some_answer}
-use Rattle.pg_peekable.specs.Grids.{CanDraw, HasNoSpans}
+use Rattle.pg_peekable.specs.Drawn.{CanDraw, HasNoSpans}
 
 pub can_draw : (t : Table) → IsAscending t.config.spans → StandAtPlaces t.config.spans → misfit_of t ≡ None → 0 < t.rows → 0 < t.columns → CanDraw t
 can_draw t ascending places fitting some_rows some_columns = record { ascending = ascending; places = places; fits = fits t fitting some_rows some_columns }

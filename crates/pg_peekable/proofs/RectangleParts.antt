@@ -13,7 +13,7 @@ use Rattle.pg_picture.proofs.FittingTables.{RectInside, rect_width-sized, rect_h
 use Rattle.pg_picture.proofs.OwnersOfPlaces.{InOrder}
 use Rattle.pg_picture.proofs.DrawnRectangles.{rect_of, rows_height-fits, line_place, line_inside, sep_place, sep_inside, corner_owns, corner_from, corner_to, corner_inside}
 use Rattle.pg_peekable.specs.declared.kept.KeptRectangle.{KeptRectangle}
-use Rattle.pg_peekable.specs.Grids.{CanDraw}
+use Rattle.pg_peekable.specs.Drawn.{ArePartsOf, CanDraw}
 use Rattle.pg_peekable.specs.Kept.{IsRectangle}
 use Rattle.pg_peekable.proofs.CanDraw.{in_order}
 
@@ -21,17 +21,22 @@ module _ (t : Table) (can : CanDraw t) where
   pub owner_inside : (p : Position) → IsOwner t p → RectInside t.config.spans t.rows t.columns p
   owner_inside p o = rect_of t (in_order t can) p o
 
-  pub rect_width-answer : (p : Position) → IsOwner t p → (columns : ℕ) (answer : Option ℕ) → columns ≡ t.columns
-      → ((rows : ℕ) → answer ≡ if_fits (rect_width (sized t.config t.width t.height rows columns) p)) → answer ≡ Some (rect_width t p)
-  rect_width-answer p o columns answer is answers =
-      answers t.rows
-      ∙ ap (λ n. if_fits (rect_width (sized t.config t.width t.height t.rows n) p)) is
-      ∙ ap if_fits (rect_width-sized t p)
-      ∙ width_answer t p can.fits.totals (owner_inside p o)
+  -- what the calls answer that add up widths and heights of the table's parts
+  module _ (u : Table) (parts : ArePartsOf t u) (p : Position) (o : IsOwner t p) where
+    pub width-answer : (columns : ℕ) → columns ≡ t.columns → (answer : Option ℕ)
+        → ((rows : ℕ) → answer ≡ if_fits (rect_width (sized u.config u.width u.height rows columns) p)) → answer ≡ Some (rect_width t p)
+    width-answer columns is answer answers =
+        answers t.rows
+        ∙ (λ i. if_fits (rect_width (sized (parts.config i) (λ x. parts.width x i) (λ r. parts.height r i) t.rows (is i)) p))
+        ∙ ap if_fits (rect_width-sized t p)
+        ∙ width_answer t p can.fits.totals (owner_inside p o)
 
-  pub rect_height-answer : (p : Position) → IsOwner t p → (answer : Option ℕ)
-      → answer ≡ (if nat_lt (p.row + rect_rows t.config.spans p) (2 ^ 64) then if_fits (height_of_rect t.config t.height p) else None) → answer ≡ Some (rect_height t p)
-  rect_height-answer p o answer answers = answers ∙ height_answer t p can.fits.totals (owner_inside p o)
+    pub height-answer : (answer : Option ℕ)
+        → answer ≡ (if nat_lt (p.row + rect_rows u.config.spans p) (2 ^ 64) then if_fits (height_of_rect u.config u.height p) else None) → answer ≡ Some (rect_height t p)
+    height-answer answer answers =
+        answers
+        ∙ (λ i. if nat_lt (p.row + rect_rows (parts.config i).spans p) (2 ^ 64) then if_fits (height_of_rect (parts.config i) (λ r. parts.height r i) p) else None)
+        ∙ height_answer t p can.fits.totals (owner_inside p o)
 
   -- one row more
   rows_height-more : (a k : ℕ) → rows_height t a (k + 1) ≡ rows_height t a k + (t.height (a + k) + cond (has_horizontal t.config ((a + 1) + k) t.rows) 1 0)

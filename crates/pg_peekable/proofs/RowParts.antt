@@ -1,5 +1,5 @@
 -- What a column adds to a line of a row.
-use Rattle.std.proofs.Common.{◌≡◌, ℕ, ◌+◌, ◌-◌, ◌<◌, true, List, [], ◌++◌, flat_map, sym, ap, ap₂, ◌∙◌, zero-add, Some, None, arith}
+use Rattle.std.proofs.Common.{◌≡◌, ℕ, ◌+◌, ◌-◌, ◌<◌, true, List, [], ◌++◌, flat_map, sym, ap, ◌∙◌, zero-add, Some, None, arith}
 use Rattle.std.specs.List.{range_with_len}
 use Rattle.pg_layout.specs.declared.position.Position.{Position}
 use Rattle.pg_layout.specs.Position.{at}
@@ -21,30 +21,27 @@ use Rattle.pg_picture.proofs.DrawnRectangles.{single_line, single_room}
 
 module _ (t : Table) (none : t.config.spans ≡ []) where
   -- its vertical and its cell, in a table without spans
-  pub part-text : (columns h : ℕ) (p : Position) (i : ℕ) → columns ≡ t.columns → h ≡ t.height p.row → p.row < t.rows → p.col < t.columns → i < t.height p.row
-      → written (vertical_at t.config columns h p i) ++ written (block_line (style_at t.config p) (t.color p) (t.text p) (t.width p.col) h i) ≡ written (row_part t p.row i p.col)
-  part-text columns h p i c e r l k =
-      ap₂ (λ n m. written (vertical_at t.config n m p i) ++ written (block_line (style_at t.config p) (t.color p) (t.text p) (t.width p.col) m i)) c e
-      ∙ sym (ap written (row_part_plain t none p.row i p.col r k l) ∙ written-append (vertical t p.row i p.col) (cell_line t p.row p.col i))
+  pub part-text : (p : Position) (i : ℕ) → p.row < t.rows → p.col < t.columns → i < t.height p.row
+      → written (vertical_at t.config t.columns (t.height p.row) p i) ++ written (block_line (style_at t.config p) (t.color p) (t.text p) (t.width p.col) (t.height p.row) i) ≡ written (row_part t p.row i p.col)
+  part-text p i r l k =
+      sym (ap written (row_part_plain t none p.row i p.col r k l) ∙ written-append (vertical t p.row i p.col) (cell_line t p.row p.col i))
 
 -- behind the last column its vertical alone
-pub end-text : (t : Table) (columns h r i : ℕ) → columns ≡ t.columns → h ≡ t.height r
-    → written (vertical_at t.config columns h (at r columns) i) ≡ written (row_part t r i columns)
-end-text t columns h r i c e =
-    ap₂ (λ n m. written (vertical_at t.config n m (at r n) i)) c e
-    ∙ sym (ap written (ap (row_part t r i) c ∙ row_part_end t r i))
+pub end-text : (t : Table) (h r i : ℕ) → h ≡ t.height r
+    → written (vertical_at t.config t.columns h (at r t.columns) i) ≡ written (row_part t r i t.columns)
+end-text t h r i e = ap (λ m. written (vertical_at t.config t.columns m (at r t.columns) i)) e ∙ sym (ap written (row_part_end t r i))
 
 -- what a left column adds where cells span rows or columns: its vertical and the line of its owner
-module _ (t : Table) (order : InOrder t.config.spans t.rows t.columns) (columns : ℕ) (p : Position) (i : ℕ) (c : columns ≡ t.columns) (r : p.row < t.rows) (l : p.col < t.columns) (k : i < t.height p.row) (left : is_left t.config.spans p.row p.col ≡ true) where
+module _ (t : Table) (order : InOrder t.config.spans t.rows t.columns) (p : Position) (i : ℕ) (r : p.row < t.rows) (l : p.col < t.columns) (k : i < t.height p.row) (left : is_left t.config.spans p.row p.col ≡ true) where
   left-text : (owned : List Piece) → block_at t (owner t.config.spans p.row p.col) (line p.row i) ≡ owned
-      → written (vertical_at t.config columns (t.height p.row) p i) ++ written owned ≡ written (row_part t p.row i p.col)
+      → written (vertical_at t.config t.columns (t.height p.row) p i) ++ written owned ≡ written (row_part t p.row i p.col)
   left-text owned is =
-      ap₂ (λ n b. written (vertical_at t.config n (t.height p.row) p i) ++ written b) c (sym is)
+      ap (λ b. written (vertical_at t.config t.columns (t.height p.row) p i) ++ written b) (sym is)
       ∙ sym (ap written (row_part_left t order p.row i p.col left l) ∙ written-append (vertical t p.row i p.col) (block_at t (owner t.config.spans p.row p.col) (line p.row i)))
 
   -- of a cell of one row and one column
   pub single-text : left_span t.config.spans p.row p.col ≡ None
-      → written (vertical_at t.config columns (t.height p.row) p i) ++ written (block_line (style_at t.config p) (t.color p) (t.text p) (t.width p.col) (t.height p.row) i) ≡ written (row_part t p.row i p.col)
+      → written (vertical_at t.config t.columns (t.height p.row) p i) ++ written (block_line (style_at t.config p) (t.color p) (t.text p) (t.width p.col) (t.height p.row) i) ≡ written (row_part t p.row i p.col)
   single-text none =
       let own = owner_alone t.config.spans t.rows t.columns order p.row p.col left none in
       let one = size_alone t.config.spans t.rows t.columns order p.row p.col none in
@@ -52,7 +49,7 @@ module _ (t : Table) (order : InOrder t.config.spans t.rows t.columns) (columns 
 
   -- of a rectangle
   pub rectangle-text : (s : Span) → left_span t.config.spans p.row p.col ≡ Some s
-      → written (vertical_at t.config columns (t.height p.row) p i) ++ written (block_at t (corner s) (line p.row i)) ≡ written (row_part t p.row i p.col)
+      → written (vertical_at t.config t.columns (t.height p.row) p i) ++ written (block_at t (corner s) (line p.row i)) ≡ written (row_part t p.row i p.col)
   rectangle-text s some =
       left-text (block_at t (corner s) (line p.row i)) (ap (λ q. block_at t q (line p.row i)) (owner_found t.config.spans t.rows t.columns order p.row p.col s some))
 

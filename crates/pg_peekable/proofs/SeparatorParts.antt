@@ -12,8 +12,7 @@ use Rattle.pg_picture.specs.Rectangles.{columns_or_one}
 use Rattle.pg_picture.proofs.CutsOfItems.{items_after-append, items_after-one, last_color-append, last_color-one}
 use Rattle.pg_picture.proofs.OwnersOfPlaces.{InOrder}
 use Rattle.pg_picture.proofs.WalksOfRows.{walk_step, width_above-positive, width_above-inside, next_start, separator_part_inner, separator_part_border, separator_part_block, above_some}
-use Rattle.pg_peekable.specs.declared.grid.Shape.{Shape}
-use Rattle.pg_peekable.specs.Grids.{IsShapeOf, starts}
+use Rattle.pg_peekable.specs.Drawn.{starts}
 
 -- a block behind other items: the cut before it, and its line
 pub block-text : (c : Option Color) (items : List Item) {d : Option Color} (line : List Piece) {drawn : List Piece} → d ≡ last_color c items → drawn ≡ line
@@ -30,20 +29,18 @@ module _ (t : Table) (order : InOrder t.config.spans t.rows t.columns) where
   pub found-above : (r x : ℕ) (s : Span) → span_above t.config.spans r x ≡ Some s → left_span t.config.spans r x ≡ Some s
   found-above r x s e = (above_some t order r x s e).found
 
-  module _ (p : Position) (shape : Shape) (is : IsShapeOf t shape) (start : starts t.config.spans p.row p.col ≡ true) (here : p.col < t.columns) where
+  module _ (p : Position) (start : starts t.config.spans p.row p.col ≡ true) (here : p.col < t.columns) where
     -- where no rectangle from above stands
     pub border-items : span_above t.config.spans p.row p.col ≡ None
-        → crossing_at t.config shape.rows shape.columns p ++ border_items t.config p shape.rows (t.width p.col) (get_horizontal t.config p shape.rows) ≡ separator_part t p.row p.col
+        → crossing_at t.config t.rows t.columns p ++ border_items t.config p t.rows (t.width p.col) (get_horizontal t.config p t.rows) ≡ separator_part t p.row p.col
     border-items none =
-        ap₂ (λ n m. crossing_at t.config n m p ++ border_items t.config p n (t.width p.col) (get_horizontal t.config p n)) is.rows is.columns
-        ∙ sym (separator_part_border t order p.row p.col start here none)
+        sym (separator_part_border t order p.row p.col start here none)
 
     -- and where one does
     pub block-items : (s : Span) → span_above t.config.spans p.row p.col ≡ Some s
-        → crossing_at t.config shape.rows shape.columns p ++ block (block_at t (corner s) (sep p.row)) ∷ [] ≡ separator_part t p.row p.col
+        → crossing_at t.config t.rows t.columns p ++ block (block_at t (corner s) (sep p.row)) ∷ [] ≡ separator_part t p.row p.col
     block-items s some =
-        ap₂ (λ n m. crossing_at t.config n m p ++ block (block_at t (corner s) (sep p.row)) ∷ []) is.rows is.columns
-        ∙ sym (separator_part_block t order p.row p.col s start here some)
+        sym (separator_part_block t order p.row p.col s start here some)
 
   -- a step along a separator, from a start to the next one
   module _ (r x w : ℕ) (is : w ≡ columns_or_one (span_above t.config.spans r x)) (start : starts t.config.spans r x ≡ true) (here : x < t.columns) where

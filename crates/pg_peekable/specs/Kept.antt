@@ -1,5 +1,5 @@
 -- What is kept of cells from one of their lines to the next, and that it is right.
-use Rattle.std.specs.Prelude.{◌≡◌, ℕ, ◌-◌, ◌≤◌, ◌<◌, IfSome, slice_index_or, None}
+use Rattle.std.specs.Prelude.{◌≡◌, ℕ, ◌-◌, ◌≤◌, ◌<◌, List, Option, IfSome, slice_index_or, None}
 use Rattle.pg_layout.specs.declared.position.Position.{Position}
 use Rattle.pg_layout.specs.LineCursor.{StandsIn, line_number}
 use Rattle.pg_layout.specs.Text.{Text}
@@ -11,7 +11,6 @@ use Rattle.pg_picture.specs.declared.place.CellPlace.{CellPlace}
 use Rattle.pg_peekable.specs.declared.kept.Reading.{Reading}
 use Rattle.pg_peekable.specs.declared.kept.KeptCell.{KeptCell}
 use Rattle.pg_peekable.specs.declared.kept.KeptRectangle.{KeptRectangle}
-use Rattle.pg_peekable.specs.declared.kept.KeptCells.{KeptCells}
 
 -- the text is read up to the line of this number
 pub record Reads (reading : Reading) (text : Text) : Type 0 where
@@ -41,8 +40,6 @@ IsKept t cell = IsReading t cell.corner cell.width cell.height cell.reading
 abbrev pub IsSeparator : Table → Text → Type 0
 IsSeparator t text = (r : ℕ) → 0 < r → r < t.rows → text ≡ separator_text (separator_items t r)
 
--- all that is kept is right in this table
-pub record AreKept (t : Table) (kept : KeptCells) : Type 0 where
-  pub cells : (x : ℕ) → IfSome (slice_index_or kept.cells.now x None) (IsKept t)
-  pub rectangles : (x : ℕ) → IfSome (slice_index_or kept.rectangles.now x None) (IsRectangle t)
-  pub separator : IfSome kept.separator.text (λ text. IsSeparator t text)
+-- all that slots hold is right
+abbrev pub AllSlots : {X : Type 0} → (X → Type 0) → List (Option X) → Type 0
+AllSlots Right slots = (x : ℕ) → IfSome (slice_index_or slots x None) Right

@@ -1,2 +1,4 @@
+pub mod Drawn
+pub mod DrawnProps
 pub mod Grids
 pub mod Kept

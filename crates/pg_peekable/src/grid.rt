@@ -1,20 +1,13 @@
 //! The looked-up grid: it reads its records at any place.
 
+use crate::drawing::{Drawing, Drawn};
 use crate::path::Path;
 use pg_config::SpannedConfig;
 use pg_layout::{Colors, Dimension, ExactRecords, PeekableRecords};
 use pg_picture::fits::{Misfit, body_height, full_width, table_fits};
-use pg_picture::{PrintFault, push_bottom_margin, push_top_margin};
+use pg_picture::{CellStyle, PrintFault, push_bottom_margin, push_top_margin};
 use std::alloc::{AllocError, Allocator};
-
-/// How many rows and columns a table has, how many lines its body, and the path that draws it.
-#[derive(Debug, Clone, Copy)]
-pub(crate) struct Shape {
-    pub(crate) rows: usize,
-    pub(crate) columns: usize,
-    pub(crate) height: usize,
-    pub(crate) path: Path,
-}
+use std::marker::{Brand, PhantomData};
 
 /// A table printer over records that can be read at any place, a dimension that gives the sizes of
 /// columns and rows, and colours of cells.
@@ -56,12 +49,13 @@ where
     ghost use Rattle.std.specs.Prelude.{◌≡◌, ◌<◌, ◌==◌, ◌++◌, ◌↔◌, [], Some, None, Err, IsOk, IfOk, OnOk, string_bytes};
     ghost use Rattle.pg_picture.specs.Appending.{Appends};
     ghost use Rattle.pg_picture.specs.Fits.{misfit_of};
-    ghost use Rattle.pg_picture.specs.Joined.{joined};
+    ghost use Rattle.pg_picture.specs.Joined.{joined, lines_before};
     ghost use Rattle.pg_picture.specs.Straight.{IsStraight};
     ghost use Rattle.pg_picture.specs.Sizes.{unless_misfit};
-    ghost use Rattle.pg_picture.specs.Table.{Known};
-    ghost use Rattle.pg_picture.specs.Picture.{picture, picture_lines};
-    ghost use Rattle.pg_peekable.specs.Grids.{drawn, CanDraw, Draws};
+    ghost use Rattle.pg_picture.specs.Table.{Known, table_body};
+    ghost use Rattle.pg_picture.specs.Picture.{body_text, picture, picture_lines};
+    ghost use Rattle.pg_peekable.specs.Drawn.{CanDraw, Draws, IsShapeOf};
+    ghost use Rattle.pg_peekable.specs.Grids.{drawn};
     ghost use Rattle.pg_picture.specs.Printed.{Prints};
 
     /// Whether everything fits in the table: the condition of `build` and `to_string`, as a test. It
@@ -150,15 +144,40 @@ where
     {
         let width = full_width(self.config, &self.dimension, columns).unwrap();
         let height = body_height(self.config, &self.dimension, rows).unwrap();
-        let shape = Shape {
+        let is_first = self.config.get_margin().top.size == 0;
+        push_top_margin(buf, self.config, width)?;
+        self.push_drawn::<Brand, A>(buf, rows, columns, height, path, is_first)?;
+        push_bottom_margin(buf, self.config, width, is_first && height == 0)
+    }
+
+    // The lines of the body, of which there are so many, in this table; `is_first` tells whether no
+    // line stands before them.
+    fn push_drawn<T: Drawn, A: Allocator>(
+        &self,
+        buf: &mut String<A>,
+        rows: usize,
+        columns: usize,
+        height: usize,
+        path: Path,
+        is_first: bool,
+    ) -> Result<(), AllocError>
+        requires is { drawn R.Records D.Dimension C.Colors self.now ≡ T.table }
+        requires shape { IsShapeOf T.table rows columns height path }
+        requires can { CanDraw T.table }
+        ensures { Appends buf.old buf.new result (body_text Known T.table (lines_before is_first) 0 (table_body T.table)) }
+    {
+        let drawing: Drawing<'_, T, R, D, C, B> = Drawing {
+            records: &self.records,
+            config: self.config,
+            dimension: &self.dimension,
+            colors: &self.colors,
             rows,
             columns,
             height,
             path,
+            all: CellStyle::of_all(self.config),
+            of: PhantomData,
         };
-        let is_first = self.config.get_margin().top.size == 0;
-        push_top_margin(buf, self.config, width)?;
-        self.push_kept_body(buf, shape, is_first)?;
-        push_bottom_margin(buf, self.config, width, is_first && height == 0)
+        drawing.push_kept_body(buf, is_first)
     }
 }

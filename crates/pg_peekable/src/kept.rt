@@ -1,14 +1,17 @@
 //! What is kept of cells from one of their lines to the next, so that it isn't worked out again.
 
-ghost use Rattle.std.specs.Prelude.{◌≡◌, ◌≤◌, ◌<◌, ℕ, List, IfSome, IsTrue, length, slice_index_or, [], None};
+ghost use Rattle.std.specs.Prelude.{◌≡◌, ◌≤◌, ◌<◌, ℕ, List, IfSome, IsTrue, drop, length, slice_index_or, string_bytes, [], None};
 ghost use Rattle.pg_layout.specs.LineCursor.{StandsIn, line_number};
 ghost use Rattle.pg_layout.specs.Text.{lines_of};
 ghost use Rattle.pg_picture.specs.Cells.{line_if};
-ghost use Rattle.pg_picture.specs.Table.{Table};
-ghost use Rattle.pg_peekable.specs.Kept.{Reads, IsReading, IsRectangle, AreKept};
+ghost use Rattle.pg_peekable.specs.Kept.{Reads, IsReading, IsKept, IsRectangle, IsSeparator, AllSlots};
+ghost use Rattle.std.proofs.Props.{props};
 
+use crate::drawing::Drawn;
 use pg_layout::{LineCursor, Position};
 use pg_picture::{CellPlace, SeparatorKeeper};
+use std::alloc::Allocator;
+use std::marker::PhantomData;
 
 /// Where the lines of a text stand in their cell, and how far the text was read.
 #[derive(Debug, Clone, Copy)]
@@ -138,16 +141,20 @@ pub(super) fn no_slots<T: Copy, const COLUMNS: usize>() -> [Option<T>; COLUMNS]
     [None; COLUMNS]
 }
 
-/// What is kept of the cells whose left column has a slot, at most one for each column, and the text
-/// of a separator between two rows, if all of these are equal.
+/// What is kept of the cells of a table whose left column has a slot, at most one for each column,
+/// and the text of a separator between two rows, if all of these are equal.
 #[derive(Drop)]
-pub(super) struct KeptCells<'k> {
+pub(super) struct KeptCells<'k, T: Drawn> {
     cells: &'k mut [Option<KeptCell>],
     rectangles: &'k mut [Option<KeptRectangle>],
-    pub(super) separator: SeparatorKeeper<'k>,
+    separator: SeparatorKeeper<'k>,
+    of: PhantomData<T>,
+    ghost are_cells: { AllSlots (IsKept T.table) cells.now } by { Prim.hlevel props },
+    ghost are_rectangles: { AllSlots (IsRectangle T.table) rectangles.now } by { Prim.hlevel props },
+    ghost is_separator: { IfSome separator.text (IsSeparator T.table) } by { Prim.hlevel props },
 }
 
-impl<'k> KeptCells<'k> {
+impl<'k, T: Drawn> KeptCells<'k, T> {
     // Nothing is kept in these slots, which are as many as there are columns of which it may be,
     // and in the room of the separator.
     #[inline(always)]
@@ -155,21 +162,21 @@ impl<'k> KeptCells<'k> {
         cells: &'k mut [Option<KeptCell>],
         rectangles: &'k mut [Option<KeptRectangle>],
         separator: &'k mut [u8],
-    ) -> KeptCells<'k>
+    ) -> KeptCells<'k, T>
         requires cells { (column : ℕ) → slice_index_or cells.old column None ≡ None }
         requires rectangles { (column : ℕ) → slice_index_or rectangles.old column None ≡ None }
-        ensures { (t : Table) → AreKept t result }
     {
         KeptCells {
             cells,
             rectangles,
             separator: SeparatorKeeper::new(separator),
+            of: PhantomData,
         }
     }
 
     // How far the text of a cell of this size was read, if that is kept.
     pub(super) fn reading(&self, corner: Position, width: usize, height: usize) -> Option<Reading>
-        ensures { (t : Table) → AreKept t self.now → IfSome result (IsReading t corner width height) }
+        ensures { IfSome result (IsReading T.table corner width height) }
     {
         if corner.col >= self.cells.len() {
             return None;
@@ -190,7 +197,7 @@ impl<'k> KeptCells<'k> {
         height: usize,
         reading: Reading,
     )
-        ensures { (t : Table) → AreKept t self.old → IsReading t corner width height reading → AreKept t self.new }
+        requires { IsReading T.table corner width height reading }
     {
         if corner.col < self.cells.len() {
             self.cells[corner.col] = Some(KeptCell {
@@ -205,7 +212,7 @@ impl<'k> KeptCells<'k> {
     // The rectangle of a place and its lines above this row or an earlier one, if that is kept.
     pub(super) fn rectangle(&self, corner: Position, row: usize) -> Option<KeptRectangle>
         ensures of { IfSome result (λ kept. (kept.corner ≡ corner) × (kept.row ≤ row)) }
-        ensures is { (t : Table) → AreKept t self.now → IfSome result (IsRectangle t) }
+        ensures is { IfSome result (IsRectangle T.table) }
     {
         if corner.col >= self.rectangles.len() {
             return None;
@@ -220,10 +227,26 @@ impl<'k> KeptCells<'k> {
 
     // Keeps a rectangle.
     pub(super) fn keep_rectangle(&mut self, rectangle: KeptRectangle)
-        ensures { (t : Table) → AreKept t self.old → IsRectangle t rectangle → AreKept t self.new }
+        requires { IsRectangle T.table rectangle }
     {
         if rectangle.corner.col < self.rectangles.len() {
             self.rectangles[rectangle.corner.col] = Some(rectangle);
         }
+    }
+
+    // The text of each separator between two rows, if that is kept.
+    #[inline(always)]
+    pub(super) fn separator(&self) -> Option<&str>
+        ensures { IfSome result (λ text. IsSeparator T.table text.now) }
+    {
+        self.separator.text()
+    }
+
+    // Keeps what stands in a buffer from a place on, the text of each separator between two rows.
+    #[inline(always)]
+    pub(super) fn keep_separator<A: Allocator>(&mut self, buf: &String<A>, from: usize)
+        requires { IsSeparator T.table (drop from (string_bytes buf.now)) }
+    {
+        self.separator.keep(buf, from);
     }
 }

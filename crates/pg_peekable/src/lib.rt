@@ -2,6 +2,7 @@
 #![tactic(auto)]
 
 mod body;
+mod drawing;
 mod grid;
 mod kept;
 mod path;

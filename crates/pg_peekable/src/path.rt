@@ -1,9 +1,9 @@
 //! The path that draws a table: what isn't there needn't be looked for in each line.
 
-ghost use Rattle.std.specs.Prelude.{◌≡◌, ◌==◌, not, length, false, true};
+ghost use Rattle.std.specs.Prelude.{◌≡◌, ◌==◌, not, length};
 ghost use Rattle.pg_config.specs.Config.{Config};
-ghost use Rattle.pg_picture.specs.Table.{Table};
-ghost use Rattle.pg_peekable.specs.Grids.{drawn, Draws, IsBasic, HasNoSpans, is_basic_config};
+ghost use Rattle.pg_peekable.specs.Drawn.{Draws, is_spanned, is_basic, is_basic_config};
+ghost use Rattle.pg_peekable.specs.Grids.{drawn};
 
 use crate::grid::PeekableGrid;
 use pg_config::SpannedConfig;
@@ -24,7 +24,7 @@ pub(super) enum Path {
 impl Path {
     // Whether cells span others.
     pub(super) fn is_spanned(self) -> bool
-        ensures { (t : Table) → Draws self t → result ≡ false → HasNoSpans t }
+        ensures { result ≡ is_spanned self }
     {
         match self {
             Path::Spanned => true,
@@ -35,7 +35,7 @@ impl Path {
     // Whether lines have no margins, and cells no colours.
     #[inline(always)]
     pub(super) fn is_basic(self) -> bool
-        ensures { (t : Table) → Draws self t → result ≡ true → IsBasic t }
+        ensures { result ≡ is_basic self }
     {
         match self {
             Path::Basic => true,
@@ -69,7 +69,7 @@ where
 
 // Whether no colour of borders or paddings, no justification and no glyph or colour of a part of a
 // line was set, and no side has a margin.
-#[tactic(auto, unfolding(crate::specs::Grids::is_basic_config))]
+#[tactic(auto, unfolding(crate::specs::Drawn::is_basic_config))]
 fn is_basic_config<B: Allocator>(config: &SpannedConfig<B>) -> bool
     ensures { result ≡ is_basic_config config.now }
 {

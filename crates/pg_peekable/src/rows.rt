@@ -1,6 +1,6 @@
 //! The lines of rows.
 
-ghost use Rattle.std.specs.Prelude.{◌≡◌, ◌<◌, ◌++◌, true, flat_map, IsTrue};
+ghost use Rattle.std.specs.Prelude.{◌≡◌, ◌<◌, ◌++◌, true, flat_map};
 ghost use Rattle.std.specs.List.{range_with_len};
 ghost use Rattle.pg_layout.specs.Colors.{lent_color};
 ghost use Rattle.pg_picture.specs.Appending.{Appends};
@@ -8,22 +8,22 @@ ghost use Rattle.pg_picture.specs.Pieces.{written, style_at, block_line};
 ghost use Rattle.pg_picture.specs.Cells.{style_of, facts_of, place_of};
 ghost use Rattle.pg_picture.specs.Table.{row_part, row_line, vertical_at};
 ghost use Rattle.pg_picture.specs.Fits.{cell_fits};
-ghost use Rattle.pg_peekable.specs.Kept.{AreKept, Reads};
-ghost use Rattle.pg_peekable.specs.Grids.{drawn, CanDraw, HasNoSpans, IsShapeOf};
+ghost use Rattle.pg_peekable.specs.Kept.{Reads};
+ghost use Rattle.pg_peekable.specs.Drawn.{HasNoSpans};
 
-use crate::grid::{PeekableGrid, Shape};
+use crate::drawing::{Drawing, Drawn};
 use crate::kept::{KeptCells, Reading};
-use pg_config::SpannedConfig;
-use pg_layout::{ANSIFmt, Colors, Dimension, ExactRecords, PeekableRecords, Position};
+use pg_layout::{ANSIFmt, Colors, Dimension, PeekableRecords, Position};
 use pg_picture::{
     CellPlace, CellStyle, TextFacts, push_block_line_of, push_single_line, push_vertical,
     push_vertical_at,
 };
 use std::alloc::{AllocError, Allocator};
 
-impl<'a, R, D, C, B> PeekableGrid<R, &'a SpannedConfig<B>, D, C>
+impl<'g, T, R, D, C, B> Drawing<'g, T, R, D, C, B>
 where
-    R: PeekableRecords + ExactRecords,
+    T: Drawn,
+    R: PeekableRecords,
     D: Dimension,
     C: Colors,
     B: Allocator,
@@ -32,83 +32,53 @@ where
     pub(super) fn push_row_line<A: Allocator>(
         &self,
         buf: &mut String<A>,
-        kept: &mut KeptCells<'_>,
-        shape: Shape,
+        kept: &mut KeptCells<'_, T>,
         row: usize,
         line: usize,
     ) -> Result<(), AllocError>
-        requires can { CanDraw (drawn R.Records D.Dimension C.Colors self.now) }
-        requires shape { IsShapeOf (drawn R.Records D.Dimension C.Colors self.now) shape }
-        requires row { row < (drawn R.Records D.Dimension C.Colors self.now).rows }
-        requires line { line < D.height self.now.dimension row }
-        requires kept { AreKept (drawn R.Records D.Dimension C.Colors self.now) kept.old }
-        ensures appends { Appends buf.old buf.new result (written (row_line (drawn R.Records D.Dimension C.Colors self.now) row line)) }
-        ensures kept { AreKept (drawn R.Records D.Dimension C.Colors self.now) kept.new }
+        requires row { row < T.table.rows }
+        requires line { line < T.table.height row }
+        ensures { Appends buf.old buf.new result (written (row_line T.table row line)) }
     {
-        self.push_parts(buf, kept, shape, row, line)?;
-        self.push_end(buf, shape, row, line)
+        self.push_parts(buf, kept, row, line)?;
+        self.push_end(buf, row, line)
     }
 
     // What all columns add to a line of a row, by the path that the table takes.
     fn push_parts<A: Allocator>(
         &self,
         buf: &mut String<A>,
-        kept: &mut KeptCells<'_>,
-        shape: Shape,
+        kept: &mut KeptCells<'_, T>,
         row: usize,
         line: usize,
     ) -> Result<(), AllocError>
-        requires can { CanDraw (drawn R.Records D.Dimension C.Colors self.now) }
-        requires shape { IsShapeOf (drawn R.Records D.Dimension C.Colors self.now) shape }
-        requires row { row < (drawn R.Records D.Dimension C.Colors self.now).rows }
-        requires line { line < D.height self.now.dimension row }
-        requires kept { AreKept (drawn R.Records D.Dimension C.Colors self.now) kept.old }
-        ensures appends { Appends buf.old buf.new result (written (flat_map (row_part (drawn R.Records D.Dimension C.Colors self.now) row line) (range_with_len 0 (drawn R.Records D.Dimension C.Colors self.now).columns))) }
-        ensures kept { AreKept (drawn R.Records D.Dimension C.Colors self.now) kept.new }
+        requires row { row < T.table.rows }
+        requires line { line < T.table.height row }
+        ensures { Appends buf.old buf.new result (written (flat_map (row_part T.table row line) (range_with_len 0 T.table.columns))) }
     {
-        if shape.path.is_spanned() {
-            return self.push_spanned_parts(buf, kept, shape, row, line);
+        if self.is_spanned() {
+            return self.push_spanned_parts(buf, kept, row, line);
         }
-        self.push_plain_parts(buf, kept, shape, row, line)
+        self.push_plain_parts(buf, kept, row, line)
     }
 
     // The same where no cell spans rows or columns.
     fn push_plain_parts<A: Allocator>(
         &self,
         buf: &mut String<A>,
-        kept: &mut KeptCells<'_>,
-        shape: Shape,
+        kept: &mut KeptCells<'_, T>,
         row: usize,
         line: usize,
     ) -> Result<(), AllocError>
-        requires can { CanDraw (drawn R.Records D.Dimension C.Colors self.now) }
-        requires plain { HasNoSpans (drawn R.Records D.Dimension C.Colors self.now) }
-        requires shape { IsShapeOf (drawn R.Records D.Dimension C.Colors self.now) shape }
-        requires row { row < (drawn R.Records D.Dimension C.Colors self.now).rows }
-        requires line { line < D.height self.now.dimension row }
-        requires kept { AreKept (drawn R.Records D.Dimension C.Colors self.now) kept.old }
-        ensures appends { Appends buf.old buf.new result (written (flat_map (row_part (drawn R.Records D.Dimension C.Colors self.now) row line) (range_with_len 0 (drawn R.Records D.Dimension C.Colors self.now).columns))) }
-        ensures kept { AreKept (drawn R.Records D.Dimension C.Colors self.now) kept.new }
+        requires plain { HasNoSpans T.table }
+        requires row { row < T.table.rows }
+        requires line { line < T.table.height row }
+        ensures { Appends buf.old buf.new result (written (flat_map (row_part T.table row line) (range_with_len 0 T.table.columns))) }
     {
-        let is_one = self.config.has_one_style();
-        let mut style = CellStyle::of(self.config, Position::new(row, 0));
-        for column in 0..shape.columns {
-            let pos = Position::new(row, column);
-            self.change_style(&mut style, is_one, pos);
-            self.push_part(buf, kept, shape, &style, pos, line)?;
+        for column in 0..self.columns {
+            self.push_part(buf, kept, Position::new(row, column), line)?;
         }
         Ok(())
-    }
-
-    // Makes a style that of a cell: it stays as it is where all cells have one.
-    #[inline(always)]
-    fn change_style(&self, style: &mut CellStyle<'a, B>, is_one: bool, pos: Position)
-        requires known { IsTrue is_one → (p : Position) → style_of style.old ≡ style_at (drawn R.Records D.Dimension C.Colors self.now).config p }
-        ensures { style_of style.new ≡ style_at (drawn R.Records D.Dimension C.Colors self.now).config pos }
-    {
-        if !is_one {
-            *style = CellStyle::of(self.config, pos);
-        }
     }
 
     // The vertical left of a cell of one row and one column, and the cell's line.
@@ -116,43 +86,35 @@ where
     pub(super) fn push_part<A: Allocator>(
         &self,
         buf: &mut String<A>,
-        kept: &mut KeptCells<'_>,
-        shape: Shape,
-        style: &CellStyle<'_, B>,
+        kept: &mut KeptCells<'_, T>,
         pos: Position,
         line: usize,
     ) -> Result<(), AllocError>
-        requires shape { IsShapeOf (drawn R.Records D.Dimension C.Colors self.now) shape }
-        requires style { style_of style.now ≡ style_at (drawn R.Records D.Dimension C.Colors self.now).config pos }
-        requires row { pos.row < (drawn R.Records D.Dimension C.Colors self.now).rows }
-        requires column { pos.col < (drawn R.Records D.Dimension C.Colors self.now).columns }
-        requires line { line < D.height self.now.dimension pos.row }
-        requires room { cell_fits (style_at (drawn R.Records D.Dimension C.Colors self.now).config pos) ((drawn R.Records D.Dimension C.Colors self.now).text pos) (D.width self.now.dimension pos.col) (D.height self.now.dimension pos.row) ≡ true }
-        requires kept { AreKept (drawn R.Records D.Dimension C.Colors self.now) kept.old }
-        ensures appends { Appends buf.old buf.new result (written (vertical_at (drawn R.Records D.Dimension C.Colors self.now).config shape.columns (D.height self.now.dimension pos.row) pos line) ++ written (block_line (style_at (drawn R.Records D.Dimension C.Colors self.now).config pos) ((drawn R.Records D.Dimension C.Colors self.now).color pos) ((drawn R.Records D.Dimension C.Colors self.now).text pos) (D.width self.now.dimension pos.col) (D.height self.now.dimension pos.row) line)) }
-        ensures kept { AreKept (drawn R.Records D.Dimension C.Colors self.now) kept.new }
+        requires row { pos.row < T.table.rows }
+        requires column { pos.col < T.table.columns }
+        requires line { line < T.table.height pos.row }
+        requires room { cell_fits (style_at T.table.config pos) (T.table.text pos) (T.table.width pos.col) (T.table.height pos.row) ≡ true }
+        ensures { Appends buf.old buf.new result (written (vertical_at T.table.config T.table.columns (T.table.height pos.row) pos line) ++ written (block_line (style_at T.table.config pos) (T.table.color pos) (T.table.text pos) (T.table.width pos.col) (T.table.height pos.row) line)) }
     {
-        let height = self.dimension.get_height(pos.row);
-        let width = self.dimension.get_width(pos.col);
-        self.push_vertical(buf, shape, height, pos, line)?;
-        self.push_cell(buf, kept, shape, style, pos, width, height, line)
+        let height = self.height_of(pos.row);
+        let width = self.width_of(pos.col);
+        self.push_vertical(buf, height, pos, line)?;
+        self.push_cell(buf, kept, pos, width, height, line)
     }
 
     // The vertical behind the last column.
     fn push_end<A: Allocator>(
         &self,
         buf: &mut String<A>,
-        shape: Shape,
         row: usize,
         line: usize,
     ) -> Result<(), AllocError>
-        requires shape { IsShapeOf (drawn R.Records D.Dimension C.Colors self.now) shape }
-        requires line { line < D.height self.now.dimension row }
-        ensures { Appends buf.old buf.new result (written (row_part (drawn R.Records D.Dimension C.Colors self.now) row line (drawn R.Records D.Dimension C.Colors self.now).columns)) }
+        requires line { line < T.table.height row }
+        ensures { Appends buf.old buf.new result (written (row_part T.table row line T.table.columns)) }
     {
-        let height = self.dimension.get_height(row);
-        let pos = Position::new(row, shape.columns);
-        self.push_vertical(buf, shape, height, pos, line)
+        let height = self.height_of(row);
+        let pos = Position::new(row, self.columns);
+        self.push_vertical(buf, height, pos, line)
     }
 
     // A vertical, on a line of its row, which has so many. Tables of the basic path have no glyphs and
@@ -161,21 +123,19 @@ where
     pub(super) fn push_vertical<A: Allocator>(
         &self,
         buf: &mut String<A>,
-        shape: Shape,
         height: usize,
         pos: Position,
         line: usize,
     ) -> Result<(), AllocError>
-        requires shape { IsShapeOf (drawn R.Records D.Dimension C.Colors self.now) shape }
         requires line { line < height }
-        ensures { Appends buf.old buf.new result (written (vertical_at (drawn R.Records D.Dimension C.Colors self.now).config shape.columns height pos line)) }
+        ensures { Appends buf.old buf.new result (written (vertical_at T.table.config T.table.columns height pos line)) }
     {
-        if shape.path.is_basic() {
-            let glyph = self.config.get_vertical(pos, shape.columns);
-            let color = self.config.get_vertical_color(pos, shape.columns);
+        if self.is_basic() {
+            let glyph = self.config.get_vertical(pos, self.columns);
+            let color = self.config.get_vertical_color(pos, self.columns);
             return push_vertical(buf, glyph, color);
         }
-        push_vertical_at(buf, self.config, shape.columns, height, pos, line)
+        push_vertical_at(buf, self.config, self.columns, height, pos, line)
     }
 
     // Line `line` of a cell of so many columns and lines, which has room for its text.
@@ -183,28 +143,50 @@ where
     pub(super) fn push_cell<A: Allocator>(
         &self,
         buf: &mut String<A>,
-        kept: &mut KeptCells<'_>,
-        shape: Shape,
+        kept: &mut KeptCells<'_, T>,
+        pos: Position,
+        width: usize,
+        height: usize,
+        line: usize,
+    ) -> Result<(), AllocError>
+        requires row { pos.row < T.table.rows }
+        requires column { pos.col < T.table.columns }
+        requires room { cell_fits (style_at T.table.config pos) (T.table.text pos) width height ≡ true }
+        requires line { line < height }
+        ensures { Appends buf.old buf.new result (written (block_line (style_at T.table.config pos) (T.table.color pos) (T.table.text pos) width height line)) }
+    {
+        match &self.all {
+            Some(style) => self.push_cell_in_style(buf, kept, style, pos, width, height, line),
+            None => {
+                let style = self.style_of(pos);
+                self.push_cell_in_style(buf, kept, &style, pos, width, height, line)
+            }
+        }
+    }
+
+    // The same in the cell's style.
+    #[inline(always)]
+    fn push_cell_in_style<A: Allocator>(
+        &self,
+        buf: &mut String<A>,
+        kept: &mut KeptCells<'_, T>,
         style: &CellStyle<'_, B>,
         pos: Position,
         width: usize,
         height: usize,
         line: usize,
     ) -> Result<(), AllocError>
-        requires shape { IsShapeOf (drawn R.Records D.Dimension C.Colors self.now) shape }
-        requires style { style_of style.now ≡ style_at (drawn R.Records D.Dimension C.Colors self.now).config pos }
-        requires row { pos.row < (drawn R.Records D.Dimension C.Colors self.now).rows }
-        requires column { pos.col < (drawn R.Records D.Dimension C.Colors self.now).columns }
-        requires room { cell_fits (style_at (drawn R.Records D.Dimension C.Colors self.now).config pos) ((drawn R.Records D.Dimension C.Colors self.now).text pos) width height ≡ true }
+        requires style { style_of style.now ≡ style_at T.table.config pos }
+        requires row { pos.row < T.table.rows }
+        requires column { pos.col < T.table.columns }
+        requires room { cell_fits (style_at T.table.config pos) (T.table.text pos) width height ≡ true }
         requires line { line < height }
-        requires kept { AreKept (drawn R.Records D.Dimension C.Colors self.now) kept.old }
-        ensures appends { Appends buf.old buf.new result (written (block_line (style_at (drawn R.Records D.Dimension C.Colors self.now).config pos) ((drawn R.Records D.Dimension C.Colors self.now).color pos) ((drawn R.Records D.Dimension C.Colors self.now).text pos) width height line)) }
-        ensures kept { AreKept (drawn R.Records D.Dimension C.Colors self.now) kept.new }
+        ensures { Appends buf.old buf.new result (written (block_line (style_at T.table.config pos) (T.table.color pos) (T.table.text pos) width height line)) }
     {
         if height == 1 {
-            return self.push_low_cell(buf, shape, style, pos, width);
+            return self.push_low_cell(buf, style, pos, width);
         }
-        self.push_tall_cell(buf, kept, shape, style, pos, width, height, line)
+        self.push_tall_cell(buf, kept, style, pos, width, height, line)
     }
 
     // The line of a cell of one line.
@@ -212,46 +194,40 @@ where
     fn push_low_cell<A: Allocator>(
         &self,
         buf: &mut String<A>,
-        shape: Shape,
         style: &CellStyle<'_, B>,
         pos: Position,
         width: usize,
     ) -> Result<(), AllocError>
-        requires shape { IsShapeOf (drawn R.Records D.Dimension C.Colors self.now) shape }
-        requires style { style_of style.now ≡ style_at (drawn R.Records D.Dimension C.Colors self.now).config pos }
-        requires row { pos.row < (drawn R.Records D.Dimension C.Colors self.now).rows }
-        requires column { pos.col < (drawn R.Records D.Dimension C.Colors self.now).columns }
-        requires room { cell_fits (style_at (drawn R.Records D.Dimension C.Colors self.now).config pos) ((drawn R.Records D.Dimension C.Colors self.now).text pos) width 1 ≡ true }
-        ensures { Appends buf.old buf.new result (written (block_line (style_at (drawn R.Records D.Dimension C.Colors self.now).config pos) ((drawn R.Records D.Dimension C.Colors self.now).color pos) ((drawn R.Records D.Dimension C.Colors self.now).text pos) width 1 0)) }
+        requires style { style_of style.now ≡ style_at T.table.config pos }
+        requires row { pos.row < T.table.rows }
+        requires column { pos.col < T.table.columns }
+        requires room { cell_fits (style_at T.table.config pos) (T.table.text pos) width 1 ≡ true }
+        ensures { Appends buf.old buf.new result (written (block_line (style_at T.table.config pos) (T.table.color pos) (T.table.text pos) width 1 0)) }
     {
-        let text = self.records.get_text(pos);
-        push_single_line(buf, style, self.color_of(shape, pos), text, width)
+        let text = self.text_of(pos);
+        push_single_line(buf, style, self.color_of(pos), text, width)
     }
 
     // Line `line` of a cell, whose text is read on from its last line where that is kept.
     fn push_tall_cell<A: Allocator>(
         &self,
         buf: &mut String<A>,
-        kept: &mut KeptCells<'_>,
-        shape: Shape,
+        kept: &mut KeptCells<'_, T>,
         style: &CellStyle<'_, B>,
         pos: Position,
         width: usize,
         height: usize,
         line: usize,
     ) -> Result<(), AllocError>
-        requires shape { IsShapeOf (drawn R.Records D.Dimension C.Colors self.now) shape }
-        requires style { style_of style.now ≡ style_at (drawn R.Records D.Dimension C.Colors self.now).config pos }
-        requires row { pos.row < (drawn R.Records D.Dimension C.Colors self.now).rows }
-        requires column { pos.col < (drawn R.Records D.Dimension C.Colors self.now).columns }
-        requires room { cell_fits (style_at (drawn R.Records D.Dimension C.Colors self.now).config pos) ((drawn R.Records D.Dimension C.Colors self.now).text pos) width height ≡ true }
+        requires style { style_of style.now ≡ style_at T.table.config pos }
+        requires row { pos.row < T.table.rows }
+        requires column { pos.col < T.table.columns }
+        requires room { cell_fits (style_at T.table.config pos) (T.table.text pos) width height ≡ true }
         requires line { line < height }
-        requires kept { AreKept (drawn R.Records D.Dimension C.Colors self.now) kept.old }
-        ensures appends { Appends buf.old buf.new result (written (block_line (style_at (drawn R.Records D.Dimension C.Colors self.now).config pos) ((drawn R.Records D.Dimension C.Colors self.now).color pos) ((drawn R.Records D.Dimension C.Colors self.now).text pos) width height line)) }
-        ensures kept { AreKept (drawn R.Records D.Dimension C.Colors self.now) kept.new }
+        ensures { Appends buf.old buf.new result (written (block_line (style_at T.table.config pos) (T.table.color pos) (T.table.text pos) width height line)) }
     {
-        let text = self.records.get_text(pos);
-        let color = self.color_of(shape, pos);
+        let text = self.text_of(pos);
+        let color = self.color_of(pos);
         let mut reading = match kept.reading(pos, width, height) {
             Some(reading) => reading,
             None => begin_reading(style, text, width, height),
@@ -259,18 +235,6 @@ where
         let done = push_read_line(buf, style, color, text, &mut reading, width, height, line);
         kept.keep_reading(pos, width, height, reading);
         done
-    }
-
-    // The colour of a cell, which isn't looked up on the basic path.
-    #[inline(always)]
-    fn color_of(&self, shape: Shape, pos: Position) -> Option<&C::Color>
-        requires shape { IsShapeOf (drawn R.Records D.Dimension C.Colors self.now) shape }
-        ensures { lent_color C.Color.color_of result ≡ (drawn R.Records D.Dimension C.Colors self.now).color pos }
-    {
-        if shape.path.is_basic() {
-            return None;
-        }
-        self.colors.get_color(pos)
     }
 }
 

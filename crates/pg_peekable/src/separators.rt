@@ -6,19 +6,18 @@ ghost use Rattle.pg_config.specs.Config.{has_horizontal, get_horizontal};
 ghost use Rattle.pg_picture.specs.Appending.{Appends};
 ghost use Rattle.pg_picture.specs.Pieces.{separator_text, items_after, last_color};
 ghost use Rattle.pg_picture.specs.Table.{separator_items, separator_part, crossing_at, border_items};
-ghost use Rattle.pg_peekable.specs.Kept.{AreKept};
-ghost use Rattle.pg_peekable.specs.Grids.{drawn, CanDraw, HasNoSpans, IsShapeOf};
+ghost use Rattle.pg_peekable.specs.Drawn.{HasNoSpans};
 
-use crate::grid::{PeekableGrid, Shape};
+use crate::drawing::{Drawing, Drawn};
 use crate::kept::KeptCells;
-use pg_config::SpannedConfig;
-use pg_layout::{ANSIBuf, Colors, Dimension, ExactRecords, PeekableRecords, Position};
+use pg_layout::{ANSIBuf, Colors, Dimension, PeekableRecords, Position};
 use pg_picture::{Run, push_text};
 use std::alloc::{AllocError, Allocator};
 
-impl<'a, R, D, C, B> PeekableGrid<R, &'a SpannedConfig<B>, D, C>
+impl<'g, T, R, D, C, B> Drawing<'g, T, R, D, C, B>
 where
-    R: PeekableRecords + ExactRecords,
+    T: Drawn,
+    R: PeekableRecords,
     D: Dimension,
     C: Colors,
     B: Allocator,
@@ -27,22 +26,17 @@ where
     pub(super) fn push_separator<A: Allocator>(
         &self,
         buf: &mut String<A>,
-        kept: &mut KeptCells<'_>,
-        shape: Shape,
+        kept: &mut KeptCells<'_, T>,
         row: usize,
     ) -> Result<(), AllocError>
-        requires can { CanDraw (drawn R.Records D.Dimension C.Colors self.now) }
-        requires shape { IsShapeOf (drawn R.Records D.Dimension C.Colors self.now) shape }
-        requires row { row ≤ (drawn R.Records D.Dimension C.Colors self.now).rows }
-        requires there { has_horizontal (drawn R.Records D.Dimension C.Colors self.now).config row (drawn R.Records D.Dimension C.Colors self.now).rows ≡ true }
-        requires kept { AreKept (drawn R.Records D.Dimension C.Colors self.now) kept.old }
-        ensures appends { Appends buf.old buf.new result (separator_text (separator_items (drawn R.Records D.Dimension C.Colors self.now) row)) }
-        ensures kept { AreKept (drawn R.Records D.Dimension C.Colors self.now) kept.new }
+        requires row { row ≤ T.table.rows }
+        requires there { has_horizontal T.table.config row T.table.rows ≡ true }
+        ensures { Appends buf.old buf.new result (separator_text (separator_items T.table row)) }
     {
-        if 0 < row && row < shape.rows {
-            return self.push_inner_separator(buf, kept, shape, row);
+        if 0 < row && row < self.rows {
+            return self.push_inner_separator(buf, kept, row);
         }
-        self.push_new_separator(buf, kept, shape, row)
+        self.push_new_separator(buf, kept, row)
     }
 
     // The separator between two rows: the one that is kept, or a new one, which is kept where all of
@@ -50,26 +44,21 @@ where
     fn push_inner_separator<A: Allocator>(
         &self,
         buf: &mut String<A>,
-        kept: &mut KeptCells<'_>,
-        shape: Shape,
+        kept: &mut KeptCells<'_, T>,
         row: usize,
     ) -> Result<(), AllocError>
-        requires can { CanDraw (drawn R.Records D.Dimension C.Colors self.now) }
-        requires shape { IsShapeOf (drawn R.Records D.Dimension C.Colors self.now) shape }
         requires some { 0 < row }
-        requires row { row < (drawn R.Records D.Dimension C.Colors self.now).rows }
-        requires there { has_horizontal (drawn R.Records D.Dimension C.Colors self.now).config row (drawn R.Records D.Dimension C.Colors self.now).rows ≡ true }
-        requires kept { AreKept (drawn R.Records D.Dimension C.Colors self.now) kept.old }
-        ensures appends { Appends buf.old buf.new result (separator_text (separator_items (drawn R.Records D.Dimension C.Colors self.now) row)) }
-        ensures kept { AreKept (drawn R.Records D.Dimension C.Colors self.now) kept.new }
+        requires row { row < T.table.rows }
+        requires there { has_horizontal T.table.config row T.table.rows ≡ true }
+        ensures { Appends buf.old buf.new result (separator_text (separator_items T.table row)) }
     {
-        if let Some(text) = kept.separator.text() {
+        if let Some(text) = kept.separator() {
             return push_text(buf, text);
         }
         let from = buf.len();
-        self.push_new_separator(buf, kept, shape, row)?;
-        if !shape.path.is_spanned() && self.config.has_equal_row_lines() {
-            kept.separator.keep(buf, from);
+        self.push_new_separator(buf, kept, row)?;
+        if !self.is_spanned() && self.config.has_equal_row_lines() {
+            kept.keep_separator(buf, from);
         }
         Ok(())
     }
@@ -78,61 +67,49 @@ where
     fn push_new_separator<A: Allocator>(
         &self,
         buf: &mut String<A>,
-        kept: &mut KeptCells<'_>,
-        shape: Shape,
+        kept: &mut KeptCells<'_, T>,
         row: usize,
     ) -> Result<(), AllocError>
-        requires can { CanDraw (drawn R.Records D.Dimension C.Colors self.now) }
-        requires shape { IsShapeOf (drawn R.Records D.Dimension C.Colors self.now) shape }
-        requires row { row ≤ (drawn R.Records D.Dimension C.Colors self.now).rows }
-        requires there { has_horizontal (drawn R.Records D.Dimension C.Colors self.now).config row (drawn R.Records D.Dimension C.Colors self.now).rows ≡ true }
-        requires kept { AreKept (drawn R.Records D.Dimension C.Colors self.now) kept.old }
-        ensures appends { Appends buf.old buf.new result (separator_text (separator_items (drawn R.Records D.Dimension C.Colors self.now) row)) }
-        ensures kept { AreKept (drawn R.Records D.Dimension C.Colors self.now) kept.new }
+        requires row { row ≤ T.table.rows }
+        requires there { has_horizontal T.table.config row T.table.rows ≡ true }
+        ensures { Appends buf.old buf.new result (separator_text (separator_items T.table row)) }
     {
-        let run = self.push_columns(Run::new(), buf, kept, shape, row)?;
-        let run = self.push_last_crossing(run, buf, shape, row)?;
+        let run = self.push_columns(Run::new(), buf, kept, row)?;
+        let run = self.push_last_crossing(run, buf, row)?;
         run.close(buf)
     }
 
     // What all columns add to a separator, by the path that the table takes.
     fn push_columns<A: Allocator>(
         &self,
-        run: Run<'a, ANSIBuf<B>>,
+        run: Run<'g, ANSIBuf<B>>,
         buf: &mut String<A>,
-        kept: &mut KeptCells<'_>,
-        shape: Shape,
+        kept: &mut KeptCells<'_, T>,
         row: usize,
-    ) -> Result<Run<'a, ANSIBuf<B>>, AllocError>
-        requires can { CanDraw (drawn R.Records D.Dimension C.Colors self.now) }
-        requires shape { IsShapeOf (drawn R.Records D.Dimension C.Colors self.now) shape }
-        requires there { has_horizontal (drawn R.Records D.Dimension C.Colors self.now).config row (drawn R.Records D.Dimension C.Colors self.now).rows ≡ true }
-        requires kept { AreKept (drawn R.Records D.Dimension C.Colors self.now) kept.old }
-        ensures appends { Appends buf.old buf.new result (items_after run.entry (flat_map (separator_part (drawn R.Records D.Dimension C.Colors self.now) row) (range_with_len 0 (drawn R.Records D.Dimension C.Colors self.now).columns))) }
-        ensures color { IfOk result (λ after. after ≡ last_color run.entry (flat_map (separator_part (drawn R.Records D.Dimension C.Colors self.now) row) (range_with_len 0 (drawn R.Records D.Dimension C.Colors self.now).columns))) }
-        ensures kept { AreKept (drawn R.Records D.Dimension C.Colors self.now) kept.new }
+    ) -> Result<Run<'g, ANSIBuf<B>>, AllocError>
+        requires there { has_horizontal T.table.config row T.table.rows ≡ true }
+        ensures appends { Appends buf.old buf.new result (items_after run.entry (flat_map (separator_part T.table row) (range_with_len 0 T.table.columns))) }
+        ensures color { IfOk result (λ after. after ≡ last_color run.entry (flat_map (separator_part T.table row) (range_with_len 0 T.table.columns))) }
     {
-        if shape.path.is_spanned() {
-            return self.push_spanned_columns(run, buf, kept, shape, row);
+        if self.is_spanned() {
+            return self.push_spanned_columns(run, buf, kept, row);
         }
-        self.push_plain_columns(run, buf, shape, row)
+        self.push_plain_columns(run, buf, row)
     }
 
     // The same where no cell spans rows or columns.
     fn push_plain_columns<A: Allocator>(
         &self,
-        mut run: Run<'a, ANSIBuf<B>>,
+        mut run: Run<'g, ANSIBuf<B>>,
         buf: &mut String<A>,
-        shape: Shape,
         row: usize,
-    ) -> Result<Run<'a, ANSIBuf<B>>, AllocError>
-        requires plain { HasNoSpans (drawn R.Records D.Dimension C.Colors self.now) }
-        requires shape { IsShapeOf (drawn R.Records D.Dimension C.Colors self.now) shape }
-        ensures appends { Appends buf.old buf.new result (items_after run.entry (flat_map (separator_part (drawn R.Records D.Dimension C.Colors self.now) row) (range_with_len 0 (drawn R.Records D.Dimension C.Colors self.now).columns))) }
-        ensures color { IfOk result (λ after. after ≡ last_color run.entry (flat_map (separator_part (drawn R.Records D.Dimension C.Colors self.now) row) (range_with_len 0 (drawn R.Records D.Dimension C.Colors self.now).columns))) }
+    ) -> Result<Run<'g, ANSIBuf<B>>, AllocError>
+        requires plain { HasNoSpans T.table }
+        ensures appends { Appends buf.old buf.new result (items_after run.entry (flat_map (separator_part T.table row) (range_with_len 0 T.table.columns))) }
+        ensures color { IfOk result (λ after. after ≡ last_color run.entry (flat_map (separator_part T.table row) (range_with_len 0 T.table.columns))) }
     {
-        for column in 0..shape.columns {
-            run = self.push_column(run, buf, shape, Position::new(row, column))?;
+        for column in 0..self.columns {
+            run = self.push_column(run, buf, Position::new(row, column))?;
         }
         Ok(run)
     }
@@ -141,32 +118,42 @@ where
     #[inline(always)]
     pub(super) fn push_column<A: Allocator>(
         &self,
-        run: Run<'a, ANSIBuf<B>>,
+        run: Run<'g, ANSIBuf<B>>,
         buf: &mut String<A>,
-        shape: Shape,
         pos: Position,
-    ) -> Result<Run<'a, ANSIBuf<B>>, AllocError>
-        ensures appends { Appends buf.old buf.new result (items_after run.entry (crossing_at (drawn R.Records D.Dimension C.Colors self.now).config shape.rows shape.columns pos ++ border_items (drawn R.Records D.Dimension C.Colors self.now).config pos shape.rows (D.width self.now.dimension pos.col) (get_horizontal (drawn R.Records D.Dimension C.Colors self.now).config pos shape.rows))) }
-        ensures color { IfOk result (λ after. after ≡ last_color run.entry (crossing_at (drawn R.Records D.Dimension C.Colors self.now).config shape.rows shape.columns pos ++ border_items (drawn R.Records D.Dimension C.Colors self.now).config pos shape.rows (D.width self.now.dimension pos.col) (get_horizontal (drawn R.Records D.Dimension C.Colors self.now).config pos shape.rows))) }
+    ) -> Result<Run<'g, ANSIBuf<B>>, AllocError>
+        ensures appends { Appends buf.old buf.new result (items_after run.entry (crossing_at T.table.config T.table.rows T.table.columns pos ++ border_items T.table.config pos T.table.rows (T.table.width pos.col) (get_horizontal T.table.config pos T.table.rows))) }
+        ensures color { IfOk result (λ after. after ≡ last_color run.entry (crossing_at T.table.config T.table.rows T.table.columns pos ++ border_items T.table.config pos T.table.rows (T.table.width pos.col) (get_horizontal T.table.config pos T.table.rows))) }
     {
-        let width = self.dimension.get_width(pos.col);
-        let run = run.crossing(buf, self.config, pos, (shape.rows, shape.columns))?;
-        run.border(buf, self.config, pos, width, shape.rows)
+        let width = self.width_of(pos.col);
+        let run = self.push_crossing(run, buf, pos)?;
+        run.border(buf, self.config, pos, width, self.rows)
+    }
+
+    // The crossing at a place.
+    #[inline(always)]
+    pub(super) fn push_crossing<A: Allocator>(
+        &self,
+        run: Run<'g, ANSIBuf<B>>,
+        buf: &mut String<A>,
+        pos: Position,
+    ) -> Result<Run<'g, ANSIBuf<B>>, AllocError>
+        ensures appends { Appends buf.old buf.new result (items_after run.entry (crossing_at T.table.config T.table.rows T.table.columns pos)) }
+        ensures color { IfOk result (λ after. after ≡ last_color run.entry (crossing_at T.table.config T.table.rows T.table.columns pos)) }
+    {
+        run.crossing(buf, self.config, pos, (self.rows, self.columns))
     }
 
     // The crossing behind the last column.
     fn push_last_crossing<A: Allocator>(
         &self,
-        run: Run<'a, ANSIBuf<B>>,
+        run: Run<'g, ANSIBuf<B>>,
         buf: &mut String<A>,
-        shape: Shape,
         row: usize,
-    ) -> Result<Run<'a, ANSIBuf<B>>, AllocError>
-        requires shape { IsShapeOf (drawn R.Records D.Dimension C.Colors self.now) shape }
-        ensures appends { Appends buf.old buf.new result (items_after run.entry (separator_part (drawn R.Records D.Dimension C.Colors self.now) row (drawn R.Records D.Dimension C.Colors self.now).columns)) }
-        ensures color { IfOk result (λ after. after ≡ last_color run.entry (separator_part (drawn R.Records D.Dimension C.Colors self.now) row (drawn R.Records D.Dimension C.Colors self.now).columns)) }
+    ) -> Result<Run<'g, ANSIBuf<B>>, AllocError>
+        ensures appends { Appends buf.old buf.new result (items_after run.entry (separator_part T.table row T.table.columns)) }
+        ensures color { IfOk result (λ after. after ≡ last_color run.entry (separator_part T.table row T.table.columns)) }
     {
-        let pos = Position::new(row, shape.columns);
-        run.crossing(buf, self.config, pos, (shape.rows, shape.columns))
+        self.push_crossing(run, buf, Position::new(row, self.columns))
     }
 }

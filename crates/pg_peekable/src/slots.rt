@@ -5,12 +5,10 @@ ghost use Rattle.pg_picture.specs.Appending.{Appends};
 ghost use Rattle.pg_picture.specs.Joined.{lines_before};
 ghost use Rattle.pg_picture.specs.Picture.{body_text};
 ghost use Rattle.pg_picture.specs.Table.{Known, table_body};
-ghost use Rattle.pg_peekable.specs.Grids.{drawn, CanDraw, IsShapeOf};
 
-use crate::grid::{PeekableGrid, Shape};
+use crate::drawing::{Drawing, Drawn};
 use crate::kept::{KeptCell, KeptCells, KeptRectangle, no_slots};
-use pg_config::SpannedConfig;
-use pg_layout::{Colors, Dimension, ExactRecords, PeekableRecords};
+use pg_layout::{Colors, Dimension, PeekableRecords};
 use pg_picture::SEPARATOR_ROOM;
 use std::alloc::{AllocError, Allocator};
 
@@ -23,9 +21,10 @@ const SOME: usize = 128;
 /// For how many columns something is kept at most.
 const MANY: usize = 1024;
 
-impl<'a, R, D, C, B> PeekableGrid<R, &'a SpannedConfig<B>, D, C>
+impl<'g, T, R, D, C, B> Drawing<'g, T, R, D, C, B>
 where
-    R: PeekableRecords + ExactRecords,
+    T: Drawn,
+    R: PeekableRecords,
     D: Dimension,
     C: Colors,
     B: Allocator,
@@ -35,39 +34,48 @@ where
     pub(super) fn push_kept_body<A: Allocator>(
         &self,
         buf: &mut String<A>,
-        shape: Shape,
         is_first: bool,
     ) -> Result<(), AllocError>
-        requires can { CanDraw (drawn R.Records D.Dimension C.Colors self.now) }
-        requires shape { IsShapeOf (drawn R.Records D.Dimension C.Colors self.now) shape }
-        ensures { Appends buf.old buf.new result (body_text Known (drawn R.Records D.Dimension C.Colors self.now) (lines_before is_first) 0 (table_body (drawn R.Records D.Dimension C.Colors self.now))) }
+        ensures { Appends buf.old buf.new result (body_text Known T.table (lines_before is_first) 0 (table_body T.table)) }
     {
         let mut separator = [0; SEPARATOR_ROOM];
-        if shape.columns <= FEW || !self.may_have_tall_cells(shape) {
+        if self.columns <= FEW || !self.may_have_tall_cells() {
             let mut cells: [Option<KeptCell>; FEW] = no_slots();
             let mut rectangles: [Option<KeptRectangle>; FEW] = no_slots();
-            let mut kept = KeptCells::new(&mut cells, &mut rectangles, &mut separator);
-            return self.push_body(buf, &mut kept, shape, is_first);
+            let mut kept: KeptCells<'_, T> = KeptCells::new(
+                &mut cells,
+                &mut rectangles,
+                &mut separator,
+            );
+            return self.push_body(buf, &mut kept, is_first);
         }
-        if shape.columns <= SOME {
+        if self.columns <= SOME {
             let mut cells: [Option<KeptCell>; SOME] = no_slots();
             let mut rectangles: [Option<KeptRectangle>; SOME] = no_slots();
-            let mut kept = KeptCells::new(&mut cells, &mut rectangles, &mut separator);
-            return self.push_body(buf, &mut kept, shape, is_first);
+            let mut kept: KeptCells<'_, T> = KeptCells::new(
+                &mut cells,
+                &mut rectangles,
+                &mut separator,
+            );
+            return self.push_body(buf, &mut kept, is_first);
         }
         let mut cells: [Option<KeptCell>; MANY] = no_slots();
         let mut rectangles: [Option<KeptRectangle>; MANY] = no_slots();
-        let mut kept = KeptCells::new(&mut cells, &mut rectangles, &mut separator);
-        self.push_body(buf, &mut kept, shape, is_first)
+        let mut kept: KeptCells<'_, T> = KeptCells::new(
+            &mut cells,
+            &mut rectangles,
+            &mut separator,
+        );
+        self.push_body(buf, &mut kept, is_first)
     }
 
     // Whether a cell may have more lines than one.
-    fn may_have_tall_cells(&self, shape: Shape) -> bool {
-        if shape.path.is_spanned() {
+    fn may_have_tall_cells(&self) -> bool {
+        if self.is_spanned() {
             return true;
         }
-        for row in 0..shape.rows {
-            if self.dimension.get_height(row) > 1 {
+        for row in 0..self.rows {
+            if self.height_of(row) > 1 {
                 return true;
             }
         }

@@ -7,6 +7,7 @@ pub mod Fits
 pub mod SpansByColumns
 pub mod Joined
 pub mod Cells
+pub mod Styles
 pub mod Sizes
 pub mod Fitting
 pub mod Straight

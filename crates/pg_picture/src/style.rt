@@ -1,9 +1,11 @@
 //! How a cell is drawn: what its table's configuration answers at its place.
 
 ghost use Rattle.std.specs.Prelude.{◌≡◌, ◌+◌, ◌≤◌};
+ghost use Rattle.std.specs.Option.{ForSome};
 ghost use Rattle.pg_picture.specs.Pieces.{style_at, inner_width};
 ghost use Rattle.pg_picture.specs.Cells.{style_of, shows_texts_whole};
 ghost use Rattle.pg_picture.specs.Fits.{cell_fits};
+ghost use Rattle.pg_picture.specs.Styles.{IsStyleOfAll};
 
 use crate::fits::text_fits;
 use pg_config::SpannedConfig;
@@ -47,6 +49,16 @@ impl<'a, A: Allocator> CellStyle<'a, A> {
             justification: config.get_justification(pos),
             justification_color: config.get_justification_color(pos),
         }
+    }
+
+    /// The style that all cells have, where no setting is for some of them.
+    pub fn of_all(config: &'a SpannedConfig<A>) -> Option<CellStyle<'a, A>>
+        ensures { ForSome result (λ style. IsStyleOfAll config.now (style_of style)) }
+    {
+        if !config.has_one_style() {
+            return None;
+        }
+        Some(CellStyle::of(config, Position::new(0, 0)))
     }
 
     // How many of a cell's columns the side paddings leave. The cell has room for them.

@@ -17,7 +17,8 @@ ghost use Rattle.pg_picture.specs.Sizes.{height_of_rect};
 ghost use Rattle.pg_stream.specs.Placed.{slot_of, IsPlaced};
 ghost use Rattle.pg_stream.specs.Slots.{slot_block};
 ghost use Rattle.pg_stream.specs.Drawing.{top_text};
-ghost use Rattle.pg_stream.specs.Styles.{IsStyleOfAll, DrawsAs};
+ghost use Rattle.pg_picture.specs.Styles.{IsStyleOfAll};
+ghost use Rattle.pg_stream.specs.Styles.{DrawsAs};
 ghost use Rattle.pg_stream.specs.Turns.{place_in, new_cell};
 
 use crate::open_cell::OpenCell;
@@ -45,16 +46,6 @@ pub(crate) struct Frame<'a, D, C, B: Allocator = Global> {
     /// The style that all cells have, where no setting is for some of them.
     pub(crate) all: Option<CellStyle<'a, B>>,
     ghost is_of_all: { ForSome all (λ style. IsStyleOfAll config.now (style_of style)) },
-}
-
-// The style that all cells have, where no setting is for some of them.
-pub(crate) fn style_of_all<B: Allocator>(config: &SpannedConfig<B>) -> Option<CellStyle<'_, B>>
-    ensures { ForSome result (λ style. IsStyleOfAll config.now (style_of style)) }
-{
-    if !config.has_one_style() {
-        return None;
-    }
-    Some(CellStyle::of(config, Position::new(0, 0)))
 }
 
 impl<'a, D: Dimension, C: Colors, B: Allocator> Frame<'a, D, C, B> {

@@ -13,12 +13,12 @@ ghost use Rattle.pg_stream.specs.Printers.{printing};
 ghost use Rattle.pg_stream.specs.Drawing.{IsSeparator};
 ghost use Rattle.pg_stream.specs.Printing.{printer, frame_of, row_text, finish_text, after_row};
 
-use crate::frame::{Frame, style_of_all};
+use crate::frame::Frame;
 use crate::open_cells::OpenCells;
 use pg_config::SpannedConfig;
 use pg_layout::{Colors, Dimension};
 use pg_picture::fits::{body_height, full_width};
-use pg_picture::{SeparatorKeeper, push_bottom_margin};
+use pg_picture::{CellStyle, SeparatorKeeper, push_bottom_margin};
 use std::alloc::{AllocError, Allocator, Global};
 use std::convert::AsStr;
 use std::marker::Model;
@@ -109,7 +109,7 @@ impl<'a, S: AsStr + Drop, D: Dimension, C: Colors, B: Allocator, A: Allocator> R
                 columns,
                 width,
                 height,
-                all: style_of_all(config),
+                all: CellStyle::of_all(config),
             },
             hint,
             cells,

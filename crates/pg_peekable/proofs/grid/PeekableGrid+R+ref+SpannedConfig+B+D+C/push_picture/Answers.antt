@@ -29,8 +29,8 @@ unwrap-width-requires g c = is_some_answer (width-answer (drawn g.R.Records g.D.
 pub unwrap-height-requires : goal.unwrap-height-requires
 unwrap-height-requires g c = is_some_answer (height-answer (drawn g.R.Records g.D.Dimension g.C.Colors c.args.self.now) c.args.rows c.requires.can c.requires.rows c.body_height.ensures)
 
-pub push_kept_body-requires-clause-shape : goal.push_kept_body-requires-clause-shape
-push_kept_body-requires-clause-shape g c =
+pub push_drawn-requires-clause-shape : goal.push_drawn-requires-clause-shape
+push_drawn-requires-clause-shape g c =
     let t = drawn g.R.Records g.D.Dimension g.C.Colors c.args.self.now in
     let height : c.unwrap-height.result ≡ length (table_body t) =
     some_is c.unwrap-height.result (body_height t) (sym c.unwrap-height.ensures ∙ height-answer t c.args.rows c.requires.can c.requires.rows c.body_height.ensures) ∙ sym (length-table_body t) in
@@ -49,8 +49,8 @@ returns-in_err-push_top_margin g c =
     ++ continued (lines_before last) (replicate t.config.margin.bottom.size (written (margin_line t.config.margin.bottom t.config.margin_offset.bottom t.config.margin_color.bottom c.unwrap-width.result))))
     c.from_residual.ensures.0 c.in_err-push_top_margin.ensures)
 
-pub returns-in_err-push_kept_body : goal.returns-in_err-push_kept_body
-returns-in_err-push_kept_body g c =
+pub returns-in_err-push_drawn : goal.returns-in_err-push_drawn
+returns-in_err-push_drawn g c =
     let t = drawn g.R.Records g.D.Dimension g.C.Colors c.args.self.now in
     let wide = some_is c.unwrap-width.result (full_width t) (sym c.unwrap-width.ensures ∙ width-answer t c.args.columns c.requires.can c.requires.columns c.full_width.ensures) in
     let high = some_is c.unwrap-height.result (body_height t) (sym c.unwrap-height.ensures ∙ height-answer t c.args.rows c.requires.can c.requires.rows c.body_height.ensures) ∙ sym (length-table_body t) in
@@ -59,7 +59,7 @@ returns-in_err-push_kept_body g c =
     Appends-text (picture-parts Known t c.unwrap-width.result c.unwrap-height.result {is_first = first} {is_last = last} wide high (ap (λ (m : Sides Indent). m.top.size == 0) c.get_margin.ensures) refl)
     (c.in_ok-push_top_margin.ensures then stopped
     (continued (lines_before last) (replicate t.config.margin.bottom.size (written (margin_line t.config.margin.bottom t.config.margin_offset.bottom t.config.margin_color.bottom c.unwrap-width.result))))
-    c.from_residual-in_err-push_kept_body.ensures.0 c.in_err-push_kept_body.ensures)
+    c.from_residual-in_err-push_drawn.ensures.0 c.in_err-push_drawn.ensures)
 
 pub returns : goal.returns
 returns g c =
@@ -73,4 +73,4 @@ returns g c =
       | else-is_first w ↦ (let e : first ≡ false = grind (arith, nat_tests, w.if-is_first.false) in w.push_bottom_margin-is ∙ e ∙ ap (λ b. b && (c.unwrap-height.result == 0)) (sym e))
     ] in
     Appends-text (picture-parts Known t c.unwrap-width.result c.unwrap-height.result {is_first = first} {is_last = c.if-is_first.push_bottom_margin} wide high (ap (λ (m : Sides Indent). m.top.size == 0) c.get_margin.ensures) last)
-    (c.in_ok-push_top_margin.ensures then (c.in_ok-push_kept_body.ensures then c.push_bottom_margin.ensures))
+    (c.in_ok-push_top_margin.ensures then (c.in_ok-push_drawn.ensures then c.push_bottom_margin.ensures))

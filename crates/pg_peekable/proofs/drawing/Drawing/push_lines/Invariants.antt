@@ -1,0 +1,13 @@
+use Rattle.std.proofs.Common.{map}
+use Rattle.std.specs.List.{range_with_len}
+use Rattle.pg_picture.specs.Appending.{Gained}
+use Rattle.pg_picture.specs.Marks.{line}
+use Rattle.pg_picture.specs.Table.{Known}
+use Rattle.pg_picture.specs.Joined.{lines_before}
+use Rattle.pg_picture.specs.Picture.{body_text}
+use Rattle.pg_peekable.proofs.drawing.Drawing.push_lines.Given as goal
+
+abbrev pub invariant-loop-number : goal.invariant-loop-number
+invariant-loop-number g l =
+    let t = g.T.Drawn.table in
+    Gained l.fn.buf l.buf (body_text Known t (lines_before l.is_first) l.index (map (line l.row) (range_with_len 0 l.number)))

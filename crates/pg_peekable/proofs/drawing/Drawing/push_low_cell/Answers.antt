@@ -1,0 +1,19 @@
+use Rattle.std.proofs.Common.{◌≡◌, true, ap₂, ◌∙◌, arith}
+use Rattle.pg_picture.specs.Cells.{style_of}
+use Rattle.pg_picture.specs.Fits.{cell_fits}
+use Rattle.pg_picture.proofs.Room.{cell_fits-room}
+use Rattle.pg_peekable.proofs.drawing.Drawing.push_low_cell.Goals as goal
+
+pub push_single_line-requires-clause-width : goal.push_single_line-requires-clause-width
+push_single_line-requires-clause-width g c =
+    let style = style_of c.args.style.now in
+    let text = c.text_of-text.result.now in
+    let fits : cell_fits style text c.args.width 1 ≡ true = ap₂ (λ s x. cell_fits s x c.args.width 1) c.requires.style c.text_of-text.ensures ∙ c.requires.room in
+    (cell_fits-room style text c.args.width 1 fits (omega arith)).0
+
+pub push_single_line-requires-clause-height : goal.push_single_line-requires-clause-height
+push_single_line-requires-clause-height g c =
+    let style = style_of c.args.style.now in
+    let text = c.text_of-text.result.now in
+    let fits : cell_fits style text c.args.width 1 ≡ true = ap₂ (λ s x. cell_fits s x c.args.width 1) c.requires.style c.text_of-text.ensures ∙ c.requires.room in
+    (cell_fits-room style text c.args.width 1 fits (omega arith)).1

@@ -1,0 +1,21 @@
+use Rattle.std.proofs.Common.{sym}
+use Rattle.pg_picture.specs.Pieces.{written}
+use Rattle.pg_picture.specs.Table.{row_part, row_line}
+use Rattle.pg_picture.proofs.Appending.{Appends-text, ◌then◌, stopped}
+use Rattle.pg_peekable.proofs.RowParts.{written-columns}
+use Rattle.pg_peekable.proofs.drawing.Drawing.push_row_line.Goals as goal
+
+pub returns-in_err-push_parts : goal.returns-in_err-push_parts
+unfolding row_line
+returns-in_err-push_parts g c =
+    let t = g.T.Drawn.table in
+    Appends-text (sym (written-columns (row_part t c.args.row c.args.line) t.columns))
+    (stopped (written (row_part t c.args.row c.args.line t.columns)) c.from_residual.ensures.0 c.in_err-push_parts.ensures)
+
+pub returns : goal.returns
+unfolding row_line
+returns g c =
+    let t = g.T.Drawn.table in
+    let part = row_part t c.args.row c.args.line in
+    Appends-text (sym (written-columns part t.columns))
+    (c.in_ok-push_parts.ensures then c.push_end.ensures)

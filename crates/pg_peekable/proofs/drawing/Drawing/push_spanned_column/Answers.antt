@@ -1,0 +1,27 @@
+use Rattle.std.proofs.Common.{ap, sym, ◌∙◌}
+use Rattle.pg_picture.specs.Pieces.{items_after, last_color}
+use Rattle.pg_picture.proofs.Appending.{Appends-text}
+use Rattle.pg_picture.proofs.Separators.{IfOk-same}
+use Rattle.pg_peekable.proofs.CanDraw.{in_order}
+use Rattle.pg_peekable.proofs.SeparatorParts.{border-items, block-items}
+use Rattle.pg_peekable.proofs.drawing.Drawing.push_spanned_column.Goals as goal
+
+pub returns-in-None-clause-appends : goal.returns-in-None-clause-appends
+returns-in-None-clause-appends g c =
+    let t = g.T.Drawn.table in
+    Appends-text (ap (items_after c.args.run) (border-items t (in_order t c.args.self.now.can) c.args.pos c.requires.starts c.requires.column (sym c.requires.span ∙ c.in-None.is))) c.push_column.ensures.appends
+
+pub returns-in-None-clause-color : goal.returns-in-None-clause-color
+returns-in-None-clause-color g c =
+    let t = g.T.Drawn.table in
+    IfOk-same (ap (last_color c.args.run) (border-items t (in_order t c.args.self.now.can) c.args.pos c.requires.starts c.requires.column (sym c.requires.span ∙ c.in-None.is))) c.push_column.result c.push_column.ensures.color
+
+pub returns-in-Some-clause-appends : goal.returns-in-Some-clause-appends
+returns-in-Some-clause-appends g c =
+    let t = g.T.Drawn.table in
+    Appends-text (ap (items_after c.args.run) (block-items t (in_order t c.args.self.now.can) c.args.pos c.requires.starts c.requires.column c.in-Some.span (sym c.requires.span ∙ c.in-Some.is))) c.push_block.ensures.appends
+
+pub returns-in-Some-clause-color : goal.returns-in-Some-clause-color
+returns-in-Some-clause-color g c =
+    let t = g.T.Drawn.table in
+    IfOk-same (ap (last_color c.args.run) (block-items t (in_order t c.args.self.now.can) c.args.pos c.requires.starts c.requires.column c.in-Some.span (sym c.requires.span ∙ c.in-Some.is))) c.push_block.result c.push_block.ensures.color
