@@ -44,7 +44,7 @@ module _ {G : Type 0} (b : Borders G) (r m s n : ℕ) (inner_r : IsInner r m) (i
   crossing_glyph-inner c columns = ends-inner _ _ _ r m s n inner_r inner_s
 
 -- two lists without an entry
-nothing : {V W : Type 0} (xs : List V) (ys : List W) → not (has_some xs || has_some ys) ≡ true → (xs ≡ []) × (ys ≡ [])
+pub nothing : {V W : Type 0} (xs : List V) (ys : List W) → not (has_some xs || has_some ys) ≡ true → (xs ≡ []) × (ys ≡ [])
 nothing [] [] h = (refl, refl)
 nothing [] (y ∷ ys) h = absurd (false≢true h)
 nothing (x ∷ xs) ys h = absurd (false≢true h)

@@ -1,6 +1,7 @@
 -- Lemmas of this crate.
 pub mod LinesLaw
 pub mod EqualLines
+pub mod ColumnLines
 pub mod OneStyle
 pub mod Lookups
 mod TakenBack

@@ -16,7 +16,7 @@ use Rattle.pg_layout.specs.declared.borders.Borders.{Borders}
 use Rattle.pg_layout.specs.Colors.{Color}
 use Rattle.pg_layout.specs.Borders.{no_borders, has_top, has_bottom, has_left, has_right, has_inner_horizontal, has_inner_vertical, has_side, horizontal_glyph, vertical_glyph, crossing_glyph}
 use Rattle.pg_config.specs.Settings.{Settings, no_settings, setting_of, is_set, is_for_all}
-use Rattle.pg_config.specs.Overrides.{Overrides, no_overrides, horizontal_override, vertical_override, crossing_override, overrides_row, overrides_column, sets_rows}
+use Rattle.pg_config.specs.Overrides.{Overrides, no_overrides, horizontal_override, vertical_override, crossing_override, overrides_row, overrides_column, sets_rows, sets_columns}
 use Rattle.pg_config.specs.Offsets.{Offsets, no_offsets, is_offset_at, has_offsets}
 use Rattle.pg_config.specs.Spans.{Span}
 
@@ -120,6 +120,11 @@ unfoldable pub has_vertical : Config → ℕ → ℕ → Bool
 has_vertical config c columns =
     has_side (has_left config.borders) (has_inner_vertical config.borders) (has_right config.borders) c columns
     || overrides_column config.overrides c
+
+-- some column line is there, in a table of some number of columns
+unfoldable pub has_column_lines : Config → Bool
+has_column_lines config =
+    ((has_left config.borders || has_right config.borders) || has_inner_vertical config.borders) || sets_columns config.overrides
 
 -- how many lines are there, of the lines 0 to `rows` and 0 to `columns`
 unfoldable pub count_horizontal : Config → ℕ → ℕ

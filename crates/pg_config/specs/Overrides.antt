@@ -64,6 +64,10 @@ module _ {G : Type 0} where
   abbrev pub sets_rows : Overrides G → Bool
   sets_rows o = has_some o.horizontals || has_some o.crossings
 
+  -- a vertical place or a crossing is overridden
+  abbrev pub sets_columns : Overrides G → Bool
+  sets_columns o = has_some o.verticals || has_some o.crossings
+
   -- a horizontal place or a crossing of row line r is overridden
   unfoldable pub overrides_row : Overrides G → ℕ → Bool
   overrides_row o r = has_first r o.horizontals || has_first r o.crossings

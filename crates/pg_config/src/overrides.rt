@@ -1,7 +1,7 @@
 //! What was set for single places of the border lines.
 
 ghost use Rattle.std.specs.Prelude.{◌≡◌, ◌^◌, ◌<◌, option_map, OnOk, OnErr};
-ghost use Rattle.pg_config.specs.Overrides.{no_overrides, with_border, with_row_line, horizontal_override, vertical_override, crossing_override, overrides_row, overrides_column, sets_rows};
+ghost use Rattle.pg_config.specs.Overrides.{no_overrides, with_border, with_row_line, horizontal_override, vertical_override, crossing_override, overrides_row, overrides_column, sets_rows, sets_columns};
 
 use crate::lines::Lines;
 use pg_layout::{Border, HorizontalLine, Position};
@@ -67,6 +67,14 @@ impl<G, A: Allocator> Overrides<G, A> {
     {
         let lines = &self.lines;
         !lines.horizontals.places().is_empty() || !lines.crossings.places().is_empty()
+    }
+
+    /// Whether a vertical or a crossing has a value.
+    pub fn sets_columns(&self) -> bool
+        ensures { result ≡ sets_columns self.now }
+    {
+        let lines = &self.lines;
+        !lines.verticals.places().is_empty() || !lines.crossings.places().is_empty()
     }
 
     /// Whether a horizontal or a crossing of this row line has a value.

@@ -5,7 +5,7 @@ use Rattle.pg_layout.specs.Places.{IsAscending}
 use Rattle.pg_config.specs.Config.{Config, default_config, has_padding_color, has_justification, has_offset_chars}
 use Rattle.pg_config.specs.Spans.{Span, StandAtPlaces, begins_above, is_left}
 use Rattle.pg_picture.specs.Table.{Table, table_body}
-use Rattle.pg_picture.specs.FitLaws.{TableFits}
+use Rattle.pg_picture.specs.Fitting.{TableFits}
 use Rattle.pg_peekable.specs.declared.path.Path.{Path}
 use Rattle.pg_peekable.specs.declared.path.Path.TheVariants.{Basic, NotSpanned, Spanned}
 

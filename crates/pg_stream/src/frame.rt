@@ -4,7 +4,7 @@ ghost use Rattle.std.specs.Prelude.{◌≡◌, ◌+◌, ◌<◌, ◌≤◌, ◌+
 ghost use Rattle.std.specs.Option.{ForSome};
 ghost use Rattle.pg_picture.specs.Joined.{feed_before};
 ghost use Rattle.pg_picture.specs.Table.{vertical, side_margin_at};
-ghost use Rattle.pg_config.specs.Config.{has_equal_row_lines};
+ghost use Rattle.pg_config.specs.Config.{has_column_lines, has_equal_row_lines};
 ghost use Rattle.pg_config.specs.Spans.{rect_rows, rect_columns};
 ghost use Rattle.pg_layout.specs.Text.{lines_of};
 ghost use Rattle.pg_picture.specs.Cells.{style_of};
@@ -46,6 +46,9 @@ pub(crate) struct Frame<'a, D, C, B: Allocator = Global> {
     /// The style that all cells have, where no setting is for some of them.
     pub(crate) all: Option<CellStyle<'a, B>>,
     ghost is_of_all: { ForSome all (λ style. IsStyleOfAll config.now (style_of style)) },
+    /// Whether some column line is there: else no vertical has a glyph.
+    pub(crate) draws_verticals: bool,
+    ghost is_lined: { draws_verticals ≡ has_column_lines config.now },
 }
 
 impl<'a, D: Dimension, C: Colors, B: Allocator> Frame<'a, D, C, B> {
@@ -152,6 +155,9 @@ impl<'a, D: Dimension, C: Colors, B: Allocator> Frame<'a, D, C, B> {
         requires { line < (frame_table D.width D.height C.color self.now).height pos.row }
         ensures { Appends buf.old buf.new result (written (vertical (frame_table D.width D.height C.color self.now) pos.row line pos.col)) }
     {
+        if !self.draws_verticals {
+            return Ok(());
+        }
         let height = self.dimension.get_height(pos.row);
         push_vertical_at(buf, self.config, self.columns, height, pos, line)
     }

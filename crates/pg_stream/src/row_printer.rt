@@ -110,6 +110,7 @@ impl<'a, S: AsStr + Drop, D: Dimension, C: Colors, B: Allocator, A: Allocator> R
                 width,
                 height,
                 all: CellStyle::of_all(config),
+                draws_verticals: config.has_column_lines(),
             },
             hint,
             cells,

@@ -3,7 +3,7 @@
 ghost use Rattle.std.specs.Prelude.{◌≡◌, ◌<◌, ◌+◌, ◌^◌, true, option_map, OnOk, OnErr};
 ghost use Rattle.pg_layout.specs.Borders.{has_side, ends, horizontal_glyph, vertical_glyph, crossing_glyph};
 ghost use Rattle.pg_config.specs.Overrides.{with_border, with_row_line};
-ghost use Rattle.pg_config.specs.Config.{missing_if, count_horizontal, count_vertical, has_horizontal, has_vertical, get_horizontal, get_vertical, get_intersection, get_horizontal_color, get_vertical_color, get_intersection_color, has_equal_row_lines};
+ghost use Rattle.pg_config.specs.Config.{missing_if, count_horizontal, count_vertical, has_horizontal, has_vertical, get_horizontal, get_vertical, get_intersection, get_horizontal_color, get_vertical_color, get_intersection_color, has_equal_row_lines, has_column_lines};
 
 use crate::spanned::SpannedConfig;
 use pg_layout::{ANSIBuf, Border, Borders, HorizontalLine, Position};
@@ -93,6 +93,18 @@ impl<A: Allocator> SpannedConfig<A> {
             || column == columns && self.borders.has_right()
             || 0 < column && column < columns && self.borders.has_vertical()
             || self.overrides.has_column(column)
+    }
+
+    /// Whether a column line is there, in a table of some number of columns. Where none is, no
+    /// vertical has a glyph.
+    #[tactic(auto, unfolding(crate::specs::Config::has_column_lines))]
+    pub fn has_column_lines(&self) -> bool
+        ensures { result ≡ has_column_lines self.now }
+    {
+        self.borders.has_left()
+            || self.borders.has_right()
+            || self.borders.has_vertical()
+            || self.overrides.sets_columns()
     }
 
     /// The glyph of a horizontal in a table of `rows` rows: an override, else the borders' glyph,
