@@ -1,5 +1,4 @@
 -- The table that a streaming grid draws.
-use Rattle.std.specs.Prelude.{ℕ}
 use Rattle.std.specs.Borrow.{Bor}
 use Rattle.pg_config.specs.Config.{Config}
 use Rattle.pg_picture.specs.Table.{Table, Hint}
