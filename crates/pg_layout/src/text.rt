@@ -124,6 +124,7 @@ fn has_seen_ends(bytes: &[u8]) -> bool
 }
 
 /// A line without the (Unicode) white space at its start and at its end.
+#[inline(always)]
 pub fn trim_line(line: &str) -> &str
     ensures { result.now ≡ trim line.now }
 {
