@@ -157,11 +157,30 @@ where
     {
         match &self.all {
             Some(style) => self.push_cell_in_style(buf, kept, style, pos, width, height, line),
-            None => {
-                let style = self.style_of(pos);
-                self.push_cell_in_style(buf, kept, &style, pos, width, height, line)
-            }
+            None => self.push_cell_in_own_style(buf, kept, pos, width, height, line),
         }
+    }
+
+    // The same where cells have styles of their own. It stands out of line, so that the code of the
+    // other case is small enough to stand in line.
+    #[inline(never)]
+    fn push_cell_in_own_style<A: Allocator>(
+        &self,
+        buf: &mut String<A>,
+        kept: &mut KeptCells<'_, T>,
+        pos: Position,
+        width: usize,
+        height: usize,
+        line: usize,
+    ) -> Result<(), AllocError>
+        requires row { pos.row < T.table.rows }
+        requires column { pos.col < T.table.columns }
+        requires room { cell_fits (style_at T.table.config pos) (T.table.text pos) width height ≡ true }
+        requires line { line < height }
+        ensures { Appends buf.old buf.new result (written (block_line (style_at T.table.config pos) (T.table.color pos) (T.table.text pos) width height line)) }
+    {
+        let style = self.style_of(pos);
+        self.push_cell_in_style(buf, kept, &style, pos, width, height, line)
     }
 
     // The same in the cell's style.

@@ -146,6 +146,35 @@ fn a_place_outside_of_the_table_makes_its_row_line(rt: HostRuntime) -> Result<()
     override_outside_rows(&rt, &mut SpannedConfig::new(rt.alloc()))
 }
 
+// A place of a horizontal tells of no column line, a crossing does.
+fn tell_column_lines(rt: &impl Abort, config: &mut SpannedConfig<Global>) -> Result<(), Fail> {
+    let mut border = Border::empty();
+    border.top = Some('-');
+    config.set_border(FIRST, border)?;
+    assert!(rt; !config.has_column_lines());
+    border.top_right = Some('+');
+    config.set_border(FIRST, border)?;
+    assert!(rt; config.has_column_lines());
+    Ok(())
+}
+
+#[test]
+fn a_crossing_tells_of_a_column_line(rt: HostRuntime) -> Result<(), Fail> {
+    tell_column_lines(&rt, &mut SpannedConfig::new(rt.alloc()))
+}
+
+#[test]
+fn the_borders_tell_of_column_lines(rt: HostRuntime) {
+    let mut config = SpannedConfig::new(rt.alloc());
+    let mut borders = Borders::empty();
+    borders.horizontal = Some('-');
+    config.set_borders(borders);
+    assert!(rt; !config.has_column_lines());
+    borders.top_intersection = Some('+');
+    config.set_borders(borders);
+    assert!(rt; config.has_column_lines());
+}
+
 // Which verticals and how many lines there are in a table of two rows and columns, and the glyphs of a
 // vertical and of its crossings with a horizontal that is there and one that isn't.
 fn verticals(config: &SpannedConfig<Global>) -> ([bool; 3], (usize, usize), [Option<char>; 3]) {
