@@ -1,20 +1,20 @@
 -- Without column lines no vertical has a glyph.
 use Rattle.std.proofs.Common.{◌≡◌, ◌<◌, ℕ, Bool, true, false, not, ◌||◌, ◌==◌, nat_lt, List, [], Option, Some, None, is_some, inl, inr, refl, sym, ap, ◌∙◌, arith}
-use Rattle.std.proofs.lemmas.Bool.{cases_Bool, false≢true}
+use Rattle.std.proofs.lemmas.Bool.{cases_Bool, false≢true, or_parts}
 use Rattle.std.proofs.lemmas.Bool.Decides.{nat_tests}
 use Rattle.pg_layout.specs.declared.position.Position.{Position}
-use Rattle.pg_layout.specs.Borders.{has_left, has_right, has_inner_vertical, has_side, ends, vertical_glyph}
+use Rattle.pg_layout.specs.Borders.{any_of, has_left, has_right, has_inner_vertical, has_side, ends, vertical_glyph}
 use Rattle.pg_config.specs.Overrides.{Overrides, sets_columns, vertical_override, overrides_column}
 use Rattle.pg_config.specs.Config.{Config, has_column_lines, has_vertical, get_vertical}
 use Rattle.pg_config.proofs.EqualLines.{nothing}
 
-neither : (a b : Bool) → (a || b) ≡ false → (a ≡ false) × (b ≡ false)
-neither true b e = absurd (false≢true (sym e))
-neither false b e = (refl, e)
+is_none : {A : Type 0} (o : Option A) → is_some o ≡ false → o ≡ None
+is_none None h = refl
+is_none (Some x) h = absurd (false≢true (sym h))
 
-missing : {A : Type 0} (o : Option A) → is_some o ≡ false → o ≡ None
-missing None e = refl
-missing (Some x) e = absurd (false≢true (sym e))
+-- of four values none of which is set, the first
+pub first_none : {G : Type 0} (a b c d : Option G) → any_of a b c d ≡ false → a ≡ None
+first_none a b c d h = is_none a (or_parts (is_some a) (is_some b) (or_parts (is_some a || is_some b) (is_some c || is_some d) h).0).0
 
 ends-same : {A : Type 0} (a : A) (i n : ℕ) → ends a a a i n ≡ a
 ends-same a i n =
@@ -26,12 +26,12 @@ ends-same a i n =
 module _ (config : Config) (none : has_column_lines config ≡ false) where
   no-lines : (((has_left config.borders || has_right config.borders) || has_inner_vertical config.borders) ≡ false) × (sets_columns config.overrides ≡ false)
   unfolding has_column_lines
-  no-lines = neither ((has_left config.borders || has_right config.borders) || has_inner_vertical config.borders) (sets_columns config.overrides) none
+  no-lines = or_parts ((has_left config.borders || has_right config.borders) || has_inner_vertical config.borders) (sets_columns config.overrides) none
 
   no-sides : (has_left config.borders ≡ false) × (has_right config.borders ≡ false) × (has_inner_vertical config.borders ≡ false)
   no-sides =
-      let inner = neither (has_left config.borders || has_right config.borders) (has_inner_vertical config.borders) no-lines.0 in
-      let outer = neither (has_left config.borders) (has_right config.borders) inner.0 in
+      let inner = or_parts (has_left config.borders || has_right config.borders) (has_inner_vertical config.borders) no-lines.0 in
+      let outer = or_parts (has_left config.borders) (has_right config.borders) inner.0 in
       (outer.0, outer.1, inner.1)
 
   -- no place of a column line was overridden
@@ -41,13 +41,10 @@ module _ (config : Config) (none : has_column_lines config ≡ false) where
   no-glyphs : (config.borders.left ≡ None) × (config.borders.right ≡ None) × (config.borders.vertical ≡ None)
   unfolding has_left has_right has_inner_vertical
   no-glyphs =
-      let b = config.borders in
-      let left = neither (is_some b.left || is_some b.top_left) (is_some b.bottom_left || is_some b.left_intersection) no-sides.0 in
-      let right = neither (is_some b.right || is_some b.top_right) (is_some b.bottom_right || is_some b.right_intersection) no-sides.1 in
-      let inner = neither (is_some b.vertical || is_some b.top_intersection) (is_some b.bottom_intersection || is_some b.intersection) no-sides.2 in (
-        missing b.left (neither (is_some b.left) (is_some b.top_left) left.0).0,
-        missing b.right (neither (is_some b.right) (is_some b.top_right) right.0).0,
-        missing b.vertical (neither (is_some b.vertical) (is_some b.top_intersection) inner.0).0,
+      let b = config.borders in (
+        first_none b.left b.top_left b.bottom_left b.left_intersection no-sides.0,
+        first_none b.right b.top_right b.bottom_right b.right_intersection no-sides.1,
+        first_none b.vertical b.top_intersection b.bottom_intersection b.intersection no-sides.2,
       )
 
   no-line : (c columns : ℕ) → has_vertical config c columns ≡ false

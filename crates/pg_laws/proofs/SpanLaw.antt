@@ -2,7 +2,7 @@
 use Rattle.std.proofs.Common.{◌≡◌, ℕ, Bool, true, false, ◌&&◌, ◌||◌, ◌==◌, nat_lt, List, [], ◌∷◌, refl, sym, ap, ◌∙◌, arith, None, if◌then◌else◌, inl, inr}
 use Rattle.std.specs.Prelude.{not, find}
 use Rattle.std.specs.List.{list_any}
-use Rattle.std.proofs.lemmas.Bool.{cases_Bool, and_parts}
+use Rattle.std.proofs.lemmas.Bool.{cases_Bool, and_parts, or_parts}
 use Rattle.std.proofs.lemmas.Bool.Decides.{nat_tests}
 use Rattle.pg_layout.specs.declared.position.Position.{Position}
 use Rattle.pg_layout.specs.Places.{Key, same, before, with_place, without_place, Each, IsAscending}
@@ -46,10 +46,6 @@ through f false x y = refl
 
 -- ---- owners
 
-neither : (a b : Bool) → (a || b) ≡ false → (a ≡ false) × (b ≡ false)
-neither true b h = absurd (grind (arith, h))
-neither false b h = (refl, h)
-
 module _ (k : Key) (holds : Span → Bool) (itself : Position) where
   abbrev earlier : List Span → Bool
   earlier es = list_any (λ s. before s.0 k && holds s) es
@@ -90,13 +86,13 @@ module _ (k : Key) (holds : Span → Bool) (itself : Position) where
             let later : before e.0 k ≡ false = grind (arith, nat_tests, s) in
             rw later (none-earlier es (rw s at h))
         | inr o ↦
-            let parts = neither (holds e) (list_any holds (without_place k es)) (rw o at h) in
+            let parts = or_parts (holds e) (list_any holds (without_place k es)) (rw o at h) in
             elim (cases_Bool (before e.0 k)) [ inl y ↦ rw (y, parts.0) (none-earlier es parts.1) | inr n ↦ rw n (none-earlier es parts.1) ]
       ]
 
   none-found : (es : List Span) → list_any holds es ≡ false → find holds es ≡ None
   none-found [] h = refl
-  none-found (e ∷ es) h = let parts = neither (holds e) (list_any holds es) h in rw parts.0 (none-found es parts.1)
+  none-found (e ∷ es) h = let parts = or_parts (holds e) (list_any holds es) h in rw parts.0 (none-found es parts.1)
 
 -- a test of entries holds somewhere after an entry is put in its place if it holds at the new one or at another
 any-with : (k : Key) (test : Span → Bool) (size : Size) (es : List Span) → IsAscending es → list_any test (with_place k size es) ≡ (test (k, size) || list_any test (without_place k es))
@@ -115,7 +111,7 @@ any-with k test size (e ∷ es) up =
 owner-itself : (p : Position) (r c : ℕ) → r ≡ p.row → c ≡ p.col → (es : List Span) → is_held_before p es (at r c) ≡ false → corner_or (at r c) (find (in_span r c) (others p es)) ≡ p
 owner-itself p r c is_row is_col [] h = ap (λ n. at n c) is_row ∙ ap (λ n. at p.row n) is_col
 owner-itself p r c is_row is_col (e ∷ es) h =
-    let parts = neither (before e.0 (span_key p) && in_span r c e) (is_held_before p es (at r c)) h in
+    let parts = or_parts (before e.0 (span_key p) && in_span r c e) (is_held_before p es (at r c)) h in
     elim (cases_Bool (same e.0 (span_key p))) [
       | inl s ↦ rw s (owner-itself p r c is_row is_col es parts.1)
       | inr o ↦ elim (cases_Bool (in_span r c e)) [

@@ -10,6 +10,7 @@ use Rattle.pg_layout.specs.Places.{Key, same, begins, has_first, value_at}
 use Rattle.pg_layout.specs.Position.{at}
 use Rattle.pg_config.specs.Overrides.{vertical_override, crossing_override, overrides_column, has_second}
 use Rattle.pg_config.specs.Config.{Config, missing_if, has_horizontal, has_vertical, get_vertical, get_intersection}
+use Rattle.pg_config.proofs.ColumnLines.{first_none}
 use Rattle.pg_picture.specs.Table.{Table}
 use Rattle.pg_picture.specs.Straight.{HasNoGaps}
 
@@ -40,20 +41,12 @@ missing_glyph_fills_gaps t missing = record {
 
 -- ---- column lines that aren't there
 
-is_none : {A : Type 0} (o : Option A) → is_some o ≡ false → o ≡ None
-is_none None h = refl
-is_none (Some a) h = absurd (false≢true (sym h))
-
 value_at-none : {V : Type 0} (c r : ℕ) (es : List (Key × V)) → has_first c es ≡ false → value_at (c, r, 0) es ≡ None
 value_at-none c r [] h = refl
 value_at-none c r (e ∷ es) h =
     let parts = or_parts (begins c e.0) (has_first c es) h in
     let other : same e.0 (c, r, 0) ≡ false = grind (arith, nat_tests, parts.0) in
     rw other (value_at-none c r es parts.1)
-
--- of four values that none of which is set, the first
-first_none : {G : Type 0} (a b c d : Option G) → any_of a b c d ≡ false → a ≡ None
-first_none a b c d h = is_none a (or_parts (is_some a) (is_some b) (or_parts (is_some a || is_some b) (is_some c || is_some d) h).0).0
 
 vertical_glyph-none : {G : Type 0} (b : Borders G) (c columns : ℕ) → c ≤ columns → has_side (has_left b) (has_inner_vertical b) (has_right b) c columns ≡ false → vertical_glyph b c columns ≡ None
 unfolding vertical_glyph has_side has_left has_right has_inner_vertical

@@ -3,6 +3,7 @@ use Rattle.std.proofs.Common.{◌≡◌, ℕ, zero, suc, ◌+◌, ◌-◌, ◌<�
 use Rattle.std.specs.List.{range_with_len}
 use Rattle.std.proofs.lemmas.List.{map-append}
 use Rattle.std.proofs.lemmas.List.FromFn.{map-range_with_len_more}
+use Rattle.std.proofs.lemmas.Bool.{or_parts}
 use Rattle.std.proofs.lemmas.Bool.Decides.{nat_tests}
 use Rattle.pg_layout.specs.declared.position.Position.{Position}
 use Rattle.pg_layout.specs.Colors.{Color}
@@ -46,15 +47,11 @@ items_after-cut c f k n {d} {item} last is here =
 
 -- ---- where no single glyph was set
 
-neither : (a b : Bool) → (a || b) ≡ false → (a ≡ false) × (b ≡ false)
-neither true b none = cc
-neither false b none = (refl, none)
-
 module _ {V : Type 0} where
   value_at-no_pair : (r c i : ℕ) (es : List (Key × V)) → has_pair r c es ≡ false → value_at (r, c, i) es ≡ None
   value_at-no_pair r c i [] none = refl
   value_at-no_pair r c i (e ∷ es) none =
-      let both = neither (begins_pair r c e.0) (has_pair r c es) none in
+      let both = or_parts (begins_pair r c e.0) (has_pair r c es) none in
       let first : begins_pair r c e.0 ≡ false = both.0 in
       let other : same e.0 (r, c, i) ≡ false = grind (arith, nat_tests, first) in
       rw other (value_at-no_pair r c i es both.1)
@@ -62,13 +59,13 @@ module _ {V : Type 0} where
   pub lookup_offset-none : (o : Offsets V) (p : Position) (i w : ℕ) → is_offset_at o p ≡ false → lookup_offset o p i w ≡ None
   unfolding is_offset_at lookup_offset
   lookup_offset-none o p i w none =
-      let both = neither (has_pair p.row p.col o.from_start) (has_pair p.row p.col o.from_end) none in
+      let both = or_parts (has_pair p.row p.col o.from_start) (has_pair p.row p.col o.from_end) none in
       rw (value_at-no_pair p.row p.col i o.from_start both.0) (value_at-no_pair p.row p.col (w - i - 1) o.from_end both.1)
 
 border_glyph-plain : (config : Config) (p : Position) (w g : ℕ) (color : Option Color) (i : ℕ) → is_overridden_horizontal config p ≡ false → border_glyph config p w g color i ≡ glyph g color None
 unfolding is_overridden_horizontal
 border_glyph-plain config p w g color i none =
-    let both = neither (is_offset_at config.horizontal_chars p) (is_offset_at config.horizontal_colors p) none in
+    let both = or_parts (is_offset_at config.horizontal_chars p) (is_offset_at config.horizontal_colors p) none in
     rw (lookup_offset-none config.horizontal_chars p i w both.0, lookup_offset-none config.horizontal_colors p i w both.1) refl
 
 map-same : {X : Type 0} (f : ℕ → X) (x : X) (a n : ℕ) → ((i : ℕ) → f i ≡ x) → map f (range_with_len a n) ≡ replicate n x

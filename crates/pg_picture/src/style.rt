@@ -1,7 +1,8 @@
 //! How a cell is drawn: what its table's configuration answers at its place.
 
-ghost use Rattle.std.specs.Prelude.{◌≡◌, ◌+◌, ◌≤◌};
+ghost use Rattle.std.specs.Prelude.{◌≡◌, ◌+◌, ◌≤◌, is_some};
 ghost use Rattle.std.specs.Option.{ForSome};
+ghost use Rattle.pg_config.specs.Config.{has_one_style};
 ghost use Rattle.pg_picture.specs.Pieces.{style_at, inner_width};
 ghost use Rattle.pg_picture.specs.Cells.{style_of, shows_texts_whole};
 ghost use Rattle.pg_picture.specs.Fits.{cell_fits};
@@ -53,7 +54,8 @@ impl<'a, A: Allocator> CellStyle<'a, A> {
 
     /// The style that all cells have, where no setting is for some of them.
     pub fn of_all(config: &'a SpannedConfig<A>) -> Option<CellStyle<'a, A>>
-        ensures { ForSome result (λ style. IsStyleOfAll config.now (style_of style)) }
+        ensures of { ForSome result (λ style. IsStyleOfAll config.now (style_of style)) }
+        ensures there { is_some result ≡ has_one_style config.now }
     {
         if !config.has_one_style() {
             return None;

@@ -25,8 +25,8 @@ module _ (t : Table) (none : t.config.spans ≡ []) (k : ℕ) where
       sym (rect_height-of_rect T (at k x) (omega (arith, rows)) (omega (arith, rows))) ∙ rect_height_plain T none (at k x) (omega arith)
 
   -- so a text has room there if it fits a cell of these sizes
-  pub room-from : (x : ℕ) (text : Text) → k + 1 < 2 ^ 64 → t.width x < 2 ^ 64 → t.height k < 2 ^ 64 → cell_fits (style_at t.config (at k x)) text (t.width x) (t.height k) ≡ true → HasRoom t (at k x) text
-  room-from x text row wide high fits =
+  pub plain-room-from : (x : ℕ) (text : Text) → k + 1 < 2 ^ 64 → t.width x < 2 ^ 64 → t.height k < 2 ^ 64 → cell_fits (style_at t.config (at k x)) text (t.width x) (t.height k) ≡ true → HasRoom t (at k x) text
+  plain-room-from x text row wide high fits =
       record {
         end = rw (rect_rows_plain t none (at k x)) row;
         width = rw (rect_width_plain t none (at k x)) wide;
@@ -34,8 +34,8 @@ module _ (t : Table) (none : t.config.spans ≡ []) (k : ℕ) where
         room = rw (rect_width_plain t none (at k x), height-plain x) fits;
       }
 
-  pub room-fits : (x : ℕ) (text : Text) → HasRoom t (at k x) text → cell_fits (style_at t.config (at k x)) text (t.width x) (t.height k) ≡ true
-  room-fits x text room = rw (rect_width_plain t none (at k x), height-plain x) at room.room
+  pub plain-room-fits : (x : ℕ) (text : Text) → HasRoom t (at k x) text → cell_fits (style_at t.config (at k x)) text (t.width x) (t.height k) ≡ true
+  plain-room-fits x text room = rw (rect_width_plain t none (at k x), height-plain x) at room.room
 
 -- a test by the sizes that were asked is one by the table's
 pub fits-in : (t : Table) (k x : ℕ) (text : Text) (p : Position) → p ≡ at k x → (w : ℕ) → w ≡ t.width x → (h : ℕ) → h ≡ t.height k → cell_fits (style_at t.config p) text w h ≡ cell_fits (style_at t.config (at k x)) text (t.width x) (t.height k)

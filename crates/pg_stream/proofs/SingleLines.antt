@@ -80,12 +80,9 @@ module _ (t : Table) (none : t.config.spans ≡ []) (k : ℕ) where
     pub height-one : (x : ℕ) → height_of_rect t.config t.height (at k x) ≡ 1
     height-one x = height-plain t none k x ∙ one
 
-    pub own-one : (x : ℕ) → is_at (owner t.config.spans k x) k x ≡ true
-    own-one x = own-plain t none k x
-
     begun-at : (cells : List (Option Placed)) (texts : List Text) (x : ℕ) → x < length cells → get_or (cells_begun t k texts cells) x None ≡ Some (new_cell t (at k x) (slice_index_or texts x []))
     unfolding cells_begun begin_cell
-    begun-at cells texts x here = mapped-at (λ c. begin_cell t k (slice_index_or texts c []) c) cells x None here ∙ (rw (own-one x) refl)
+    begun-at cells texts x here = mapped-at (λ c. begin_cell t k (slice_index_or texts c []) c) cells x None here ∙ (rw (own-plain t none k x) refl)
 
     new-block : (x : ℕ) (text : Text) → slot_block t (slot_of (Some (new_cell t (at k x) text))) x ≡ block_line (style_at t.config (at k x)) (t.color (at k x)) text (t.width x) 1 0
     new-block x text = ap₂ (λ w h. block_line (style_at t.config (at k x)) (t.color (at k x)) text w h 0) (rect_width_plain t none (at k x)) (height-one x)

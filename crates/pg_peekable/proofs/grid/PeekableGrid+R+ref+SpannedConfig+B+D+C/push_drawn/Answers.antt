@@ -18,4 +18,4 @@ invariant_of-drawing-clause-is g c = record {
 }
 
 pub invariant_of-drawing-clause-is_of_all : goal.invariant_of-drawing-clause-is_of_all
-invariant_of-drawing-clause-is_of_all g c = subst (λ (config : Config). ForSome c.of_all.result (λ style. IsStyleOfAll config (style_of style))) (ap (λ (t : Table). t.config) c.requires.is) c.of_all.ensures
+invariant_of-drawing-clause-is_of_all g c = subst (λ (config : Config). ForSome c.of_all.result (λ style. IsStyleOfAll config (style_of style))) (ap (λ (t : Table). t.config) c.requires.is) c.of_all.ensures.of

@@ -12,7 +12,7 @@ use Rattle.pg_stream.specs.SingleRows.{single_part}
 use Rattle.pg_stream.proofs.Beginning.{read-more, read-none}
 use Rattle.pg_stream.proofs.PartsOfLines.{written-columns}
 use Rattle.pg_stream.proofs.SingleCells.{single-cut, single-end}
-use Rattle.pg_stream.proofs.SingleLines.{own-one}
+use Rattle.pg_stream.proofs.PlainRooms.{own-plain}
 use Rattle.pg_stream.proofs.frame.Frame.push_single_cells.Goals as goal
 
 pub loop-column-init : goal.loop-column-init
@@ -29,7 +29,7 @@ push_single_cell-requires-clause-room g c =
     let (texts, gives, whole, rooms) = c.requires.given in
     let i = c.loop-column.column in
     let now = read-more g.S.AsStr.text g.I.Iterator.next_gives _ _ _ texts i (c.loop-column.invariant texts gives).0 c.in-Some.ensures.steps in
-    subst (λ (text : Text). HasRoom t (at c.args.row i) text) (now.0 ∙ sym c.as_str.ensures) (rooms i c.loop-column-test.true (own-one t c.requires.alone c.args.row c.requires.height i))
+    subst (λ (text : Text). HasRoom t (at c.args.row i) text) (now.0 ∙ sym c.as_str.ensures) (rooms i c.loop-column-test.true (own-plain t c.requires.alone c.args.row i))
 
 pub returns-in_err-push_single_cell : goal.returns-in_err-push_single_cell
 returns-in_err-push_single_cell g c = λ texts gives.
