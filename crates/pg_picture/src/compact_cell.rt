@@ -1,7 +1,7 @@
 //! The cells of a compact table, and what stands between them.
 
 ghost use Rattle.std.specs.Prelude.{◌≡◌, ◌≤◌, ◌+◌, ◌-◌, ◌++◌, nat_le, option_map, IfSome, IsSome, if◌then◌else◌};
-ghost use Rattle.pg_layout.specs.Text.{width_of};
+ghost use Rattle.pg_layout.specs.Text.{first_line_of, width_of};
 ghost use Rattle.pg_layout.specs.Colors.{str_color, lent_color};
 ghost use Rattle.pg_config.specs.CompactConfig.{settings_of};
 ghost use Rattle.pg_picture.specs.Appending.{Appends};
@@ -13,7 +13,9 @@ use crate::piece::{push_colored_run, push_words};
 use crate::share::calculate_indent;
 use crate::vertical::push_vertical;
 use pg_config::CompactConfig;
-use pg_layout::{ANSIFmt, ANSIStr, AlignmentHorizontal, Indent, Sides, first_line, get_line_width};
+use pg_layout::{
+    ANSIFmt, ANSIStr, AlignmentHorizontal, Indent, Sides, first_line, get_line_width, is_plain,
+};
 use std::alloc::{AllocError, Allocator};
 
 /// Appends an indent of a compact table in its colour, also where its size is 0; an empty colour is
@@ -63,14 +65,28 @@ pub fn push_compact_cell<C: ANSIFmt, A: Allocator>(
 ) -> Result<(), AllocError>
     ensures { Appends buf.old buf.new result (compact_cell_of (settings_of config.now) width (lent_color C.color_of color.entry) text.now) }
 {
-    let line = first_line(text);
+    let (line, line_width) = shown_line(text);
     let padding = config.get_padding();
     let colors = config.get_padding_color();
     let alignment = config.get_alignment_horizontal();
-    let (left, right) = free_shares(alignment, get_line_width(line), inner_room(padding, width));
+    let (left, right) = free_shares(alignment, line_width, inner_room(padding, width));
     push_left_side(buf, padding.left, colors.left, left)?;
     push_words(buf, line, color)?;
     push_right_side(buf, padding.right, colors.right, right)
+}
+
+// The first line of a text, and how many terminal columns it takes. A text of plain bytes is its one
+// line, and is read once for both.
+#[inline(always)]
+fn shown_line(text: &str) -> (&str, usize)
+    ensures line { result.0.now ≡ first_line_of text.now }
+    ensures width { result.1 ≡ width_of result.0.now }
+{
+    if is_plain(text.as_bytes()) {
+        return (text, text.len());
+    }
+    let line = first_line(text);
+    (line, get_line_width(line))
 }
 
 // How many columns the side paddings leave: none where they take more than there are.

@@ -12,9 +12,10 @@ returns-in_err-push_left_side g c =
     let color = lent_color g.C.ANSIFmt.color_of c.args.color in
     let padding = c.get_padding-padding.result in
     let colors = side_colors c.get_padding_color-colors.result in
-    let line = c.first_line-line.result.now in
+    let line = c.shown_line-line_width.result.0.now in
+    let width = c.shown_line-line_width.result.1 in
     let share = c.free_shares-left.result in
-    Appends-text (cell-text (settings_of c.args.config.now) c.args.width color c.args.text.now line padding colors c.get_alignment_horizontal-alignment.result c.get_line_width.result c.inner_room.result share c.free_shares-left.ensures c.inner_room.ensures c.get_line_width.ensures c.first_line-line.ensures c.get_padding-padding.ensures c.get_padding_color-colors.ensures c.get_alignment_horizontal-alignment.ensures)
+    Appends-text (cell-text (settings_of c.args.config.now) c.args.width color c.args.text.now line padding colors c.get_alignment_horizontal-alignment.result width c.inner_room.result share c.free_shares-left.ensures c.inner_room.ensures c.shown_line-line_width.ensures.width c.shown_line-line_width.ensures.line c.get_padding-padding.ensures c.get_padding_color-colors.ensures c.get_alignment_horizontal-alignment.ensures)
     (stopped (in_color color line ++ (repeated 32 share.1 ++ compact_indent padding.right.fill padding.right.size colors.right)) c.from_residual.ensures.0 c.in_err-push_left_side.ensures)
 
 pub returns-in_err-push_words : goal.returns-in_err-push_words
@@ -22,9 +23,10 @@ returns-in_err-push_words g c =
     let color = lent_color g.C.ANSIFmt.color_of c.args.color in
     let padding = c.get_padding-padding.result in
     let colors = side_colors c.get_padding_color-colors.result in
-    let line = c.first_line-line.result.now in
+    let line = c.shown_line-line_width.result.0.now in
+    let width = c.shown_line-line_width.result.1 in
     let share = c.free_shares-left.result in
-    Appends-text (cell-text (settings_of c.args.config.now) c.args.width color c.args.text.now line padding colors c.get_alignment_horizontal-alignment.result c.get_line_width.result c.inner_room.result share c.free_shares-left.ensures c.inner_room.ensures c.get_line_width.ensures c.first_line-line.ensures c.get_padding-padding.ensures c.get_padding_color-colors.ensures c.get_alignment_horizontal-alignment.ensures)
+    Appends-text (cell-text (settings_of c.args.config.now) c.args.width color c.args.text.now line padding colors c.get_alignment_horizontal-alignment.result width c.inner_room.result share c.free_shares-left.ensures c.inner_room.ensures c.shown_line-line_width.ensures.width c.shown_line-line_width.ensures.line c.get_padding-padding.ensures c.get_padding_color-colors.ensures c.get_alignment_horizontal-alignment.ensures)
     (c.in_ok-push_left_side.ensures then stopped (repeated 32 share.1 ++ compact_indent padding.right.fill padding.right.size colors.right) c.from_residual-in_err-push_words.ensures.0 c.in_err-push_words.ensures)
 
 pub returns : goal.returns
@@ -32,7 +34,8 @@ returns g c =
     let color = lent_color g.C.ANSIFmt.color_of c.args.color in
     let padding = c.get_padding-padding.result in
     let colors = side_colors c.get_padding_color-colors.result in
-    let line = c.first_line-line.result.now in
+    let line = c.shown_line-line_width.result.0.now in
+    let width = c.shown_line-line_width.result.1 in
     let share = c.free_shares-left.result in
-    Appends-text (cell-text (settings_of c.args.config.now) c.args.width color c.args.text.now line padding colors c.get_alignment_horizontal-alignment.result c.get_line_width.result c.inner_room.result share c.free_shares-left.ensures c.inner_room.ensures c.get_line_width.ensures c.first_line-line.ensures c.get_padding-padding.ensures c.get_padding_color-colors.ensures c.get_alignment_horizontal-alignment.ensures)
+    Appends-text (cell-text (settings_of c.args.config.now) c.args.width color c.args.text.now line padding colors c.get_alignment_horizontal-alignment.result width c.inner_room.result share c.free_shares-left.ensures c.inner_room.ensures c.shown_line-line_width.ensures.width c.shown_line-line_width.ensures.line c.get_padding-padding.ensures c.get_padding_color-colors.ensures c.get_alignment_horizontal-alignment.ensures)
     (c.in_ok-push_left_side.ensures then (c.in_ok-push_words.ensures then c.push_right_side.ensures))
