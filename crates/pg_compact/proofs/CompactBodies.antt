@@ -17,7 +17,7 @@ use Rattle.pg_picture.specs.Picture.{compact_picture}
 use Rattle.pg_picture.proofs.JoinedLines.{continued-nil, continued-line, continued-append}
 use Rattle.pg_picture.proofs.Pictures.{continued-any}
 use Rattle.pg_picture.proofs.Ranges.{range-more, range-cut}
-use Rattle.pg_compact.specs.declared.grid.CompactPrinter.{CompactPrinter}
+use Rattle.pg_compact.specs.declared.printer.CompactPrinter.{CompactPrinter}
 use Rattle.pg_compact.specs.CompactGrids.{printed_table, inner_separator, lines_of_row, head_lines, foot_lines}
 
 -- ---- lines after others

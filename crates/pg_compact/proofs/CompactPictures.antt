@@ -12,7 +12,7 @@ use Rattle.pg_picture.specs.Fits.{compact_misfit_of}
 use Rattle.pg_picture.specs.Picture.{compact_picture}
 use Rattle.pg_picture.specs.Sizes.{if_fits}
 use Rattle.pg_picture.specs.declared.fits.Misfit.{Misfit}
-use Rattle.pg_compact.specs.declared.grid.CompactPrinter.{CompactPrinter}
+use Rattle.pg_compact.specs.declared.printer.CompactPrinter.{CompactPrinter}
 use Rattle.pg_compact.specs.CompactGrids.{printed_table, CompactFits}
 use Rattle.pg_picture.proofs.SumsOfSizes.{some_answer}
 

@@ -10,11 +10,12 @@ use Rattle.pg_layout.specs.Colors.{Color}
 use Rattle.pg_layout.specs.Position.{at}
 use Rattle.pg_layout.specs.Records.{AlwaysGives}
 use Rattle.pg_layout.specs.Text.{Text}
-use Rattle.pg_config.specs.CompactConfig.{settings_of}
+use Rattle.pg_config.specs.CompactConfig.{CompactSettings, settings_of}
 use Rattle.pg_picture.specs.CompactLines.{CompactTable, compact_indent, colored_glyph, compact_cell_of, with_margins, between_sides, text_row, padding_row}
 use Rattle.pg_picture.proofs.Ranges.{range-more, range-cut}
-use Rattle.pg_compact.specs.declared.grid.CompactPrinter.{CompactPrinter}
-use Rattle.pg_compact.specs.CompactGrids.{AreRows, printed_table, row_start, row_end, inner_glyph, text_column, padding_column}
+use Rattle.pg_compact.specs.declared.printer.CompactPrinter.{CompactPrinter}
+use Rattle.pg_compact.specs.CompactGrids.{AreRows, printed_table, inner_glyph, text_column, padding_column}
+use Rattle.pg_compact.specs.RowEdges.{row_start, row_end}
 
 -- the texts of k columns and of one more
 pub columns-more : (f : ℕ → Text) (k : ℕ) → flat_map f (range_with_len 0 (k + 1)) ≡ flat_map f (range_with_len 0 k) ++ f k
@@ -26,10 +27,10 @@ columns-cut f k n here = range-cut f 0 k n here ∙ ap (λ m. flat_map f (range_
 
 -- ---- what stands round the cells
 
-pub row_start-text : (t : CompactTable) (m : Sides Indent) (mc : Sides Color) → m ≡ t.config.margin → mc ≡ t.config.margin_color
-    → compact_indent m.left.fill m.left.size mc.left ++ colored_glyph t.config.borders.left t.config.borders_color.left ≡ row_start t
+pub row_start-text : (config : CompactSettings) (m : Sides Indent) (mc : Sides Color) → m ≡ config.margin → mc ≡ config.margin_color
+    → compact_indent m.left.fill m.left.size mc.left ++ colored_glyph config.borders.left config.borders_color.left ≡ row_start config
 unfolding row_start
-row_start-text t m mc margin color = rw (margin, color) refl
+row_start-text config m mc margin color = rw (margin, color) refl
 
 -- a row line is its start, its columns and its end
 around : (t : CompactTable) (l r : Text) (cells : Text)
@@ -37,14 +38,14 @@ around : (t : CompactTable) (l r : Text) (cells : Text)
     ≡ (compact_indent t.config.margin.left.fill t.config.margin.left.size t.config.margin_color.left ++ ((l ++ cells) ++ r)) ++ compact_indent t.config.margin.right.fill t.config.margin.right.size t.config.margin_color.right
 around t l r cells = simp append_assoc
 
-pub padding_row-text : (t : CompactTable) (color : Color) → row_start t ++ (flat_map (padding_column t color) (range_with_len 0 t.columns) ++ row_end t) ≡ padding_row t color
+pub padding_row-text : (t : CompactTable) (color : Color) → row_start t.config ++ (flat_map (padding_column t color) (range_with_len 0 t.columns) ++ row_end t.config) ≡ padding_row t color
 unfolding row_start row_end padding_row with_margins between_sides padding_column inner_glyph
 padding_row-text t color =
     around t (colored_glyph t.config.borders.left t.config.borders_color.left) (colored_glyph t.config.borders.right t.config.borders_color.right) (flat_map (padding_column t color) (range_with_len 0 t.columns))
 
 module _ {D C : Type 0} (width : D → ℕ → ℕ) (color : C → Position → Option Color) (p : CompactPrinter D C) (texts : List (List Text)) where
   pub text_row-text : (r : ℕ)
-      → row_start (printed_table width color p []) ++ (flat_map (text_column (printed_table width color p texts) r) (range_with_len 0 p.columns) ++ row_end (printed_table width color p []))
+      → row_start (settings_of p.config.now) ++ (flat_map (text_column (printed_table width color p texts) r) (range_with_len 0 p.columns) ++ row_end (settings_of p.config.now))
       ≡ text_row (printed_table width color p texts) r
   unfolding row_start row_end text_row with_margins between_sides text_column inner_glyph
   text_row-text r =

@@ -3,3 +3,4 @@ pub mod CompactRows
 pub mod CompactSeparators
 pub mod CompactBodies
 pub mod CompactPictures
+pub mod EdgesOfRows

@@ -11,13 +11,14 @@ use Rattle.pg_layout.specs.Records.{text_at, AlwaysGives}
 use Rattle.pg_layout.specs.Text.{Text}
 use Rattle.pg_config.specs.declared.compact.CompactConfig.{CompactConfig}
 use Rattle.pg_config.specs.CompactConfig.{settings_of}
-use Rattle.pg_picture.specs.CompactLines.{CompactTable, compact_indent, colored_glyph, compact_cell, Part, part_if, main_part, padding_row, text_row, compact_margin, line_if, separator_row, top_line, bottom_line, inner_line}
+use Rattle.pg_picture.specs.CompactLines.{CompactTable, compact_indent, compact_cell, Part, part_if, main_part, padding_row, text_row, compact_margin, line_if, separator_row, top_line, bottom_line, inner_line}
 use Rattle.pg_picture.specs.CompactSizes.{compact_sized}
 use Rattle.pg_picture.specs.Fits.{compact_misfit_of}
 use Rattle.pg_picture.specs.declared.fits.Misfit.{Misfit}
 use Rattle.pg_layout.specs.declared.records.Records as records
 use Rattle.pg_compact.specs.declared.grid.CompactGrid.{CompactGrid}
-use Rattle.pg_compact.specs.declared.grid.CompactPrinter.{CompactPrinter}
+use Rattle.pg_compact.specs.declared.printer.CompactPrinter.{CompactPrinter}
+use Rattle.pg_compact.specs.RowEdges.{between_cells}
 
 -- The table of a compact grid: of what its records, its dimension and its colours stand for.
 abbrev pub compact_table : {R D C : Type 0} → (R → List (List Text)) → (R → ℕ) → (D → ℕ → ℕ) → (C → Position → Option Color) → CompactGrid R D (Bor CompactConfig) C → CompactTable
@@ -76,21 +77,9 @@ line_colors c = record { main = option_map str_color c.main; intersection = opti
 
 -- ---- the parts of a line
 
--- left of a row's cells: the left margin and the left glyph
-unfoldable pub row_start : CompactTable → Text
-row_start t =
-    let m = t.config.margin.left in
-    compact_indent m.fill m.size t.config.margin_color.left ++ colored_glyph t.config.borders.left t.config.borders_color.left
-
--- right of a row's cells: the right glyph and the right margin
-unfoldable pub row_end : CompactTable → Text
-row_end t =
-    let m = t.config.margin.right in
-    colored_glyph t.config.borders.right t.config.borders_color.right ++ compact_indent m.fill m.size t.config.margin_color.right
-
 -- the glyph between a column and the one before it
 unfoldable pub inner_glyph : CompactTable → ℕ → Text
-inner_glyph t x = if x == 0 then [] else colored_glyph t.config.borders.vertical t.config.borders_color.vertical
+inner_glyph t x = if x == 0 then [] else between_cells t.config
 
 -- what a column adds to a text line, and to a padding line
 unfoldable pub text_column : CompactTable → ℕ → ℕ → Text

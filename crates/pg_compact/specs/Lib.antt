@@ -1,1 +1,2 @@
 pub mod CompactGrids
+pub mod RowEdges

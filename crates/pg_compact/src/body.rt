@@ -12,7 +12,7 @@ ghost use Rattle.pg_picture.specs.Joined.{continued, fed, feed_before, lines_bef
 ghost use Rattle.pg_picture.specs.Picture.{compact_picture};
 ghost use Rattle.pg_compact.specs.CompactGrids.{printed_table, IsRow, AreRows, IsInnerSeparator, inner_separator, line_colors, lines_of_row, head_lines, foot_lines, CompactFits};
 
-use crate::grid::CompactPrinter;
+use crate::printer::CompactPrinter;
 use crate::separators::{bottom_line, top_line};
 use pg_layout::{ANSIStr, Colors, Dimension, HorizontalLine};
 use pg_picture::fits::compact_full_width;

@@ -1,5 +1,7 @@
 //! The compact grid: it reads its records once, row by row, and shows the first line of each text.
 
+use crate::printer::CompactPrinter;
+use crate::row_edges::RowEdges;
 use pg_config::CompactConfig;
 use pg_layout::{Colors, Dimension, ExactRecords, Records};
 use pg_picture::PrintFault;
@@ -17,15 +19,6 @@ pub struct CompactGrid<R, D, G, C> {
     dimension: D,
     config: G,
     colors: C,
-}
-
-// What a compact table's lines are drawn by, whatever the texts of its rows.
-#[derive(Drop)]
-pub(crate) struct CompactPrinter<'a, D, C> {
-    pub(crate) config: &'a CompactConfig,
-    pub(crate) dimension: D,
-    pub(crate) colors: C,
-    pub(crate) columns: usize,
 }
 
 impl<R, D, G, C> CompactGrid<R, D, G, C> {
@@ -88,6 +81,7 @@ where
             dimension: self.dimension,
             colors: self.colors,
             columns,
+            edges: RowEdges::of(self.config),
         };
         printer.push_table(buf, self.records.iter_rows())
     }

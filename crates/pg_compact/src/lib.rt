@@ -3,7 +3,10 @@
 
 mod body;
 mod grid;
+mod printer;
+mod row_edges;
 mod rows;
 mod separators;
+mod short_text;
 
 pub use crate::grid::CompactGrid;

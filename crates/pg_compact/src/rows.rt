@@ -6,11 +6,13 @@ ghost use Rattle.pg_layout.specs.Colors.{str_color};
 ghost use Rattle.std.specs.Iterator.{IsFinite};
 ghost use Rattle.pg_picture.specs.Appending.{Appends};
 ghost use Rattle.pg_picture.specs.CompactLines.{padding_row, text_row, compact_cell_of, compact_indent};
-ghost use Rattle.pg_compact.specs.CompactGrids.{printed_table, IsRow, row_start, row_end, inner_glyph, text_column, padding_column};
+ghost use Rattle.pg_compact.specs.CompactGrids.{printed_table, IsRow, inner_glyph, text_column, padding_column};
+ghost use Rattle.pg_compact.specs.RowEdges.{row_start, row_end};
+ghost use Rattle.pg_config.specs.CompactConfig.{settings_of};
 
-use crate::grid::CompactPrinter;
+use crate::printer::CompactPrinter;
 use pg_layout::{ANSIStr, Colors, Dimension, Indent, Position};
-use pg_picture::{push_border_glyph, push_compact_cell, push_compact_indent};
+use pg_picture::{push_border_glyph, push_compact_cell, push_compact_indent, push_text};
 use std::alloc::{AllocError, Allocator};
 use std::convert::AsStr;
 
@@ -44,10 +46,13 @@ impl<D: Dimension, C: Colors> CompactPrinter<'_, D, C> {
     }
 
     // What stands left of a row's cells: the left margin and the left glyph.
-    #[tactic(auto, unfolding(crate::specs::CompactGrids::row_start))]
+    #[tactic(auto, unfolding(crate::specs::RowEdges::row_start))]
     fn push_row_start<A: Allocator>(&self, buf: &mut String<A>) -> Result<(), AllocError>
-        ensures { Appends buf.old buf.new result (row_start (printed_table D.width C.color self.now [])) }
+        ensures { Appends buf.old buf.new result (row_start (settings_of self.now.config.now)) }
     {
+        if let Some(text) = &self.edges.start {
+            return push_text(buf, text.as_str());
+        }
         let (borders, colors) = (self.config.get_borders(), self.config.get_borders_color());
         push_compact_indent(
             buf,
@@ -58,10 +63,13 @@ impl<D: Dimension, C: Colors> CompactPrinter<'_, D, C> {
     }
 
     // What stands right of a row's cells: the right glyph and the right margin.
-    #[tactic(auto, unfolding(crate::specs::CompactGrids::row_end))]
+    #[tactic(auto, unfolding(crate::specs::RowEdges::row_end))]
     fn push_row_end<A: Allocator>(&self, buf: &mut String<A>) -> Result<(), AllocError>
-        ensures { Appends buf.old buf.new result (row_end (printed_table D.width C.color self.now [])) }
+        ensures { Appends buf.old buf.new result (row_end (settings_of self.now.config.now)) }
     {
+        if let Some(text) = &self.edges.end {
+            return push_text(buf, text.as_str());
+        }
         let (borders, colors) = (self.config.get_borders(), self.config.get_borders_color());
         push_border_glyph(buf, borders.right, colors.right)?;
         push_compact_indent(
@@ -144,6 +152,9 @@ impl<D: Dimension, C: Colors> CompactPrinter<'_, D, C> {
     {
         if column == 0 {
             return Ok(());
+        }
+        if let Some(text) = &self.edges.between {
+            return push_text(buf, text.as_str());
         }
         let (borders, colors) = (self.config.get_borders(), self.config.get_borders_color());
         push_border_glyph(buf, borders.vertical, colors.vertical)

@@ -6,7 +6,7 @@ ghost use Rattle.pg_picture.specs.Appending.{Appends};
 ghost use Rattle.pg_picture.specs.CompactLines.{parts, parts_after, top_line, bottom_line, inner_line, open_parts, open_color, separator_row};
 ghost use Rattle.pg_compact.specs.CompactGrids.{printed_table, IsInnerSeparator, inner_separator, line_colors, column_parts};
 
-use crate::grid::CompactPrinter;
+use crate::printer::CompactPrinter;
 use pg_layout::{ANSIStr, Borders, Colors, Dimension, HorizontalLine};
 use pg_picture::{CompactRun, SeparatorKeeper, push_compact_indent, push_text};
 use std::alloc::{AllocError, Allocator};

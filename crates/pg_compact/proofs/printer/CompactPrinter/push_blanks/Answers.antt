@@ -4,7 +4,7 @@ use Rattle.pg_layout.specs.Text.{Text}
 use Rattle.pg_picture.proofs.Appending.{Gained-text, Gained-more, refused}
 use Rattle.pg_compact.specs.CompactGrids.{printed_table, padding_column}
 use Rattle.pg_compact.proofs.CompactRows.{columns-more, columns-cut}
-use Rattle.pg_compact.proofs.grid.CompactPrinter.push_blanks.Goals as goal
+use Rattle.pg_compact.proofs.printer.CompactPrinter.push_blanks.Goals as goal
 
 pub returns-in_err-push_blank : goal.returns-in_err-push_blank
 returns-in_err-push_blank g c =

@@ -3,7 +3,7 @@ use Rattle.std.specs.List.{range_with_len}
 use Rattle.pg_layout.specs.Colors.{str_color}
 use Rattle.pg_picture.specs.Appending.{Gained}
 use Rattle.pg_compact.specs.CompactGrids.{printed_table, padding_column}
-use Rattle.pg_compact.proofs.grid.CompactPrinter.push_blanks.Given as goal
+use Rattle.pg_compact.proofs.printer.CompactPrinter.push_blanks.Given as goal
 
 -- the columns so far
 abbrev pub invariant-loop-column : goal.invariant-loop-column

@@ -4,7 +4,7 @@ use Rattle.pg_layout.specs.Text.{Text}
 use Rattle.pg_picture.proofs.Appending.{Appends-text, Gained-none, Gained-all, Gained-text, Gained-more, refused}
 use Rattle.pg_compact.specs.CompactGrids.{printed_table, text_column}
 use Rattle.pg_compact.proofs.CompactRows.{columns-more, columns-cut, cell-column, next-taken, none-ended}
-use Rattle.pg_compact.proofs.grid.CompactPrinter.push_cells.Goals as goal
+use Rattle.pg_compact.proofs.printer.CompactPrinter.push_cells.Goals as goal
 
 pub loop-column-init : goal.loop-column-init
 loop-column-init g c = (c.requires.cells.0, c.requires.cells.1, λ texts is. (is.gives, Gained-none c.args.buf.now))

@@ -4,7 +4,7 @@ use Rattle.pg_picture.proofs.Appending.{Appends-text, ◌then◌, stopped}
 use Rattle.pg_picture.proofs.Separators.{IfOk-same}
 use Rattle.pg_compact.specs.CompactGrids.{printed_table, line_colors}
 use Rattle.pg_compact.proofs.CompactSeparators.{open_parts-two, open_color-two, column-parts}
-use Rattle.pg_compact.proofs.grid.CompactPrinter.push_column.Goals as goal
+use Rattle.pg_compact.proofs.printer.CompactPrinter.push_column.Goals as goal
 
 pub returns-in_err-run-clause-appends : goal.returns-in_err-run-clause-appends
 returns-in_err-run-clause-appends g c =

@@ -3,7 +3,7 @@ use Rattle.pg_picture.specs.CompactLines.{Part, open_parts, open_color}
 use Rattle.pg_picture.proofs.Appending.{Gained-none, Gained-text, Gained-more, refused}
 use Rattle.pg_compact.specs.CompactGrids.{printed_table, line_colors, column_parts}
 use Rattle.pg_compact.proofs.CompactSeparators.{open_parts-columns, open_color-columns, open_parts-columns_cut}
-use Rattle.pg_compact.proofs.grid.CompactPrinter.push_columns.Goals as goal
+use Rattle.pg_compact.proofs.printer.CompactPrinter.push_columns.Goals as goal
 
 pub loop-column-init : goal.loop-column-init
 unfolding open_parts open_color

@@ -3,7 +3,7 @@ use Rattle.std.specs.List.{range_with_len}
 use Rattle.pg_picture.specs.Appending.{Gained}
 use Rattle.pg_picture.specs.CompactLines.{open_parts, open_color}
 use Rattle.pg_compact.specs.CompactGrids.{printed_table, line_colors, column_parts}
-use Rattle.pg_compact.proofs.grid.CompactPrinter.push_columns.Given as goal
+use Rattle.pg_compact.proofs.printer.CompactPrinter.push_columns.Given as goal
 
 -- the columns so far, and the colour that they leave open
 abbrev pub invariant-loop-column : goal.invariant-loop-column

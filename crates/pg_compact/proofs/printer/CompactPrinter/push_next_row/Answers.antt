@@ -3,7 +3,7 @@ use Rattle.pg_picture.specs.Joined.{continued, lines_before}
 use Rattle.pg_picture.proofs.Appending.{Appends-text, ◌then◌, stopped}
 use Rattle.pg_compact.specs.CompactGrids.{printed_table, lines_of_row}
 use Rattle.pg_compact.proofs.CompactBodies.{next_row-text}
-use Rattle.pg_compact.proofs.grid.CompactPrinter.push_next_row.Goals as goal
+use Rattle.pg_compact.proofs.printer.CompactPrinter.push_next_row.Goals as goal
 
 pub returns-in_err-push_inner_separator-clause-appends : goal.returns-in_err-push_inner_separator-clause-appends
 returns-in_err-push_inner_separator-clause-appends g c = λ texts is_row.

@@ -8,7 +8,7 @@ use Rattle.pg_picture.proofs.Appending.{Appends-text, Gained-text, Gained-more, 
 use Rattle.pg_compact.specs.CompactGrids.{printed_table}
 use Rattle.pg_compact.proofs.CompactBodies.{next_rows-more, next_rows-cut}
 use Rattle.pg_compact.proofs.CompactRows.{row-taken, rows-ended}
-use Rattle.pg_compact.proofs.grid.CompactPrinter.push_next_rows.Goals as goal
+use Rattle.pg_compact.proofs.printer.CompactPrinter.push_next_rows.Goals as goal
 
 pub push_next_row-requires-clause-cells : goal.push_next_row-requires-clause-cells
 push_next_row-requires-clause-cells g c =

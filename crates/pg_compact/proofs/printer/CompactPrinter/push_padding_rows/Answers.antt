@@ -2,8 +2,8 @@ use Rattle.std.proofs.Common.{◌≡◌, ◌+◌, ◌==◌, sym, ◌∙◌, inl,
 use Rattle.pg_picture.specs.Joined.{lines_before}
 use Rattle.pg_picture.proofs.Appending.{Gained-none, Gained-more, Gained-text, refused}
 use Rattle.pg_picture.proofs.JoinedLines.{continued-nil, continued-more, continued-cut, first-of}
-use Rattle.pg_compact.proofs.grid.CompactPrinter.push_padding_rows.Goals as goal
-use Rattle.pg_compact.proofs.grid.CompactPrinter.push_padding_rows.Goals.{then-is_first, else-is_first}
+use Rattle.pg_compact.proofs.printer.CompactPrinter.push_padding_rows.Goals as goal
+use Rattle.pg_compact.proofs.printer.CompactPrinter.push_padding_rows.Goals.{then-is_first, else-is_first}
 
 pub loop-number-init : goal.loop-number-init
 loop-number-init g c = Gained-text (sym (continued-nil (lines_before c.args.is_first))) (Gained-none c.args.buf.now)

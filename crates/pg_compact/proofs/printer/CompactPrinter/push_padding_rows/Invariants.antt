@@ -4,7 +4,7 @@ use Rattle.pg_picture.specs.Appending.{Gained}
 use Rattle.pg_picture.specs.CompactLines.{padding_row}
 use Rattle.pg_picture.specs.Joined.{continued, lines_before}
 use Rattle.pg_compact.specs.CompactGrids.{printed_table}
-use Rattle.pg_compact.proofs.grid.CompactPrinter.push_padding_rows.Given as goal
+use Rattle.pg_compact.proofs.printer.CompactPrinter.push_padding_rows.Given as goal
 
 -- the lines so far
 abbrev pub invariant-loop-number : goal.invariant-loop-number

@@ -5,7 +5,7 @@ use Rattle.pg_picture.specs.CompactLines.{part_if, open_parts, open_color}
 use Rattle.pg_picture.proofs.Appending.{Appends-text, ◌then◌, stopped}
 use Rattle.pg_compact.specs.CompactGrids.{printed_table, line_colors, column_parts}
 use Rattle.pg_compact.proofs.CompactSeparators.{parts-text}
-use Rattle.pg_compact.proofs.grid.CompactPrinter.push_parts.Goals as goal
+use Rattle.pg_compact.proofs.printer.CompactPrinter.push_parts.Goals as goal
 
 pub returns-in_err-run : goal.returns-in_err-run
 returns-in_err-run g c =

@@ -6,8 +6,8 @@ use Rattle.pg_picture.proofs.Appending.{Appends-text, ◌then◌, stopped}
 use Rattle.pg_picture.proofs.JoinedLines.{first-of}
 use Rattle.pg_compact.specs.CompactGrids.{printed_table}
 use Rattle.pg_compact.proofs.CompactBodies.{row-text}
-use Rattle.pg_compact.proofs.grid.CompactPrinter.push_row.Goals as goal
-use Rattle.pg_compact.proofs.grid.CompactPrinter.push_row.Goals.{then-is_first, else-is_first}
+use Rattle.pg_compact.proofs.printer.CompactPrinter.push_row.Goals as goal
+use Rattle.pg_compact.proofs.printer.CompactPrinter.push_row.Goals.{then-is_first, else-is_first}
 
 pub returns-in_err-push_padding_rows : goal.returns-in_err-push_padding_rows
 returns-in_err-push_padding_rows g c = λ texts is_row.

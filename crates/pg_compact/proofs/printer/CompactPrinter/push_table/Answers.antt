@@ -10,7 +10,7 @@ use Rattle.pg_picture.proofs.SumsOfSizes.{is_some_answer}
 use Rattle.pg_compact.proofs.CompactBodies.{table-text}
 use Rattle.pg_compact.proofs.CompactPictures.{no_columns-text, no_rows-text, totals-fit, width-answer}
 use Rattle.pg_compact.proofs.CompactRows.{row-taken, rows-ended}
-use Rattle.pg_compact.proofs.grid.CompactPrinter.push_table.Goals as goal
+use Rattle.pg_compact.proofs.printer.CompactPrinter.push_table.Goals as goal
 
 pub returns-then-self-eq0 : goal.returns-then-self-eq0
 returns-then-self-eq0 g c = λ texts all.

@@ -1,7 +1,7 @@
 use Rattle.pg_picture.specs.CompactLines.{text_row}
 use Rattle.pg_picture.proofs.Appending.{◌then◌, stopped}
 use Rattle.pg_compact.specs.CompactGrids.{printed_table}
-use Rattle.pg_compact.proofs.grid.CompactPrinter.push_text_line.Goals as goal
+use Rattle.pg_compact.proofs.printer.CompactPrinter.push_text_line.Goals as goal
 
 pub returns-in_err-push_feed : goal.returns-in_err-push_feed
 returns-in_err-push_feed g c = λ texts is. stopped (text_row (printed_table g.D.Dimension.width g.C.Colors.color c.args.self.now texts) c.args.row) c.from_residual.ensures.0 c.in_err-push_feed.ensures
