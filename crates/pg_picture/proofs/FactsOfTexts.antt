@@ -1,12 +1,12 @@
 -- The facts of a text, from its lines in order.
-use Rattle.std.proofs.Common.{◌≡◌, ℕ, suc, ◌+◌, ◌-◌, ◌&&◌, not, cond, count_by, Bool, true, false, List, [], ◌∷◌, length, map, fold, max, drop, refl, sym, ap, ◌∙◌, arith, if◌then◌else◌}
-use Rattle.std.specs.List.{prefix_len, suffix_len, position_or_len}
+use Rattle.std.proofs.Common.{◌≡◌, ℕ, ◌+◌, ◌-◌, ◌&&◌, not, cond, Bool, true, false, List, [], ◌∷◌, length, map, fold, max, drop, refl, sym, ap, ◌∙◌, arith, if◌then◌else◌}
+use Rattle.std.specs.List.{prefix_len, suffix_len, list_all}
 use Rattle.std.specs.Str.{trim}
 use Rattle.std.proofs.lemmas.List.{length-map}
-use Rattle.std.proofs.lemmas.List.Sums.{sum_by-cons}
+use Rattle.std.proofs.lemmas.Bool.{and_parts}
 use Rattle.pg_layout.specs.Text.{Text, lines_of, is_blank, width_of, greatest, text_width_of, blank_top, blank_bottom, without_blank_ends}
 use Rattle.pg_layout.specs.declared.alignment.Formatting.{Formatting}
-use Rattle.pg_layout.proofs.TextLines.{is_feed, lines_of-one, length-lines_of}
+use Rattle.pg_layout.proofs.TextLines.{is_feed, feed_place, lines_of-one}
 use Rattle.pg_picture.specs.Pieces.{trimmed_if, kept_lines, shown, widest}
 use Rattle.pg_picture.specs.Cells.{facts_of}
 use Rattle.pg_picture.specs.declared.facts.BlankEnds.{BlankEnds}
@@ -78,16 +78,14 @@ facts_of-single f text width h v one known =
     rw (h, v, one) (ap widest_of_one same)
 
 -- a text without a line feed is one line
-none-first : {X : Type 0} (p : X → Bool) (xs : List X) → count_by p xs ≡ 0 → position_or_len p xs ≡ length xs
-none-first p [] none = refl
-none-first p (x ∷ xs) none =
-    elim (p x) as (λ v. count_by p (x ∷ xs) ≡ cond v 1 0 + count_by p xs → cond (not v) (1 + position_or_len p xs) 0 ≡ suc (length xs)) [
-      | true ↦ λ sum. absurd (omega (arith, none))
-      | false ↦ λ sum. let rest : count_by p xs ≡ 0 = omega (arith, none) in omega (arith, none-first p xs rest)
-    ] (sum_by-cons (λ y. cond (p y) 1 0) x xs)
+place-unfed : (text : Text) → list_all (λ b. not (is_feed b)) text ≡ true → feed_place text ≡ length text
+place-unfed [] unfed = refl
+place-unfed (b ∷ bs) unfed =
+    let parts = and_parts (not (is_feed b)) (list_all (λ x. not (is_feed x)) bs) unfed in
+    ap (λ v. cond v (1 + feed_place bs) 0) parts.0 ∙ omega (arith, place-unfed bs parts.1)
 
-pub lines_of-single : (text : Text) → length (lines_of text) ≡ 1 → lines_of text ≡ text ∷ []
-lines_of-single text single = lines_of-one text (none-first is_feed text (omega (arith, length-lines_of text)))
+pub lines_of-unfed : (text : Text) → list_all (λ b. not (is_feed b)) text ≡ true → lines_of text ≡ text ∷ []
+lines_of-unfed text unfed = lines_of-one text (place-unfed text unfed)
 
 -- without a vertical trim all lines of a text are shown
 pub length-shown : (f : Formatting) (text : Text) → f.vertical_trim ≡ false → length (shown f text) ≡ length (lines_of text)

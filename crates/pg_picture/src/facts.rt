@@ -1,15 +1,17 @@
 //! What is known of a text before it is placed: its blank lines, its shown lines and its width.
 
-ghost use Rattle.std.specs.Prelude.{◌≡◌, ◌&&◌, ◌+◌, ◌<◌, ◌∷◌, [], IfSome, length, map};
+ghost use Rattle.std.specs.Prelude.{◌≡◌, ◌==◌, ◌&&◌, ◌+◌, ◌<◌, ◌∷◌, [], IfSome, length, map, not};
+ghost use Rattle.std.specs.List.{list_all};
 ghost use Rattle.pg_layout.specs.Text.{lines_of, width_of, greatest, is_blank};
 ghost use Rattle.pg_layout.specs.Records.{text_at};
 ghost use Rattle.pg_picture.specs.Pieces.{trimmed_if};
 ghost use Rattle.pg_picture.specs.Cells.{with_line, empty_lines_of, facts_of};
 
 use pg_layout::{
-    Formatting, PeekableRecords, Position, count_lines, get_line_width, get_lines, get_text_width,
-    is_blank, is_plain, trim_line,
+    Formatting, PeekableRecords, Position, get_line_width, get_lines, get_text_width, is_blank,
+    is_plain, trim_line,
 };
+use unicode_width::UnicodeWidthStr;
 
 /// How many of the lines read so far are blank at the front, are blank at the end, and stand
 /// between.
@@ -104,10 +106,18 @@ pub(crate) fn single_line_width(text: &str) -> Option<usize>
     if is_plain(text.as_bytes()) {
         return Some(text.len());
     }
-    if count_lines(text) == 1 {
-        return Some(get_line_width(text));
+    if has_no_feed(text.as_bytes()) {
+        return Some(text.width());
     }
     None
+}
+
+// Whether no byte is a line feed.
+#[inline(always)]
+fn has_no_feed(bytes: &[u8]) -> bool
+    ensures { result ≡ list_all (λ b. not (b == 10)) bytes.now }
+{
+    bytes.iter().all(|b| *b != b'\n')
 }
 
 /// How many terminal columns the widest line of a text takes, each line trimmed where that is
