@@ -1,10 +1,10 @@
 -- The text of pieces: of a fill, of no pieces, of some and of one more.
-use Rattle.std.proofs.Common.{◌≡◌, ℕ, zero, suc, ◌<◌, List, [], ◌∷◌, ◌++◌, Option, Some, None, refl, sym, arith, append-nil, lit<}
+use Rattle.std.proofs.Common.{◌≡◌, ℕ, zero, suc, ◌<◌, List, [], ◌∷◌, ◌++◌, Option, Some, None, refl, sym, ap, ap₂, ◌∙◌, arith, append-nil, lit<, ◌+◌}
 use Rattle.std.proofs.lemmas.List.Concat.{flat_map-append}
 use Rattle.pg_layout.specs.Colors.{Color}
 use Rattle.pg_picture.specs.Pieces.{Piece, fill, glyph_piece, written, piece_text, in_color, repeated}
 use Rattle.pg_picture.specs.CompactLines.{colored_glyph}
-use Rattle.pg_picture.proofs.Repeated.{repeated-zero}
+use Rattle.pg_picture.proofs.Repeated.{repeated-zero, repeated-add}
 
 pub written-nil : written [] ≡ []
 unfolding written
@@ -34,6 +34,19 @@ pub written-fill_plain : (c k : ℕ) → written (fill c k None) ≡ repeated c 
 unfolding written fill
 written-fill_plain c zero = sym (repeated-zero c)
 written-fill_plain c (suc k) = append-nil (repeated c (suc k))
+
+-- plain fills of one character, one behind the other, are one fill: a padding before what stands beside it, and behind it
+pub fills-together : (c d a b : ℕ) {n : ℕ} {color other : Option Color} → c ≡ d → color ≡ None → other ≡ None → n ≡ a + b → repeated c n ≡ written (fill c a color) ++ written (fill d b other)
+fills-together c d a b same plain beside all =
+    repeated-add c a b all
+    ∙ ap₂ (λ (x y : List ℕ). x ++ y) (sym (written-fill_plain c a)) (sym (written-fill_plain c b) ∙ ap (λ k. written (fill k b None)) same)
+    ∙ ap₂ (λ (x y : Option Color). written (fill c a x) ++ written (fill d b y)) (sym plain) (sym beside)
+
+pub fills-together-behind : (c d a b : ℕ) {n : ℕ} {color other : Option Color} → c ≡ d → color ≡ None → other ≡ None → n ≡ a + b → repeated c n ≡ written (fill d b other) ++ written (fill c a color)
+fills-together-behind c d a b same plain beside all =
+    repeated-add c b a (omega (arith, all))
+    ∙ ap₂ (λ (x y : List ℕ). x ++ y) (sym (written-fill_plain c b) ∙ ap (λ k. written (fill k b None)) same) (sym (written-fill_plain c a))
+    ∙ ap₂ (λ (x y : Option Color). written (fill d b x) ++ written (fill c a y)) (sym beside) (sym plain)
 
 -- a glyph with its colour is one of its characters
 pub written-glyph_piece : (g : Option ℕ) (color : Option Color) → written (glyph_piece g color) ≡ colored_glyph g color

@@ -1,18 +1,19 @@
 //! The lines of a cell: its text lines, and the fills above and below them.
 
-ghost use Rattle.std.specs.Prelude.{◌≡◌, ◌+◌, ◌<◌, ◌≤◌, ◌++◌, [], ℕ, length, IfSome, slice_index_or};
+ghost use Rattle.std.specs.Prelude.{◌≡◌, ◌+◌, ◌<◌, ◌≤◌, ◌++◌, [], ℕ, length, IfSome, IsSome, None, slice_index_or};
 ghost use Rattle.pg_layout.specs.Colors.{lent_color};
 ghost use Rattle.pg_layout.specs.Text.{lines_of, width_of};
 ghost use Rattle.pg_picture.specs.Appending.{Appends};
-ghost use Rattle.pg_picture.specs.Pieces.{written, fill, widest, trimmed_if, inner_width, line_with, block_line};
+ghost use Rattle.pg_picture.specs.Pieces.{written, fill, repeated, widest, trimmed_if, inner_width, line_with, block_line};
 ghost use Rattle.pg_picture.specs.Cells.{style_of, facts_of, place_of, share_of, line_if, line_parts, placed_line};
 
 use crate::facts::{TextFacts, single_line_width, trim_if};
+use crate::fill::push_repeated;
 use crate::piece::{push_fill, push_words};
 use crate::place::CellPlace;
 use crate::share::calculate_indent;
 use crate::style::CellStyle;
-use pg_layout::{ANSIBuf, ANSIFmt, get_line, get_line_width};
+use pg_layout::{ANSIBuf, ANSIFmt, Indent, get_line, get_line_width};
 use std::alloc::{AllocError, Allocator};
 
 /// Appends a line of text between its cell's side paddings: the left padding, `left` columns of
@@ -105,7 +106,14 @@ fn push_left_side<B: Allocator, A: Allocator>(
     ensures { Appends buf.old buf.new result (written (fill style.now.padding.left.fill style.now.padding.left.size (style_of style.now).padding_color.left) ++ written (fill style.now.justification share (style_of style.now).justification_color)) }
 {
     let left = style.padding.left;
-    push_fill(buf, left.fill, left.size, style.padding_color.left.as_ref())?;
+    let color = &style.padding_color.left;
+    if share == 0 {
+        return push_padding(buf, left.fill, left.size, color);
+    }
+    if let Some(size) = columns_together(style, left, color, share) {
+        return push_columns(buf, left.fill, size);
+    }
+    push_padding(buf, left.fill, left.size, color)?;
     push_fill(buf, style.justification, share, style.justification_color)
 }
 
@@ -119,13 +127,45 @@ fn push_right_side<B: Allocator, A: Allocator>(
     ensures { Appends buf.old buf.new result (written (fill style.now.justification rest (style_of style.now).justification_color) ++ written (fill style.now.padding.right.fill style.now.padding.right.size (style_of style.now).padding_color.right)) }
 {
     let right = style.padding.right;
+    let color = &style.padding_color.right;
+    if let Some(size) = columns_together(style, right, color, rest) {
+        return push_columns(buf, right.fill, size);
+    }
     push_fill(buf, style.justification, rest, style.justification_color)?;
-    push_fill(
-        buf,
-        right.fill,
-        right.size,
-        style.padding_color.right.as_ref(),
-    )
+    push_padding(buf, right.fill, right.size, color)
+}
+
+// How many columns a side padding makes together with those beside it, where all are of one
+// character and have no colour.
+#[inline(always)]
+fn columns_together<B: Allocator>(
+    style: &CellStyle<'_, B>,
+    padding: Indent,
+    color: &Option<ANSIBuf<B>>,
+    beside: usize,
+) -> Option<usize>
+    ensures same { IsSome result → padding.fill ≡ style.now.justification }
+    ensures plain { IsSome result → color.now ≡ None }
+    ensures plain_beside { IsSome result → (style_of style.now).justification_color ≡ None }
+    ensures size { IfSome result (λ size. size ≡ padding.size + beside) }
+{
+    let is_plain = color.is_none() && style.justification_color.is_none();
+    if is_plain && padding.fill == style.justification {
+        padding.size.checked_add(beside)
+    } else {
+        None
+    }
+}
+
+// So many columns of a character without a colour.
+#[inline(always)]
+fn push_columns<A: Allocator>(buf: &mut String<A>, c: char, size: usize) -> Result<(), AllocError>
+    ensures { Appends buf.old buf.new result (repeated c size) }
+{
+    if size == 0 {
+        return Ok(());
+    }
+    push_repeated(buf, c, size)
 }
 
 /// Appends line `i` of a cell of so many columns, whose text stands at this place: a line of the top
@@ -148,13 +188,13 @@ pub fn push_block_line_of<C: ANSIFmt, B: Allocator, A: Allocator>(
     ensures { Appends buf.old buf.new result (written (placed_line (style_of style.now) (lent_color C.color_of color.entry) place width i line.now)) }
 {
     if i < place.top {
-        return push_fill_line(buf, style.padding.top.fill, width, &style.padding_color.top);
+        return push_padding(buf, style.padding.top.fill, width, &style.padding_color.top);
     }
     if i - place.top < place.shown {
         let shown = trim_if(line, style.formatting.horizontal_trim);
         return push_text_line(buf, style, color, shown, place.left, width);
     }
-    push_fill_line(
+    push_padding(
         buf,
         style.padding.bottom.fill,
         width,
@@ -162,9 +202,9 @@ pub fn push_block_line_of<C: ANSIFmt, B: Allocator, A: Allocator>(
     )
 }
 
-// A line above or below a text, in the colour of that padding.
+// So many columns of a padding, in its colour.
 #[inline(always)]
-fn push_fill_line<B: Allocator, A: Allocator>(
+fn push_padding<B: Allocator, A: Allocator>(
     buf: &mut String<A>,
     c: char,
     width: usize,
