@@ -12,3 +12,4 @@ pub mod SingleRows
 pub mod Styles
 pub mod Streams
 pub mod Faults
+pub mod Told

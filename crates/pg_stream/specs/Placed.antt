@@ -1,5 +1,6 @@
 -- The open cells as a printer keeps them: with their widths, and with the places of their texts.
 use Rattle.std.specs.Prelude.{◌≡◌, ℕ, ◌+◌, ◌-◌, ◌<◌, ◌≤◌, List, length, map, IfSome, slice_index_or, Option, Some, None}
+use Rattle.pg_config.specs.Spans.{rect_columns}
 use Rattle.pg_layout.specs.LineCursor.{StandsIn, line_number}
 use Rattle.pg_layout.specs.Position.{at}
 use Rattle.pg_layout.specs.Text.{Text, lines_of}
@@ -51,3 +52,14 @@ AllOpen P cells = (x : ℕ) → IfSome (slice_index_or cells x None) (P x)
 -- the rectangle of the cell has a line
 abbrev pub IsTall : Table → ℕ → Placed → Type 0
 IsTall t x cell = 0 < height_of_rect t.config t.height (at cell.begun x)
+
+-- The open cells of a table: each column has a slot, and each cell ends inside the columns and stands where it is drawn.
+pub record AreOpen (t : Table) (cells : List (Option Placed)) : Type 0 where
+  pub columns : t.columns ≡ length cells
+  pub inside : AllOpen (λ x cell. x + rect_columns t.config.spans (at cell.begun x) ≤ t.columns) cells
+  pub placed : AllOpen (IsPlaced t) cells
+
+-- and the rectangle of each has a line
+pub record AreDrawn (t : Table) (cells : List (Option Placed)) : Type 0 where
+  pub opened : AreOpen t cells
+  pub tall : AllOpen (IsTall t) cells

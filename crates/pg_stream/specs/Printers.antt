@@ -10,8 +10,9 @@ use Rattle.pg_picture.specs.Table.{Table, full_width, table_body}
 use Rattle.pg_stream.specs.Conditions.{PrinterFits}
 use Rattle.pg_stream.specs.Open.{open_before}
 use Rattle.pg_stream.specs.Placed.{Placed, slots_of, AllOpen, IsPlaced}
-use Rattle.pg_stream.specs.Printing.{Printing, table_known}
+use Rattle.pg_stream.specs.Printing.{Printing, frame_of, table_known}
 use Rattle.pg_stream.specs.declared.frame.Frame.{Frame}
+use Rattle.pg_stream.specs.declared.progress.Progress.{Progress}
 
 -- a printer over a dimension and colours
 pub record Printer (D C : Type 0) : Type 0 where
@@ -26,17 +27,17 @@ pub record Printer (D C : Type 0) : Type 0 where
   pub cells : List (Option Placed)
 
 -- a printer that was told this, and has printed so much
-abbrev pub printer_of : {D C B : Type 0} → Frame D C B → Option ℕ → List (Option Placed) → ℕ → ℕ → Bool → Printer D C
-printer_of frame hint cells rows lines is_ended = record {
+abbrev pub printer_of : {D C B S A : Type 0} → Frame D C B → Progress S A → Printer D C
+printer_of frame progress = record {
   config = frame.config.now;
   columns = frame.columns;
   dimension = frame.dimension.now;
   colors = frame.colors.now;
-  hint = hint;
-  rows = rows;
-  lines = lines;
-  is_ended = is_ended;
-  cells = cells;
+  hint = frame.hint;
+  rows = progress.rows;
+  lines = progress.lines;
+  is_ended = progress.is_ended;
+  cells = progress.cells;
 }
 
 -- what it stands for, by what its dimension and its colours stand for
@@ -69,3 +70,10 @@ pub record IsSound (s : Printing) (t : Table) (width : ℕ) (height : Option ℕ
   pub few : s.rows < 2 ^ 64 - 1
   pub hinted : IfSome s.hint (λ rows. (s.rows ≤ rows) × (s.is_ended ≡ true → s.rows ≡ rows))
   pub ended : s.is_ended ≡ true → spans_fit s.config.spans s.rows s.columns ≡ true
+
+-- what a printer stands for that was told this, and has printed so much
+abbrev pub now_of : {S A : Type 0} → Printing → Progress S A → Printing
+now_of told progress = record told { rows = progress.rows; lines = progress.lines; is_ended = progress.is_ended; slots = slots_of progress.cells }
+
+abbrev pub IsSoundAt : {D C B S A : Type 0} → Printing → Frame D C B → Progress S A → Type 0
+IsSoundAt told frame progress = IsSound (now_of told progress) (frame_of told) frame.width frame.height progress.cells

@@ -1,4 +1,4 @@
-use Rattle.std.proofs.Common.{◌≡◌, ◌<◌, ℕ, map, slice_index_or, []}
+use Rattle.std.proofs.Common.{◌<◌, ℕ, map, slice_index_or, []}
 use Rattle.pg_layout.specs.Position.{at}
 use Rattle.pg_stream.specs.Conditions.{HasRoom}
 use Rattle.pg_stream.specs.Frames.{frame_table}
