@@ -42,6 +42,6 @@ impl<'a, S: AsStr + Drop, D: Dimension, C: Colors, B: Allocator, A: Allocator> R
             frame,
             mut progress,
         } = self;
-        progress.push_rows_of::<Brand, D, C, B, Cells, Rows, W>(&frame, first, rows, buf)
+        progress.push_rows::<Brand, D, C, B, Cells, Rows, W>(&frame, first, rows, buf)
     }
 }

@@ -8,7 +8,6 @@ mod conditions;
 mod drawing;
 mod fault;
 mod frame;
-mod kept;
 mod laws;
 mod open_cell;
 mod open_cells;

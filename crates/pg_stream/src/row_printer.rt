@@ -17,8 +17,8 @@ use crate::open_cells::OpenCells;
 use crate::progress::Progress;
 use pg_config::SpannedConfig;
 use pg_layout::{Colors, Dimension};
-use pg_picture::CellStyle;
 use pg_picture::fits::{body_height, full_width};
+use pg_picture::{CellStyle, SeparatorKeeper};
 use std::alloc::{AllocError, Allocator, Global};
 use std::convert::AsStr;
 use std::marker::{Brand, Model};
@@ -179,7 +179,8 @@ impl<'a, S: AsStr + Drop, D: Dimension, C: Colors, B: Allocator, A: Allocator> R
             frame,
             mut progress,
         } = self;
-        progress.push_row_of::<Brand, D, C, B, I, W>(&frame, cells, is_last, buf)?;
+        let mut kept = SeparatorKeeper::new(&mut []);
+        progress.push_row::<Brand, D, C, B, I, W>(&frame, &mut kept, cells, is_last, buf)?;
         Ok(RowPrinter { frame, progress })
     }
 
@@ -193,7 +194,7 @@ impl<'a, S: AsStr + Drop, D: Dimension, C: Colors, B: Allocator, A: Allocator> R
         ensures { Appends buf.old buf.new result (finish_text (printing D.width D.height C.color self.entry)) }
     {
         let RowPrinter { frame, progress } = self;
-        progress.push_end_of::<Brand, D, C, B, W>(&frame, buf)
+        progress.push_end::<Brand, D, C, B, W>(&frame, buf)
     }
 }
 

@@ -1,21 +1,20 @@
 //! Separators, which show the lines of the open cells that go through them.
 
-ghost use Rattle.std.specs.Prelude.{◌≡◌, ◌+◌, ◌<◌, ◌≤◌, ◌^◌, nat_lt, max, [], map, flat_map, replicate, slice_index_or, IfOk, OnOk, None};
+ghost use Rattle.std.specs.Prelude.{◌≡◌, ◌+◌, ◌<◌, ◌≤◌, ◌^◌, nat_lt, max, [], map, flat_map, replicate, slice_index_or, IfOk, IfSome, OnOk, None};
 ghost use Rattle.std.specs.List.{range_with_len};
 ghost use Rattle.pg_config.specs.Spans.{rect_columns};
 ghost use Rattle.pg_layout.specs.Position.{at};
 ghost use Rattle.pg_picture.specs.Appending.{Appends};
 ghost use Rattle.pg_picture.specs.Pieces.{items_after, last_color, separator_text};
-ghost use Rattle.pg_stream.specs.Drawing.{column_end, reach, cell_items, open_separator_part, open_separator, above_text, below_text};
+ghost use Rattle.pg_stream.specs.Drawing.{column_end, reach, cell_items, open_separator_part, open_separator, above_text, below_text, IsSeparator};
 ghost use Rattle.pg_stream.specs.Placed.{draw_cell, AllOpen, AreDrawn};
 ghost use Rattle.pg_stream.specs.Printing.{frame_of};
 ghost use Rattle.pg_stream.specs.Slots.{separator_height};
 
 use crate::drawing::{Drawing, Drawn};
-use crate::kept::KeptSeparator;
 use crate::open_cells::OpenCells;
 use pg_layout::{ANSIBuf, Colors, Dimension, Position};
-use pg_picture::{Run, push_text};
+use pg_picture::{Run, SeparatorKeeper, push_text};
 use std::alloc::{AllocError, Allocator};
 use std::convert::AsStr;
 
@@ -31,7 +30,7 @@ where
     pub(crate) fn push_above<S: AsStr + Drop, A: Allocator, W: Allocator>(
         self,
         opened: &mut OpenCells<S, A>,
-        kept: &mut KeptSeparator<'_, T>,
+        kept: &mut SeparatorKeeper<'_>,
         buf: &mut String<W>,
         is_first: bool,
         index: usize,
@@ -42,9 +41,11 @@ where
         requires room { AllOpen (λ x cell. cell.drawn + separator_height T.told.config row < 2 ^ 64) opened.old }
         requires opened { 0 < separator_height T.told.config row → AreDrawn (frame_of T.told) opened.old }
         requires alone { T.told.config.spans ≡ [] → opened.old ≡ replicate T.told.columns None }
+        requires kept { IfSome kept.old.text (IsSeparator (frame_of T.told)) }
         ensures appends { Appends buf.old buf.new result (above_text (frame_of T.told) self.entry.frame.now.height is_first opened.old row index) }
         ensures index { IfOk result (λ next. next ≡ index + separator_height T.told.config row) }
         ensures drawn { OnOk result (opened.new ≡ map (draw_cell (separator_height T.told.config row)) opened.old) }
+        ensures kept { IfSome kept.new.text (IsSeparator (frame_of T.told)) }
     {
         if !self.has_horizontal(row, row + 1) {
             return Ok(index);
@@ -81,14 +82,16 @@ where
     fn push_kept_separator<S: AsStr + Drop, A: Allocator, W: Allocator>(
         self,
         opened: &OpenCells<S, A>,
-        kept: &mut KeptSeparator<'_, T>,
+        kept: &mut SeparatorKeeper<'_>,
         buf: &mut String<W>,
         row: usize,
     ) -> Result<(), AllocError>
         requires row { row + 1 < 2 ^ 64 }
         requires opened { AreDrawn (frame_of T.told) opened.now }
         requires alone { T.told.config.spans ≡ [] → opened.now ≡ replicate T.told.columns None }
-        ensures { Appends buf.old buf.new result (separator_text (open_separator (frame_of T.told) (row + 1) opened.now row)) }
+        requires kept { IfSome kept.old.text (IsSeparator (frame_of T.told)) }
+        ensures appends { Appends buf.old buf.new result (separator_text (open_separator (frame_of T.told) (row + 1) opened.now row)) }
+        ensures kept { IfSome kept.new.text (IsSeparator (frame_of T.told)) }
     {
         if row == 0 {
             return self.push_separator(opened, buf, row, row + 1);

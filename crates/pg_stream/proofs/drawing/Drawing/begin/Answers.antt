@@ -19,23 +19,16 @@ loop-column-init g c = (
 
 pub returns-in_default : goal.returns-in_default
 returns-in_default g c = λ texts gives.
-    let t = frame_of g.T.Drawn.told in
-    let spans = t.config.spans in
     let texts = c.requires.given.0 in
     let reading = c.loop-column.invariant.1 texts c.requires.given.1 in
-    let apart = apart_from spans t.columns c.requires.spans c.requires.places in
-    let owners = owners_of spans apart in
     let i = c.loop-column.column in
     absurd (read-none g.S.AsStr.text g.I.Iterator.next_gives c.loop-column.cells c.next.new.self texts i (omega arith) reading.left (subst (λ (r : Option g.row.S.Denot). g.I.Iterator.next_gives c.loop-column.cells r c.next.new.self) c.in_default.is c.next.ensures.steps))
 
 pub begin_one-requires-clause-column : goal.begin_one-requires-clause-column
 begin_one-requires-clause-column g c =
     let t = frame_of g.T.Drawn.told in
-    let spans = t.config.spans in
     let texts = c.requires.given.0 in
     let reading = c.loop-column.invariant.1 texts c.requires.given.1 in
-    let apart = apart_from spans t.columns c.requires.spans c.requires.places in
-    let owners = owners_of spans apart in
     let i = c.loop-column.column in
     let e = ap length reading.begun ∙ partly-length (λ x. begin_cell t c.args.row (slice_index_or texts x []) x) 0 i c.args.opened.now in
     omega (arith, e, c.loop-column-test.true, c.requires.columns)

@@ -27,12 +27,12 @@ returns-in_err-push_start-clause-appends g c =
 pub returns-in_err-push_kept_separator-clause-appends : goal.returns-in_err-push_kept_separator-clause-appends
 returns-in_err-push_kept_separator-clause-appends g c =
     Appends-text (above-parts (frame_of g.T.Drawn.told) c.args.self.frame.now.height c.args.is_first c.args.opened.now c.args.row c.args.index c.has_horizontal.ensures c.if-not-has_horizontal.false)
-    (c.in_ok-push_start.ensures then stopped _ c.from_residual-in_err-push_kept_separator.ensures.0 c.in_err-push_kept_separator.ensures)
+    (c.in_ok-push_start.ensures then stopped _ c.from_residual-in_err-push_kept_separator.ensures.0 c.in_err-push_kept_separator.ensures.appends)
 
 pub returns-in_err-push_end-clause-appends : goal.returns-in_err-push_end-clause-appends
 returns-in_err-push_end-clause-appends g c =
     Appends-text (above-parts (frame_of g.T.Drawn.told) c.args.self.frame.now.height c.args.is_first c.args.opened.now c.args.row c.args.index c.has_horizontal.ensures c.if-not-has_horizontal.false)
-    (c.in_ok-push_start.ensures then (c.in_ok-push_kept_separator.ensures then refused-as c.from_residual-in_err-push_end.ensures.0 c.in_err-push_end.ensures))
+    (c.in_ok-push_start.ensures then (c.in_ok-push_kept_separator.ensures.appends then refused-as c.from_residual-in_err-push_end.ensures.0 c.in_err-push_end.ensures))
 
 pub draw_line-requires : goal.draw_line-requires
 draw_line-requires g c =
@@ -45,7 +45,7 @@ overflow_add-result g c = let one = height-there g.T.Drawn.told.config c.args.ro
 pub returns-clause-appends : goal.returns-clause-appends
 returns-clause-appends g c =
     Appends-text (above-parts (frame_of g.T.Drawn.told) c.args.self.frame.now.height c.args.is_first c.args.opened.now c.args.row c.args.index c.has_horizontal.ensures c.if-not-has_horizontal.false)
-    (c.in_ok-push_start.ensures then (c.in_ok-push_kept_separator.ensures then appended-as c.in_ok-push_end.ensures))
+    (c.in_ok-push_start.ensures then (c.in_ok-push_kept_separator.ensures.appends then appended-as c.in_ok-push_end.ensures))
 
 pub returns-clause-index : goal.returns-clause-index
 returns-clause-index g c = let one = height-there g.T.Drawn.told.config c.args.row c.has_horizontal.ensures c.if-not-has_horizontal.false in omega (arith, one)

@@ -16,8 +16,8 @@ returns-then-self-eq0 g c = Appends-text (finish-none (now_of g.T.Drawn.told c.a
 pub push_below-requires : goal.push_below-requires
 push_below-requires g c =
     let s : Printing = now_of g.T.Drawn.told c.args.self.now in
-    let w = c.args.drawing.frame.now.width in
-    let h = c.args.drawing.frame.now.height in
+    let w = c.args.frame.now.width in
+    let h = c.args.frame.now.height in
     let cells = c.args.self.now.cells in
     let some : 0 < c.args.self.now.rows = omega arith in
     let ended : c.args.self.now.is_ended ≡ true = ended_of c.args.self.now.rows c.args.self.now.is_ended c.requires.ended some in
@@ -26,8 +26,8 @@ push_below-requires g c =
 pub returns-in_err-push_below : goal.returns-in_err-push_below
 returns-in_err-push_below g c =
     let s : Printing = now_of g.T.Drawn.told c.args.self.now in
-    let w = c.args.drawing.frame.now.width in
-    let h = c.args.drawing.frame.now.height in
+    let w = c.args.frame.now.width in
+    let h = c.args.frame.now.height in
     let cells = c.args.self.now.cells in
     let some : 0 < c.args.self.now.rows = omega arith in
     let ended : c.args.self.now.is_ended ≡ true = ended_of c.args.self.now.rows c.args.self.now.is_ended c.requires.ended some in
@@ -36,8 +36,8 @@ returns-in_err-push_below g c =
 pub returns : goal.returns
 returns g c =
     let s : Printing = now_of g.T.Drawn.told c.args.self.now in
-    let w = c.args.drawing.frame.now.width in
-    let h = c.args.drawing.frame.now.height in
+    let w = c.args.frame.now.width in
+    let h = c.args.frame.now.height in
     let cells = c.args.self.now.cells in
     let some : 0 < c.args.self.now.rows = omega arith in
     let ended : c.args.self.now.is_ended ≡ true = ended_of c.args.self.now.rows c.args.self.now.is_ended c.requires.ended some in

@@ -16,9 +16,8 @@ use Rattle.pg_stream.proofs.progress.Progress.push_row.Goals as goal
 pub returns-in_err-push_top-clause-appends : goal.returns-in_err-push_top-clause-appends
 returns-in_err-push_top-clause-appends g c = λ texts gives.
     let s : Printing = now_of g.T.Drawn.told c.args.self.now in
-    let t = frame_of g.T.Drawn.told in
-    let w = c.args.drawing.frame.now.width in
-    let h = c.args.drawing.frame.now.height in
+    let w = c.args.frame.now.width in
+    let h = c.args.frame.now.height in
     let cells = c.args.self.now.cells in
     let sound = c.requires.sound in
     let fits = c.requires.fits.2 in
@@ -27,11 +26,6 @@ returns-in_err-push_top-clause-appends g c = λ texts gives.
 pub push_above-requires-clause-index : goal.push_above-requires-clause-index
 push_above-requires-clause-index g c =
     let s : Printing = now_of g.T.Drawn.told c.args.self.now in
-    let t = frame_of g.T.Drawn.told in
-    let w = c.args.drawing.frame.now.width in
-    let h = c.args.drawing.frame.now.height in
-    let cells = c.args.self.now.cells in
-    let sound = c.requires.sound in
     let fits = c.requires.fits.2 in
     let both = length_of_row s.config s.height s.rows in
     omega (arith, fits.lines, both)
@@ -39,31 +33,26 @@ push_above-requires-clause-index g c =
 pub push_above-requires-clause-opened : goal.push_above-requires-clause-opened
 push_above-requires-clause-opened g c =
     let s : Printing = now_of g.T.Drawn.told c.args.self.now in
-    let t = frame_of g.T.Drawn.told in
-    let w = c.args.drawing.frame.now.width in
-    let h = c.args.drawing.frame.now.height in
+    let w = c.args.frame.now.width in
+    let h = c.args.frame.now.height in
     let cells = c.args.self.now.cells in
     let sound = c.requires.sound in
-    let fits = c.requires.fits.2 in
     drawn-above s w h cells refl sound
 
 pub push_above-requires-clause-alone : goal.push_above-requires-clause-alone
 push_above-requires-clause-alone g c =
     let s : Printing = now_of g.T.Drawn.told c.args.self.now in
-    let t = frame_of g.T.Drawn.told in
-    let w = c.args.drawing.frame.now.width in
-    let h = c.args.drawing.frame.now.height in
+    let w = c.args.frame.now.width in
+    let h = c.args.frame.now.height in
     let cells = c.args.self.now.cells in
     let sound = c.requires.sound in
-    let fits = c.requires.fits.2 in
     none-open s w h cells refl sound
 
 pub push_above-requires-clause-room : goal.push_above-requires-clause-room
 push_above-requires-clause-room g c =
     let s : Printing = now_of g.T.Drawn.told c.args.self.now in
-    let t = frame_of g.T.Drawn.told in
-    let w = c.args.drawing.frame.now.width in
-    let h = c.args.drawing.frame.now.height in
+    let w = c.args.frame.now.width in
+    let h = c.args.frame.now.height in
     let cells = c.args.self.now.cells in
     let sound = c.requires.sound in
     let fits = c.requires.fits.2 in
@@ -73,9 +62,8 @@ push_above-requires-clause-room g c =
 pub returns-in_err-next-clause-appends : goal.returns-in_err-next-clause-appends
 returns-in_err-next-clause-appends g c = λ texts gives.
     let s : Printing = now_of g.T.Drawn.told c.args.self.now in
-    let t = frame_of g.T.Drawn.told in
-    let w = c.args.drawing.frame.now.width in
-    let h = c.args.drawing.frame.now.height in
+    let w = c.args.frame.now.width in
+    let h = c.args.frame.now.height in
     let cells = c.args.self.now.cells in
     let sound = c.requires.sound in
     let fits = c.requires.fits.2 in
@@ -84,33 +72,20 @@ returns-in_err-next-clause-appends g c = λ texts gives.
 pub push_single_row-requires-clause-single : goal.push_single_row-requires-clause-single
 push_single_row-requires-clause-single g c =
     let s : Printing = now_of g.T.Drawn.told c.args.self.now in
-    let t = frame_of g.T.Drawn.told in
-    let w = c.args.drawing.frame.now.width in
-    let h = c.args.drawing.frame.now.height in
-    let cells = c.args.self.now.cells in
-    let sound = c.requires.sound in
-    let fits = c.requires.fits.2 in
     let once = at-once c.height_of-height.result s.config.spans c.draws_at_once.result c.draws_at_once.ensures c.if-draws_at_once.true in
     let one : s.height s.rows ≡ 1 = sym c.height_of-height.ensures ∙ once.0 in
     record { alone = once.1; height = one }
 
 pub push_single_row-requires-clause-given : goal.push_single_row-requires-clause-given
 push_single_row-requires-clause-given g c =
-    let s : Printing = now_of g.T.Drawn.told c.args.self.now in
-    let t = frame_of g.T.Drawn.told in
-    let w = c.args.drawing.frame.now.width in
-    let h = c.args.drawing.frame.now.height in
-    let cells = c.args.self.now.cells in
-    let sound = c.requires.sound in
     let fits = c.requires.fits.2 in
     (c.requires.fits.0, c.requires.fits.1, fits.whole, fits.rooms)
 
 pub returns-in_err-push_single_row-clause-appends : goal.returns-in_err-push_single_row-clause-appends
 returns-in_err-push_single_row-clause-appends g c = λ texts gives.
     let s : Printing = now_of g.T.Drawn.told c.args.self.now in
-    let t = frame_of g.T.Drawn.told in
-    let w = c.args.drawing.frame.now.width in
-    let h = c.args.drawing.frame.now.height in
+    let w = c.args.frame.now.width in
+    let h = c.args.frame.now.height in
     let cells = c.args.self.now.cells in
     let sound = c.requires.sound in
     let fits = c.requires.fits.2 in
@@ -123,8 +98,8 @@ pub returns-then-draws_at_once-clause-sound : goal.returns-then-draws_at_once-cl
 returns-then-draws_at_once-clause-sound g c =
     let s : Printing = now_of g.T.Drawn.told c.args.self.now in
     let t = frame_of g.T.Drawn.told in
-    let w = c.args.drawing.frame.now.width in
-    let h = c.args.drawing.frame.now.height in
+    let w = c.args.frame.now.width in
+    let h = c.args.frame.now.height in
     let cells = c.args.self.now.cells in
     let sound = c.requires.sound in
     let fits = c.requires.fits.2 in
@@ -132,7 +107,7 @@ returns-then-draws_at_once-clause-sound g c =
     let one : s.height s.rows ≡ 1 = sym c.height_of-height.ensures ∙ once.0 in
     let left = c.in_ok-next.ensures.drawn ∙ single-left s w h cells refl sound c.args.is_last fits.hint fits.spans once.1 one c.requires.fits.0 in
     let lines = ap₂ (λ (a b : ℕ). a + b) c.in_ok-next.ensures.index c.height_of-height.ensures in
-    subst (IsSoundAt g.T.Drawn.told c.args.drawing.frame.now) (sym c.end_row.ensures)
+    subst (IsSoundAt g.T.Drawn.told c.args.frame.now) (sym c.end_row.ensures)
     (subst (λ n. IsSound (record s { rows = s.rows + 1; lines = n; is_ended = c.args.is_last; slots = slots_of c.push_above.new.opened }) t w h c.push_above.new.opened) (sym lines)
     (subst (λ l. IsSound (record s { rows = s.rows + 1; lines = (s.lines + separator_height s.config s.rows) + s.height s.rows; is_ended = c.args.is_last; slots = slots_of l }) t w h l) (sym left)
     (sound-next s w h cells refl sound c.args.is_last fits.hint fits.spans c.requires.fits.0 fits.rooms fits.rows)))
@@ -140,9 +115,8 @@ returns-then-draws_at_once-clause-sound g c =
 pub returns-then-draws_at_once-clause-appends : goal.returns-then-draws_at_once-clause-appends
 returns-then-draws_at_once-clause-appends g c = λ texts gives.
     let s : Printing = now_of g.T.Drawn.told c.args.self.now in
-    let t = frame_of g.T.Drawn.told in
-    let w = c.args.drawing.frame.now.width in
-    let h = c.args.drawing.frame.now.height in
+    let w = c.args.frame.now.width in
+    let h = c.args.frame.now.height in
     let cells = c.args.self.now.cells in
     let sound = c.requires.sound in
     let fits = c.requires.fits.2 in
@@ -154,9 +128,8 @@ returns-then-draws_at_once-clause-appends g c = λ texts gives.
 pub returns-then-draws_at_once-clause-after : goal.returns-then-draws_at_once-clause-after
 returns-then-draws_at_once-clause-after g c = λ texts gives.
     let s : Printing = now_of g.T.Drawn.told c.args.self.now in
-    let t = frame_of g.T.Drawn.told in
-    let w = c.args.drawing.frame.now.width in
-    let h = c.args.drawing.frame.now.height in
+    let w = c.args.frame.now.width in
+    let h = c.args.frame.now.height in
     let cells = c.args.self.now.cells in
     let sound = c.requires.sound in
     let fits = c.requires.fits.2 in
@@ -171,33 +144,20 @@ returns-then-draws_at_once-clause-after g c = λ texts gives.
 pub begin-requires-clause-above : goal.begin-requires-clause-above
 begin-requires-clause-above g c =
     let s : Printing = now_of g.T.Drawn.told c.args.self.now in
-    let t = frame_of g.T.Drawn.told in
-    let w = c.args.drawing.frame.now.width in
-    let h = c.args.drawing.frame.now.height in
+    let w = c.args.frame.now.width in
+    let h = c.args.frame.now.height in
     let cells = c.args.self.now.cells in
     let sound = c.requires.sound in
-    let fits = c.requires.fits.2 in
     subst (λ l. (x : ℕ) → x < s.columns → IsOwnerAbove s.config.spans s.rows x (get_or l x None)) (sym c.in_ok-next.ensures.drawn) (owner-begins s w h cells refl sound)
 
 pub begin-requires-clause-given : goal.begin-requires-clause-given
 begin-requires-clause-given g c =
-    let s : Printing = now_of g.T.Drawn.told c.args.self.now in
-    let t = frame_of g.T.Drawn.told in
-    let w = c.args.drawing.frame.now.width in
-    let h = c.args.drawing.frame.now.height in
-    let cells = c.args.self.now.cells in
-    let sound = c.requires.sound in
     let fits = c.requires.fits.2 in
     (c.requires.fits.0, c.requires.fits.1, fits.whole, fits.rooms)
 
 pub push_lines-requires-clause-lines : goal.push_lines-requires-clause-lines
 push_lines-requires-clause-lines g c =
     let s : Printing = now_of g.T.Drawn.told c.args.self.now in
-    let t = frame_of g.T.Drawn.told in
-    let w = c.args.drawing.frame.now.width in
-    let h = c.args.drawing.frame.now.height in
-    let cells = c.args.self.now.cells in
-    let sound = c.requires.sound in
     let fits = c.requires.fits.2 in
     let both = length_of_row s.config s.height s.rows in
     omega (arith, fits.lines, both, c.in_ok-next.ensures.index, c.height_of-height.ensures)
@@ -206,8 +166,8 @@ pub push_lines-requires-clause-room : goal.push_lines-requires-clause-room
 push_lines-requires-clause-room g c =
     let s : Printing = now_of g.T.Drawn.told c.args.self.now in
     let t = frame_of g.T.Drawn.told in
-    let w = c.args.drawing.frame.now.width in
-    let h = c.args.drawing.frame.now.height in
+    let w = c.args.frame.now.width in
+    let h = c.args.frame.now.height in
     let cells = c.args.self.now.cells in
     let sound = c.requires.sound in
     let fits = c.requires.fits.2 in
@@ -220,8 +180,8 @@ pub push_lines-requires-clause-opened : goal.push_lines-requires-clause-opened
 push_lines-requires-clause-opened g c = λ some.
     let s : Printing = now_of g.T.Drawn.told c.args.self.now in
     let t = frame_of g.T.Drawn.told in
-    let w = c.args.drawing.frame.now.width in
-    let h = c.args.drawing.frame.now.height in
+    let w = c.args.frame.now.width in
+    let h = c.args.frame.now.height in
     let cells = c.args.self.now.cells in
     let sound = c.requires.sound in
     let fits = c.requires.fits.2 in
@@ -232,8 +192,8 @@ pub returns-in_err-push_lines-clause-appends : goal.returns-in_err-push_lines-cl
 returns-in_err-push_lines-clause-appends g c = λ texts gives.
     let s : Printing = now_of g.T.Drawn.told c.args.self.now in
     let t = frame_of g.T.Drawn.told in
-    let w = c.args.drawing.frame.now.width in
-    let h = c.args.drawing.frame.now.height in
+    let w = c.args.frame.now.width in
+    let h = c.args.frame.now.height in
     let cells = c.args.self.now.cells in
     let sound = c.requires.sound in
     let fits = c.requires.fits.2 in
@@ -246,11 +206,10 @@ pub close-requires-clause-columns : goal.close-requires-clause-columns
 close-requires-clause-columns g c =
     let s : Printing = now_of g.T.Drawn.told c.args.self.now in
     let t = frame_of g.T.Drawn.told in
-    let w = c.args.drawing.frame.now.width in
-    let h = c.args.drawing.frame.now.height in
+    let w = c.args.frame.now.width in
+    let h = c.args.frame.now.height in
     let cells = c.args.self.now.cells in
     let sound = c.requires.sound in
-    let fits = c.requires.fits.2 in
     let now = c.begin.ensures c.requires.fits.0 c.requires.fits.1 ∙ ap (λ l. cells_begun t s.rows c.requires.fits.0 l) c.in_ok-next.ensures.drawn in
     let drawn = c.in_ok-push_lines.ensures.drawn ∙ ap₂ (λ n l. map (draw_cell n) l) c.height_of-height.ensures now in
     whole-now s w h cells refl sound c.requires.fits.0 ∙ sym (length-map (cells_now s w h cells refl sound c.requires.fits.0) (draw_cell (s.height s.rows))) ∙ sym (ap length drawn)
@@ -259,11 +218,10 @@ pub close-requires-clause-begun : goal.close-requires-clause-begun
 close-requires-clause-begun g c =
     let s : Printing = now_of g.T.Drawn.told c.args.self.now in
     let t = frame_of g.T.Drawn.told in
-    let w = c.args.drawing.frame.now.width in
-    let h = c.args.drawing.frame.now.height in
+    let w = c.args.frame.now.width in
+    let h = c.args.frame.now.height in
     let cells = c.args.self.now.cells in
     let sound = c.requires.sound in
-    let fits = c.requires.fits.2 in
     let now = c.begin.ensures c.requires.fits.0 c.requires.fits.1 ∙ ap (λ l. cells_begun t s.rows c.requires.fits.0 l) c.in_ok-next.ensures.drawn in
     let drawn = c.in_ok-push_lines.ensures.drawn ∙ ap₂ (λ n l. map (draw_cell n) l) c.height_of-height.ensures now in
     subst (AllOpen (λ x cell. cell.begun ≤ s.rows)) (sym drawn) (begun-now s w h cells refl sound c.requires.fits.0)
@@ -271,11 +229,6 @@ close-requires-clause-begun g c =
 pub overflow_add-below : goal.overflow_add-below
 overflow_add-below g c =
     let s : Printing = now_of g.T.Drawn.told c.args.self.now in
-    let t = frame_of g.T.Drawn.told in
-    let w = c.args.drawing.frame.now.width in
-    let h = c.args.drawing.frame.now.height in
-    let cells = c.args.self.now.cells in
-    let sound = c.requires.sound in
     let fits = c.requires.fits.2 in
     let both = length_of_row s.config s.height s.rows in
     omega (arith, fits.lines, both, c.in_ok-next.ensures.index, c.height_of-height.ensures)
@@ -284,8 +237,8 @@ pub returns-clause-sound : goal.returns-clause-sound
 returns-clause-sound g c =
     let s : Printing = now_of g.T.Drawn.told c.args.self.now in
     let t = frame_of g.T.Drawn.told in
-    let w = c.args.drawing.frame.now.width in
-    let h = c.args.drawing.frame.now.height in
+    let w = c.args.frame.now.width in
+    let h = c.args.frame.now.height in
     let cells = c.args.self.now.cells in
     let sound = c.requires.sound in
     let fits = c.requires.fits.2 in
@@ -293,7 +246,7 @@ returns-clause-sound g c =
     let drawn = c.in_ok-push_lines.ensures.drawn ∙ ap₂ (λ n l. map (draw_cell n) l) c.height_of-height.ensures now in
     let left = c.close.ensures ∙ ap (λ l. cells_closed s.config.spans s.rows l) drawn in
     let lines = ap₂ (λ (a b : ℕ). a + b) c.in_ok-next.ensures.index c.height_of-height.ensures in
-    subst (IsSoundAt g.T.Drawn.told c.args.drawing.frame.now) (sym c.end_row-2.ensures)
+    subst (IsSoundAt g.T.Drawn.told c.args.frame.now) (sym c.end_row-2.ensures)
     (subst (λ n. IsSound (record s { rows = s.rows + 1; lines = n; is_ended = c.args.is_last; slots = slots_of c.close.new.opened }) t w h c.close.new.opened) (sym lines)
     (subst (λ l. IsSound (record s { rows = s.rows + 1; lines = (s.lines + separator_height s.config s.rows) + s.height s.rows; is_ended = c.args.is_last; slots = slots_of l }) t w h l) (sym left)
     (sound-next s w h cells refl sound c.args.is_last fits.hint fits.spans c.requires.fits.0 fits.rooms fits.rows)))
@@ -302,8 +255,8 @@ pub returns-clause-appends : goal.returns-clause-appends
 returns-clause-appends g c = λ texts gives.
     let s : Printing = now_of g.T.Drawn.told c.args.self.now in
     let t = frame_of g.T.Drawn.told in
-    let w = c.args.drawing.frame.now.width in
-    let h = c.args.drawing.frame.now.height in
+    let w = c.args.frame.now.width in
+    let h = c.args.frame.now.height in
     let cells = c.args.self.now.cells in
     let sound = c.requires.sound in
     let fits = c.requires.fits.2 in
@@ -316,8 +269,8 @@ pub returns-clause-after : goal.returns-clause-after
 returns-clause-after g c = λ texts gives.
     let s : Printing = now_of g.T.Drawn.told c.args.self.now in
     let t = frame_of g.T.Drawn.told in
-    let w = c.args.drawing.frame.now.width in
-    let h = c.args.drawing.frame.now.height in
+    let w = c.args.frame.now.width in
+    let h = c.args.frame.now.height in
     let cells = c.args.self.now.cells in
     let sound = c.requires.sound in
     let fits = c.requires.fits.2 in

@@ -1,5 +1,5 @@
 use Rattle.pg_stream.specs.Told.{told_of}
 use Rattle.pg_stream.proofs.row_printer.RowPrinter.print_rows.Given as goal
 
-abbrev pub ghosts-push_rows_of : goal.ghosts-push_rows_of
-ghosts-push_rows_of g a = record { told = told_of g.D.Dimension.width g.D.Dimension.height g.C.Colors.color a.frame.now }
+abbrev pub ghosts-push_rows : goal.ghosts-push_rows
+ghosts-push_rows g a = record { told = told_of g.D.Dimension.width g.D.Dimension.height g.C.Colors.color a.frame.now }

@@ -1,13 +1,15 @@
-use Rattle.std.proofs.Common.{◌≡◌, ◌∷◌, List}
+use Rattle.std.proofs.Common.{◌≡◌, ◌∷◌, List, IfSome}
 use Rattle.pg_layout.specs.Records.{Gives}
 use Rattle.pg_layout.specs.Text.{Text}
 use Rattle.pg_stream.specs.Conditions.{AreRowsFrom, RowsFit}
+use Rattle.pg_stream.specs.Drawing.{IsSeparator}
 use Rattle.pg_stream.specs.Printers.{now_of, IsSoundAt}
-use Rattle.pg_stream.specs.Printing.{rows_text}
+use Rattle.pg_stream.specs.Printing.{frame_of, rows_text}
 use Rattle.pg_stream.proofs.RowsInTurn.{Printed}
-use Rattle.pg_stream.proofs.progress.Progress.push_rows_of.Given as goal
+use Rattle.pg_stream.proofs.progress.Progress.push_rows.Given as goal
 
--- the row that was taken and those behind it may be printed, and make the rest of the text
+-- the row that was taken and those behind it may be printed, and make the rest of the text; and the separator that is
+-- kept is the table's
 abbrev pub invariant-loop-next : goal.invariant-loop-next
 invariant-loop-next g l =
     let is_row = Gives (λ x y. g.S.AsStr.text x ≡ y) g.Cells.Iterator.can_next g.Cells.Iterator.next_gives g.Cells.Iterator.remaining in
@@ -18,4 +20,5 @@ invariant-loop-next g l =
     (goal.iterator-loop-next g).is_finite l.next-iterator ×
     ((cells : List Text) × (texts : List (List Text)) × AreRowsFrom is_row steps l.row l.next-iterator cells texts × RowsFit now (cells ∷ texts)) ×
     ((cells : List Text) (texts : List (List Text)) → AreRowsFrom is_row steps l.fn.first l.fn.rows cells texts → Printed is_row steps l.fn.buf l.buf l.row l.next-iterator now (rows_text start (cells ∷ texts))) ×
-    IsSoundAt g.T.Drawn.told l.frame l.self
+    IsSoundAt g.T.Drawn.told l.frame l.self ×
+    IfSome l.kept.text (IsSeparator (frame_of g.T.Drawn.told))

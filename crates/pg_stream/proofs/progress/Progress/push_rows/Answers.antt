@@ -6,16 +6,17 @@ use Rattle.pg_stream.specs.Conditions.{RowsFit}
 use Rattle.pg_stream.specs.Printers.{now_of}
 use Rattle.pg_stream.specs.Printing.{Printing, row_text, finish_text, after_row, rows_text}
 use Rattle.pg_stream.proofs.RowsInTurn.{next-row, no-row, rows_text-more, rows_text-last, row-fits}
-use Rattle.pg_stream.proofs.progress.Progress.push_rows_of.Goals as goal
+use Rattle.pg_stream.proofs.progress.Progress.push_rows.Goals as goal
 
 pub loop-next-init : goal.loop-next-init
 loop-next-init g c =
-    rw c.into_iter-next-iterator.ensures.into_iter_gives (
+    rw (c.into_iter-next-iterator.ensures.into_iter_gives, c.new-kept.ensures.text) (
       c.requires.rows.0,
       c.requires.rows.1,
       c.requires.given,
       λ cells texts from. record { cells = cells; texts = texts; from = from; so_far = []; gained = Gained-none c.args.buf.now; is = refl },
       c.requires.sound,
+      tt,
     )
 
 pub push_row-requires-clause-fits : goal.push_row-requires-clause-fits
@@ -60,6 +61,7 @@ loop-next-preserved g c =
             is = now.is ∙ ap (λ t. now.so_far ++ t) (rows_text-more s now.cells now.texts next.cells next.others next.all ∙ ap (λ (q : Printing). row ++ rows_text q (next.cells ∷ next.others)) (sym after)) ∙ sym (append_assoc now.so_far row _);
           },
       c.in_ok-push_row.ensures.sound,
+      c.in_ok-push_row.ensures.kept,
     )
 
 pub returns-in_err-push_row-2 : goal.returns-in_err-push_row-2
