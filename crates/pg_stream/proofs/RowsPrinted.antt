@@ -15,8 +15,9 @@ use Rattle.pg_picture.specs.Table.{Table}
 use Rattle.pg_picture.proofs.Owners.{Apart, HasOwners, apart_from, owners_of}
 use Rattle.pg_stream.specs.Conditions.{HaveRoom}
 use Rattle.pg_stream.specs.Open.{drawn_before, open_before}
-use Rattle.pg_stream.specs.Placed.{Placed, slots_of, draw_cell, AllOpen, IsPlaced, IsTall, AreDrawn}
-use Rattle.pg_stream.specs.Printers.{IsSound}
+use Rattle.pg_stream.specs.DrawnCells.{draw_cell, AllOpen, IsPlaced, IsTall, AreDrawn}
+use Rattle.pg_stream.specs.Placed.{Placed, slots_of}
+use Rattle.pg_stream.specs.Sound.{IsSound}
 use Rattle.pg_stream.specs.Printing.{Printing, frame_of, table_known}
 use Rattle.pg_stream.specs.Slots.{separator_height}
 use Rattle.pg_stream.specs.Turns.{IsOwnerAbove, new_cell, begin_cell, cells_begun}

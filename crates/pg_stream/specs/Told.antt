@@ -3,7 +3,8 @@ use Rattle.std.specs.Prelude.{ℕ, false, [], Option, None}
 use Rattle.pg_layout.specs.Colors.{Color}
 use Rattle.pg_layout.specs.declared.position.Position.{Position}
 use Rattle.pg_config.specs.Config.{default_config}
-use Rattle.pg_stream.specs.Printing.{Printing}
+use Rattle.pg_picture.specs.Table.{Table}
+use Rattle.pg_stream.specs.Printing.{Printing, frame_of}
 use Rattle.pg_stream.specs.declared.frame.Frame.{Frame}
 
 -- a printer that was told nothing
@@ -24,3 +25,7 @@ told_of width height color frame = record {
   is_ended = false;
   slots = [];
 }
+
+-- and as a table of which no row and no text is known
+abbrev pub frame_table : {D C B : Type 0} → (D → ℕ → ℕ) → (D → ℕ → ℕ) → (C → Position → Option Color) → Frame D C B → Table
+frame_table width height color frame = frame_of (told_of width height color frame)

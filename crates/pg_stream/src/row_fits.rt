@@ -86,7 +86,7 @@ fn ends_spans<B: Allocator>(
 }
 
 impl<'a, D: Dimension, C: Colors, B: Allocator> Frame<'a, D, C, B> {
-    ghost use Rattle.pg_stream.specs.Frames.{frame_table};
+    ghost use Rattle.pg_stream.specs.Told.{frame_table};
 
     // Whether each cell that begins in a row has room for its text.
     fn have_room<S: AsStr>(&self, row: usize, cells: &[S]) -> bool

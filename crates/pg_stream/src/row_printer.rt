@@ -54,7 +54,8 @@ pub struct RowPrinter<
 
 impl<'a, S: AsStr, D: Dimension, C: Colors, B: Allocator, A: Allocator> Model
     for RowPrinter<'a, S, D, C, B, A> {
-    ghost use Rattle.pg_stream.specs.Printers.{Printer, printer_of, IsSoundAt};
+    ghost use Rattle.pg_stream.specs.Sound.{printer_of, IsSoundAt};
+    ghost use Rattle.pg_stream.specs.Printers.{Printer};
     ghost use Rattle.pg_stream.specs.Told.{told_of};
 
     ghost Value = { Printer D C };

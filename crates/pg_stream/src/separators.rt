@@ -7,7 +7,7 @@ ghost use Rattle.pg_layout.specs.Position.{at};
 ghost use Rattle.pg_picture.specs.Appending.{Appends};
 ghost use Rattle.pg_picture.specs.Pieces.{items_after, last_color, separator_text};
 ghost use Rattle.pg_stream.specs.Drawing.{column_end, reach, cell_items, open_separator_part, open_separator, above_text, below_text, IsSeparator};
-ghost use Rattle.pg_stream.specs.Placed.{draw_cell, AllOpen, AreDrawn};
+ghost use Rattle.pg_stream.specs.DrawnCells.{draw_cell, AllOpen, AreDrawn};
 ghost use Rattle.pg_stream.specs.Printing.{frame_of};
 ghost use Rattle.pg_stream.specs.Slots.{separator_height};
 

@@ -8,7 +8,7 @@ ghost use Rattle.pg_layout.specs.Records.{AlwaysGives};
 ghost use Rattle.pg_layout.specs.Text.{Text};
 ghost use Rattle.pg_picture.specs.Fits.{spans_fit_columns};
 ghost use Rattle.pg_stream.specs.Conditions.{HaveRoom};
-ghost use Rattle.pg_stream.specs.Placed.{AllOpen};
+ghost use Rattle.pg_stream.specs.DrawnCells.{AllOpen};
 ghost use Rattle.pg_stream.specs.Printing.{frame_of};
 ghost use Rattle.pg_stream.specs.Turns.{IsOwnerAbove, MayBegin, begin_cell, cells_begun, is_done, close_cell, cells_closed};
 

@@ -1,8 +1,9 @@
 use Rattle.std.proofs.Common.{◌≡◌, ℕ, ◌+◌, ◌<◌, ◌≤◌, ◌^◌, List, Option, refl, sym, ap, ap₂, ◌∙◌, subst, arith, map, length, get_or, None}
 use Rattle.std.proofs.lemmas.List.{length-map}
 use Rattle.pg_picture.proofs.Appending.{◌then◌, stopped, refused-as, appended-as, Appends-text}
-use Rattle.pg_stream.specs.Placed.{Placed, slots_of, draw_cell, AllOpen, AreDrawn}
-use Rattle.pg_stream.specs.Printers.{now_of, IsSound, IsSoundAt}
+use Rattle.pg_stream.specs.DrawnCells.{draw_cell, AllOpen, AreDrawn}
+use Rattle.pg_stream.specs.Placed.{Placed, slots_of}
+use Rattle.pg_stream.specs.Sound.{now_of, IsSound, IsSoundAt}
 use Rattle.pg_stream.specs.Printing.{Printing, frame_of}
 use Rattle.pg_stream.specs.Slots.{separator_height}
 use Rattle.pg_stream.specs.Turns.{IsOwnerAbove, cells_begun, cells_closed}
