@@ -19,8 +19,9 @@ use Rattle.pg_picture.proofs.Owners.{owner-own, owner-ends}
 use Rattle.pg_picture.proofs.Pictures.{continued-any, none-of-two}
 use Rattle.pg_picture.proofs.Ranges.{range-more}
 use Rattle.pg_stream.specs.Drawing.{reach, open_separator_part, open_separator, below_text}
-use Rattle.pg_stream.specs.Placed.{Placed, slots_of, AllOpen}
-use Rattle.pg_stream.specs.Printers.{IsSound}
+use Rattle.pg_stream.specs.DrawnCells.{AllOpen}
+use Rattle.pg_stream.specs.Placed.{Placed, slots_of}
+use Rattle.pg_stream.specs.Sound.{IsSound}
 use Rattle.pg_stream.specs.Printing.{Printing, hint_of, frame_of, text_known, table_known, lines_below, lines_printed, finish_lines, finish_text}
 use Rattle.pg_stream.proofs.OpenLists.{all-open}
 use Rattle.pg_stream.proofs.OwnersOfCells.{columns-same}

@@ -1,5 +1,5 @@
 -- Where nothing was set by its place for row lines, and no cell is open, the separators above all rows but the first are equal.
-use Rattle.std.proofs.Common.{◌≡◌, ℕ, ◌+◌, ◌<◌, Bool, true, ◌&&◌, ◌==◌, List, [], ◌++◌, length, replicate, Option, Some, None, IfSome, sym, ap, ap₂, ◌∙◌, arith}
+use Rattle.std.proofs.Common.{◌≡◌, ℕ, ◌+◌, ◌<◌, Bool, true, ◌&&◌, ◌==◌, List, [], ◌++◌, length, replicate, Option, None, sym, ap, ap₂, ◌∙◌, arith}
 use Rattle.std.proofs.lemmas.Bool.{and_parts}
 use Rattle.pg_layout.specs.Position.{at}
 use Rattle.pg_layout.specs.Text.{Text}
@@ -41,9 +41,8 @@ module _ (t : Table) (cells : List (Option Placed)) (row : ℕ) (some : 0 < row)
   kept-is kept = kept.1 row some ∙ ap (λ l. separator_text (open_separator t (row + 1) l row)) (sym (alone kept.0))
 
   -- and this may be kept where all of them are equal
-  pub keeps : (b : Bool) → b ≡ ((length t.config.spans == 0) && has_equal_row_lines t.config) → b ≡ true → text ≡ separator_text (open_separator t (row + 1) cells row) → (o : Option Text) → IfSome o (λ x. x ≡ text) → IfSome o (IsSeparator t)
-  keeps b is e here None same = tt
-  keeps b is e here (Some x) same =
+  pub keeps : (b : Bool) → b ≡ ((length t.config.spans == 0) && has_equal_row_lines t.config) → b ≡ true → text ≡ separator_text (open_separator t (row + 1) cells row) → IsSeparator t text
+  keeps b is e here =
       let parts = and_parts (length t.config.spans == 0) (has_equal_row_lines t.config) (sym is ∙ e) in
       let none = no-span t.config.spans parts.0 in
-      (none, λ r more. same ∙ here ∙ ap (λ l. separator_text (open_separator t (row + 1) l row)) (alone none) ∙ ap separator_text (equal_separators t parts.1 row r some more))
+      (none, λ r more. here ∙ ap (λ l. separator_text (open_separator t (row + 1) l row)) (alone none) ∙ ap separator_text (equal_separators t parts.1 row r some more))

@@ -1,10 +1,15 @@
 -- Lists of open cells: how many there are, and what is drawn of all of them.
-use Rattle.std.proofs.Common.{◌≡◌, ℕ, zero, suc, ◌+◌, ◌<◌, List, [], ◌∷◌, ◌++◌, map, length, take, drop, set, count_by, cond, get_or, slice_index_or, Option, Some, None, IfSome, is_some, refl, sym, ap, ap₂, ◌∙◌, arith, add-one, subst, ◌^◌}
+use Rattle.std.proofs.Common.{◌≡◌, ℕ, ◌≤◌, zero, suc, ◌+◌, ◌<◌, List, [], ◌∷◌, ◌++◌, map, length, take, drop, set, count_by, cond, get_or, slice_index_or, Option, Some, None, IfSome, is_some, refl, sym, ap, ap₂, ◌∙◌, arith, add-one, subst, ◌^◌}
 use Rattle.std.specs.List.{fold}
 use Rattle.pg_stream.specs.Open.{Slot}
 use Rattle.std.proofs.lemmas.List.{take_more, take_more_set, drop-set-lt, map-append}
 use Rattle.std.proofs.Math.Seq.{drop-cons}
-use Rattle.pg_stream.specs.Placed.{Placed, slot_of, slots_of, draw_cell, AllOpen}
+use Rattle.pg_stream.specs.DrawnCells.{draw_cell, AllOpen, IsPlaced, IsTall, AreDrawn}
+use Rattle.pg_stream.specs.Placed.{Placed, slot_of, slots_of}
+use Rattle.std.proofs.lemmas.List.{length-map}
+use Rattle.pg_config.specs.Spans.{rect_columns}
+use Rattle.pg_layout.specs.Position.{at}
+use Rattle.pg_picture.specs.Table.{Table}
 use Rattle.pg_stream.specs.Slots.{draw_more}
 
 -- as many slots are open as cells
@@ -85,3 +90,14 @@ all-open P cells each x = by_cell (slice_index_or cells x None) refl
 -- and the other way round
 pub one-open : (P : ℕ → Placed → Type 0) (cells : List (Option Placed)) → AllOpen P cells → (x : ℕ) (c : Placed) → slice_index_or cells x None ≡ Some c → P x c
 one-open P cells all x c e = subst (λ (o : Option Placed). IfSome o (P x)) e (all x)
+
+-- cells that are drawn are so whatever is drawn of them
+pub drawn-still : (t : Table) (d : ℕ) (cells : List (Option Placed)) → AreDrawn t cells → AreDrawn t (map (draw_cell d) cells)
+drawn-still t d cells drawn = record {
+  opened = record {
+    columns = drawn.opened.columns ∙ sym (length-map cells (draw_cell d));
+    inside = drawn-all (λ x cell. x + rect_columns t.config.spans (at cell.begun x) ≤ t.columns) (λ x cell. x + rect_columns t.config.spans (at cell.begun x) ≤ t.columns) d cells (λ x cell h. h) drawn.opened.inside;
+    placed = drawn-all (IsPlaced t) (IsPlaced t) d cells (λ x cell h. record { width = h.width; place = h.place; room = h.room }) drawn.opened.placed;
+  };
+  tall = drawn-all (IsTall t) (IsTall t) d cells (λ x cell h. h) drawn.tall;
+}

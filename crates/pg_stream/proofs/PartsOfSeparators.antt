@@ -1,5 +1,5 @@
 -- The items of a separator of open cells, one column after the other.
-use Rattle.std.proofs.Common.{◌≡◌, ℕ, ◌+◌, max, Bool, true, false, nat_lt, List, [], ◌∷◌, ◌++◌, map, flat_map, slice_index_or, Option, None, refl, sym, ap, ap₂, ◌∙◌, append_assoc, arith, zero-add}
+use Rattle.std.proofs.Common.{◌≡◌, ℕ, ◌+◌, max, Bool, true, false, nat_lt, List, [], ◌∷◌, ◌++◌, flat_map, slice_index_or, Option, None, refl, sym, ap, ap₂, ◌∙◌, append_assoc, arith}
 use Rattle.std.specs.List.{range_with_len}
 use Rattle.pg_layout.specs.Colors.{Color}
 use Rattle.pg_layout.specs.declared.position.Position.{Position}

@@ -22,8 +22,9 @@ use Rattle.pg_picture.proofs.Pictures.{length-top}
 use Rattle.pg_stream.specs.Conditions.{HaveRoom}
 use Rattle.pg_stream.specs.Drawing.{open_lines, open_line, open_separator, above_text, top_text}
 use Rattle.pg_stream.specs.Open.{Slot, open_before}
-use Rattle.pg_stream.specs.Placed.{Placed, slots_of, draw_cell, AllOpen, IsPlaced}
-use Rattle.pg_stream.specs.Printers.{IsSound}
+use Rattle.pg_stream.specs.DrawnCells.{draw_cell, AllOpen, IsPlaced}
+use Rattle.pg_stream.specs.Placed.{Placed, slots_of}
+use Rattle.pg_stream.specs.Sound.{IsSound}
 use Rattle.pg_stream.specs.Printing.{Printing, hint_of, frame_of, rows_known, rows_reached, text_known, table_known, lines_at, lines_printed, row_lines, row_text, after_row}
 use Rattle.pg_stream.specs.Slots.{separator_height, slot_line, slot_separator}
 use Rattle.pg_stream.specs.Turns.{close_cell, cells_closed}

@@ -1,12 +1,11 @@
 -- Rows that are read one by one: the row that comes next, and what is still to be printed.
-use Rattle.std.proofs.Common.{◌≡◌, Bool, true, false, List, [], ◌∷◌, ◌++◌, Option, Some, None, IfSome, refl, sym, subst}
+use Rattle.std.proofs.Common.{◌≡◌, true, false, List, [], ◌∷◌, ◌++◌, Option, Some, None, refl, subst}
 use Rattle.std.specs.Prelude.{String}
 use Rattle.pg_layout.specs.Records.{AlwaysGives}
 use Rattle.pg_layout.specs.Text.{Text}
 use Rattle.pg_picture.specs.Appending.{Gained}
 use Rattle.pg_stream.specs.Conditions.{AreRowsFrom, RowFits, RowsFit}
-use Rattle.pg_stream.specs.Drawing.{IsSeparator}
-use Rattle.pg_stream.specs.Printing.{Printing, frame_of, row_text, finish_text, after_row, rows_text}
+use Rattle.pg_stream.specs.Printing.{Printing, row_text, finish_text, after_row, rows_text}
 
 module _ {S A : Type 0} (is_row : A → List Text → Type 0) (steps : S → Option A → S → Type 0) where
   -- the row that was taken next is the first of those that were left
@@ -42,11 +41,6 @@ rows_text-more s cells texts next others all = rw all refl
 pub rows_text-last : (s : Printing) (cells : List Text) (texts : List (List Text)) → texts ≡ [] → rows_text s (cells ∷ texts) ≡ row_text s cells true ++ finish_text (after_row s cells true)
 unfolding rows_text
 rows_text-last s cells texts all = rw all refl
-
--- a separator that is kept is the table's also after a row
-pub keeps : (s q : Printing) (cells : List Text) (is_last : Bool) → q ≡ after_row s cells is_last → (kept : Option Text) → IfSome kept (IsSeparator (frame_of s)) → IfSome kept (IsSeparator (frame_of q))
-unfolding after_row
-keeps s q cells is_last is kept h = subst (λ (p : Printing). IfSome kept (IsSeparator (frame_of p))) (sym is) h
 
 -- the conditions of a row, and those of the rows behind it
 pub row-fits : (s : Printing) (cells : List Text) (texts : List (List Text)) (next : List Text) (others : List (List Text)) → texts ≡ next ∷ others → RowsFit s (cells ∷ texts)

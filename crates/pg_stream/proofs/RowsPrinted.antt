@@ -15,8 +15,9 @@ use Rattle.pg_picture.specs.Table.{Table}
 use Rattle.pg_picture.proofs.Owners.{Apart, HasOwners, apart_from, owners_of}
 use Rattle.pg_stream.specs.Conditions.{HaveRoom}
 use Rattle.pg_stream.specs.Open.{drawn_before, open_before}
-use Rattle.pg_stream.specs.Placed.{Placed, slots_of, draw_cell, AllOpen, IsPlaced, IsTall}
-use Rattle.pg_stream.specs.Printers.{IsSound}
+use Rattle.pg_stream.specs.DrawnCells.{draw_cell, AllOpen, IsPlaced, IsTall, AreDrawn}
+use Rattle.pg_stream.specs.Placed.{Placed, slots_of}
+use Rattle.pg_stream.specs.Sound.{IsSound}
 use Rattle.pg_stream.specs.Printing.{Printing, frame_of, table_known}
 use Rattle.pg_stream.specs.Slots.{separator_height}
 use Rattle.pg_stream.specs.Turns.{IsOwnerAbove, new_cell, begin_cell, cells_begun}
@@ -126,6 +127,9 @@ module _ (s : Printing) (w : ℕ) (height : Option ℕ) (cells : List (Option Pl
       let f = drawn-more s.config s.height k (at c.begun x) above (omega (arith, n.above, row, rows)) in
       omega (arith, least, f, some))
 
+  pub drawn-above : 0 < separator_height s.config k → AreDrawn t cells
+  drawn-above some = record { opened = record { columns = sound.whole; inside = inside-now; placed = sound.placed }; tall = tall-above some }
+
   -- when the separator is drawn
   abbrev pub cells_above : List (Option Placed)
   cells_above = map (draw_cell (separator_height s.config k)) cells
@@ -194,6 +198,16 @@ module _ (s : Printing) (w : ℕ) (height : Option ℕ) (cells : List (Option Pl
     placed-now rooms =
         all-now (IsPlaced t) (IsPlaced t) (λ x c h. record { width = h.width; place = h.place; room = h.room }) sound.placed
         (λ x h own. placed-new t (at k x) (slice_index_or texts x []) (rooms x h own).room)
+
+    pub drawn-now : HaveRoom t k texts → 0 < s.height k → AreDrawn t cells_now
+    drawn-now rooms some = record {
+      opened = record {
+        columns = whole-now;
+        inside = inside-columns s.config.spans k s.columns cells_now apart sound.fits.spans whole-now (λ x c h here. (owner-now x h).some c here);
+        placed = placed-now rooms;
+      };
+      tall = tall-now some;
+    }
 
     pub room-now : s.lines + (separator_height s.config k + s.height k) < 2 ^ 64 → AllOpen (λ x cell. cell.drawn + s.height k < 2 ^ 64) cells_now
     room-now few =

@@ -4,17 +4,17 @@ use Rattle.std.proofs.lemmas.Bool.{false≢true, and_parts}
 use Rattle.std.proofs.lemmas.Bool.Decides.{nat_tests}
 use Rattle.std.proofs.lemmas.List.{length-map}
 use Rattle.pg_layout.specs.declared.position.Position.{Position}
-use Rattle.pg_layout.specs.Position.{at, is_at}
+use Rattle.pg_layout.specs.Position.{at}
 use Rattle.pg_layout.specs.Text.{Text}
-use Rattle.pg_config.specs.Spans.{Span, rect_rows, owner}
+use Rattle.pg_config.specs.Spans.{Span, rect_rows}
 use Rattle.pg_picture.specs.Pieces.{style_at, block_line, written}
 use Rattle.pg_picture.specs.Sizes.{height_of_rect}
 use Rattle.pg_picture.specs.Table.{Table, vertical}
-use Rattle.pg_picture.proofs.HeightsOfRectangles.{rect_height-of_rect}
-use Rattle.pg_picture.proofs.PlainTables.{owner_plain, rect_rows_plain, rect_width_plain, rect_height_plain}
+use Rattle.pg_picture.proofs.PlainTables.{owner_plain, rect_rows_plain, rect_width_plain}
 use Rattle.pg_stream.specs.Drawing.{open_part, open_line, line_at, open_lines, open_line_at}
 use Rattle.pg_stream.specs.Open.{Slot, open_at_row, open_before}
-use Rattle.pg_stream.specs.Placed.{Placed, slot_of, slots_of, draw_cell}
+use Rattle.pg_stream.specs.DrawnCells.{draw_cell}
+use Rattle.pg_stream.specs.Placed.{Placed, slot_of, slots_of}
 use Rattle.pg_stream.specs.SingleRows.{single_part, single_line}
 use Rattle.pg_stream.specs.Slots.{slot_block}
 use Rattle.pg_stream.specs.Turns.{new_cell, begin_cell, close_cell, mapped, cells_begun, cells_closed}

@@ -6,7 +6,7 @@ use Rattle.pg_picture.specs.Pieces.{written}
 use Rattle.pg_picture.specs.Table.{Table}
 use Rattle.pg_stream.specs.Drawing.{line_at, above_text, top_text}
 use Rattle.pg_stream.specs.Placed.{Placed, slots_of}
-use Rattle.pg_stream.specs.Printers.{IsSound}
+use Rattle.pg_stream.specs.Sound.{IsSound}
 use Rattle.pg_stream.specs.Printing.{Printing, frame_of, table_known, row_text}
 use Rattle.pg_stream.specs.SingleRows.{single_line}
 use Rattle.pg_stream.specs.Slots.{separator_height}

@@ -15,8 +15,9 @@ use Rattle.pg_picture.proofs.HeightsOfRectangles.{length-table_body}
 use Rattle.pg_picture.proofs.SumsOfSizes.{if_fits-below}
 use Rattle.pg_stream.specs.Conditions.{PrinterFits}
 use Rattle.pg_stream.specs.Open.{open_at_row, open_before}
-use Rattle.pg_stream.specs.Placed.{Placed, slots_of, AllOpen, IsPlaced}
-use Rattle.pg_stream.specs.Printers.{IsSound}
+use Rattle.pg_stream.specs.DrawnCells.{AllOpen, IsPlaced}
+use Rattle.pg_stream.specs.Placed.{Placed, slots_of}
+use Rattle.pg_stream.specs.Sound.{IsSound}
 use Rattle.pg_stream.specs.Printing.{Printing, frame_of, table_known, printer}
 use Rattle.pg_stream.proofs.Steps.{open_none}
 use Rattle.pg_stream.proofs.WholePictures.{map_range-same, no_slots}

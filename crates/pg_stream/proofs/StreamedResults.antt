@@ -4,7 +4,7 @@ use Rattle.std.specs.Prelude.{String, string_bytes, Result, Ok, Err}
 use Rattle.pg_layout.specs.Records.{AlwaysGives}
 use Rattle.pg_layout.specs.Text.{Text}
 use Rattle.pg_stream.specs.Printing.{Printing, row_text, after_row}
-use Rattle.pg_stream.specs.Streams.{Streaming, held_text, HeldFits, after_push, rows_left, rows_before, text_but_latest, AppendsIf, PrintsRows, PrintsResults}
+use Rattle.pg_stream.specs.Streams.{Streaming, held_text, HeldFits, after_push, rows_left, rows_before, text_but_latest, AppendsIf, PrintsResults}
 use Rattle.pg_stream.specs.declared.fault.RowsFault.{RowsFault}
 use Rattle.pg_stream.specs.declared.fault.RowsFault.TheVariants.{Stream, Source}
 use Rattle.pg_stream.specs.declared.fault.StreamFault.{StreamFault}

@@ -1,10 +1,16 @@
 -- A row of one line in a table without spans, off the texts of its cells.
-use Rattle.std.specs.Prelude.{ℕ, List, [], ◌++◌, flat_map, slice_index_or}
+use Rattle.std.specs.Prelude.{◌≡◌, ℕ, List, [], ◌++◌, flat_map, slice_index_or}
 use Rattle.std.specs.List.{range_with_len}
 use Rattle.pg_layout.specs.Position.{at}
 use Rattle.pg_layout.specs.Text.{Text}
 use Rattle.pg_picture.specs.Pieces.{Piece, style_at, block_line}
 use Rattle.pg_picture.specs.Table.{Table, vertical}
+use Rattle.pg_stream.specs.Printing.{Printing}
+
+-- row k has one line, and no cell spans others
+pub record IsSingle (s : Printing) (k : ℕ) : Type 0 where
+  pub alone : s.config.spans ≡ []
+  pub height : s.height k ≡ 1
 
 -- the vertical left of column x, and the one line of the cell there
 unfoldable pub single_part : Table → ℕ → Text → ℕ → List Piece

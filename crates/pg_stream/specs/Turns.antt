@@ -1,14 +1,15 @@
 -- What becomes of the open cells in one row: cells begin and cells end.
-use Rattle.std.specs.Prelude.{◌≡◌, ℕ, ◌+◌, ◌<◌, ◌==◌, Bool, false, not, nat_lt, List, [], ◌∷◌, slice_index_or, Option, Some, None, if◌then◌else◌}
+use Rattle.std.specs.Prelude.{◌≡◌, ℕ, ◌+◌, ◌<◌, ◌≤◌, ◌==◌, Bool, false, not, nat_lt, List, [], ◌∷◌, slice_index_or, Option, Some, None, if◌then◌else◌}
 use Rattle.pg_layout.specs.declared.position.Position.{Position}
 use Rattle.pg_layout.specs.Position.{at, is_at}
 use Rattle.pg_layout.specs.Text.{Text}
-use Rattle.pg_config.specs.Spans.{Span, rect_rows, owner}
+use Rattle.pg_config.specs.Spans.{Span, rect_rows, rect_columns, owner}
 use Rattle.pg_picture.specs.Cells.{facts_of, place_of}
 use Rattle.pg_picture.specs.Pieces.{Style, style_at}
 use Rattle.pg_picture.specs.Sizes.{height_of_rect}
 use Rattle.pg_picture.specs.Table.{Table, rect_width}
 use Rattle.pg_picture.specs.declared.place.CellPlace.{CellPlace}
+use Rattle.pg_stream.specs.Conditions.{HasRoom}
 use Rattle.pg_stream.specs.Placed.{Placed}
 
 -- A column without an open cell isn't the left one of an owner that begins above row k; an open cell is its owner, and
@@ -32,6 +33,13 @@ new_cell t p text = record {
   width = rect_width t p;
   place = place_in (style_at t.config p) text (rect_width t p) (height_of_rect t.config t.height p);
 }
+
+-- the rectangle of p has a size, ends inside the columns, and has room for the text
+pub record MayBegin (t : Table) (p : Position) (text : Text) : Type 0 where
+  pub rows : 0 < rect_rows t.config.spans p
+  pub columns : 0 < rect_columns t.config.spans p
+  pub inside : p.col + rect_columns t.config.spans p ≤ t.columns
+  pub room : HasRoom t p text
 
 -- a cell that begins at (k, x) takes the column
 unfoldable pub begin_cell : Table → ℕ → Text → ℕ → Option Placed → Option Placed

@@ -11,9 +11,9 @@ ghost use Rattle.pg_stream.specs.Printing.{rows_text};
 
 use crate::row_printer::RowPrinter;
 use pg_layout::{Colors, Dimension};
-use pg_picture::{SEPARATOR_ROOM, SeparatorKeeper};
 use std::alloc::{AllocError, Allocator};
 use std::convert::AsStr;
+use std::marker::Brand;
 
 impl<'a, S: AsStr + Drop, D: Dimension, C: Colors, B: Allocator, A: Allocator> RowPrinter<
     'a,
@@ -38,16 +38,10 @@ impl<'a, S: AsStr + Drop, D: Dimension, C: Colors, B: Allocator, A: Allocator> R
         requires given { (cells : List Text) × (texts : List (List Text)) × AreRowsFrom (Gives (λ x y. S.text x ≡ y) Cells.can_next Cells.next_gives Cells.remaining) Rows.next_gives first rows cells texts × RowsFit (printing D.width D.height C.color self) (cells ∷ texts) }
         ensures { (cells : List Text) (texts : List (List Text)) → AreRowsFrom (Gives (λ x y. S.text x ≡ y) Cells.can_next Cells.next_gives Cells.remaining) Rows.next_gives first rows cells texts → Appends buf.old buf.new result (rows_text (printing D.width D.height C.color self.entry) (cells ∷ texts)) }
     {
-        let mut printer = self;
-        let mut row = first;
-        let mut room = [0; SEPARATOR_ROOM];
-        let mut separator = SeparatorKeeper::new(&mut room);
-        for next in rows {
-            printer = printer.row_keeping(row, false, &mut separator, buf)?;
-            row = next;
-        }
-        printer
-            .row_keeping(row, true, &mut separator, buf)?
-            .finish(buf)
+        let RowPrinter {
+            frame,
+            mut progress,
+        } = self;
+        progress.push_rows::<Brand, D, C, B, Cells, Rows, W>(&frame, first, rows, buf)
     }
 }

@@ -5,12 +5,15 @@
 mod all_rows;
 mod checked_rows;
 mod conditions;
+mod drawing;
 mod fault;
 mod frame;
 mod laws;
 mod open_cell;
 mod open_cells;
+mod progress;
 mod row_fits;
+mod row_lines;
 mod row_printer;
 mod row_stream;
 mod separators;

@@ -24,7 +24,8 @@ pub(crate) struct OpenCell<S: AsStr> {
 }
 
 impl<S: AsStr> Model for OpenCell<S> {
-    ghost use Rattle.pg_stream.specs.Placed.{Placed, StandsAtNext};
+    ghost use Rattle.pg_stream.specs.DrawnCells.{StandsAtNext};
+    ghost use Rattle.pg_stream.specs.Placed.{Placed};
 
     ghost Value = { Placed };
 

@@ -1,19 +1,10 @@
 //! The open cells of a table that is printed row by row.
 
-ghost use Rattle.std.specs.Prelude.{◌≡◌, ◌+◌, ◌-◌, ◌<◌, ◌≤◌, ◌^◌, ◌++◌, ◌&&◌, ◌==◌, length, map, flat_map, count_by, is_some, IfSome, replicate, slice_index_or, slice_set, option_map, IfOk, OnOk, Option, Some, None, true};
-ghost use Rattle.std.specs.List.{range_with_len};
-ghost use Rattle.pg_layout.specs.Position.{at};
-ghost use Rattle.pg_picture.specs.Appending.{Appends};
-ghost use Rattle.pg_picture.specs.Pieces.{written};
-ghost use Rattle.pg_picture.specs.Sizes.{height_of_rect};
-ghost use Rattle.pg_stream.specs.Placed.{slots_of, draw_cell, AllOpen, IsPlaced, IsTall};
-ghost use Rattle.pg_stream.specs.Drawing.{open_part, open_line, line_at, open_lines};
-ghost use Rattle.pg_stream.specs.Frames.{frame_table};
+ghost use Rattle.std.specs.Prelude.{◌≡◌, ◌+◌, ◌<◌, ◌≤◌, ◌^◌, length, map, count_by, is_some, IfSome, replicate, slice_index_or, slice_set, option_map, IfOk, Some, None};
+ghost use Rattle.pg_stream.specs.DrawnCells.{draw_cell, AllOpen};
+ghost use Rattle.pg_stream.specs.Placed.{slots_of};
 
-use crate::frame::Frame;
 use crate::open_cell::OpenCell;
-use pg_layout::{Colors, Dimension, Position};
-use pg_picture::push_right_margin;
 use std::alloc::{AllocError, Allocator, Global};
 use std::convert::AsStr;
 use std::marker::Model;
@@ -105,93 +96,6 @@ impl<S: AsStr + Drop, A: Allocator> OpenCells<S, A> {
         for slot in self.slots.iter_mut() {
             draw_slot(slot);
         }
-    }
-
-    // What a column adds to a line of a row.
-    fn push_part<D: Dimension, C: Colors, B: Allocator, W: Allocator>(
-        &self,
-        frame: &Frame<'_, D, C, B>,
-        buf: &mut String<W>,
-        pos: Position,
-        line: usize,
-    ) -> Result<(), AllocError>
-        requires line { line < (frame_table D.width D.height C.color frame.now).height pos.row }
-        requires placed { AllOpen (IsPlaced (frame_table D.width D.height C.color frame.now)) self.now }
-        requires tall { AllOpen (IsTall (frame_table D.width D.height C.color frame.now)) self.now }
-        ensures { Appends buf.old buf.new result (written (open_part (frame_table D.width D.height C.color frame.now) self.now pos.row line pos.col)) }
-    {
-        let Some(cell) = self.open_at(pos.col) else {
-            return Ok(());
-        };
-        frame.push_vertical(buf, pos, line)?;
-        frame.push_cell_line(buf, cell, pos.col)
-    }
-
-    // A line of a row.
-    fn push_row_line<D: Dimension, C: Colors, B: Allocator, W: Allocator>(
-        &self,
-        frame: &Frame<'_, D, C, B>,
-        buf: &mut String<W>,
-        row: usize,
-        line: usize,
-    ) -> Result<(), AllocError>
-        requires columns { frame.now.columns ≡ length self.now }
-        requires line { line < (frame_table D.width D.height C.color frame.now).height row }
-        requires placed { AllOpen (IsPlaced (frame_table D.width D.height C.color frame.now)) self.now }
-        requires tall { AllOpen (IsTall (frame_table D.width D.height C.color frame.now)) self.now }
-        ensures { Appends buf.old buf.new result (written (open_line (frame_table D.width D.height C.color frame.now) self.now row line)) }
-    {
-        for column in 0..frame.columns {
-            self.push_part(frame, buf, Position::new(row, column), line)?;
-        }
-        frame.push_vertical(buf, Position::new(row, frame.columns), line)
-    }
-
-    // A line of a row, between its margins.
-    fn push_body_line<D: Dimension, C: Colors, B: Allocator, W: Allocator>(
-        &self,
-        frame: &Frame<'_, D, C, B>,
-        buf: &mut String<W>,
-        is_first: bool,
-        index: usize,
-        row: usize,
-        line: usize,
-    ) -> Result<(), AllocError>
-        requires columns { frame.now.columns ≡ length self.now }
-        requires line { line < (frame_table D.width D.height C.color frame.now).height row }
-        requires placed { AllOpen (IsPlaced (frame_table D.width D.height C.color frame.now)) self.now }
-        requires tall { AllOpen (IsTall (frame_table D.width D.height C.color frame.now)) self.now }
-        ensures { Appends buf.old buf.new result (line_at frame.now.config.now frame.now.height is_first index (written (open_line (frame_table D.width D.height C.color frame.now) self.now row line))) }
-    {
-        frame.push_start(buf, is_first, index)?;
-        self.push_row_line(frame, buf, row, line)?;
-        push_right_margin(buf, frame.config, index, frame.height)
-    }
-
-    // The lines of a row, of which the first is line `index` of the body.
-    pub(crate) fn push_lines<D: Dimension, C: Colors, B: Allocator, W: Allocator>(
-        &mut self,
-        frame: &Frame<'_, D, C, B>,
-        buf: &mut String<W>,
-        is_first: bool,
-        index: usize,
-        row: usize,
-        height: usize,
-    ) -> Result<(), AllocError>
-        requires columns { frame.now.columns ≡ length self.old }
-        requires height { height ≡ (frame_table D.width D.height C.color frame.now).height row }
-        requires lines { index + height < 2 ^ 64 }
-        requires room { AllOpen (λ x cell. cell.drawn + height < 2 ^ 64) self.old }
-        requires placed { AllOpen (IsPlaced (frame_table D.width D.height C.color frame.now)) self.old }
-        requires tall { 0 < height → AllOpen (IsTall (frame_table D.width D.height C.color frame.now)) self.old }
-        ensures appends { Appends buf.old buf.new result (open_lines (frame_table D.width D.height C.color frame.now) frame.now.height is_first self.old row index height) }
-        ensures drawn { OnOk result (self.new ≡ map (draw_cell height) self.old) }
-    {
-        for line in 0..height {
-            self.push_body_line(frame, buf, is_first, index + line, row, line)?;
-            self.draw_line();
-        }
-        Ok(())
     }
 }
 

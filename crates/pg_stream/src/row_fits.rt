@@ -38,9 +38,16 @@ impl<'a, S: AsStr, D: Dimension, C: Colors, B: Allocator, A: Allocator> RowPrint
         ensures { IsTrue result ↔ RowFits (printing D.width D.height C.color self.now) (map S.text cells.now) is_last }
     {
         self.is_next(cells.len(), is_last)
-            && ends_spans(self.frame.config, self.rows, self.frame.columns, is_last)
-            && self.frame.have_room(self.rows, cells)
-            && self.frame.counts_lines(self.rows, self.lines)
+            && ends_spans(
+                self.frame.config,
+                self.progress.rows,
+                self.frame.columns,
+                is_last,
+            )
+            && self.frame.have_room(self.progress.rows, cells)
+            && self
+                .frame
+                .counts_lines(self.progress.rows, self.progress.lines)
     }
 
     // Whether a row of so many cells comes next.
@@ -48,9 +55,9 @@ impl<'a, S: AsStr, D: Dimension, C: Colors, B: Allocator, A: Allocator> RowPrint
         ensures { IsTrue result ↔ (cells ≡ (printing D.width D.height C.color self.now).columns) × ((printing D.width D.height C.color self.now).is_ended ≡ false) × ((printing D.width D.height C.color self.now).rows < 2 ^ 64 - 2) × IfSome (printing D.width D.height C.color self.now).hint (λ rows. ((printing D.width D.height C.color self.now).rows < rows) × (is_last ≡ (((printing D.width D.height C.color self.now).rows + 1) == rows))) }
     {
         cells == self.frame.columns
-            && !self.is_ended
-            && self.rows < usize::MAX - 1
-            && agrees(self.hint, self.rows, is_last)
+            && !self.progress.is_ended
+            && self.progress.rows < usize::MAX - 1
+            && agrees(self.frame.hint, self.progress.rows, is_last)
     }
 }
 
@@ -79,7 +86,7 @@ fn ends_spans<B: Allocator>(
 }
 
 impl<'a, D: Dimension, C: Colors, B: Allocator> Frame<'a, D, C, B> {
-    ghost use Rattle.pg_stream.specs.Frames.{frame_table};
+    ghost use Rattle.pg_stream.specs.Told.{frame_table};
 
     // Whether each cell that begins in a row has room for its text.
     fn have_room<S: AsStr>(&self, row: usize, cells: &[S]) -> bool

@@ -1,6 +1,6 @@
 //! A table that is printed row by row.
 
-ghost use Rattle.std.specs.Prelude.{◌≡◌, ◌⊎◌, ◌<◌, ◌^◌, ◌-◌, ◌&&◌, ◌==◌, not, List, true, None, IfOk, IfSome, option_map};
+ghost use Rattle.std.specs.Prelude.{◌≡◌, ◌⊎◌, ◌<◌, ◌^◌, ◌-◌, List, true, None, IfOk, IfSome, option_map};
 ghost use Rattle.pg_picture.specs.Fits.{body_height};
 ghost use Rattle.pg_picture.specs.Sizes.{sized};
 ghost use Rattle.std.specs.Iterator.{IsFinite};
@@ -10,18 +10,18 @@ ghost use Rattle.pg_picture.specs.Appending.{Appends};
 ghost use Rattle.pg_stream.specs.Conditions.{PrinterFits, RowFits};
 ghost use Rattle.pg_stream.specs.Placed.{slots_of};
 ghost use Rattle.pg_stream.specs.Printers.{printing};
-ghost use Rattle.pg_stream.specs.Drawing.{IsSeparator};
-ghost use Rattle.pg_stream.specs.Printing.{printer, frame_of, row_text, finish_text, after_row};
+ghost use Rattle.pg_stream.specs.Printing.{printer, row_text, finish_text, after_row};
 
 use crate::frame::Frame;
 use crate::open_cells::OpenCells;
+use crate::progress::Progress;
 use pg_config::SpannedConfig;
 use pg_layout::{Colors, Dimension};
 use pg_picture::fits::{body_height, full_width};
-use pg_picture::{CellStyle, SeparatorKeeper, push_bottom_margin};
+use pg_picture::{CellStyle, SeparatorKeeper};
 use std::alloc::{AllocError, Allocator, Global};
 use std::convert::AsStr;
-use std::marker::Model;
+use std::marker::{Brand, Model};
 
 /// Prints a table row by row, and keeps the cells that go on below the last printed row.
 ///
@@ -49,23 +49,20 @@ pub struct RowPrinter<
     A: Allocator = Global,
 > {
     pub(crate) frame: Frame<'a, D, C, B>,
-    pub(crate) hint: Option<usize>,
-    cells: OpenCells<S, A>,
-    pub(crate) rows: usize,
-    pub(crate) lines: usize,
-    pub(crate) is_ended: bool,
+    pub(crate) progress: Progress<S, A>,
 }
 
 impl<'a, S: AsStr, D: Dimension, C: Colors, B: Allocator, A: Allocator> Model
     for RowPrinter<'a, S, D, C, B, A> {
-    ghost use Rattle.pg_stream.specs.Frames.{frame_table};
-    ghost use Rattle.pg_stream.specs.Printers.{Printer, printer_of, printing, IsSound};
+    ghost use Rattle.pg_stream.specs.Sound.{printer_of, IsSoundAt};
+    ghost use Rattle.pg_stream.specs.Printers.{Printer};
+    ghost use Rattle.pg_stream.specs.Told.{told_of};
 
     ghost Value = { Printer D C };
 
-    ghost view = { λ p. printer_of p.frame p.hint p.cells p.rows p.lines p.is_ended };
+    ghost view = { λ p. printer_of p.frame p.progress };
 
-    ghost invariant = { λ p. IsSound (printing D.width D.height C.color (printer_of p.frame p.hint p.cells p.rows p.lines p.is_ended)) (frame_table D.width D.height C.color p.frame) p.frame.width p.frame.height p.cells };
+    ghost invariant = { λ p. IsSoundAt (told_of D.width D.height C.color p.frame) p.frame p.progress };
 }
 
 impl<'a, S: AsStr + Drop, D: Dimension, C: Colors, B: Allocator, A: Allocator> RowPrinter<
@@ -107,16 +104,18 @@ impl<'a, S: AsStr + Drop, D: Dimension, C: Colors, B: Allocator, A: Allocator> R
                 dimension,
                 colors,
                 columns,
+                hint,
                 width,
                 height,
                 all: CellStyle::of_all(config),
                 draws_verticals: config.has_column_lines(),
             },
-            hint,
-            cells,
-            rows: 0,
-            lines: 0,
-            is_ended: false,
+            progress: Progress {
+                cells,
+                rows: 0,
+                lines: 0,
+                is_ended: false,
+            },
         })
     }
 
@@ -124,28 +123,28 @@ impl<'a, S: AsStr + Drop, D: Dimension, C: Colors, B: Allocator, A: Allocator> R
     pub fn rows(&self) -> usize
         ensures { result ≡ (printing D.width D.height C.color self.now).rows }
     {
-        self.rows
+        self.progress.rows
     }
 
     /// How many lines of the body are printed, margins not counted.
     pub fn lines(&self) -> usize
         ensures { result ≡ (printing D.width D.height C.color self.now).lines }
     {
-        self.lines
+        self.progress.lines
     }
 
     /// Whether the last row is printed.
     pub fn is_ended(&self) -> bool
         ensures { result ≡ (printing D.width D.height C.color self.now).is_ended }
     {
-        self.is_ended
+        self.progress.is_ended
     }
 
     /// The cells that go on below the printed rows.
     pub fn open_cells(&self) -> &OpenCells<S, A>
         ensures { slots_of result.now ≡ (printing D.width D.height C.color self.now).slots }
     {
-        &self.cells
+        &self.progress.cells
     }
 
     /// Prints the next row: the top margin above the first row, the separator above this one, where
@@ -177,63 +176,13 @@ impl<'a, S: AsStr + Drop, D: Dimension, C: Colors, B: Allocator, A: Allocator> R
         ensures after { (texts : List Text) → AlwaysGives (λ x y. S.text x ≡ y) I.next_gives cells texts → IfOk result (λ p. printing D.width D.height C.color p ≡ after_row (printing D.width D.height C.color self.entry) texts is_last) }
         ensures ended { IfOk result (λ p. (printing D.width D.height C.color p).is_ended ≡ is_last) }
     {
-        self.row_keeping(cells, is_last, &mut SeparatorKeeper::new(&mut []), buf)
-    }
-
-    // Prints the next row as `row` does, under the same conditions, and copies the separator above it
-    // where it is kept: `kept` is `None` before the first row, and is handed on from call to call. It
-    // keeps the text of the separators above all rows but the first, if these are equal and it is short.
-    #[inline(always)]
-    pub(crate) fn row_keeping<I: Iterator<Item = S>, W: Allocator>(
-        self,
-        cells: I,
-        is_last: bool,
-        kept: &mut SeparatorKeeper<'_>,
-        buf: &mut String<W>,
-    ) -> Result<RowPrinter<'a, S, D, C, B, A>, AllocError>
-        requires can { I.can_next cells × IsFinite (I.remaining cells) }
-        requires fits { (texts : List Text) × AlwaysGives (λ x y. S.text x ≡ y) I.next_gives cells texts × RowFits (printing D.width D.height C.color self) texts is_last }
-        requires kept { IfSome kept.old.text (IsSeparator (frame_of (printing D.width D.height C.color self))) }
-        ensures appends { (texts : List Text) → AlwaysGives (λ x y. S.text x ≡ y) I.next_gives cells texts → Appends buf.old buf.new result (row_text (printing D.width D.height C.color self.entry) texts is_last) }
-        ensures after { (texts : List Text) → AlwaysGives (λ x y. S.text x ≡ y) I.next_gives cells texts → IfOk result (λ p. printing D.width D.height C.color p ≡ after_row (printing D.width D.height C.color self.entry) texts is_last) }
-        ensures ended { IfOk result (λ p. (printing D.width D.height C.color p).is_ended ≡ is_last) }
-        ensures kept { IfSome kept.new.text (IsSeparator (frame_of (printing D.width D.height C.color self.entry))) }
-    {
         let RowPrinter {
             frame,
-            hint,
-            cells: mut open,
-            rows,
-            lines,
-            is_ended: _,
+            mut progress,
         } = self;
-        let is_first = frame.config.get_margin().top.size == 0;
-        frame.push_top(buf, rows)?;
-        let next = open.push_above(&frame, kept, buf, is_first, lines, rows)?;
-        let height = frame.dimension.get_height(rows);
-        let below = next + height;
-        if frame.draws_at_once(height) {
-            frame.push_single_row(buf, is_first, next, rows, cells)?;
-            return Ok(RowPrinter {
-                frame,
-                hint,
-                cells: open,
-                rows: rows + 1,
-                lines: below,
-                is_ended: is_last,
-            });
-        }
-        open.begin(&frame, cells, rows);
-        open.push_lines(&frame, buf, is_first, next, rows, height)?;
-        open.close(&frame, rows);
-        Ok(RowPrinter {
-            frame,
-            hint,
-            cells: open,
-            rows: rows + 1,
-            lines: below,
-            is_ended: is_last,
-        })
+        let mut kept = SeparatorKeeper::new(&mut []);
+        progress.push_row::<Brand, D, C, B, I, W>(&frame, &mut kept, cells, is_last, buf)?;
+        Ok(RowPrinter { frame, progress })
     }
 
     /// Ends the table: the separator below the last row, where it is there, and the bottom margin, each
@@ -245,22 +194,8 @@ impl<'a, S: AsStr + Drop, D: Dimension, C: Colors, B: Allocator, A: Allocator> R
         requires { ((printing D.width D.height C.color self).rows ≡ 0) ⊎ ((printing D.width D.height C.color self).is_ended ≡ true) }
         ensures { Appends buf.old buf.new result (finish_text (printing D.width D.height C.color self.entry)) }
     {
-        let RowPrinter {
-            frame,
-            hint: _,
-            cells,
-            rows,
-            lines,
-            is_ended: _,
-        } = self;
-        if rows == 0 {
-            return Ok(());
-        }
-        let is_first = frame.config.get_margin().top.size == 0;
-        cells.push_below(&frame, buf, is_first, lines, rows)?;
-        let has_last = frame.config.has_horizontal(rows, rows);
-        let is_first = is_bare(is_first, lines, has_last);
-        push_bottom_margin(buf, frame.config, frame.width, is_first)
+        let RowPrinter { frame, progress } = self;
+        progress.push_end::<Brand, D, C, B, W>(&frame, buf)
     }
 }
 
@@ -277,12 +212,4 @@ fn height_of_body<B: Allocator, D: Dimension>(
         Some(rows) => body_height(config, dimension, rows),
         None => None,
     }
-}
-
-// Whether no line stands above the bottom margin: none of the top margin, of the rows, and of the
-// last separator.
-fn is_bare(is_first: bool, lines: usize, has_last: bool) -> bool
-    ensures { result ≡ ((is_first && (lines == 0)) && not has_last) }
-{
-    is_first && lines == 0 && !has_last
 }

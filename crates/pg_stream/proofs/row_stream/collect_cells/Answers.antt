@@ -1,4 +1,4 @@
-use Rattle.std.proofs.Common.{◌≡◌, refl}
+use Rattle.std.proofs.Common.{refl}
 use Rattle.pg_stream.proofs.RowsOfCells.{collected-next, collected-all}
 use Rattle.pg_stream.proofs.row_stream.collect_cells.Goals as goal
 

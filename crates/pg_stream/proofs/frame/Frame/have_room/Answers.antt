@@ -5,7 +5,7 @@ use Rattle.pg_layout.specs.Position.{at, is_at}
 use Rattle.pg_config.specs.Spans.{is_left, left_span, owner}
 use Rattle.pg_picture.specs.Rectangles.{columns_or_one}
 use Rattle.pg_stream.specs.Conditions.{HasRoom}
-use Rattle.pg_stream.specs.Frames.{frame_table}
+use Rattle.pg_stream.specs.Told.{frame_table}
 use Rattle.pg_picture.proofs.LeftColumns.{step-some, step-inside, step-left, step-all}
 use Rattle.pg_picture.proofs.OwnersOfPlaces.{first_left}
 use Rattle.pg_stream.proofs.FittingCells.{last_end, in_order}

@@ -1,4 +1,4 @@
-use Rattle.std.proofs.Common.{◌≡◌, map, option_map, refl, ap, ◌∙◌, Ok, Err}
+use Rattle.std.proofs.Common.{map, option_map, refl, ap, ◌∙◌, Ok, Err}
 use Rattle.std.proofs.lemmas.Result.{err_from_is_err_and}
 use Rattle.pg_picture.proofs.Appending.{refused-as, appended-as}
 use Rattle.pg_stream.specs.Printers.{printing}

@@ -1,4 +1,4 @@
-use Rattle.std.proofs.Common.{sym, ap}
+use Rattle.std.proofs.Common.{ap}
 use Rattle.std.specs.Result.{result_err}
 use Rattle.pg_stream.proofs.MakingPrinters.{told-alike}
 use Rattle.pg_stream.proofs.row_stream.RowStream.new.Goals as goal

@@ -1,4 +1,4 @@
-use Rattle.std.proofs.Common.{◌≡◌, map}
+use Rattle.std.proofs.Common.{map}
 use Rattle.std.proofs.lemmas.Result.{err_from_is_err_and}
 use Rattle.pg_stream.specs.Streams.{Streaming, streaming}
 use Rattle.pg_stream.proofs.StreamedRows.{none-pushed, pushed-next, pushed-stops, pushed-ends}

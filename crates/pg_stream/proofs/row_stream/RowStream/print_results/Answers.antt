@@ -1,4 +1,4 @@
-use Rattle.std.proofs.Common.{◌≡◌, List, map, Result, Ok, Err, refl, ap}
+use Rattle.std.proofs.Common.{List, map, Result, Ok, Err, refl, ap}
 use Rattle.std.specs.Result.{result_map_both}
 use Rattle.std.proofs.lemmas.Result.{err_from_is_err_and}
 use Rattle.pg_layout.specs.Text.{Text}

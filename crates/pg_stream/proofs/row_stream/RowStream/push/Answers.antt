@@ -1,4 +1,4 @@
-use Rattle.std.proofs.Common.{◌≡◌, map, option_map, ap}
+use Rattle.std.proofs.Common.{map, option_map, ap}
 use Rattle.std.proofs.lemmas.Result.{err_from_is_err_and}
 use Rattle.pg_stream.specs.Streams.{Stream, streaming}
 use Rattle.pg_stream.proofs.StreamedRows.{held-some, held-none, appends-as, stops-as}

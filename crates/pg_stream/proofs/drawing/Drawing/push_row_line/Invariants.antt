@@ -1,0 +1,11 @@
+use Rattle.std.proofs.Common.{flat_map}
+use Rattle.std.specs.List.{range_with_len}
+use Rattle.pg_picture.specs.Pieces.{written}
+use Rattle.pg_picture.specs.Appending.{Gained}
+use Rattle.pg_stream.specs.Drawing.{open_part}
+use Rattle.pg_stream.specs.Printing.{frame_of}
+use Rattle.pg_stream.proofs.drawing.Drawing.push_row_line.Given as goal
+
+abbrev pub invariant-loop-column : goal.invariant-loop-column
+invariant-loop-column g l =
+    Gained l.fn.buf l.buf (written (flat_map (open_part (frame_of g.T.Drawn.told) l.opened l.row l.line) (range_with_len 0 l.column)))

@@ -1,0 +1,47 @@
+use Rattle.std.proofs.Common.{◌≡◌, ◌<◌, true, refl, ap, arith, replicate}
+use Rattle.pg_config.specs.Config.{has_horizontal}
+use Rattle.pg_picture.proofs.Appending.{◌then◌, stopped, Gained-none, Gained-all, Appends-text}
+use Rattle.pg_picture.specs.Joined.{continued, lines_before}
+use Rattle.pg_picture.specs.Pieces.{written}
+use Rattle.pg_picture.specs.Table.{margin_line}
+use Rattle.pg_stream.specs.DrawnCells.{IsTall}
+use Rattle.pg_stream.specs.Sound.{now_of}
+use Rattle.pg_stream.specs.Printing.{Printing, frame_of}
+use Rattle.pg_stream.proofs.Ending.{finish-none, no_cells, finish_text-is, ended_of}
+use Rattle.pg_stream.proofs.progress.Progress.push_end.Goals as goal
+
+pub returns-then-self-eq0 : goal.returns-then-self-eq0
+returns-then-self-eq0 g c = Appends-text (finish-none (now_of g.T.Drawn.told c.args.self.now) (omega arith)) (Gained-all (Gained-none c.args.buf.now))
+
+pub push_below-requires : goal.push_below-requires
+push_below-requires g c =
+    let s : Printing = now_of g.T.Drawn.told c.args.self.now in
+    let w = c.args.frame.now.width in
+    let h = c.args.frame.now.height in
+    let cells = c.args.self.now.cells in
+    let some : 0 < c.args.self.now.rows = omega arith in
+    let ended : c.args.self.now.is_ended ≡ true = ended_of c.args.self.now.rows c.args.self.now.is_ended c.requires.ended some in
+    record { opened = record { columns = c.requires.sound.whole; inside = no_cells s w h cells refl c.requires.sound ended _; placed = c.requires.sound.placed }; tall = no_cells s w h cells refl c.requires.sound ended (IsTall (frame_of g.T.Drawn.told)) }
+
+pub returns-in_err-push_below : goal.returns-in_err-push_below
+returns-in_err-push_below g c =
+    let s : Printing = now_of g.T.Drawn.told c.args.self.now in
+    let w = c.args.frame.now.width in
+    let h = c.args.frame.now.height in
+    let cells = c.args.self.now.cells in
+    let some : 0 < c.args.self.now.rows = omega arith in
+    let ended : c.args.self.now.is_ended ≡ true = ended_of c.args.self.now.rows c.args.self.now.is_ended c.requires.ended some in
+    Appends-text (finish_text-is s w h cells refl c.requires.sound ended c.begins_with_body-is_first.result (has_horizontal s.config s.rows s.rows) some c.begins_with_body-is_first.ensures refl) (stopped _ c.from_residual.ensures.0 c.in_err-push_below.ensures)
+
+pub returns : goal.returns
+returns g c =
+    let s : Printing = now_of g.T.Drawn.told c.args.self.now in
+    let w = c.args.frame.now.width in
+    let h = c.args.frame.now.height in
+    let cells = c.args.self.now.cells in
+    let some : 0 < c.args.self.now.rows = omega arith in
+    let ended : c.args.self.now.is_ended ≡ true = ended_of c.args.self.now.rows c.args.self.now.is_ended c.requires.ended some in
+    let margin = s.config.margin.bottom in
+    let line = written (margin_line margin s.config.margin_offset.bottom s.config.margin_color.bottom w) in
+    Appends-text (finish_text-is s w h cells refl c.requires.sound ended c.begins_with_body-is_first.result c.has_horizontal-has_last.result some c.begins_with_body-is_first.ensures c.has_horizontal-has_last.ensures)
+    (c.in_ok-push_below.ensures then Appends-text (ap (λ b. continued (lines_before b) (replicate margin.size line)) c.is_bare.ensures) c.push_bottom.ensures)

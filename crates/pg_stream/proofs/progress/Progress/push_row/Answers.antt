@@ -1,0 +1,284 @@
+use Rattle.std.proofs.Common.{◌≡◌, ℕ, ◌+◌, ◌<◌, ◌≤◌, ◌^◌, List, Option, refl, sym, ap, ap₂, ◌∙◌, subst, arith, map, length, get_or, None}
+use Rattle.std.proofs.lemmas.List.{length-map}
+use Rattle.pg_picture.proofs.Appending.{◌then◌, stopped, refused-as, appended-as, Appends-text}
+use Rattle.pg_stream.specs.DrawnCells.{draw_cell, AllOpen, AreDrawn}
+use Rattle.pg_stream.specs.Placed.{Placed, slots_of}
+use Rattle.pg_stream.specs.Sound.{now_of, IsSound, IsSoundAt}
+use Rattle.pg_stream.specs.Printing.{Printing, frame_of}
+use Rattle.pg_stream.specs.Slots.{separator_height}
+use Rattle.pg_stream.specs.Turns.{IsOwnerAbove, cells_begun, cells_closed}
+use Rattle.pg_stream.proofs.DrawnLines.{length_of_row}
+use Rattle.pg_stream.proofs.RowsPrinted.{room-above, drawn-above, owner-begins, whole-now, cells_now, begun-now, drawn-now, room-now}
+use Rattle.pg_stream.proofs.RowsAppended.{row_text-is, after-is, sound-next, open_lines-same}
+use Rattle.pg_stream.proofs.SingleLines.{at-once}
+use Rattle.pg_stream.proofs.SingleRowsPrinted.{none-open, single_text-is, single-left}
+use Rattle.pg_stream.proofs.progress.Progress.push_row.Goals as goal
+
+pub returns-in_err-push_top-clause-appends : goal.returns-in_err-push_top-clause-appends
+returns-in_err-push_top-clause-appends g c = λ texts gives.
+    let s : Printing = now_of g.T.Drawn.told c.args.self.now in
+    let w = c.args.frame.now.width in
+    let h = c.args.frame.now.height in
+    let cells = c.args.self.now.cells in
+    let sound = c.requires.sound in
+    let fits = c.requires.fits.2 in
+    Appends-text (row_text-is s w h cells refl sound c.args.is_last fits.hint fits.spans texts c.begins_with_body-is_first.result c.begins_with_body-is_first.ensures) (stopped _ c.from_residual.ensures.0 c.in_err-push_top.ensures)
+
+pub push_above-requires-clause-index : goal.push_above-requires-clause-index
+push_above-requires-clause-index g c =
+    let s : Printing = now_of g.T.Drawn.told c.args.self.now in
+    let fits = c.requires.fits.2 in
+    let both = length_of_row s.config s.height s.rows in
+    omega (arith, fits.lines, both)
+
+pub push_above-requires-clause-opened : goal.push_above-requires-clause-opened
+push_above-requires-clause-opened g c =
+    let s : Printing = now_of g.T.Drawn.told c.args.self.now in
+    let w = c.args.frame.now.width in
+    let h = c.args.frame.now.height in
+    let cells = c.args.self.now.cells in
+    let sound = c.requires.sound in
+    drawn-above s w h cells refl sound
+
+pub push_above-requires-clause-alone : goal.push_above-requires-clause-alone
+push_above-requires-clause-alone g c =
+    let s : Printing = now_of g.T.Drawn.told c.args.self.now in
+    let w = c.args.frame.now.width in
+    let h = c.args.frame.now.height in
+    let cells = c.args.self.now.cells in
+    let sound = c.requires.sound in
+    none-open s w h cells refl sound
+
+pub push_above-requires-clause-room : goal.push_above-requires-clause-room
+push_above-requires-clause-room g c =
+    let s : Printing = now_of g.T.Drawn.told c.args.self.now in
+    let w = c.args.frame.now.width in
+    let h = c.args.frame.now.height in
+    let cells = c.args.self.now.cells in
+    let sound = c.requires.sound in
+    let fits = c.requires.fits.2 in
+    let both = length_of_row s.config s.height s.rows in
+    room-above s w h cells refl sound (separator_height s.config s.rows) (omega (arith, fits.lines, both))
+
+pub returns-in_err-next-clause-appends : goal.returns-in_err-next-clause-appends
+returns-in_err-next-clause-appends g c = λ texts gives.
+    let s : Printing = now_of g.T.Drawn.told c.args.self.now in
+    let w = c.args.frame.now.width in
+    let h = c.args.frame.now.height in
+    let cells = c.args.self.now.cells in
+    let sound = c.requires.sound in
+    let fits = c.requires.fits.2 in
+    Appends-text (row_text-is s w h cells refl sound c.args.is_last fits.hint fits.spans texts c.begins_with_body-is_first.result c.begins_with_body-is_first.ensures) (c.in_ok-push_top.ensures then stopped _ c.from_residual-in_err-next.ensures.0 c.in_err-next.ensures.appends)
+
+pub push_single_row-requires-clause-single : goal.push_single_row-requires-clause-single
+push_single_row-requires-clause-single g c =
+    let s : Printing = now_of g.T.Drawn.told c.args.self.now in
+    let once = at-once c.height_of-height.result s.config.spans c.draws_at_once.result c.draws_at_once.ensures c.if-draws_at_once.true in
+    let one : s.height s.rows ≡ 1 = sym c.height_of-height.ensures ∙ once.0 in
+    record { alone = once.1; height = one }
+
+pub push_single_row-requires-clause-given : goal.push_single_row-requires-clause-given
+push_single_row-requires-clause-given g c =
+    let fits = c.requires.fits.2 in
+    (c.requires.fits.0, c.requires.fits.1, fits.whole, fits.rooms)
+
+pub returns-in_err-push_single_row-clause-appends : goal.returns-in_err-push_single_row-clause-appends
+returns-in_err-push_single_row-clause-appends g c = λ texts gives.
+    let s : Printing = now_of g.T.Drawn.told c.args.self.now in
+    let w = c.args.frame.now.width in
+    let h = c.args.frame.now.height in
+    let cells = c.args.self.now.cells in
+    let sound = c.requires.sound in
+    let fits = c.requires.fits.2 in
+    let once = at-once c.height_of-height.result s.config.spans c.draws_at_once.result c.draws_at_once.ensures c.if-draws_at_once.true in
+    let one : s.height s.rows ≡ 1 = sym c.height_of-height.ensures ∙ once.0 in
+    Appends-text (single_text-is s w h cells refl sound c.args.is_last fits.hint fits.spans once.1 one texts c.begins_with_body-is_first.result c.begins_with_body-is_first.ensures _ c.in_ok-next.ensures.index)
+    (c.in_ok-push_top.ensures then (c.in_ok-next.ensures.appends then refused-as c.from_residual-in_err-push_single_row.ensures.0 (c.in_err-push_single_row.ensures texts gives)))
+
+pub returns-then-draws_at_once-clause-sound : goal.returns-then-draws_at_once-clause-sound
+returns-then-draws_at_once-clause-sound g c =
+    let s : Printing = now_of g.T.Drawn.told c.args.self.now in
+    let t = frame_of g.T.Drawn.told in
+    let w = c.args.frame.now.width in
+    let h = c.args.frame.now.height in
+    let cells = c.args.self.now.cells in
+    let sound = c.requires.sound in
+    let fits = c.requires.fits.2 in
+    let once = at-once c.height_of-height.result s.config.spans c.draws_at_once.result c.draws_at_once.ensures c.if-draws_at_once.true in
+    let one : s.height s.rows ≡ 1 = sym c.height_of-height.ensures ∙ once.0 in
+    let left = c.in_ok-next.ensures.drawn ∙ single-left s w h cells refl sound c.args.is_last fits.hint fits.spans once.1 one c.requires.fits.0 in
+    let lines = ap₂ (λ (a b : ℕ). a + b) c.in_ok-next.ensures.index c.height_of-height.ensures in
+    subst (IsSoundAt g.T.Drawn.told c.args.frame.now) (sym c.end_row.ensures)
+    (subst (λ n. IsSound (record s { rows = s.rows + 1; lines = n; is_ended = c.args.is_last; slots = slots_of c.push_above.new.opened }) t w h c.push_above.new.opened) (sym lines)
+    (subst (λ l. IsSound (record s { rows = s.rows + 1; lines = (s.lines + separator_height s.config s.rows) + s.height s.rows; is_ended = c.args.is_last; slots = slots_of l }) t w h l) (sym left)
+    (sound-next s w h cells refl sound c.args.is_last fits.hint fits.spans c.requires.fits.0 fits.rooms fits.rows)))
+
+pub returns-then-draws_at_once-clause-appends : goal.returns-then-draws_at_once-clause-appends
+returns-then-draws_at_once-clause-appends g c = λ texts gives.
+    let s : Printing = now_of g.T.Drawn.told c.args.self.now in
+    let w = c.args.frame.now.width in
+    let h = c.args.frame.now.height in
+    let cells = c.args.self.now.cells in
+    let sound = c.requires.sound in
+    let fits = c.requires.fits.2 in
+    let once = at-once c.height_of-height.result s.config.spans c.draws_at_once.result c.draws_at_once.ensures c.if-draws_at_once.true in
+    let one : s.height s.rows ≡ 1 = sym c.height_of-height.ensures ∙ once.0 in
+    Appends-text (single_text-is s w h cells refl sound c.args.is_last fits.hint fits.spans once.1 one texts c.begins_with_body-is_first.result c.begins_with_body-is_first.ensures _ c.in_ok-next.ensures.index)
+    (c.in_ok-push_top.ensures then (c.in_ok-next.ensures.appends then appended-as (c.in_ok-push_single_row.ensures texts gives)))
+
+pub returns-then-draws_at_once-clause-after : goal.returns-then-draws_at_once-clause-after
+returns-then-draws_at_once-clause-after g c = λ texts gives.
+    let s : Printing = now_of g.T.Drawn.told c.args.self.now in
+    let w = c.args.frame.now.width in
+    let h = c.args.frame.now.height in
+    let cells = c.args.self.now.cells in
+    let sound = c.requires.sound in
+    let fits = c.requires.fits.2 in
+    let once = at-once c.height_of-height.result s.config.spans c.draws_at_once.result c.draws_at_once.ensures c.if-draws_at_once.true in
+    let one : s.height s.rows ≡ 1 = sym c.height_of-height.ensures ∙ once.0 in
+    let left = c.in_ok-next.ensures.drawn ∙ single-left s w h cells refl sound c.args.is_last fits.hint fits.spans once.1 one texts in
+    let lines = ap₂ (λ (a b : ℕ). a + b) c.in_ok-next.ensures.index c.height_of-height.ensures in
+    ap (now_of g.T.Drawn.told) c.end_row.ensures
+    ∙ ap₂ (λ (l : List (Option Placed)) (n : ℕ). record s { rows = s.rows + 1; lines = n; is_ended = c.args.is_last; slots = slots_of l }) left lines
+    ∙ after-is s w h cells refl sound c.args.is_last fits.hint fits.spans texts
+
+pub begin-requires-clause-above : goal.begin-requires-clause-above
+begin-requires-clause-above g c =
+    let s : Printing = now_of g.T.Drawn.told c.args.self.now in
+    let w = c.args.frame.now.width in
+    let h = c.args.frame.now.height in
+    let cells = c.args.self.now.cells in
+    let sound = c.requires.sound in
+    subst (λ l. (x : ℕ) → x < s.columns → IsOwnerAbove s.config.spans s.rows x (get_or l x None)) (sym c.in_ok-next.ensures.drawn) (owner-begins s w h cells refl sound)
+
+pub begin-requires-clause-given : goal.begin-requires-clause-given
+begin-requires-clause-given g c =
+    let fits = c.requires.fits.2 in
+    (c.requires.fits.0, c.requires.fits.1, fits.whole, fits.rooms)
+
+pub push_lines-requires-clause-lines : goal.push_lines-requires-clause-lines
+push_lines-requires-clause-lines g c =
+    let s : Printing = now_of g.T.Drawn.told c.args.self.now in
+    let fits = c.requires.fits.2 in
+    let both = length_of_row s.config s.height s.rows in
+    omega (arith, fits.lines, both, c.in_ok-next.ensures.index, c.height_of-height.ensures)
+
+pub push_lines-requires-clause-room : goal.push_lines-requires-clause-room
+push_lines-requires-clause-room g c =
+    let s : Printing = now_of g.T.Drawn.told c.args.self.now in
+    let t = frame_of g.T.Drawn.told in
+    let w = c.args.frame.now.width in
+    let h = c.args.frame.now.height in
+    let cells = c.args.self.now.cells in
+    let sound = c.requires.sound in
+    let fits = c.requires.fits.2 in
+    let now = c.begin.ensures c.requires.fits.0 c.requires.fits.1 ∙ ap (λ l. cells_begun t s.rows c.requires.fits.0 l) c.in_ok-next.ensures.drawn in
+    let both = length_of_row s.config s.height s.rows in
+    let room = room-now s w h cells refl sound c.requires.fits.0 (omega (arith, fits.lines, both)) in
+    subst (λ n. AllOpen (λ x cell. cell.drawn + n < 2 ^ 64) c.begin.new.opened) (sym c.height_of-height.ensures) (subst (AllOpen (λ x cell. cell.drawn + s.height s.rows < 2 ^ 64)) (sym now) room)
+
+pub push_lines-requires-clause-opened : goal.push_lines-requires-clause-opened
+push_lines-requires-clause-opened g c = λ some.
+    let s : Printing = now_of g.T.Drawn.told c.args.self.now in
+    let t = frame_of g.T.Drawn.told in
+    let w = c.args.frame.now.width in
+    let h = c.args.frame.now.height in
+    let cells = c.args.self.now.cells in
+    let sound = c.requires.sound in
+    let fits = c.requires.fits.2 in
+    let now = c.begin.ensures c.requires.fits.0 c.requires.fits.1 ∙ ap (λ l. cells_begun t s.rows c.requires.fits.0 l) c.in_ok-next.ensures.drawn in
+    subst (AreDrawn t) (sym now) (drawn-now s w h cells refl sound c.requires.fits.0 fits.rooms (omega (arith, some, c.height_of-height.ensures)))
+
+pub returns-in_err-push_lines-clause-appends : goal.returns-in_err-push_lines-clause-appends
+returns-in_err-push_lines-clause-appends g c = λ texts gives.
+    let s : Printing = now_of g.T.Drawn.told c.args.self.now in
+    let t = frame_of g.T.Drawn.told in
+    let w = c.args.frame.now.width in
+    let h = c.args.frame.now.height in
+    let cells = c.args.self.now.cells in
+    let sound = c.requires.sound in
+    let fits = c.requires.fits.2 in
+    let now = c.begin.ensures texts gives ∙ ap (λ l. cells_begun t s.rows texts l) c.in_ok-next.ensures.drawn in
+    let lines = open_lines-same t h c.begins_with_body-is_first.result s.rows now c.in_ok-next.ensures.index c.height_of-height.ensures in
+    Appends-text (row_text-is s w h cells refl sound c.args.is_last fits.hint fits.spans texts c.begins_with_body-is_first.result c.begins_with_body-is_first.ensures)
+    (c.in_ok-push_top.ensures then (c.in_ok-next.ensures.appends then Appends-text lines (refused-as c.from_residual-in_err-push_lines.ensures.0 c.in_err-push_lines.ensures.appends)))
+
+pub close-requires-clause-columns : goal.close-requires-clause-columns
+close-requires-clause-columns g c =
+    let s : Printing = now_of g.T.Drawn.told c.args.self.now in
+    let t = frame_of g.T.Drawn.told in
+    let w = c.args.frame.now.width in
+    let h = c.args.frame.now.height in
+    let cells = c.args.self.now.cells in
+    let sound = c.requires.sound in
+    let now = c.begin.ensures c.requires.fits.0 c.requires.fits.1 ∙ ap (λ l. cells_begun t s.rows c.requires.fits.0 l) c.in_ok-next.ensures.drawn in
+    let drawn = c.in_ok-push_lines.ensures.drawn ∙ ap₂ (λ n l. map (draw_cell n) l) c.height_of-height.ensures now in
+    whole-now s w h cells refl sound c.requires.fits.0 ∙ sym (length-map (cells_now s w h cells refl sound c.requires.fits.0) (draw_cell (s.height s.rows))) ∙ sym (ap length drawn)
+
+pub close-requires-clause-begun : goal.close-requires-clause-begun
+close-requires-clause-begun g c =
+    let s : Printing = now_of g.T.Drawn.told c.args.self.now in
+    let t = frame_of g.T.Drawn.told in
+    let w = c.args.frame.now.width in
+    let h = c.args.frame.now.height in
+    let cells = c.args.self.now.cells in
+    let sound = c.requires.sound in
+    let now = c.begin.ensures c.requires.fits.0 c.requires.fits.1 ∙ ap (λ l. cells_begun t s.rows c.requires.fits.0 l) c.in_ok-next.ensures.drawn in
+    let drawn = c.in_ok-push_lines.ensures.drawn ∙ ap₂ (λ n l. map (draw_cell n) l) c.height_of-height.ensures now in
+    subst (AllOpen (λ x cell. cell.begun ≤ s.rows)) (sym drawn) (begun-now s w h cells refl sound c.requires.fits.0)
+
+pub overflow_add-below : goal.overflow_add-below
+overflow_add-below g c =
+    let s : Printing = now_of g.T.Drawn.told c.args.self.now in
+    let fits = c.requires.fits.2 in
+    let both = length_of_row s.config s.height s.rows in
+    omega (arith, fits.lines, both, c.in_ok-next.ensures.index, c.height_of-height.ensures)
+
+pub returns-clause-sound : goal.returns-clause-sound
+returns-clause-sound g c =
+    let s : Printing = now_of g.T.Drawn.told c.args.self.now in
+    let t = frame_of g.T.Drawn.told in
+    let w = c.args.frame.now.width in
+    let h = c.args.frame.now.height in
+    let cells = c.args.self.now.cells in
+    let sound = c.requires.sound in
+    let fits = c.requires.fits.2 in
+    let now = c.begin.ensures c.requires.fits.0 c.requires.fits.1 ∙ ap (λ l. cells_begun t s.rows c.requires.fits.0 l) c.in_ok-next.ensures.drawn in
+    let drawn = c.in_ok-push_lines.ensures.drawn ∙ ap₂ (λ n l. map (draw_cell n) l) c.height_of-height.ensures now in
+    let left = c.close.ensures ∙ ap (λ l. cells_closed s.config.spans s.rows l) drawn in
+    let lines = ap₂ (λ (a b : ℕ). a + b) c.in_ok-next.ensures.index c.height_of-height.ensures in
+    subst (IsSoundAt g.T.Drawn.told c.args.frame.now) (sym c.end_row-2.ensures)
+    (subst (λ n. IsSound (record s { rows = s.rows + 1; lines = n; is_ended = c.args.is_last; slots = slots_of c.close.new.opened }) t w h c.close.new.opened) (sym lines)
+    (subst (λ l. IsSound (record s { rows = s.rows + 1; lines = (s.lines + separator_height s.config s.rows) + s.height s.rows; is_ended = c.args.is_last; slots = slots_of l }) t w h l) (sym left)
+    (sound-next s w h cells refl sound c.args.is_last fits.hint fits.spans c.requires.fits.0 fits.rooms fits.rows)))
+
+pub returns-clause-appends : goal.returns-clause-appends
+returns-clause-appends g c = λ texts gives.
+    let s : Printing = now_of g.T.Drawn.told c.args.self.now in
+    let t = frame_of g.T.Drawn.told in
+    let w = c.args.frame.now.width in
+    let h = c.args.frame.now.height in
+    let cells = c.args.self.now.cells in
+    let sound = c.requires.sound in
+    let fits = c.requires.fits.2 in
+    let now = c.begin.ensures texts gives ∙ ap (λ l. cells_begun t s.rows texts l) c.in_ok-next.ensures.drawn in
+    let lines = open_lines-same t h c.begins_with_body-is_first.result s.rows now c.in_ok-next.ensures.index c.height_of-height.ensures in
+    Appends-text (row_text-is s w h cells refl sound c.args.is_last fits.hint fits.spans texts c.begins_with_body-is_first.result c.begins_with_body-is_first.ensures)
+    (c.in_ok-push_top.ensures then (c.in_ok-next.ensures.appends then Appends-text lines (appended-as c.in_ok-push_lines.ensures.appends)))
+
+pub returns-clause-after : goal.returns-clause-after
+returns-clause-after g c = λ texts gives.
+    let s : Printing = now_of g.T.Drawn.told c.args.self.now in
+    let t = frame_of g.T.Drawn.told in
+    let w = c.args.frame.now.width in
+    let h = c.args.frame.now.height in
+    let cells = c.args.self.now.cells in
+    let sound = c.requires.sound in
+    let fits = c.requires.fits.2 in
+    let now = c.begin.ensures texts gives ∙ ap (λ l. cells_begun t s.rows texts l) c.in_ok-next.ensures.drawn in
+    let drawn = c.in_ok-push_lines.ensures.drawn ∙ ap₂ (λ n l. map (draw_cell n) l) c.height_of-height.ensures now in
+    let left = c.close.ensures ∙ ap (λ l. cells_closed s.config.spans s.rows l) drawn in
+    let lines = ap₂ (λ (a b : ℕ). a + b) c.in_ok-next.ensures.index c.height_of-height.ensures in
+    ap (now_of g.T.Drawn.told) c.end_row-2.ensures
+    ∙ ap₂ (λ (l : List (Option Placed)) (n : ℕ). record s { rows = s.rows + 1; lines = n; is_ended = c.args.is_last; slots = slots_of l }) left lines
+    ∙ after-is s w h cells refl sound c.args.is_last fits.hint fits.spans texts

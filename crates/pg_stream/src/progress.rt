@@ -1,0 +1,165 @@
+//! How far a table is printed, and what its next rows and its end append.
+
+ghost use Rattle.std.specs.Prelude.{◌≡◌, ◌⊎◌, ◌+◌, ◌<◌, ◌^◌, ◌∷◌, ◌&&◌, ◌==◌, not, List, true, IfSome, OnOk};
+ghost use Rattle.std.specs.Iterator.{IsFinite};
+ghost use Rattle.pg_layout.specs.Records.{AlwaysGives, Gives};
+ghost use Rattle.pg_layout.specs.Text.{Text};
+ghost use Rattle.pg_picture.specs.Appending.{Appends};
+ghost use Rattle.pg_stream.specs.Conditions.{AreRowsFrom, RowFits, RowsFit};
+ghost use Rattle.pg_stream.specs.Drawing.{IsSeparator};
+ghost use Rattle.pg_stream.specs.Sound.{now_of, IsSoundAt};
+ghost use Rattle.pg_stream.specs.Printing.{frame_of, row_text, rows_text, finish_text, after_row};
+ghost use Rattle.pg_stream.specs.Told.{told_of};
+
+use crate::drawing::{Drawing, Drawn};
+use crate::frame::Frame;
+use crate::open_cells::OpenCells;
+use pg_layout::{Colors, Dimension};
+use pg_picture::{SEPARATOR_ROOM, SeparatorKeeper};
+use std::alloc::{AllocError, Allocator, Global};
+use std::convert::AsStr;
+use std::marker::PhantomData;
+
+/// What a row changes of a printer: the cells that go on below, how many rows and lines of the body are
+/// printed, and whether the last row is among them.
+#[derive(Drop)]
+pub(crate) struct Progress<S: AsStr, A: Allocator = Global> {
+    pub(crate) cells: OpenCells<S, A>,
+    pub(crate) rows: usize,
+    pub(crate) lines: usize,
+    pub(crate) is_ended: bool,
+}
+
+impl<S: AsStr + Drop, A: Allocator> Progress<S, A> {
+    // Prints the next row of the table of a frame, as `RowPrinter::row` does, and copies the separator
+    // above it where it is kept: `kept` is handed on from row to row, and keeps the text of the separators
+    // above all rows but the first, if these are equal and it is short.
+    #[inline(always)]
+    pub(crate) fn push_row<'f, T, D, C, B, I, W>(
+        &mut self,
+        frame: &'f Frame<'f, D, C, B>,
+        kept: &mut SeparatorKeeper<'_>,
+        cells: I,
+        is_last: bool,
+        buf: &mut String<W>,
+    ) -> Result<(), AllocError>
+    where
+        T: Drawn,
+        D: Dimension,
+        C: Colors,
+        B: Allocator,
+        I: Iterator<Item = S>,
+        W: Allocator,
+        requires is { told_of D.width D.height C.color frame.now ≡ T.told }
+        requires can { I.can_next cells × IsFinite (I.remaining cells) }
+        requires sound { IsSoundAt T.told frame.now self.old }
+        requires fits { (texts : List Text) × AlwaysGives (λ x y. S.text x ≡ y) I.next_gives cells texts × RowFits (now_of T.told self.old) texts is_last }
+        requires kept { IfSome kept.old.text (IsSeparator (frame_of T.told)) }
+        ensures sound { OnOk result (IsSoundAt T.told frame.now self.new) }
+        ensures appends { (texts : List Text) → AlwaysGives (λ x y. S.text x ≡ y) I.next_gives cells texts → Appends buf.old buf.new result (row_text (now_of T.told self.old) texts is_last) }
+        ensures after { (texts : List Text) → AlwaysGives (λ x y. S.text x ≡ y) I.next_gives cells texts → OnOk result (now_of T.told self.new ≡ after_row (now_of T.told self.old) texts is_last) }
+        ensures kept { IfSome kept.new.text (IsSeparator (frame_of T.told)) }
+    {
+        let drawing: Drawing<'_, T, D, C, B> = Drawing {
+            frame,
+            of: PhantomData,
+        };
+        let is_first = drawing.begins_with_body();
+        drawing.push_top(buf, self.rows)?;
+        let next = drawing.push_above(&mut self.cells, kept, buf, is_first, self.lines, self.rows)?;
+        let height = drawing.height_of(self.rows);
+        let below = next + height;
+        if drawing.draws_at_once(height) {
+            drawing.push_single_row(buf, is_first, next, self.rows, cells)?;
+            self.end_row(below, is_last);
+            return Ok(());
+        }
+        drawing.begin(&mut self.cells, cells, self.rows);
+        drawing.push_lines(&mut self.cells, buf, is_first, next, self.rows, height)?;
+        drawing.close(&mut self.cells, self.rows);
+        self.end_row(below, is_last);
+        Ok(())
+    }
+
+    // One more row is printed, with which so many lines are.
+    #[inline(always)]
+    fn end_row(&mut self, lines: usize, is_last: bool)
+        requires { self.old.rows + 1 < 2 ^ 64 }
+        ensures { self.new ≡ record self.old { rows = self.old.rows + 1; lines = lines; is_ended = is_last } }
+    {
+        self.rows += 1;
+        self.lines = lines;
+        self.is_ended = is_last;
+    }
+
+    // Ends the table of a frame, as `RowPrinter::finish` does.
+    pub(crate) fn push_end<'f, T, D, C, B, W>(
+        &self,
+        frame: &'f Frame<'f, D, C, B>,
+        buf: &mut String<W>,
+    ) -> Result<(), AllocError>
+    where
+        T: Drawn,
+        D: Dimension,
+        C: Colors,
+        B: Allocator,
+        W: Allocator,
+        requires is { told_of D.width D.height C.color frame.now ≡ T.told }
+        requires sound { IsSoundAt T.told frame.now self.now }
+        requires ended { (self.now.rows ≡ 0) ⊎ (self.now.is_ended ≡ true) }
+        ensures { Appends buf.old buf.new result (finish_text (now_of T.told self.now)) }
+    {
+        if self.rows == 0 {
+            return Ok(());
+        }
+        let drawing: Drawing<'_, T, D, C, B> = Drawing {
+            frame,
+            of: PhantomData,
+        };
+        let is_first = drawing.begins_with_body();
+        drawing.push_below(&self.cells, buf, is_first, self.lines, self.rows)?;
+        let has_last = drawing.has_horizontal(self.rows, self.rows);
+        drawing.push_bottom(buf, is_bare(is_first, self.lines, has_last))
+    }
+
+    // Prints all rows of the table of a frame and ends it, as `RowPrinter::print_rows` does.
+    pub(crate) fn push_rows<'f, T, D, C, B, Cells, Rows, W>(
+        &mut self,
+        frame: &'f Frame<'f, D, C, B>,
+        first: Cells,
+        rows: Rows,
+        buf: &mut String<W>,
+    ) -> Result<(), AllocError>
+    where
+        T: Drawn,
+        D: Dimension,
+        C: Colors,
+        B: Allocator,
+        Cells: Iterator<Item = S>,
+        Rows: Iterator<Item = Cells>,
+        W: Allocator,
+        requires is { told_of D.width D.height C.color frame.now ≡ T.told }
+        requires rows { Rows.can_next rows × IsFinite (Rows.remaining rows) }
+        requires sound { IsSoundAt T.told frame.now self.old }
+        requires given { (cells : List Text) × (texts : List (List Text)) × AreRowsFrom (Gives (λ x y. S.text x ≡ y) Cells.can_next Cells.next_gives Cells.remaining) Rows.next_gives first rows cells texts × RowsFit (now_of T.told self.old) (cells ∷ texts) }
+        ensures { (cells : List Text) (texts : List (List Text)) → AreRowsFrom (Gives (λ x y. S.text x ≡ y) Cells.can_next Cells.next_gives Cells.remaining) Rows.next_gives first rows cells texts → Appends buf.old buf.new result (rows_text (now_of T.told self.old) (cells ∷ texts)) }
+    {
+        let mut room = [0; SEPARATOR_ROOM];
+        let mut kept = SeparatorKeeper::new(&mut room);
+        let mut row = first;
+        for next in rows {
+            self.push_row::<T, D, C, B, Cells, W>(frame, &mut kept, row, false, buf)?;
+            row = next;
+        }
+        self.push_row::<T, D, C, B, Cells, W>(frame, &mut kept, row, true, buf)?;
+        self.push_end::<T, D, C, B, W>(frame, buf)
+    }
+}
+
+// Whether no line stands above the bottom margin: none of the top margin, of the rows, and of the
+// last separator.
+fn is_bare(is_first: bool, lines: usize, has_last: bool) -> bool
+    ensures { result ≡ ((is_first && (lines == 0)) && not has_last) }
+{
+    is_first && lines == 0 && !has_last
+}
