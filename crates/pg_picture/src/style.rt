@@ -4,7 +4,7 @@ ghost use Rattle.std.specs.Prelude.{◌≡◌, ◌+◌, ◌≤◌, is_some};
 ghost use Rattle.std.specs.Option.{ForSome};
 ghost use Rattle.pg_config.specs.Config.{has_one_style};
 ghost use Rattle.pg_picture.specs.Pieces.{style_at, inner_width};
-ghost use Rattle.pg_picture.specs.Cells.{style_of, shows_texts_whole};
+ghost use Rattle.pg_picture.specs.Inside.Cells.{style_of, shows_texts_whole};
 ghost use Rattle.pg_picture.specs.Fits.{cell_fits};
 ghost use Rattle.pg_picture.specs.Styles.{IsStyleOfAll};
 

@@ -6,10 +6,10 @@ ghost use Rattle.pg_layout.specs.Records.{AlwaysGives, Gives};
 ghost use Rattle.pg_layout.specs.Text.{Text};
 ghost use Rattle.pg_picture.specs.Appending.{Appends};
 ghost use Rattle.pg_stream.specs.Conditions.{AreRowsFrom, RowFits, RowsFit};
-ghost use Rattle.pg_stream.specs.Drawing.{IsSeparator};
-ghost use Rattle.pg_stream.specs.Sound.{now_of, IsSoundAt};
+ghost use Rattle.pg_stream.specs.Inside.Drawing.{IsSeparator};
+ghost use Rattle.pg_stream.specs.Printers.{now_of, IsSoundAt};
 ghost use Rattle.pg_stream.specs.Printing.{frame_of, row_text, rows_text, finish_text, after_row};
-ghost use Rattle.pg_stream.specs.Told.{told_of};
+ghost use Rattle.pg_stream.specs.Inside.Told.{told_of};
 
 use crate::drawing::{Drawing, Drawn};
 use crate::frame::Frame;

@@ -8,7 +8,7 @@ ghost use Rattle.pg_picture.specs.Marks.{marks_of_row};
 ghost use Rattle.pg_picture.specs.Pieces.{style_at};
 ghost use Rattle.pg_stream.specs.Conditions.{HasRoom, HaveRoom, RowFits};
 ghost use Rattle.pg_stream.specs.Printers.{printing};
-ghost use Rattle.pg_stream.specs.Slots.{separator_height};
+ghost use Rattle.pg_stream.specs.Inside.Slots.{separator_height};
 
 use crate::frame::Frame;
 use crate::row_printer::RowPrinter;
@@ -86,7 +86,7 @@ fn ends_spans<B: Allocator>(
 }
 
 impl<'a, D: Dimension, C: Colors, B: Allocator> Frame<'a, D, C, B> {
-    ghost use Rattle.pg_stream.specs.Told.{frame_table};
+    ghost use Rattle.pg_stream.specs.Inside.Frames.{frame_table};
 
     // Whether each cell that begins in a row has room for its text.
     fn have_room<S: AsStr>(&self, row: usize, cells: &[S]) -> bool
@@ -183,7 +183,7 @@ impl<'a, D: Dimension, C: Colors, B: Allocator> Frame<'a, D, C, B> {
     }
 
     // How many lines the separator above a row takes.
-    #[tactic(auto, unfolding(crate::specs::Slots::separator_height))]
+    #[tactic(auto, unfolding(crate::specs::Inside::Slots::separator_height))]
     fn separator_lines(&self, row: usize) -> usize
         requires { row < usize.MAX }
         ensures { result ≡ separator_height self.now.config.now row }
