@@ -1,8 +1,8 @@
 //! Tables with glyphs and colours of their own.
 
-use crate::drawing::{FOUR, Sample, assert_cell, assert_drawn};
-use crate::settings::{Paint, Setting};
 use pg_layout::{AlignmentHorizontal, Border, Borders, Entity, Indent, Offset, Position, Sides};
+use pg_samples::drawing::{FOUR, Sample, assert_cell, assert_drawn};
+use pg_samples::settings::{Paint, Setting};
 use std::alloc::Global;
 use std::process::Abort;
 use std::test::Fail;

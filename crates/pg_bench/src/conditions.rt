@@ -1,10 +1,10 @@
 //! Conditions of tables and records, and indents, at single values.
 
-use crate::settings::{Setting, tell_all};
 use pg_config::SpannedConfig;
 use pg_layout::{AlignmentVertical, Entity, Position, RecordsFault, VecRecords};
 use pg_picture::fits::cell_fits;
 use pg_picture::indent_from_top;
+use pg_samples::settings::{Setting, tell_all};
 use std::process::Abort;
 use std::test::Fail;
 

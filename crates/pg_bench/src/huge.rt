@@ -1,11 +1,11 @@
 //! Tables larger than any memory.
 
-use crate::drawing::{Grid, Sample, draw, draw_compact, text_of};
-use crate::settings::{Paint, Setting};
 use pg_config::CompactConfig;
 use pg_layout::{
     AlignmentHorizontal, AlignmentVertical, Borders, Entity, Indent, Offset, Position, Sides,
 };
+use pg_samples::drawing::{Grid, Sample, draw, draw_compact, text_of};
+use pg_samples::settings::{Paint, Setting};
 use pg_testing::refusing::Refusing;
 use std::alloc::{AllocError, Allocator, Global};
 use std::process::Abort;

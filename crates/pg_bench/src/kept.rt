@@ -1,8 +1,8 @@
 //! Tables of whose lines something is kept: long separators, and tall cells in far columns.
 
-use crate::drawing::{Sample, assert_drawn};
-use crate::settings::Setting;
 use pg_layout::Position;
+use pg_samples::drawing::{Sample, assert_drawn};
+use pg_samples::settings::Setting;
 use std::alloc::{AllocError, Allocator, Global};
 use std::process::Abort;
 use std::test::Fail;

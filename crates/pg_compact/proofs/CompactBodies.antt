@@ -12,13 +12,14 @@ use Rattle.pg_layout.specs.Borders.{has_top, has_bottom, has_inner_horizontal}
 use Rattle.pg_layout.specs.Colors.{Color}
 use Rattle.pg_layout.specs.Text.{Text}
 use Rattle.pg_picture.specs.CompactLines.{CompactTable, compact_indent, compact_width, compact_full_width, with_margins, between_sides, padding_row, text_row, parts, separator_row, top_line, bottom_line, inner_line, line_if, compact_margin, row_lines, compact_lines}
-use Rattle.pg_picture.specs.Joined.{fed, joined, continued, lines_before, feed_before}
+use Rattle.pg_picture.specs.Joined.{fed, joined, continued}
+use Rattle.pg_picture.specs.Inside.Following.{lines_before, feed_before}
 use Rattle.pg_picture.specs.Picture.{compact_picture}
 use Rattle.pg_picture.proofs.JoinedLines.{continued-nil, continued-line, continued-append}
 use Rattle.pg_picture.proofs.Pictures.{continued-any}
 use Rattle.pg_picture.proofs.Ranges.{range-more, range-cut}
 use Rattle.pg_compact.specs.declared.printer.CompactPrinter.{CompactPrinter}
-use Rattle.pg_compact.specs.CompactGrids.{printed_table, inner_separator, lines_of_row, head_lines, foot_lines}
+use Rattle.pg_compact.specs.Inside.Drawing.{printed_table, inner_separator, lines_of_row, head_lines, foot_lines}
 
 -- ---- lines after others
 

@@ -13,7 +13,8 @@ use Rattle.pg_picture.specs.Picture.{compact_picture}
 use Rattle.pg_picture.specs.Sizes.{if_fits}
 use Rattle.pg_picture.specs.declared.fits.Misfit.{Misfit}
 use Rattle.pg_compact.specs.declared.printer.CompactPrinter.{CompactPrinter}
-use Rattle.pg_compact.specs.CompactGrids.{printed_table, CompactFits}
+use Rattle.pg_compact.specs.CompactGrids.{CompactFits}
+use Rattle.pg_compact.specs.Inside.Drawing.{printed_table}
 use Rattle.pg_picture.proofs.SumsOfSizes.{some_answer}
 
 pub no_columns-text : (t : CompactTable) → t.columns ≡ 0 → [] ≡ compact_picture t

@@ -7,7 +7,7 @@ use Rattle.pg_layout.specs.Colors.{Color}
 use Rattle.pg_layout.specs.Text.{Text}
 use Rattle.pg_config.specs.CompactConfig.{CompactSettings}
 use Rattle.pg_picture.specs.CompactLines.{compact_indent, colored_glyph}
-use Rattle.pg_compact.specs.RowEdges.{row_start, row_end}
+use Rattle.pg_compact.specs.Inside.RowEdges.{row_start, row_end}
 
 module _ (config : CompactSettings) {none one both : Text} (g : Borders ℕ) (gc : Borders Color) (m : Sides Indent) (mc : Sides Color) where
   pub start-text : g ≡ config.borders → gc ≡ config.borders_color → m ≡ config.margin → mc ≡ config.margin_color

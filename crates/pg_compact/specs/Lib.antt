@@ -1,2 +1,2 @@
 pub mod CompactGrids
-pub mod RowEdges
+pub mod Inside

@@ -8,9 +8,11 @@ ghost use Rattle.pg_layout.specs.Colors.{str_color};
 ghost use Rattle.pg_layout.specs.Records.{Gives};
 ghost use Rattle.pg_picture.specs.Appending.{Appends};
 ghost use Rattle.pg_picture.specs.CompactLines.{compact_full_width, line_if, separator_row, padding_row, text_row, row_lines};
-ghost use Rattle.pg_picture.specs.Joined.{continued, fed, feed_before, lines_before};
+ghost use Rattle.pg_picture.specs.Joined.{continued, fed};
+ghost use Rattle.pg_picture.specs.Inside.Following.{feed_before, lines_before};
 ghost use Rattle.pg_picture.specs.Picture.{compact_picture};
-ghost use Rattle.pg_compact.specs.CompactGrids.{printed_table, IsRow, AreRows, IsInnerSeparator, inner_separator, line_colors, lines_of_row, head_lines, foot_lines, CompactFits};
+ghost use Rattle.pg_compact.specs.CompactGrids.{CompactFits};
+ghost use Rattle.pg_compact.specs.Inside.Drawing.{printed_table, IsRow, AreRows, IsInnerSeparator, inner_separator, line_colors, lines_of_row, head_lines, foot_lines};
 
 use crate::printer::CompactPrinter;
 use crate::separators::{bottom_line, top_line};

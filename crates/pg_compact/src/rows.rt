@@ -6,8 +6,8 @@ ghost use Rattle.pg_layout.specs.Colors.{str_color};
 ghost use Rattle.std.specs.Iterator.{IsFinite};
 ghost use Rattle.pg_picture.specs.Appending.{Appends};
 ghost use Rattle.pg_picture.specs.CompactLines.{padding_row, text_row, compact_cell_of, compact_indent};
-ghost use Rattle.pg_compact.specs.CompactGrids.{printed_table, IsRow, inner_glyph, text_column, padding_column};
-ghost use Rattle.pg_compact.specs.RowEdges.{row_start, row_end};
+ghost use Rattle.pg_compact.specs.Inside.Drawing.{printed_table, IsRow, inner_glyph, text_column, padding_column};
+ghost use Rattle.pg_compact.specs.Inside.RowEdges.{row_start, row_end};
 ghost use Rattle.pg_config.specs.CompactConfig.{settings_of};
 
 use crate::printer::CompactPrinter;
@@ -46,7 +46,7 @@ impl<D: Dimension, C: Colors> CompactPrinter<'_, D, C> {
     }
 
     // What stands left of a row's cells: the left margin and the left glyph.
-    #[tactic(auto, unfolding(crate::specs::RowEdges::row_start))]
+    #[tactic(auto, unfolding(crate::specs::Inside::RowEdges::row_start))]
     fn push_row_start<A: Allocator>(&self, buf: &mut String<A>) -> Result<(), AllocError>
         ensures { Appends buf.old buf.new result (row_start (settings_of self.now.config.now)) }
     {
@@ -63,7 +63,7 @@ impl<D: Dimension, C: Colors> CompactPrinter<'_, D, C> {
     }
 
     // What stands right of a row's cells: the right glyph and the right margin.
-    #[tactic(auto, unfolding(crate::specs::RowEdges::row_end))]
+    #[tactic(auto, unfolding(crate::specs::Inside::RowEdges::row_end))]
     fn push_row_end<A: Allocator>(&self, buf: &mut String<A>) -> Result<(), AllocError>
         ensures { Appends buf.old buf.new result (row_end (settings_of self.now.config.now)) }
     {
@@ -127,7 +127,7 @@ impl<D: Dimension, C: Colors> CompactPrinter<'_, D, C> {
     }
 
     // The spaces of a column, after the glyph between it and the one before.
-    #[tactic(auto, unfolding(crate::specs::CompactGrids::padding_column))]
+    #[tactic(auto, unfolding(crate::specs::Inside::Drawing::padding_column))]
     fn push_blank<A: Allocator>(
         &self,
         buf: &mut String<A>,
@@ -142,7 +142,7 @@ impl<D: Dimension, C: Colors> CompactPrinter<'_, D, C> {
     }
 
     // The glyph between a column and the one before it.
-    #[tactic(auto, unfolding(crate::specs::CompactGrids::inner_glyph))]
+    #[tactic(auto, unfolding(crate::specs::Inside::Drawing::inner_glyph))]
     fn push_inner_glyph<A: Allocator>(
         &self,
         buf: &mut String<A>,

@@ -1,10 +1,10 @@
 -- Without column lines no vertical has a glyph.
-use Rattle.std.proofs.Common.{◌≡◌, ◌<◌, ℕ, Bool, true, false, not, ◌||◌, ◌==◌, nat_lt, List, [], Option, Some, None, is_some, inl, inr, refl, sym, ap, ◌∙◌, arith}
+use Rattle.std.proofs.Common.{◌≡◌, ℕ, false, ◌||◌, ◌==◌, [], Option, Some, None, is_some, inl, inr, refl, sym, arith}
 use Rattle.std.proofs.lemmas.Bool.{cases_Bool, false≢true, or_parts}
 use Rattle.std.proofs.lemmas.Bool.Decides.{nat_tests}
 use Rattle.pg_layout.specs.declared.position.Position.{Position}
 use Rattle.pg_layout.specs.Borders.{any_of, has_left, has_right, has_inner_vertical, has_side, ends, vertical_glyph}
-use Rattle.pg_config.specs.Overrides.{Overrides, sets_columns, vertical_override, overrides_column}
+use Rattle.pg_config.specs.Overrides.{sets_columns, vertical_override, overrides_column}
 use Rattle.pg_config.specs.Config.{Config, has_column_lines, has_vertical, get_vertical}
 use Rattle.pg_config.proofs.EqualLines.{nothing}
 

@@ -4,11 +4,12 @@ pub mod EqualLines
 pub mod ColumnLines
 pub mod OneStyle
 pub mod Lookups
+pub mod GlyphLaws
+mod FirstKeys
 mod TakenBack
 mod OverrideColumns
 mod KeptSpans
 pub mod SettingsForAll
-mod SpansAtPlaces
 mod CoveredPlaces
 pub mod SettingsLaw
 pub mod Computing

@@ -6,7 +6,7 @@ use Rattle.pg_layout.specs.declared.position.Position.{Position}
 use Rattle.pg_layout.specs.Borders.{ends, has_side, horizontal_glyph, vertical_glyph, crossing_glyph}
 use Rattle.pg_config.specs.Overrides.{overrides_row, overrides_column}
 use Rattle.pg_config.specs.Config.{Config, has_horizontal, has_vertical, get_horizontal, get_vertical, get_intersection, get_horizontal_color, get_vertical_color, get_intersection_color}
-use Rattle.pg_config.specs.Lines.{SameForRows, SameForColumns}
+use Rattle.pg_config.specs.Inside.Lines.{SameForRows, SameForColumns}
 
 -- a number below the last isn't the last
 below : (i n : ℕ) → i < n → (i == n) ≡ false

@@ -2,37 +2,40 @@
 use Rattle.std.proofs.Common.{◌≡◌, ℕ, suc, max, ◌<◌, ◌≤◌, true, false, ◌&&◌, ◌==◌, nat_lt, List, [], ◌∷◌, refl, ap, ◌∙◌, arith, Option, Some, None, Result, Ok, Err, OnOk, OnErr, if◌then◌else◌, inl, inr, IfSome}
 use Rattle.std.proofs.lemmas.Bool.{cases_Bool}
 use Rattle.std.proofs.lemmas.Bool.Decides.{nat_tests}
-use Rattle.pg_layout.specs.Places.{Key, same, before, value_at, with_place}
+use Rattle.pg_layout.specs.Keys.{Order, by_number, by_place}
+use Rattle.pg_layout.specs.Places.{same, before, value_at, with_place}
+use Rattle.pg_layout.proofs.KeyOrders.{number-laws, place-laws}
 use Rattle.pg_layout.proofs.PlacesLookups.{value_at-with_place}
 use Rattle.pg_layout.specs.declared.position.Entity.{Entity}
 use Rattle.pg_layout.specs.declared.position.Entity.TheVariants.{Global, Row, Column, Cell}
 use Rattle.pg_layout.specs.declared.position.Position.{Position}
-use Rattle.pg_layout.specs.Position.{holds}
+use Rattle.pg_layout.specs.Position.{at, holds}
 use Rattle.pg_config.specs.Settings.{Settings, number_above, next_number, latest, setting_of, with_setting}
 
-module _ {V : Type 0} where
+module _ {K V : Type 0} (order : Order K) where
   -- a number from that above all entries on is above that of each
-  above : (k : Key) (n : ℕ) (es : List (Key × (ℕ × V))) → number_above es ≤ n → IfSome (value_at k es) (λ e. e.0 < n)
+  above : (k : K) (n : ℕ) (es : List (K × (ℕ × V))) → number_above es ≤ n → IfSome (value_at order k es) (λ e. e.0 < n)
   above k n [] h = tt
   above k n (e ∷ es) h =
-      elim (cases_Bool (same e.0 k)) [ inl y ↦ rw y (omega (arith, h)) | inr o ↦ rw o (above k n es (omega (arith, h))) ]
+      elim (cases_Bool (same order e.0 k)) [ inl y ↦ rw y (omega (arith, h)) | inr o ↦ rw o (above k n es (omega (arith, h))) ]
 
   -- the number after a new entry of such a number
-  number_above-with_place : (k : Key) (n : ℕ) (v : V) (es : List (Key × (ℕ × V))) → number_above es ≤ n → number_above (with_place k (n, v) es) ≡ suc n
+  number_above-with_place : (k : K) (n : ℕ) (v : V) (es : List (K × (ℕ × V))) → number_above es ≤ n → number_above (with_place order k (n, v) es) ≡ suc n
   number_above-with_place k n v [] h = omega (arith, h)
   number_above-with_place k n v (e ∷ es) h =
-      elim (cases_Bool (before e.0 k)) [
+      elim (cases_Bool (before order e.0 k)) [
         | inl y ↦ let more = number_above-with_place k n v es (omega (arith, h)) in rw y (omega (arith, h, more))
-        | inr o ↦ elim (cases_Bool (same e.0 k)) [ inl s ↦ rw (o, s) (omega (arith, h)) | inr m ↦ rw (o, m) (omega (arith, h)) ]
+        | inr o ↦ elim (cases_Bool (same order e.0 k)) [ inl s ↦ rw (o, s) (omega (arith, h)) | inr m ↦ rw (o, m) (omega (arith, h)) ]
       ]
 
   -- whether a setter of one kind is done or refused, the number kept is the least above all
-  module _ {U E : Type 0} (k : Key) (v : V) (others : ℕ) (old new : List (Key × (ℕ × V))) {n next : ℕ} (was : n ≡ max (number_above old) others) where
-    pub number_kept : (r : Result U E) → OnOk r (new ≡ with_place k (n, v) old) → OnOk r (next ≡ suc n) → OnErr r (new ≡ old) → OnErr r (next ≡ n) → next ≡ max (number_above new) others
+  module _ {U E : Type 0} (k : K) (v : V) (others : ℕ) (old new : List (K × (ℕ × V))) {n next : ℕ} (was : n ≡ max (number_above old) others) where
+    pub number_kept : (r : Result U E) → OnOk r (new ≡ with_place order k (n, v) old) → OnOk r (next ≡ suc n) → OnErr r (new ≡ old) → OnErr r (next ≡ n) → next ≡ max (number_above new) others
     number_kept (Ok u) places moved same_places same_next =
         let above = ap number_above places ∙ number_above-with_place k n v old (omega (arith, was)) in omega (arith, above, was, moved)
     number_kept (Err e) places moved same_places same_next = let above = ap number_above same_places in omega (arith, above, was, same_next)
 
+module _ {V : Type 0} where
   first_wins : (n : ℕ) (v : V) (o : Option (ℕ × V)) → IfSome o (λ e. e.0 < n) → latest (Some (n, v)) o ≡ Some (n, v)
   first_wins n v None h = refl
   first_wins n v (Some b) h = let no : nat_lt n b.0 ≡ false = grind (arith, nat_tests, h) in rw no refl
@@ -46,40 +49,40 @@ module _ {V : Type 0} where
   latest_below n (Some a) None h k = h
   latest_below n (Some a) (Some b) h k = elim (cases_Bool (nat_lt a.0 b.0)) [ inl y ↦ rw y k | inr o ↦ rw o h ]
 
-  cell : (p : Position) (s : Settings V) → IfSome (value_at (p.row, p.col, 0) s.cells) (λ e. e.0 < next_number s)
-  cell p s = above (p.row, p.col, 0) (next_number s) s.cells (omega arith)
+  cell : (p : Position) (s : Settings V) → IfSome (value_at by_place p s.cells) (λ e. e.0 < next_number s)
+  cell p s = above by_place p (next_number s) s.cells (omega arith)
 
-  row : (p : Position) (s : Settings V) → IfSome (value_at (p.row, 0, 0) s.rows) (λ e. e.0 < next_number s)
-  row p s = above (p.row, 0, 0) (next_number s) s.rows (omega arith)
+  row : (p : Position) (s : Settings V) → IfSome (value_at by_number p.row s.rows) (λ e. e.0 < next_number s)
+  row p s = above by_number p.row (next_number s) s.rows (omega arith)
 
-  column : (p : Position) (s : Settings V) → IfSome (value_at (p.col, 0, 0) s.columns) (λ e. e.0 < next_number s)
-  column p s = above (p.col, 0, 0) (next_number s) s.columns (omega arith)
+  column : (p : Position) (s : Settings V) → IfSome (value_at by_number p.col s.columns) (λ e. e.0 < next_number s)
+  column p s = above by_number p.col (next_number s) s.columns (omega arith)
 
   -- the new value where the entity holds the place, and the old answer elsewhere
   pub setting_of-with_setting : (e : Entity) (v : V) (s : Settings V) (p : Position) → setting_of (with_setting e v s) p ≡ (if holds e p then Some v else setting_of s p)
   unfolding setting_of with_setting
   setting_of-with_setting Global v s p = refl
   setting_of-with_setting (Row r) v s p =
-      rw (value_at-with_place (p.row, 0, 0) (r, 0, 0) (next_number s, v) s.rows)
+      rw (value_at-with_place number-laws p.row r (next_number s, v) s.rows)
       (elim (cases_Bool (p.row == r)) [
         | inl y ↦
-            let there : same (r, 0, 0) (p.row, 0, 0) ≡ true = grind (arith, nat_tests, y) in
-            rw (there, y, first_wins (next_number s) v (value_at (p.col, 0, 0) s.columns) (column p s), second_wins (next_number s) v (value_at (p.row, p.col, 0) s.cells) (cell p s)) refl
-        | inr n ↦ let away : same (r, 0, 0) (p.row, 0, 0) ≡ false = grind (arith, nat_tests, n) in rw (away, n) refl
+            let there : same by_number r p.row ≡ true = grind (arith, nat_tests, y) in
+            rw (there, y, first_wins (next_number s) v (value_at by_number p.col s.columns) (column p s), second_wins (next_number s) v (value_at by_place p s.cells) (cell p s)) refl
+        | inr n ↦ let away : same by_number r p.row ≡ false = grind (arith, nat_tests, n) in rw (away, n) refl
       ])
   setting_of-with_setting (Column c) v s p =
-      rw (value_at-with_place (p.col, 0, 0) (c, 0, 0) (next_number s, v) s.columns)
+      rw (value_at-with_place number-laws p.col c (next_number s, v) s.columns)
       (elim (cases_Bool (p.col == c)) [
         | inl y ↦
-            let there : same (c, 0, 0) (p.col, 0, 0) ≡ true = grind (arith, nat_tests, y) in
-            rw (there, y, second_wins (next_number s) v (value_at (p.row, 0, 0) s.rows) (row p s), second_wins (next_number s) v (value_at (p.row, p.col, 0) s.cells) (cell p s)) refl
-        | inr n ↦ let away : same (c, 0, 0) (p.col, 0, 0) ≡ false = grind (arith, nat_tests, n) in rw (away, n) refl
+            let there : same by_number c p.col ≡ true = grind (arith, nat_tests, y) in
+            rw (there, y, second_wins (next_number s) v (value_at by_number p.row s.rows) (row p s), second_wins (next_number s) v (value_at by_place p s.cells) (cell p s)) refl
+        | inr n ↦ let away : same by_number c p.col ≡ false = grind (arith, nat_tests, n) in rw (away, n) refl
       ])
   setting_of-with_setting (Cell r c) v s p =
-      rw (value_at-with_place (p.row, p.col, 0) (r, c, 0) (next_number s, v) s.cells)
+      rw (value_at-with_place place-laws p (at r c) (next_number s, v) s.cells)
       (elim (cases_Bool ((p.row == r) && (p.col == c))) [
         | inl y ↦
-            let there : same (r, c, 0) (p.row, p.col, 0) ≡ true = grind (arith, nat_tests, y) in
-            rw (there, y, first_wins (next_number s) v (latest (value_at (p.row, 0, 0) s.rows) (value_at (p.col, 0, 0) s.columns)) (latest_below (next_number s) (value_at (p.row, 0, 0) s.rows) (value_at (p.col, 0, 0) s.columns) (row p s) (column p s))) refl
-        | inr n ↦ let away : same (r, c, 0) (p.row, p.col, 0) ≡ false = grind (arith, nat_tests, n) in rw (away, n) refl
+            let there : same by_place (at r c) p ≡ true = grind (arith, nat_tests, y) in
+            rw (there, y, first_wins (next_number s) v (latest (value_at by_number p.row s.rows) (value_at by_number p.col s.columns)) (latest_below (next_number s) (value_at by_number p.row s.rows) (value_at by_number p.col s.columns) (row p s) (column p s))) refl
+        | inr n ↦ let away : same by_place (at r c) p ≡ false = grind (arith, nat_tests, n) in rw (away, n) refl
       ])

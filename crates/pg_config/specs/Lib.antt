@@ -1,8 +1,8 @@
 pub mod Settings
-pub mod NotedPlaces
 pub mod Overrides
 pub mod Offsets
+pub mod GlyphOrder
 pub mod Spans
 pub mod Config
 pub mod CompactConfig
-pub mod Lines
+pub mod Inside

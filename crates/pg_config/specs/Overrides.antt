@@ -1,23 +1,25 @@
 -- What was set for single places of the border lines.
-use Rattle.std.specs.Prelude.{◌≡◌, ℕ, zero, suc, ◌+◌, Bool, ◌||◌, ◌==◌, List, [], Option, if◌then◌else◌}
-use Rattle.std.specs.List.{list_any}
+use Rattle.std.specs.Prelude.{◌≡◌, ℕ, zero, suc, ◌+◌, Bool, ◌||◌, ◌==◌, List, [], Option, is_some, if◌then◌else◌}
 use Rattle.pg_layout.specs.declared.borders.Border.{Border}
 use Rattle.pg_layout.specs.declared.borders.HorizontalLine.{HorizontalLine}
 use Rattle.pg_layout.specs.declared.position.Position.{Position}
+use Rattle.pg_layout.specs.declared.position.ColumnPlace.{ColumnPlace}
 use Rattle.pg_layout.specs.Borders.{ends}
-use Rattle.pg_layout.specs.Places.{Key, value_at, with_some, has_first}
+use Rattle.pg_layout.specs.Keys.{by_number, by_place, by_columns, column_place, in_row, in_column}
+use Rattle.pg_layout.specs.Places.{value_at, with_some, has_key}
+use Rattle.pg_layout.specs.Position.{at}
 use Rattle.pg_config.specs.Settings.{has_some}
 
 -- horizontals and crossings by row and column, verticals by column and row
 pub record Overrides (G : Type 0) : Type 0 where
-  pub horizontals : List (Key × G)
-  pub verticals : List (Key × G)
-  pub crossings : List (Key × G)
+  pub horizontals : List (Position × G)
+  pub verticals : List (ColumnPlace × G)
+  pub crossings : List (Position × G)
 
 module _ {G : Type 0} where
-  -- an entry whose key has c as its second number
-  abbrev pub has_second : ℕ → List (Key × G) → Bool
-  has_second c es = list_any (λ e. e.0.1 == c) es
+  -- a crossing of column line c has a value
+  abbrev pub has_crossing : ℕ → List (Position × G) → Bool
+  has_crossing c es = has_key (λ p. p.col == c) es
 
   abbrev pub no_overrides : Overrides G
   no_overrides = record { horizontals = []; verticals = []; crossings = [] }
@@ -25,15 +27,15 @@ module _ {G : Type 0} where
   -- The border of the cell at p overrides the eight places round it. A value that it lacks leaves its place as it was.
   unfoldable pub with_border : Position → Border G → Overrides G → Overrides G
   with_border p b o = record {
-    horizontals = with_some (p.row + 1, p.col, 0) b.bottom (with_some (p.row, p.col, 0) b.top o.horizontals);
-    verticals = with_some (p.col + 1, p.row, 0) b.right (with_some (p.col, p.row, 0) b.left o.verticals);
-    crossings = with_some (p.row + 1, p.col + 1, 0) b.bottom_right (with_some (p.row + 1, p.col, 0) b.bottom_left (with_some (p.row, p.col + 1, 0) b.top_right (with_some (p.row, p.col, 0) b.top_left o.crossings)));
+    horizontals = with_some by_place (at (p.row + 1) p.col) b.bottom (with_some by_place p b.top o.horizontals);
+    verticals = with_some by_columns (column_place (at p.row (p.col + 1))) b.right (with_some by_columns (column_place p) b.left o.verticals);
+    crossings = with_some by_place (at (p.row + 1) (p.col + 1)) b.bottom_right (with_some by_place (at (p.row + 1) p.col) b.bottom_left (with_some by_place (at p.row (p.col + 1)) b.top_right (with_some by_place p b.top_left o.crossings)));
   }
 
   -- The first n places of row r get these values, by column. A value that is missing leaves its place as it was.
-  abbrev pub with_row : ℕ → ℕ → (ℕ → Option G) → List (Key × G) → List (Key × G)
+  abbrev pub with_row : ℕ → ℕ → (ℕ → Option G) → List (Position × G) → List (Position × G)
   with_row r zero values es = es
-  with_row r (suc c) values es = with_some (r, c, 0) (values c) (with_row r c values es)
+  with_row r (suc c) values es = with_some by_place (at r c) (values c) (with_row r c values es)
 
   -- what a line of so many columns has at its crossing c: an end, or what stands between two columns
   abbrev pub line_crossing : HorizontalLine G → ℕ → ℕ → Option G
@@ -46,19 +48,19 @@ module _ {G : Type 0} where
     crossings = with_row r (columns + 1) (λ c. line_crossing line columns c) o.crossings;
   }
 
-  -- the keys of the index begin with the columns of the crossings
-  abbrev pub HasColumns : List (Key × Unit {0}) → List (Key × G) → Type 0
-  HasColumns columns crossings = (c : ℕ) → has_first c columns ≡ has_second c crossings
+  -- the keys of the index are the columns of the crossings
+  abbrev pub HasColumns : List (ℕ × Unit {0}) → List (Position × G) → Type 0
+  HasColumns columns crossings = (c : ℕ) → is_some (value_at by_number c columns) ≡ has_crossing c crossings
 
   -- what a place was overridden with
   unfoldable pub horizontal_override : Overrides G → Position → Option G
-  horizontal_override o p = value_at (p.row, p.col, 0) o.horizontals
+  horizontal_override o p = value_at by_place p o.horizontals
 
   unfoldable pub vertical_override : Overrides G → Position → Option G
-  vertical_override o p = value_at (p.col, p.row, 0) o.verticals
+  vertical_override o p = value_at by_columns (column_place p) o.verticals
 
   unfoldable pub crossing_override : Overrides G → Position → Option G
-  crossing_override o p = value_at (p.row, p.col, 0) o.crossings
+  crossing_override o p = value_at by_place p o.crossings
 
   -- a horizontal place or a crossing is overridden
   abbrev pub sets_rows : Overrides G → Bool
@@ -70,16 +72,16 @@ module _ {G : Type 0} where
 
   -- a horizontal place or a crossing of row line r is overridden
   unfoldable pub overrides_row : Overrides G → ℕ → Bool
-  overrides_row o r = has_first r o.horizontals || has_first r o.crossings
+  overrides_row o r = has_key (in_row r) o.horizontals || has_key (in_row r) o.crossings
 
   -- a vertical place or a crossing of column line c is overridden
   unfoldable pub overrides_column : Overrides G → ℕ → Bool
-  overrides_column o c = has_first c o.verticals || has_second c o.crossings
+  overrides_column o c = has_key (in_column c) o.verticals || has_crossing c o.crossings
 
 -- the overrides, and an index of the columns of their crossings
 pub record Lines (G : Type 0) : Type 0 where
   pub overrides : Overrides G
-  pub columns : List (Key × Unit {0})
+  pub columns : List (ℕ × Unit {0})
 
 abbrev pub no_lines : {G : Type 0} → Lines G
 no_lines = record { overrides = no_overrides; columns = [] }

@@ -1,46 +1,43 @@
 -- The rectangles of cells that span rows or columns, and the one owner of each place.
-use Rattle.std.specs.Prelude.{◌≡◌, ℕ, ◌+◌, Bool, not, ◌&&◌, ◌||◌, ◌==◌, nat_lt, nat_le, List, [], ◌∷◌, find, Option, Some, None, unwrap_or, if◌then◌else◌}
+use Rattle.std.specs.Prelude.{ℕ, ◌+◌, Bool, not, ◌&&◌, ◌||◌, ◌==◌, nat_lt, nat_le, List, find, Option, Some, None, unwrap_or, if◌then◌else◌}
 use Rattle.std.specs.List.{list_any}
 use Rattle.pg_layout.specs.declared.position.Position.{Position}
+use Rattle.pg_layout.specs.declared.position.ColumnPlace.{ColumnPlace}
+use Rattle.pg_layout.specs.Keys.{by_columns, column_place}
+use Rattle.pg_layout.specs.Places.{value_at, with_place, without_place, last_up_to}
 use Rattle.pg_layout.specs.Position.{at, is_at}
-use Rattle.pg_layout.specs.Places.{Key, value_at, with_place, without_place, last_up_to}
+use Rattle.pg_config.specs.declared.spans.SpanSize.{SpanSize}
 
--- A cell with a span: its column and its row, and how many rows and columns its rectangle has. They are kept in
--- the order of columns and then rows.
+-- A cell with a span: its place, and the size of its rectangle. They are kept column by column.
 abbrev pub Span : Type 0
-Span = Key × (ℕ × ℕ)
+Span = ColumnPlace × SpanSize
 
--- the key of a cell with a span is a place: its third number is 0
-abbrev pub StandAtPlaces : List Span → Type 0
-StandAtPlaces [] = Unit {0}
-StandAtPlaces (s ∷ ss) = (s.0.2 ≡ 0) × StandAtPlaces ss
-
-abbrev pub span_key : Position → Key
-span_key p = (p.col, p.row, 0)
+abbrev pub span_size : ℕ → ℕ → SpanSize
+span_size rows columns = record { rows = rows; columns = columns }
 
 -- the top left of the rectangle
 abbrev pub corner : Span → Position
-corner s = at s.0.1 s.0.0
+corner s = at s.0.row s.0.col
 
 -- how many rows and columns the rectangle of p has
-unfoldable pub size_of : List Span → Position → ℕ × ℕ
-size_of spans p = unwrap_or (value_at (span_key p) spans) (1, 1)
+unfoldable pub size_of : List Span → Position → SpanSize
+size_of spans p = unwrap_or (value_at by_columns (column_place p) spans) (span_size 1 1)
 
 unfoldable pub rect_rows : List Span → Position → ℕ
-rect_rows spans p = (size_of spans p).0
+rect_rows spans p = (size_of spans p).rows
 
 unfoldable pub rect_columns : List Span → Position → ℕ
-rect_columns spans p = (size_of spans p).1
+rect_columns spans p = (size_of spans p).columns
 
 -- a rectangle of one row and one column isn't kept
-unfoldable pub with_size : Position → ℕ × ℕ → List Span → List Span
-with_size p size spans = if (size.0 == 1) && (size.1 == 1) then without_place (span_key p) spans else with_place (span_key p) size spans
+unfoldable pub with_size : Position → SpanSize → List Span → List Span
+with_size p size spans = if (size.rows == 1) && (size.columns == 1) then without_place by_columns (column_place p) spans else with_place by_columns (column_place p) size spans
 
 unfoldable pub with_column_span : Position → ℕ → List Span → List Span
-with_column_span p n spans = with_size p (rect_rows spans p, n) spans
+with_column_span p n spans = with_size p (span_size (rect_rows spans p) n) spans
 
 unfoldable pub with_row_span : Position → ℕ → List Span → List Span
-with_row_span p n spans = with_size p (n, rect_columns spans p) spans
+with_row_span p n spans = with_size p (span_size n (rect_columns spans p)) spans
 
 -- a span of 1 isn't kept
 abbrev pub unless_one : ℕ → Option ℕ
@@ -53,17 +50,17 @@ unfoldable pub get_row_span : List Span → Position → Option ℕ
 get_row_span spans p = unless_one (rect_rows spans p)
 
 unfoldable pub has_column_spans : List Span → Bool
-has_column_spans spans = list_any (λ s. not (s.1.1 == 1)) spans
+has_column_spans spans = list_any (λ s. not (s.1.columns == 1)) spans
 
 unfoldable pub has_row_spans : List Span → Bool
-has_row_spans spans = list_any (λ s. not (s.1.0 == 1)) spans
+has_row_spans spans = list_any (λ s. not (s.1.rows == 1)) spans
 
 -- the place (r, c) lies in the rectangle
 abbrev pub has_row : ℕ → Span → Bool
-has_row r s = nat_le s.0.1 r && nat_lt r (s.0.1 + s.1.0)
+has_row r s = nat_le s.0.row r && nat_lt r (s.0.row + s.1.rows)
 
 abbrev pub has_column : ℕ → Span → Bool
-has_column c s = nat_le s.0.0 c && nat_lt c (s.0.0 + s.1.1)
+has_column c s = nat_le s.0.col c && nat_lt c (s.0.col + s.1.columns)
 
 abbrev pub in_span : ℕ → ℕ → Span → Bool
 in_span r c s = has_row r s && has_column c s
@@ -90,38 +87,38 @@ same_owner spans r c d = is_at (owner spans r c) (owner spans r d).row (owner sp
 -- the rectangle that holds (r, c) and has c as its left column, by one search
 abbrev pub if_left : ℕ → ℕ → Option Span → Option Span
 if_left r c None = None
-if_left r c (Some s) = if (s.0.0 == c) && in_span r c s then Some s else None
+if_left r c (Some s) = if (s.0.col == c) && in_span r c s then Some s else None
 
 abbrev pub left_span : List Span → ℕ → ℕ → Option Span
-left_span spans r c = if_left r c (last_up_to (c, r, 0) spans)
+left_span spans r c = if_left r c (last_up_to by_columns (column_place (at r c)) spans)
 
 -- the same, where the rectangle begins above row r
 abbrev pub if_above : ℕ → Option Span → Option Span
 if_above r None = None
-if_above r (Some s) = if nat_lt s.0.1 r then Some s else None
+if_above r (Some s) = if nat_lt s.0.row r then Some s else None
 
 abbrev pub span_above : List Span → ℕ → ℕ → Option Span
 span_above spans r c = if_above r (left_span spans r c)
 
 -- a place of another cell's rectangle is covered: in that cell's row, in its column, or elsewhere
 unfoldable pub is_covered_by_column : List Span → Position → Bool
-is_covered_by_column spans p = list_any (λ s. ((s.0.1 == p.row) && nat_lt s.0.0 p.col) && in_span p.row p.col s) spans
+is_covered_by_column spans p = list_any (λ s. ((s.0.row == p.row) && nat_lt s.0.col p.col) && in_span p.row p.col s) spans
 
 unfoldable pub is_covered_by_row : List Span → Position → Bool
-is_covered_by_row spans p = list_any (λ s. ((s.0.0 == p.col) && nat_lt s.0.1 p.row) && in_span p.row p.col s) spans
+is_covered_by_row spans p = list_any (λ s. ((s.0.col == p.col) && nat_lt s.0.row p.row) && in_span p.row p.col s) spans
 
 unfoldable pub is_covered_by_both : List Span → Position → Bool
-is_covered_by_both spans p = list_any (λ s. (nat_lt s.0.1 p.row && nat_lt s.0.0 p.col) && in_span p.row p.col s) spans
+is_covered_by_both spans p = list_any (λ s. (nat_lt s.0.row p.row && nat_lt s.0.col p.col) && in_span p.row p.col s) spans
 
 -- a rectangle that begins in one of these rows, in column c or in any column left of p, covers p
 abbrev pub begins_within : ℕ → ℕ → Span → Bool
-begins_within first last s = nat_le first s.0.1 && nat_le s.0.1 last
+begins_within first last s = nat_le first s.0.row && nat_le s.0.row last
 
 abbrev pub is_covered_from : List Span → Position → ℕ → ℕ → ℕ → Bool
-is_covered_from spans p c first last = list_any (λ s. (s.0.0 == c) && (begins_within first last s && in_span p.row p.col s)) spans
+is_covered_from spans p c first last = list_any (λ s. (s.0.col == c) && (begins_within first last s && in_span p.row p.col s)) spans
 
 abbrev pub is_covered_from_left : List Span → Position → ℕ → ℕ → Bool
-is_covered_from_left spans p first last = list_any (λ s. nat_lt s.0.0 p.col && (begins_within first last s && in_span p.row p.col s)) spans
+is_covered_from_left spans p first last = list_any (λ s. nat_lt s.0.col p.col && (begins_within first last s && in_span p.row p.col s)) spans
 
 unfoldable pub is_visible : List Span → Position → Bool
 is_visible spans p = not (is_covered_by_column spans p || (is_covered_by_row spans p || is_covered_by_both spans p))

@@ -12,4 +12,4 @@ mod spans;
 
 pub use crate::compact::CompactConfig;
 pub use crate::spanned::SpannedConfig;
-pub use crate::spans::{Span, Spans};
+pub use crate::spans::{Span, SpanSize, Spans};

@@ -1,12 +1,13 @@
 //! The values of border lines, which change together or not at all.
 
 ghost use Rattle.std.specs.Prelude.{◌≡◌, ◌+◌, ◌^◌, ◌<◌, [], Bool, OnOk};
+ghost use Rattle.pg_layout.specs.Keys.{by_place};
 ghost use Rattle.pg_layout.specs.Places.{with_some};
-ghost use Rattle.pg_config.specs.NotedPlaces.{settled, settled_at};
+ghost use Rattle.pg_config.specs.Inside.NotedPlaces.{settled, settled_at};
 ghost use Rattle.pg_config.specs.Overrides.{HasColumns, no_lines, with_border, with_row, line_crossing, with_row_line};
 
 use crate::noted_places::NotedPlaces;
-use pg_layout::{Border, HorizontalLine, Position};
+use pg_layout::{Border, ColumnPlace, HorizontalLine, Position};
 use std::alloc::{AllocError, Allocator, Global};
 use std::marker::Model;
 
@@ -14,15 +15,15 @@ use std::marker::Model;
 /// and row.
 #[derive(Debug, Drop)]
 pub struct Lines<G, A: Allocator = Global> {
-    pub horizontals: NotedPlaces<G, A>,
-    pub verticals: NotedPlaces<G, A>,
-    pub crossings: NotedPlaces<G, A>,
-    /// An entry at (c, 0, 0) for each column c of the crossings.
-    pub columns: NotedPlaces<(), A>,
+    pub horizontals: NotedPlaces<Position, G, A>,
+    pub verticals: NotedPlaces<ColumnPlace, G, A>,
+    pub crossings: NotedPlaces<Position, G, A>,
+    /// An entry for each column of the crossings.
+    pub columns: NotedPlaces<usize, (), A>,
 }
 
 impl<G, A: Allocator> Model for Lines<G, A> {
-    ghost use Rattle.pg_config.specs.NotedPlaces.{Noted};
+    ghost use Rattle.pg_config.specs.Inside.NotedPlaces.{Noted};
     ghost use Rattle.pg_config.specs.Overrides.{Lines as Parts};
 
     ghost Value = { Noted (Parts G) };
@@ -66,16 +67,19 @@ impl<G: Drop, A: Allocator + Clone> Lines<G, A> {
         ensures has_columns { OnOk result (HasColumns self.new.now.columns self.new.now.overrides.crossings) }
         ensures before { self.new.before ≡ self.old.before }
     {
-        let (row, col) = (pos.row, pos.col);
-        self.horizontals.put((row, col, 0), border.top)?;
-        self.horizontals.put((row + 1, col, 0), border.bottom)?;
-        self.verticals.put((col, row, 0), border.left)?;
-        self.verticals.put((col + 1, row, 0), border.right)?;
+        let (row, col) = (pos.row + 1, pos.col + 1);
+        let below = Position { row, col: pos.col };
+        let right = Position { row: pos.row, col };
+        let across = Position { row, col };
+        self.horizontals.put(pos, border.top)?;
+        self.horizontals.put(below, border.bottom)?;
+        self.verticals.put(ColumnPlace::of(pos), border.left)?;
+        self.verticals.put(ColumnPlace::of(right), border.right)?;
         let (crossings, columns) = (&mut self.crossings, &mut self.columns);
-        put_crossing(crossings, columns, row, col, border.top_left)?;
-        put_crossing(crossings, columns, row, col + 1, border.top_right)?;
-        put_crossing(crossings, columns, row + 1, col, border.bottom_left)?;
-        put_crossing(crossings, columns, row + 1, col + 1, border.bottom_right)
+        put_crossing(crossings, columns, pos, border.top_left)?;
+        put_crossing(crossings, columns, right, border.top_right)?;
+        put_crossing(crossings, columns, below, border.bottom_left)?;
+        put_crossing(crossings, columns, across, border.bottom_right)
     }
 }
 
@@ -108,7 +112,7 @@ impl<A: Allocator + Clone> Lines<char, A> {
 
 // Gives the first horizontals of a row line this glyph, if there is one, or some of them.
 fn put_horizontals<A: Allocator + Clone>(
-    horizontals: &mut NotedPlaces<char, A>,
+    horizontals: &mut NotedPlaces<Position, char, A>,
     row: usize,
     columns: usize,
     glyph: Option<char>,
@@ -117,7 +121,7 @@ fn put_horizontals<A: Allocator + Clone>(
     ensures before { horizontals.new.before ≡ horizontals.old.before }
 {
     for col in 0..columns {
-        horizontals.put((row, col, 0), glyph)?;
+        horizontals.put(Position { row, col }, glyph)?;
     }
     Ok(())
 }
@@ -125,8 +129,8 @@ fn put_horizontals<A: Allocator + Clone>(
 // Gives the crossings of a row line of so many columns the glyphs of this line, and lists their
 // columns, or some of them.
 fn put_crossings<A: Allocator + Clone>(
-    crossings: &mut NotedPlaces<char, A>,
-    index: &mut NotedPlaces<(), A>,
+    crossings: &mut NotedPlaces<Position, char, A>,
+    index: &mut NotedPlaces<usize, (), A>,
     row: usize,
     columns: usize,
     line: HorizontalLine<char>,
@@ -138,15 +142,12 @@ fn put_crossings<A: Allocator + Clone>(
     ensures before_columns { index.new.before ≡ index.old.before }
 {
     for col in 0..columns {
-        put_crossing(crossings, index, row, col, crossing_of(line, columns, col))?;
+        let glyph = crossing_of(line, columns, col);
+        put_crossing(crossings, index, Position { row, col }, glyph)?;
     }
-    put_crossing(
-        crossings,
-        index,
-        row,
-        columns,
-        crossing_of(line, columns, columns),
-    )
+    let glyph = crossing_of(line, columns, columns);
+    let end = Position { row, col: columns };
+    put_crossing(crossings, index, end, glyph)
 }
 
 // The glyph of a crossing of a line of so many columns.
@@ -165,14 +166,13 @@ fn crossing_of(line: HorizontalLine<char>, columns: usize, col: usize) -> Option
 // Gives a crossing this value, if there is one, and lists its column, or does one of the two where
 // memory is refused.
 fn put_crossing<G: Drop, A: Allocator + Clone>(
-    crossings: &mut NotedPlaces<G, A>,
-    columns: &mut NotedPlaces<(), A>,
-    row: usize,
-    col: usize,
+    crossings: &mut NotedPlaces<Position, G, A>,
+    columns: &mut NotedPlaces<usize, (), A>,
+    pos: Position,
     value: Option<G>,
 ) -> Result<(), AllocError>
     requires has_columns { HasColumns columns.old.now crossings.old.now }
-    ensures ok { OnOk result (crossings.new.now ≡ with_some (row, col, 0) value crossings.old.now) }
+    ensures ok { OnOk result (crossings.new.now ≡ with_some by_place pos value crossings.old.now) }
     ensures has_columns { OnOk result (HasColumns columns.new.now crossings.new.now) }
     ensures before { crossings.new.before ≡ crossings.old.before }
     ensures before_columns { columns.new.before ≡ columns.old.before }
@@ -180,6 +180,6 @@ fn put_crossing<G: Drop, A: Allocator + Clone>(
     let Some(value) = value else {
         return Ok(());
     };
-    crossings.put((row, col, 0), Some(value))?;
-    columns.put((col, 0, 0), Some(()))
+    crossings.put(pos, Some(value))?;
+    columns.put(pos.col, Some(()))
 }

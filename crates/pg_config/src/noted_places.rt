@@ -2,7 +2,7 @@
 
 ghost use Rattle.std.specs.Prelude.{◌≡◌, [], OnOk, OnErr};
 ghost use Rattle.pg_layout.specs.Places.{with_some};
-ghost use Rattle.pg_config.specs.NotedPlaces.{settled, settled_at};
+ghost use Rattle.pg_config.specs.Inside.NotedPlaces.{settled, settled_at};
 
 use pg_layout::{Key, Places};
 use std::alloc::{AllocError, Allocator, Global};
@@ -17,27 +17,26 @@ const KEPT_NOTES: usize = 8;
 /// stay, or, where memory was refused to one of them, all are taken back. That needs no memory: a
 /// key that gets back a value is there, and another one is taken out.
 #[derive(Debug, Drop)]
-pub struct NotedPlaces<V, A: Allocator = Global> {
-    places: Places<V, A>,
+pub struct NotedPlaces<K: Key, V, A: Allocator = Global> {
+    places: Places<K, V, A>,
     // What a changed key held, the latest change last.
-    held: Vec<(Key, Option<V>), A>,
+    held: Vec<(K, Option<V>), A>,
 }
 
-impl<V, A: Allocator> Model for NotedPlaces<V, A> {
+impl<K: Key, V, A: Allocator> Model for NotedPlaces<K, V, A> {
     ghost use Rattle.std.specs.Prelude.{List};
-    ghost use Rattle.pg_layout.specs.Places.{Key};
-    ghost use Rattle.pg_config.specs.NotedPlaces.{Noted, taken_back, CanTakeBack};
+    ghost use Rattle.pg_config.specs.Inside.NotedPlaces.{Noted, taken_back, CanTakeBack};
 
-    ghost Value = { Noted (List (Key × V)) };
+    ghost Value = { Noted (List (K × V)) };
 
-    ghost view = { λ p. record { now = p.places; before = taken_back p.held.items p.places } };
+    ghost view = { λ p. record { now = p.places; before = taken_back K.order p.held.items p.places } };
 
-    ghost invariant = { λ p. CanTakeBack p.held.items p.places };
+    ghost invariant = { λ p. CanTakeBack K.order p.held.items p.places };
 }
 
-impl<V, A: Allocator + Copy> NotedPlaces<V, A> {
+impl<K: Key, V, A: Allocator + Copy> NotedPlaces<K, V, A> {
     /// No entries. Takes no memory.
-    pub fn new(alloc: A) -> NotedPlaces<V, A>
+    pub fn new(alloc: A) -> NotedPlaces<K, V, A>
         ensures { result ≡ settled_at [] }
     {
         NotedPlaces {
@@ -47,17 +46,17 @@ impl<V, A: Allocator + Copy> NotedPlaces<V, A> {
     }
 }
 
-impl<V, A: Allocator> NotedPlaces<V, A> {
+impl<K: Key, V, A: Allocator> NotedPlaces<K, V, A> {
     /// The values as they are now.
     #[inline(always)]
-    pub fn places(&self) -> &Places<V, A>
+    pub fn places(&self) -> &Places<K, V, A>
         ensures { result.now ≡ self.now.now }
     {
         &self.places
     }
 }
 
-impl<V: Drop, A: Allocator + Clone> NotedPlaces<V, A> {
+impl<K: Key, V: Drop, A: Allocator + Clone> NotedPlaces<K, V, A> {
     /// Makes room for the notes of so many changes. Nothing changes, whether there is room or not.
     pub fn reserve(&mut self, changes: usize) -> Result<(), AllocError>
         ensures { self.new ≡ self.old }
@@ -68,8 +67,8 @@ impl<V: Drop, A: Allocator + Clone> NotedPlaces<V, A> {
     /// Gives the key this value, if there is one, and notes what it held.
     ///
     /// Where memory is refused, for the note or for a new key, nothing changes.
-    pub fn put(&mut self, key: Key, value: Option<V>) -> Result<(), AllocError>
-        ensures ok { OnOk result (self.new.now ≡ with_some key value self.old.now) }
+    pub fn put(&mut self, key: K, value: Option<V>) -> Result<(), AllocError>
+        ensures ok { OnOk result (self.new.now ≡ with_some K.order key value self.old.now) }
         ensures err { OnErr result (self.new ≡ self.old) }
         ensures before { self.new.before ≡ self.old.before }
     {

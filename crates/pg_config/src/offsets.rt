@@ -1,18 +1,43 @@
 //! What was set for single glyphs of a horizontal or a vertical.
 
 ghost use Rattle.std.specs.Prelude.{◌≡◌, ◌<◌, option_map, OnOk, OnErr, IsOk, IsSome};
-ghost use Rattle.pg_config.specs.Offsets.{no_offsets, offset_at, with_offset, lookup_offset, is_offset_at, has_offsets};
+ghost use Rattle.pg_layout.specs.Places.{has_key};
+ghost use Rattle.pg_config.specs.Offsets.{glyph_at, by_glyph, of_place, no_offsets, offset_at, with_offset, lookup_offset, is_offset_at, has_offsets};
+ghost use Rattle.pg_config.specs.GlyphOrder.{glyph-order};
 
-use pg_layout::{Offset, Places, Position};
+use pg_layout::{Key, Offset, Places, Position};
 use std::alloc::{AllocError, Allocator, Global};
 use std::marker::Model;
+
+/// A glyph of a horizontal or a vertical: the place of the line, and the glyph's number there.
+#[derive(Debug, Clone, Copy, PartialEq, Eq, PartialOrd, Ord)]
+pub struct GlyphPlace {
+    pub pos: Position,
+    pub number: usize,
+}
+
+/// Place by place.
+impl Key for GlyphPlace {
+    ghost order = { by_glyph };
+
+    ghost orders = { glyph-order };
+}
+
+impl GlyphPlace {
+    #[inline(always)]
+    fn new(pos: Position, number: usize) -> GlyphPlace
+        ensures { result ≡ glyph_at pos number }
+    {
+        GlyphPlace { pos, number }
+    }
+}
 
 /// Values for glyphs of a horizontal or a vertical, by its place and the glyph's number from the
 /// start or from the end.
 #[derive(Debug, Drop)]
 pub struct Offsets<V, A: Allocator = Global> {
-    from_start: Places<V, A>,
-    from_end: Places<V, A>,
+    from_start: Places<GlyphPlace, V, A>,
+    from_end: Places<GlyphPlace, V, A>,
 }
 
 impl<V, A: Allocator> Model for Offsets<V, A> {
@@ -43,10 +68,10 @@ impl<V, A: Allocator> Offsets<V, A> {
         requires { i < w }
         ensures { option_map (λ x. x.now) result ≡ lookup_offset self.now pos i w }
     {
-        if let Some(value) = self.from_start.get((pos.row, pos.col, i)) {
+        if let Some(value) = self.from_start.get(GlyphPlace::new(pos, i)) {
             return Some(value);
         }
-        self.from_end.get((pos.row, pos.col, w - i - 1))
+        self.from_end.get(GlyphPlace::new(pos, w - i - 1))
     }
 
     /// Whether a glyph of this place has a value.
@@ -54,7 +79,7 @@ impl<V, A: Allocator> Offsets<V, A> {
     pub fn is_set_at(&self, pos: Position) -> bool
         ensures { result ≡ is_offset_at self.now pos }
     {
-        self.from_start.has_pair(pos.row, pos.col) || self.from_end.has_pair(pos.row, pos.col)
+        has_place(&self.from_start, pos) || has_place(&self.from_end, pos)
     }
 
     /// Whether some glyph has a value.
@@ -77,8 +102,20 @@ impl<V: Drop, A: Allocator> Offsets<V, A> {
         ensures again { IsSome (offset_at pos offset self.old) → IsOk result }
     {
         match offset {
-            Offset::Start(i) => self.from_start.set((pos.row, pos.col, i), value),
-            Offset::End(i) => self.from_end.set((pos.row, pos.col, i), value),
+            Offset::Start(i) => self.from_start.set(GlyphPlace::new(pos, i), value),
+            Offset::End(i) => self.from_end.set(GlyphPlace::new(pos, i), value),
         }
+    }
+}
+
+// Whether a glyph of this place has a value.
+#[inline(always)]
+fn has_place<V, A: Allocator>(glyphs: &Places<GlyphPlace, V, A>, pos: Position) -> bool
+    ensures { result ≡ has_key (of_place pos) glyphs.now }
+{
+    glyphs.stand_in_order();
+    match glyphs.first_key_from(GlyphPlace { pos, number: 0 }) {
+        Some(key) => key.pos == pos,
+        None => false,
     }
 }

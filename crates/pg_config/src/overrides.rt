@@ -1,10 +1,12 @@
 //! What was set for single places of the border lines.
 
 ghost use Rattle.std.specs.Prelude.{◌≡◌, ◌^◌, ◌<◌, option_map, OnOk, OnErr};
+ghost use Rattle.pg_layout.specs.Keys.{in_row, in_column};
+ghost use Rattle.pg_layout.specs.Places.{has_key};
 ghost use Rattle.pg_config.specs.Overrides.{no_overrides, with_border, with_row_line, horizontal_override, vertical_override, crossing_override, overrides_row, overrides_column, sets_rows, sets_columns};
 
 use crate::lines::Lines;
-use pg_layout::{Border, HorizontalLine, Position};
+use pg_layout::{Border, ColumnPlace, HorizontalLine, Places, Position};
 use std::alloc::{AllocError, Allocator, Global};
 use std::marker::Model;
 
@@ -42,7 +44,7 @@ impl<G, A: Allocator> Overrides<G, A> {
     pub fn horizontal(&self, pos: Position) -> Option<&G>
         ensures { option_map (λ x. x.now) result ≡ horizontal_override self.now pos }
     {
-        self.lines.horizontals.places().get((pos.row, pos.col, 0))
+        self.lines.horizontals.places().get(pos)
     }
 
     /// The value of a vertical.
@@ -50,7 +52,7 @@ impl<G, A: Allocator> Overrides<G, A> {
     pub fn vertical(&self, pos: Position) -> Option<&G>
         ensures { option_map (λ x. x.now) result ≡ vertical_override self.now pos }
     {
-        self.lines.verticals.places().get((pos.col, pos.row, 0))
+        self.lines.verticals.places().get(ColumnPlace::of(pos))
     }
 
     /// The value of a crossing.
@@ -58,7 +60,7 @@ impl<G, A: Allocator> Overrides<G, A> {
     pub fn crossing(&self, pos: Position) -> Option<&G>
         ensures { option_map (λ x. x.now) result ≡ crossing_override self.now pos }
     {
-        self.lines.crossings.places().get((pos.row, pos.col, 0))
+        self.lines.crossings.places().get(pos)
     }
 
     /// Whether a horizontal or a crossing has a value.
@@ -83,7 +85,7 @@ impl<G, A: Allocator> Overrides<G, A> {
         ensures { result ≡ overrides_row self.now row }
     {
         let lines = &self.lines;
-        lines.horizontals.places().has_first(row) || lines.crossings.places().has_first(row)
+        has_row(lines.horizontals.places(), row) || has_row(lines.crossings.places(), row)
     }
 
     /// Whether a vertical or a crossing of this column line has a value.
@@ -93,7 +95,7 @@ impl<G, A: Allocator> Overrides<G, A> {
         ensures { result ≡ overrides_column self.now column }
     {
         let lines = &self.lines;
-        lines.verticals.places().has_first(column) || lines.columns.places().has_first(column)
+        has_column(lines.verticals.places(), column) || lines.columns.places().get(column).is_some()
     }
 }
 
@@ -136,5 +138,29 @@ impl<A: Allocator + Clone> Overrides<char, A> {
         let done = self.lines.put_row_line(row, columns, line);
         self.lines.settle(done.is_ok());
         done
+    }
+}
+
+// Whether a place of this row has a value.
+#[inline(always)]
+fn has_row<G, A: Allocator>(places: &Places<Position, G, A>, row: usize) -> bool
+    ensures { result ≡ has_key (in_row row) places.now }
+{
+    places.stand_in_order();
+    match places.first_key_from(Position { row, col: 0 }) {
+        Some(key) => key.row == row,
+        None => false,
+    }
+}
+
+// Whether a place of this column has a value.
+#[inline(always)]
+fn has_column<G, A: Allocator>(places: &Places<ColumnPlace, G, A>, col: usize) -> bool
+    ensures { result ≡ has_key (in_column col) places.now }
+{
+    places.stand_in_order();
+    match places.first_key_from(ColumnPlace { col, row: 0 }) {
+        Some(key) => key.col == col,
+        None => false,
     }
 }

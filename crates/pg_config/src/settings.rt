@@ -15,9 +15,9 @@ use std::marker::Model;
 #[derive(Debug, Drop)]
 pub struct Settings<V, A: Allocator = Global> {
     base: Option<V>,
-    rows: Places<(usize, V), A>,
-    columns: Places<(usize, V), A>,
-    cells: Places<(usize, V), A>,
+    rows: Places<usize, (usize, V), A>,
+    columns: Places<usize, (usize, V), A>,
+    cells: Places<Position, (usize, V), A>,
     // The number of the next setting for a row, a column or a cell.
     next: usize,
 }
@@ -73,11 +73,8 @@ impl<V, A: Allocator> Settings<V, A> {
     fn find(&self, pos: Position) -> Option<&V>
         ensures { option_map (λ x. x.now) result ≡ setting_of self.now pos }
     {
-        let line = latest(
-            self.rows.get((pos.row, 0, 0)),
-            self.columns.get((pos.col, 0, 0)),
-        );
-        let cell = self.cells.get((pos.row, pos.col, 0));
+        let line = latest(self.rows.get(pos.row), self.columns.get(pos.col));
+        let cell = self.cells.get(pos);
         value_or(&self.base, latest(cell, line))
     }
 
@@ -118,27 +115,28 @@ impl<V: Drop, A: Allocator> Settings<V, A> {
                 self.next = 0;
                 Ok(())
             }
-            Entity::Row(row) => set_next(&mut self.rows, &mut self.next, (row, 0, 0), value),
-            Entity::Column(col) => set_next(&mut self.columns, &mut self.next, (col, 0, 0), value),
+            Entity::Row(row) => set_next(&mut self.rows, &mut self.next, row, value),
+            Entity::Column(col) => set_next(&mut self.columns, &mut self.next, col, value),
             Entity::Cell(row, col) => {
-                set_next(&mut self.cells, &mut self.next, (row, col, 0), value)
+                let pos = Position { row, col };
+                set_next(&mut self.cells, &mut self.next, pos, value)
             }
         }
     }
 }
 
 // Gives the key a value with the next number, and moves the number on.
-fn set_next<V: Drop, A: Allocator + Clone>(
-    places: &mut Places<(usize, V), A>,
+fn set_next<K: Key, V: Drop, A: Allocator + Clone>(
+    places: &mut Places<K, (usize, V), A>,
     next: &mut usize,
-    key: Key,
+    key: K,
     value: V,
 ) -> Result<(), AllocError>
-    ensures places { OnOk result (places.new ≡ with_place key (next.old, value) places.old) }
+    ensures places { OnOk result (places.new ≡ with_place K.order key (next.old, value) places.old) }
     ensures next { OnOk result (next.new ≡ suc next.old) }
     ensures same_places { OnErr result (places.new ≡ places.old) }
     ensures same_next { OnErr result (next.new ≡ next.old) }
-    ensures again { IsSome (value_at key places.old) → next.old < 2 ^ 64 - 1 → IsOk result }
+    ensures again { IsSome (value_at K.order key places.old) → next.old < 2 ^ 64 - 1 → IsOk result }
 {
     let number = *next;
     let Some(after) = number.checked_add(1) else {

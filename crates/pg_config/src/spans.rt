@@ -1,31 +1,41 @@
 //! The rectangles of cells that span rows or columns.
 
-ghost use Rattle.std.specs.Prelude.{◌≡◌, ◌==◌, ◌≤◌, true, ℕ, [], List, Some, length, OnOk, OnErr, IsOk, IsSome};
+ghost use Rattle.std.specs.Prelude.{◌≡◌, ◌==◌, ◌≤◌, false, [], List, Some, length, OnOk, OnErr, IsOk, IsSome};
 ghost use Rattle.std.specs.List.{list_any};
 ghost use Rattle.std.specs.Map.Iter.{ShowsInOrder, deref_pair};
-ghost use Rattle.pg_layout.specs.Places.{Key, IsAscending, value_at, before, between, last_before, next_from};
-ghost use Rattle.pg_config.specs.Spans.{Span, StandAtPlaces, span_key, size_of, with_size, with_column_span, with_row_span, has_column_spans, has_row_spans, in_span, if_left, left_span, is_covered_by_column, is_covered_by_row, is_covered_by_both, is_covered_from, is_covered_from_left};
+ghost use Rattle.pg_layout.specs.declared.position.ColumnPlace.{ColumnPlace};
+ghost use Rattle.pg_layout.specs.Keys.{by_columns, column_place};
+ghost use Rattle.pg_layout.specs.Places.{IsAscending, value_at, before, between, last_before, next_from};
+ghost use Rattle.pg_config.specs.declared.spans.SpanSize.{SpanSize};
+ghost use Rattle.pg_config.specs.Spans.{Span, span_size, size_of, with_size, with_column_span, with_row_span, has_column_spans, has_row_spans, in_span, if_left, left_span, is_covered_by_column, is_covered_by_row, is_covered_by_both, is_covered_from, is_covered_from_left};
 
-use pg_layout::{Key, Places, Position};
+use pg_layout::{ColumnPlace, Places, Position};
 use std::alloc::{AllocError, Allocator, Global};
 use std::collections::btree_map::Iter;
 use std::marker::Model;
 
-/// A cell with a span: its column, its row and 0, and how many rows and columns it takes.
-pub type Span = (Key, (usize, usize));
+/// How many rows and columns the rectangle of a cell with a span takes.
+#[derive(Debug, Clone, Copy, PartialEq, Eq)]
+pub struct SpanSize {
+    /// How many rows.
+    pub rows: usize,
+    /// How many columns.
+    pub columns: usize,
+}
+
+/// A cell with a span: its place, and the size of its rectangle.
+pub type Span = (ColumnPlace, SpanSize);
 
 /// The rectangles of the cells with a span, in the order of their columns and then rows.
 #[derive(Debug, Drop)]
 pub struct Spans<A: Allocator = Global> {
-    sizes: Places<(usize, usize), A>,
+    sizes: Places<ColumnPlace, SpanSize, A>,
 }
 
 impl<A: Allocator> Model for Spans<A> {
     ghost Value = { List Span };
 
     ghost view = { λ s. s.sizes };
-
-    ghost invariant = { λ s. StandAtPlaces s.sizes };
 }
 
 impl<A: Allocator> Spans<A> {
@@ -38,21 +48,19 @@ impl<A: Allocator> Spans<A> {
         }
     }
 
-    /// All rectangles, in their order: for each its key and its size.
-    pub fn iter(&self) -> Iter<'_, Key, (usize, usize)>
+    /// All rectangles, in their order: for each its place and its size.
+    pub fn iter(&self) -> Iter<'_, ColumnPlace, SpanSize>
         ensures all { result ≡ self.now }
-        ensures runs { ShowsInOrder (deref_pair {K = Key} {X = ℕ × ℕ}) }
-        ensures ascending { IsAscending self.now }
-        ensures places { StandAtPlaces self.now }
+        ensures runs { ShowsInOrder (deref_pair {K = ColumnPlace} {X = SpanSize}) }
+        ensures ascending { IsAscending by_columns self.now }
     {
         self.sizes.iter()
     }
 
-    // Tells a proof that the keys ascend and are those of places. It does nothing when it runs.
+    // Tells a proof that the places ascend. It does nothing when it runs.
     #[inline(always)]
     pub(crate) fn stand_in_order(&self)
-        ensures ascending { IsAscending self.now }
-        ensures places { StandAtPlaces self.now }
+        ensures { IsAscending by_columns self.now }
     {
         self.sizes.stand_in_order()
     }
@@ -67,45 +75,49 @@ impl<A: Allocator> Spans<A> {
 
     /// The first rectangle in their order that begins at this place or after it.
     pub fn next_from(&self, pos: Position) -> Option<Span>
-        ensures { result ≡ next_from (span_key pos) self.now }
+        ensures { result ≡ next_from by_columns (column_place pos) self.now }
     {
-        let (key, size) = self.sizes.next_from(key_of(pos))?;
-        Some((key, *size))
+        let (place, size) = self.sizes.next_from(ColumnPlace::of(pos))?;
+        Some((place, *size))
     }
 
     /// The last rectangle in their order that begins before this place.
     pub fn last_before(&self, pos: Position) -> Option<Span>
-        ensures { result ≡ last_before (span_key pos) self.now }
+        ensures { result ≡ last_before by_columns (column_place pos) self.now }
     {
-        let (key, size) = self.sizes.last_before(key_of(pos))?;
-        Some((key, *size))
+        let (place, size) = self.sizes.last_before(ColumnPlace::of(pos))?;
+        Some((place, *size))
     }
 
     /// How many rows and columns the rectangle of a place has.
     #[tactic(auto, unfolding(crate::specs::Spans::size_of))]
-    pub(crate) fn size(&self, pos: Position) -> (usize, usize)
+    pub(crate) fn size(&self, pos: Position) -> SpanSize
         ensures { result ≡ size_of self.now pos }
     {
-        match self.sizes.get(key_of(pos)) {
+        match self.sizes.get(ColumnPlace::of(pos)) {
             Some(size) => *size,
-            None => (1, 1),
+            None => SpanSize {
+                rows: 1,
+                columns: 1,
+            },
         }
     }
 
     #[tactic(auto, unfolding(crate::specs::Spans::with_size))]
-    fn set_size(&mut self, pos: Position, size: (usize, usize)) -> Result<(), AllocError>
+    fn set_size(&mut self, pos: Position, size: SpanSize) -> Result<(), AllocError>
     where
         A: Clone,
         ensures ok { OnOk result (self.new ≡ with_size pos size self.old) }
         ensures err { OnErr result (self.new ≡ self.old) }
-        ensures again { IsSome (value_at (span_key pos) self.old) → IsOk result }
-        ensures one { size ≡ (1, 1) → IsOk result }
+        ensures again { IsSome (value_at by_columns (column_place pos) self.old) → IsOk result }
+        ensures one { size ≡ span_size 1 1 → IsOk result }
     {
-        if size.0 == 1 && size.1 == 1 {
-            self.sizes.remove(key_of(pos));
+        let place = ColumnPlace::of(pos);
+        if size.rows == 1 && size.columns == 1 {
+            self.sizes.remove(place);
             return Ok(());
         }
-        self.sizes.set(key_of(pos), size)
+        self.sizes.set(place, size)
     }
 
     /// Makes the rectangle of a place so many columns wide. Where memory is refused, nothing changes.
@@ -115,11 +127,11 @@ impl<A: Allocator> Spans<A> {
         A: Clone,
         ensures ok { OnOk result (self.new ≡ with_column_span pos columns self.old) }
         ensures err { OnErr result (self.new ≡ self.old) }
-        ensures again { IsSome (value_at (span_key pos) self.old) → IsOk result }
+        ensures again { IsSome (value_at by_columns (column_place pos) self.old) → IsOk result }
         ensures one { columns ≡ 1 → IsOk result }
     {
-        let rows = self.size(pos).0;
-        self.set_size(pos, (rows, columns))
+        let rows = self.size(pos).rows;
+        self.set_size(pos, SpanSize { rows, columns })
     }
 
     /// Makes the rectangle of a place so many rows high. Where memory is refused, nothing changes.
@@ -129,11 +141,11 @@ impl<A: Allocator> Spans<A> {
         A: Clone,
         ensures ok { OnOk result (self.new ≡ with_row_span pos rows self.old) }
         ensures err { OnErr result (self.new ≡ self.old) }
-        ensures again { IsSome (value_at (span_key pos) self.old) → IsOk result }
+        ensures again { IsSome (value_at by_columns (column_place pos) self.old) → IsOk result }
         ensures one { rows ≡ 1 → IsOk result }
     {
-        let columns = self.size(pos).1;
-        self.set_size(pos, (rows, columns))
+        let columns = self.size(pos).columns;
+        self.set_size(pos, SpanSize { rows, columns })
     }
 
     /// Whether a span of columns is kept.
@@ -142,7 +154,7 @@ impl<A: Allocator> Spans<A> {
         ensures { result ≡ has_column_spans self.now }
     {
         let mut spans = self.sizes.iter();
-        spans.any(|(_, size)| size.1 != 1)
+        spans.any(|(_, size)| size.columns != 1)
     }
 
     /// Whether a span of rows is kept.
@@ -151,15 +163,15 @@ impl<A: Allocator> Spans<A> {
         ensures { result ≡ has_row_spans self.now }
     {
         let mut spans = self.sizes.iter();
-        spans.any(|(_, size)| size.0 != 1)
+        spans.any(|(_, size)| size.rows != 1)
     }
 
     /// The rectangle that holds a place and has its left column there, found by one search.
     pub(crate) fn left_span(&self, pos: Position) -> Option<Span>
         ensures { result ≡ left_span self.now pos.row pos.col }
     {
-        let (key, size) = self.sizes.last_up_to(key_of(pos))?;
-        if_left(pos, (key, *size))
+        let (place, size) = self.sizes.last_up_to(ColumnPlace::of(pos))?;
+        if_left(pos, (place, *size))
     }
 
     /// Whether a rectangle that begins in the same row covers the place. Looks once into each column
@@ -200,7 +212,7 @@ impl<A: Allocator> Spans<A> {
             row: 0,
             col: column,
         }) {
-            column = span.0.0;
+            column = span.0.col;
             if self.is_covered_from(pos, column, first, last) {
                 return true;
             }
@@ -213,32 +225,32 @@ impl<A: Allocator> Spans<A> {
         requires { first ≤ last }
         ensures { result ≡ is_covered_from self.now pos column first last }
     {
-        // Shows that they stand at places.
-        let _rectangles = self.iter();
-        self.is_covered_between(pos, (column, first, 0), (column, last, 1))
+        let from = ColumnPlace {
+            col: column,
+            row: first,
+        };
+        let to = ColumnPlace {
+            col: column,
+            row: last,
+        };
+        self.is_covered_between(pos, from, to)
     }
 
-    // The same of those from one key on and before another.
-    fn is_covered_between(&self, pos: Position, from: Key, to: Key) -> bool
-        requires { before from to ≡ true }
-        ensures { result ≡ list_any (in_span pos.row pos.col) (between from to self.now) }
+    // The same of those from one place on and up to another.
+    fn is_covered_between(&self, pos: Position, from: ColumnPlace, to: ColumnPlace) -> bool
+        requires { before by_columns to from ≡ false }
+        ensures { result ≡ list_any (in_span pos.row pos.col) (between by_columns from to self.now) }
     {
         let mut spans = self.sizes.between(from, to);
-        spans.any(|(key, size)| in_span(pos, (*key, *size)))
+        spans.any(|(place, size)| in_span(pos, (*place, *size)))
     }
-}
-
-fn key_of(pos: Position) -> Key
-    ensures { result ≡ (pos.col, pos.row, 0) }
-{
-    (pos.col, pos.row, 0)
 }
 
 // The rectangle, if it holds the place and has its left column there.
 fn if_left(pos: Position, span: Span) -> Option<Span>
     ensures { result ≡ if_left pos.row pos.col (Some span) }
 {
-    let begins_here = span.0.0 == pos.col;
+    let begins_here = span.0.col == pos.col;
     if begins_here && in_span(pos, span) {
         Some(span)
     } else {
@@ -250,8 +262,9 @@ fn if_left(pos: Position, span: Span) -> Option<Span>
 fn in_span(pos: Position, span: Span) -> bool
     ensures { result ≡ in_span pos.row pos.col span }
 {
-    span.0.1 <= pos.row
-        && pos.row - span.0.1 < span.1.0
-        && span.0.0 <= pos.col
-        && pos.col - span.0.0 < span.1.1
+    let (place, size) = span;
+    place.row <= pos.row
+        && pos.row - place.row < size.rows
+        && place.col <= pos.col
+        && pos.col - place.col < size.columns
 }

@@ -8,7 +8,6 @@ use Rattle.pg_layout.specs.Position.{at}
 use Rattle.pg_layout.specs.Records.{AlwaysGives, text_at}
 use Rattle.pg_layout.specs.Text.{Text}
 use Rattle.pg_config.specs.Config.{Config}
-use Rattle.pg_config.specs.Spans.{StandAtPlaces}
 use Rattle.pg_picture.specs.Fitting.{TableFits}
 use Rattle.pg_picture.specs.Fits.{misfit_of}
 use Rattle.pg_picture.specs.Picture.{picture}
@@ -39,17 +38,17 @@ texts-are texts columns even =
     ∙ at-places (λ c. slice_index_or row c []) 0 row [] (λ c l. ap (λ k. slice_index_or row k []) (zero-add c)))
 
 -- the printer of a table that fits, and its rows, a first one and those behind it
-module _ (t : Table) (hint : Option ℕ) (exact : IfSome hint (λ n. n ≡ t.rows)) (places : StandAtPlaces t.config.spans) (none : misfit_of t ≡ None) (texts : List (List Text)) (are : texts_of t ≡ texts) (some : 0 < t.rows) (wide : 0 < t.columns) where
+module _ (t : Table) (hint : Option ℕ) (exact : IfSome hint (λ n. n ≡ t.rows)) (none : misfit_of t ≡ None) (texts : List (List Text)) (are : texts_of t ≡ texts) (some : 0 < t.rows) (wide : 0 < t.columns) where
   pub printer-fits : PrinterFits (printer t.config t.columns t.width t.height t.color hint)
-  printer-fits = (may-be-printed t hint exact places none some wide).0
+  printer-fits = (may-be-printed t hint exact none some wide).0
 
   pub rows-fit : (s : Printing) → s ≡ printer t.config t.columns t.width t.height t.color hint → RowsFit s texts
-  rows-fit s is = subst (λ (q : Printing). RowsFit q texts) (sym is) (subst (λ (rows : List (List Text)). RowsFit (printer t.config t.columns t.width t.height t.color hint) rows) are (may-be-printed t hint exact places none some wide).1)
+  rows-fit s is = subst (λ (q : Printing). RowsFit q texts) (sym is) (subst (λ (rows : List (List Text)). RowsFit (printer t.config t.columns t.width t.height t.color hint) rows) are (may-be-printed t hint exact none some wide).1)
 
   pub rows-picture : (s : Printing) → s ≡ printer t.config t.columns t.width t.height t.color hint → rows_text s texts ≡ picture (hint_of hint) t
   rows-picture s is =
       let fit : TableFits t = fits t none some wide in
-      ap (λ (q : Printing). rows_text q texts) is ∙ ap (λ (rows : List (List Text)). rows_text (printer t.config t.columns t.width t.height t.color hint) rows) (sym are) ∙ rows-make t hint exact places fit.spans some wide
+      ap (λ (q : Printing). rows_text q texts) is ∙ ap (λ (rows : List (List Text)). rows_text (printer t.config t.columns t.width t.height t.color hint) rows) (sym are) ∙ rows-make t hint exact fit.spans some wide
 
 -- Records of a table that fits gave a first row: the table may be printed by a printer of as many columns as were counted, and that row and
 -- those behind it may be printed and make the picture.
@@ -72,20 +71,20 @@ module _ {S A : Type 0} (is_row : A → List Text → Type 0) (steps : S → Opt
         let some : 0 < length texts = omega (arith, ap (λ (rows : List (List Text)). length rows) (next-row is_row steps s row rows texts gives step).all) in
         grind (arith, nat_tests, some, wide)
 
-    pub begun : (hint : Option ℕ) → IfSome hint (λ n. n ≡ length texts) → StandAtPlaces config.spans → misfit_of read ≡ None
+    pub begun : (hint : Option ℕ) → IfSome hint (λ n. n ≡ length texts) → misfit_of read ≡ None
         → (count : ℕ) → count ≡ columns → 0 < count → All (λ (row : List Text). length row ≡ count) texts
         → (s : S) (row : A) (rows : S) → AlwaysGives is_row steps s texts → steps s (Some row) rows → Begun read hint count row rows
-    begun hint exact places none count value wide even s row rows gives step =
+    begun hint exact none count value wide even s row rows gives step =
         let next = next-row is_row steps s row rows texts gives step in
         let some : 0 < length texts = omega (arith, ap (λ (rows : List (List Text)). length rows) next.all) in
         let has : 0 < columns = omega (arith, value, wide) in
         let are = texts-are texts columns (subst (λ (n : ℕ). All (λ (row : List Text). length row ≡ n) texts) value even) in
         let same = ap (λ n. printer config n width height color hint) value in
         record {
-          printer_fits = rw value (printer-fits read hint exact places none texts are some has);
+          printer_fits = rw value (printer-fits read hint exact none texts are some has);
           cells = next.cells;
           others = next.others;
           from = next.from;
-          rows_fit = λ p is. subst (λ (rows : List (List Text)). RowsFit p rows) next.all (rows-fit read hint exact places none texts are some has p (is ∙ same));
-          rows_picture = λ p is. ap (λ (rows : List (List Text)). rows_text p rows) (sym next.all) ∙ rows-picture read hint exact places none texts are some has p (is ∙ same);
+          rows_fit = λ p is. subst (λ (rows : List (List Text)). RowsFit p rows) next.all (rows-fit read hint exact none texts are some has p (is ∙ same));
+          rows_picture = λ p is. ap (λ (rows : List (List Text)). rows_text p rows) (sym next.all) ∙ rows-picture read hint exact none texts are some has p (is ∙ same);
         }

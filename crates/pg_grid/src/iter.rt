@@ -85,8 +85,6 @@ where
             dimension,
             colors,
         } = self;
-        // Shows that the spans stand in order.
-        let _spans = config.spans();
         let columns = records.count_columns();
         let hint = records.hint_count_rows();
         let mut rows = records.iter_rows();

@@ -4,30 +4,32 @@ use Rattle.std.specs.Prelude.{is_some}
 use Rattle.std.specs.Option.{option_or}
 use Rattle.std.proofs.lemmas.Bool.{cases_Bool, and_parts}
 use Rattle.std.proofs.lemmas.Bool.Decides.{nat_tests}
+use Rattle.pg_layout.proofs.KeyOrders.{columns-laws, place-laws, IsOrder}
+use Rattle.pg_layout.specs.declared.position.ColumnPlace.{ColumnPlace}
 use Rattle.pg_layout.specs.declared.borders.Border.{Border}
 use Rattle.pg_layout.specs.declared.position.Position.{Position}
 use Rattle.pg_layout.specs.Borders.{horizontal_glyph, vertical_glyph, crossing_glyph}
-use Rattle.pg_layout.specs.Places.{Key, same, value_at, with_some, has_first}
-use Rattle.pg_layout.specs.Position.{is_at}
-use Rattle.pg_config.specs.Overrides.{Overrides, with_border, has_second, horizontal_override, vertical_override, crossing_override, overrides_row, overrides_column}
+use Rattle.pg_layout.specs.Keys.{Order, by_columns, by_place, column_place, in_row, in_column}
+use Rattle.pg_layout.specs.Places.{same, value_at, with_some, has_key}
+use Rattle.pg_layout.specs.Position.{is_at, at}
+use Rattle.pg_config.specs.Overrides.{Overrides, with_border, has_crossing, horizontal_override, vertical_override, crossing_override, overrides_row, overrides_column}
 use Rattle.pg_config.specs.Config.{Config, missing_if, has_horizontal, has_vertical, get_horizontal, get_vertical, get_intersection, get_horizontal_color, get_vertical_color, get_intersection_color}
 use Rattle.pg_config.proofs.Lookups.{or_swap, value_at-with_some, any-with_some}
 use Rattle.pg_laws.specs.SettingLaws.{border_horizontal, border_vertical, border_crossing, border_row, border_column, ABorderOverridesItsPlaces, ABorderIsAnswered, ABorderOfColorsIsAnswered}
 
 -- ---- overrides
 
-module _ {V : Type 0} where
-  -- the test of a key is that of a place
-  with_some-is : (q k : Key) (here : Bool) (v : Option V) (es : List (Key × V)) → same k q ≡ here → value_at q (with_some k v es) ≡ option_or (if here then v else None) (value_at q es)
-  with_some-is q k true v es is = value_at-with_some q k v es ∙ rw is refl
-  with_some-is q k false v es is = value_at-with_some q k v es ∙ rw is refl
+-- the test of a key is that of a place
+with_some-is : {K V : Type 0} {order : Order K} (is : IsOrder order) (q k : K) (here : Bool) (v : Option V) (es : List (K × V)) → same order k q ≡ here → value_at order q (with_some order k v es) ≡ option_or (if here then v else None) (value_at order q es)
+with_some-is is q k true v es at_it = value_at-with_some is q k v es ∙ rw at_it refl
+with_some-is is q k false v es at_it = value_at-with_some is q k v es ∙ rw at_it refl
 
 -- the tests of a place and of its key
-at-key : (q : Position) (r c : ℕ) → same (r, c, 0) (q.row, q.col, 0) ≡ is_at q r c
+at-key : (q : Position) (r c : ℕ) → same by_place (at r c) q ≡ is_at q r c
 at-key q r c = elim (cases_Bool (is_at q r c)) [ inl y ↦ grind (arith, nat_tests, y) | inr n ↦ grind (arith, nat_tests, n) ]
 
 -- that of a vertical stands by column and row
-at-turned : (q : Position) (r c : ℕ) → same (c, r, 0) (q.col, q.row, 0) ≡ is_at q r c
+at-turned : (q : Position) (r c : ℕ) → same by_columns (column_place (at r c)) (column_place q) ≡ is_at q r c
 at-turned q r c = elim (cases_Bool (is_at q r c)) [ inl y ↦ grind (arith, nat_tests, y) | inr n ↦ grind (arith, nat_tests, n) ]
 
 -- the latest of some values counts, and at most one of them has the place
@@ -47,27 +49,27 @@ module _ {G : Type 0} (p : Position) (b : Border G) (o : Overrides G) (q : Posit
   border_overrides-horizontal : horizontal_override (with_border p b o) q ≡ option_or (border_horizontal p b q) (horizontal_override o q)
   unfolding horizontal_override with_border
   border_overrides-horizontal =
-      with_some-is _ _ _ b.bottom _ (at-key q (p.row + 1) p.col)
-      ∙ ap (λ old. option_or (if is_at q (p.row + 1) p.col then b.bottom else None) old) (with_some-is _ _ _ b.top o.horizontals (at-key q p.row p.col))
+      with_some-is place-laws _ _ _ b.bottom _ (at-key q (p.row + 1) p.col)
+      ∙ ap (λ old. option_or (if is_at q (p.row + 1) p.col then b.bottom else None) old) (with_some-is place-laws _ _ _ b.top o.horizontals (at-key q p.row p.col))
       ∙ two _ (is_at q p.row p.col) (is_at q (p.row + 1) p.col) b.top b.bottom (grind (arith, nat_tests))
 
   border_overrides-vertical : vertical_override (with_border p b o) q ≡ option_or (border_vertical p b q) (vertical_override o q)
   unfolding vertical_override with_border
   border_overrides-vertical =
-      with_some-is _ _ _ b.right _ (at-turned q p.row (p.col + 1))
-      ∙ ap (λ old. option_or (if is_at q p.row (p.col + 1) then b.right else None) old) (with_some-is _ _ _ b.left o.verticals (at-turned q p.row p.col))
+      with_some-is columns-laws _ _ _ b.right _ (at-turned q p.row (p.col + 1))
+      ∙ ap (λ old. option_or (if is_at q p.row (p.col + 1) then b.right else None) old) (with_some-is columns-laws _ _ _ b.left o.verticals (at-turned q p.row p.col))
       ∙ two _ (is_at q p.row p.col) (is_at q p.row (p.col + 1)) b.left b.right (grind (arith, nat_tests))
 
   border_overrides-crossing : crossing_override (with_border p b o) q ≡ option_or (border_crossing p b q) (crossing_override o q)
   unfolding crossing_override with_border
   border_overrides-crossing =
-      with_some-is _ _ _ b.bottom_right _ (at-key q (p.row + 1) (p.col + 1))
+      with_some-is place-laws _ _ _ b.bottom_right _ (at-key q (p.row + 1) (p.col + 1))
       ∙ ap (λ old. option_or (if is_at q (p.row + 1) (p.col + 1) then b.bottom_right else None) old)
-      (with_some-is _ _ _ b.bottom_left _ (at-key q (p.row + 1) p.col)
+      (with_some-is place-laws _ _ _ b.bottom_left _ (at-key q (p.row + 1) p.col)
       ∙ ap (λ old. option_or (if is_at q (p.row + 1) p.col then b.bottom_left else None) old)
-      (with_some-is _ _ _ b.top_right _ (at-key q p.row (p.col + 1))
+      (with_some-is place-laws _ _ _ b.top_right _ (at-key q p.row (p.col + 1))
       ∙ ap (λ old. option_or (if is_at q p.row (p.col + 1) then b.top_right else None) old)
-      (with_some-is _ _ _ b.top_left o.crossings (at-key q p.row p.col))))
+      (with_some-is place-laws _ _ _ b.top_left o.crossings (at-key q p.row p.col))))
       ∙ four _ (is_at q p.row p.col) (is_at q p.row (p.col + 1)) (is_at q (p.row + 1) p.col) (is_at q (p.row + 1) (p.col + 1)) b.top_left b.top_right b.bottom_left b.bottom_right (grind (arith, nat_tests)) (grind (arith, nat_tests)) (grind (arith, nat_tests)) (grind (arith, nat_tests)) (grind (arith, nat_tests)) (grind (arith, nat_tests))
 
 pub border_overrides : {G : Type 0} → ABorderOverridesItsPlaces G
@@ -96,23 +98,23 @@ module _ {G : Type 0} (p : Position) (b : Border G) (o : Overrides G) where
   row-said : (r : ℕ) → overrides_row (with_border p b o) r ≡ (border_row p b r || overrides_row o r)
   unfolding overrides_row with_border
   row-said r =
-      rw (row-some (p.row + 1) p.col b.bottom (with_some (p.row, p.col, 0) b.top o.horizontals), row-some p.row p.col b.top o.horizontals, row-some (p.row + 1) (p.col + 1) b.bottom_right (with_some (p.row + 1, p.col, 0) b.bottom_left (with_some (p.row, p.col + 1, 0) b.top_right (with_some (p.row, p.col, 0) b.top_left o.crossings))), row-some (p.row + 1) p.col b.bottom_left (with_some (p.row, p.col + 1, 0) b.top_right (with_some (p.row, p.col, 0) b.top_left o.crossings)), row-some p.row (p.col + 1) b.top_right (with_some (p.row, p.col, 0) b.top_left o.crossings), row-some p.row p.col b.top_left o.crossings)
-      (row-shuffle (p.row == r) (p.row + 1 == r) (is_some b.top) (is_some b.bottom) (is_some b.top_left) (is_some b.top_right) (is_some b.bottom_left) (is_some b.bottom_right) (has_first r o.horizontals) (has_first r o.crossings) (grind (arith, nat_tests)))
+      rw (row-some (p.row + 1) p.col b.bottom (with_some by_place p b.top o.horizontals), row-some p.row p.col b.top o.horizontals, row-some (p.row + 1) (p.col + 1) b.bottom_right (with_some by_place (at (p.row + 1) p.col) b.bottom_left (with_some by_place (at p.row (p.col + 1)) b.top_right (with_some by_place p b.top_left o.crossings))), row-some (p.row + 1) p.col b.bottom_left (with_some by_place (at p.row (p.col + 1)) b.top_right (with_some by_place p b.top_left o.crossings)), row-some p.row (p.col + 1) b.top_right (with_some by_place p b.top_left o.crossings), row-some p.row p.col b.top_left o.crossings)
+      (row-shuffle (p.row == r) (p.row + 1 == r) (is_some b.top) (is_some b.bottom) (is_some b.top_left) (is_some b.top_right) (is_some b.bottom_left) (is_some b.bottom_right) (has_key (in_row r) o.horizontals) (has_key (in_row r) o.crossings) (grind (arith, nat_tests)))
     where
-      row-some : (a c : ℕ) (v : Option G) (es : List (Key × G)) → has_first r (with_some (a, c, 0) v es) ≡ (((a == r) && is_some v) || has_first r es)
-      row-some a c v es = any-with_some (λ k. k.0 == r) (a, c, 0) v es (λ k h. grind (arith, nat_tests, h))
+      row-some : (a c : ℕ) (v : Option G) (es : List (Position × G)) → has_key (in_row r) (with_some by_place (at a c) v es) ≡ (((a == r) && is_some v) || has_key (in_row r) es)
+      row-some a c v es = any-with_some place-laws (in_row r) (at a c) v es
 
   column-said : (c : ℕ) → overrides_column (with_border p b o) c ≡ (border_column p b c || overrides_column o c)
   unfolding overrides_column with_border
   column-said c =
-      rw (first-some (p.col + 1) p.row b.right (with_some (p.col, p.row, 0) b.left o.verticals), first-some p.col p.row b.left o.verticals, second-some (p.row + 1) (p.col + 1) b.bottom_right (with_some (p.row + 1, p.col, 0) b.bottom_left (with_some (p.row, p.col + 1, 0) b.top_right (with_some (p.row, p.col, 0) b.top_left o.crossings))), second-some (p.row + 1) p.col b.bottom_left (with_some (p.row, p.col + 1, 0) b.top_right (with_some (p.row, p.col, 0) b.top_left o.crossings)), second-some p.row (p.col + 1) b.top_right (with_some (p.row, p.col, 0) b.top_left o.crossings), second-some p.row p.col b.top_left o.crossings)
-      (column-shuffle (p.col == c) (p.col + 1 == c) (is_some b.left) (is_some b.right) (is_some b.top_left) (is_some b.top_right) (is_some b.bottom_left) (is_some b.bottom_right) (has_first c o.verticals) (has_second c o.crossings) (grind (arith, nat_tests)))
+      rw (first-some (p.col + 1) p.row b.right (with_some by_columns (column_place p) b.left o.verticals), first-some p.col p.row b.left o.verticals, second-some (p.row + 1) (p.col + 1) b.bottom_right (with_some by_place (at (p.row + 1) p.col) b.bottom_left (with_some by_place (at p.row (p.col + 1)) b.top_right (with_some by_place p b.top_left o.crossings))), second-some (p.row + 1) p.col b.bottom_left (with_some by_place (at p.row (p.col + 1)) b.top_right (with_some by_place p b.top_left o.crossings)), second-some p.row (p.col + 1) b.top_right (with_some by_place p b.top_left o.crossings), second-some p.row p.col b.top_left o.crossings)
+      (column-shuffle (p.col == c) (p.col + 1 == c) (is_some b.left) (is_some b.right) (is_some b.top_left) (is_some b.top_right) (is_some b.bottom_left) (is_some b.bottom_right) (has_key (in_column c) o.verticals) (has_crossing c o.crossings) (grind (arith, nat_tests)))
     where
-      first-some : (a d : ℕ) (v : Option G) (es : List (Key × G)) → has_first c (with_some (a, d, 0) v es) ≡ (((a == c) && is_some v) || has_first c es)
-      first-some a d v es = any-with_some (λ k. k.0 == c) (a, d, 0) v es (λ k h. grind (arith, nat_tests, h))
+      first-some : (a d : ℕ) (v : Option G) (es : List (ColumnPlace × G)) → has_key (in_column c) (with_some by_columns (column_place (at d a)) v es) ≡ (((a == c) && is_some v) || has_key (in_column c) es)
+      first-some a d v es = any-with_some columns-laws (in_column c) (column_place (at d a)) v es
 
-      second-some : (a d : ℕ) (v : Option G) (es : List (Key × G)) → has_second c (with_some (a, d, 0) v es) ≡ (((d == c) && is_some v) || has_second c es)
-      second-some a d v es = any-with_some (λ k. k.1 == c) (a, d, 0) v es (λ k h. grind (arith, nat_tests, h))
+      second-some : (a d : ℕ) (v : Option G) (es : List (Position × G)) → has_crossing c (with_some by_place (at a d) v es) ≡ (((d == c) && is_some v) || has_crossing c es)
+      second-some a d v es = any-with_some place-laws (λ p. p.col == c) (at a d) v es
 
 -- ---- glyphs
 

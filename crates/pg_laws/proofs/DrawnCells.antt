@@ -102,8 +102,8 @@ module _ (t : Table) (owners : HasOwners t.config.spans) (p : Position) (own : o
 
 pub shown_cells_are_drawn : ShownCellsAreDrawn
 unfolding rect_marks marks_within
-shown_cells_are_drawn t places fit p o =
-    let owners : HasOwners t.config.spans = owners_of t.config.spans (apart_from t.config.spans t.columns (fits-columns t.config.spans t.rows t.columns fit) places) in
+shown_cells_are_drawn t fit p o =
+    let owners : HasOwners t.config.spans = owners_of t.config.spans (apart_from t.config.spans t.columns (fits-columns t.config.spans t.rows t.columns fit)) in
     let inside = rect_inside t.config.spans t.rows t.columns p fit o.row o.column in
     let test : Mark → Bool = stands_within p.row (p.row + rect_rows t.config.spans p) in
     let one : (mark : Mark) → test mark ≡ true → IsDrawn t p mark = drawn t owners p (is_at-same (owner t.config.spans p.row p.col) p o.own) inside in

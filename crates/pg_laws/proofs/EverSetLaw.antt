@@ -4,39 +4,41 @@ use Rattle.std.specs.Prelude.{is_some}
 use Rattle.std.specs.List.{fold, list_any}
 use Rattle.std.proofs.Math.Bool.{or_assoc, or-true}
 use Rattle.std.proofs.lemmas.Bool.{cases_Bool}
+use Rattle.pg_layout.specs.Position.{at}
 use Rattle.pg_layout.specs.declared.position.Entity.{Entity}
 use Rattle.pg_layout.specs.declared.position.Entity.TheVariants.{Global, Row, Column, Cell}
 use Rattle.pg_layout.specs.declared.position.Position.{Position}
 use Rattle.pg_layout.specs.declared.sides.Offset.{Offset}
 use Rattle.pg_layout.specs.declared.sides.Offset.TheVariants.{Start, End}
-use Rattle.pg_layout.specs.Places.{Key, same, before, with_place}
+use Rattle.pg_layout.specs.Keys.{Order, by_place, by_number}
+use Rattle.pg_layout.specs.Places.{same, before, with_place}
 use Rattle.pg_config.specs.Settings.{Settings, has_some, next_number, with_setting, is_set}
-use Rattle.pg_config.specs.Offsets.{Offsets, with_offset, has_offsets}
+use Rattle.pg_config.specs.Offsets.{Offsets, by_glyph, glyph_at, with_offset, has_offsets}
 use Rattle.pg_config.specs.Config.{Config, default_config, has_padding_color, has_justification, has_offset_chars}
 use Rattle.pg_config.proofs.Lookups.{or_swap}
 use Rattle.pg_laws.specs.Setters.{Setter, set_padding_color, set_justification, set_justification_color, set_borders_color, set_border_color, set_horizontal_char, set_horizontal_color, set_vertical_char, set_vertical_color, after}
 use Rattle.pg_laws.specs.SettingLaws.{sets_padding_color, sets_justification, sets_offset, sets_border_color, WhatWasSetIsTold, NothingWasSetAtFirst}
 
-some-with_place : {V : Type 0} (k : Key) (v : V) (es : List (Key × V)) → has_some (with_place k v es) ≡ true
-some-with_place k v [] = refl
-some-with_place k v (e ∷ es) =
-    elim (cases_Bool (before e.0 k)) [
+some-with_place : {K V : Type 0} (order : Order K) (k : K) (v : V) (es : List (K × V)) → has_some (with_place order k v es) ≡ true
+some-with_place order k v [] = refl
+some-with_place order k v (e ∷ es) =
+    elim (cases_Bool (before order e.0 k)) [
       | inl y ↦ rw y refl
-      | inr n ↦ elim (cases_Bool (same e.0 k)) [ inl s ↦ rw (n, s) refl | inr o ↦ rw (n, o) refl ]
+      | inr n ↦ elim (cases_Bool (same order e.0 k)) [ inl s ↦ rw (n, s) refl | inr o ↦ rw (n, o) refl ]
     ]
 
 module _ {V : Type 0} where
   set-is : (entity : Entity) (v : V) (s : Settings V) → is_set (with_setting entity v s) ≡ true
   unfolding is_set with_setting
   set-is Global v s = refl
-  set-is (Row r) v s = let some = some-with_place (r, 0, 0) (next_number s, v) s.rows in rw some (or-true (is_some s.base || has_some s.cells))
-  set-is (Column c) v s = let some = some-with_place (c, 0, 0) (next_number s, v) s.columns in rw (some, or-true (has_some s.rows)) (or-true (is_some s.base || has_some s.cells))
-  set-is (Cell r c) v s = let some = some-with_place (r, c, 0) (next_number s, v) s.cells in rw (some, or-true (is_some s.base)) refl
+  set-is (Row r) v s = let some = some-with_place by_number r (next_number s, v) s.rows in rw some (or-true (is_some s.base || has_some s.cells))
+  set-is (Column c) v s = let some = some-with_place by_number c (next_number s, v) s.columns in rw (some, or-true (has_some s.rows)) (or-true (is_some s.base || has_some s.cells))
+  set-is (Cell r c) v s = let some = some-with_place by_place (at r c) (next_number s, v) s.cells in rw (some, or-true (is_some s.base)) refl
 
   offset-is : (p : Position) (offset : Offset) (v : V) (o : Offsets V) → has_offsets (with_offset p offset v o) ≡ true
   unfolding has_offsets with_offset
-  offset-is p (Start i) v o = rw (some-with_place (p.row, p.col, i) v o.from_start) refl
-  offset-is p (End i) v o = rw (some-with_place (p.row, p.col, i) v o.from_end) (or-true (has_some o.from_start))
+  offset-is p (Start i) v o = rw (some-with_place by_glyph (glyph_at p i) v o.from_start) refl
+  offset-is p (End i) v o = rw (some-with_place by_glyph (glyph_at p i) v o.from_end) (or-true (has_some o.from_start))
 
 -- ---- one setter
 

@@ -9,7 +9,7 @@ use Rattle.pg_picture.specs.declared.fits.Misfit.{Misfit}
 use Rattle.pg_picture.specs.declared.fits.Misfit.TheVariants.{Spans, Totals, Room}
 use Rattle.pg_picture.specs.Table.{Table, rect_marks, rect_height, rect_width, total_width, full_width}
 use Rattle.pg_picture.specs.Fits.{spans_fit, body_height, totals_fit, owner_fits, places, misfit_of}
-use Rattle.pg_picture.specs.Sizes.{first_misfit}
+use Rattle.pg_picture.specs.Inside.Walks.{first_misfit}
 use Rattle.pg_picture.proofs.Rooms.{misfit_here, misfit_later, misfit_after, misfit_before, none_in_row, fits}
 use Rattle.pg_laws.specs.Laws.{Tells, MisfitsAreFirst}
 use Rattle.pg_laws.specs.FitLaws.{ColorsDontMatter}

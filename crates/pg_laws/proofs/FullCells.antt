@@ -6,15 +6,17 @@ use Rattle.std.specs.List.{list_any}
 use Rattle.std.proofs.lemmas.List.Elements.{All-weaker}
 use Rattle.std.proofs.lemmas.Bool.{cases_Bool, and_parts, or_parts}
 use Rattle.std.proofs.lemmas.Bool.Decides.{nat_tests}
+use Rattle.pg_layout.specs.declared.position.ColumnPlace.{ColumnPlace}
+use Rattle.pg_layout.specs.Keys.{by_columns, column_place}
 use Rattle.pg_layout.specs.declared.position.Position.{Position}
 use Rattle.pg_layout.specs.declared.alignment.AlignmentVertical.{AlignmentVertical}
-use Rattle.pg_layout.specs.Places.{Key, same, value_at}
+use Rattle.pg_layout.specs.Places.{same, value_at}
 use Rattle.pg_layout.specs.Position.{at}
 use Rattle.pg_layout.specs.Colors.{Color}
 use Rattle.pg_layout.specs.Text.{Text}
 use Rattle.pg_config.specs.Settings.{Settings}
 use Rattle.pg_config.specs.Config.{has_horizontal, has_vertical, count_vertical, get_horizontal, get_vertical, get_intersection, get_horizontal_color, get_vertical_color, get_intersection_color, get_padding, get_padding_color, get_alignment_horizontal, get_alignment_vertical, get_formatting, get_justification, get_justification_color}
-use Rattle.pg_config.specs.Spans.{Span, span_key, in_span, has_row_spans, size_of, owner, rect_rows, is_left, begins_above}
+use Rattle.pg_config.specs.Spans.{Span, in_span, has_row_spans, size_of, owner, rect_rows, is_left, begins_above, span_size}
 use Rattle.pg_picture.specs.Marks.{Mark, sep, line, only_if, body, marks_within, stands_within, place_of}
 use Rattle.pg_picture.specs.Pieces.{Style, style_at, Piece, written, separator_text, block, shown, lines_above, inner_width, left_share, text_line, text_height, text_top, block_line}
 use Rattle.pg_picture.specs.Table.{Table, Hint, rect_marks, rect_height, rect_width, block_at, is_inside, vertical_at, row_part, row_line, is_covered, crossing_at, crossing, column_items, separator_part, separator_items, total_width, full_width, side_margin, margin_lines, mark_text, body_line, table_body}
@@ -135,19 +137,19 @@ full_cells_ignore_alignment hint t down full = picture-aligned down t full hint
 -- ---- rows of one line
 
 -- without row spans a rectangle has one row
-one_row : (spans : List Span) (k : Key) → has_row_spans spans ≡ false → (unwrap_or (value_at k spans) (1, 1)).0 ≡ 1
+one_row : (spans : List Span) (k : ColumnPlace) → has_row_spans spans ≡ false → (unwrap_or (value_at by_columns k spans) (span_size 1 1)).rows ≡ 1
 unfolding has_row_spans
 one_row [] k none = refl
 one_row (s ∷ ss) k none =
-    let parts = or_parts (not (s.1.0 == 1)) (list_any (λ (u : Span). not (u.1.0 == 1)) ss) none in
-    elim (cases_Bool (same s.0 k)) [ inl y ↦ rw y (grind (arith, nat_tests, parts.0)) | inr n ↦ rw n (one_row ss k parts.1) ]
+    let parts = or_parts (not (s.1.rows == 1)) (list_any (λ (u : Span). not (u.1.rows == 1)) ss) none in
+    elim (cases_Bool (same by_columns s.0 k)) [ inl y ↦ rw y (grind (arith, nat_tests, parts.0)) | inr n ↦ rw n (one_row ss k parts.1) ]
 
 single_lines-full : (t : Table) → HasSingleLines t → (r c : ℕ) → r < t.rows → c < t.columns → IsFull t (at r c)
 unfolding rect_rows size_of
 single_lines-full t single r c h k =
     omega (
       arith,
-      rect_height-one_row t (at r c) (one_row t.config.spans (span_key (at r c)) single.spans) h,
+      rect_height-one_row t (at r c) (one_row t.config.spans (column_place (at r c)) single.spans) h,
       single.heights r h,
       length-shown (get_formatting t.config (at r c)) (t.text (at r c)) (single.trims r c h k),
       single.texts r c h k,

@@ -3,26 +3,30 @@ use Rattle.std.proofs.Common.{◌≡◌, ℕ, zero, suc, ◌+◌, true, false, �
 use Rattle.std.specs.Option.{option_or}
 use Rattle.std.proofs.lemmas.Bool.{cases_Bool}
 use Rattle.std.proofs.lemmas.Bool.Decides.{nat_tests}
-use Rattle.pg_layout.specs.Places.{Key, same, value_at}
+use Rattle.pg_layout.specs.Position.{at}
+use Rattle.pg_layout.proofs.KeyOrders.{place-laws}
+use Rattle.pg_layout.specs.declared.position.Position.{Position}
+use Rattle.pg_layout.specs.Keys.{by_place}
+use Rattle.pg_layout.specs.Places.{same, value_at}
 use Rattle.pg_config.specs.Overrides.{with_row, line_crossing, with_row_line, horizontal_override, vertical_override, crossing_override}
 use Rattle.pg_config.proofs.Lookups.{value_at-with_some}
 use Rattle.pg_laws.specs.SettingLaws.{RowLineHorizontals, RowLineCrossings, RowLineVerticals}
 
 module _ {V : Type 0} where
   -- a place of the row that is among its first ones holds its new value if there is one
-  value_at-with_row : (r n a b : ℕ) (values : ℕ → Option V) (es : List (Key × V)) → value_at (a, b, 0) (with_row r n values es) ≡ (if (a == r) && nat_lt b n then option_or (values b) (value_at (a, b, 0) es) else value_at (a, b, 0) es)
+  value_at-with_row : (r n a b : ℕ) (values : ℕ → Option V) (es : List (Position × V)) → value_at by_place (at a b) (with_row r n values es) ≡ (if (a == r) && nat_lt b n then option_or (values b) (value_at by_place (at a b) es) else value_at by_place (at a b) es)
   value_at-with_row r zero a b values es =
       let outside : ((a == r) && nat_lt b 0) ≡ false = grind (arith, nat_tests) in
       rw outside refl
   value_at-with_row r (suc c) a b values es =
       let more = value_at-with_row r c a b values es in
-      value_at-with_some (a, b, 0) (r, c, 0) (values c) (with_row r c values es)
-      ∙ elim (cases_Bool (same (r, c, 0) (a, b, 0))) [
+      value_at-with_some place-laws (at a b) (at r c) (values c) (with_row r c values es)
+      ∙ elim (cases_Bool (same by_place (at r c) (at a b))) [
         | inl y ↦
             let here : c ≡ b = grind (arith, nat_tests, y) in
             let old : ((a == r) && nat_lt b c) ≡ false = grind (arith, nat_tests, y) in
             let new : ((a == r) && nat_lt b (suc c)) ≡ true = grind (arith, nat_tests, y) in
-            rw (y, new) (ap (λ x. option_or (values c) x) (more ∙ rw old refl) ∙ ap (λ x. option_or (values x) (value_at (a, b, 0) es)) here)
+            rw (y, new) (ap (λ x. option_or (values c) x) (more ∙ rw old refl) ∙ ap (λ x. option_or (values x) (value_at by_place (at a b) es)) here)
         | inr n ↦
             let still : ((a == r) && nat_lt b (suc c)) ≡ ((a == r) && nat_lt b c) = grind (arith, nat_tests, n) in
             rw (n, still) more

@@ -168,7 +168,7 @@ unfolding config_words
 the_other_cell_stays_under_the_row = refl
 
 -- a row told three times has one setting, of the number after the last
-a_row_told_again_is_kept_once : (with_setting (Row 1) 9 (with_setting (Row 1) 8 (with_setting (Row 1) 7 no_numbers))).rows ≡ ((1, 0, 0), (2, 9)) ∷ []
+a_row_told_again_is_kept_once : (with_setting (Row 1) 9 (with_setting (Row 1) 8 (with_setting (Row 1) 7 no_numbers))).rows ≡ (1, (2, 9)) ∷ []
 unfolding config_words
 a_row_told_again_is_kept_once = refl
 

@@ -4,38 +4,36 @@ use Rattle.std.specs.Prelude.{not, find}
 use Rattle.std.specs.List.{list_any}
 use Rattle.std.proofs.lemmas.Bool.{cases_Bool, and_parts, or_parts}
 use Rattle.std.proofs.lemmas.Bool.Decides.{nat_tests}
+use Rattle.pg_layout.proofs.KeyOrders.{columns-laws}
+use Rattle.pg_config.specs.declared.spans.SpanSize.{SpanSize}
+use Rattle.pg_layout.specs.declared.position.ColumnPlace.{ColumnPlace}
+use Rattle.pg_layout.specs.Keys.{by_columns, column_place}
 use Rattle.pg_layout.specs.declared.position.Position.{Position}
-use Rattle.pg_layout.specs.Places.{Key, same, before, with_place, without_place, Each, IsAscending}
+use Rattle.pg_layout.specs.Places.{same, before, with_place, without_place, Each, IsAscending}
 use Rattle.pg_layout.specs.Position.{at, is_at}
 use Rattle.pg_layout.proofs.PlacesLookups.{value_at-with_place, value_at-without_place}
-use Rattle.pg_config.specs.Spans.{Span, span_key, corner, size_of, rect_rows, rect_columns, with_size, with_column_span, with_row_span, unless_one, get_column_span, get_row_span, in_span, corner_or, owner, is_covered_by_column, is_covered_by_row, is_covered_by_both, is_visible}
+use Rattle.pg_config.specs.Spans.{Span, corner, size_of, rect_rows, rect_columns, with_size, with_column_span, with_row_span, unless_one, get_column_span, get_row_span, in_span, corner_or, owner, is_covered_by_column, is_covered_by_row, is_covered_by_both, is_visible, span_size}
 use Rattle.pg_config.proofs.Lookups.{or_swap}
 use Rattle.pg_laws.specs.SettingLaws.{others, is_held, is_held_before, AnswersSpan, AColumnSpanIsAnswered, ARowSpanIsAnswered}
 
-abbrev Size : Type 0
-Size = ℕ × ℕ
-
 -- ---- sizes
 
-one-pair : (a b : ℕ) → a ≡ 1 → b ≡ 1 → ◌≡◌ {A = Size} (a, b) (1, 1)
-one-pair a b x y = ap (λ n. (n, b)) x ∙ ap (λ n. (1, n)) y
+one-size : (size : SpanSize) → ((size.rows == 1) && (size.columns == 1)) ≡ true → size ≡ span_size 1 1
+one-size size h = grind (arith, nat_tests, h)
 
-one-size : (size : Size) → ((size.0 == 1) && (size.1 == 1)) ≡ true → size ≡ (1, 1)
-one-size size h = one-pair size.0 size.1 (grind (arith, nat_tests, h)) (grind (arith, nat_tests, h))
-
-size-after : (p : Position) (size : Size) (old : List Span) (q : Position) → size_of (with_size p size old) q ≡ (if is_at q p.row p.col then size else size_of old q)
+size-after : (p : Position) (size : SpanSize) (old : List Span) (q : Position) → size_of (with_size p size old) q ≡ (if is_at q p.row p.col then size else size_of old q)
 unfolding size_of with_size
 size-after p size old q =
-    elim (cases_Bool ((size.0 == 1) && (size.1 == 1))) [
-      | inl one ↦ rw (one, value_at-without_place (span_key q) (span_key p) old)
+    elim (cases_Bool ((size.rows == 1) && (size.columns == 1))) [
+      | inl one ↦ rw (one, value_at-without_place columns-laws (column_place q) (column_place p) old)
           (elim (cases_Bool (is_at q p.row p.col)) [
-            | inl y ↦ let here : same (span_key q) (span_key p) ≡ true = grind (arith, nat_tests, y) in rw (here, y, one-size size one) refl
-            | inr n ↦ let away : same (span_key q) (span_key p) ≡ false = grind (arith, nat_tests, n) in rw (away, n) refl
+            | inl y ↦ let here : same by_columns (column_place q) (column_place p) ≡ true = grind (arith, nat_tests, y) in rw (here, y, one-size size one) refl
+            | inr n ↦ let away : same by_columns (column_place q) (column_place p) ≡ false = grind (arith, nat_tests, n) in rw (away, n) refl
           ])
-      | inr more ↦ rw (more, value_at-with_place (span_key q) (span_key p) size old)
+      | inr more ↦ rw (more, value_at-with_place columns-laws (column_place q) (column_place p) size old)
           (elim (cases_Bool (is_at q p.row p.col)) [
-            | inl y ↦ let here : same (span_key p) (span_key q) ≡ true = grind (arith, nat_tests, y) in rw (here, y) refl
-            | inr n ↦ let away : same (span_key p) (span_key q) ≡ false = grind (arith, nat_tests, n) in rw (away, n) refl
+            | inl y ↦ let here : same by_columns (column_place p) (column_place q) ≡ true = grind (arith, nat_tests, y) in rw (here, y) refl
+            | inr n ↦ let away : same by_columns (column_place p) (column_place q) ≡ false = grind (arith, nat_tests, n) in rw (away, n) refl
           ])
     ]
 
@@ -46,48 +44,48 @@ through f false x y = refl
 
 -- ---- owners
 
-module _ (k : Key) (holds : Span → Bool) (itself : Position) where
+module _ (k : ColumnPlace) (holds : Span → Bool) (itself : Position) where
   abbrev earlier : List Span → Bool
-  earlier es = list_any (λ s. before s.0 k && holds s) es
+  earlier es = list_any (λ s. before by_columns s.0 k && holds s) es
 
   -- entries that all come after the key
-  all-later : (es : List Span) (e : Span) → Each (λ f. before e.0 f.0 ≡ true) es → before e.0 k ≡ false → (earlier es ≡ false) × (without_place k es ≡ es)
+  all-later : (es : List Span) (e : Span) → Each (λ f. before by_columns e.0 f.0 ≡ true) es → before by_columns e.0 k ≡ false → (earlier es ≡ false) × (without_place by_columns k es ≡ es)
   all-later [] e up w = (refl, refl)
   all-later (f ∷ es) e up w =
-      let later : before f.0 k ≡ false = grind (arith, nat_tests, up.0, w) in
-      let other : same f.0 k ≡ false = grind (arith, nat_tests, up.0, w) in
+      let later : before by_columns f.0 k ≡ false = grind (arith, nat_tests, up.0, w) in
+      let other : same by_columns f.0 k ≡ false = grind (arith, nat_tests, up.0, w) in
       let more = all-later es e up.1 w in
       (rw later more.0, rw other (ap (λ z. f ∷ z) more.1))
 
-  owner-with : (size : Size) (es : List Span) → IsAscending es → corner_or itself (find holds (with_place k size es)) ≡ (if holds (k, size) && not (earlier es) then corner (k, size) else corner_or itself (find holds (without_place k es)))
+  owner-with : (size : SpanSize) (es : List Span) → IsAscending by_columns es → corner_or itself (find holds (with_place by_columns k size es)) ≡ (if holds (k, size) && not (earlier es) then corner (k, size) else corner_or itself (find holds (without_place by_columns k es)))
   owner-with size [] up = elim (cases_Bool (holds (k, size))) [ inl y ↦ rw y refl | inr n ↦ rw n refl ]
   owner-with size (e ∷ es) up =
-      elim (cases_Bool (before e.0 k)) [
+      elim (cases_Bool (before by_columns e.0 k)) [
         | inl y ↦
-            let other : same e.0 k ≡ false = grind (arith, nat_tests, y) in
+            let other : same by_columns e.0 k ≡ false = grind (arith, nat_tests, y) in
             elim (cases_Bool (holds e)) [
               | inl here ↦ rw (y, other, here) (elim (cases_Bool (holds (k, size))) [ inl a ↦ rw a refl | inr b ↦ rw b refl ])
               | inr away ↦ rw (y, other, away) (owner-with size es up.1)
             ]
         | inr n ↦
             let later = all-later es e up.0 n in
-            elim (cases_Bool (same e.0 k)) [
+            elim (cases_Bool (same by_columns e.0 k)) [
               | inl s ↦ rw (n, s, later.0, later.1) (elim (cases_Bool (holds (k, size))) [ inl a ↦ rw a refl | inr b ↦ rw b refl ])
               | inr o ↦ rw (n, o, later.0, later.1) (elim (cases_Bool (holds (k, size))) [ inl a ↦ rw a refl | inr b ↦ rw b refl ])
             ]
       ]
 
   -- where no other entry holds a place
-  none-earlier : (es : List Span) → list_any holds (without_place k es) ≡ false → earlier es ≡ false
+  none-earlier : (es : List Span) → list_any holds (without_place by_columns k es) ≡ false → earlier es ≡ false
   none-earlier [] h = refl
   none-earlier (e ∷ es) h =
-      elim (cases_Bool (same e.0 k)) [
+      elim (cases_Bool (same by_columns e.0 k)) [
         | inl s ↦
-            let later : before e.0 k ≡ false = grind (arith, nat_tests, s) in
+            let later : before by_columns e.0 k ≡ false = grind (arith, nat_tests, s) in
             rw later (none-earlier es (rw s at h))
         | inr o ↦
-            let parts = or_parts (holds e) (list_any holds (without_place k es)) (rw o at h) in
-            elim (cases_Bool (before e.0 k)) [ inl y ↦ rw (y, parts.0) (none-earlier es parts.1) | inr n ↦ rw n (none-earlier es parts.1) ]
+            let parts = or_parts (holds e) (list_any holds (without_place by_columns k es)) (rw o at h) in
+            elim (cases_Bool (before by_columns e.0 k)) [ inl y ↦ rw (y, parts.0) (none-earlier es parts.1) | inr n ↦ rw n (none-earlier es parts.1) ]
       ]
 
   none-found : (es : List Span) → list_any holds es ≡ false → find holds es ≡ None
@@ -95,60 +93,60 @@ module _ (k : Key) (holds : Span → Bool) (itself : Position) where
   none-found (e ∷ es) h = let parts = or_parts (holds e) (list_any holds es) h in rw parts.0 (none-found es parts.1)
 
 -- a test of entries holds somewhere after an entry is put in its place if it holds at the new one or at another
-any-with : (k : Key) (test : Span → Bool) (size : Size) (es : List Span) → IsAscending es → list_any test (with_place k size es) ≡ (test (k, size) || list_any test (without_place k es))
+any-with : (k : ColumnPlace) (test : Span → Bool) (size : SpanSize) (es : List Span) → IsAscending by_columns es → list_any test (with_place by_columns k size es) ≡ (test (k, size) || list_any test (without_place by_columns k es))
 any-with k test size [] up = refl
 any-with k test size (e ∷ es) up =
-    elim (cases_Bool (before e.0 k)) [
+    elim (cases_Bool (before by_columns e.0 k)) [
       | inl y ↦
-          let other : same e.0 k ≡ false = grind (arith, nat_tests, y) in
-          rw (y, other) (ap (λ b. test e || b) (any-with k test size es up.1) ∙ or_swap (test e) (test (k, size)) (list_any test (without_place k es)))
+          let other : same by_columns e.0 k ≡ false = grind (arith, nat_tests, y) in
+          rw (y, other) (ap (λ b. test e || b) (any-with k test size es up.1) ∙ or_swap (test e) (test (k, size)) (list_any test (without_place by_columns k es)))
       | inr n ↦
           let later = all-later k test (at 0 0) es e up.0 n in
-          elim (cases_Bool (same e.0 k)) [ inl s ↦ rw (n, s, later.1) refl | inr o ↦ rw (n, o, later.1) refl ]
+          elim (cases_Bool (same by_columns e.0 k)) [ inl s ↦ rw (n, s, later.1) refl | inr o ↦ rw (n, o, later.1) refl ]
     ]
 
 -- a place that no earlier rectangle holds, and that is p, has no other owner: a later rectangle begins after it
 owner-itself : (p : Position) (r c : ℕ) → r ≡ p.row → c ≡ p.col → (es : List Span) → is_held_before p es (at r c) ≡ false → corner_or (at r c) (find (in_span r c) (others p es)) ≡ p
 owner-itself p r c is_row is_col [] h = ap (λ n. at n c) is_row ∙ ap (λ n. at p.row n) is_col
 owner-itself p r c is_row is_col (e ∷ es) h =
-    let parts = or_parts (before e.0 (span_key p) && in_span r c e) (is_held_before p es (at r c)) h in
-    elim (cases_Bool (same e.0 (span_key p))) [
+    let parts = or_parts (before by_columns e.0 (column_place p) && in_span r c e) (is_held_before p es (at r c)) h in
+    elim (cases_Bool (same by_columns e.0 (column_place p))) [
       | inl s ↦ rw s (owner-itself p r c is_row is_col es parts.1)
       | inr o ↦ elim (cases_Bool (in_span r c e)) [
         | inl here ↦
             let later = parts.0 in
-            let row : e.0.1 ≡ p.row = grind (arith, nat_tests, here, later, is_row, is_col) in
-            let col : e.0.0 ≡ p.col = grind (arith, nat_tests, here, later, is_row, is_col) in
-            rw (o, here) (ap (λ n. at n e.0.0) row ∙ ap (λ n. at p.row n) col)
+            let row : e.0.row ≡ p.row = grind (arith, nat_tests, here, later, is_row, is_col) in
+            let col : e.0.col ≡ p.col = grind (arith, nat_tests, here, later, is_row, is_col) in
+            rw (o, here) (ap (λ n. at n e.0.col) row ∙ ap (λ n. at p.row n) col)
         | inr away ↦ rw (o, away) (owner-itself p r c is_row is_col es parts.1)
       ]
     ]
 
-module _ (p : Position) (size : Size) (old : List Span) (r c : ℕ) (up : IsAscending old) where
-  owner-after : owner (with_size p size old) r c ≡ (if in_span r c (span_key p, size) && not (is_held_before p old (at r c)) then p else owner (others p old) r c)
+module _ (p : Position) (size : SpanSize) (old : List Span) (r c : ℕ) (up : IsAscending by_columns old) where
+  owner-after : owner (with_size p size old) r c ≡ (if in_span r c (column_place p, size) && not (is_held_before p old (at r c)) then p else owner (others p old) r c)
   unfolding owner with_size
   owner-after =
-      elim (cases_Bool ((size.0 == 1) && (size.1 == 1))) [
-        | inl one ↦ rw one (elim (cases_Bool (in_span r c (span_key p, size) && not (is_held_before p old (at r c)))) [
-          | inl y ↦ rw y (alone-there one (and_parts (in_span r c (span_key p, size)) (not (is_held_before p old (at r c))) y))
+      elim (cases_Bool ((size.rows == 1) && (size.columns == 1))) [
+        | inl one ↦ rw one (elim (cases_Bool (in_span r c (column_place p, size) && not (is_held_before p old (at r c)))) [
+          | inl y ↦ rw y (alone-there one (and_parts (in_span r c (column_place p, size)) (not (is_held_before p old (at r c))) y))
           | inr n ↦ rw n refl
         ])
-        | inr more ↦ rw more (owner-with (span_key p) (in_span r c) (at r c) size old up)
+        | inr more ↦ rw more (owner-with (column_place p) (in_span r c) (at r c) size old up)
       ]
     where
-      alone-there : ((size.0 == 1) && (size.1 == 1)) ≡ true → (in_span r c (span_key p, size) ≡ true) × (not (is_held_before p old (at r c)) ≡ true) → corner_or (at r c) (find (in_span r c) (others p old)) ≡ p
+      alone-there : ((size.rows == 1) && (size.columns == 1)) ≡ true → (in_span r c (column_place p, size) ≡ true) × (not (is_held_before p old (at r c)) ≡ true) → corner_or (at r c) (find (in_span r c) (others p old)) ≡ p
       alone-there one (inside, free) =
           let row : r ≡ p.row = grind (arith, nat_tests, one, inside) in
           let col : c ≡ p.col = grind (arith, nat_tests, one, inside) in
           let none : is_held_before p old (at r c) ≡ false = grind (arith, free) in
           owner-itself p r c row col old none
 
-  owner-alone : is_held (others p old) (at r c) ≡ false → owner (with_size p size old) r c ≡ (if in_span r c (span_key p, size) then p else at r c)
+  owner-alone : is_held (others p old) (at r c) ≡ false → owner (with_size p size old) r c ≡ (if in_span r c (column_place p, size) then p else at r c)
   unfolding owner
   owner-alone none =
-      let no_earlier = none-earlier (span_key p) (in_span r c) (at r c) old none in
-      let not_found = none-found (span_key p) (in_span r c) (at r c) (others p old) none in
-      owner-after ∙ rw (no_earlier, not_found) (elim (cases_Bool (in_span r c (span_key p, size))) [ inl y ↦ rw y refl | inr n ↦ rw n refl ])
+      let no_earlier = none-earlier (column_place p) (in_span r c) (at r c) old none in
+      let not_found = none-found (column_place p) (in_span r c) (at r c) (others p old) none in
+      owner-after ∙ rw (no_earlier, not_found) (elim (cases_Bool (in_span r c (column_place p, size))) [ inl y ↦ rw y refl | inr n ↦ rw n refl ])
 
 -- ---- what is visible
 
@@ -158,13 +156,13 @@ covers q s = not (is_at (corner s) q.row q.col) && in_span q.row q.col s
 
 -- as its first, its second and its third kind do
 abbrev by_column : Position → Span → Bool
-by_column q s = ((s.0.1 == q.row) && nat_lt s.0.0 q.col) && in_span q.row q.col s
+by_column q s = ((s.0.row == q.row) && nat_lt s.0.col q.col) && in_span q.row q.col s
 
 abbrev by_row : Position → Span → Bool
-by_row q s = ((s.0.0 == q.col) && nat_lt s.0.1 q.row) && in_span q.row q.col s
+by_row q s = ((s.0.col == q.col) && nat_lt s.0.row q.row) && in_span q.row q.col s
 
 abbrev by_both : Position → Span → Bool
-by_both q s = (nat_lt s.0.1 q.row && nat_lt s.0.0 q.col) && in_span q.row q.col s
+by_both q s = (nat_lt s.0.row q.row && nat_lt s.0.col q.col) && in_span q.row q.col s
 
 covers-kinds : (q : Position) (s : Span) → (by_column q s || (by_row q s || by_both q s)) ≡ covers q s
 covers-kinds q s = elim (cases_Bool (covers q s)) [ inl y ↦ grind (arith, nat_tests, y) | inr n ↦ grind (arith, nat_tests, n) ]
@@ -184,49 +182,49 @@ visible-is : (spans : List Span) (q : Position) → is_visible spans q ≡ not (
 unfolding is_visible is_covered_by_column is_covered_by_row is_covered_by_both
 visible-is spans q = ap not (covers-any q spans)
 
-module _ (p : Position) (size : Size) (q : Position) where
-  uncovered : not (covers q (span_key p, size)) ≡ (is_at q p.row p.col || not (in_span q.row q.col (span_key p, size)))
-  uncovered = elim (cases_Bool (in_span q.row q.col (span_key p, size))) [
+module _ (p : Position) (size : SpanSize) (q : Position) where
+  uncovered : not (covers q (column_place p, size)) ≡ (is_at q p.row p.col || not (in_span q.row q.col (column_place p, size)))
+  uncovered = elim (cases_Bool (in_span q.row q.col (column_place p, size))) [
     | inl y ↦ rw y (elim (cases_Bool (is_at q p.row p.col)) [ inl here ↦ rw here (grind (arith, nat_tests, here)) | inr away ↦ rw away (grind (arith, nat_tests, away)) ])
     | inr n ↦ rw n (grind arith)
   ]
 
-  one-uncovered : ((size.0 == 1) && (size.1 == 1)) ≡ true → (is_at q p.row p.col || not (in_span q.row q.col (span_key p, size))) ≡ true
+  one-uncovered : ((size.rows == 1) && (size.columns == 1)) ≡ true → (is_at q p.row p.col || not (in_span q.row q.col (column_place p, size))) ≡ true
   one-uncovered one = elim (cases_Bool (is_at q p.row p.col)) [
     | inl here ↦ rw here refl
-    | inr away ↦ let outside : in_span q.row q.col (span_key p, size) ≡ false = grind (arith, nat_tests, one, away) in rw (away, outside) refl
+    | inr away ↦ let outside : in_span q.row q.col (column_place p, size) ≡ false = grind (arith, nat_tests, one, away) in rw (away, outside) refl
   ]
 
   not-or : (a b : Bool) → not (a || b) ≡ (not a && not b)
   not-or true b = refl
   not-or false b = refl
 
-  covers-after : (old : List Span) → IsAscending old → is_visible (with_size p size old) q ≡ ((is_at q p.row p.col || not (in_span q.row q.col (span_key p, size))) && is_visible (others p old) q)
+  covers-after : (old : List Span) → IsAscending by_columns old → is_visible (with_size p size old) q ≡ ((is_at q p.row p.col || not (in_span q.row q.col (column_place p, size))) && is_visible (others p old) q)
   unfolding with_size
   covers-after old up =
-      visible-is (with_size p size old) q ∙ elim (cases_Bool ((size.0 == 1) && (size.1 == 1))) [
+      visible-is (with_size p size old) q ∙ elim (cases_Bool ((size.rows == 1) && (size.columns == 1))) [
         | inl one ↦ rw (one, one-uncovered one) (sym (visible-is (others p old) q))
-        | inr more ↦ rw (more, visible-is (others p old) q, any-with (span_key p) (covers q) size old up)
-            (not-or (covers q (span_key p, size)) (list_any (covers q) (others p old)) ∙ ap (λ b. b && not (list_any (covers q) (others p old))) uncovered)
+        | inr more ↦ rw (more, visible-is (others p old) q, any-with (column_place p) (covers q) size old up)
+            (not-or (covers q (column_place p, size)) (list_any (covers q) (others p old)) ∙ ap (λ b. b && not (list_any (covers q) (others p old))) uncovered)
       ]
 
 -- ---- all answers
 
-answers : (p : Position) (rows columns : ℕ) (old : List Span) (q : Position) → IsAscending old → AnswersSpan p rows columns old (with_size p (rows, columns) old) q
+answers : (p : Position) (rows columns : ℕ) (old : List Span) (q : Position) → IsAscending by_columns old → AnswersSpan p rows columns old (with_size p (span_size rows columns) old) q
 unfolding rect_rows rect_columns get_row_span get_column_span
 answers p rows columns old q up =
     let here = is_at q p.row p.col in
-    let is = size-after p (rows, columns) old q in
-    let rows_are = ap (λ (s : Size). s.0) is ∙ through (λ (s : Size). s.0) here (rows, columns) (size_of old q) in
-    let columns_are = ap (λ (s : Size). s.1) is ∙ through (λ (s : Size). s.1) here (rows, columns) (size_of old q) in
+    let is = size-after p (span_size rows columns) old q in
+    let rows_are = ap (λ (s : SpanSize). s.rows) is ∙ through (λ (s : SpanSize). s.rows) here (span_size rows columns) (size_of old q) in
+    let columns_are = ap (λ (s : SpanSize). s.columns) is ∙ through (λ (s : SpanSize). s.columns) here (span_size rows columns) (size_of old q) in
     record {
       rows_of = rows_are;
       columns_of = columns_are;
-      row_span = ap (λ n. unless_one n) rows_are ∙ through (λ n. unless_one n) here rows (size_of old q).0;
-      column_span = ap (λ n. unless_one n) columns_are ∙ through (λ n. unless_one n) here columns (size_of old q).1;
-      owner_of = owner-after p (rows, columns) old q.row q.col up;
-      alone = owner-alone p (rows, columns) old q.row q.col up;
-      visible = covers-after p (rows, columns) q old up;
+      row_span = ap (λ n. unless_one n) rows_are ∙ through (λ n. unless_one n) here rows (size_of old q).rows;
+      column_span = ap (λ n. unless_one n) columns_are ∙ through (λ n. unless_one n) here columns (size_of old q).columns;
+      owner_of = owner-after p (span_size rows columns) old q.row q.col up;
+      alone = owner-alone p (span_size rows columns) old q.row q.col up;
+      visible = covers-after p (span_size rows columns) q old up;
     }
 
 pub column_span : AColumnSpanIsAnswered

@@ -9,23 +9,23 @@ use Rattle.pg_picture.specs.Fits.{are_apart, all_apart, span_fits, spans_fit}
 use Rattle.pg_laws.specs.FitLaws.{ShareNoPlace, SpansFitByPlaces}
 
 abbrev HasSize : Span → Type 0
-HasSize s = (0 < s.1.0) × (0 < s.1.1)
+HasSize s = (0 < s.1.rows) × (0 < s.1.columns)
 
 abbrev EndsInside : ℕ → ℕ → Span → Type 0
-EndsInside rows columns s = (s.0.1 + s.1.0 ≤ rows) × (s.0.0 + s.1.1 ≤ columns)
+EndsInside rows columns s = (s.0.row + s.1.rows ≤ rows) × (s.0.col + s.1.columns ≤ columns)
 
 apart_shares_none : (s t : Span) → are_apart s t ≡ true → ShareNoPlace s t
 apart_shares_none s t h r c hs ht = grind (arith, nat_tests, h, hs, ht)
 
 -- rectangles that aren't apart share the place of the greater row and the greater column
-shared : (s t : Span) → HasSize s → HasSize t → are_apart s t ≡ false → (in_span (max s.0.1 t.0.1) (max s.0.0 t.0.0) s ≡ true) × (in_span (max s.0.1 t.0.1) (max s.0.0 t.0.0) t ≡ true)
+shared : (s t : Span) → HasSize s → HasSize t → are_apart s t ≡ false → (in_span (max s.0.row t.0.row) (max s.0.col t.0.col) s ≡ true) × (in_span (max s.0.row t.0.row) (max s.0.col t.0.col) t ≡ true)
 shared s t hs ht h = (grind (arith, nat_tests, hs.0, hs.1, ht.0, ht.1, h), grind (arith, nat_tests, hs.0, hs.1, ht.0, ht.1, h))
 
 apart_from_places : (s t : Span) → HasSize s → HasSize t → ShareNoPlace s t → are_apart s t ≡ true
 apart_from_places s t hs ht none =
     elim (cases_Bool (are_apart s t)) [
       | inl y ↦ y
-      | inr n ↦ let both = shared s t hs ht n in absurd (none (max s.0.1 t.0.1) (max s.0.0 t.0.0) both.0 both.1)
+      | inr n ↦ let both = shared s t hs ht n in absurd (none (max s.0.row t.0.row) (max s.0.col t.0.col) both.0 both.1)
     ]
 
 apart_at : (s : Span) (ss : List Span) (j : ℕ) (d : Span) → list_all (are_apart s) ss ≡ true → j < length ss → ShareNoPlace s (slice_index_or ss j d)

@@ -14,8 +14,8 @@ ShareNoPlace s t = (r c : ℕ) → in_span r c s ≡ true → in_span r c t ≡ 
 
 -- every rectangle has a size and ends inside the table, and no place lies in two of them
 pub record SpansFit (spans : List Span) (rows columns : ℕ) : Type 0 where
-  pub sizes : All (λ s. (0 < s.1.0) × (0 < s.1.1)) spans
-  pub inside : All (λ s. (s.0.1 + s.1.0 ≤ rows) × (s.0.0 + s.1.1 ≤ columns)) spans
+  pub sizes : All (λ s. (0 < s.1.rows) × (0 < s.1.columns)) spans
+  pub inside : All (λ s. (s.0.row + s.1.rows ≤ rows) × (s.0.col + s.1.columns ≤ columns)) spans
   pub apart : AllPairs ShareNoPlace spans
 
 -- The test of spans says what spans that fit are, place by place.

@@ -14,7 +14,7 @@ use Rattle.pg_config.specs.Overrides.{no_overrides}
 use Rattle.pg_config.specs.Settings.{Settings, no_settings}
 use Rattle.pg_config.specs.Config.{filled, get_horizontal, get_padding, get_formatting}
 use Rattle.pg_config.specs.Offsets.{no_offsets}
-use Rattle.pg_config.specs.Spans.{StandAtPlaces, rect_rows, rect_columns, has_row_spans}
+use Rattle.pg_config.specs.Spans.{rect_rows, rect_columns, has_row_spans}
 use Rattle.pg_picture.specs.Marks.{Mark, sep, line}
 use Rattle.pg_picture.specs.Pieces.{Piece, run, words, in_color, repeated, written, pieces_width, style_at, shown, block_line, Item, glyph, spaces, block, separator_text}
 use Rattle.pg_picture.specs.Table.{Table, Hint, Known, Unknown, rect_marks, rect_width, rect_height, block_at, vertical, row_part, row_line, crossing_at, horizontal_items, column_items, separator_part, separator_items, mark_text, body_line, table_body}
@@ -247,7 +247,7 @@ IsDrawn t p (sep r) =
 -- A shown cell is drawn in the line of each mark of its rectangle. Where rectangles share places, one of them loses lines.
 abbrev pub ShownCellsAreDrawn : Type 0
 ShownCellsAreDrawn =
-    (t : Table) → StandAtPlaces t.config.spans → spans_fit t.config.spans t.rows t.columns ≡ true
+    (t : Table) → spans_fit t.config.spans t.rows t.columns ≡ true
     → (p : Position) → IsOwner t p → All (IsDrawn t p) (rect_marks t p)
 
 -- these marks stand one after another in those

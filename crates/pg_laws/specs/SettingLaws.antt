@@ -2,6 +2,7 @@
 use Rattle.std.specs.Prelude.{◌≡◌, ℕ, ◌+◌, ◌<◌, Bool, true, false, not, ◌&&◌, ◌||◌, ◌==◌, nat_lt, List, Option, Some, None, is_some, if◌then◌else◌}
 use Rattle.std.specs.List.{fold, list_any}
 use Rattle.std.specs.Option.{option_or}
+use Rattle.pg_layout.specs.Keys.{by_columns, column_place}
 use Rattle.pg_layout.specs.declared.borders.Border.{Border}
 use Rattle.pg_layout.specs.declared.borders.HorizontalLine.{HorizontalLine}
 use Rattle.pg_layout.specs.declared.position.Position.{Position}
@@ -15,9 +16,9 @@ use Rattle.pg_layout.specs.Position.{holds, is_at}
 use Rattle.pg_config.specs.Settings.{Settings, setting_of, with_setting}
 use Rattle.pg_config.specs.Overrides.{Overrides, with_border, with_row_line, horizontal_override, vertical_override, crossing_override}
 use Rattle.pg_config.specs.Offsets.{Offsets, offset_at, with_offset, lookup_offset, is_offset_at}
-use Rattle.pg_config.specs.Spans.{Span, span_key, rect_rows, rect_columns, with_column_span, with_row_span, unless_one, get_column_span, get_row_span, in_span, owner, is_visible}
+use Rattle.pg_config.specs.Spans.{Span, span_size, rect_rows, rect_columns, with_column_span, with_row_span, unless_one, get_column_span, get_row_span, in_span, owner, is_visible}
 use Rattle.pg_config.specs.Config.{Config, missing_if, has_horizontal, has_vertical, get_horizontal, get_vertical, get_intersection, get_horizontal_color, get_vertical_color, get_intersection_color, has_padding_color, has_justification, has_offset_chars, default_config}
-use Rattle.pg_config.specs.Lines.{SameForRows, SameForColumns}
+use Rattle.pg_config.specs.Inside.Lines.{SameForRows, SameForColumns}
 use Rattle.pg_laws.specs.Setters.{Setter, set_padding_color, set_justification, set_justification_color, set_borders_color, set_border_color, set_horizontal_char, set_horizontal_color, set_vertical_char, set_vertical_color, after}
 
 -- ---- settings by entity
@@ -119,18 +120,18 @@ AnOffsetMarksItsPlace V = (p : Position) (offset : Offset) (v : V) (old : Offset
 
 -- so many rows and columns from p on hold the place
 abbrev pub in_rectangle : Position → ℕ → ℕ → Position → Bool
-in_rectangle p rows columns q = in_span q.row q.col (span_key p, (rows, columns))
+in_rectangle p rows columns q = in_span q.row q.col (column_place p, span_size rows columns)
 
 -- the rectangles of all cells but p
 abbrev pub others : Position → List Span → List Span
-others p spans = without_place (span_key p) spans
+others p spans = without_place by_columns (column_place p) spans
 
 -- a rectangle holds the place; one that stands before that of p holds it
 abbrev pub is_held : List Span → Position → Bool
 is_held spans q = list_any (in_span q.row q.col) spans
 
 abbrev pub is_held_before : Position → List Span → Position → Bool
-is_held_before p spans q = list_any (λ s. before s.0 (span_key p) && in_span q.row q.col s) spans
+is_held_before p spans q = list_any (λ s. before by_columns s.0 (column_place p) && in_span q.row q.col s) spans
 
 -- The cell at p was told a span, so that its rectangle has so many rows and columns.
 pub record AnswersSpan (p : Position) (rows columns : ℕ) (old new : List Span) (q : Position) : Type 0 where
@@ -148,10 +149,10 @@ pub record AnswersSpan (p : Position) (rows columns : ℕ) (old new : List Span)
 
 -- A span of columns keeps the rows, and a span of rows the columns. The spans of each configuration are ascending.
 abbrev pub AColumnSpanIsAnswered : Type 0
-AColumnSpanIsAnswered = (p : Position) (n : ℕ) (old : List Span) (q : Position) → IsAscending old → AnswersSpan p (rect_rows old p) n old (with_column_span p n old) q
+AColumnSpanIsAnswered = (p : Position) (n : ℕ) (old : List Span) (q : Position) → IsAscending by_columns old → AnswersSpan p (rect_rows old p) n old (with_column_span p n old) q
 
 abbrev pub ARowSpanIsAnswered : Type 0
-ARowSpanIsAnswered = (p : Position) (n : ℕ) (old : List Span) (q : Position) → IsAscending old → AnswersSpan p n (rect_columns old p) old (with_row_span p n old) q
+ARowSpanIsAnswered = (p : Position) (n : ℕ) (old : List Span) (q : Position) → IsAscending by_columns old → AnswersSpan p n (rect_columns old p) old (with_row_span p n old) q
 
 -- ---- what was ever set
 

@@ -1,4 +1,5 @@
 -- Lemmas of this crate.
+pub mod KeyOrders
 pub mod PlacesOrder
 pub mod PlacesLookups
 mod PlacesInTrees

@@ -4,6 +4,8 @@ pub mod Position
 pub mod Borders
 pub mod Looks
 pub mod Colors
+pub mod Keys
+pub mod KeyOrders
 pub mod Places
 pub mod Records
 pub mod ColorsMap

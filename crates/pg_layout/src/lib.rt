@@ -7,6 +7,7 @@ mod colors;
 mod colors_map;
 mod dimension;
 mod iter_records;
+mod keys;
 mod line_cursor;
 mod looks;
 mod places;
@@ -22,9 +23,10 @@ pub use crate::colors::{ANSIBuf, ANSIFmt, ANSIStr, Colors, NoColors, same_color}
 pub use crate::colors_map::ColorsMap;
 pub use crate::dimension::{ConstantDimension, Dimension, EvenDimension};
 pub use crate::iter_records::{IterRecords, IterRows};
+pub use crate::keys::Key;
 pub use crate::line_cursor::LineCursor;
-pub use crate::places::{Key, Places};
-pub use crate::position::{Entity, Position};
+pub use crate::places::Places;
+pub use crate::position::{ColumnPlace, Entity, Position};
 pub use crate::records::{ExactRecords, PeekableRecords, Records};
 pub use crate::sides::{Indent, Offset, Sides};
 pub use crate::text::{

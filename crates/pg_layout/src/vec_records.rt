@@ -84,9 +84,18 @@ impl Error for RecordsFault {}
 /// Hand the records themselves to a printer where nothing else needs them: the printer then owns
 /// them, so it can be kept and returned, and a streaming one lets each cell go once it is drawn.
 /// Hand it `&VecRecords` where they are read again. Neither copies a cell.
-#[derive(Debug, Drop)]
+#[derive(Debug)]
 pub struct VecRecords<T, A: Allocator = Global> {
     rows: Vec<Vec<T, A>, A>,
+}
+
+// Written out, so that a caller's proof has one call where it lets records go. A derived drop is
+// unfolded there down to the rows, at each `?`.
+impl<T: Drop, A: Allocator> Drop for VecRecords<T, A> {
+    fn drop(self) {
+        let VecRecords { rows } = self;
+        drop(rows);
+    }
 }
 
 impl<T, A: Allocator> Model for VecRecords<T, A> {
@@ -221,8 +230,9 @@ impl<T: AsStr + Drop, A: Allocator> Records for VecRecords<T, A> {
     ghost hint = { λ r. Some (length r) };
 
     fn iter_rows(self) -> IterRows<IntoIter<Vec<T, A>, A>> {
+        let VecRecords { rows } = self;
         IterRows {
-            iter: self.rows.into_iter(),
+            iter: rows.into_iter(),
         }
     }
 

@@ -14,7 +14,7 @@ use Rattle.pg_config.specs.Config.{Config, has_offset_chars, get_vertical, get_v
 use Rattle.pg_picture.specs.Pieces.{Piece, fill, glyph_piece, written}
 use Rattle.pg_picture.specs.Table.{side_margin, side_margin_at, vertical_at}
 use Rattle.pg_picture.proofs.PiecesOfLines.{written-nil}
-use Rattle.pg_peekable.specs.Drawn.{is_basic_config}
+use Rattle.pg_peekable.specs.Inside.Drawn.{is_basic_config}
 
 fill-none : (c k : ℕ) (color : Option Color) → k ≡ 0 → fill c k color ≡ []
 unfolding fill

@@ -1,10 +1,10 @@
 -- A table in which everything fits can be drawn; its width and its height are numbers.
 use Rattle.std.proofs.Common.{◌≡◌, ℕ, ◌+◌, ◌<◌, true, Option, Some, None, ap, ◌∙◌, sum_by}
 use Rattle.std.specs.List.{range_with_len}
+use Rattle.pg_layout.specs.Keys.{by_columns}
 use Rattle.pg_layout.specs.declared.position.Position.{Position}
 use Rattle.pg_layout.specs.Places.{IsAscending}
 use Rattle.pg_config.specs.Config.{count_vertical, count_horizontal}
-use Rattle.pg_config.specs.Spans.{StandAtPlaces}
 use Rattle.pg_picture.specs.Pieces.{style_at}
 use Rattle.pg_picture.specs.Table.{Table, total_width, full_width}
 use Rattle.pg_picture.specs.Fits.{misfit_of, cell_fits, body_height}
@@ -13,13 +13,13 @@ use Rattle.pg_picture.proofs.Rooms.{fits, cell_fits_plain}
 use Rattle.pg_picture.proofs.FittingTables.{totals_facts}
 use Rattle.pg_picture.proofs.OwnersOfPlaces.{InOrder}
 use Rattle.pg_picture.proofs.SumsOfSizes.{some_answer}
-use Rattle.pg_peekable.specs.Drawn.{CanDraw, HasNoSpans}
+use Rattle.pg_peekable.specs.Inside.Drawn.{CanDraw, HasNoSpans}
 
-pub can_draw : (t : Table) → IsAscending t.config.spans → StandAtPlaces t.config.spans → misfit_of t ≡ None → 0 < t.rows → 0 < t.columns → CanDraw t
-can_draw t ascending places fitting some_rows some_columns = record { ascending = ascending; places = places; fits = fits t fitting some_rows some_columns }
+pub can_draw : (t : Table) → IsAscending by_columns t.config.spans → misfit_of t ≡ None → 0 < t.rows → 0 < t.columns → CanDraw t
+can_draw t ascending fitting some_rows some_columns = record { ascending = ascending; fits = fits t fitting some_rows some_columns }
 
 pub in_order : (t : Table) → CanDraw t → InOrder t.config.spans t.rows t.columns
-in_order t can = record { ascending = can.ascending; places = can.places; fit = can.fits.spans }
+in_order t can = record { ascending = can.ascending; fit = can.fits.spans }
 
 -- without spans a cell has room in its column and its row
 pub plain_room : (t : Table) → CanDraw t → HasNoSpans t → (p : Position) → p.row < t.rows → p.col < t.columns → cell_fits (style_at t.config p) (t.text p) (t.width p.col) (t.height p.row) ≡ true

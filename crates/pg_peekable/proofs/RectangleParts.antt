@@ -13,8 +13,8 @@ use Rattle.pg_picture.proofs.FittingTables.{RectInside, rect_width-sized, rect_h
 use Rattle.pg_picture.proofs.OwnersOfPlaces.{InOrder}
 use Rattle.pg_picture.proofs.DrawnRectangles.{rect_of, rows_height-fits, line_place, line_inside, sep_place, sep_inside, corner_owns, corner_from, corner_to, corner_inside}
 use Rattle.pg_peekable.specs.declared.kept.KeptRectangle.{KeptRectangle}
-use Rattle.pg_peekable.specs.Drawn.{ArePartsOf, CanDraw}
-use Rattle.pg_peekable.specs.Kept.{IsRectangle}
+use Rattle.pg_peekable.specs.Inside.Drawn.{ArePartsOf, CanDraw}
+use Rattle.pg_peekable.specs.Inside.Kept.{IsRectangle}
 use Rattle.pg_peekable.proofs.CanDraw.{in_order}
 
 module _ (t : Table) (can : CanDraw t) where
@@ -86,7 +86,7 @@ module _ (t : Table) (can : CanDraw t) (r x : ℕ) (s : Span) (found : left_span
 
   -- where `above` lines of the rectangle stand above row r
   module _ (above : ℕ) (sum : above ≡ rows_height t q.row (r - q.row)) where
-    sum_of : above ≡ rows_height t s.0.1 (r - s.0.1)
+    sum_of : above ≡ rows_height t s.0.row (r - s.0.row)
     sum_of = sum ∙ ap (λ (p : Position). rows_height t p.row (r - p.row)) is
 
     pub found_inside : (i : ℕ) → i < t.height r → above + i < rect_height t q
@@ -105,7 +105,7 @@ module _ (t : Table) (can : CanDraw t) (r x : ℕ) (s : Span) (found : left_span
         ∙ ap written (block-line t (corner s) (line r i) (above + i) (omega (arith, place, sum_of)))
 
     -- and the one on the separator above row r, where the rectangle begins above it
-    module _ (below : s.0.1 < r) (there : has_horizontal t.config r t.rows ≡ true) where
+    module _ (below : s.0.row < r) (there : has_horizontal t.config r t.rows ≡ true) where
       place_of_sep : place_of (sep r) (rect_marks t (corner s)) + 1 ≡ above
       place_of_sep =
           let place = sep_place t (corner s) r (corner_from t order r x s found) (corner_to t order r x s found) (corner_inside t order r x s found) below there in

@@ -6,13 +6,14 @@ use Rattle.pg_layout.specs.declared.position.Position.{Position}
 use Rattle.pg_config.specs.Config.{get_horizontal}
 use Rattle.pg_config.specs.Spans.{Span, corner, left_span, span_above}
 use Rattle.pg_picture.specs.Marks.{sep}
-use Rattle.pg_picture.specs.Pieces.{Piece, Item, block, cut, written, items_after, last_color}
+use Rattle.pg_picture.specs.Pieces.{Piece, Item, block, cut, written}
+use Rattle.pg_picture.specs.Inside.Following.{items_after, last_color}
 use Rattle.pg_picture.specs.Table.{Table, block_at, crossing_at, border_items, separator_part}
 use Rattle.pg_picture.specs.Rectangles.{columns_or_one}
 use Rattle.pg_picture.proofs.CutsOfItems.{items_after-append, items_after-one, last_color-append, last_color-one}
 use Rattle.pg_picture.proofs.OwnersOfPlaces.{InOrder}
 use Rattle.pg_picture.proofs.WalksOfRows.{walk_step, width_above-positive, width_above-inside, next_start, separator_part_inner, separator_part_border, separator_part_block, above_some}
-use Rattle.pg_peekable.specs.Drawn.{starts}
+use Rattle.pg_peekable.specs.Inside.Drawn.{starts}
 
 -- a block behind other items: the cut before it, and its line
 pub block-text : (c : Option Color) (items : List Item) {d : Option Color} (line : List Piece) {drawn : List Piece} → d ≡ last_color c items → drawn ≡ line

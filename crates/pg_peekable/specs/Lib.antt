@@ -1,4 +1,2 @@
-pub mod Drawn
-pub mod DrawnProps
 pub mod Grids
-pub mod Kept
+pub mod Inside

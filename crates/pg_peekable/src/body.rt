@@ -4,7 +4,7 @@ ghost use Rattle.std.specs.Prelude.{◌≡◌, ◌≤◌, ◌<◌, ◌+◌, ◌=
 ghost use Rattle.std.specs.List.{range_with_len};
 ghost use Rattle.pg_config.specs.Config.{has_horizontal};
 ghost use Rattle.pg_picture.specs.Appending.{Appends};
-ghost use Rattle.pg_picture.specs.Joined.{lines_before, feed_before};
+ghost use Rattle.pg_picture.specs.Inside.Following.{lines_before, feed_before};
 ghost use Rattle.pg_picture.specs.Marks.{sep, line, only_if, marks_of_row, marks_above};
 ghost use Rattle.pg_picture.specs.Pieces.{written};
 ghost use Rattle.pg_picture.specs.Table.{Known, table_body, side_margin_at};

@@ -5,13 +5,13 @@ ghost use Rattle.std.specs.Option.{ForSome};
 ghost use Rattle.pg_config.specs.Config.{has_horizontal};
 ghost use Rattle.pg_config.specs.Spans.{left_span, span_above};
 ghost use Rattle.pg_layout.specs.Colors.{lent_color};
-ghost use Rattle.pg_picture.specs.Cells.{style_of};
+ghost use Rattle.pg_picture.specs.Inside.Cells.{style_of};
 ghost use Rattle.pg_picture.specs.Grids.{table_of_parts};
 ghost use Rattle.pg_picture.specs.Pieces.{style_at};
 ghost use Rattle.pg_picture.specs.Styles.{IsStyleOfAll};
 ghost use Rattle.pg_picture.specs.Table.{Table};
-ghost use Rattle.pg_peekable.specs.Drawn.{no_table, ArePartsOf, IsShapeOf, CanDraw, IsBasic, HasNoSpans};
-ghost use Rattle.pg_peekable.specs.DrawnProps.{IsAscending-prop, StandAtPlaces-prop};
+ghost use Rattle.pg_peekable.specs.Inside.Drawn.{no_table, ArePartsOf, IsShapeOf, CanDraw, IsBasic, HasNoSpans};
+ghost use Rattle.pg_peekable.specs.Inside.DrawnProps.{IsAscending-prop};
 ghost use Rattle.std.proofs.Props.{props};
 
 use crate::path::Path;
@@ -50,7 +50,7 @@ pub(crate) struct Drawing<'g, T: Drawn, R: PeekableRecords, D: Dimension, C: Col
     ghost is: { ArePartsOf T.table (table_of_parts R.texts R.columns D.width D.height C.color records.now config.now dimension.now colors.now) } by { Prim.hlevel props },
     ghost shape: { IsShapeOf T.table rows columns height path } by { Prim.hlevel props },
     ghost is_of_all: { ForSome all (λ style. IsStyleOfAll T.table.config (style_of style)) },
-    ghost can: { CanDraw T.table } by { Prim.hlevel (IsAscending-prop, StandAtPlaces-prop, props) },
+    ghost can: { CanDraw T.table } by { Prim.hlevel (IsAscending-prop, props) },
 }
 
 impl<'g, T, R, D, C, B> Drawing<'g, T, R, D, C, B>

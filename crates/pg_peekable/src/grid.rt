@@ -49,12 +49,13 @@ where
     ghost use Rattle.std.specs.Prelude.{◌≡◌, ◌<◌, ◌==◌, ◌++◌, ◌↔◌, [], Some, None, Err, IsOk, IfOk, OnOk, string_bytes};
     ghost use Rattle.pg_picture.specs.Appending.{Appends};
     ghost use Rattle.pg_picture.specs.Fits.{misfit_of};
-    ghost use Rattle.pg_picture.specs.Joined.{joined, lines_before};
+    ghost use Rattle.pg_picture.specs.Joined.{joined};
+    ghost use Rattle.pg_picture.specs.Inside.Following.{lines_before};
     ghost use Rattle.pg_picture.specs.Straight.{IsStraight};
     ghost use Rattle.pg_picture.specs.Sizes.{unless_misfit};
     ghost use Rattle.pg_picture.specs.Table.{Known, table_body};
     ghost use Rattle.pg_picture.specs.Picture.{body_text, picture, picture_lines};
-    ghost use Rattle.pg_peekable.specs.Drawn.{CanDraw, Draws, IsShapeOf};
+    ghost use Rattle.pg_peekable.specs.Inside.Drawn.{CanDraw, Draws, IsShapeOf};
     ghost use Rattle.pg_peekable.specs.Grids.{drawn};
     ghost use Rattle.pg_picture.specs.Printed.{Prints};
 

@@ -2,7 +2,7 @@
 
 ghost use Rattle.std.specs.Prelude.{◌≡◌, ◌==◌, not, length};
 ghost use Rattle.pg_config.specs.Config.{Config};
-ghost use Rattle.pg_peekable.specs.Drawn.{Draws, is_spanned, is_basic, is_basic_config};
+ghost use Rattle.pg_peekable.specs.Inside.Drawn.{Draws, is_spanned, is_basic, is_basic_config};
 ghost use Rattle.pg_peekable.specs.Grids.{drawn};
 
 use crate::grid::PeekableGrid;
@@ -69,7 +69,7 @@ where
 
 // Whether no colour of borders or paddings, no justification and no glyph or colour of a part of a
 // line was set, and no side has a margin.
-#[tactic(auto, unfolding(crate::specs::Drawn::is_basic_config))]
+#[tactic(auto, unfolding(crate::specs::Inside::Drawn::is_basic_config))]
 fn is_basic_config<B: Allocator>(config: &SpannedConfig<B>) -> bool
     ensures { result ≡ is_basic_config config.now }
 {

@@ -5,11 +5,11 @@ ghost use Rattle.std.specs.List.{range_with_len};
 ghost use Rattle.pg_layout.specs.Colors.{lent_color};
 ghost use Rattle.pg_picture.specs.Appending.{Appends};
 ghost use Rattle.pg_picture.specs.Pieces.{written, style_at, block_line};
-ghost use Rattle.pg_picture.specs.Cells.{style_of, facts_of, place_of};
+ghost use Rattle.pg_picture.specs.Inside.Cells.{style_of, facts_of, place_of};
 ghost use Rattle.pg_picture.specs.Table.{row_part, row_line, vertical_at};
 ghost use Rattle.pg_picture.specs.Fits.{cell_fits};
-ghost use Rattle.pg_peekable.specs.Kept.{Reads};
-ghost use Rattle.pg_peekable.specs.Drawn.{HasNoSpans};
+ghost use Rattle.pg_peekable.specs.Inside.Kept.{Reads};
+ghost use Rattle.pg_peekable.specs.Inside.Drawn.{HasNoSpans};
 
 use crate::drawing::{Drawing, Drawn};
 use crate::kept::{KeptCells, Reading};

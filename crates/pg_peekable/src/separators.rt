@@ -4,9 +4,10 @@ ghost use Rattle.std.specs.Prelude.{◌≡◌, ◌≤◌, ◌<◌, ◌++◌, tru
 ghost use Rattle.std.specs.List.{range_with_len};
 ghost use Rattle.pg_config.specs.Config.{has_horizontal, get_horizontal};
 ghost use Rattle.pg_picture.specs.Appending.{Appends};
-ghost use Rattle.pg_picture.specs.Pieces.{separator_text, items_after, last_color};
+ghost use Rattle.pg_picture.specs.Pieces.{separator_text};
+ghost use Rattle.pg_picture.specs.Inside.Following.{items_after, last_color};
 ghost use Rattle.pg_picture.specs.Table.{separator_items, separator_part, crossing_at, border_items};
-ghost use Rattle.pg_peekable.specs.Drawn.{HasNoSpans};
+ghost use Rattle.pg_peekable.specs.Inside.Drawn.{HasNoSpans};
 
 use crate::drawing::{Drawing, Drawn};
 use crate::kept::KeptCells;

@@ -2,7 +2,7 @@
 
 ghost use Rattle.std.specs.Prelude.{◌≡◌};
 ghost use Rattle.pg_picture.specs.Appending.{Appends};
-ghost use Rattle.pg_picture.specs.Joined.{lines_before};
+ghost use Rattle.pg_picture.specs.Inside.Following.{lines_before};
 ghost use Rattle.pg_picture.specs.Picture.{body_text};
 ghost use Rattle.pg_picture.specs.Table.{Known, table_body};
 

@@ -5,12 +5,13 @@ ghost use Rattle.std.specs.List.{range_with_len};
 ghost use Rattle.pg_config.specs.Config.{has_horizontal};
 ghost use Rattle.pg_config.specs.Spans.{corner, is_left, left_span, span_above};
 ghost use Rattle.pg_picture.specs.Appending.{Appends};
-ghost use Rattle.pg_picture.specs.Pieces.{written, style_at, block_line, block, items_after, last_color};
+ghost use Rattle.pg_picture.specs.Pieces.{written, style_at, block_line, block};
+ghost use Rattle.pg_picture.specs.Inside.Following.{items_after, last_color};
 ghost use Rattle.pg_picture.specs.Marks.{sep, line};
 ghost use Rattle.pg_picture.specs.Table.{row_part, separator_part, vertical_at, block_at, rect_width, rect_height, crossing_at};
 ghost use Rattle.pg_picture.specs.Rectangles.{IsOwner, rows_height};
-ghost use Rattle.pg_peekable.specs.Kept.{IsRectangle};
-ghost use Rattle.pg_peekable.specs.Drawn.{starts};
+ghost use Rattle.pg_peekable.specs.Inside.Kept.{IsRectangle};
+ghost use Rattle.pg_peekable.specs.Inside.Drawn.{starts};
 
 use crate::drawing::{Drawing, Drawn};
 use crate::kept::{KeptCells, KeptRectangle};
@@ -259,5 +260,5 @@ where
 fn corner_of(span: Span) -> Position
     ensures { result ≡ corner span }
 {
-    Position::new(span.0.1, span.0.0)
+    Position::new(span.0.row, span.0.col)
 }

@@ -7,7 +7,7 @@ use Rattle.std.proofs.lemmas.List.Sums.{suffix_len-le-length}
 use Rattle.std.proofs.lemmas.List.Folds.{prefix_len-append}
 use Rattle.pg_layout.specs.Text.{Text, is_blank, blank_top, blank_bottom, without_blank_ends}
 use Rattle.pg_picture.specs.declared.facts.BlankEnds.{BlankEnds}
-use Rattle.pg_picture.specs.Cells.{with_line, empty_lines_of}
+use Rattle.pg_picture.specs.Inside.Cells.{with_line, empty_lines_of}
 
 -- how many at the end pass, with one element more at the front
 suffix_len-cons : {X : Type 0} (p : X → Bool) (x : X) (xs : List X) → suffix_len p (x ∷ xs) ≡ cond (suffix_len p xs == length xs) (length xs + cond (p x) 1 0) (suffix_len p xs)

@@ -11,7 +11,8 @@ use Rattle.pg_picture.specs.Marks.{Mark, sep, line, only_if, marks_of_row, marks
 use Rattle.pg_picture.specs.Table.{Table, Hint, Known, body_line, table_body}
 use Rattle.pg_picture.proofs.Ranges.{range-add}
 use Rattle.pg_picture.proofs.MarksOfRectangles.{rows_from, marks_above-add}
-use Rattle.pg_picture.specs.Joined.{continued, feed_before}
+use Rattle.pg_picture.specs.Joined.{continued}
+use Rattle.pg_picture.specs.Inside.Following.{feed_before}
 use Rattle.pg_picture.proofs.JoinedLines.{continued-append, continued-nil, continued-line}
 use Rattle.pg_picture.specs.Picture.{body_lines, body_text}
 

@@ -8,7 +8,8 @@ use Rattle.pg_layout.specs.Colors.{Color, str_color, lent_color}
 use Rattle.pg_layout.specs.Text.{Text, first_line_of, width_of}
 use Rattle.pg_config.specs.CompactConfig.{CompactSettings}
 use Rattle.pg_picture.specs.Pieces.{in_color, repeated, shares}
-use Rattle.pg_picture.specs.CompactLines.{compact_indent, compact_cell_of, Part, part_if, main_part, own_or, part_after, open_parts, open_color}
+use Rattle.pg_picture.specs.CompactLines.{compact_indent, compact_cell_of, Part, part_if, main_part, own_or}
+use Rattle.pg_picture.specs.Inside.Following.{part_after, open_parts, open_color}
 use Rattle.pg_picture.proofs.CutsOfParts.{open_parts-one, open_color-one}
 
 -- an empty colour is none

@@ -4,7 +4,8 @@ use Rattle.std.proofs.lemmas.Bool.{cases_Bool}
 use Rattle.pg_layout.specs.declared.position.Position.{Position}
 use Rattle.pg_layout.specs.Colors.{Color}
 use Rattle.pg_config.specs.Config.{Config, has_vertical, get_intersection}
-use Rattle.pg_picture.specs.Pieces.{Item, items_after, last_color}
+use Rattle.pg_picture.specs.Pieces.{Item}
+use Rattle.pg_picture.specs.Inside.Following.{items_after, last_color}
 use Rattle.pg_picture.specs.Table.{crossing_at}
 
 -- no items write nothing, and leave the colour as it is

@@ -2,7 +2,8 @@
 use Rattle.std.proofs.Common.{◌≡◌, ℕ, zero, suc, ◌<◌, true, nat_lt, List, [], ◌∷◌, ◌++◌, replicate, Option, Some, None, refl, sym, ap, ◌∙◌, append_assoc, append-nil, arith, encode_utf8, lit<}
 use Rattle.std.proofs.lemmas.Bool.Decides.{nat_tests}
 use Rattle.pg_layout.specs.Colors.{Color, same_color, color_eq-equiv}
-use Rattle.pg_picture.specs.Pieces.{Item, glyph, spaces, cut, fill, written, repeated, in_color, prefix_of, suffix_of, color_after, item_text, item_after, items_after, last_color, with_cuts}
+use Rattle.pg_picture.specs.Pieces.{Item, glyph, spaces, cut, fill, written, repeated, in_color, prefix_of, suffix_of, color_after, item_text, with_cuts}
+use Rattle.pg_picture.specs.Inside.Following.{item_after, items_after, last_color}
 use Rattle.pg_picture.specs.Marks.{only_if}
 use Rattle.pg_picture.proofs.Repeated.{repeated-zero, repeated-one, repeated-suc}
 use Rattle.pg_picture.proofs.PiecesOfLines.{written-fill}

@@ -2,7 +2,8 @@
 use Rattle.std.proofs.Common.{◌≡◌, List, [], ◌∷◌, ◌++◌, Option, None, refl, sym, ap, ◌∙◌, append_assoc, append-nil}
 use Rattle.pg_layout.specs.Colors.{Color}
 use Rattle.pg_picture.specs.Pieces.{cut}
-use Rattle.pg_picture.specs.CompactLines.{Part, own_or, part_after, open_parts, open_color, parts_after}
+use Rattle.pg_picture.specs.CompactLines.{Part, own_or, parts_after}
+use Rattle.pg_picture.specs.Inside.Following.{part_after, open_parts, open_color}
 
 pub open_parts-append : (c : Option Color) (parts more : List Part) → open_parts c (parts ++ more) ≡ open_parts c parts ++ open_parts (open_color c parts) more
 unfolding open_parts open_color

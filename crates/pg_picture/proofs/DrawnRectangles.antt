@@ -3,10 +3,11 @@ use Rattle.std.proofs.Common.{◌≡◌, ℕ, ◌+◌, ◌-◌, ◌^◌, ◌<◌
 use Rattle.std.specs.List.{range_with_len}
 use Rattle.std.proofs.lemmas.List.FromFn.{length-map-range_with_len}
 use Rattle.std.proofs.lemmas.Bool.Decides.{nat_tests}
+use Rattle.pg_config.specs.declared.spans.SpanSize.{SpanSize}
 use Rattle.pg_layout.specs.declared.position.Position.{Position}
 use Rattle.pg_layout.specs.Position.{at, is_at}
 use Rattle.pg_config.specs.Config.{has_horizontal, count_horizontal}
-use Rattle.pg_config.specs.Spans.{Span, corner, in_span, owner, left_span, size_of, rect_rows, rect_columns}
+use Rattle.pg_config.specs.Spans.{Span, corner, in_span, owner, left_span, size_of, rect_rows, rect_columns, span_size}
 use Rattle.pg_picture.specs.Marks.{Mark, sep, line, place_of}
 use Rattle.pg_picture.specs.Pieces.{style_at, block_line}
 use Rattle.pg_picture.specs.Table.{Table, rect_marks, rect_height, rect_width, block_at}
@@ -70,41 +71,41 @@ module _ (t : Table) (order : InOrder t.config.spans t.rows t.columns) (r x : �
   its : Found t.config.spans t.rows t.columns order r x s
   its = left_sound t.config.spans t.rows t.columns order r x s e
 
-  rows_of_corner : rect_rows t.config.spans (corner s) ≡ s.1.0
+  rows_of_corner : rect_rows t.config.spans (corner s) ≡ s.1.rows
   unfolding rect_rows
-  rows_of_corner = ap (λ (n : ℕ × ℕ). n.0) (size_of_corner t.config.spans t.rows t.columns order s its.among)
+  rows_of_corner = ap (λ (n : SpanSize). n.rows) (size_of_corner t.config.spans t.rows t.columns order s its.among)
 
   -- the corner of a rectangle is its owner
   pub corner_owns : IsOwner t (corner s)
   corner_owns =
       let room = room_among t.config.spans t.rows t.columns order s its.among in
-      let there : in_span s.0.1 s.0.0 s ≡ true = grind (arith, nat_tests, room.some_rows, room.some_columns) in
-      let own = owner_is t.config.spans t.rows t.columns order s.0.1 s.0.0 s its.among there in
+      let there : in_span s.0.row s.0.col s ≡ true = grind (arith, nat_tests, room.some_rows, room.some_columns) in
+      let own = owner_is t.config.spans t.rows t.columns order s.0.row s.0.col s its.among there in
       record {
         row = omega (arith, room.some_rows, room.rows_end);
         column = omega (arith, room.some_columns, room.columns_end);
-        own = subst (λ (q : Position). is_at q s.0.1 s.0.0 ≡ true) (sym own) (grind (arith, nat_tests));
+        own = subst (λ (q : Position). is_at q s.0.row s.0.col ≡ true) (sym own) (grind (arith, nat_tests));
       }
 
-  pub corner_from : s.0.1 ≤ r
+  pub corner_from : s.0.row ≤ r
   corner_from = grind (arith, nat_tests, its.holds)
 
-  pub corner_to : r < s.0.1 + rect_rows t.config.spans (corner s)
-  corner_to = let below : r < s.0.1 + s.1.0 = grind (arith, nat_tests, its.holds) in omega (arith, below, rows_of_corner)
+  pub corner_to : r < s.0.row + rect_rows t.config.spans (corner s)
+  corner_to = let below : r < s.0.row + s.1.rows = grind (arith, nat_tests, its.holds) in omega (arith, below, rows_of_corner)
 
-  pub corner_inside : s.0.1 + rect_rows t.config.spans (corner s) ≤ t.rows
+  pub corner_inside : s.0.row + rect_rows t.config.spans (corner s) ≤ t.rows
   corner_inside = omega (arith, (room_among t.config.spans t.rows t.columns order s its.among).rows_end, rows_of_corner)
 
 -- ---- a cell of one row and one column
 
-module _ (t : Table) (r x : ℕ) (one : size_of t.config.spans (at r x) ≡ (1, 1)) where
+module _ (t : Table) (r x : ℕ) (one : size_of t.config.spans (at r x) ≡ span_size 1 1) where
   one_row : rect_rows t.config.spans (at r x) ≡ 1
   unfolding rect_rows
-  one_row = ap (λ (n : ℕ × ℕ). n.0) one
+  one_row = ap (λ (n : SpanSize). n.rows) one
 
   one_column : rect_columns t.config.spans (at r x) ≡ 1
   unfolding rect_columns
-  one_column = ap (λ (n : ℕ × ℕ). n.1) one
+  one_column = ap (λ (n : SpanSize). n.columns) one
 
   pub single_width : rect_width t (at r x) ≡ t.width x
   unfolding rect_width

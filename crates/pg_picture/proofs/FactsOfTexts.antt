@@ -8,7 +8,7 @@ use Rattle.pg_layout.specs.Text.{Text, lines_of, is_blank, width_of, greatest, t
 use Rattle.pg_layout.specs.declared.alignment.Formatting.{Formatting}
 use Rattle.pg_layout.proofs.TextLines.{is_feed, feed_place, lines_of-one}
 use Rattle.pg_picture.specs.Pieces.{trimmed_if, kept_lines, shown, widest}
-use Rattle.pg_picture.specs.Cells.{facts_of}
+use Rattle.pg_picture.specs.Inside.Cells.{facts_of}
 use Rattle.pg_picture.specs.declared.facts.BlankEnds.{BlankEnds}
 use Rattle.pg_picture.specs.declared.facts.TextFacts.{TextFacts}
 use Rattle.pg_picture.proofs.BlankEnds.{ends_after, ends_after-front, ends_after-shown, prefix_len-none, length-without_blank_ends}

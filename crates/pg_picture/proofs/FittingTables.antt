@@ -3,11 +3,14 @@ use Rattle.std.proofs.Common.{◌≡◌, ℕ, ◌+◌, ◌-◌, ◌^◌, ◌<◌
 use Rattle.std.specs.List.{range_with_len, list_all}
 use Rattle.std.proofs.lemmas.Bool.{cases_Bool, false≢true, and_parts}
 use Rattle.std.proofs.lemmas.Bool.Decides.{nat_tests}
+use Rattle.pg_config.specs.declared.spans.SpanSize.{SpanSize}
+use Rattle.pg_layout.specs.declared.position.ColumnPlace.{ColumnPlace}
+use Rattle.pg_layout.specs.Keys.{by_columns, column_place}
 use Rattle.pg_layout.specs.declared.position.Position.{Position}
-use Rattle.pg_layout.specs.Places.{Key, same, value_at}
+use Rattle.pg_layout.specs.Places.{same, value_at}
 use Rattle.pg_layout.specs.Position.{is_at}
 use Rattle.pg_config.specs.Config.{has_vertical, count_vertical}
-use Rattle.pg_config.specs.Spans.{Span, span_key, size_of, rect_rows, rect_columns, owner}
+use Rattle.pg_config.specs.Spans.{Span, size_of, rect_rows, rect_columns, owner, span_size}
 use Rattle.pg_picture.specs.Table.{Table, rect_width, rect_height, total_width, full_width}
 use Rattle.pg_picture.specs.Fits.{span_fits, spans_fit, body_height, totals_fit, cell_fits, owner_fits}
 use Rattle.pg_picture.specs.Pieces.{style_at}
@@ -41,26 +44,26 @@ pub widths_fit : (t : Table) → totals_fit t ≡ true → (c : ℕ) → c < t.c
 unfolding full_width total_width
 widths_fit t h c inside = omega (arith, (totals_facts t h).width, sum_by-range_le t.width c t.columns inside)
 
-span_facts : (rows columns : ℕ) (s : Span) → span_fits rows columns s ≡ true → (0 < s.1.0) × (0 < s.1.1) × (s.0.0 + s.1.1 ≤ columns) × (s.0.1 + s.1.0 ≤ rows)
+span_facts : (rows columns : ℕ) (s : Span) → span_fits rows columns s ≡ true → (0 < s.1.rows) × (0 < s.1.columns) × (s.0.col + s.1.columns ≤ columns) × (s.0.row + s.1.rows ≤ rows)
 span_facts rows columns s h = (grind (arith, nat_tests, h), grind (arith, nat_tests, h), grind (arith, nat_tests, h), grind (arith, nat_tests, h))
 
-None≢Some : (v : ℕ × ℕ) → None ≡ Some v → ⊥
-None≢Some v e = false≢true (ap (λ (o : Option (ℕ × ℕ)). is_some o) e)
+None≢Some : (v : SpanSize) → None ≡ Some v → ⊥
+None≢Some v e = false≢true (ap (λ (o : Option SpanSize). is_some o) e)
 
 -- the size that is found is that of a rectangle at the place
-found_fits : (rows columns : ℕ) (k : Key) (spans : List Span) (v : ℕ × ℕ) → list_all (span_fits rows columns) spans ≡ true → value_at k spans ≡ Some v
-    → (0 < v.0) × (0 < v.1) × (k.0 + v.1 ≤ columns) × (k.1 + v.0 ≤ rows)
+found_fits : (rows columns : ℕ) (k : ColumnPlace) (spans : List Span) (v : SpanSize) → list_all (span_fits rows columns) spans ≡ true → value_at by_columns k spans ≡ Some v
+    → (0 < v.rows) × (0 < v.columns) × (k.col + v.columns ≤ columns) × (k.row + v.rows ≤ rows)
 found_fits rows columns k [] v all e = absurd (None≢Some v e)
 found_fits rows columns k (s ∷ ss) v all e =
     let parts = and_parts (span_fits rows columns s) (list_all (span_fits rows columns) ss) all in
-    elim (cases_Bool (same s.0 k)) [
+    elim (cases_Bool (same by_columns s.0 k)) [
       | inl y ↦
           let f = span_facts rows columns s parts.0 in
-          let is : s.1 ≡ v = ap (λ (o : Option (ℕ × ℕ)). unwrap_or o v) (rw y at e) in
-          let col : s.0.0 ≡ k.0 = grind (arith, nat_tests, y) in
-          let row : s.0.1 ≡ k.1 = grind (arith, nat_tests, y) in
-          let high : s.1.0 ≡ v.0 = ap (λ (x : ℕ × ℕ). x.0) is in
-          let wide : s.1.1 ≡ v.1 = ap (λ (x : ℕ × ℕ). x.1) is in
+          let is : s.1 ≡ v = ap (λ (o : Option SpanSize). unwrap_or o v) (rw y at e) in
+          let col : s.0.col ≡ k.col = grind (arith, nat_tests, y) in
+          let row : s.0.row ≡ k.row = grind (arith, nat_tests, y) in
+          let high : s.1.rows ≡ v.rows = ap (λ (x : SpanSize). x.rows) is in
+          let wide : s.1.columns ≡ v.columns = ap (λ (x : SpanSize). x.columns) is in
           (omega (arith, f.0, high), omega (arith, f.1, wide), omega (arith, f.2, wide, col), omega (arith, f.3, high, row))
       | inr n ↦ found_fits rows columns k ss v parts.1 (rw n at e)
     ]
@@ -72,15 +75,15 @@ pub record RectInside (spans : List Span) (rows columns : ℕ) (p : Position) : 
   pub columns_end : p.col + rect_columns spans p ≤ columns
   pub rows_end : p.row + rect_rows spans p ≤ rows
 
-sized_place : (rows columns : ℕ) (p : Position) (spans : List Span) (o : Option (ℕ × ℕ)) → value_at (span_key p) spans ≡ o → list_all (span_fits rows columns) spans ≡ true → p.row < rows → p.col < columns
-    → (0 < (unwrap_or o (1, 1)).0) × (0 < (unwrap_or o (1, 1)).1) × (p.col + (unwrap_or o (1, 1)).1 ≤ columns) × (p.row + (unwrap_or o (1, 1)).0 ≤ rows)
+sized_place : (rows columns : ℕ) (p : Position) (spans : List Span) (o : Option SpanSize) → value_at by_columns (column_place p) spans ≡ o → list_all (span_fits rows columns) spans ≡ true → p.row < rows → p.col < columns
+    → (0 < (unwrap_or o (span_size 1 1)).rows) × (0 < (unwrap_or o (span_size 1 1)).columns) × (p.col + (unwrap_or o (span_size 1 1)).columns ≤ columns) × (p.row + (unwrap_or o (span_size 1 1)).rows ≤ rows)
 sized_place rows columns p spans None e all h k = (omega arith, omega arith, omega arith, omega arith)
-sized_place rows columns p spans (Some v) e all h k = found_fits rows columns (span_key p) spans v all e
+sized_place rows columns p spans (Some v) e all h k = found_fits rows columns (column_place p) spans v all e
 
 pub rect_inside : (spans : List Span) (rows columns : ℕ) (p : Position) → spans_fit spans rows columns ≡ true → p.row < rows → p.col < columns → RectInside spans rows columns p
 unfolding spans_fit rect_rows rect_columns size_of
 rect_inside spans rows columns p fit h k =
-    let f = sized_place rows columns p spans (value_at (span_key p) spans) refl (and_parts (list_all (span_fits rows columns) spans) _ fit).0 h k in
+    let f = sized_place rows columns p spans (value_at by_columns (column_place p) spans) refl (and_parts (list_all (span_fits rows columns) spans) _ fit).0 h k in
     record { some_rows = f.0; some_columns = f.1; columns_end = f.2; rows_end = f.3 }
 
 -- a rectangle inside the table is at most as wide as the table

@@ -1,14 +1,17 @@
 -- The glyphs of column lines: none where the line isn't there, and one where it is and nothing is missing.
-use Rattle.std.proofs.Common.{◌≡◌, ℕ, ◌≤◌, Bool, true, false, ◌&&◌, ◌==◌, nat_lt, List, [], ◌∷◌, refl, arith, Option, Some, None, IsSome, is_some, inl, inr}
+use Rattle.std.proofs.Common.{◌≡◌, ℕ, ◌≤◌, Bool, true, false, ◌&&◌, ◌||◌, ◌==◌, nat_lt, List, [], ◌∷◌, refl, sym, arith, Option, Some, None, IsSome, is_some, inl, inr}
 use Rattle.std.specs.Option.{option_or}
-use Rattle.std.proofs.lemmas.Bool.{cases_Bool, or_parts}
+use Rattle.std.proofs.lemmas.Bool.{cases_Bool, false≢true, or_parts}
 use Rattle.std.proofs.lemmas.Bool.Decides.{nat_tests}
 use Rattle.pg_layout.specs.declared.position.Position.{Position}
 use Rattle.pg_layout.specs.declared.borders.Borders.{Borders}
 use Rattle.pg_layout.specs.Borders.{any_of, has_left, has_right, has_inner_vertical, has_side, vertical_glyph, crossing_glyph}
-use Rattle.pg_layout.specs.Places.{Key, same, begins, has_first, value_at}
+use Rattle.pg_layout.specs.Keys.{column_place, in_column}
+use Rattle.pg_layout.specs.Places.{has_key}
+use Rattle.pg_layout.proofs.KeyOrders.{columns-laws}
+use Rattle.pg_layout.proofs.PlacesLookups.{value_at-no_key}
 use Rattle.pg_layout.specs.Position.{at}
-use Rattle.pg_config.specs.Overrides.{vertical_override, crossing_override, overrides_column, has_second}
+use Rattle.pg_config.specs.Overrides.{vertical_override, crossing_override, overrides_column, has_crossing}
 use Rattle.pg_config.specs.Config.{Config, missing_if, has_horizontal, has_vertical, get_vertical, get_intersection}
 use Rattle.pg_config.proofs.ColumnLines.{first_none}
 use Rattle.pg_picture.specs.Table.{Table}
@@ -41,13 +44,6 @@ missing_glyph_fills_gaps t missing = record {
 
 -- ---- column lines that aren't there
 
-value_at-none : {V : Type 0} (c r : ℕ) (es : List (Key × V)) → has_first c es ≡ false → value_at (c, r, 0) es ≡ None
-value_at-none c r [] h = refl
-value_at-none c r (e ∷ es) h =
-    let parts = or_parts (begins c e.0) (has_first c es) h in
-    let other : same e.0 (c, r, 0) ≡ false = grind (arith, nat_tests, parts.0) in
-    rw other (value_at-none c r es parts.1)
-
 vertical_glyph-none : {G : Type 0} (b : Borders G) (c columns : ℕ) → c ≤ columns → has_side (has_left b) (has_inner_vertical b) (has_right b) c columns ≡ false → vertical_glyph b c columns ≡ None
 unfolding vertical_glyph has_side has_left has_right has_inner_vertical
 vertical_glyph-none b c columns h none =
@@ -68,5 +64,6 @@ pub get_vertical-none : (config : Config) (p : Position) (columns : ℕ) → p.c
 unfolding get_vertical has_vertical vertical_override overrides_column
 get_vertical-none config p columns h none =
     let parts = or_parts (has_side (has_left config.borders) (has_inner_vertical config.borders) (has_right config.borders) p.col columns) (overrides_column config.overrides p.col) none in
-    let column = or_parts (has_first p.col config.overrides.verticals) (has_second p.col config.overrides.crossings) parts.1 in
-    rw (value_at-none p.col p.row config.overrides.verticals column.0, vertical_glyph-none config.borders p.col columns h parts.0, none) refl
+    let column = or_parts (has_key (in_column p.col) config.overrides.verticals) (has_crossing p.col config.overrides.crossings) parts.1 in
+    let its : in_column p.col (column_place p) ≡ true = grind (arith, nat_tests) in
+    rw (value_at-no_key columns-laws (in_column p.col) (column_place p) config.overrides.verticals its column.0, vertical_glyph-none config.borders p.col columns h parts.0, none) refl

@@ -1,5 +1,5 @@
 -- The glyphs of a horizontal: one by one, and in one go where no single one was set.
-use Rattle.std.proofs.Common.{◌≡◌, ℕ, zero, suc, ◌+◌, ◌-◌, ◌<◌, false, List, [], ◌∷◌, ◌++◌, map, replicate, Option, None, refl, sym, ap, ap₂, ◌∙◌, append_assoc, zero-add, arith}
+use Rattle.std.proofs.Common.{◌≡◌, ℕ, zero, suc, ◌+◌, ◌-◌, ◌<◌, Bool, true, false, ◌||◌, List, [], ◌∷◌, ◌++◌, map, replicate, Option, None, refl, sym, ap, ap₂, ◌∙◌, append_assoc, zero-add, arith}
 use Rattle.std.specs.List.{range_with_len}
 use Rattle.std.proofs.lemmas.List.{map-append}
 use Rattle.std.proofs.lemmas.List.FromFn.{map-range_with_len_more}
@@ -7,10 +7,14 @@ use Rattle.std.proofs.lemmas.Bool.{or_parts}
 use Rattle.std.proofs.lemmas.Bool.Decides.{nat_tests}
 use Rattle.pg_layout.specs.declared.position.Position.{Position}
 use Rattle.pg_layout.specs.Colors.{Color}
-use Rattle.pg_layout.specs.Places.{Key, same, begins_pair, has_pair, value_at}
+use Rattle.pg_layout.specs.Places.{has_key}
+use Rattle.pg_layout.specs.Position.{is_at}
+use Rattle.pg_layout.proofs.PlacesLookups.{value_at-no_key}
+use Rattle.pg_config.proofs.GlyphLaws.{glyph-laws}
 use Rattle.pg_config.specs.Config.{Config, is_overridden_horizontal}
-use Rattle.pg_config.specs.Offsets.{Offsets, is_offset_at, lookup_offset}
-use Rattle.pg_picture.specs.Pieces.{Item, glyph, spaces, color_after, item_after, items_after, last_color}
+use Rattle.pg_config.specs.Offsets.{Offsets, glyph_at, of_place, is_offset_at, lookup_offset}
+use Rattle.pg_picture.specs.Pieces.{Item, glyph, spaces, color_after}
+use Rattle.pg_picture.specs.Inside.Following.{item_after, items_after, last_color}
 use Rattle.pg_picture.specs.Table.{border_glyph, border_items}
 use Rattle.pg_picture.proofs.CutsOfItems.{items_after-append, items_after-one, items_after-spaces, last_color-append, last_color-one, last_color-spaces}
 use Rattle.pg_picture.proofs.Ranges.{range-add}
@@ -47,20 +51,12 @@ items_after-cut c f k n {d} {item} last is here =
 
 -- ---- where no single glyph was set
 
-module _ {V : Type 0} where
-  value_at-no_pair : (r c i : ℕ) (es : List (Key × V)) → has_pair r c es ≡ false → value_at (r, c, i) es ≡ None
-  value_at-no_pair r c i [] none = refl
-  value_at-no_pair r c i (e ∷ es) none =
-      let both = or_parts (begins_pair r c e.0) (has_pair r c es) none in
-      let first : begins_pair r c e.0 ≡ false = both.0 in
-      let other : same e.0 (r, c, i) ≡ false = grind (arith, nat_tests, first) in
-      rw other (value_at-no_pair r c i es both.1)
-
-  pub lookup_offset-none : (o : Offsets V) (p : Position) (i w : ℕ) → is_offset_at o p ≡ false → lookup_offset o p i w ≡ None
-  unfolding is_offset_at lookup_offset
-  lookup_offset-none o p i w none =
-      let both = or_parts (has_pair p.row p.col o.from_start) (has_pair p.row p.col o.from_end) none in
-      rw (value_at-no_pair p.row p.col i o.from_start both.0) (value_at-no_pair p.row p.col (w - i - 1) o.from_end both.1)
+pub lookup_offset-none : {V : Type 0} (o : Offsets V) (p : Position) (i w : ℕ) → is_offset_at o p ≡ false → lookup_offset o p i w ≡ None
+unfolding is_offset_at lookup_offset
+lookup_offset-none o p i w none =
+    let both = or_parts (has_key (of_place p) o.from_start) (has_key (of_place p) o.from_end) none in
+    let its : is_at p p.row p.col ≡ true = grind (arith, nat_tests) in
+    rw (value_at-no_key glyph-laws (of_place p) (glyph_at p i) o.from_start its both.0) (value_at-no_key glyph-laws (of_place p) (glyph_at p (w - i - 1)) o.from_end its both.1)
 
 border_glyph-plain : (config : Config) (p : Position) (w g : ℕ) (color : Option Color) (i : ℕ) → is_overridden_horizontal config p ≡ false → border_glyph config p w g color i ≡ glyph g color None
 unfolding is_overridden_horizontal

@@ -4,7 +4,8 @@ use Rattle.std.proofs.lemmas.List.{length-replicate, replicate-append-replicate}
 use Rattle.std.proofs.lemmas.List.Concat.{flat_map-append}
 use Rattle.std.proofs.lemmas.Bool.Decides.{nat_tests}
 use Rattle.pg_layout.specs.Text.{Text}
-use Rattle.pg_picture.specs.Joined.{fed, joined, continued, lines_before, feed_before}
+use Rattle.pg_picture.specs.Joined.{fed, joined, continued}
+use Rattle.pg_picture.specs.Inside.Following.{lines_before, feed_before}
 
 -- no line adds nothing
 pub continued-nil : (n : ℕ) → continued n [] ≡ []

@@ -6,7 +6,7 @@ use Rattle.pg_layout.specs.Position.{at, is_at}
 use Rattle.pg_config.specs.Spans.{Span, owner, is_left, left_span, if_above}
 use Rattle.pg_picture.specs.Fits.{owner_fits}
 use Rattle.pg_picture.specs.Rectangles.{columns_or_one}
-use Rattle.pg_picture.specs.Sizes.{first_misfit, row_places}
+use Rattle.pg_picture.specs.Inside.Walks.{first_misfit, row_places}
 use Rattle.pg_picture.specs.Table.{Table}
 use Rattle.pg_picture.proofs.OwnersOfPlaces.{InOrder, option_cases, left_sound, owner_found, owner_alone, step_positive, step_inside, next_left, inner}
 use Rattle.pg_picture.proofs.Rooms.{next_place}
@@ -18,7 +18,7 @@ module _ (spans : List Span) (rows columns : ℕ) (order : InOrder spans rows co
         | inl none ↦ rw (none, owner_alone spans rows columns order r x left none) (grind (arith, nat_tests))
         | inr some ↦
             let f = left_sound spans rows columns order r x some.0 some.1 in
-            elim (cases_Bool (nat_lt some.0.0.1 r)) [
+            elim (cases_Bool (nat_lt some.0.0.row r)) [
               | inl y ↦ rw (some.1, owner_found spans rows columns order r x some.0 some.1, y) (grind (arith, nat_tests, y))
               | inr n ↦ rw (some.1, owner_found spans rows columns order r x some.0 some.1, n) (grind (arith, nat_tests, n, f.left, f.holds))
             ]

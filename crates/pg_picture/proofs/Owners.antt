@@ -3,19 +3,20 @@ use Rattle.std.proofs.Common.{◌≡◌, ℕ, ◌+◌, ◌<◌, ◌≤◌, Bool,
 use Rattle.std.specs.List.{list_all}
 use Rattle.std.proofs.lemmas.Bool.{cases_Bool, and_parts, false≢true}
 use Rattle.std.proofs.lemmas.Bool.Decides.{nat_tests}
+use Rattle.pg_config.specs.declared.spans.SpanSize.{SpanSize}
+use Rattle.pg_layout.specs.Keys.{by_columns, column_place}
 use Rattle.pg_layout.specs.declared.position.Position.{Position}
 use Rattle.pg_layout.specs.Places.{same, value_at}
 use Rattle.pg_layout.specs.Position.{at}
-use Rattle.pg_config.specs.Spans.{Span, StandAtPlaces, corner, corner_or, span_key, size_of, rect_rows, rect_columns, in_span, owner}
+use Rattle.pg_config.specs.Spans.{Span, corner, corner_or, size_of, rect_rows, rect_columns, in_span, owner, span_size}
 use Rattle.pg_picture.proofs.OwnersOfPlaces.{Among}
 use Rattle.pg_picture.specs.Fits.{are_apart, all_apart, span_fits_columns, span_fits, spans_fit, spans_fit_columns}
 
 -- ---- rectangles of a list
 
--- each rectangle has a size, a key that ends in 0, and shares no place with another
+-- each rectangle has a size, and shares no place with another
 pub record Apart (spans : List Span) : Type 0 where
-  pub sizes : (s : Span) → Among spans s → (0 < s.1.0) × (0 < s.1.1)
-  pub keys : (s : Span) → Among spans s → s.0.2 ≡ 0
+  pub sizes : (s : Span) → Among spans s → (0 < s.1.rows) × (0 < s.1.columns)
   pub alone : (s u : Span) (r c : ℕ) → Among spans s → Among spans u → in_span r c s ≡ true → in_span r c u ≡ true → s ≡ u
 
 pub all_pass : (test : Span → Bool) (spans : List Span) (s : Span) → list_all test spans ≡ true → Among spans s → test s ≡ true
@@ -37,19 +38,13 @@ alone_of (x ∷ xs) s u r c h (inr m) (inl f) hs hu =
     absurd (share_none x s r c apart (subst (λ y. in_span r c y ≡ true) (sym f) hu) hs)
 alone_of (x ∷ xs) s u r c h (inr m) (inr n) hs hu = alone_of xs s u r c (and_parts (list_all (are_apart x) xs) (all_apart xs) h).1 m n hs hu
 
-keys_of : (spans : List Span) (s : Span) → StandAtPlaces spans → Among spans s → s.0.2 ≡ 0
-keys_of [] s h m = absurd m
-keys_of (x ∷ xs) s h (inl e) = sym (ap (λ (u : Span). u.0.2) e) ∙ h.0
-keys_of (x ∷ xs) s h (inr m) = keys_of xs s h.1 m
-
 -- spans that fit a number of columns are apart
-pub apart_from : (spans : List Span) (columns : ℕ) → spans_fit_columns spans columns ≡ true → StandAtPlaces spans → Apart spans
+pub apart_from : (spans : List Span) (columns : ℕ) → spans_fit_columns spans columns ≡ true → Apart spans
 unfolding spans_fit_columns
-apart_from spans columns h places =
+apart_from spans columns h =
     let parts = and_parts (list_all (span_fits_columns columns) spans) (all_apart spans) h in
     record {
       sizes = λ s m. let e : span_fits_columns columns s ≡ true = all_pass (span_fits_columns columns) spans s parts.0 m in (grind (arith, nat_tests, e), grind (arith, nat_tests, e));
-      keys = λ s m. keys_of spans s places m;
       alone = λ s u r c. alone_of spans s u r c parts.1;
     }
 
@@ -73,37 +68,37 @@ find_cases test (x ∷ xs) =
       ]
     ]
 
-holds_own : (s : Span) → 0 < s.1.0 → 0 < s.1.1 → in_span s.0.1 s.0.0 s ≡ true
+holds_own : (s : Span) → 0 < s.1.rows → 0 < s.1.columns → in_span s.0.row s.0.col s ≡ true
 holds_own s a b = grind (arith, nat_tests, a, b)
 
 -- the size of a rectangle is found at its corner
-size_at : (spans : List Span) (s : Span) → Apart spans → Among spans s → value_at (span_key (corner s)) spans ≡ Some s.1
+size_at : (spans : List Span) (s : Span) → Apart spans → Among spans s → value_at by_columns (column_place (corner s)) spans ≡ Some s.1
 size_at spans s apart m = go spans (λ u n. n) m
   where
-    go : (xs : List Span) → ((u : Span) → Among xs u → Among spans u) → Among xs s → value_at (span_key (corner s)) xs ≡ Some s.1
+    go : (xs : List Span) → ((u : Span) → Among xs u → Among spans u) → Among xs s → value_at by_columns (column_place (corner s)) xs ≡ Some s.1
     go [] inside n = absurd n
     go (x ∷ xs) inside n =
-        elim (cases_Bool (same x.0 (span_key (corner s)))) [
+        elim (cases_Bool (same by_columns x.0 (column_place (corner s)))) [
           | inl y ↦
-              let row : x.0.1 ≡ s.0.1 = grind (arith, nat_tests, y) in
-              let col : x.0.0 ≡ s.0.0 = grind (arith, nat_tests, y) in
+              let row : x.0.row ≡ s.0.row = grind (arith, nat_tests, y) in
+              let col : x.0.col ≡ s.0.col = grind (arith, nat_tests, y) in
               let mine = apart.sizes s m in
               let other = apart.sizes x (inside x (inl refl)) in
-              let here : in_span s.0.1 s.0.0 x ≡ true = grind (arith, nat_tests, row, col, other.0, other.1) in
-              rw y (ap (λ (u : Span). Some u.1) (apart.alone x s s.0.1 s.0.0 (inside x (inl refl)) m here (holds_own s mine.0 mine.1)))
+              let here : in_span s.0.row s.0.col x ≡ true = grind (arith, nat_tests, row, col, other.0, other.1) in
+              rw y (ap (λ (u : Span). Some u.1) (apart.alone x s s.0.row s.0.col (inside x (inl refl)) m here (holds_own s mine.0 mine.1)))
           | inr f ↦ elim n [
-            | inl e ↦ absurd (let key = apart.keys s m in let row = ap (λ (u : Span). u.0.1) e in let col = ap (λ (u : Span). u.0.0) e in let third = ap (λ (u : Span). u.0.2) e in grind (arith, nat_tests, f, key, row, col, third))
+            | inl e ↦ absurd (let row = ap (λ (u : Span). u.0.row) e in let col = ap (λ (u : Span). u.0.col) e in grind (arith, nat_tests, f, row, col))
             | inr k ↦ rw f (go xs (λ u l. inside u (inr l)) k)
           ]
         ]
 
 -- a place of no rectangle has none of its own
-size_none : (spans : List Span) (r c : ℕ) → ((s : Span) → Among spans s → (0 < s.1.0) × (0 < s.1.1)) → ((s : Span) → Among spans s → in_span r c s ≡ false) → value_at (c, r, 0) spans ≡ None
+size_none : (spans : List Span) (r c : ℕ) → ((s : Span) → Among spans s → (0 < s.1.rows) × (0 < s.1.columns)) → ((s : Span) → Among spans s → in_span r c s ≡ false) → value_at by_columns (column_place (at r c)) spans ≡ None
 size_none [] r c sizes none = refl
 size_none (x ∷ xs) r c sizes none =
     let size = sizes x (inl refl) in
     let out : in_span r c x ≡ false = none x (inl refl) in
-    let other : same x.0 (c, r, 0) ≡ false = grind (arith, nat_tests, size.0, size.1, out) in
+    let other : same by_columns x.0 (column_place (at r c)) ≡ false = grind (arith, nat_tests, size.0, size.1, out) in
     rw other (size_none xs r c (λ s m. sizes s (inr m)) (λ s m. none s (inr m)))
 
 -- ---- owners
@@ -114,8 +109,8 @@ pub record IsHeld (spans : List Span) (r c : ℕ) : Type 0 where
   pub among : Among spans span
   pub holds : in_span r c span ≡ true
   pub own : owner spans r c ≡ corner span
-  pub rows : rect_rows spans (owner spans r c) ≡ span.1.0
-  pub columns : rect_columns spans (owner spans r c) ≡ span.1.1
+  pub rows : rect_rows spans (owner spans r c) ≡ span.1.rows
+  pub columns : rect_columns spans (owner spans r c) ≡ span.1.columns
 
 -- no rectangle holds it: it is a cell of its own
 pub record IsSingle (spans : List Span) (r c : ℕ) : Type 0 where
@@ -125,13 +120,13 @@ pub record IsSingle (spans : List Span) (r c : ℕ) : Type 0 where
   pub columns : rect_columns spans (owner spans r c) ≡ 1
 
 -- the size that is found at a place is that of its rectangle
-rows_of : (spans : List Span) (p q : Position) (o : Option (ℕ × ℕ)) → p ≡ q → value_at (span_key q) spans ≡ o → rect_rows spans p ≡ (unwrap_or o (1, 1)).0
+rows_of : (spans : List Span) (p q : Position) (o : Option SpanSize) → p ≡ q → value_at by_columns (column_place q) spans ≡ o → rect_rows spans p ≡ (unwrap_or o (span_size 1 1)).rows
 unfolding rect_rows size_of
-rows_of spans p q o e h = ap (λ (x : Position). rect_rows spans x) e ∙ ap (λ (v : Option (ℕ × ℕ)). (unwrap_or v (1, 1)).0) h
+rows_of spans p q o e h = ap (λ (x : Position). rect_rows spans x) e ∙ ap (λ (v : Option SpanSize). (unwrap_or v (span_size 1 1)).rows) h
 
-columns_of : (spans : List Span) (p q : Position) (o : Option (ℕ × ℕ)) → p ≡ q → value_at (span_key q) spans ≡ o → rect_columns spans p ≡ (unwrap_or o (1, 1)).1
+columns_of : (spans : List Span) (p q : Position) (o : Option SpanSize) → p ≡ q → value_at by_columns (column_place q) spans ≡ o → rect_columns spans p ≡ (unwrap_or o (span_size 1 1)).columns
 unfolding rect_columns size_of
-columns_of spans p q o e h = ap (λ (x : Position). rect_columns spans x) e ∙ ap (λ (v : Option (ℕ × ℕ)). (unwrap_or v (1, 1)).1) h
+columns_of spans p q o e h = ap (λ (x : Position). rect_columns spans x) e ∙ ap (λ (v : Option SpanSize). (unwrap_or v (span_size 1 1)).columns) h
 
 module _ (spans : List Span) (apart : Apart spans) where
   pub owner_cases : (r c : ℕ) → IsHeld spans r c ⊎ IsSingle spans r c
@@ -175,8 +170,8 @@ pub record HasOwners (spans : List Span) : Type 0 where
 near_held : (spans : List Span) (r c : ℕ) → IsHeld spans r c → LiesIn spans (owner spans r c) r c
 near_held spans r c h =
     let holds = h.holds in
-    let row : (owner spans r c).row ≡ h.span.0.1 = ap (λ (p : Position). p.row) h.own in
-    let col : (owner spans r c).col ≡ h.span.0.0 = ap (λ (p : Position). p.col) h.own in
+    let row : (owner spans r c).row ≡ h.span.0.row = ap (λ (p : Position). p.row) h.own in
+    let col : (owner spans r c).col ≡ h.span.0.col = ap (λ (p : Position). p.col) h.own in
     record {
       below = grind (arith, nat_tests, holds, row);
       above = grind (arith, nat_tests, holds, row, h.rows);
@@ -198,8 +193,8 @@ near_single spans r c h =
 module _ (spans : List Span) (apart : Apart spans) where
   whole_held : (r c s d : ℕ) → IsHeld spans r c → LiesIn spans (owner spans r c) s d → owner spans s d ≡ owner spans r c
   whole_held r c s d h l =
-      let row : (owner spans r c).row ≡ h.span.0.1 = ap (λ (p : Position). p.row) h.own in
-      let col : (owner spans r c).col ≡ h.span.0.0 = ap (λ (p : Position). p.col) h.own in
+      let row : (owner spans r c).row ≡ h.span.0.row = ap (λ (p : Position). p.row) h.own in
+      let col : (owner spans r c).col ≡ h.span.0.col = ap (λ (p : Position). p.col) h.own in
       let here : in_span s d h.span ≡ true = grind (arith, nat_tests, row, col, h.rows, h.columns, l.below, l.above, l.right, l.left) in
       elim (owner_cases spans apart s d) [
         | inl k ↦ k.own ∙ ap corner (apart.alone k.span h.span s d k.among h.among k.holds here) ∙ sym h.own
@@ -233,7 +228,7 @@ owner-ends spans rows columns apart fit r c h =
     let parts = and_parts (list_all (span_fits rows columns) spans) (all_apart spans) fit in
     elim (owner_cases spans apart r c) [
       | inl k ↦
-          let row : (owner spans r c).row ≡ k.span.0.1 = ap (λ (p : Position). p.row) k.own in
+          let row : (owner spans r c).row ≡ k.span.0.row = ap (λ (p : Position). p.row) k.own in
           let e : span_fits rows columns k.span ≡ true = all_pass (span_fits rows columns) spans k.span parts.0 k.among in
           grind (arith, nat_tests, row, k.rows, e)
       | inr k ↦
@@ -248,7 +243,7 @@ owner-columns spans columns apart fit r c h =
     let parts = and_parts (list_all (span_fits_columns columns) spans) (all_apart spans) fit in
     elim (owner_cases spans apart r c) [
       | inl k ↦
-          let col : (owner spans r c).col ≡ k.span.0.0 = ap (λ (p : Position). p.col) k.own in
+          let col : (owner spans r c).col ≡ k.span.0.col = ap (λ (p : Position). p.col) k.own in
           let e : span_fits_columns columns k.span ≡ true = all_pass (span_fits_columns columns) spans k.span parts.0 k.among in
           grind (arith, nat_tests, col, k.columns, e)
       | inr k ↦

@@ -3,11 +3,15 @@ use Rattle.std.proofs.Common.{◌≡◌, ℕ, ◌+◌, ◌-◌, ◌<◌, ◌≤�
 use Rattle.std.specs.List.{list_all}
 use Rattle.std.proofs.lemmas.Bool.{cases_Bool, false≢true, and_parts}
 use Rattle.std.proofs.lemmas.Bool.Decides.{nat_tests}
+use Rattle.pg_layout.proofs.KeyOrders.{columns-laws}
+use Rattle.pg_config.specs.declared.spans.SpanSize.{SpanSize}
+use Rattle.pg_layout.specs.declared.position.ColumnPlace.{ColumnPlace}
+use Rattle.pg_layout.specs.Keys.{by_columns, column_place}
 use Rattle.pg_layout.specs.declared.position.Position.{Position}
 use Rattle.pg_layout.specs.Position.{at}
-use Rattle.pg_layout.specs.Places.{Key, same, before, comes, value_at, last_up_to, Each, IsAscending}
+use Rattle.pg_layout.specs.Places.{same, before, comes, value_at, last_up_to, Each, IsAscending}
 use Rattle.pg_layout.proofs.PlacesOrder.{before-comes}
-use Rattle.pg_config.specs.Spans.{Span, StandAtPlaces, corner, in_span, owner, is_left, begins_above, same_owner, left_span, size_of, span_key}
+use Rattle.pg_config.specs.Spans.{Span, corner, in_span, owner, is_left, begins_above, same_owner, left_span, size_of, span_size}
 use Rattle.pg_picture.specs.Rectangles.{columns_or_one}
 use Rattle.pg_picture.specs.Fits.{are_apart, all_apart, span_fits, spans_fit}
 
@@ -18,8 +22,7 @@ Among (t ∷ ts) s = (t ≡ s) ⊎ Among ts s
 
 -- spans in their order, of which each has a size and ends inside the table, and no two share a place
 pub record InOrder (spans : List Span) (rows columns : ℕ) : Type 0 where
-  pub ascending : IsAscending spans
-  pub places : StandAtPlaces spans
+  pub ascending : IsAscending by_columns spans
   pub fit : spans_fit spans rows columns ≡ true
 
 -- ---- spans that fit
@@ -27,10 +30,6 @@ pub record InOrder (spans : List Span) (rows columns : ℕ) : Type 0 where
 Each-among : (P : Span → Type 0) (spans : List Span) (s : Span) → Each P spans → Among spans s → P s
 Each-among P [] s all m = absurd m
 Each-among P (t ∷ ts) s all m = elim m [ inl e ↦ subst P e all.0 | inr n ↦ Each-among P ts s all.1 n ]
-
-place_among : (spans : List Span) (s : Span) → StandAtPlaces spans → Among spans s → s.0.2 ≡ 0
-place_among [] s all m = absurd m
-place_among (t ∷ ts) s all m = elim m [ inl e ↦ subst (λ (x : Span). x.0.2 ≡ 0) e all.0 | inr n ↦ place_among ts s all.1 n ]
 
 test_among : (test : Span → Bool) (spans : List Span) (s : Span) → list_all test spans ≡ true → Among spans s → test s ≡ true
 test_among test [] s all m = absurd m
@@ -59,10 +58,10 @@ one_rectangle (x ∷ xs) s t r c all m n hs ht =
 
 -- the size of a rectangle, and its ends inside the table
 pub record HasRoom (rows columns : ℕ) (s : Span) : Type 0 where
-  pub some_rows : 0 < s.1.0
-  pub some_columns : 0 < s.1.1
-  pub columns_end : s.0.0 + s.1.1 ≤ columns
-  pub rows_end : s.0.1 + s.1.0 ≤ rows
+  pub some_rows : 0 < s.1.rows
+  pub some_columns : 0 < s.1.columns
+  pub columns_end : s.0.col + s.1.columns ≤ columns
+  pub rows_end : s.0.row + s.1.rows ≤ rows
 
 room_of : (rows columns : ℕ) (s : Span) → span_fits rows columns s ≡ true → HasRoom rows columns s
 room_of rows columns s h = record { some_rows = grind (arith, nat_tests, h); some_columns = grind (arith, nat_tests, h); columns_end = grind (arith, nat_tests, h); rows_end = grind (arith, nat_tests, h) }
@@ -77,15 +76,15 @@ None≢Some : (u : Span) → None ≡ Some u → ⊥
 None≢Some u e = false≢true (ap (λ (o : Option Span). is_some o) e)
 
 -- what the search finds is there, and comes up to k
-last_facts : (k : Key) (spans : List Span) (u : Span) → last_up_to k spans ≡ Some u → Among spans u × (comes true u.0 k ≡ true)
+last_facts : (k : ColumnPlace) (spans : List Span) (u : Span) → last_up_to by_columns k spans ≡ Some u → Among spans u × (comes by_columns true u.0 k ≡ true)
 last_facts k [] u e = absurd (None≢Some u e)
 last_facts k (t ∷ ts) u e =
-    elim (cases_Bool (comes true t.0 k)) [
+    elim (cases_Bool (comes by_columns true t.0 k)) [
       | inr n ↦ absurd (None≢Some u (rw n at e))
       | inl y ↦
           let is = (rw y at e) in
-          elim (option_cases (last_up_to k ts)) [
-            | inl none ↦ let same_one : t ≡ u = ap (λ o. unwrap_or o t) (rw none at is) in (inl same_one, subst (λ (x : Span). comes true x.0 k ≡ true) same_one y)
+          elim (option_cases (last_up_to by_columns k ts)) [
+            | inl none ↦ let same_one : t ≡ u = ap (λ o. unwrap_or o t) (rw none at is) in (inl same_one, subst (λ (x : Span). comes by_columns true x.0 k ≡ true) same_one y)
             | inr some ↦
                 let same_one : some.0 ≡ u = ap (λ o. unwrap_or o t) (rw some.1 at is) in
                 let more = last_facts k ts u (some.1 ∙ ap (λ x. Some x) same_one) in
@@ -94,21 +93,21 @@ last_facts k (t ∷ ts) u e =
     ]
 
 -- and it is not before another that comes up to k
-last_exists : (k : Key) (spans : List Span) (s : Span) → IsAscending spans → Among spans s → comes true s.0 k ≡ true → (u : Span) × (last_up_to k spans ≡ Some u) × (before u.0 s.0 ≡ false)
+last_exists : (k : ColumnPlace) (spans : List Span) (s : Span) → IsAscending by_columns spans → Among spans s → comes by_columns true s.0 k ≡ true → (u : Span) × (last_up_to by_columns k spans ≡ Some u) × (before by_columns u.0 s.0 ≡ false)
 last_exists k [] s up m h = absurd m
 last_exists k (t ∷ ts) s up m h =
     elim m [
       | inl e ↦
-          let here : comes true t.0 k ≡ true = subst (λ (x : Span). comes true x.0 k ≡ true) (sym e) h in
-          elim (option_cases (last_up_to k ts)) [
-            | inl none ↦ (t, rw (here, none) refl, subst (λ (x : Span). before t.0 x.0 ≡ false) e (grind (arith, nat_tests)))
+          let here : comes by_columns true t.0 k ≡ true = subst (λ (x : Span). comes by_columns true x.0 k ≡ true) (sym e) h in
+          elim (option_cases (last_up_to by_columns k ts)) [
+            | inl none ↦ (t, rw (here, none) refl, subst (λ (x : Span). before by_columns t.0 x.0 ≡ false) e (grind (arith, nat_tests)))
             | inr some ↦
-                let less : before t.0 some.0.0 ≡ true = Each-among (λ f. before t.0 f.0 ≡ true) ts some.0 up.0 (last_facts k ts some.0 some.1).0 in
-                (some.0, rw (here, some.1) refl, subst (λ (x : Span). before some.0.0 x.0 ≡ false) e (grind (arith, nat_tests, less)))
+                let less : before by_columns t.0 some.0.0 ≡ true = Each-among (λ f. before by_columns t.0 f.0 ≡ true) ts some.0 up.0 (last_facts k ts some.0 some.1).0 in
+                (some.0, rw (here, some.1) refl, subst (λ (x : Span). before by_columns some.0.0 x.0 ≡ false) e (grind (arith, nat_tests, less)))
           ]
       | inr n ↦
-          let less : before t.0 s.0 ≡ true = Each-among (λ f. before t.0 f.0 ≡ true) ts s up.0 n in
-          let here : comes true t.0 k ≡ true = before-comes true t.0 s.0 k less h in
+          let less : before by_columns t.0 s.0 ≡ true = Each-among (λ f. before by_columns t.0 f.0 ≡ true) ts s up.0 n in
+          let here : comes by_columns true t.0 k ≡ true = before-comes columns-laws true t.0 s.0 k less h in
           let more = last_exists k ts s up.1 n h in
           (more.0, rw (here, more.1) refl, more.2)
     ]
@@ -129,23 +128,23 @@ find_none test (t ∷ ts) s e m h =
       | inr n ↦ elim m [ inl same_one ↦ false≢true (sym n ∙ subst (λ x. test x ≡ true) (sym same_one) h) | inr more ↦ find_none test ts s (rw n at e) more h ]
     ]
 
-value_among : (k : Key) (spans : List Span) (v : ℕ × ℕ) → value_at k spans ≡ Some v → (s : Span) × Among spans s × (same s.0 k ≡ true) × (s.1 ≡ v)
-value_among k [] v e = absurd (false≢true (ap (λ (o : Option (ℕ × ℕ)). is_some o) e))
+value_among : (k : ColumnPlace) (spans : List Span) (v : SpanSize) → value_at by_columns k spans ≡ Some v → (s : Span) × Among spans s × (same by_columns s.0 k ≡ true) × (s.1 ≡ v)
+value_among k [] v e = absurd (false≢true (ap (λ (o : Option SpanSize). is_some o) e))
 value_among k (t ∷ ts) v e =
-    elim (cases_Bool (same t.0 k)) [
-      | inl y ↦ (t, inl refl, y, ap (λ (o : Option (ℕ × ℕ)). unwrap_or o v) (rw y at e))
+    elim (cases_Bool (same by_columns t.0 k)) [
+      | inl y ↦ (t, inl refl, y, ap (λ (o : Option SpanSize). unwrap_or o v) (rw y at e))
       | inr n ↦ let more = value_among k ts v (rw n at e) in (more.0, inr more.1, more.2, more.3)
     ]
 
-none_among : (k : Key) (spans : List Span) (s : Span) → value_at k spans ≡ None → Among spans s → same s.0 k ≡ true → ⊥
+none_among : (k : ColumnPlace) (spans : List Span) (s : Span) → value_at by_columns k spans ≡ None → Among spans s → same by_columns s.0 k ≡ true → ⊥
 none_among k [] s e m h = m
 none_among k (t ∷ ts) s e m h =
-    elim (cases_Bool (same t.0 k)) [
-      | inl y ↦ false≢true (sym (ap (λ (o : Option (ℕ × ℕ)). is_some o) (rw y at e)))
-      | inr n ↦ elim m [ inl same_one ↦ false≢true (sym n ∙ subst (λ (x : Span). same x.0 k ≡ true) (sym same_one) h) | inr more ↦ none_among k ts s (rw n at e) more h ]
+    elim (cases_Bool (same by_columns t.0 k)) [
+      | inl y ↦ false≢true (sym (ap (λ (o : Option SpanSize). is_some o) (rw y at e)))
+      | inr n ↦ elim m [ inl same_one ↦ false≢true (sym n ∙ subst (λ (x : Span). same by_columns x.0 k ≡ true) (sym same_one) h) | inr more ↦ none_among k ts s (rw n at e) more h ]
     ]
 
-size_cases : (o : Option (ℕ × ℕ)) → (o ≡ None) ⊎ ((v : ℕ × ℕ) × (o ≡ Some v))
+size_cases : (o : Option SpanSize) → (o ≡ None) ⊎ ((v : SpanSize) × (o ≡ Some v))
 size_cases None = inl refl
 size_cases (Some v) = inr (v, refl)
 
@@ -174,40 +173,38 @@ module _ (spans : List Span) (rows columns : ℕ) (order : InOrder spans rows co
       ]
 
   -- the search finds the rectangle of a left column
-  pub left_found : (r c : ℕ) (s : Span) → Among spans s → in_span r c s ≡ true → s.0.0 ≡ c → left_span spans r c ≡ Some s
+  pub left_found : (r c : ℕ) (s : Span) → Among spans s → in_span r c s ≡ true → s.0.col ≡ c → left_span spans r c ≡ Some s
   left_found r c s m h e =
-      let third = place_among spans s order.places m in
-      let comes_up : comes true s.0 (c, r, 0) ≡ true = grind (arith, nat_tests, h, e, third) in
-      let t = last_exists (c, r, 0) spans s order.ascending m comes_up in
-      let facts = last_facts (c, r, 0) spans t.0 t.1 in
+      let comes_up : comes by_columns true s.0 (column_place (at r c)) ≡ true = grind (arith, nat_tests, h, e) in
+      let t = last_exists (column_place (at r c)) spans s order.ascending m comes_up in
+      let facts = last_facts (column_place (at r c)) spans t.0 t.1 in
       let room = room_among t.0 facts.0 in
-      let other = place_among spans t.0 order.places facts.0 in
-      let in_s : in_span t.0.0.1 c s ≡ true = grind (arith, nat_tests, h, e, facts.1, t.2, third, other) in
-      let in_t : in_span t.0.0.1 c t.0 ≡ true = grind (arith, nat_tests, h, e, facts.1, t.2, third, other, room.some_rows, room.some_columns) in
-      let one : s ≡ t.0 = apart s t.0 t.0.0.1 c m facts.0 in_s in_t in
-      let test : ((s.0.0 == c) && in_span r c s) ≡ true = grind (arith, nat_tests, h, e) in
-      let test_t : ((t.0.0.0 == c) && in_span r c t.0) ≡ true = subst (λ (x : Span). ((x.0.0 == c) && in_span r c x) ≡ true) one test in
+      let in_s : in_span t.0.0.row c s ≡ true = grind (arith, nat_tests, h, e, facts.1, t.2) in
+      let in_t : in_span t.0.0.row c t.0 ≡ true = grind (arith, nat_tests, h, e, facts.1, t.2, room.some_rows, room.some_columns) in
+      let one : s ≡ t.0 = apart s t.0 t.0.0.row c m facts.0 in_s in_t in
+      let test : ((s.0.col == c) && in_span r c s) ≡ true = grind (arith, nat_tests, h, e) in
+      let test_t : ((t.0.0.col == c) && in_span r c t.0) ≡ true = subst (λ (x : Span). ((x.0.col == c) && in_span r c x) ≡ true) one test in
       rw (t.1, test_t) (ap (λ x. Some x) (sym one))
 
   -- and nothing else
   pub record Found (r c : ℕ) (s : Span) : Type 0 where
     pub among : Among spans s
     pub holds : in_span r c s ≡ true
-    pub left : s.0.0 ≡ c
+    pub left : s.0.col ≡ c
 
   pub left_sound : (r c : ℕ) (s : Span) → left_span spans r c ≡ Some s → Found r c s
   left_sound r c s e =
-      elim (option_cases (last_up_to (c, r, 0) spans)) [
+      elim (option_cases (last_up_to by_columns (column_place (at r c)) spans)) [
         | inl none ↦ absurd (None≢Some s (rw none at e))
         | inr some ↦
             let is = (rw some.1 at e) in
-            let facts = last_facts (c, r, 0) spans some.0 some.1 in
-            elim (cases_Bool ((some.0.0.0 == c) && in_span r c some.0)) [
+            let facts = last_facts (column_place (at r c)) spans some.0 some.1 in
+            elim (cases_Bool ((some.0.0.col == c) && in_span r c some.0)) [
               | inl y ↦
                   let same_one : some.0 ≡ s = ap (λ o. unwrap_or o some.0) (rw y at is) in
                   let both : in_span r c some.0 ≡ true = grind (arith, nat_tests, y) in
-                  let left : some.0.0.0 ≡ c = grind (arith, nat_tests, y) in
-                  record { among = subst (λ x. Among spans x) same_one facts.0; holds = subst (λ x. in_span r c x ≡ true) same_one both; left = subst (λ (x : Span). x.0.0 ≡ c) same_one left }
+                  let left : some.0.0.col ≡ c = grind (arith, nat_tests, y) in
+                  record { among = subst (λ x. Among spans x) same_one facts.0; holds = subst (λ x. in_span r c x ≡ true) same_one both; left = subst (λ (x : Span). x.0.col ≡ c) same_one left }
               | inr n ↦ absurd (None≢Some s (rw n at is))
             ]
       ]
@@ -236,34 +233,34 @@ module _ (spans : List Span) (rows columns : ℕ) (order : InOrder spans rows co
       elim (option_cases (left_span spans r x)) [
         | inl none ↦ let near : y < x + 1 = (rw none at k) in ap (λ z. owner spans r z) (omega (arith, h, near))
         | inr some ↦
-            let near : y < x + some.0.1.1 = (rw some.1 at k) in
+            let near : y < x + some.0.1.columns = (rw some.1 at k) in
             let f = left_sound r x some.0 some.1 in
             let there : in_span r y some.0 ≡ true = grind (arith, nat_tests, f.holds, f.left, h, near) in
             owner_is r y some.0 f.among there ∙ sym (owner_is r x some.0 f.among f.holds)
       ]
 
-  left_from : (r x : ℕ) (t : Span) → Among spans t → in_span r x t ≡ true → is_left spans r x ≡ true → t.0.0 ≡ x
+  left_from : (r x : ℕ) (t : Span) → Among spans t → in_span r x t ≡ true → is_left spans r x ≡ true → t.0.col ≡ x
   unfolding is_left
-  left_from r x t m there left = let l : (t.0.0 == x) ≡ true = (rw (owner_is r x t m there) at left) in grind (arith, nat_tests, l)
+  left_from r x t m there left = let l : (t.0.col == x) ≡ true = (rw (owner_is r x t m there) at left) in grind (arith, nat_tests, l)
 
-  overlap : (r x : ℕ) (t : Span) → is_left spans r x ≡ true → Among spans t → in_span r (x + step r x) t ≡ true → (t.0.0 == (x + step r x)) ≡ false → ⊥
+  overlap : (r x : ℕ) (t : Span) → is_left spans r x ≡ true → Among spans t → in_span r (x + step r x) t ≡ true → (t.0.col == (x + step r x)) ≡ false → ⊥
   overlap r x t left m h n =
       elim (option_cases (left_span spans r x)) [
         | inl none ↦
             let h1 : in_span r (x + 1) t ≡ true = (rw none at h) in
-            let n1 : (t.0.0 == (x + 1)) ≡ false = (rw none at n) in
+            let n1 : (t.0.col == (x + 1)) ≡ false = (rw none at n) in
             let there : in_span r x t ≡ true = grind (arith, nat_tests, h1, n1) in
             None≢Some t (sym none ∙ left_found r x t m there (left_from r x t m there left))
         | inr some ↦
             let f = left_sound r x some.0 some.1 in
             let room = room_among some.0 f.among in
-            let h1 : in_span r (x + some.0.1.1) t ≡ true = (rw some.1 at h) in
-            let n1 : (t.0.0 == (x + some.0.1.1)) ≡ false = (rw some.1 at n) in
-            let in_s : in_span r (x + some.0.1.1 - 1) some.0 ≡ true = grind (arith, nat_tests, f.holds, f.left, room.some_columns) in
-            let in_t : in_span r (x + some.0.1.1 - 1) t ≡ true = grind (arith, nat_tests, h1, n1, room.some_columns) in
-            let one = apart some.0 t r (x + some.0.1.1 - 1) f.among m in_s in_t in
-            let outside : in_span r (x + some.0.1.1) some.0 ≡ false = grind (arith, nat_tests, f.left) in
-            false≢true (sym outside ∙ subst (λ s. in_span r (x + some.0.1.1) s ≡ true) (sym one) h1)
+            let h1 : in_span r (x + some.0.1.columns) t ≡ true = (rw some.1 at h) in
+            let n1 : (t.0.col == (x + some.0.1.columns)) ≡ false = (rw some.1 at n) in
+            let in_s : in_span r (x + some.0.1.columns - 1) some.0 ≡ true = grind (arith, nat_tests, f.holds, f.left, room.some_columns) in
+            let in_t : in_span r (x + some.0.1.columns - 1) t ≡ true = grind (arith, nat_tests, h1, n1, room.some_columns) in
+            let one = apart some.0 t r (x + some.0.1.columns - 1) f.among m in_s in_t in
+            let outside : in_span r (x + some.0.1.columns) some.0 ≡ false = grind (arith, nat_tests, f.left) in
+            false≢true (sym outside ∙ subst (λ s. in_span r (x + some.0.1.columns) s ≡ true) (sym one) h1)
       ]
 
   -- a column that no rectangle holds is a left one
@@ -271,7 +268,7 @@ module _ (spans : List Span) (rows columns : ℕ) (order : InOrder spans rows co
   unfolding is_left owner
   left_where_none r z none = rw none (grind (arith, nat_tests))
 
-  left_where_some : (r z : ℕ) (s : Span) → find (in_span r z) spans ≡ Some s → (s.0.0 == z) ≡ true → is_left spans r z ≡ true
+  left_where_some : (r z : ℕ) (s : Span) → find (in_span r z) spans ≡ Some s → (s.0.col == z) ≡ true → is_left spans r z ≡ true
   unfolding is_left owner
   left_where_some r z s some y = rw some y
 
@@ -280,7 +277,7 @@ module _ (spans : List Span) (rows columns : ℕ) (order : InOrder spans rows co
   next_left r x left =
       elim (find_cases (in_span r (x + step r x)) spans) [
         | inl none ↦ left_where_none r (x + step r x) none
-        | inr f ↦ elim (cases_Bool (f.0.0.0 == (x + step r x))) [
+        | inr f ↦ elim (cases_Bool (f.0.0.col == (x + step r x))) [
           | inl y ↦ left_where_some r (x + step r x) f.0 f.1 y
           | inr n ↦ absurd (overlap r x f.0 left f.3 f.2 n)
         ]
@@ -328,16 +325,16 @@ module _ (spans : List Span) (rows columns : ℕ) (order : InOrder spans rows co
       ]
 
   -- a place whose search finds nothing takes one row and one column
-  pub size_alone : (r x : ℕ) → left_span spans r x ≡ None → size_of spans (at r x) ≡ (1, 1)
+  pub size_alone : (r x : ℕ) → left_span spans r x ≡ None → size_of spans (at r x) ≡ span_size 1 1
   unfolding size_of
   size_alone r x none =
-      elim (size_cases (value_at (span_key (at r x)) spans)) [
+      elim (size_cases (value_at by_columns (column_place (at r x)) spans)) [
         | inl nothing ↦ rw nothing refl
         | inr v ↦
-            let s = value_among (span_key (at r x)) spans v.0 v.1 in
+            let s = value_among (column_place (at r x)) spans v.0 v.1 in
             let room = room_among s.0 s.1 in
             let there : in_span r x s.0 ≡ true = grind (arith, nat_tests, s.2, room.some_rows, room.some_columns) in
-            let left : s.0.0.0 ≡ x = grind (arith, nat_tests, s.2) in
+            let left : s.0.0.col ≡ x = grind (arith, nat_tests, s.2) in
             absurd (None≢Some s.0 (sym none ∙ left_found r x s.0 s.1 there left))
       ]
 
@@ -353,16 +350,15 @@ module _ (spans : List Span) (rows columns : ℕ) (order : InOrder spans rows co
   pub size_of_corner : (s : Span) → Among spans s → size_of spans (corner s) ≡ s.1
   unfolding size_of
   size_of_corner s m =
-      let third = place_among spans s order.places m in
-      let its : same s.0 (span_key (corner s)) ≡ true = grind (arith, nat_tests, third) in
-      elim (size_cases (value_at (span_key (corner s)) spans)) [
-        | inl nothing ↦ absurd (none_among (span_key (corner s)) spans s nothing m its)
+      let its : same by_columns s.0 (column_place (corner s)) ≡ true = grind (arith, nat_tests) in
+      elim (size_cases (value_at by_columns (column_place (corner s)) spans)) [
+        | inl nothing ↦ absurd (none_among (column_place (corner s)) spans s nothing m its)
         | inr v ↦
-            let u = value_among (span_key (corner s)) spans v.0 v.1 in
+            let u = value_among (column_place (corner s)) spans v.0 v.1 in
             let mine = room_among s m in
             let other = room_among u.0 u.1 in
-            let in_s : in_span s.0.1 s.0.0 s ≡ true = grind (arith, nat_tests, mine.some_rows, mine.some_columns) in
-            let in_u : in_span s.0.1 s.0.0 u.0 ≡ true = grind (arith, nat_tests, other.some_rows, other.some_columns, u.2) in
-            let one : u.0 ≡ s = apart u.0 s s.0.1 s.0.0 u.1 m in_u in_s in
+            let in_s : in_span s.0.row s.0.col s ≡ true = grind (arith, nat_tests, mine.some_rows, mine.some_columns) in
+            let in_u : in_span s.0.row s.0.col u.0 ≡ true = grind (arith, nat_tests, other.some_rows, other.some_columns, u.2) in
+            let one : u.0 ≡ s = apart u.0 s s.0.row s.0.col u.1 m in_u in_s in
             rw v.1 (sym u.3 ∙ ap (λ (x : Span). x.1) one)
       ]

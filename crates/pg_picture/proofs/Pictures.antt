@@ -3,7 +3,8 @@ use Rattle.std.proofs.Common.{◌≡◌, ℕ, zero, suc, ◌+◌, Bool, true, fa
 use Rattle.std.proofs.lemmas.List.{length-replicate}
 use Rattle.std.proofs.lemmas.Bool.Decides.{nat_tests}
 use Rattle.pg_layout.specs.Text.{Text}
-use Rattle.pg_picture.specs.Joined.{joined, continued, lines_before}
+use Rattle.pg_picture.specs.Joined.{joined, continued}
+use Rattle.pg_picture.specs.Inside.Following.{lines_before}
 use Rattle.pg_picture.specs.Table.{Table, Hint, margin_line, margin_lines, full_width, table_body}
 use Rattle.pg_picture.specs.Pieces.{written}
 use Rattle.pg_picture.proofs.JoinedLines.{continued-append}

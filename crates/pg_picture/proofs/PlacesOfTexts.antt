@@ -12,7 +12,7 @@ use Rattle.pg_layout.specs.declared.alignment.AlignmentVertical.TheVariants as d
 use Rattle.pg_layout.specs.Colors.{Color}
 use Rattle.pg_layout.specs.Text.{Text, lines_of, width_of, greatest, is_blank, blank_top, blank_bottom, without_blank_ends}
 use Rattle.pg_picture.specs.Pieces.{Style, Piece, words, fill, written, in_color, shares, lines_above, inner_width, trimmed_if, kept_lines, shown, widest, left_share, line_with, text_line, text_height, text_top, block_line}
-use Rattle.pg_picture.specs.Cells.{facts_of, shared_left, place_of, text_line_at, share_of, line_if, shown_line, placed_line, line_parts, shows_texts_whole}
+use Rattle.pg_picture.specs.Inside.Cells.{facts_of, shared_left, place_of, text_line_at, share_of, line_if, shown_line, placed_line, line_parts, shows_texts_whole}
 use Rattle.pg_picture.specs.Fits.{cell_fits}
 use Rattle.pg_picture.specs.declared.facts.TextFacts.{TextFacts}
 use Rattle.pg_picture.specs.declared.place.CellPlace.{CellPlace}

@@ -12,7 +12,7 @@ use Rattle.pg_picture.specs.Pieces.{style_at}
 use Rattle.pg_picture.specs.Table.{Table}
 use Rattle.pg_picture.specs.Fits.{spans_fit, totals_fit, cell_fits, owner_fits, places, misfit_of}
 use Rattle.pg_picture.specs.Fitting.{TableFits}
-use Rattle.pg_picture.specs.Sizes.{first_misfit, row_places, places_from}
+use Rattle.pg_picture.specs.Inside.Walks.{first_misfit, row_places, places_from}
 use Rattle.pg_picture.proofs.PlainTables.{rect_width_plain, rect_height_plain}
 
 module _ (t : Table) where

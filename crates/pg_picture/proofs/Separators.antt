@@ -8,7 +8,8 @@ use Rattle.pg_layout.specs.Colors.{Color}
 use Rattle.pg_config.specs.Config.{get_horizontal}
 use Rattle.pg_picture.specs.Table.{Table, separator_part, separator_items, crossing_at, border_items}
 use Rattle.pg_picture.proofs.PlainTables.{crossing_plain, column_items_plain, column_items_plain_end}
-use Rattle.pg_picture.specs.Pieces.{Item, items_after, last_color, cut, separator_text}
+use Rattle.pg_picture.specs.Pieces.{Item, cut, separator_text}
+use Rattle.pg_picture.specs.Inside.Following.{items_after, last_color}
 use Rattle.pg_picture.proofs.Ranges.{range-more, range-add}
 use Rattle.pg_picture.proofs.CutsOfItems.{items_after-append, last_color-append, with_cuts-close}
 

@@ -17,7 +17,7 @@ use Rattle.pg_layout.specs.Colors.{Color}
 use Rattle.pg_layout.proofs.Computing.{text_words}
 use Rattle.pg_config.specs.Config.{Config, has_horizontal, has_vertical, get_horizontal, get_vertical, get_intersection, get_intersection_color}
 use Rattle.pg_config.specs.Offsets.{lookup_offset}
-use Rattle.pg_config.specs.Spans.{Span, StandAtPlaces, owner}
+use Rattle.pg_config.specs.Spans.{Span, owner}
 use Rattle.pg_picture.specs.Marks.{Mark, sep, line, only_if, place_of}
 use Rattle.pg_picture.specs.Pieces.{Item, spaces, block, fill, style_at, pieces_width, piece_width}
 use Rattle.pg_picture.specs.Table.{Table, Hint, rect_width, rect_height, block_at, is_inside, is_covered, vertical, vertical_at, row_part, row_line, crossing_at, crossing_item, crossing, border_items, horizontal_items, column_items, separator_part, separator_items, total_width, full_width, table_body, rect_marks, is_blank_at, side_margin, margin_line}
@@ -188,11 +188,11 @@ fits-columns spans rows columns h =
     go [] k = refl
     go (s ∷ ss) k =
         let both = and_parts (span_fits rows columns s) (list_all (span_fits rows columns) ss) k in
-        and_from (span_fits_columns columns s) (list_all (span_fits_columns columns) ss) (and_parts (span_fits_columns columns s) (nat_le (s.0.1 + s.1.0) rows) both.0).0 (go ss both.1)
+        and_from (span_fits_columns columns s) (list_all (span_fits_columns columns) ss) (and_parts (span_fits_columns columns s) (nat_le (s.0.row + s.1.rows) rows) both.0).0 (go ss both.1)
 
 module _ (t : Table) (fit : CellsFit t) (narrow : HasNarrowGlyphs t) (whole : HasNoGaps t) where
   owners : HasOwners t.config.spans
-  owners = owners_of t.config.spans (apart_from t.config.spans t.columns (fits-columns t.config.spans t.rows t.columns fit.spans) fit.places)
+  owners = owners_of t.config.spans (apart_from t.config.spans t.columns (fits-columns t.config.spans t.rows t.columns fit.spans))
 
   owner-row : (r c : ℕ) → r < t.rows → (owner t.config.spans r c).row < t.rows
   owner-row r c h = omega (arith, (owners.near r c).below)
@@ -225,11 +225,11 @@ columns_are_straight t fit narrow whole =
     let parts = parts_of t fit narrow whole in
     All-body (λ mark. mark_width t mark ≡ total_width t) t.config t.height t.rows (λ r i h k. row_line-width t parts r i h k) (λ r h drawn. separator_items-width t parts r h drawn)
 
--- A table that fits promises straight lines, where its spans stand at places.
-pub is_straight : (t : Table) → StandAtPlaces t.config.spans → misfit_of t ≡ None → IsStraight t
-is_straight t places fit rows columns narrow whole =
+-- A table that fits promises straight lines.
+pub is_straight : (t : Table) → misfit_of t ≡ None → IsStraight t
+is_straight t fit rows columns narrow whole =
     let fitting = fits t fit rows columns in
-    columns_are_straight t (record { places = places; spans = fitting.spans; rooms = fitting.rooms }) narrow whole
+    columns_are_straight t (record { spans = fitting.spans; rooms = fitting.rooms }) narrow whole
 
 -- ---- margins
 

@@ -132,7 +132,7 @@ module _ (t : Table) (order : InOrder t.config.spans t.rows t.columns) where
   start_left : (r x : ℕ) → is_start r x ≡ true → begins_above spans r x ≡ true → is_left spans r x ≡ true
   start_left r x start above = elim (cases_Bool (is_left spans r x)) [ inl y ↦ y | inr n ↦ absurd (false≢true (rw (n, above) at start)) ]
 
-  left_found_above : (r x : ℕ) (s : Span) → left_span spans r x ≡ Some s → (begins_above spans r x ≡ nat_lt s.0.1 r) × (is_left spans r x ≡ true)
+  left_found_above : (r x : ℕ) (s : Span) → left_span spans r x ≡ Some s → (begins_above spans r x ≡ nat_lt s.0.row r) × (is_left spans r x ≡ true)
   unfolding begins_above is_left
   left_found_above r x s e =
       let own = owner_found spans t.rows t.columns order r x s e in
@@ -151,7 +151,7 @@ module _ (t : Table) (order : InOrder t.config.spans t.rows t.columns) where
   above_none r x start none =
       elim (option_cases (left_span spans r x)) [
         | inl nothing ↦ none_above r x start nothing
-        | inr some ↦ elim (cases_Bool (nat_lt some.0.0.1 r)) [
+        | inr some ↦ elim (cases_Bool (nat_lt some.0.0.row r)) [
           | inr n ↦ (left_found_above r x some.0 some.1).0 ∙ n
           | inl y ↦ absurd (false≢true (sym (ap (λ (o : Option Span). is_some o) (rw (some.1, y) at none))))
         ]
@@ -161,7 +161,7 @@ module _ (t : Table) (order : InOrder t.config.spans t.rows t.columns) where
   above_some r x s e =
       elim (option_cases (left_span spans r x)) [
         | inl nothing ↦ absurd (false≢true (ap (λ (o : Option Span). is_some o) (rw nothing at e)))
-        | inr some ↦ elim (cases_Bool (nat_lt some.0.0.1 r)) [
+        | inr some ↦ elim (cases_Bool (nat_lt some.0.0.row r)) [
           | inr n ↦ absurd (false≢true (ap (λ (o : Option Span). is_some o) (rw (some.1, n) at e)))
           | inl y ↦
               let same : Some some.0 ≡ Some s = (rw (some.1, y) at e) in
@@ -176,11 +176,11 @@ module _ (t : Table) (order : InOrder t.config.spans t.rows t.columns) where
   start_where_left : (r x : ℕ) → is_left spans r x ≡ true → is_start r x ≡ true
   start_where_left r x left = rw left (grind (arith, nat_tests))
 
-  not_above : (r x : ℕ) (s : Span) → Among spans s → in_span r x s ≡ true → nat_lt s.0.1 r ≡ false → begins_above spans r x ≡ false
+  not_above : (r x : ℕ) (s : Span) → Among spans s → in_span r x s ≡ true → nat_lt s.0.row r ≡ false → begins_above spans r x ≡ false
   unfolding begins_above
   not_above r x s m h below = ap (λ (o : Position). nat_lt o.row r) (owner_is spans t.rows t.columns order r x s m h) ∙ below
 
-  above_of : (r x : ℕ) (s : Span) → Among spans s → in_span r x s ≡ true → begins_above spans r x ≡ false → nat_lt s.0.1 r ≡ false
+  above_of : (r x : ℕ) (s : Span) → Among spans s → in_span r x s ≡ true → begins_above spans r x ≡ false → nat_lt s.0.row r ≡ false
   unfolding begins_above
   above_of r x s m h other = sym (ap (λ (o : Position). nat_lt o.row r) (owner_is spans t.rows t.columns order r x s m h)) ∙ other
 
@@ -188,7 +188,7 @@ module _ (t : Table) (order : InOrder t.config.spans t.rows t.columns) where
   unfolding begins_above owner
   alone_not_above r x none = rw none (grind (arith, nat_tests))
 
-  left_at : (r x : ℕ) (s : Span) → Among spans s → in_span r x s ≡ true → (s.0.0 == x) ≡ true → is_left spans r x ≡ true
+  left_at : (r x : ℕ) (s : Span) → Among spans s → in_span r x s ≡ true → (s.0.col == x) ≡ true → is_left spans r x ≡ true
   unfolding is_left
   left_at r x s m h e = ap (λ (o : Position). o.col == x) (owner_is spans t.rows t.columns order r x s m h) ∙ e
 
@@ -197,7 +197,7 @@ module _ (t : Table) (order : InOrder t.config.spans t.rows t.columns) where
   after_other r x other =
       elim (find_cases (in_span r (x + 1)) spans) [
         | inl none ↦ start_where_none r (x + 1) (alone_not_above r (x + 1) none)
-        | inr f ↦ elim (cases_Bool (f.0.0.0 == (x + 1))) [
+        | inr f ↦ elim (cases_Bool (f.0.0.col == (x + 1))) [
           | inl y ↦ start_where_left r (x + 1) (left_at r (x + 1) f.0 f.3 f.2 y)
           | inr n ↦
               let there : in_span r x f.0 ≡ true = grind (arith, nat_tests, f.2, n) in
@@ -297,15 +297,15 @@ module _ (t : Table) (order : InOrder t.config.spans t.rows t.columns) where
       ap₂ (λ (p q : List Item). p ++ q) (crossing_start r x start here) (column_border r x (covered-is r x here ∙ above_none r x start none) here)
 
 -- what begins above a row has its corner there
-pub span_above-below : (spans : List Span) (r x : ℕ) (s : Span) → span_above spans r x ≡ Some s → s.0.1 < r
+pub span_above-below : (spans : List Span) (r x : ℕ) (s : Span) → span_above spans r x ≡ Some s → s.0.row < r
 span_above-below spans r x s e =
     elim (option_cases (left_span spans r x)) [
       | inl nothing ↦ absurd (false≢true (ap (λ (o : Option Span). is_some o) (rw nothing at e)))
-      | inr some ↦ elim (cases_Bool (nat_lt some.0.0.1 r)) [
+      | inr some ↦ elim (cases_Bool (nat_lt some.0.0.row r)) [
         | inr n ↦ absurd (false≢true (ap (λ (o : Option Span). is_some o) (rw (some.1, n) at e)))
         | inl y ↦
             let its : Some some.0 ≡ Some s = (rw (some.1, y) at e) in
             let same : some.0 ≡ s = ap (λ (o : Option Span). unwrap_or o s) its in
-            subst (λ (u : Span). u.0.1 < r) same (grind (arith, nat_tests, y))
+            subst (λ (u : Span). u.0.row < r) same (grind (arith, nat_tests, y))
       ]
     ]

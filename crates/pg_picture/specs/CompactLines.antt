@@ -120,20 +120,6 @@ unfoldable pub parts_after : Option Color → List Part → Text
 parts_after c [] = cut c None
 parts_after c (part ∷ rest) = (cut c (own_or part.2 c) ++ repeated part.0 part.1) ++ parts_after (own_or part.2 c) rest
 
--- a part after one of colour c, with the cut before it
-abbrev pub part_after : Option Color → Part → Text
-part_after c part = cut c (own_or part.2 c) ++ repeated part.0 part.1
-
--- parts after one of colour c, with the cut before each; the last colour stays open
-unfoldable pub open_parts : Option Color → List Part → Text
-open_parts c [] = []
-open_parts c (part ∷ rest) = part_after c part ++ open_parts (own_or part.2 c) rest
-
--- the colour that is open after the parts
-unfoldable pub open_color : Option Color → List Part → Option Color
-open_color c [] = c
-open_color c (part ∷ rest) = open_color (own_or part.2 c) rest
-
 unfoldable pub separator_row : CompactTable → HorizontalLine ℕ → HorizontalLine Color → Text
 separator_row t g c = with_margins t (parts_after None (parts t g c))
 

@@ -22,8 +22,8 @@ misfit_text (Room row col) = codes "room " ++ (decimal row ++ (codes " " ++ deci
 -- no place lies in both rectangles
 abbrev pub are_apart : Span → Span → Bool
 are_apart s t =
-    (nat_le (s.0.1 + s.1.0) t.0.1 || nat_le (t.0.1 + t.1.0) s.0.1)
-    || (nat_le (s.0.0 + s.1.1) t.0.0 || nat_le (t.0.0 + t.1.1) s.0.0)
+    (nat_le (s.0.row + s.1.rows) t.0.row || nat_le (t.0.row + t.1.rows) s.0.row)
+    || (nat_le (s.0.col + s.1.columns) t.0.col || nat_le (t.0.col + t.1.columns) s.0.col)
 
 abbrev pub all_apart : List Span → Bool
 all_apart [] = true
@@ -31,10 +31,10 @@ all_apart (s ∷ ss) = list_all (are_apart s) ss && all_apart ss
 
 -- both sizes of a rectangle are at least 1, and its columns end inside the table
 abbrev pub span_fits_columns : ℕ → Span → Bool
-span_fits_columns columns s = (nat_lt 0 s.1.0 && nat_lt 0 s.1.1) && nat_le (s.0.0 + s.1.1) columns
+span_fits_columns columns s = (nat_lt 0 s.1.rows && nat_lt 0 s.1.columns) && nat_le (s.0.col + s.1.columns) columns
 
 abbrev pub span_fits : ℕ → ℕ → Span → Bool
-span_fits rows columns s = span_fits_columns columns s && nat_le (s.0.1 + s.1.0) rows
+span_fits rows columns s = span_fits_columns columns s && nat_le (s.0.row + s.1.rows) rows
 
 -- every rectangle has a size, ends inside the table, and shares no place with another
 unfoldable pub spans_fit : List Span → ℕ → ℕ → Bool

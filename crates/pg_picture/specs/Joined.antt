@@ -1,5 +1,5 @@
 -- Lines that are joined by one line feed.
-use Rattle.std.specs.Prelude.{ℕ, zero, suc, Bool, List, [], ◌∷◌, ◌++◌, flat_map, if◌then◌else◌}
+use Rattle.std.specs.Prelude.{ℕ, zero, suc, List, [], ◌∷◌, ◌++◌, flat_map}
 use Rattle.pg_layout.specs.Text.{Text}
 
 -- each line after a line feed
@@ -15,11 +15,3 @@ joined (line ∷ lines) = line ++ fed lines
 unfoldable pub continued : ℕ → List Text → Text
 continued zero lines = joined lines
 continued (suc n) lines = fed lines
-
--- how many lines stand before the first one, or before another one
-abbrev pub lines_before : Bool → ℕ
-lines_before is_first = if is_first then 0 else 1
-
--- what stands between a line and the one before it
-abbrev pub feed_before : Bool → Text
-feed_before is_first = if is_first then [] else 10 ∷ []

@@ -4,9 +4,7 @@ pub mod Pieces
 pub mod Table
 pub mod CompactLines
 pub mod Fits
-pub mod SpansByColumns
 pub mod Joined
-pub mod Cells
 pub mod Styles
 pub mod Sizes
 pub mod Fitting
@@ -16,6 +14,6 @@ pub mod Picture
 pub mod Samples
 pub mod CompactSizes
 pub mod Rectangles
-pub mod KeptSeparators
 pub mod Grids
 pub mod Printed
+pub mod Inside

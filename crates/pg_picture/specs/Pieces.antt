@@ -183,19 +183,5 @@ unfoldable pub with_cuts : Option Color → List Item → Text
 with_cuts c [] = cut c None
 with_cuts c (item ∷ items) = cut c (color_after c item) ++ (item_text (color_after c item) item ++ with_cuts (color_after c item) items)
 
--- an item after one of colour c, with the cut before it
-abbrev pub item_after : Option Color → Item → Text
-item_after c item = cut c (color_after c item) ++ item_text (color_after c item) item
-
--- items after one of colour c, with the cut before each; the last colour stays open
-unfoldable pub items_after : Option Color → List Item → Text
-items_after c [] = []
-items_after c (item ∷ items) = item_after c item ++ items_after (color_after c item) items
-
--- the effective colour of the last item, or c where there is none
-unfoldable pub last_color : Option Color → List Item → Option Color
-last_color c [] = c
-last_color c (item ∷ items) = last_color (color_after c item) items
-
 unfoldable pub separator_text : List Item → Text
 separator_text items = with_cuts None items

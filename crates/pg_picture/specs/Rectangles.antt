@@ -17,7 +17,7 @@ pub record IsOwner (t : Table) (p : Position) : Type 0 where
 -- how many columns a rectangle takes that a search found, and a cell where it found none
 abbrev pub columns_or_one : Option Span → ℕ
 columns_or_one None = 1
-columns_or_one (Some s) = s.1.1
+columns_or_one (Some s) = s.1.columns
 
 -- how many lines k rows from row a on have, with the separator below each of them
 abbrev pub rows_height : Table → ℕ → ℕ → ℕ

@@ -1,5 +1,6 @@
 -- Tables for worked examples.
 use Rattle.std.specs.Prelude.{ℕ, List, [], ◌∷◌, slice_index_or, None}
+use Rattle.pg_layout.specs.Position.{at}
 use Rattle.pg_layout.specs.declared.position.Position.{Position}
 use Rattle.pg_layout.specs.declared.sides.Indent.{Indent}
 use Rattle.pg_layout.specs.Text.{Text}
@@ -34,4 +35,4 @@ indent size fill = record { size = size; fill = fill }
 
 -- a setting for one cell
 abbrev pub for_cell : {V : Type 0} → ℕ → ℕ → V → Settings V
-for_cell r c v = record { base = None; rows = []; columns = []; cells = ((r, c, 0), (0, v)) ∷ [] }
+for_cell r c v = record { base = None; rows = []; columns = []; cells = (at r c, (0, v)) ∷ [] }

@@ -1,18 +1,13 @@
 -- Sizes of a table, as numbers that may not fit; and tables of which no colour is known.
-use Rattle.std.specs.Prelude.{ℕ, ◌+◌, ◌^◌, ◌-◌, not, nat_lt, List, [], map, flat_map, filter, find, length, Option, Some, None, Result, Ok, Err, if◌then◌else◌}
-use Rattle.std.specs.List.{range_with_len}
-use Rattle.std.specs.Option.{option_map}
+use Rattle.std.specs.Prelude.{ℕ, ◌+◌, ◌^◌, nat_lt, List, [], filter, length, Option, Some, None, Result, Ok, Err, if◌then◌else◌}
 use Rattle.pg_layout.specs.declared.position.Position.{Position}
 use Rattle.pg_layout.specs.Text.{Text}
 use Rattle.pg_layout.specs.Records.{text_at}
-use Rattle.pg_layout.specs.Position.{at}
 use Rattle.pg_config.specs.Config.{Config}
 use Rattle.pg_config.specs.Spans.{rect_rows}
 use Rattle.pg_picture.specs.Marks.{marks_above, stands_within}
 use Rattle.pg_picture.specs.Table.{Table}
-use Rattle.pg_picture.specs.Fits.{owner_fits}
 use Rattle.pg_picture.specs.declared.fits.Misfit.{Misfit}
-use Rattle.pg_picture.specs.declared.fits.Misfit.TheVariants.{Room}
 
 -- a number, where it is one of 64 bits
 abbrev pub if_fits : ℕ → Option ℕ
@@ -51,14 +46,3 @@ height_of_rect config height p =
 abbrev pub unless_misfit : Option Misfit → Result (Unit {0}) Misfit
 unless_misfit None = Ok tt
 unless_misfit (Some m) = Err m
-
--- the first of these places without room
-abbrev pub first_misfit : Table → List Position → Option Misfit
-first_misfit t ps = option_map (λ (p : Position). Room p.row p.col) (find (λ p. not (owner_fits t p)) ps)
-
--- the places of row r from column c on, and all places from row r on
-abbrev pub row_places : ℕ → ℕ → ℕ → List Position
-row_places columns r c = map (at r) (range_with_len c (columns - c))
-
-abbrev pub places_from : ℕ → ℕ → ℕ → List Position
-places_from rows columns r = flat_map (λ r. map (at r) (range_with_len 0 columns)) (range_with_len r (rows - r))

@@ -5,7 +5,7 @@ use Rattle.pg_layout.specs.Text.{width_of}
 use Rattle.pg_layout.specs.Position.{at}
 use Rattle.pg_config.specs.Config.{has_horizontal, has_vertical, get_horizontal, get_vertical, get_intersection}
 use Rattle.pg_config.specs.Offsets.{lookup_offset}
-use Rattle.pg_config.specs.Spans.{StandAtPlaces, owner}
+use Rattle.pg_config.specs.Spans.{owner}
 use Rattle.pg_picture.specs.Marks.{Mark, sep, line}
 use Rattle.pg_picture.specs.Pieces.{Piece, pieces_width, Style, style_at, Item, glyph, spaces, block}
 use Rattle.pg_picture.specs.Table.{Table, Hint, row_line, separator_items, side_margin, margin_line, table_body, total_width, full_width}
@@ -35,10 +35,8 @@ mark_width t (line r i) = pieces_width (row_line t r i)
 mark_width t (sep r) = sum_by item_width (separator_items t r)
 
 -- Spans that stand at places and fit, and room for each shown cell: a rectangle that another one covers in part, or that
--- leaves the table, takes columns that aren't its own, and a text without room makes its line longer. A configuration
--- keeps its spans at places.
+-- leaves the table, takes columns that aren't its own, and a text without room makes its line longer.
 pub record CellsFit (t : Table) : Type 0 where
-  pub places : StandAtPlaces t.config.spans
   pub spans : spans_fit t.config.spans t.rows t.columns ≡ true
   pub rooms : (r c : ℕ) → r < t.rows → c < t.columns → owner_fits t (at r c) ≡ true
 

@@ -5,7 +5,7 @@ ghost use Rattle.pg_layout.specs.Colors.{lent_color};
 ghost use Rattle.pg_layout.specs.Text.{lines_of, width_of};
 ghost use Rattle.pg_picture.specs.Appending.{Appends};
 ghost use Rattle.pg_picture.specs.Pieces.{written, fill, repeated, widest, trimmed_if, inner_width, line_with, block_line};
-ghost use Rattle.pg_picture.specs.Cells.{style_of, facts_of, place_of, share_of, line_if, line_parts, placed_line};
+ghost use Rattle.pg_picture.specs.Inside.Cells.{style_of, facts_of, place_of, share_of, line_if, line_parts, placed_line};
 
 use crate::facts::{TextFacts, single_line_width, trim_if};
 use crate::fill::push_repeated;

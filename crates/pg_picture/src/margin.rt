@@ -3,7 +3,8 @@
 ghost use Rattle.std.specs.Prelude.{◌≡◌, ◌++◌, replicate};
 ghost use Rattle.pg_layout.specs.Colors.{lent_color};
 ghost use Rattle.pg_picture.specs.Appending.{Appends};
-ghost use Rattle.pg_picture.specs.Joined.{continued, feed_before, lines_before};
+ghost use Rattle.pg_picture.specs.Joined.{continued};
+ghost use Rattle.pg_picture.specs.Inside.Following.{feed_before, lines_before};
 ghost use Rattle.pg_picture.specs.Pieces.{written};
 ghost use Rattle.pg_picture.specs.Table.{is_blank_in, margin_line, side_margin_at};
 

@@ -1,7 +1,7 @@
 //! Where the lines of a text stand in their cell.
 
 ghost use Rattle.std.specs.Prelude.{◌≡◌, ◌+◌, ◌≤◌};
-ghost use Rattle.pg_picture.specs.Cells.{style_of, shared_left, place_of, text_line_at};
+ghost use Rattle.pg_picture.specs.Inside.Cells.{style_of, shared_left, place_of, text_line_at};
 
 use crate::facts::TextFacts;
 use crate::share::{calculate_indent, indent_from_top};

@@ -4,7 +4,7 @@ ghost use Rattle.std.specs.Prelude.{◌≡◌, ◌+◌, ◌≤◌, is_some};
 ghost use Rattle.std.specs.Option.{ForSome};
 ghost use Rattle.pg_config.specs.Config.{has_one_style};
 ghost use Rattle.pg_picture.specs.Pieces.{style_at, inner_width};
-ghost use Rattle.pg_picture.specs.Cells.{style_of, shows_texts_whole};
+ghost use Rattle.pg_picture.specs.Inside.Cells.{style_of, shows_texts_whole};
 ghost use Rattle.pg_picture.specs.Fits.{cell_fits};
 ghost use Rattle.pg_picture.specs.Styles.{IsStyleOfAll};
 
@@ -75,11 +75,12 @@ impl<'a, A: Allocator> CellStyle<'a, A> {
 
     /// Whether a cell of so many columns and lines has room for a text in this style, as
     /// [`crate::fits::cell_fits`] says it of a place.
+    #[inline(always)]
     pub fn has_room(&self, text: &str, width: usize, height: usize) -> bool
         ensures { result ≡ cell_fits (style_of self.now) text.now width height }
     {
         let trim = self.formatting.horizontal_trim;
-        text_fits(text, self.padding, trim, width, height)
+        text_fits(text, &self.padding, trim, width, height)
     }
 
     // Whether line 0 of a cell is line 0 of its text, as it is.

@@ -3,7 +3,7 @@ use Rattle.std.proofs.Common.{◌≡◌, ◌<◌, ◌==◌, ℕ, false, if◌the
 use Rattle.std.proofs.lemmas.Bool.Decides.{nat_tests}
 use Rattle.std.proofs.lemmas.List.{length-map}
 use Rattle.pg_layout.specs.Colors.{Color}
-use Rattle.pg_layout.specs.Places.{Key}
+use Rattle.pg_layout.specs.declared.position.Position.{Position}
 use Rattle.pg_layout.specs.Records.{columns_of}
 use Rattle.pg_layout.specs.Text.{Text}
 use Rattle.pg_config.specs.CompactConfig.{CompactSettings, settings_of}
@@ -21,12 +21,12 @@ use Rattle.pg_show.specs.declared.mode.Mode.TheVariants.{Compact}
 use Rattle.pg_show.specs.declared.script.Script.{Script}
 
 -- colours are no reason for a misfit
-pub misfit_of-table_with : (config : Config) (widths heights : List ℕ) (texts : List (List Text)) (columns : ℕ) (colors : List (Key × Color)) → misfit_of (table_of config (λ i. slice_index_or widths i 0) (λ i. slice_index_or heights i 0) texts columns) ≡ misfit_of (table_with config widths heights texts columns colors)
+pub misfit_of-table_with : (config : Config) (widths heights : List ℕ) (texts : List (List Text)) (columns : ℕ) (colors : List (Position × Color)) → misfit_of (table_of config (λ i. slice_index_or widths i 0) (λ i. slice_index_or heights i 0) texts columns) ≡ misfit_of (table_with config widths heights texts columns colors)
 unfolding misfit_of totals_fit body_height total_width full_width owner_fits rect_width rect_height rect_marks
 misfit_of-table_with config widths heights texts columns colors = refl
 
 -- nor are texts and colours in a compact table
-pub misfit_of-compact_table_with : (config : CompactSettings) (widths : List ℕ) (texts : List (List Text)) (columns : ℕ) (colors : List (Key × Color)) → compact_misfit_of (compact_sized config (λ i. slice_index_or widths i 0) columns) ≡ compact_misfit_of (compact_table_with config widths texts columns colors)
+pub misfit_of-compact_table_with : (config : CompactSettings) (widths : List ℕ) (texts : List (List Text)) (columns : ℕ) (colors : List (Position × Color)) → compact_misfit_of (compact_sized config (λ i. slice_index_or widths i 0) columns) ≡ compact_misfit_of (compact_table_with config widths texts columns colors)
 unfolding compact_misfit_of compact_full_width compact_width
 misfit_of-compact_table_with config widths texts columns colors = refl
 

@@ -4,7 +4,7 @@ use Rattle.pg_layout.specs.Text.{Text}
 use Rattle.pg_layout.specs.Colors.{Color}
 use Rattle.pg_layout.specs.ColorsMap.{color_at}
 use Rattle.pg_layout.specs.Looks.{ascii}
-use Rattle.pg_layout.specs.Places.{Key}
+use Rattle.pg_layout.specs.declared.position.Position.{Position}
 use Rattle.pg_layout.specs.Records.{columns_of, text_at}
 use Rattle.pg_layout.specs.declared.position.Entity.TheVariants.{Global}
 use Rattle.pg_config.specs.Config.{Config, default_config}
@@ -27,7 +27,7 @@ use Rattle.pg_table.specs.declared.fault.TableFault.{TableFault}
 use Rattle.pg_table.specs.declared.fault.TableFault.TheVariants as table
 
 -- the table of these settings, widths and heights, texts of so many columns, and colours
-abbrev pub table_with : Config → List ℕ → List ℕ → List (List Text) → ℕ → List (Key × Color) → Table
+abbrev pub table_with : Config → List ℕ → List ℕ → List (List Text) → ℕ → List (Position × Color) → Table
 table_with config widths heights texts columns colors = record {
   config = config;
   rows = length texts;
@@ -39,7 +39,7 @@ table_with config widths heights texts columns colors = record {
 }
 
 -- the compact table of these settings, widths, texts of so many columns, and colours
-abbrev pub compact_table_with : CompactSettings → List ℕ → List (List Text) → ℕ → List (Key × Color) → CompactTable
+abbrev pub compact_table_with : CompactSettings → List ℕ → List (List Text) → ℕ → List (Position × Color) → CompactTable
 compact_table_with config widths texts columns colors = record {
   config = config;
   rows = length texts;

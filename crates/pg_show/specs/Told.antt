@@ -3,8 +3,8 @@ use Rattle.std.specs.Prelude.{ℕ, List, [], ◌∷◌, ◌++◌, replicate, sli
 use Rattle.std.specs.Fmt.{decimal}
 use Rattle.pg_layout.specs.Text.{Text}
 use Rattle.pg_layout.specs.Colors.{Color}
-use Rattle.pg_layout.specs.ColorsMap.{place_key}
-use Rattle.pg_layout.specs.Places.{Key, with_place}
+use Rattle.pg_layout.specs.Keys.{by_place}
+use Rattle.pg_layout.specs.Places.{with_place}
 use Rattle.pg_layout.specs.declared.position.Entity.{Entity}
 use Rattle.pg_layout.specs.declared.position.Entity.TheVariants.{Global, Row, Column, Cell}
 use Rattle.pg_layout.specs.declared.position.Position.{Position}
@@ -20,7 +20,7 @@ pub record Told : Type 0 where
   pub widths : List ℕ
   pub heights : List ℕ
   pub texts : List (List Text)
-  pub colors : List (Key × Color)
+  pub colors : List (Position × Color)
   pub config : Config
   pub compact : CompactSettings
 
@@ -44,7 +44,7 @@ abbrev pub tell_text : Position → Text → Told → Told
 tell_text place text told = record told { texts = with_text place text told.texts }
 
 abbrev pub tell_color : Position → Color → Told → Told
-tell_color place color told = record told { colors = with_place (place_key place) color told.colors }
+tell_color place color told = record told { colors = with_place by_place place color told.colors }
 
 -- a setting is changed
 abbrev pub tell_setting : (Config → Config) → Told → Told

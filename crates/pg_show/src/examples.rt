@@ -3,7 +3,6 @@
 #![tactic(auto, unfolding(crate::proofs::Computing::script_words))]
 
 ghost use Rattle.std.specs.Prelude.{◌≡◌, ◌++◌, ◌∷◌, ℕ, List, [], Err, Ok, codes, false, true};
-ghost use Rattle.pg_layout.specs.ColorsMap.{place_key};
 ghost use Rattle.pg_layout.specs.Looks.{ascii};
 ghost use Rattle.pg_layout.specs.Position.{at};
 ghost use Rattle.pg_layout.specs.declared.alignment.AlignmentHorizontal.TheVariants as across;
@@ -143,8 +142,8 @@ pub fn a_margin_has_one_fill()
 /// What a terminal reads as a colour: the escape byte, a bracket, the number and a letter. The place is a row and
 /// a column of the table, and the number is at most 107.
 pub fn a_cell_is_coloured()
-    ensures greatest { told_by (codes "size 2 3\ncolor 1 2 107") ≡ Ok (record two_by_three { colors = (place_key (at 1 2), record { prefix = 27 ∷ codes "[107m"; suffix = 27 ∷ codes "[0m" }) ∷ [] }) }
-    ensures with_zeros { told_by (codes "size 2 3\ncolor 1 2 0031") ≡ Ok (record two_by_three { colors = (place_key (at 1 2), record { prefix = 27 ∷ codes "[31m"; suffix = 27 ∷ codes "[0m" }) ∷ [] }) }
+    ensures greatest { told_by (codes "size 2 3\ncolor 1 2 107") ≡ Ok (record two_by_three { colors = (at 1 2, record { prefix = 27 ∷ codes "[107m"; suffix = 27 ∷ codes "[0m" }) ∷ [] }) }
+    ensures with_zeros { told_by (codes "size 2 3\ncolor 1 2 0031") ≡ Ok (record two_by_three { colors = (at 1 2, record { prefix = 27 ∷ codes "[31m"; suffix = 27 ∷ codes "[0m" }) ∷ [] }) }
     ensures too_great { told_by (codes "size 2 3\ncolor 1 2 108") ≡ Err 2 }
     ensures two_numbers { told_by (codes "size 2 3\ncolor 1 2 1 31") ≡ Err 2 }
     ensures no_row { told_by (codes "size 2 3\ncolor 2 0 31") ≡ Err 2 }
@@ -155,7 +154,7 @@ pub fn a_cell_is_coloured()
 pub fn the_latest_line_counts()
     ensures widths { told_by (codes "size 2 3\nwidths 1 2 3\nwidths 4 5 6") ≡ Ok (record two_by_three { widths = 4 ∷ 5 ∷ 6 ∷ [] }) }
     ensures texts { told_by (codes "size 2 3\ncell 0 1 a\ncell 0 1 b") ≡ Ok (record two_by_three { texts = ([] ∷ codes "b" ∷ [] ∷ []) ∷ ([] ∷ [] ∷ [] ∷ []) ∷ [] }) }
-    ensures colors { told_by (codes "size 2 3\ncolor 1 2 30\ncolor 1 2 31") ≡ Ok (record two_by_three { colors = (place_key (at 1 2), record { prefix = 27 ∷ codes "[31m"; suffix = 27 ∷ codes "[0m" }) ∷ [] }) }
+    ensures colors { told_by (codes "size 2 3\ncolor 1 2 30\ncolor 1 2 31") ≡ Ok (record two_by_three { colors = (at 1 2, record { prefix = 27 ∷ codes "[31m"; suffix = 27 ∷ codes "[0m" }) ∷ [] }) }
     ensures settings { told_by (codes "size 2 3\nhalign row 1 right\nhalign all center") ≡ Ok (with_settings (record default_config { alignment_horizontal = with_setting Global across.Center (with_setting (Row 1) across.Right no_settings) }) (record default_compact { alignment = across.Center })) }
     ensures compact_settings { told_by (codes "size 2 3\nhalign all right\nhalign all center") ≡ Ok (with_settings (record default_config { alignment_horizontal = with_setting Global across.Center no_settings }) (record default_compact { alignment = across.Center })) }
 {}

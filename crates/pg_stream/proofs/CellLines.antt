@@ -4,15 +4,14 @@ use Rattle.pg_layout.specs.declared.position.Position.{Position}
 use Rattle.pg_layout.specs.Colors.{Color}
 use Rattle.pg_layout.specs.Position.{at}
 use Rattle.pg_layout.specs.Text.{Text, width_of}
-use Rattle.pg_picture.specs.Cells.{share_of, text_line_at, line_if, placed_line}
+use Rattle.pg_picture.specs.Inside.Cells.{share_of, text_line_at, line_if, placed_line}
 use Rattle.pg_picture.specs.Pieces.{Style, style_at, trimmed_if, block_line}
 use Rattle.pg_picture.specs.Sizes.{height_of_rect}
 use Rattle.pg_picture.specs.Table.{Table}
 use Rattle.pg_picture.specs.declared.place.CellPlace.{CellPlace}
 use Rattle.pg_picture.proofs.PlacesOfTexts.{room-of-line, block_line-at}
-use Rattle.pg_stream.specs.DrawnCells.{IsPlaced}
-use Rattle.pg_stream.specs.Placed.{Placed, slot_of}
-use Rattle.pg_stream.specs.Slots.{slot_block}
+use Rattle.pg_stream.specs.Placed.{Placed, slot_of, IsPlaced}
+use Rattle.pg_stream.specs.Inside.Slots.{slot_block}
 
 module _ (t : Table) (x : ℕ) (cell : Placed) (placed : IsPlaced t x cell) (tall : 0 < height_of_rect t.config t.height (at cell.begun x)) (line : Text) (is : line ≡ line_if cell.text (text_line_at cell.place cell.drawn)) where
   abbrev own : Style

@@ -10,8 +10,8 @@ use Rattle.pg_picture.specs.Sizes.{if_fits, sized, height_of_rect}
 use Rattle.pg_picture.specs.Table.{Table, rect_width}
 use Rattle.pg_picture.proofs.Room.{cell_fits-room}
 use Rattle.pg_picture.proofs.SumsOfSizes.{if_fits-below}
-use Rattle.pg_stream.specs.DrawnCells.{IsPlaced}
-use Rattle.pg_stream.specs.Turns.{new_cell}
+use Rattle.pg_stream.specs.Placed.{IsPlaced}
+use Rattle.pg_stream.specs.Inside.Turns.{new_cell}
 
 module _ (t : Table) (p : Position) where
   -- the sizes that are asked are numbers of 64 bits

@@ -3,7 +3,7 @@ use Rattle.std.proofs.Common.{◌≡◌, ℕ, ◌+◌, Bool, true, false, not, n
 use Rattle.pg_layout.specs.Position.{at}
 use Rattle.pg_config.specs.Spans.{Span, rect_rows}
 use Rattle.pg_stream.specs.Placed.{Placed}
-use Rattle.pg_stream.specs.Turns.{is_done, close_cell, mapped, cells_closed}
+use Rattle.pg_stream.specs.Inside.Turns.{is_done, close_cell, mapped, cells_closed}
 
 not-true : (b : Bool) → not b ≡ true → b ≡ false
 not-true true e = sym e

@@ -8,7 +8,8 @@ use Rattle.pg_layout.specs.Position.{at}
 use Rattle.pg_layout.specs.Text.{Text}
 use Rattle.pg_config.specs.Config.{has_horizontal}
 use Rattle.pg_config.specs.Spans.{Span, rect_rows, owner}
-use Rattle.pg_picture.specs.Joined.{continued, lines_before}
+use Rattle.pg_picture.specs.Joined.{continued}
+use Rattle.pg_picture.specs.Inside.Following.{lines_before}
 use Rattle.pg_picture.specs.Marks.{Mark, sep, only_if, marks_above, body}
 use Rattle.pg_picture.specs.Pieces.{written, separator_text}
 use Rattle.pg_picture.specs.Picture.{bottom_lines, body_lines}
@@ -18,10 +19,9 @@ use Rattle.pg_picture.proofs.JoinedLines.{continued-nil, continued-append}
 use Rattle.pg_picture.proofs.Owners.{owner-own, owner-ends}
 use Rattle.pg_picture.proofs.Pictures.{continued-any, none-of-two}
 use Rattle.pg_picture.proofs.Ranges.{range-more}
-use Rattle.pg_stream.specs.Drawing.{reach, open_separator_part, open_separator, below_text}
-use Rattle.pg_stream.specs.DrawnCells.{AllOpen}
-use Rattle.pg_stream.specs.Placed.{Placed, slots_of}
-use Rattle.pg_stream.specs.Sound.{IsSound}
+use Rattle.pg_stream.specs.Inside.Drawing.{reach, open_separator_part, open_separator, below_text}
+use Rattle.pg_stream.specs.Placed.{Placed, slots_of, AllOpen}
+use Rattle.pg_stream.specs.Printers.{IsSound}
 use Rattle.pg_stream.specs.Printing.{Printing, hint_of, frame_of, text_known, table_known, lines_below, lines_printed, finish_lines, finish_text}
 use Rattle.pg_stream.proofs.OpenLists.{all-open}
 use Rattle.pg_stream.proofs.OwnersOfCells.{columns-same}

@@ -1,12 +1,13 @@
 -- Spans that fit the columns of a table fit some number of rows; and the room of a cell by the sizes that were asked.
-use Rattle.std.proofs.Common.{◌≡◌, ℕ, ◌+◌, ◌^◌, ◌<◌, ◌≤◌, max, true, nat_lt, List, [], ◌∷◌, refl, sym, ◌∙◌, arith, Option, Some, None, SomeIff, is_some, inl, inr, if◌then◌else◌}
+use Rattle.std.proofs.Common.{◌≡◌, ℕ, ◌+◌, ◌^◌, ◌<◌, ◌≤◌, max, true, nat_lt, List, [], ◌∷◌, refl, sym, ◌∙◌, arith, Option, Some, None, inl, inr, if◌then◌else◌}
 use Rattle.std.specs.List.{list_all}
-use Rattle.std.proofs.lemmas.Bool.{cases_Bool, and_parts, ltb-true}
+use Rattle.std.proofs.lemmas.Bool.{cases_Bool, and_parts}
 use Rattle.std.proofs.lemmas.Bool.Decides.{nat_tests}
 use Rattle.pg_layout.specs.declared.position.Position.{Position}
+use Rattle.pg_layout.specs.Keys.{by_columns}
 use Rattle.pg_layout.specs.Places.{IsAscending}
 use Rattle.pg_layout.specs.Text.{Text}
-use Rattle.pg_config.specs.Spans.{Span, StandAtPlaces, rect_rows}
+use Rattle.pg_config.specs.Spans.{Span, rect_rows}
 use Rattle.pg_picture.specs.Fits.{all_apart, span_fits, span_fits_columns, spans_fit, spans_fit_columns, cell_fits}
 use Rattle.pg_picture.specs.Pieces.{style_at}
 use Rattle.pg_picture.specs.Sizes.{if_fits, sized, height_of_rect}
@@ -21,24 +22,24 @@ use Rattle.pg_stream.proofs.CellsBegun.{width-some, height-some}
 -- the row behind the last one of all rectangles
 abbrev pub last_end : List Span → ℕ
 last_end [] = 0
-last_end (s ∷ ss) = max (s.0.1 + s.1.0) (last_end ss)
+last_end (s ∷ ss) = max (s.0.row + s.1.rows) (last_end ss)
 
 fits_by : (rows columns : ℕ) (spans : List Span) → list_all (span_fits_columns columns) spans ≡ true → last_end spans ≤ rows → list_all (span_fits rows columns) spans ≡ true
 fits_by rows columns [] fit end = refl
 fits_by rows columns (s ∷ ss) fit end =
     let parts = and_parts (span_fits_columns columns s) (list_all (span_fits_columns columns) ss) fit in
     let more = fits_by rows columns ss parts.1 (omega (arith, end)) in
-    let inside : s.0.1 + s.1.0 ≤ rows = omega (arith, end) in
+    let inside : s.0.row + s.1.rows ≤ rows = omega (arith, end) in
     let first : span_fits rows columns s ≡ true = grind (arith, nat_tests, parts.0, inside) in
     rw first more
 
-module _ (spans : List Span) (columns : ℕ) (ascending : IsAscending spans) (places : StandAtPlaces spans) (fit : spans_fit_columns spans columns ≡ true) where
+module _ (spans : List Span) (columns : ℕ) (ascending : IsAscending by_columns spans) (fit : spans_fit_columns spans columns ≡ true) where
   -- so a walk along any row meets the owners of its places
   pub in_order : InOrder spans (last_end spans) columns
   unfolding spans_fit spans_fit_columns
   in_order =
       let parts = and_parts (list_all (span_fits_columns columns) spans) (all_apart spans) fit in
-      record { ascending = ascending; places = places; fit = rw (fits_by (last_end spans) columns spans parts.0 (omega arith)) parts.1 }
+      record { ascending = ascending; fit = rw (fits_by (last_end spans) columns spans parts.0 (omega arith)) parts.1 }
 
 -- ---- room by the sizes that were asked
 
@@ -78,8 +79,3 @@ module _ (t : Table) (p : Position) (text : Text) (wide high : Option ℕ) (widt
 
   pub room-high : HasRoom t p text → high ≡ None → ⊥
   room-high room none = none_is (height_of_rect t.config t.height p) (sym none ∙ height-some t p high room.end room.height height)
-
--- a sum is there where it is a number of 64 bits
-pub checked-is : (o : Option ℕ) (n : ℕ) → SomeIff o (n < 2 ^ 64) n → is_some o ≡ nat_lt n (2 ^ 64)
-checked-is None n past = sym (elim (cases_Bool (nat_lt n (2 ^ 64))) [ inl y ↦ absurd (past (ltb-true n (2 ^ 64) y)) | inr f ↦ f ])
-checked-is (Some x) n some = grind (arith, nat_tests, some.0)

@@ -5,7 +5,7 @@ use Rattle.std.proofs.lemmas.List.FromFn.{length-map-range_with_len}
 use Rattle.pg_layout.specs.declared.position.Position.{Position}
 use Rattle.pg_layout.specs.Position.{at, is_at}
 use Rattle.pg_layout.specs.Text.{Text}
-use Rattle.pg_config.specs.Spans.{StandAtPlaces, owner}
+use Rattle.pg_config.specs.Spans.{owner}
 use Rattle.pg_picture.specs.Fitting.{TableFits}
 use Rattle.pg_picture.specs.Fits.{spans_fit, body_height, totals_fit, cell_fits}
 use Rattle.pg_picture.specs.Marks.{marks_of_row, marks_above}
@@ -54,9 +54,9 @@ module _ (t : Table) (fit : TableFits t) where
   known None exact = tt
   known (Some n) exact = rw exact (fit.spans, fit.totals)
 
-  module _ (hint : Option ℕ) (exact : IfSome hint (λ n. n ≡ t.rows)) (places : StandAtPlaces t.config.spans) where
+  module _ (hint : Option ℕ) (exact : IfSome hint (λ n. n ≡ t.rows)) where
     apart : Apart t.config.spans
-    apart = apart_from t.config.spans t.columns (fit_columns t.config.spans t.rows t.columns fit.spans) places
+    apart = apart_from t.config.spans t.columns (fit_columns t.config.spans t.rows t.columns fit.spans)
 
     row-fits : (k : ℕ) → k < t.rows → RowFits (state_at t hint k) (cells_at t k) ((k + 1) == t.rows)
     unfolding state_at
@@ -99,6 +99,6 @@ module _ (t : Table) (fit : TableFits t) where
     }
 
 pub may-be-printed : FittingTablesMayBePrinted
-may-be-printed t hint exact places none some wide =
+may-be-printed t hint exact none some wide =
     let fit : TableFits t = fits t none some wide in
-    (printer-fits t fit hint exact places wide, all-fit t fit hint exact places some)
+    (printer-fits t fit hint exact wide, all-fit t fit hint exact some)

@@ -7,17 +7,17 @@ use Rattle.pg_layout.specs.declared.position.Position.{Position}
 use Rattle.pg_layout.specs.Position.{at}
 use Rattle.pg_layout.specs.Text.{Text}
 use Rattle.pg_config.specs.Config.{get_horizontal}
-use Rattle.pg_config.specs.Lines.{SameForRows}
+use Rattle.pg_config.specs.Inside.Lines.{SameForRows}
 use Rattle.pg_config.specs.Spans.{owner, is_left, begins_above}
 use Rattle.pg_config.proofs.LinesLaw.{rows_stay}
 use Rattle.pg_picture.specs.Pieces.{Item}
 use Rattle.pg_picture.specs.Table.{Table, rect_width, is_inside, vertical, is_covered, crossing_at, crossing, border_items, border_glyph}
 use Rattle.pg_picture.proofs.Owners.{HasOwners}
 use Rattle.pg_picture.proofs.Ranges.{range-more}
-use Rattle.pg_stream.specs.Drawing.{open_part, open_line, reach, cell_items, open_separator_part, open_separator}
+use Rattle.pg_stream.specs.Inside.Drawing.{open_part, open_line, reach, cell_items, open_separator_part, open_separator}
 use Rattle.pg_stream.specs.Placed.{Placed, slot_of, slots_of}
-use Rattle.pg_stream.specs.Slots.{slot_part, slot_line, slot_column, slot_separator_part, slot_separator}
-use Rattle.pg_stream.specs.Turns.{IsOwnerAbove}
+use Rattle.pg_stream.specs.Inside.Slots.{slot_part, slot_line, slot_column, slot_separator_part, slot_separator}
+use Rattle.pg_stream.specs.Inside.Turns.{IsOwnerAbove}
 use Rattle.pg_stream.proofs.OpenLists.{slots-at}
 use Rattle.pg_stream.proofs.OwnersOfCells.{inside-not_left, inside-left, inside-end, columns-same}
 use Rattle.pg_stream.proofs.Reaches.{IsOwner, option_cases, reach-above}

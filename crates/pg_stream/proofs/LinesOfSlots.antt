@@ -12,7 +12,7 @@ use Rattle.pg_picture.specs.Sizes.{height_of_rect}
 use Rattle.pg_picture.specs.Table.{Table, rect_marks, rect_height, block_at, row_part, row_line, vertical, is_inside}
 use Rattle.pg_picture.proofs.Owners.{HasOwners}
 use Rattle.pg_stream.specs.Open.{drawn_before}
-use Rattle.pg_stream.specs.Slots.{begin_at, separator_height, slot_block, slot_part, slot_line, slot_in_row}
+use Rattle.pg_stream.specs.Inside.Slots.{begin_at, separator_height, slot_block, slot_part, slot_line, slot_in_row}
 use Rattle.pg_stream.proofs.Steps.{open_value, open_none, at_own}
 use Rattle.pg_stream.proofs.PlacesInRows.{place-older, place-own, height-is}
 use Rattle.pg_stream.proofs.WholePictures.{at_range}

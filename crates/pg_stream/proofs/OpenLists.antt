@@ -4,13 +4,12 @@ use Rattle.std.specs.List.{fold}
 use Rattle.pg_stream.specs.Open.{Slot}
 use Rattle.std.proofs.lemmas.List.{take_more, take_more_set, drop-set-lt, map-append}
 use Rattle.std.proofs.Math.Seq.{drop-cons}
-use Rattle.pg_stream.specs.DrawnCells.{draw_cell, AllOpen, IsPlaced, IsTall, AreDrawn}
-use Rattle.pg_stream.specs.Placed.{Placed, slot_of, slots_of}
+use Rattle.pg_stream.specs.Placed.{Placed, slot_of, slots_of, draw_cell, AllOpen, IsPlaced, IsTall, AreDrawn}
 use Rattle.std.proofs.lemmas.List.{length-map}
 use Rattle.pg_config.specs.Spans.{rect_columns}
 use Rattle.pg_layout.specs.Position.{at}
 use Rattle.pg_picture.specs.Table.{Table}
-use Rattle.pg_stream.specs.Slots.{draw_more}
+use Rattle.pg_stream.specs.Inside.Slots.{draw_more}
 
 -- as many slots are open as cells
 counted : (n : ℕ) (cells : List (Option Placed)) → fold (λ (a : ℕ) (x : Option Slot). a + cond (is_some x) 1 0) n (slots_of cells) ≡ fold (λ (a : ℕ) (x : Option Placed). a + cond (is_some x) 1 0) n cells

@@ -3,15 +3,14 @@ use Rattle.std.proofs.Common.{◌≡◌, ℕ, ◌+◌, ◌-◌, ◌<◌, Bool, �
 use Rattle.std.specs.List.{range_with_len}
 use Rattle.pg_layout.specs.Text.{Text}
 use Rattle.pg_config.specs.Config.{Config}
-use Rattle.pg_picture.specs.Joined.{feed_before}
+use Rattle.pg_picture.specs.Inside.Following.{feed_before}
 use Rattle.pg_picture.specs.Pieces.{Piece, written}
 use Rattle.pg_picture.specs.Table.{Table, vertical, side_margin_at}
 use Rattle.pg_picture.proofs.PiecesOfLines.{written-append, written-nil}
 use Rattle.pg_picture.proofs.Ranges.{range-more, range-cut}
-use Rattle.pg_stream.specs.Drawing.{open_part, open_line, line_at, open_line_at, open_lines}
-use Rattle.pg_stream.specs.DrawnCells.{draw_cell}
-use Rattle.pg_stream.specs.Placed.{Placed, slot_of}
-use Rattle.pg_stream.specs.Slots.{slot_block}
+use Rattle.pg_stream.specs.Inside.Drawing.{open_part, open_line, line_at, open_line_at, open_lines}
+use Rattle.pg_stream.specs.Placed.{Placed, slot_of, draw_cell}
+use Rattle.pg_stream.specs.Inside.Slots.{slot_block}
 
 -- the parts of k columns and of one more
 pub written-columns : (f : ℕ → List Piece) (k : ℕ) → written (flat_map f (range_with_len 0 (k + 1))) ≡ written (flat_map f (range_with_len 0 k)) ++ written (f k)

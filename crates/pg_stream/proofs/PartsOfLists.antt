@@ -1,6 +1,6 @@
 -- A loop that changes the elements of a list one by one.
 use Rattle.std.proofs.Common.{◌≡◌, ℕ, zero, suc, ◌+◌, ◌<◌, ◌≤◌, List, [], ◌∷◌, length, set, drop, get_or, refl, sym, ap, ap₂, ◌∙◌, arith, subst, add-zero}
-use Rattle.pg_stream.specs.Turns.{mapped}
+use Rattle.pg_stream.specs.Inside.Turns.{mapped}
 
 module _ {A : Type 0} (f : ℕ → A → A) where
   -- the first i elements are changed

@@ -52,9 +52,9 @@ unfolding continued
 from-first lines = refl
 
 pub rows-make : RowsMakeThePicture
-rows-make t hint exact places fit some wide =
+rows-make t hint exact fit some wide =
     let s : Printing = start t hint in
-    let apart = apart_from t.config.spans t.columns (fit_columns t.config.spans t.rows t.columns fit) places in
+    let apart = apart_from t.config.spans t.columns (fit_columns t.config.spans t.rows t.columns fit) in
     let there : ((t.rows == 0) || (t.columns == 0)) ≡ false = grind (arith, nat_tests, some, wide) in
     ap (λ l. rows_text s l) (rows-from t 0 t.rows)
     ∙ rows_text-lines s (texts_from t 0 t.rows) (fresh t hint)

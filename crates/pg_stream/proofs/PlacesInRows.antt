@@ -8,7 +8,7 @@ use Rattle.pg_config.specs.Config.{Config, has_horizontal}
 use Rattle.pg_picture.specs.Marks.{Mark, sep, line, same_mark, only_if, marks_of_row, marks_above, body, stands_within, marks_within, place_of}
 use Rattle.pg_picture.proofs.MarksOfRectangles.{NonePasses, index_in_filter, rows_from, marks_above-add, row_lines, row_first, row_inside, above_first, above_rest, filter_sep}
 use Rattle.pg_picture.proofs.PlacesOfMarks.{place_of_line, before_line, NonePasses-append, none_sep, sep_lines}
-use Rattle.pg_stream.specs.Slots.{separator_height}
+use Rattle.pg_stream.specs.Inside.Slots.{separator_height}
 use Rattle.pg_stream.proofs.DrawnLines.{length_of_row}
 
 module _ (config : Config) (height : ℕ → ℕ) where

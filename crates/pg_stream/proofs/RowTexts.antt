@@ -8,7 +8,8 @@ use Rattle.pg_layout.specs.declared.sides.Offset.{Offset}
 use Rattle.pg_layout.specs.Colors.{Color}
 use Rattle.pg_layout.specs.Text.{Text}
 use Rattle.pg_config.specs.Config.{has_horizontal}
-use Rattle.pg_picture.specs.Joined.{continued, feed_before}
+use Rattle.pg_picture.specs.Joined.{continued}
+use Rattle.pg_picture.specs.Inside.Following.{feed_before}
 use Rattle.pg_picture.specs.Marks.{Mark, sep, line, only_if}
 use Rattle.pg_picture.specs.Pieces.{written, separator_text}
 use Rattle.pg_picture.specs.Picture.{top_lines, body_lines}
@@ -16,9 +17,8 @@ use Rattle.pg_picture.specs.Table.{Table, Hint, Known, Unknown, side_margin, sid
 use Rattle.pg_picture.proofs.BodyLines.{body_lines-nil}
 use Rattle.pg_picture.proofs.JoinedLines.{continued-nil, continued-append, continued-line}
 use Rattle.pg_picture.proofs.Pictures.{none-of-two}
-use Rattle.pg_stream.specs.Drawing.{open_line, line_at, open_line_at, open_lines, above_text, below_text, top_text, open_separator}
-use Rattle.pg_stream.specs.DrawnCells.{draw_cell}
-use Rattle.pg_stream.specs.Placed.{Placed}
+use Rattle.pg_stream.specs.Inside.Drawing.{open_line, line_at, open_line_at, open_lines, above_text, below_text, top_text, open_separator}
+use Rattle.pg_stream.specs.Placed.{Placed, draw_cell}
 use Rattle.pg_stream.proofs.RowsOfTables.{SameHeight, blank_same, other}
 use Rattle.pg_stream.proofs.SeparatorsOfRows.{above-absent, above-there, below-absent, below-there}
 

@@ -20,14 +20,13 @@ use Rattle.pg_picture.proofs.JoinedLines.{continued-append}
 use Rattle.pg_picture.proofs.Owners.{Apart, owner-ends}
 use Rattle.pg_picture.proofs.Pictures.{length-top}
 use Rattle.pg_stream.specs.Conditions.{HaveRoom}
-use Rattle.pg_stream.specs.Drawing.{open_lines, open_line, open_separator, above_text, top_text}
+use Rattle.pg_stream.specs.Inside.Drawing.{open_lines, open_line, open_separator, above_text, top_text}
 use Rattle.pg_stream.specs.Open.{Slot, open_before}
-use Rattle.pg_stream.specs.DrawnCells.{draw_cell, AllOpen, IsPlaced}
-use Rattle.pg_stream.specs.Placed.{Placed, slots_of}
-use Rattle.pg_stream.specs.Sound.{IsSound}
+use Rattle.pg_stream.specs.Placed.{Placed, slots_of, draw_cell, AllOpen, IsPlaced}
+use Rattle.pg_stream.specs.Printers.{IsSound}
 use Rattle.pg_stream.specs.Printing.{Printing, hint_of, frame_of, rows_known, rows_reached, text_known, table_known, lines_at, lines_printed, row_lines, row_text, after_row}
-use Rattle.pg_stream.specs.Slots.{separator_height, slot_line, slot_separator}
-use Rattle.pg_stream.specs.Turns.{close_cell, cells_closed}
+use Rattle.pg_stream.specs.Inside.Slots.{separator_height, slot_line, slot_separator}
+use Rattle.pg_stream.specs.Inside.Turns.{close_cell, cells_closed}
 use Rattle.pg_stream.proofs.Closing.{closed-is}
 use Rattle.pg_stream.proofs.OpenLists.{drawn-all, all-open, one-open}
 use Rattle.pg_stream.proofs.PartsOfLists.{partly-all, partly-length, partly-below}
@@ -225,7 +224,6 @@ module _ (s : Printing) (w : ℕ) (height : Option ℕ) (cells : List (Option Pl
     pub sound-next : HaveRoom t k texts → s.rows < 2 ^ 64 - 2 → IsSound next (frame_of next) w height cells_left
     sound-next rooms few = record {
       fits = record { some = sound.fits.some; few = sound.fits.few; spans = sound.fits.spans; width = sound.fits.width; hint = sound.fits.hint };
-      places = sound.places;
       full = sound.full;
       high = sound.high;
       whole = whole-now s w height cells slots sound texts ∙ sym (length-map (cells_now s w height cells slots sound texts) (draw_cell (s.height k))) ∙ sym (length-closed s.config.spans k (map (draw_cell (s.height k)) (cells_now s w height cells slots sound texts)));

@@ -10,7 +10,7 @@ use Rattle.pg_layout.specs.declared.sides.Offset.TheVariants.{Start, End}
 use Rattle.pg_layout.specs.Position.{at}
 use Rattle.pg_layout.specs.Text.{Text, greatest}
 use Rattle.pg_config.specs.Config.{Config, has_horizontal, get_horizontal}
-use Rattle.pg_config.specs.Lines.{SameForRows}
+use Rattle.pg_config.specs.Inside.Lines.{SameForRows}
 use Rattle.pg_config.specs.Spans.{Span, rect_rows, owner, is_left}
 use Rattle.pg_config.proofs.LinesLaw.{rows_stay}
 use Rattle.pg_picture.specs.Marks.{Mark, sep, line, only_if, marks_of_row, marks_above, body}
@@ -29,13 +29,13 @@ use Rattle.pg_stream.proofs.TextsOfRows.{SameTexts, row_line-told, separator_ite
 unfoldable pub Ends : Config → ℕ → Position → Type 0
 Ends config m p = (0 < rect_rows config.spans p) × (p.row + rect_rows config.spans p ≤ m)
 
-among_reached : (k : ℕ) (spans : List Span) (s : Span) → Among spans s → s.0.1 ≤ k → s.0.1 + s.1.0 ≤ greatest (map (row_end k) spans)
+among_reached : (k : ℕ) (spans : List Span) (s : Span) → Among spans s → s.0.row ≤ k → s.0.row + s.1.rows ≤ greatest (map (row_end k) spans)
 unfolding row_end
 among_reached k [] s m h = absurd m
 among_reached k (x ∷ xs) s (inl e) h =
-    let row = ap (λ (y : Span). y.0.1) e in
-    let end = ap (λ (y : Span). y.0.1 + y.1.0) e in
-    let t : nat_le x.0.1 k ≡ true = grind (arith, nat_tests, row, h) in
+    let row = ap (λ (y : Span). y.0.row) e in
+    let end = ap (λ (y : Span). y.0.row + y.1.rows) e in
+    let t : nat_le x.0.row k ≡ true = grind (arith, nat_tests, row, h) in
     rw t (omega (arith, end))
 among_reached k (x ∷ xs) s (inr m) h = let ih = among_reached k xs s m h in omega (arith, ih)
 
@@ -45,7 +45,7 @@ unfolding rows_reached
 owner-reached spans apart k c =
     elim (owner_cases spans apart k c) [
       | inl h ↦
-          let row : (owner spans k c).row ≡ h.span.0.1 = ap (λ (p : Position). p.row) h.own in
+          let row : (owner spans k c).row ≡ h.span.0.row = ap (λ (p : Position). p.row) h.own in
           let holds = h.holds in
           let b = among_reached k spans h.span h.among (grind (arith, nat_tests, holds)) in
           omega (arith, row, h.rows, b)

@@ -15,12 +15,11 @@ use Rattle.pg_picture.specs.Table.{Table}
 use Rattle.pg_picture.proofs.Owners.{Apart, HasOwners, apart_from, owners_of}
 use Rattle.pg_stream.specs.Conditions.{HaveRoom}
 use Rattle.pg_stream.specs.Open.{drawn_before, open_before}
-use Rattle.pg_stream.specs.DrawnCells.{draw_cell, AllOpen, IsPlaced, IsTall, AreDrawn}
-use Rattle.pg_stream.specs.Placed.{Placed, slots_of}
-use Rattle.pg_stream.specs.Sound.{IsSound}
+use Rattle.pg_stream.specs.Placed.{Placed, slots_of, draw_cell, AllOpen, IsPlaced, IsTall, AreDrawn}
+use Rattle.pg_stream.specs.Printers.{IsSound}
 use Rattle.pg_stream.specs.Printing.{Printing, frame_of, table_known}
-use Rattle.pg_stream.specs.Slots.{separator_height}
-use Rattle.pg_stream.specs.Turns.{IsOwnerAbove, new_cell, begin_cell, cells_begun}
+use Rattle.pg_stream.specs.Inside.Slots.{separator_height}
+use Rattle.pg_stream.specs.Inside.Turns.{IsOwnerAbove, new_cell, begin_cell, cells_begun}
 use Rattle.pg_stream.proofs.Beginning.{begun-is, inside-columns, owner-begun}
 use Rattle.pg_stream.proofs.CellsBegun.{placed-new}
 use Rattle.pg_stream.proofs.DrawnLines.{drawn-first, drawn-more}
@@ -70,7 +69,7 @@ module _ (s : Printing) (w : ℕ) (height : Option ℕ) (cells : List (Option Pl
   stands = record { slots = slots ∙ sound.slots; lines = sound.lines }
 
   pub apart : Apart s.config.spans
-  apart = apart_from s.config.spans s.columns sound.fits.spans sound.places
+  apart = apart_from s.config.spans s.columns sound.fits.spans
 
   pub owners : HasOwners s.config.spans
   owners = owners_of s.config.spans apart

@@ -2,12 +2,13 @@
 use Rattle.std.proofs.Common.{◌≡◌, ℕ, ◌+◌, ◌<◌, Bool, true, false, ◌&&◌, ◌==◌, List, [], ◌++◌, Option, refl, sym, ◌∙◌, arith, replicate}
 use Rattle.std.proofs.lemmas.Bool.Decides.{nat_tests}
 use Rattle.pg_config.specs.Config.{Config, has_horizontal}
-use Rattle.pg_picture.specs.Joined.{continued, feed_before}
+use Rattle.pg_picture.specs.Joined.{continued}
+use Rattle.pg_picture.specs.Inside.Following.{feed_before}
 use Rattle.pg_picture.specs.Pieces.{written, separator_text}
 use Rattle.pg_picture.specs.Table.{Table, side_margin_at, margin_line}
-use Rattle.pg_stream.specs.Drawing.{open_separator, line_at, above_text, below_text, top_text}
+use Rattle.pg_stream.specs.Inside.Drawing.{open_separator, line_at, above_text, below_text, top_text}
 use Rattle.pg_stream.specs.Placed.{Placed}
-use Rattle.pg_stream.specs.Slots.{separator_height}
+use Rattle.pg_stream.specs.Inside.Slots.{separator_height}
 use Rattle.pg_stream.proofs.PartsOfLines.{line_at-parts}
 
 module _ (t : Table) (height : Option ℕ) (is_first : Bool) (cells : List (Option Placed)) (r index : ℕ) {there : Bool} where

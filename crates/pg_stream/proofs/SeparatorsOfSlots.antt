@@ -14,7 +14,7 @@ use Rattle.pg_picture.specs.Sizes.{height_of_rect}
 use Rattle.pg_picture.specs.Table.{Table, rect_marks, rect_height, block_at, is_covered, crossing, column_items, separator_part, separator_items}
 use Rattle.pg_picture.proofs.Owners.{HasOwners}
 use Rattle.pg_stream.specs.Open.{drawn_before, open_at_row, open_before}
-use Rattle.pg_stream.specs.Slots.{slot_item, slot_column, slot_separator_part, slot_separator}
+use Rattle.pg_stream.specs.Inside.Slots.{slot_item, slot_column, slot_separator_part, slot_separator}
 use Rattle.pg_stream.proofs.Steps.{open_value, open_none, at_own}
 use Rattle.pg_stream.proofs.PlacesInRows.{place-sep, height-is}
 use Rattle.pg_stream.proofs.WholePictures.{at_range}

@@ -12,7 +12,7 @@ use Rattle.pg_picture.proofs.PiecesOfLines.{written-append}
 use Rattle.pg_picture.proofs.PlainTables.{rect_width_plain}
 use Rattle.pg_picture.proofs.Room.{cell_fits-room}
 use Rattle.pg_stream.specs.Conditions.{HasRoom}
-use Rattle.pg_stream.specs.SingleRows.{single_part, single_line}
+use Rattle.pg_stream.specs.Inside.SingleRows.{single_part, single_line}
 use Rattle.pg_stream.proofs.PartsOfLines.{written-columns_cut}
 use Rattle.pg_stream.proofs.SingleLines.{height-one}
 

@@ -11,13 +11,12 @@ use Rattle.pg_picture.specs.Pieces.{style_at, block_line, written}
 use Rattle.pg_picture.specs.Sizes.{height_of_rect}
 use Rattle.pg_picture.specs.Table.{Table, vertical}
 use Rattle.pg_picture.proofs.PlainTables.{owner_plain, rect_rows_plain, rect_width_plain}
-use Rattle.pg_stream.specs.Drawing.{open_part, open_line, line_at, open_lines, open_line_at}
+use Rattle.pg_stream.specs.Inside.Drawing.{open_part, open_line, line_at, open_lines, open_line_at}
 use Rattle.pg_stream.specs.Open.{Slot, open_at_row, open_before}
-use Rattle.pg_stream.specs.DrawnCells.{draw_cell}
-use Rattle.pg_stream.specs.Placed.{Placed, slot_of, slots_of}
-use Rattle.pg_stream.specs.SingleRows.{single_part, single_line}
-use Rattle.pg_stream.specs.Slots.{slot_block}
-use Rattle.pg_stream.specs.Turns.{new_cell, begin_cell, close_cell, mapped, cells_begun, cells_closed}
+use Rattle.pg_stream.specs.Placed.{Placed, slot_of, slots_of, draw_cell}
+use Rattle.pg_stream.specs.Inside.SingleRows.{single_part, single_line}
+use Rattle.pg_stream.specs.Inside.Slots.{slot_block}
+use Rattle.pg_stream.specs.Inside.Turns.{new_cell, begin_cell, close_cell, mapped, cells_begun, cells_closed}
 use Rattle.pg_stream.proofs.PlainRooms.{height-plain, own-plain}
 use Rattle.pg_stream.proofs.OpenLists.{drawn-at}
 use Rattle.pg_stream.proofs.OwnersOfCells.{columns-same}

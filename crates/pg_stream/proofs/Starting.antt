@@ -5,7 +5,6 @@ use Rattle.std.proofs.lemmas.List.{length-replicate}
 use Rattle.pg_layout.specs.declared.position.Position.{Position}
 use Rattle.pg_layout.specs.Colors.{Color}
 use Rattle.pg_config.specs.Config.{Config}
-use Rattle.pg_config.specs.Spans.{StandAtPlaces}
 use Rattle.pg_picture.specs.Fits.{body_height, totals_fit}
 use Rattle.pg_picture.specs.Marks.{marks_above}
 use Rattle.pg_picture.specs.Sizes.{if_fits, sized}
@@ -15,9 +14,8 @@ use Rattle.pg_picture.proofs.HeightsOfRectangles.{length-table_body}
 use Rattle.pg_picture.proofs.SumsOfSizes.{if_fits-below}
 use Rattle.pg_stream.specs.Conditions.{PrinterFits}
 use Rattle.pg_stream.specs.Open.{open_at_row, open_before}
-use Rattle.pg_stream.specs.DrawnCells.{AllOpen, IsPlaced}
-use Rattle.pg_stream.specs.Placed.{Placed, slots_of}
-use Rattle.pg_stream.specs.Sound.{IsSound}
+use Rattle.pg_stream.specs.Placed.{Placed, slots_of, AllOpen, IsPlaced}
+use Rattle.pg_stream.specs.Printers.{IsSound}
 use Rattle.pg_stream.specs.Printing.{Printing, frame_of, table_known, printer}
 use Rattle.pg_stream.proofs.Steps.{open_none}
 use Rattle.pg_stream.proofs.WholePictures.{map_range-same, no_slots}
@@ -58,7 +56,7 @@ high-is s None = refl
 high-is s (Some m) = ap (λ n. Some n) (sym (length-table_body (record (frame_of s) { rows = m })))
 
 -- what is true of the printer
-module _ (config : Config) (columns : ℕ) (width height : ℕ → ℕ) (color : Position → Option Color) (hint : Option ℕ) (cells : List (Option Placed)) (fits : PrinterFits (printer config columns width height color hint)) (places : StandAtPlaces config.spans) (empty : cells ≡ replicate columns None) where
+module _ (config : Config) (columns : ℕ) (width height : ℕ → ℕ) (color : Position → Option Color) (hint : Option ℕ) (cells : List (Option Placed)) (fits : PrinterFits (printer config columns width height color hint)) (empty : cells ≡ replicate columns None) where
   abbrev pub first : Printing
   first = record { config = config; columns = columns; width = width; height = height; color = color; hint = hint; rows = 0; lines = 0; is_ended = false; slots = slots_of cells }
 
@@ -85,7 +83,6 @@ module _ (config : Config) (columns : ℕ) (width height : ℕ → ℕ) (color :
   pub sound-first : (w : ℕ) (h : Option ℕ) → w ≡ full_width (frame_of first) → h ≡ option_map (λ m. body_height (sized config width height m 0)) hint → IsSound first (frame_of first) w h cells
   sound-first w h wide high = record {
     fits = first-fits;
-    places = places;
     full = wide;
     high = high ∙ high-is first hint;
     whole = sym (ap length empty ∙ length-replicate columns None);

@@ -1,5 +1,5 @@
 -- What a stream of rows appends: the row that it holds, and all rows behind it.
-use Rattle.std.proofs.Common.{◌≡◌, ℕ, ◌+◌, ◌<◌, ◌≤◌, Bool, true, false, nat_lt, List, [], ◌∷◌, ◌++◌, Option, Some, None, refl, sym, ap, ◌∙◌, subst, append_assoc, append-nil, arith, inl, inr, if◌then◌else◌}
+use Rattle.std.proofs.Common.{◌≡◌, ℕ, ◌+◌, ◌<◌, ◌≤◌, Bool, true, false, nat_lt, List, [], ◌∷◌, ◌++◌, Option, Some, None, refl, sym, ap, ap₂, ◌∙◌, subst, append_assoc, append-nil, arith, inl, inr, if◌then◌else◌}
 use Rattle.std.specs.Prelude.{String, string_bytes, Result, Ok, Err, OnOk}
 use Rattle.std.proofs.lemmas.Bool.Decides.{nat_tests}
 use Rattle.pg_layout.specs.Records.{AlwaysGives}
@@ -11,6 +11,14 @@ use Rattle.pg_stream.specs.Printing.{Printing, row_text, finish_text, after_row,
 use Rattle.pg_stream.specs.Streams.{Streaming, held_text, HeldFits, after_push, rows_left, IsMisfit, text_above, OnlyMemory, TellsRow, AppendsIf, PrintsRows}
 use Rattle.pg_stream.specs.declared.fault.StreamFault.{StreamFault}
 use Rattle.pg_stream.specs.declared.fault.StreamFault.TheVariants.{Misfit, Row, Memory}
+
+-- ---- the stream after a push
+
+pub pushed-some : (s t : Streaming) (row next : List Text) → s.held ≡ Some row → t.before ≡ after_row s.before row false → t.held ≡ Some next → t ≡ after_push s next
+pushed-some s t row next is before held = rw is (ap₂ (λ (b : Printing) (h : Option (List Text)). record t { before = b; held = h }) before held)
+
+pub pushed-none : (s t : Streaming) (next : List Text) → s.held ≡ None → t.before ≡ s.before → t.held ≡ Some next → t ≡ after_push s next
+pushed-none s t next is before held = rw is (ap₂ (λ (b : Printing) (h : Option (List Text)). record t { before = b; held = h }) before held)
 
 -- ---- rows above one
 
@@ -37,6 +45,17 @@ misfit-below s (cells ∷ next ∷ rows) n (inl is) = omega (arith, is.0)
 misfit-below s (cells ∷ next ∷ rows) n (inr is) = omega (arith, misfit-below (after_row s cells false) (next ∷ rows) n is.1, rows-after s cells false)
 
 module _ {Z U : Type 0} where
+  -- ---- a row that is tested, and printed if it fits
+
+  pub row-misfits : {Fits : Type 0} (row : ℕ) (text : Text) (old : String Z) → ¬ Fits → AppendsIf {U = U} Fits row text old old (Err (Row row))
+  row-misfits row text old misfit = record { whole = λ fits. absurd (misfit fits); misfit = λ _. (refl, refl); tells = (refl, misfit) }
+
+  pub row-refused : {V E Fits : Type 0} {row : ℕ} {text : Text} {old new : String Z} {e : E} → Fits → Appends {U = V} old new (Err e) text → AppendsIf {U = U} Fits row text old new (Err Memory)
+  row-refused fits a = record { whole = λ _. (refused-as refl a, tt); misfit = λ no. absurd (no fits); tells = fits }
+
+  pub row-printed : {V E Fits : Type 0} {row : ℕ} {text : Text} {old new : String Z} {value : V} (other : U) → Fits → Appends {E = E} old new (Ok value) text → AppendsIf Fits row text old new (Ok other)
+  row-printed other fits a = record { whole = λ _. (appended-as a, tt); misfit = λ no. absurd (no fits); tells = fits }
+
   -- ---- the held row, as the stream shows it
 
   pub held-some : {old new : String Z} {r : Result U StreamFault} (s : Streaming) (row : List Text) → s.held ≡ Some row

@@ -3,7 +3,6 @@ use Rattle.std.specs.Prelude.{◌≡◌, ℕ, ◌<◌, true, List, map, IfSome, 
 use Rattle.std.specs.List.{range_with_len}
 use Rattle.pg_layout.specs.Position.{at}
 use Rattle.pg_layout.specs.Text.{Text}
-use Rattle.pg_config.specs.Spans.{StandAtPlaces}
 use Rattle.pg_picture.specs.Fits.{spans_fit, misfit_of}
 use Rattle.pg_picture.specs.Picture.{picture}
 use Rattle.pg_picture.specs.Table.{Table}
@@ -16,9 +15,9 @@ texts_of t = map (λ r. map (λ c. t.text (at r c)) (range_with_len 0 t.columns)
 
 -- All rows of a table whose spans fit it, printed one after another and ended, are its picture.
 abbrev pub RowsMakeThePicture : Type 0
-RowsMakeThePicture = (t : Table) (hint : Option ℕ) → IfSome hint (λ rows. rows ≡ t.rows) → StandAtPlaces t.config.spans → spans_fit t.config.spans t.rows t.columns ≡ true → 0 < t.rows → 0 < t.columns → rows_text (printer t.config t.columns t.width t.height t.color hint) (texts_of t) ≡ picture (hint_of hint) t
+RowsMakeThePicture = (t : Table) (hint : Option ℕ) → IfSome hint (λ rows. rows ≡ t.rows) → spans_fit t.config.spans t.rows t.columns ≡ true → 0 < t.rows → 0 < t.columns → rows_text (printer t.config t.columns t.width t.height t.color hint) (texts_of t) ≡ picture (hint_of hint) t
 
 -- A table that fits may be printed row by row.
 abbrev pub FittingTablesMayBePrinted : Type 0
-FittingTablesMayBePrinted = (t : Table) (hint : Option ℕ) → IfSome hint (λ rows. rows ≡ t.rows) → StandAtPlaces t.config.spans → misfit_of t ≡ None → 0 < t.rows → 0 < t.columns
+FittingTablesMayBePrinted = (t : Table) (hint : Option ℕ) → IfSome hint (λ rows. rows ≡ t.rows) → misfit_of t ≡ None → 0 < t.rows → 0 < t.columns
     → PrinterFits (printer t.config t.columns t.width t.height t.color hint) × RowsFit (printer t.config t.columns t.width t.height t.color hint) (texts_of t)

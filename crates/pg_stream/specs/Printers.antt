@@ -1,10 +1,17 @@
--- What contracts see of the fields of a printer.
-use Rattle.std.specs.Prelude.{ℕ, Bool, List, Option}
+-- What contracts see of the fields of a printer, and what is true of each printer between its calls.
+use Rattle.std.specs.Prelude.{◌≡◌, ℕ, ◌-◌, ◌^◌, ◌<◌, ◌≤◌, Bool, true, List, [], length, IfSome, Option, option_map}
 use Rattle.pg_layout.specs.declared.position.Position.{Position}
 use Rattle.pg_layout.specs.Colors.{Color}
 use Rattle.pg_config.specs.Config.{Config}
-use Rattle.pg_stream.specs.Placed.{Placed, slots_of}
-use Rattle.pg_stream.specs.Printing.{Printing}
+use Rattle.pg_picture.specs.Fits.{spans_fit}
+use Rattle.pg_picture.specs.Marks.{marks_above}
+use Rattle.pg_picture.specs.Table.{Table, full_width, table_body}
+use Rattle.pg_stream.specs.Conditions.{PrinterFits}
+use Rattle.pg_stream.specs.Open.{open_before}
+use Rattle.pg_stream.specs.Placed.{Placed, slots_of, AllOpen, IsPlaced}
+use Rattle.pg_stream.specs.Printing.{Printing, frame_of, table_known}
+use Rattle.pg_stream.specs.declared.frame.Frame.{Frame}
+use Rattle.pg_stream.specs.declared.progress.Progress.{Progress}
 
 -- a printer over a dimension and colours
 pub record Printer (D C : Type 0) : Type 0 where
@@ -17,6 +24,20 @@ pub record Printer (D C : Type 0) : Type 0 where
   pub lines : ℕ
   pub is_ended : Bool
   pub cells : List (Option Placed)
+
+-- a printer that was told this, and has printed so much
+abbrev pub printer_of : {D C B S A : Type 0} → Frame D C B → Progress S A → Printer D C
+printer_of frame progress = record {
+  config = frame.config.now;
+  columns = frame.columns;
+  dimension = frame.dimension.now;
+  colors = frame.colors.now;
+  hint = frame.hint;
+  rows = progress.rows;
+  lines = progress.lines;
+  is_ended = progress.is_ended;
+  cells = progress.cells;
+}
 
 -- what it stands for, by what its dimension and its colours stand for
 abbrev pub printing : {D C : Type 0} → (D → ℕ → ℕ) → (D → ℕ → ℕ) → (C → Position → Option Color) → Printer D C → Printing
@@ -32,3 +53,25 @@ printing width height color p = record {
   is_ended = p.is_ended;
   slots = slots_of p.cells;
 }
+
+-- Between its calls: its conditions hold; the total width and, where the number of rows is known, the number of the
+-- body's lines are those of its table; the open cells are those of the table whose texts they have themselves, and
+-- stand where they are drawn; the lines are counted; and a last row is the last one.
+pub record IsSound (s : Printing) (t : Table) (width : ℕ) (height : Option ℕ) (cells : List (Option Placed)) : Type 0 where
+  pub fits : PrinterFits s
+  pub full : width ≡ full_width t
+  pub high : height ≡ option_map (λ rows. length (table_body (record t { rows = rows }))) s.hint
+  pub whole : s.columns ≡ length cells
+  pub slots : slots_of cells ≡ open_before (table_known s s.rows []) s.rows
+  pub lines : s.lines ≡ length (marks_above s.config s.height s.rows)
+  pub placed : AllOpen (IsPlaced t) cells
+  pub few : s.rows < 2 ^ 64 - 1
+  pub hinted : IfSome s.hint (λ rows. (s.rows ≤ rows) × (s.is_ended ≡ true → s.rows ≡ rows))
+  pub ended : s.is_ended ≡ true → spans_fit s.config.spans s.rows s.columns ≡ true
+
+-- what a printer stands for that was told this, and has printed so much
+abbrev pub now_of : {S A : Type 0} → Printing → Progress S A → Printing
+now_of told progress = record told { rows = progress.rows; lines = progress.lines; is_ended = progress.is_ended; slots = slots_of progress.cells }
+
+abbrev pub IsSoundAt : {D C B S A : Type 0} → Printing → Frame D C B → Progress S A → Type 0
+IsSoundAt told frame progress = IsSound (now_of told progress) (frame_of told) frame.width frame.height progress.cells

@@ -36,7 +36,7 @@ hint_of (Some m) = Known
 
 -- where a rectangle ends that begins at or above row k
 unfoldable pub row_end : ℕ → Span → ℕ
-row_end k s = if nat_le s.0.1 k then s.0.1 + s.1.0 else 0
+row_end k s = if nat_le s.0.row k then s.0.row + s.1.rows else 0
 
 -- the greatest of these ends, and one row more than row k has above and with itself
 unfoldable pub rows_reached : List Span → ℕ → ℕ

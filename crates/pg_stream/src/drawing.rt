@@ -4,18 +4,18 @@ ghost use Rattle.std.specs.Prelude.{◌≡◌, ◌<◌, ◌++◌, ◌&&◌, ◌=
 ghost use Rattle.pg_config.specs.Config.{has_equal_row_lines, has_horizontal};
 ghost use Rattle.pg_config.specs.Spans.{rect_rows, rect_columns};
 ghost use Rattle.pg_picture.specs.Appending.{Appends};
-ghost use Rattle.pg_picture.specs.Cells.{style_of};
-ghost use Rattle.pg_picture.specs.Joined.{continued, feed_before, lines_before};
-ghost use Rattle.pg_picture.specs.Pieces.{written, style_at, items_after, last_color};
+ghost use Rattle.pg_picture.specs.Inside.Cells.{style_of};
+ghost use Rattle.pg_picture.specs.Joined.{continued};
+ghost use Rattle.pg_picture.specs.Inside.Following.{feed_before, lines_before, items_after, last_color};
+ghost use Rattle.pg_picture.specs.Pieces.{written, style_at};
 ghost use Rattle.pg_picture.specs.Table.{vertical, margin_line, side_margin_at, crossing_at};
-ghost use Rattle.pg_stream.specs.Drawing.{cell_items, top_text};
-ghost use Rattle.pg_stream.specs.DrawnCells.{IsPlaced, IsTall};
-ghost use Rattle.pg_stream.specs.Placed.{slot_of};
+ghost use Rattle.pg_stream.specs.Inside.Drawing.{cell_items, top_text};
+ghost use Rattle.pg_stream.specs.Placed.{slot_of, IsPlaced, IsTall};
 ghost use Rattle.pg_stream.specs.Printing.{Printing, frame_of};
-ghost use Rattle.pg_stream.specs.Slots.{slot_block};
-ghost use Rattle.pg_stream.specs.Styles.{DrawsAs};
-ghost use Rattle.pg_stream.specs.Told.{nothing_told, told_of};
-ghost use Rattle.pg_stream.specs.Turns.{MayBegin, new_cell};
+ghost use Rattle.pg_stream.specs.Inside.Slots.{slot_block};
+ghost use Rattle.pg_stream.specs.Inside.Styles.{DrawsAs};
+ghost use Rattle.pg_stream.specs.Inside.Told.{nothing_told, told_of};
+ghost use Rattle.pg_stream.specs.Inside.Turns.{MayBegin, new_cell};
 ghost use Rattle.std.proofs.Props.{props};
 
 use crate::frame::Frame;

@@ -4,12 +4,12 @@ ghost use Rattle.std.specs.Prelude.{◌≡◌, ◌+◌, ◌≤◌, true, length}
 ghost use Rattle.std.specs.Option.{ForSome};
 ghost use Rattle.pg_config.specs.Config.{has_column_lines};
 ghost use Rattle.pg_layout.specs.Text.{lines_of};
-ghost use Rattle.pg_picture.specs.Cells.{style_of};
+ghost use Rattle.pg_picture.specs.Inside.Cells.{style_of};
 ghost use Rattle.pg_picture.specs.Fits.{cell_fits};
 ghost use Rattle.pg_picture.specs.Pieces.{style_at};
 ghost use Rattle.pg_picture.specs.Styles.{IsStyleOfAll};
-ghost use Rattle.pg_stream.specs.Styles.{DrawsAs};
-ghost use Rattle.pg_stream.specs.Turns.{place_in};
+ghost use Rattle.pg_stream.specs.Inside.Styles.{DrawsAs};
+ghost use Rattle.pg_stream.specs.Inside.Turns.{place_in};
 
 use pg_config::SpannedConfig;
 use pg_layout::{AlignmentHorizontal, AlignmentVertical, Colors, Dimension, Position};

@@ -8,6 +8,7 @@ mod conditions;
 mod drawing;
 mod fault;
 mod frame;
+mod held_rows;
 mod laws;
 mod open_cell;
 mod open_cells;

@@ -1,17 +1,19 @@
 //! How far a table is printed, and what its next rows and its end append.
 
-ghost use Rattle.std.specs.Prelude.{◌≡◌, ◌⊎◌, ◌+◌, ◌<◌, ◌^◌, ◌∷◌, ◌&&◌, ◌==◌, not, List, true, IfSome, OnOk};
+ghost use Rattle.std.specs.Prelude.{◌≡◌, ◌⊎◌, ◌+◌, ◌<◌, ◌^◌, ◌∷◌, ◌&&◌, ◌==◌, not, List, true, map, IfSome, OnOk};
 ghost use Rattle.std.specs.Iterator.{IsFinite};
 ghost use Rattle.pg_layout.specs.Records.{AlwaysGives, Gives};
 ghost use Rattle.pg_layout.specs.Text.{Text};
 ghost use Rattle.pg_picture.specs.Appending.{Appends};
 ghost use Rattle.pg_stream.specs.Conditions.{AreRowsFrom, RowFits, RowsFit};
-ghost use Rattle.pg_stream.specs.Drawing.{IsSeparator};
-ghost use Rattle.pg_stream.specs.Sound.{now_of, IsSoundAt};
+ghost use Rattle.pg_stream.specs.Inside.Drawing.{IsSeparator};
+ghost use Rattle.pg_stream.specs.Printers.{now_of, IsSoundAt};
 ghost use Rattle.pg_stream.specs.Printing.{frame_of, row_text, rows_text, finish_text, after_row};
-ghost use Rattle.pg_stream.specs.Told.{told_of};
+ghost use Rattle.pg_stream.specs.Inside.Told.{told_of};
+ghost use Rattle.pg_stream.specs.Streams.{AppendsIf};
 
 use crate::drawing::{Drawing, Drawn};
+use crate::fault::StreamFault;
 use crate::frame::Frame;
 use crate::open_cells::OpenCells;
 use pg_layout::{Colors, Dimension};
@@ -19,6 +21,7 @@ use pg_picture::{SEPARATOR_ROOM, SeparatorKeeper};
 use std::alloc::{AllocError, Allocator, Global};
 use std::convert::AsStr;
 use std::marker::PhantomData;
+use std::vec::IntoIter;
 
 /// What a row changes of a printer: the cells that go on below, how many rows and lines of the body are
 /// printed, and whether the last row is among them.
@@ -78,6 +81,40 @@ impl<S: AsStr + Drop, A: Allocator> Progress<S, A> {
         drawing.push_lines(&mut self.cells, buf, is_first, next, self.rows, height)?;
         drawing.close(&mut self.cells, self.rows);
         self.end_row(below, is_last);
+        Ok(())
+    }
+
+    // Prints the next row of the table of a frame, if it fits, as `push_row` does. Else it is named by its
+    // number, and nothing is appended.
+    #[inline(always)]
+    pub(crate) fn try_row<'f, T, D, C, B, V, W>(
+        &mut self,
+        frame: &'f Frame<'f, D, C, B>,
+        kept: &mut SeparatorKeeper<'_>,
+        cells: Vec<S, V>,
+        is_last: bool,
+        buf: &mut String<W>,
+    ) -> Result<(), StreamFault>
+    where
+        T: Drawn,
+        D: Dimension,
+        C: Colors,
+        B: Allocator,
+        V: Allocator,
+        W: Allocator,
+        requires is { told_of D.width D.height C.color frame.now ≡ T.told }
+        requires sound { IsSoundAt T.told frame.now self.old }
+        requires kept { IfSome kept.old.text (IsSeparator (frame_of T.told)) }
+        ensures sound { OnOk result (IsSoundAt T.told frame.now self.new) }
+        ensures prints { AppendsIf (RowFits (now_of T.told self.old) (map S.text cells.items) is_last) self.old.rows (row_text (now_of T.told self.old) (map S.text cells.items) is_last) buf.old buf.new result }
+        ensures after { OnOk result (now_of T.told self.new ≡ after_row (now_of T.told self.old) (map S.text cells.items) is_last) }
+        ensures kept { IfSome kept.new.text (IsSeparator (frame_of T.told)) }
+    {
+        if !self.fits(frame, &cells, is_last) {
+            return Err(StreamFault::Row(self.rows));
+        }
+        let cells = cells.into_iter();
+        self.push_row::<T, D, C, B, IntoIter<S, V>, W>(frame, kept, cells, is_last, buf)?;
         Ok(())
     }
 

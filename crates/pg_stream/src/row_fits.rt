@@ -7,10 +7,12 @@ ghost use Rattle.pg_picture.specs.Fits.{cell_fits, spans_fit, spans_fit_columns}
 ghost use Rattle.pg_picture.specs.Marks.{marks_of_row};
 ghost use Rattle.pg_picture.specs.Pieces.{style_at};
 ghost use Rattle.pg_stream.specs.Conditions.{HasRoom, HaveRoom, RowFits};
-ghost use Rattle.pg_stream.specs.Printers.{printing};
-ghost use Rattle.pg_stream.specs.Slots.{separator_height};
+ghost use Rattle.pg_stream.specs.Printers.{printing, now_of, IsSoundAt};
+ghost use Rattle.pg_stream.specs.Inside.Slots.{separator_height};
+ghost use Rattle.pg_stream.specs.Inside.Told.{told_of};
 
 use crate::frame::Frame;
+use crate::progress::Progress;
 use crate::row_printer::RowPrinter;
 use pg_config::{Span, SpannedConfig};
 use pg_layout::{Colors, Dimension, Position};
@@ -37,27 +39,45 @@ impl<'a, S: AsStr, D: Dimension, C: Colors, B: Allocator, A: Allocator> RowPrint
     pub fn fits(&self, cells: &[S], is_last: bool) -> bool
         ensures { IsTrue result ↔ RowFits (printing D.width D.height C.color self.now) (map S.text cells.now) is_last }
     {
-        self.is_next(cells.len(), is_last)
-            && ends_spans(
-                self.frame.config,
-                self.progress.rows,
-                self.frame.columns,
-                is_last,
-            )
-            && self.frame.have_room(self.progress.rows, cells)
-            && self
-                .frame
-                .counts_lines(self.progress.rows, self.progress.lines)
+        self.progress.fits(&self.frame, cells, is_last)
+    }
+}
+
+impl<S: AsStr, A: Allocator> Progress<S, A> {
+    // Whether these cells may be printed as the next row of the table of a frame, as `RowPrinter::fits`
+    // tells.
+    pub(crate) fn fits<D, C, B>(
+        &self,
+        frame: &Frame<'_, D, C, B>,
+        cells: &[S],
+        is_last: bool,
+    ) -> bool
+    where
+        D: Dimension,
+        C: Colors,
+        B: Allocator,
+        requires { IsSoundAt (told_of D.width D.height C.color frame.now) frame.now self.now }
+        ensures { IsTrue result ↔ RowFits (now_of (told_of D.width D.height C.color frame.now) self.now) (map S.text cells.now) is_last }
+    {
+        self.is_next(frame, cells.len(), is_last)
+            && ends_spans(frame.config, self.rows, frame.columns, is_last)
+            && frame.have_room(self.rows, cells)
+            && frame.counts_lines(self.rows, self.lines)
     }
 
     // Whether a row of so many cells comes next.
-    fn is_next(&self, cells: usize, is_last: bool) -> bool
-        ensures { IsTrue result ↔ (cells ≡ (printing D.width D.height C.color self.now).columns) × ((printing D.width D.height C.color self.now).is_ended ≡ false) × ((printing D.width D.height C.color self.now).rows < 2 ^ 64 - 2) × IfSome (printing D.width D.height C.color self.now).hint (λ rows. ((printing D.width D.height C.color self.now).rows < rows) × (is_last ≡ (((printing D.width D.height C.color self.now).rows + 1) == rows))) }
+    fn is_next<D, C, B: Allocator>(
+        &self,
+        frame: &Frame<'_, D, C, B>,
+        cells: usize,
+        is_last: bool,
+    ) -> bool
+        ensures { IsTrue result ↔ (cells ≡ frame.now.columns) × (self.now.is_ended ≡ false) × (self.now.rows < 2 ^ 64 - 2) × IfSome frame.now.hint (λ rows. (self.now.rows < rows) × (is_last ≡ ((self.now.rows + 1) == rows))) }
     {
-        cells == self.frame.columns
-            && !self.progress.is_ended
-            && self.progress.rows < usize::MAX - 1
-            && agrees(self.frame.hint, self.progress.rows, is_last)
+        cells == frame.columns
+            && !self.is_ended
+            && self.rows < usize::MAX - 1
+            && agrees(frame.hint, self.rows, is_last)
     }
 }
 
@@ -86,7 +106,7 @@ fn ends_spans<B: Allocator>(
 }
 
 impl<'a, D: Dimension, C: Colors, B: Allocator> Frame<'a, D, C, B> {
-    ghost use Rattle.pg_stream.specs.Told.{frame_table};
+    ghost use Rattle.pg_stream.specs.Inside.Frames.{frame_table};
 
     // Whether each cell that begins in a row has room for its text.
     fn have_room<S: AsStr>(&self, row: usize, cells: &[S]) -> bool
@@ -161,6 +181,7 @@ impl<'a, D: Dimension, C: Colors, B: Allocator> Frame<'a, D, C, B> {
     }
 
     // Whether a text has room in the cell at a place, which has so many columns and lines.
+    #[inline(always)]
     fn fits_in_cell(&self, text: &str, pos: Position, width: usize, height: usize) -> bool
         ensures { result ≡ cell_fits (style_at self.now.config.now pos) text.now width height }
     {
@@ -170,20 +191,21 @@ impl<'a, D: Dimension, C: Colors, B: Allocator> Frame<'a, D, C, B> {
         }
     }
 
-    // Whether the lines of a row, with its separator, can be counted after so many.
+    // Whether the lines of a row, with its separator, can be counted after so many. The separator is asked
+    // for only where they can't be without a doubt.
     fn counts_lines(&self, row: usize, lines: usize) -> bool
         requires { row < usize.MAX }
         ensures { result ≡ nat_lt (lines + length (marks_of_row self.now.config.now (D.height self.now.dimension.now) row)) (2 ^ 64) }
     {
         let height = self.dimension.get_height(row);
-        match lines.checked_add(self.separator_lines(row)) {
-            Some(next) => next.checked_add(height).is_some(),
+        match lines.checked_add(height) {
+            Some(next) => next < usize::MAX || self.separator_lines(row) == 0,
             None => false,
         }
     }
 
     // How many lines the separator above a row takes.
-    #[tactic(auto, unfolding(crate::specs::Slots::separator_height))]
+    #[tactic(auto, unfolding(crate::specs::Inside::Slots::separator_height))]
     fn separator_lines(&self, row: usize) -> usize
         requires { row < usize.MAX }
         ensures { result ≡ separator_height self.now.config.now row }

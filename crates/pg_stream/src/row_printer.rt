@@ -54,9 +54,8 @@ pub struct RowPrinter<
 
 impl<'a, S: AsStr, D: Dimension, C: Colors, B: Allocator, A: Allocator> Model
     for RowPrinter<'a, S, D, C, B, A> {
-    ghost use Rattle.pg_stream.specs.Sound.{printer_of, IsSoundAt};
-    ghost use Rattle.pg_stream.specs.Printers.{Printer};
-    ghost use Rattle.pg_stream.specs.Told.{told_of};
+    ghost use Rattle.pg_stream.specs.Printers.{Printer, printer_of, IsSoundAt};
+    ghost use Rattle.pg_stream.specs.Inside.Told.{told_of};
 
     ghost Value = { Printer D C };
 
@@ -93,8 +92,6 @@ impl<'a, S: AsStr + Drop, D: Dimension, C: Colors, B: Allocator, A: Allocator> R
         ensures made { IfOk result (λ p. printing D.width D.height C.color p ≡ printer config.now columns (D.width dimension.now) (D.height dimension.now) (C.color colors.now) hint) }
         ensures empty { IfOk result (λ p. (printing D.width D.height C.color p).rows ≡ 0) }
     {
-        // Shows that the spans stand in order.
-        let _spans = config.spans();
         let width = full_width(config, dimension, columns).unwrap();
         let height = height_of_body(config, dimension, hint);
         let cells = OpenCells::new(alloc, columns)?;

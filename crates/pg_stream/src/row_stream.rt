@@ -7,20 +7,22 @@ ghost use Rattle.pg_layout.specs.Records.{AlwaysGives, Becomes};
 ghost use Rattle.pg_layout.specs.Text.{Text};
 ghost use Rattle.pg_picture.specs.Appending.{GainedBeginning};
 ghost use Rattle.pg_picture.specs.declared.fits.Misfit.{Misfit};
-ghost use Rattle.pg_stream.specs.Conditions.{PrinterFits, RowFits, printer_misfit};
-ghost use Rattle.pg_stream.specs.Printers.{printing};
-ghost use Rattle.pg_stream.specs.Printing.{printer, row_text, rows_text, after_row};
+ghost use Rattle.pg_stream.specs.Conditions.{PrinterFits, printer_misfit};
+ghost use Rattle.pg_stream.specs.Printing.{printer, rows_text};
 ghost use Rattle.pg_stream.specs.Streams.{streaming, held_text, HeldFits, after_push, rows_left, AppendsIf, PrintsRows, PrintsResults};
 ghost use Rattle.pg_stream.specs.declared.fault.StreamFault.{StreamFault};
 
 use crate::fault::{RowsFault, StreamFault};
+use crate::frame::Frame;
+use crate::held_rows::HeldRows;
 use crate::row_printer::RowPrinter;
 use pg_config::SpannedConfig;
 use pg_layout::{Colors, Dimension};
+use pg_picture::SeparatorKeeper;
 use std::alloc::{AllocError, Allocator, Global};
 use std::convert::AsStr;
 use std::iter::IntoIterator;
-use std::marker::Model;
+use std::marker::{Brand, Model};
 
 /// Prints a table whose rows come one at a time: it holds each row until the next one is there, which
 /// tells that it isn't the last.
@@ -48,49 +50,23 @@ pub struct RowStream<
     A: Allocator = Global,
     V: Allocator = Global,
 > {
-    printer: RowPrinter<'a, S, D, C, B, A>,
-    held: Option<Vec<S, V>>,
+    frame: Frame<'a, D, C, B>,
+    rows: HeldRows<S, A, V>,
 }
 
 impl<'a, S: AsStr, D: Dimension, C: Colors, B: Allocator, A: Allocator, V: Allocator> Model
     for RowStream<'a, S, D, C, B, A, V> {
-    ghost use Rattle.std.specs.Prelude.{◌≡◌, map, option_map, None};
+    ghost use Rattle.std.specs.Prelude.{map, option_map};
+    ghost use Rattle.pg_stream.specs.Inside.Held.{AreSoundAt};
+    ghost use Rattle.pg_stream.specs.Inside.Told.{told_of};
+    ghost use Rattle.pg_stream.specs.Printers.{printer_of};
     ghost use Rattle.pg_stream.specs.Streams.{Stream};
 
     ghost Value = { Stream D C };
 
-    ghost view = { λ s. record { printer = s.printer; held = option_map (λ row. map S.text row.items) s.held } };
+    ghost view = { λ s. record { printer = printer_of s.frame s.rows.progress; held = option_map (λ row. map S.text row.items) s.rows.held } };
 
-    ghost invariant = { λ s. s.held ≡ None → s.printer.rows ≡ 0 };
-}
-
-// Prints a row, or names it by its number.
-#[inline(always)]
-fn print_row<'a, S, D, C, B, A, V, W>(
-    printer: RowPrinter<'a, S, D, C, B, A>,
-    cells: Vec<S, V>,
-    is_last: bool,
-    buf: &mut String<W>,
-) -> Result<RowPrinter<'a, S, D, C, B, A>, StreamFault>
-where
-    S: AsStr + Drop,
-    D: Dimension,
-    C: Colors,
-    B: Allocator,
-    A: Allocator,
-    V: Allocator,
-    W: Allocator,
-    ensures prints { AppendsIf (RowFits (printing D.width D.height C.color printer.entry) (map S.text cells.items) is_last) (printing D.width D.height C.color printer.entry).rows (row_text (printing D.width D.height C.color printer.entry) (map S.text cells.items) is_last) buf.old buf.new result }
-    ensures after { IfOk result (λ p. printing D.width D.height C.color p ≡ after_row (printing D.width D.height C.color printer.entry) (map S.text cells.items) is_last) }
-    ensures ended { IfOk result (λ p. (printing D.width D.height C.color p).is_ended ≡ is_last) }
-{
-    if !printer.fits(&cells, is_last) {
-        return Err(StreamFault::Row(printer.rows()));
-    }
-    match printer.row_of(cells, is_last, buf) {
-        Ok(printer) => Ok(printer),
-        Err(_) => Err(StreamFault::Memory),
-    }
+    ghost invariant = { λ s. AreSoundAt (told_of D.width D.height C.color s.frame) s.frame s.rows };
 }
 
 // The cells that anything gives, in a vector.
@@ -140,10 +116,16 @@ impl<
         ensures misfit { (misfit : Misfit) → (result ≡ Err (StreamFault.Misfit misfit)) ↔ (printer_misfit (printer config.now columns (D.width dimension.now) (D.height dimension.now) (C.color colors.now) hint) ≡ Some misfit) }
     {
         match RowPrinter::try_new(alloc, config, dimension, colors, columns, hint) {
-            Ok(printer) => Ok(RowStream {
-                printer,
-                held: None,
-            }),
+            Ok(printer) => {
+                let RowPrinter { frame, progress } = printer;
+                Ok(RowStream {
+                    frame,
+                    rows: HeldRows {
+                        progress,
+                        held: None,
+                    },
+                })
+            }
             Err(fault) => Err(fault),
         }
     }
@@ -162,15 +144,10 @@ impl<
         ensures after { IfOk result (λ s. streaming D.width D.height C.color s ≡ after_push (streaming D.width D.height C.color self.entry) (map S.text cells.items)) }
         ensures prints { AppendsIf (HeldFits (streaming D.width D.height C.color self.entry)) (streaming D.width D.height C.color self.entry).before.rows (held_text (streaming D.width D.height C.color self.entry)) buf.old buf.new result }
     {
-        let RowStream { printer, held } = self;
-        let printer = match held {
-            Some(row) => print_row(printer, row, false, buf)?,
-            None => printer,
-        };
-        Ok(RowStream {
-            printer,
-            held: Some(cells),
-        })
+        let RowStream { frame, mut rows } = self;
+        let mut kept = SeparatorKeeper::new(&mut []);
+        rows.push::<Brand, D, C, B, W>(&frame, &mut kept, cells, buf)?;
+        Ok(RowStream { frame, rows })
     }
 
     /// Holds a row whose cells anything gives that can be iterated over, as an array or the parts of a
@@ -208,12 +185,9 @@ impl<
         ensures appends { OnOk result (string_bytes buf.new ≡ string_bytes buf.old ++ rows_text (streaming D.width D.height C.color self.entry).before (rows_left (streaming D.width D.height C.color self.entry) [])) }
         ensures prints { PrintsRows (streaming D.width D.height C.color self.entry).before (rows_left (streaming D.width D.height C.color self.entry) []) buf.old buf.new result }
     {
-        let RowStream { printer, held } = self;
-        let printer = match held {
-            Some(row) => print_row(printer, row, true, buf)?,
-            None => printer,
-        };
-        Ok(printer.finish(buf)?)
+        let RowStream { frame, rows } = self;
+        let mut kept = SeparatorKeeper::new(&mut []);
+        rows.finish::<Brand, D, C, B, W>(&frame, &mut kept, buf)
     }
 
     /// Pushes all rows that an iterator gives, and ends the table.
@@ -234,11 +208,11 @@ impl<
         requires ends { IsFinite (I.remaining rows) }
         ensures { (texts : List (List Text)) → AlwaysGives (λ x y. map S.text x.items ≡ y) I.next_gives rows texts → PrintsRows (streaming D.width D.height C.color self.entry).before (rows_left (streaming D.width D.height C.color self.entry) texts) buf.old buf.new result }
     {
-        let mut stream = self;
-        for row in rows {
-            stream = stream.push(row, buf)?;
-        }
-        stream.finish(buf)
+        let RowStream {
+            frame,
+            rows: pushed,
+        } = self;
+        pushed.push_all::<Brand, D, C, B, I, W>(&frame, rows, buf)
     }
 
     /// Pushes all rows of a vector, and ends the table, as [`RowStream::print_all`] does.
@@ -271,14 +245,10 @@ impl<
         requires ends { IsFinite (I.remaining rows) }
         ensures { (items : List (Result (List Text) E)) → AlwaysGives (λ x y. result_map_both (λ row. map S.text row.items) (λ error. error) x ≡ y) I.next_gives rows items → PrintsResults (streaming D.width D.height C.color self.entry) items buf.old buf.new result }
     {
-        let mut stream = self;
-        for row in rows {
-            let cells = match row {
-                Ok(cells) => cells,
-                Err(error) => return Err(RowsFault::Source(error)),
-            };
-            stream = stream.push(cells, buf)?;
-        }
-        Ok(stream.finish(buf)?)
+        let RowStream {
+            frame,
+            rows: pushed,
+        } = self;
+        pushed.push_results::<Brand, D, C, B, E, I, W>(&frame, rows, buf)
     }
 }

@@ -5,11 +5,12 @@ ghost use Rattle.std.specs.List.{range_with_len};
 ghost use Rattle.pg_config.specs.Spans.{rect_columns};
 ghost use Rattle.pg_layout.specs.Position.{at};
 ghost use Rattle.pg_picture.specs.Appending.{Appends};
-ghost use Rattle.pg_picture.specs.Pieces.{items_after, last_color, separator_text};
-ghost use Rattle.pg_stream.specs.Drawing.{column_end, reach, cell_items, open_separator_part, open_separator, above_text, below_text, IsSeparator};
-ghost use Rattle.pg_stream.specs.DrawnCells.{draw_cell, AllOpen, AreDrawn};
+ghost use Rattle.pg_picture.specs.Pieces.{separator_text};
+ghost use Rattle.pg_picture.specs.Inside.Following.{items_after, last_color};
+ghost use Rattle.pg_stream.specs.Inside.Drawing.{column_end, reach, cell_items, open_separator_part, open_separator, above_text, below_text, IsSeparator};
+ghost use Rattle.pg_stream.specs.Placed.{draw_cell, AllOpen, AreDrawn};
 ghost use Rattle.pg_stream.specs.Printing.{frame_of};
-ghost use Rattle.pg_stream.specs.Slots.{separator_height};
+ghost use Rattle.pg_stream.specs.Inside.Slots.{separator_height};
 
 use crate::drawing::{Drawing, Drawn};
 use crate::open_cells::OpenCells;

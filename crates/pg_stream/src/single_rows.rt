@@ -6,12 +6,12 @@ ghost use Rattle.pg_layout.specs.Position.{at};
 ghost use Rattle.pg_layout.specs.Records.{AlwaysGives};
 ghost use Rattle.pg_layout.specs.Text.{Text};
 ghost use Rattle.pg_picture.specs.Appending.{Appends};
-ghost use Rattle.pg_picture.specs.Cells.{style_of};
+ghost use Rattle.pg_picture.specs.Inside.Cells.{style_of};
 ghost use Rattle.pg_picture.specs.Pieces.{written, style_at, block_line};
 ghost use Rattle.pg_stream.specs.Conditions.{HasRoom, HaveRoom};
-ghost use Rattle.pg_stream.specs.Drawing.{line_at};
+ghost use Rattle.pg_stream.specs.Inside.Drawing.{line_at};
 ghost use Rattle.pg_stream.specs.Printing.{frame_of};
-ghost use Rattle.pg_stream.specs.SingleRows.{IsSingle, single_part, single_line};
+ghost use Rattle.pg_stream.specs.Inside.SingleRows.{IsSingle, single_part, single_line};
 
 use crate::drawing::{Drawing, Drawn};
 use pg_layout::{Colors, Dimension, Position};

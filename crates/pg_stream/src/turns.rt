@@ -2,15 +2,15 @@
 
 ghost use Rattle.std.specs.Prelude.{◌≡◌, ◌+◌, ◌<◌, ◌≤◌, ◌^◌, ◌&&◌, ℕ, List, not, nat_lt, true, length, is_some, slice_index_or, slice_set, IfSome, None};
 ghost use Rattle.std.specs.Iterator.{IsFinite};
-ghost use Rattle.pg_config.specs.Spans.{StandAtPlaces, owner};
+ghost use Rattle.pg_config.specs.Spans.{owner};
 ghost use Rattle.pg_layout.specs.Position.{at, is_at};
 ghost use Rattle.pg_layout.specs.Records.{AlwaysGives};
 ghost use Rattle.pg_layout.specs.Text.{Text};
 ghost use Rattle.pg_picture.specs.Fits.{spans_fit_columns};
 ghost use Rattle.pg_stream.specs.Conditions.{HaveRoom};
-ghost use Rattle.pg_stream.specs.DrawnCells.{AllOpen};
+ghost use Rattle.pg_stream.specs.Placed.{AllOpen};
 ghost use Rattle.pg_stream.specs.Printing.{frame_of};
-ghost use Rattle.pg_stream.specs.Turns.{IsOwnerAbove, MayBegin, begin_cell, cells_begun, is_done, close_cell, cells_closed};
+ghost use Rattle.pg_stream.specs.Inside.Turns.{IsOwnerAbove, MayBegin, begin_cell, cells_begun, is_done, close_cell, cells_closed};
 
 use crate::drawing::{Drawing, Drawn};
 use crate::open_cells::OpenCells;
@@ -35,7 +35,6 @@ where
     )
         requires columns { T.told.columns ≡ length opened.old }
         requires spans { spans_fit_columns T.told.config.spans T.told.columns ≡ true }
-        requires places { StandAtPlaces T.told.config.spans }
         requires above { (x : ℕ) → x < T.told.columns → IsOwnerAbove T.told.config.spans row x (slice_index_or opened.old x None) }
         requires can { I.can_next cells × IsFinite (I.remaining cells) }
         requires given { (texts : List Text) × AlwaysGives (λ x y. S.text x ≡ y) I.next_gives cells texts × length texts ≡ T.told.columns × HaveRoom (frame_of T.told) row texts }

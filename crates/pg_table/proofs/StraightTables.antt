@@ -73,7 +73,7 @@ module _ (config : Config) (texts : List (List Text)) (columns : ℕ) (color : P
   cells : 0 < table.rows → 0 < table.columns → CellsFit table
   cells h k =
       let fitting = fits config texts columns color (facts h k).0 (facts h k).1 in
-      record { places = rw (facts h k).0 tt; spans = fitting.spans; rooms = fitting.rooms }
+      record { spans = fitting.spans; rooms = fitting.rooms }
 
   pub straight : IsStraight table
   straight h k narrow whole = columns_are_straight table (cells h k) narrow whole

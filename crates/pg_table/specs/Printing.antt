@@ -5,7 +5,6 @@ use Rattle.pg_layout.specs.declared.position.Position.{Position}
 use Rattle.pg_layout.specs.Colors.{Color}
 use Rattle.pg_layout.specs.ColorsMap.{color_at}
 use Rattle.pg_layout.specs.Looks.{ascii}
-use Rattle.pg_layout.specs.Places.{Key}
 use Rattle.pg_layout.specs.Records.{columns_of}
 use Rattle.pg_layout.specs.Text.{Text}
 use Rattle.pg_config.specs.Config.{Config, default_config}
@@ -53,7 +52,7 @@ sizes_of texts columns axis (records, config, colors) = natural_sizes axis confi
 pub record Parts (T : Type 0) : Type 0 where
   pub rows : List (List T)
   pub config : Config
-  pub colors : List (Key × Color)
+  pub colors : List (Position × Color)
 
 -- the table that it draws, by the texts of its cells
 abbrev pub drawn : {T : Type 0} → (T → Text) → Parts T → Drawn

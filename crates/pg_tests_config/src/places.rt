@@ -1,54 +1,56 @@
 //! Values by key, which stand in the order of their keys.
 
-use pg_layout::Places;
+use pg_layout::{Places, Position};
 use std::alloc::Global;
 use std::process::Abort;
 use std::test::Fail;
 
+// The place in row 0 and column 7, which is told a value twice.
+const TWICE: Position = Position { row: 0, col: 7 };
+
+// The place behind it.
+const NEXT: Position = Position { row: 0, col: 8 };
+
+fn at(row: usize, col: usize) -> Position {
+    Position { row, col }
+}
+
 // Four values, of which the last takes the place of the second.
-fn set_values(alloc: Global) -> Result<Places<u8>, Fail> {
+fn set_values(alloc: Global) -> Result<Places<Position, u8>, Fail> {
     let mut places = Places::new(alloc);
-    for (key, value) in [
-        ((1, 5, 0), 1u8),
-        ((0, 2, 7), 2),
-        ((1, 1, 0), 3),
-        ((0, 2, 7), 4),
-    ] {
+    for (key, value) in [(at(1, 5), 1u8), (TWICE, 2), (at(1, 1), 3), (TWICE, 4)] {
         places.set(key, value)?;
     }
     Ok(places)
 }
 
-fn assert_found(rt: &impl Abort, places: &Places<u8>) {
+fn assert_found(rt: &impl Abort, places: &Places<Position, u8>) {
     assert_eq!(rt; places.iter().count(), 3);
-    assert_eq!(rt; places.get((0, 2, 7)).copied(), Some(4));
-    assert_eq!(rt; places.get((0, 2, 6)).copied(), None);
-    assert_eq!(rt; places.last_up_to((0, 2, 6)).map(|entry| *entry.1), None);
-    assert_eq!(rt; places.last_up_to((1, 4, 9)).map(|entry| *entry.1), Some(3));
-    assert_eq!(rt;
-        places.last_before((1, 1, 0)).map(|entry| *entry.1),
-        Some(4)
-    );
-    assert_eq!(rt; places.last_before((0, 2, 7)).map(|entry| *entry.1), None);
-    assert_eq!(rt; places.next_from((1, 1, 0)).map(|entry| *entry.1), Some(3));
-    assert_eq!(rt; places.next_from((1, 5, 1)).map(|entry| *entry.1), None);
-    assert!(rt; places.has_first(1) && !places.has_first(2));
-    assert!(rt; places.has_pair(0, 2) && !places.has_pair(0, 1));
+    assert_eq!(rt; places.get(TWICE).copied(), Some(4));
+    assert_eq!(rt; places.get(at(0, 6)).copied(), None);
+    assert_eq!(rt; places.last_up_to(at(0, 6)).map(|entry| *entry.1), None);
+    assert_eq!(rt; places.last_up_to(at(1, 4)).map(|entry| *entry.1), Some(3));
+    assert_eq!(rt; places.last_before(at(1, 1)).map(|entry| *entry.1), Some(4));
+    assert_eq!(rt; places.last_before(TWICE).map(|entry| *entry.1), None);
+    assert_eq!(rt; places.next_from(at(1, 1)).map(|entry| *entry.1), Some(3));
+    assert_eq!(rt; places.next_from(at(1, 6)).map(|entry| *entry.1), None);
+    assert_eq!(rt; places.first_key_from(at(1, 0)), Some(at(1, 1)));
+    assert_eq!(rt; places.first_key_from(at(2, 0)), None);
 }
 
-fn assert_exchanged(rt: &impl Abort, places: &mut Places<u8>) -> Result<(), Fail> {
-    assert_eq!(rt; places.exchange((0, 2, 7), Some(5))?, Some(4));
-    assert_eq!(rt; places.exchange((0, 2, 8), Some(6))?, None);
-    assert_eq!(rt; places.exchange((0, 2, 7), None)?, Some(5));
-    assert_eq!(rt; places.exchange((0, 2, 7), None)?, None);
-    assert_eq!(rt; places.get((0, 2, 8)).copied(), Some(6));
+fn assert_exchanged(rt: &impl Abort, places: &mut Places<Position, u8>) -> Result<(), Fail> {
+    assert_eq!(rt; places.exchange(TWICE, Some(5))?, Some(4));
+    assert_eq!(rt; places.exchange(NEXT, Some(6))?, None);
+    assert_eq!(rt; places.exchange(TWICE, None)?, Some(5));
+    assert_eq!(rt; places.exchange(TWICE, None)?, None);
+    assert_eq!(rt; places.get(NEXT).copied(), Some(6));
     assert_eq!(rt; places.iter().count(), 3);
     Ok(())
 }
 
-fn assert_removed(rt: &impl Abort, places: &mut Places<u8>) {
-    places.remove((1, 1, 0));
-    places.remove((0, 2, 8));
+fn assert_removed(rt: &impl Abort, places: &mut Places<Position, u8>) {
+    places.remove(at(1, 1));
+    places.remove(NEXT);
     assert_eq!(rt; places.iter().count(), 1);
     places.clear();
     assert!(rt; places.is_empty());
@@ -56,7 +58,7 @@ fn assert_removed(rt: &impl Abort, places: &mut Places<u8>) {
 
 #[test]
 fn what_was_set_last_is_found_until_it_is_removed(rt: HostRuntime) -> Result<(), Fail> {
-    assert!(rt; Places::<u8>::new(rt.alloc()).is_empty());
+    assert!(rt; Places::<Position, u8>::new(rt.alloc()).is_empty());
     let mut places = set_values(rt.alloc())?;
     assert_found(&rt, &places);
     assert_exchanged(&rt, &mut places)?;

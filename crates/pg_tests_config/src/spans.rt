@@ -1,7 +1,7 @@
 //! Cells that span rows or columns, and the places that they cover.
 
-use pg_config::SpannedConfig;
-use pg_layout::Position;
+use pg_config::{Span, SpanSize, SpannedConfig};
+use pg_layout::{ColumnPlace, Position};
 use std::alloc::Global;
 use std::process::Abort;
 use std::test::Fail;
@@ -75,6 +75,15 @@ fn a_rectangle_covers_its_other_places(rt: HostRuntime) -> Result<(), Fail> {
     cover_places(&rt, &mut SpannedConfig::new(rt.alloc()))
 }
 
+// A rectangle of two rows and one column.
+fn two_rows_at(row: usize, col: usize) -> Span {
+    let size = SpanSize {
+        rows: 2,
+        columns: 1,
+    };
+    (ColumnPlace { col, row }, size)
+}
+
 // Spans stand in the order of their columns and then rows, whatever the order of their setters.
 fn read_in_order(rt: &impl Abort, config: &mut SpannedConfig<Global>) -> Result<(), Fail> {
     for (row, col) in [(1, 4), (3, 0), (0, 4), (2, 2)] {
@@ -84,14 +93,14 @@ fn read_in_order(rt: &impl Abort, config: &mut SpannedConfig<Global>) -> Result<
     let mut entries = spans.iter();
     for (row, col) in [(3, 0), (2, 2), (0, 4), (1, 4)] {
         let entry = entries.next().map(|(key, size)| (*key, *size));
-        assert_eq!(rt; entry, Some(((col, row, 0), (2, 1))));
+        assert_eq!(rt; entry, Some(two_rows_at(row, col)));
     }
     assert_eq!(rt; entries.next().is_none(), true);
     let next = spans.next_from(Position::new(1, 2));
-    assert_eq!(rt; next, Some(((2, 2, 0), (2, 1))));
+    assert_eq!(rt; next, Some(two_rows_at(2, 2)));
     assert_eq!(rt; spans.next_from(Position::new(2, 4)), None);
     let last = spans.last_before(Position::new(0, 4));
-    assert_eq!(rt; last, Some(((2, 2, 0), (2, 1))));
+    assert_eq!(rt; last, Some(two_rows_at(2, 2)));
     assert_eq!(rt; spans.last_before(Position::new(3, 0)), None);
     Ok(())
 }

@@ -1,8 +1,9 @@
 //! Cells that span rows or columns.
 
 ghost use Rattle.std.specs.Prelude.{◌≡◌, OnOk, OnErr, IsOk, IsSome};
+ghost use Rattle.pg_layout.specs.Keys.{by_columns, column_place};
 ghost use Rattle.pg_layout.specs.Places.{IsAscending, value_at};
-ghost use Rattle.pg_config.specs.Spans.{StandAtPlaces, span_key, rect_rows, rect_columns, with_column_span, with_row_span, get_column_span, get_row_span, has_column_spans, has_row_spans, left_span, span_above, is_visible, is_covered_by_column, is_covered_by_row, is_covered_by_both};
+ghost use Rattle.pg_config.specs.Spans.{rect_rows, rect_columns, with_column_span, with_row_span, get_column_span, get_row_span, has_column_spans, has_row_spans, left_span, span_above, is_visible, is_covered_by_column, is_covered_by_row, is_covered_by_both};
 
 use crate::spanned::SpannedConfig;
 use crate::spans::{Span, Spans};
@@ -19,7 +20,7 @@ impl<A: Allocator> SpannedConfig<A> {
         A: Clone,
         ensures ok { OnOk result (self.new ≡ record self.old { spans = with_column_span pos columns self.old.spans }) }
         ensures err { OnErr result (self.new ≡ self.old) }
-        ensures again { IsSome (value_at (span_key pos) self.old.spans) → IsOk result }
+        ensures again { IsSome (value_at by_columns (column_place pos) self.old.spans) → IsOk result }
         ensures one { columns ≡ 1 → IsOk result }
     {
         self.spans.set_columns(pos, columns)
@@ -32,7 +33,7 @@ impl<A: Allocator> SpannedConfig<A> {
         A: Clone,
         ensures ok { OnOk result (self.new ≡ record self.old { spans = with_row_span pos rows self.old.spans }) }
         ensures err { OnErr result (self.new ≡ self.old) }
-        ensures again { IsSome (value_at (span_key pos) self.old.spans) → IsOk result }
+        ensures again { IsSome (value_at by_columns (column_place pos) self.old.spans) → IsOk result }
         ensures one { rows ≡ 1 → IsOk result }
     {
         self.spans.set_rows(pos, rows)
@@ -76,16 +77,16 @@ impl<A: Allocator> SpannedConfig<A> {
         ensures rows { result.0 ≡ rect_rows self.now.spans pos }
         ensures columns { result.1 ≡ rect_columns self.now.spans pos }
     {
-        self.spans.size(pos)
+        let size = self.spans.size(pos);
+        (size.rows, size.columns)
     }
 
     /// The rectangles of all cells with a span, in the order of their columns and then rows.
     pub fn spans(&self) -> &Spans<A>
         ensures all { result.now ≡ self.now.spans }
-        ensures ascending { IsAscending self.now.spans }
-        ensures places { StandAtPlaces self.now.spans }
+        ensures ascending { IsAscending by_columns self.now.spans }
     {
-        // Shows that they stand in order, and at places.
+        // Shows that they stand in order.
         self.spans.stand_in_order();
         &self.spans
     }
@@ -104,7 +105,11 @@ impl<A: Allocator> SpannedConfig<A> {
         ensures { result ≡ span_above self.now.spans pos.row pos.col }
     {
         let span = self.left_span(pos)?;
-        if span.0.1 < pos.row { Some(span) } else { None }
+        if span.0.row < pos.row {
+            Some(span)
+        } else {
+            None
+        }
     }
 
     /// Whether a cell spans columns.

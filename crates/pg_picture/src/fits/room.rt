@@ -1,40 +1,55 @@
 //! The room of a cell.
 
-ghost use Rattle.std.specs.Prelude.{◌≡◌, ◌+◌, ◌-◌, ◌≤◌, SomeIff};
-ghost use Rattle.pg_picture.specs.Pieces.{Style, style_at};
+ghost use Rattle.std.specs.Prelude.{◌≡◌, ◌+◌, ◌-◌, ◌≤◌, SomeIff, map};
+ghost use Rattle.pg_layout.specs.Text.{lines_of, width_of, greatest};
+ghost use Rattle.pg_picture.specs.Pieces.{Style, style_at, trimmed_if};
 ghost use Rattle.pg_picture.specs.Fits.{cell_fits};
 
 use crate::facts::text_width;
 use pg_config::SpannedConfig;
-use pg_layout::{Indent, Position, Sides};
+use pg_layout::{Indent, Position, Sides, is_plain};
 use std::alloc::Allocator;
 
 // How many columns the side paddings leave, or None where they take too many.
-fn inner_width(padding: Sides<Indent>, width: usize) -> Option<usize>
-    ensures { SomeIff result (padding.left.size + padding.right.size ≤ width) (width - (padding.left.size + padding.right.size)) }
+#[inline(always)]
+fn inner_width(padding: &Sides<Indent>, width: usize) -> Option<usize>
+    ensures { SomeIff result (padding.now.left.size + padding.now.right.size ≤ width) (width - (padding.now.left.size + padding.now.right.size)) }
 {
     width
         .checked_sub(padding.left.size)?
         .checked_sub(padding.right.size)
 }
 
+// How many columns the widest line of a text takes, as `text_width` tells. It is told without a call
+// where the text is plain and isn't trimmed, as most are.
+#[inline(always)]
+fn width_of_text(text: &str, trim: bool) -> usize
+    ensures { result ≡ greatest (map (λ line. width_of (trimmed_if trim line)) (lines_of text.now)) }
+{
+    if !trim && is_plain(text.as_bytes()) {
+        return text.len();
+    }
+    text_width(text, trim)
+}
+
 /// Whether a cell of so many columns and lines has room for a text with these paddings, whose lines
 /// are trimmed or not.
+#[inline(always)]
 #[tactic(auto, unfolding(crate::specs::Fits::cell_fits, crate::specs::Pieces::widest))]
 pub(crate) fn text_fits(
     text: &str,
-    padding: Sides<Indent>,
+    padding: &Sides<Indent>,
     trim: bool,
     width: usize,
     height: usize,
 ) -> bool
-    ensures { (style : Style) → style.padding ≡ padding → style.formatting.horizontal_trim ≡ trim → result ≡ cell_fits style text.now width height }
+    ensures { (style : Style) → style.padding ≡ padding.now → style.formatting.horizontal_trim ≡ trim → result ≡ cell_fits style text.now width height }
 {
     if height == 0 {
         return true;
     }
     match inner_width(padding, width) {
-        Some(inner) => padding.top.size <= height && text_width(text, trim) <= inner,
+        Some(inner) => padding.top.size <= height && width_of_text(text, trim) <= inner,
         None => false,
     }
 }
@@ -55,5 +70,5 @@ pub fn cell_fits<A: Allocator>(
 {
     let padding = config.get_padding(pos);
     let trim = config.get_formatting(pos).horizontal_trim;
-    text_fits(text, padding, trim, width, height)
+    text_fits(text, &padding, trim, width, height)
 }

@@ -2,12 +2,13 @@
 
 ghost use Rattle.std.specs.Prelude.{◌≡◌, ◌+◌, ◌^◌, ◌<◌, ◌≤◌, None, MatchOption, nat_le, is_some, true};
 ghost use Rattle.std.specs.List.{list_all};
+ghost use Rattle.pg_layout.specs.Keys.{by_columns};
 ghost use Rattle.pg_layout.specs.Places.{Each, IsAscending};
 ghost use Rattle.pg_layout.specs.Position.{at};
 ghost use Rattle.pg_config.specs.Spans.{if_above};
 ghost use Rattle.pg_picture.specs.Rectangles.{columns_or_one};
 ghost use Rattle.pg_picture.specs.Fits.{all_apart, span_fits, span_fits_columns, spans_fit, spans_fit_columns};
-ghost use Rattle.pg_picture.specs.SpansByColumns.{HasEnd, is_past, columns_apart, rows_apart, apart_right, apart_at};
+ghost use Rattle.pg_picture.specs.Inside.SpansByColumns.{HasEnd, is_past, columns_apart, rows_apart, apart_right, apart_at};
 
 use pg_config::{Span, SpannedConfig, Spans};
 use pg_layout::Position;
@@ -51,13 +52,13 @@ fn all_fit_columns<A: Allocator>(spans: &Spans<A>, columns: usize) -> bool
 fn span_fits(span: Span, rows: usize, columns: usize) -> bool
     ensures { result ≡ span_fits rows columns span }
 {
-    span_fits_columns(span, columns) && ends_within(span.0.1, span.1.0, rows)
+    span_fits_columns(span, columns) && ends_within(span.0.row, span.1.rows, rows)
 }
 
 fn span_fits_columns(span: Span, columns: usize) -> bool
     ensures { result ≡ span_fits_columns columns span }
 {
-    0 < span.1.0 && 0 < span.1.1 && ends_within(span.0.0, span.1.1, columns)
+    0 < span.1.rows && 0 < span.1.columns && ends_within(span.0.col, span.1.columns, columns)
 }
 
 // So many lines from a first one on end at or before a last one.
@@ -69,7 +70,7 @@ fn ends_within(first: usize, count: usize, last: usize) -> bool
 
 // Whether no place lies in two of the rectangles.
 fn all_apart<A: Allocator>(spans: &Spans<A>) -> bool
-    requires ascending { IsAscending spans.now }
+    requires ascending { IsAscending by_columns spans.now }
     requires ends { Each HasEnd spans.now }
     ensures { result ≡ all_apart spans.now }
 {
@@ -96,14 +97,15 @@ fn is_past(above: Option<Span>, span: Span) -> bool
     ensures { result ≡ is_past above span }
 {
     match above {
-        Some(above) => above.0.0 != span.0.0 || ends_within(above.0.1, above.1.0, span.0.1),
+        Some(above) => above.0.col != span.0.col
+            || ends_within(above.0.row, above.1.rows, span.0.row),
         None => true,
     }
 }
 
 // Whether each rectangle is apart from all that begin right of its first column.
 fn rows_apart<A: Allocator>(spans: &Spans<A>) -> bool
-    requires ascending { IsAscending spans.now }
+    requires ascending { IsAscending by_columns spans.now }
     requires ends { Each HasEnd spans.now }
     requires columns { columns_apart None spans.now ≡ true }
     ensures { result ≡ rows_apart spans.now }
@@ -119,13 +121,13 @@ fn rows_apart<A: Allocator>(spans: &Spans<A>) -> bool
 // The same of one rectangle, by a search in each column that it has and in which one begins.
 fn is_apart<A: Allocator>(span: Span, spans: &Spans<A>) -> bool
     requires end { HasEnd span }
-    requires ascending { IsAscending spans.now }
+    requires ascending { IsAscending by_columns spans.now }
     requires ends { Each HasEnd spans.now }
     requires columns { columns_apart None spans.now ≡ true }
     ensures { result ≡ list_all (apart_right span) spans.now }
 {
-    let end = span.0.0 + span.1.1;
-    let mut from = span.0.0 + 1;
+    let end = span.0.col + span.1.columns;
+    let mut from = span.0.col + 1;
     while let Some(column) = next_column(spans, from, end) {
         if !is_apart_at(span, spans, column) {
             return false;
@@ -137,28 +139,28 @@ fn is_apart<A: Allocator>(span: Span, spans: &Spans<A>) -> bool
 
 // The first column in which a rectangle begins, from one column on and left of another.
 fn next_column<A: Allocator>(spans: &Spans<A>, from: usize, end: usize) -> Option<usize>
-    requires { IsAscending spans.now }
+    requires { IsAscending by_columns spans.now }
     ensures { MatchOption result
-        (Each (λ t. from ≤ t.0.0 → end ≤ t.0.0) spans.now)
-        (λ column. (from ≤ column) × (column < end) × Each (λ t. from ≤ t.0.0 → column ≤ t.0.0) spans.now) }
+        (Each (λ t. from ≤ t.0.col → end ≤ t.0.col) spans.now)
+        (λ column. (from ≤ column) × (column < end) × Each (λ t. from ≤ t.0.col → column ≤ t.0.col) spans.now) }
 {
     if end <= from {
         return None;
     }
     match spans.next_from(Position { row: 0, col: from }) {
-        Some(next) if next.0.0 < end => Some(next.0.0),
+        Some(next) if next.0.col < end => Some(next.0.col),
         _ => None,
     }
 }
 
 // Whether the rectangle is apart from the last one of the column that begins above its end.
 fn is_apart_at<A: Allocator>(span: Span, spans: &Spans<A>, column: usize) -> bool
-    requires ascending { IsAscending spans.now }
+    requires ascending { IsAscending by_columns spans.now }
     requires column { column + 1 < 2 ^ 64 }
     ensures { result ≡ apart_at spans.now span column }
 {
     match spans.last_before(place_below(span, column)) {
-        Some(last) => last.0.0 != column || ends_within(last.0.1, last.1.0, span.0.1),
+        Some(last) => last.0.col != column || ends_within(last.0.row, last.1.rows, span.0.row),
         None => true,
     }
 }
@@ -167,10 +169,10 @@ fn is_apart_at<A: Allocator>(span: Span, spans: &Spans<A>, column: usize) -> boo
 // the first one of the next column.
 fn place_below(span: Span, column: usize) -> Position
     requires { column + 1 < 2 ^ 64 }
-    ensures above { span.0.1 + span.1.0 < 2 ^ 64 → result ≡ at (span.0.1 + span.1.0) column }
-    ensures column { 2 ^ 64 ≤ span.0.1 + span.1.0 → result ≡ at 0 (column + 1) }
+    ensures above { span.0.row + span.1.rows < 2 ^ 64 → result ≡ at (span.0.row + span.1.rows) column }
+    ensures column { 2 ^ 64 ≤ span.0.row + span.1.rows → result ≡ at 0 (column + 1) }
 {
-    match span.0.1.checked_add(span.1.0) {
+    match span.0.row.checked_add(span.1.rows) {
         Some(row) => Position::new(row, column),
         None => Position::new(0, column + 1),
     }
@@ -185,7 +187,7 @@ pub fn columns_of(span: Option<Span>) -> usize
 {
     match span {
         None => 1,
-        Some(span) => span.1.1,
+        Some(span) => span.1.columns,
     }
 }
 
@@ -196,7 +198,7 @@ pub fn begins_above(span: Option<Span>, row: usize) -> bool
     ensures { result ≡ is_some (if_above row span) }
 {
     match span {
-        Some(span) => span.0.1 < row,
+        Some(span) => span.0.row < row,
         None => false,
     }
 }

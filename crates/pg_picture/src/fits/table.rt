@@ -5,7 +5,8 @@ ghost use Rattle.pg_layout.specs.Records.{text_at};
 ghost use Rattle.pg_config.specs.Spans.{is_left, left_span};
 ghost use Rattle.pg_picture.specs.Fits.{spans_fit, totals_fit, cell_fits, owner_fits, misfit_of};
 ghost use Rattle.pg_picture.specs.Pieces.{style_at};
-ghost use Rattle.pg_picture.specs.Sizes.{table_of, unless_misfit, first_misfit, row_places, places_from};
+ghost use Rattle.pg_picture.specs.Sizes.{table_of, unless_misfit};
+ghost use Rattle.pg_picture.specs.Inside.Walks.{first_misfit, row_places, places_from};
 ghost use Rattle.pg_picture.specs.Table.{rect_width, rect_height};
 
 use crate::fits::Misfit;

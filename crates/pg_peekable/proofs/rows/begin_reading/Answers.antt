@@ -1,7 +1,7 @@
 use Rattle.std.proofs.Common.{◌≡◌, ap, arith}
 use Rattle.pg_picture.specs.declared.facts.TextFacts.{TextFacts}
 use Rattle.pg_picture.specs.Pieces.{widest}
-use Rattle.pg_picture.specs.Cells.{style_of, facts_of}
+use Rattle.pg_picture.specs.Inside.Cells.{style_of, facts_of}
 use Rattle.pg_picture.proofs.Room.{cell_fits-room}
 use Rattle.pg_peekable.proofs.rows.begin_reading.Goals as goal
 

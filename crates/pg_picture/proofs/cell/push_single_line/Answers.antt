@@ -1,6 +1,6 @@
 use Rattle.std.proofs.Common.{ap, sym, ◌∙◌, arith}
 use Rattle.pg_picture.specs.Pieces.{written}
-use Rattle.pg_picture.specs.Cells.{style_of}
+use Rattle.pg_picture.specs.Inside.Cells.{style_of}
 use Rattle.pg_picture.specs.declared.facts.TextFacts.{TextFacts}
 use Rattle.pg_picture.proofs.Appending.{Appends-text}
 use Rattle.pg_picture.proofs.PlacesOfTexts.{single-whole, room-of-whole, facts_of-widest}

@@ -1,7 +1,8 @@
 use Rattle.std.proofs.Common.{false}
-use Rattle.pg_picture.specs.Joined.{continued, lines_before}
+use Rattle.pg_picture.specs.Joined.{continued}
+use Rattle.pg_picture.specs.Inside.Following.{lines_before}
 use Rattle.pg_picture.proofs.Appending.{Appends-text, ◌then◌, stopped}
-use Rattle.pg_compact.specs.CompactGrids.{printed_table, lines_of_row}
+use Rattle.pg_compact.specs.Inside.Drawing.{printed_table, lines_of_row}
 use Rattle.pg_compact.proofs.CompactBodies.{next_row-text}
 use Rattle.pg_compact.proofs.printer.CompactPrinter.push_next_row.Goals as goal
 

@@ -5,7 +5,7 @@ use Rattle.pg_layout.specs.Text.{Text}
 use Rattle.pg_picture.specs.CompactLines.{row_lines}
 use Rattle.pg_picture.specs.Joined.{fed}
 use Rattle.pg_picture.proofs.Appending.{Appends-text, Gained-text, Gained-more, Gained-all, refused}
-use Rattle.pg_compact.specs.CompactGrids.{printed_table}
+use Rattle.pg_compact.specs.Inside.Drawing.{printed_table}
 use Rattle.pg_compact.proofs.CompactBodies.{next_rows-more, next_rows-cut}
 use Rattle.pg_compact.proofs.CompactRows.{row-taken, rows-ended}
 use Rattle.pg_compact.proofs.printer.CompactPrinter.push_next_rows.Goals as goal

@@ -2,8 +2,9 @@ use Rattle.std.proofs.Common.{[], replicate}
 use Rattle.pg_layout.specs.Colors.{str_color}
 use Rattle.pg_picture.specs.Appending.{Gained}
 use Rattle.pg_picture.specs.CompactLines.{padding_row}
-use Rattle.pg_picture.specs.Joined.{continued, lines_before}
-use Rattle.pg_compact.specs.CompactGrids.{printed_table}
+use Rattle.pg_picture.specs.Joined.{continued}
+use Rattle.pg_picture.specs.Inside.Following.{lines_before}
+use Rattle.pg_compact.specs.Inside.Drawing.{printed_table}
 use Rattle.pg_compact.proofs.printer.CompactPrinter.push_padding_rows.Given as goal
 
 -- the lines so far

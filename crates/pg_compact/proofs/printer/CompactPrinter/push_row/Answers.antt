@@ -1,10 +1,11 @@
 use Rattle.std.proofs.Common.{◌≡◌, ◌+◌, ◌==◌, ◌++◌, Bool, false, [], replicate, refl, ◌∙◌, inl, inr}
 use Rattle.pg_config.specs.CompactConfig.{side_colors}
 use Rattle.pg_picture.specs.CompactLines.{padding_row, text_row}
-use Rattle.pg_picture.specs.Joined.{continued, feed_before, lines_before}
+use Rattle.pg_picture.specs.Joined.{continued}
+use Rattle.pg_picture.specs.Inside.Following.{feed_before, lines_before}
 use Rattle.pg_picture.proofs.Appending.{Appends-text, ◌then◌, stopped}
 use Rattle.pg_picture.proofs.JoinedLines.{first-of}
-use Rattle.pg_compact.specs.CompactGrids.{printed_table}
+use Rattle.pg_compact.specs.Inside.Drawing.{printed_table}
 use Rattle.pg_compact.proofs.CompactBodies.{row-text}
 use Rattle.pg_compact.proofs.printer.CompactPrinter.push_row.Goals as goal
 use Rattle.pg_compact.proofs.printer.CompactPrinter.push_row.Goals.{then-is_first, else-is_first}

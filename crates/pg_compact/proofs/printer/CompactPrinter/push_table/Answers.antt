@@ -2,10 +2,11 @@ use Rattle.std.proofs.Common.{◌≡◌, ◌<◌, ◌-◌, ◌++◌, [], length,
 use Rattle.std.specs.List.{range_with_len}
 use Rattle.pg_layout.specs.Records.{Gives}
 use Rattle.pg_picture.specs.CompactLines.{row_lines}
-use Rattle.pg_picture.specs.Joined.{continued, fed, lines_before}
+use Rattle.pg_picture.specs.Joined.{continued, fed}
+use Rattle.pg_picture.specs.Inside.Following.{lines_before}
 use Rattle.pg_picture.proofs.Appending.{Appends-text, Gained-none, Gained-all, ◌then◌, stopped}
 use Rattle.pg_picture.proofs.FittingTables.{some_is}
-use Rattle.pg_compact.specs.CompactGrids.{printed_table, lines_of_row, foot_lines}
+use Rattle.pg_compact.specs.Inside.Drawing.{printed_table, lines_of_row, foot_lines}
 use Rattle.pg_picture.proofs.SumsOfSizes.{is_some_answer}
 use Rattle.pg_compact.proofs.CompactBodies.{table-text}
 use Rattle.pg_compact.proofs.CompactPictures.{no_columns-text, no_rows-text, totals-fit, width-answer}

@@ -1,11 +1,10 @@
-use Rattle.std.proofs.Common.{◌≡◌, ◌++◌, ◌∷◌, [], refl, sym, ap, subst, ◌∙◌, Option, Some, None}
+use Rattle.std.proofs.Common.{◌≡◌, refl, sym, ap, subst, ◌∙◌, Option, Some, None}
 use Rattle.std.specs.Prelude.{IsOk, IsSome, OnOk}
 use Rattle.std.specs.declared.result.Result.{Result}
 use Rattle.std.specs.declared.result.Result.TheVariants.{Ok, Err}
 use Rattle.std.proofs.lemmas.Bool.{false≢true}
-use Rattle.pg_layout.specs.Places.{exchanged}
-use Rattle.pg_config.specs.NotedPlaces.{taken_back, CanTakeBack}
-use Rattle.pg_config.proofs.TakenBack.{taken_back-last, CanTakeBack-last}
+use Rattle.pg_config.specs.Inside.NotedPlaces.{taken_back, CanTakeBack}
+use Rattle.pg_config.proofs.TakenBack.{taken_back-rest, CanTakeBack-rest}
 use Rattle.pg_config.proofs.noted_places.NotedPlaces.take_back.Goals as goal
 
 -- what succeeds with and without a value succeeds
@@ -19,13 +18,13 @@ at_ok (Err e) is p = absurd (false≢true is)
 
 pub loop-key-preserved : goal.loop-key-preserved
 loop-key-preserved g c =
+    let order = g.K.Key.order in
     let es = c.loop-key.self-inside.places in
     let rest = c.pop.new.self.items in
-    let notes : c.loop-key.self-inside.held.items ≡ rest ++ (c.in-Some.key, c.in-Some.held) ∷ [] = c.in-Some.ensures.items in
-    let can = CanTakeBack-last c.in-Some.key c.in-Some.held es rest (subst (λ held. CanTakeBack held es) notes c.loop-key.invariant.can) in
-    let done : IsOk c.exchange-done.result = succeeds c.in-Some.held c.exchange-done.ensures.taken (λ is. c.exchange-done.ensures.old_key (can.0 is)) in
-    let moved : c.exchange-done.new.self ≡ exchanged c.in-Some.key c.in-Some.held es = at_ok c.exchange-done.result done c.exchange-done.ensures.ok in
+    let can = CanTakeBack-rest order _ es c.loop-key.self-inside.held.items rest c.in-Some.ensures.items c.loop-key.invariant.can in
+    let done : IsOk c.exchange-done.result = succeeds _ c.exchange-done.ensures.taken (λ is. c.exchange-done.ensures.old_key (can.0 is)) in
+    let moved = at_ok c.exchange-done.result done c.exchange-done.ensures.ok in
     record {
-      back = ap (λ x. taken_back rest x) moved ∙ sym (taken_back-last c.in-Some.key c.in-Some.held es rest) ∙ ap (λ held. taken_back held es) (sym notes) ∙ c.loop-key.invariant.back;
-      can = subst (λ x. CanTakeBack rest x) (sym moved) can.1;
+      back = ap (λ x. taken_back order rest x) moved ∙ taken_back-rest order _ es c.loop-key.self-inside.held.items rest c.in-Some.ensures.items ∙ c.loop-key.invariant.back;
+      can = subst (λ x. CanTakeBack order rest x) (sym moved) can.1;
     }

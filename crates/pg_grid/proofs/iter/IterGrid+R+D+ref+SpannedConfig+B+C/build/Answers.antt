@@ -32,7 +32,7 @@ new-requires g c =
     let t = streamed g.R.Records g.D.Dimension g.C.Colors c.args.self in
     let is_row = Gives (λ x y. g.R.Cell.AsStr.text x ≡ y) g.R.Columns.Iterator.can_next g.R.Columns.Iterator.next_gives g.R.Columns.Iterator.remaining in
     (begun is_row g.R.Rows.Iterator.next_gives t.config t.width t.height t.color (g.R.Records.texts c.args.self.records) t.columns
-    c.hint_count_rows-hint.result (c.hint_count_rows-hint.ensures.exact c.requires.readable) c.spans-spans.ensures.places c.requires.fits
+    c.hint_count_rows-hint.result (c.hint_count_rows-hint.ensures.exact c.requires.readable) c.requires.fits
     c.count_columns-columns.result c.count_columns-columns.ensures.value (omega (arith, c.if-columns-eq0.false)) (c.count_columns-columns.ensures.even c.requires.readable)
     _ _ _ c.iter_rows-rows.ensures.gives c.in-Some.ensures.steps).printer_fits
 
@@ -41,7 +41,7 @@ print_rows-requires-clause-given g c =
     let t = streamed g.R.Records g.D.Dimension g.C.Colors c.args.self in
     let is_row = Gives (λ x y. g.R.Cell.AsStr.text x ≡ y) g.R.Columns.Iterator.can_next g.R.Columns.Iterator.next_gives g.R.Columns.Iterator.remaining in
     let b = begun is_row g.R.Rows.Iterator.next_gives t.config t.width t.height t.color (g.R.Records.texts c.args.self.records) t.columns
-    c.hint_count_rows-hint.result (c.hint_count_rows-hint.ensures.exact c.requires.readable) c.spans-spans.ensures.places c.requires.fits
+    c.hint_count_rows-hint.result (c.hint_count_rows-hint.ensures.exact c.requires.readable) c.requires.fits
     c.count_columns-columns.result c.count_columns-columns.ensures.value (omega (arith, c.if-columns-eq0.false)) (c.count_columns-columns.ensures.even c.requires.readable)
     _ _ _ c.iter_rows-rows.ensures.gives c.in-Some.ensures.steps in
     (b.cells, b.others, b.from, b.rows_fit _ c.in_ok-printer.ensures.made)
@@ -51,7 +51,7 @@ returns-clause-appends g c =
     let t = streamed g.R.Records g.D.Dimension g.C.Colors c.args.self in
     let is_row = Gives (λ x y. g.R.Cell.AsStr.text x ≡ y) g.R.Columns.Iterator.can_next g.R.Columns.Iterator.next_gives g.R.Columns.Iterator.remaining in
     let b = begun is_row g.R.Rows.Iterator.next_gives t.config t.width t.height t.color (g.R.Records.texts c.args.self.records) t.columns
-    c.hint_count_rows-hint.result (c.hint_count_rows-hint.ensures.exact c.requires.readable) c.spans-spans.ensures.places c.requires.fits
+    c.hint_count_rows-hint.result (c.hint_count_rows-hint.ensures.exact c.requires.readable) c.requires.fits
     c.count_columns-columns.result c.count_columns-columns.ensures.value (omega (arith, c.if-columns-eq0.false)) (c.count_columns-columns.ensures.even c.requires.readable)
     _ _ _ c.iter_rows-rows.ensures.gives c.in-Some.ensures.steps in
     inl (Appends-text (b.rows_picture _ c.in_ok-printer.ensures.made ∙ ap (λ h. picture (hint_of h) t) c.hint_count_rows-hint.ensures.value) (c.print_rows.ensures b.cells b.others b.from))

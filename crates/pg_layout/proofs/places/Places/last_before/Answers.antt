@@ -5,8 +5,8 @@ use Rattle.pg_layout.proofs.places.Places.last_before.Goals as goal
 
 pub returns-in-Some : goal.returns-in-Some
 returns-in-Some g c =
-    sym (ap (λ es. last_before c.args.key es) (sym c.self.view_is) ∙ last_before-key c.args.key c.self.inside.entries.entries c.self.invariant ∙ ap last_of (sym (c.range-entries.ensures.between _) ∙ c.in-Some.ensures.steps) ∙ last_of-end _ _)
+    sym (ap (λ es. last_before g.K.Key.order c.args.key es) (sym c.self.view_is) ∙ last_before-key g.met.K.Ord.total g.met.K.Key.orders c.args.key c.self.inside.entries.entries c.self.invariant ∙ ap last_of (sym (c.range-entries.ensures.between _) ∙ c.in-Some.ensures.steps) ∙ last_of-end _ _)
 
 pub returns-in-None : goal.returns-in-None
 returns-in-None g c =
-    sym (ap (λ es. last_before c.args.key es) (sym c.self.view_is) ∙ last_before-key c.args.key c.self.inside.entries.entries c.self.invariant ∙ ap last_of (sym (c.range-entries.ensures.between _) ∙ c.in-None.ensures.steps.0))
+    sym (ap (λ es. last_before g.K.Key.order c.args.key es) (sym c.self.view_is) ∙ last_before-key g.met.K.Ord.total g.met.K.Key.orders c.args.key c.self.inside.entries.entries c.self.invariant ∙ ap last_of (sym (c.range-entries.ensures.between _) ∙ c.in-None.ensures.steps.0))

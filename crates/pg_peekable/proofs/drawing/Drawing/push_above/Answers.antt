@@ -1,5 +1,5 @@
 use Rattle.std.proofs.Common.{refl}
-use Rattle.pg_picture.specs.Joined.{lines_before}
+use Rattle.pg_picture.specs.Inside.Following.{lines_before}
 use Rattle.pg_picture.proofs.Appending.{Gained-none, Gained-all, Appends-text}
 use Rattle.pg_picture.proofs.BodyLines.{absent-text}
 use Rattle.pg_peekable.proofs.drawing.Drawing.push_above.Goals as goal

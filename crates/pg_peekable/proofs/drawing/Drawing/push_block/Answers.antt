@@ -1,7 +1,8 @@
 use Rattle.std.proofs.Common.{◌++◌, List, None, refl, sym, ◌∙◌, arith}
 use Rattle.pg_config.specs.Spans.{corner}
 use Rattle.pg_picture.specs.Marks.{sep}
-use Rattle.pg_picture.specs.Pieces.{Piece, cut, written, last_color}
+use Rattle.pg_picture.specs.Pieces.{Piece, cut, written}
+use Rattle.pg_picture.specs.Inside.Following.{last_color}
 use Rattle.pg_picture.specs.Table.{crossing_at, block_at}
 use Rattle.pg_picture.proofs.Appending.{Appends-text, ◌then◌, stopped, refused-as, appended-as}
 use Rattle.pg_picture.proofs.DrawnRectangles.{corner_to, corner_inside}

@@ -2,7 +2,7 @@ use Rattle.std.proofs.Common.{◌≡◌, length}
 use Rattle.pg_picture.specs.Appending.{Gained}
 use Rattle.pg_picture.specs.Marks.{marks_above}
 use Rattle.pg_picture.specs.Table.{Known}
-use Rattle.pg_picture.specs.Joined.{lines_before}
+use Rattle.pg_picture.specs.Inside.Following.{lines_before}
 use Rattle.pg_picture.specs.Picture.{body_text}
 use Rattle.pg_peekable.proofs.drawing.Drawing.push_body.Given as goal
 

@@ -5,7 +5,7 @@ use Rattle.pg_picture.specs.Pieces.{separator_text}
 use Rattle.pg_picture.proofs.EqualSeparators.{equal_separators}
 use Rattle.pg_picture.proofs.Appending.{Appends-text}
 use Rattle.pg_picture.proofs.KeptTexts.{text-from}
-use Rattle.pg_peekable.specs.Kept.{IsSeparator}
+use Rattle.pg_peekable.specs.Inside.Kept.{IsSeparator}
 use Rattle.pg_peekable.proofs.drawing.Drawing.push_inner_separator.Goals as goal
 
 pub keep_separator-requires : goal.keep_separator-requires

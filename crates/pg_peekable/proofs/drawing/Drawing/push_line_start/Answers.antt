@@ -1,6 +1,6 @@
 use Rattle.std.proofs.Common.{◌≡◌, ◌+◌, ◌==◌, ◌++◌, ◌∙◌, length, sym, ap, ap₂, inl, inr, append-nil}
 use Rattle.pg_layout.specs.Text.{Text}
-use Rattle.pg_picture.specs.Joined.{lines_before, feed_before}
+use Rattle.pg_picture.specs.Inside.Following.{lines_before, feed_before}
 use Rattle.pg_picture.specs.Table.{table_body}
 use Rattle.pg_picture.proofs.Appending.{Appends-text, ◌then◌, stopped}
 use Rattle.pg_picture.proofs.JoinedLines.{first-of}

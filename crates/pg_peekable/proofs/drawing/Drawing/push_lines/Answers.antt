@@ -1,5 +1,5 @@
 use Rattle.std.proofs.Common.{◌<◌, sym, arith}
-use Rattle.pg_picture.specs.Joined.{lines_before}
+use Rattle.pg_picture.specs.Inside.Following.{lines_before}
 use Rattle.pg_picture.specs.Table.{Known}
 use Rattle.pg_picture.proofs.Appending.{Gained-none, Gained-text, Gained-more, refused}
 use Rattle.pg_picture.proofs.BodyLines.{body_text-nil, row-more, row-cut}

@@ -3,7 +3,7 @@ use Rattle.std.specs.List.{range_with_len}
 use Rattle.pg_picture.specs.Appending.{Gained}
 use Rattle.pg_picture.specs.Marks.{line}
 use Rattle.pg_picture.specs.Table.{Known}
-use Rattle.pg_picture.specs.Joined.{lines_before}
+use Rattle.pg_picture.specs.Inside.Following.{lines_before}
 use Rattle.pg_picture.specs.Picture.{body_text}
 use Rattle.pg_peekable.proofs.drawing.Drawing.push_lines.Given as goal
 

@@ -1,5 +1,5 @@
 use Rattle.std.proofs.Common.{◌≡◌, true, ap₂, ◌∙◌, arith}
-use Rattle.pg_picture.specs.Cells.{style_of}
+use Rattle.pg_picture.specs.Inside.Cells.{style_of}
 use Rattle.pg_picture.specs.Fits.{cell_fits}
 use Rattle.pg_picture.proofs.Room.{cell_fits-room}
 use Rattle.pg_peekable.proofs.drawing.Drawing.push_low_cell.Goals as goal

@@ -1,5 +1,5 @@
 use Rattle.std.proofs.Common.{◌+◌, length, refl}
-use Rattle.pg_picture.specs.Joined.{lines_before}
+use Rattle.pg_picture.specs.Inside.Following.{lines_before}
 use Rattle.pg_picture.specs.Table.{Known, table_body}
 use Rattle.pg_picture.proofs.Appending.{Appends-text, ◌then◌, stopped}
 use Rattle.pg_picture.specs.Picture.{body_text}

@@ -1,5 +1,5 @@
 use Rattle.std.proofs.Common.{ap, sym, ◌∙◌}
-use Rattle.pg_picture.specs.Pieces.{items_after, last_color}
+use Rattle.pg_picture.specs.Inside.Following.{items_after, last_color}
 use Rattle.pg_picture.proofs.Appending.{Appends-text}
 use Rattle.pg_picture.proofs.Separators.{IfOk-same}
 use Rattle.pg_peekable.proofs.CanDraw.{in_order}

@@ -1,9 +1,9 @@
 use Rattle.std.proofs.Common.{◌≡◌, ◌≤◌, ◌-◌, true, flat_map}
 use Rattle.std.specs.List.{range_with_len}
 use Rattle.pg_picture.specs.Appending.{Gained}
-use Rattle.pg_picture.specs.Pieces.{items_after, last_color}
+use Rattle.pg_picture.specs.Inside.Following.{items_after, last_color}
 use Rattle.pg_picture.specs.Table.{separator_part}
-use Rattle.pg_peekable.specs.Drawn.{starts}
+use Rattle.pg_peekable.specs.Inside.Drawn.{starts}
 use Rattle.pg_peekable.proofs.drawing.Drawing.push_spanned_columns.Given as goal
 
 abbrev pub invariant-loop-column : goal.invariant-loop-column

@@ -23,7 +23,7 @@ push_picture-requires-clause-can g c =
     let t = drawn g.R.Records g.D.Dimension g.C.Colors c.args.self.now in
     let rows : 0 < t.rows = omega (arith, c.count_rows-rows.ensures) in
     let columns : 0 < t.columns = omega (arith, c.count_columns-columns.ensures.value) in
-    can_draw t c.spans.ensures.ascending c.spans.ensures.places c.requires.fits rows columns
+    can_draw t c.spans.ensures.ascending c.requires.fits rows columns
 
 pub returns-clause-appends : goal.returns-clause-appends
 returns-clause-appends g c =

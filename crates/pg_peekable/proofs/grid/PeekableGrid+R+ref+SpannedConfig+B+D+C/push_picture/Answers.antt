@@ -2,7 +2,8 @@ use Rattle.std.proofs.Common.{◌≡◌, Bool, true, false, arith, ◌&&◌, ◌
 use Rattle.std.proofs.lemmas.Bool.Decides.{nat_tests}
 use Rattle.pg_layout.specs.declared.sides.Sides.{Sides}
 use Rattle.pg_layout.specs.declared.sides.Indent.{Indent}
-use Rattle.pg_picture.specs.Joined.{continued, lines_before}
+use Rattle.pg_picture.specs.Joined.{continued}
+use Rattle.pg_picture.specs.Inside.Following.{lines_before}
 use Rattle.pg_picture.specs.Pieces.{written}
 use Rattle.pg_picture.specs.Table.{Known, margin_line, table_body, full_width}
 use Rattle.pg_picture.specs.Fits.{body_height}

@@ -8,7 +8,7 @@ loop-column-init g c = record { end = search rules; right = omega arith; apart =
 pub returns-then-not-is_apart_at : goal.returns-then-not-is_apart_at
 returns-then-not-is_apart_at g c =
     let next = c.in-Some.ensures in
-    let left : c.args.span.0.0 < c.in-Some.column = omega (arith, next.0) in
+    let left : c.args.span.0.col < c.in-Some.column = omega (arith, next.0) in
     sym (column_not c.args.span c.in-Some.column c.args.spans.now c.requires.end c.requires.ends left next.1 (sym c.is_apart_at.ensures ∙ c.if-not-is_apart_at.true))
 
 pub loop-column-preserved : goal.loop-column-preserved
@@ -21,4 +21,4 @@ loop-column-preserved g c =
     }
 
 pub returns : goal.returns
-returns g c = sym (columns_end c.args.span c.loop-column.from (c.args.span.0.0 + c.args.span.1.1) c.args.spans.now refl c.in_default.ensures c.loop-column.invariant.apart)
+returns g c = sym (columns_end c.args.span c.loop-column.from (c.args.span.0.col + c.args.span.1.columns) c.args.spans.now refl c.in_default.ensures c.loop-column.invariant.apart)

@@ -6,8 +6,8 @@ use Rattle.pg_picture.proofs.fits.spans.is_apart.Given as goal
 -- the rectangles that begin left of the column are told apart
 abbrev pub invariant-loop-column : goal.invariant-loop-column
 invariant-loop-column g l = record {
-  end : l.end ≡ l.span.0.0 + l.span.1.1;
-  right : l.span.0.0 < l.from;
+  end : l.end ≡ l.span.0.col + l.span.1.columns;
+  right : l.span.0.col < l.from;
   apart : Each (ApartBefore l.span l.from) l.spans;
 }
 

@@ -1,5 +1,6 @@
 use Rattle.std.proofs.Common.{◌<◌, ◌≤◌, length, sym, ap, ◌∙◌, arith}
-use Rattle.pg_picture.specs.Sizes.{table_of, first_misfit}
+use Rattle.pg_picture.specs.Sizes.{table_of}
+use Rattle.pg_picture.specs.Inside.Walks.{first_misfit}
 use Rattle.pg_picture.proofs.Rooms.{next_row, bad_row, places_from-end}
 use Rattle.pg_picture.proofs.fits.table.first_misfit.Goals as goal
 

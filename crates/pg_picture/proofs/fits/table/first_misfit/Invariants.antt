@@ -1,5 +1,6 @@
 use Rattle.std.proofs.Common.{◌≡◌, length}
-use Rattle.pg_picture.specs.Sizes.{table_of, first_misfit, places_from}
+use Rattle.pg_picture.specs.Sizes.{table_of}
+use Rattle.pg_picture.specs.Inside.Walks.{first_misfit, places_from}
 use Rattle.pg_picture.proofs.fits.table.first_misfit.Given as goal
 
 -- the rows so far have room

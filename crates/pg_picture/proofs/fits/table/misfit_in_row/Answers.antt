@@ -4,7 +4,8 @@ use Rattle.pg_layout.specs.Position.{at}
 use Rattle.pg_config.specs.Spans.{is_left, left_span}
 use Rattle.pg_picture.specs.Fits.{owner_fits}
 use Rattle.pg_picture.specs.Rectangles.{columns_or_one}
-use Rattle.pg_picture.specs.Sizes.{table_of, first_misfit}
+use Rattle.pg_picture.specs.Sizes.{table_of}
+use Rattle.pg_picture.specs.Inside.Walks.{first_misfit}
 use Rattle.pg_picture.proofs.FittingTables.{totals_facts}
 use Rattle.pg_picture.proofs.LeftColumns.{step-some, step-inside, step-left, next_left_column}
 use Rattle.pg_picture.proofs.OwnersOfPlaces.{InOrder, first_left}
@@ -13,7 +14,7 @@ use Rattle.pg_picture.proofs.fits.table.misfit_in_row.Goals as goal
 
 pub loop-column-init : goal.loop-column-init
 loop-column-init g c =
-    let order : InOrder c.args.config.now.spans (length (g.R.Records.texts c.args.records.now)) (g.R.Records.columns c.args.records.now) = record { ascending = c.spans-spans.ensures.ascending; places = c.spans-spans.ensures.places; fit = c.requires.spans } in
+    let order : InOrder c.args.config.now.spans (length (g.R.Records.texts c.args.records.now)) (g.R.Records.columns c.args.records.now) = record { ascending = c.spans-spans.ensures.ascending; fit = c.requires.spans } in
     record {
       room = refl;
       left = first_left c.args.config.now.spans (length (g.R.Records.texts c.args.records.now)) (g.R.Records.columns c.args.records.now) order c.args.row;
@@ -35,7 +36,7 @@ overflow_add-column g c =
     let spans = c.args.config.now.spans in
     let rows = length (g.R.Records.texts c.args.records.now) in
     let columns = g.R.Records.columns c.args.records.now in
-    let order : InOrder spans rows columns = record { ascending = c.spans-spans.ensures.ascending; places = c.spans-spans.ensures.places; fit = c.requires.spans } in
+    let order : InOrder spans rows columns = record { ascending = c.spans-spans.ensures.ascending; fit = c.requires.spans } in
     let here : c.loop-column.column < columns = omega (arith, c.loop-column-test.true, c.count_columns-columns.ensures.value) in
     let width : c.columns_of-column.result ≡ columns_or_one (left_span spans c.args.row c.loop-column.column) = c.columns_of-column.ensures ∙ ap columns_or_one (c.left_span-span.ensures ∙ ap (λ (p : Position). left_span spans p.row p.col) c.new-pos.ensures) in
     omega (arith, step-inside spans rows columns order c.args.row c.loop-column.column c.columns_of-column.result width c.loop-column.invariant.left here, (totals_facts (table_of c.args.config.now (g.D.Dimension.width c.args.dimension.now) (g.D.Dimension.height c.args.dimension.now) (g.R.Records.texts c.args.records.now) (g.R.Records.columns c.args.records.now)) c.requires.totals).columns)
@@ -45,7 +46,7 @@ loop-column-preserved g c =
     let spans = c.args.config.now.spans in
     let rows = length (g.R.Records.texts c.args.records.now) in
     let columns = g.R.Records.columns c.args.records.now in
-    let order : InOrder spans rows columns = record { ascending = c.spans-spans.ensures.ascending; places = c.spans-spans.ensures.places; fit = c.requires.spans } in
+    let order : InOrder spans rows columns = record { ascending = c.spans-spans.ensures.ascending; fit = c.requires.spans } in
     let here : c.loop-column.column < columns = omega (arith, c.loop-column-test.true, c.count_columns-columns.ensures.value) in
     let width : c.columns_of-column.result ≡ columns_or_one (left_span spans c.args.row c.loop-column.column) = c.columns_of-column.ensures ∙ ap columns_or_one (c.left_span-span.ensures ∙ ap (λ (p : Position). left_span spans p.row p.col) c.new-pos.ensures) in
     let t = (table_of c.args.config.now (g.D.Dimension.width c.args.dimension.now) (g.D.Dimension.height c.args.dimension.now) (g.R.Records.texts c.args.records.now) (g.R.Records.columns c.args.records.now)) in
@@ -61,7 +62,7 @@ loop-column-smaller g c =
     let spans = c.args.config.now.spans in
     let rows = length (g.R.Records.texts c.args.records.now) in
     let columns = g.R.Records.columns c.args.records.now in
-    let order : InOrder spans rows columns = record { ascending = c.spans-spans.ensures.ascending; places = c.spans-spans.ensures.places; fit = c.requires.spans } in
+    let order : InOrder spans rows columns = record { ascending = c.spans-spans.ensures.ascending; fit = c.requires.spans } in
     let here : c.loop-column.column < columns = omega (arith, c.loop-column-test.true, c.count_columns-columns.ensures.value) in
     let width : c.columns_of-column.result ≡ columns_or_one (left_span spans c.args.row c.loop-column.column) = c.columns_of-column.ensures ∙ ap columns_or_one (c.left_span-span.ensures ∙ ap (λ (p : Position). left_span spans p.row p.col) c.new-pos.ensures) in
     omega (arith, here, step-some spans rows columns order c.args.row c.loop-column.column c.columns_of-column.result width c.loop-column.invariant.left here)

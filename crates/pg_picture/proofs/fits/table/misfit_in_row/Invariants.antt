@@ -1,6 +1,7 @@
 use Rattle.std.proofs.Common.{◌≡◌, ◌≤◌, ◌-◌, true}
 use Rattle.pg_config.specs.Spans.{is_left}
-use Rattle.pg_picture.specs.Sizes.{table_of, first_misfit, row_places}
+use Rattle.pg_picture.specs.Sizes.{table_of}
+use Rattle.pg_picture.specs.Inside.Walks.{first_misfit, row_places}
 use Rattle.pg_picture.proofs.fits.table.misfit_in_row.Given as goal
 
 -- the places so far have room, and the next one is in its owner's left column

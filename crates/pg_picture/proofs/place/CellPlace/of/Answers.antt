@@ -1,5 +1,5 @@
 use Rattle.std.proofs.Common.{◌-◌, arith}
-use Rattle.pg_picture.specs.Cells.{place_of}
+use Rattle.pg_picture.specs.Inside.Cells.{place_of}
 use Rattle.pg_picture.proofs.PlacesOfTexts.{lines_above-le}
 use Rattle.pg_picture.proofs.place.CellPlace.of.Goals as goal
 

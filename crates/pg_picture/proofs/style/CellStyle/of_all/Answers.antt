@@ -1,5 +1,5 @@
 use Rattle.std.proofs.Common.{◌≡◌, ◌∙◌, sym, ap}
-use Rattle.pg_picture.specs.Cells.{style_of}
+use Rattle.pg_picture.specs.Inside.Cells.{style_of}
 use Rattle.pg_picture.proofs.OneStyle.{one_style}
 use Rattle.pg_picture.proofs.style.CellStyle.of_all.Goals as goal
 

@@ -3,9 +3,9 @@ use Rattle.pg_layout.specs.Position.{at}
 use Rattle.pg_config.specs.Spans.{rect_columns}
 use Rattle.pg_picture.proofs.Owners.{apart_from, owners_of, owner-columns}
 use Rattle.pg_stream.specs.Conditions.{HasRoom}
-use Rattle.pg_stream.specs.Drawing.{column_end, reach}
+use Rattle.pg_stream.specs.Inside.Drawing.{column_end, reach}
 use Rattle.pg_stream.specs.Printing.{frame_of}
-use Rattle.pg_stream.specs.Turns.{begin_cell}
+use Rattle.pg_stream.specs.Inside.Turns.{begin_cell}
 use Rattle.pg_stream.proofs.PartsOfLists.{partly-none, partly-all, partly-length}
 use Rattle.pg_stream.proofs.PartsOfSeparators.{reach-none, reach-more}
 use Rattle.pg_stream.proofs.Beginning.{own_at, own-now, owner-now, own-rows, own-columns, inside-columns, reach-set, read-more, read-none, begun-more, begun-is}
@@ -39,7 +39,7 @@ begin_one-requires-clause-own g c =
     let spans = t.config.spans in
     let texts = c.requires.given.0 in
     let reading = c.loop-column.invariant.1 texts c.requires.given.1 in
-    let apart = apart_from spans t.columns c.requires.spans c.requires.places in
+    let apart = apart_from spans t.columns c.requires.spans in
     let owners = owners_of spans apart in
     let i = c.loop-column.column in
     own-now t owners c.args.row t.columns texts c.args.opened.now c.requires.columns c.requires.above i c.loop-column.opened c.loop-column.end (omega arith) reading.begun c.loop-column.invariant.0
@@ -50,7 +50,7 @@ begin_one-requires-clause-may g c = λ own.
     let spans = t.config.spans in
     let texts = c.requires.given.0 in
     let reading = c.loop-column.invariant.1 texts c.requires.given.1 in
-    let apart = apart_from spans t.columns c.requires.spans c.requires.places in
+    let apart = apart_from spans t.columns c.requires.spans in
     let owners = owners_of spans apart in
     let i = c.loop-column.column in
     let end = owner-columns spans t.columns apart c.requires.spans c.args.row i (omega arith) in
@@ -70,7 +70,7 @@ end_past-end-requires g c =
     let spans = t.config.spans in
     let texts = c.requires.given.0 in
     let reading = c.loop-column.invariant.1 texts c.requires.given.1 in
-    let apart = apart_from spans t.columns c.requires.spans c.requires.places in
+    let apart = apart_from spans t.columns c.requires.spans in
     let owners = owners_of spans apart in
     let i = c.loop-column.column in
     let now = read-more g.S.AsStr.text g.I.Iterator.next_gives c.loop-column.cells c.next.new.self c.in-Some.value texts i reading.left (subst (λ (r : Option g.row.S.Denot). g.I.Iterator.next_gives c.loop-column.cells r c.next.new.self) c.in-Some.is c.next.ensures.steps) in

@@ -1,7 +1,7 @@
 use Rattle.std.proofs.Common.{◌≡◌, List}
 use Rattle.pg_layout.specs.Records.{AlwaysGives}
 use Rattle.pg_layout.specs.Text.{Text}
-use Rattle.pg_stream.specs.Drawing.{reach}
+use Rattle.pg_stream.specs.Inside.Drawing.{reach}
 use Rattle.pg_stream.specs.Printing.{frame_of}
 use Rattle.pg_stream.proofs.Beginning.{IsReading}
 use Rattle.pg_stream.proofs.drawing.Drawing.begin.Given as goal

@@ -5,8 +5,8 @@ use Rattle.pg_picture.specs.Sizes.{height_of_rect}
 use Rattle.pg_picture.specs.Table.{rect_width}
 use Rattle.pg_picture.specs.declared.place.CellPlace.{CellPlace}
 use Rattle.pg_picture.proofs.FittingTables.{some_is}
-use Rattle.pg_stream.specs.Told.{frame_table}
-use Rattle.pg_stream.specs.Turns.{place_in}
+use Rattle.pg_stream.specs.Inside.Frames.{frame_table}
+use Rattle.pg_stream.specs.Inside.Turns.{place_in}
 use Rattle.pg_stream.proofs.CellsBegun.{width-some, height-some}
 use Rattle.pg_stream.proofs.drawing.Drawing.begin_cell.Goals as goal
 

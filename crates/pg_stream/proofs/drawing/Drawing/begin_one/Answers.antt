@@ -1,7 +1,7 @@
 use Rattle.std.proofs.Common.{◌∙◌, sym, ap, set, Some}
 use Rattle.pg_layout.specs.declared.position.Position.{Position}
 use Rattle.pg_stream.specs.Printing.{frame_of}
-use Rattle.pg_stream.specs.Turns.{new_cell}
+use Rattle.pg_stream.specs.Inside.Turns.{new_cell}
 use Rattle.pg_stream.proofs.Beginning.{begins, keeps}
 use Rattle.pg_stream.proofs.drawing.Drawing.begin_one.Goals as goal
 

@@ -1,5 +1,5 @@
 use Rattle.std.proofs.Common.{◌≡◌}
-use Rattle.pg_stream.specs.Turns.{close_cell}
+use Rattle.pg_stream.specs.Inside.Turns.{close_cell}
 use Rattle.pg_stream.proofs.PartsOfLists.{partly}
 use Rattle.pg_stream.proofs.drawing.Drawing.close.Given as goal
 

@@ -1,6 +1,6 @@
 use Rattle.pg_picture.specs.Pieces.{written}
 use Rattle.pg_picture.proofs.Appending.{◌then◌, stopped, Appends-text}
-use Rattle.pg_stream.specs.Drawing.{open_line}
+use Rattle.pg_stream.specs.Inside.Drawing.{open_line}
 use Rattle.pg_stream.specs.Printing.{frame_of}
 use Rattle.pg_stream.proofs.PartsOfLines.{line_at-parts}
 use Rattle.pg_stream.proofs.drawing.Drawing.push_body_line.Goals as goal

@@ -1,8 +1,8 @@
 use Rattle.std.proofs.Common.{◌≡◌, flat_map}
 use Rattle.std.specs.List.{range_with_len}
 use Rattle.pg_picture.specs.Appending.{Gained}
-use Rattle.pg_picture.specs.Pieces.{items_after, last_color}
-use Rattle.pg_stream.specs.Drawing.{reach, open_separator_part}
+use Rattle.pg_picture.specs.Inside.Following.{items_after, last_color}
+use Rattle.pg_stream.specs.Inside.Drawing.{reach, open_separator_part}
 use Rattle.pg_stream.specs.Printing.{frame_of}
 use Rattle.pg_stream.proofs.drawing.Drawing.push_columns.Given as goal
 

@@ -1,7 +1,7 @@
 use Rattle.std.proofs.Common.{◌∙◌, arith}
 use Rattle.pg_picture.proofs.Appending.{Appends-text}
 use Rattle.pg_picture.proofs.KeptTexts.{text-from, lent-text, kept-text}
-use Rattle.pg_stream.specs.Drawing.{IsSeparator}
+use Rattle.pg_stream.specs.Inside.Drawing.{IsSeparator}
 use Rattle.pg_stream.specs.Printing.{frame_of}
 use Rattle.pg_stream.proofs.EqualRowLines.{kept-is, keeps}
 use Rattle.pg_stream.proofs.drawing.Drawing.push_kept_separator.Goals as goal

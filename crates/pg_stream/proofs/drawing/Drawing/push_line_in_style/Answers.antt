@@ -1,6 +1,6 @@
 use Rattle.std.proofs.Common.{◌≡◌, ◌∙◌, ap, refl}
 use Rattle.pg_layout.specs.Position.{at}
-use Rattle.pg_picture.specs.Cells.{style_of}
+use Rattle.pg_picture.specs.Inside.Cells.{style_of}
 use Rattle.pg_picture.specs.Pieces.{style_at, written}
 use Rattle.pg_picture.specs.declared.place.CellPlace.{CellPlace}
 use Rattle.pg_picture.proofs.Appending.{Appends-text}

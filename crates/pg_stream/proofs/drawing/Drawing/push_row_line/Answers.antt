@@ -4,7 +4,7 @@ use Rattle.pg_picture.specs.Pieces.{written}
 use Rattle.pg_picture.specs.Table.{vertical}
 use Rattle.pg_picture.proofs.Appending.{Gained-none, Gained-text, Gained-more, gained-then, refused, Appends-text}
 use Rattle.pg_picture.proofs.PiecesOfLines.{written-nil}
-use Rattle.pg_stream.specs.Drawing.{open_part}
+use Rattle.pg_stream.specs.Inside.Drawing.{open_part}
 use Rattle.pg_stream.specs.Printing.{frame_of}
 use Rattle.pg_stream.proofs.PartsOfLines.{written-columns, line-cut, line-end}
 use Rattle.pg_stream.proofs.drawing.Drawing.push_row_line.Goals as goal

@@ -2,7 +2,7 @@ use Rattle.std.proofs.Common.{flat_map}
 use Rattle.std.specs.List.{range_with_len}
 use Rattle.pg_picture.specs.Pieces.{written}
 use Rattle.pg_picture.specs.Appending.{Gained}
-use Rattle.pg_stream.specs.Drawing.{open_part}
+use Rattle.pg_stream.specs.Inside.Drawing.{open_part}
 use Rattle.pg_stream.specs.Printing.{frame_of}
 use Rattle.pg_stream.proofs.drawing.Drawing.push_row_line.Given as goal
 

@@ -8,7 +8,7 @@ use Rattle.pg_picture.proofs.Appending.{Appends-text, Gained-none, Gained-text, 
 use Rattle.pg_picture.proofs.PiecesOfLines.{written-nil}
 use Rattle.pg_stream.specs.Conditions.{HasRoom}
 use Rattle.pg_stream.specs.Printing.{frame_of}
-use Rattle.pg_stream.specs.SingleRows.{single_part}
+use Rattle.pg_stream.specs.Inside.SingleRows.{single_part}
 use Rattle.pg_stream.proofs.Beginning.{read-more, read-none}
 use Rattle.pg_stream.proofs.PartsOfLines.{written-columns}
 use Rattle.pg_stream.proofs.SingleCells.{single-cut, single-end}

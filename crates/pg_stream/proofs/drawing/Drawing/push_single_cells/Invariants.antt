@@ -5,7 +5,7 @@ use Rattle.pg_layout.specs.Text.{Text}
 use Rattle.pg_picture.specs.Appending.{Gained}
 use Rattle.pg_picture.specs.Pieces.{written}
 use Rattle.pg_stream.specs.Printing.{frame_of}
-use Rattle.pg_stream.specs.SingleRows.{single_part}
+use Rattle.pg_stream.specs.Inside.SingleRows.{single_part}
 use Rattle.pg_stream.proofs.drawing.Drawing.push_single_cells.Given as goal
 
 -- the cells so far, and those that are left

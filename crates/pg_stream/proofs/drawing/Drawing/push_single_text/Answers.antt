@@ -1,5 +1,5 @@
 use Rattle.std.proofs.Common.{refl, ap, ◌∙◌}
-use Rattle.pg_picture.specs.Cells.{style_of}
+use Rattle.pg_picture.specs.Inside.Cells.{style_of}
 use Rattle.pg_stream.specs.Printing.{Printing, frame_of}
 use Rattle.pg_stream.proofs.SingleCells.{part-room}
 use Rattle.pg_stream.proofs.drawing.Drawing.push_single_text.Goals as goal

@@ -2,7 +2,7 @@ use Rattle.std.proofs.Common.{sym, ◌∙◌}
 use Rattle.pg_config.proofs.ColumnLines.{no_verticals}
 use Rattle.pg_picture.proofs.Appending.{Appends-text, Gained-none, Gained-all}
 use Rattle.pg_picture.proofs.Verticals.{vertical_at-none}
-use Rattle.pg_stream.specs.Told.{frame_table}
+use Rattle.pg_stream.specs.Inside.Frames.{frame_table}
 use Rattle.pg_stream.proofs.drawing.Drawing.push_vertical.Goals as goal
 
 -- without column lines there is nothing to append

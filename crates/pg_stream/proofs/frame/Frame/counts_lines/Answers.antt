@@ -1,19 +1,33 @@
-use Rattle.std.proofs.Common.{◌≡◌, ◌+◌, ◌^◌, nat_lt, length, ap, ◌∙◌, arith}
+use Rattle.std.proofs.Common.{ℕ, ◌+◌, ◌≤◌, arith, inl, inr}
+use Rattle.std.proofs.lemmas.Bool.{cases_Bool}
 use Rattle.std.proofs.lemmas.Bool.Decides.{nat_tests}
-use Rattle.pg_picture.specs.Marks.{marks_of_row}
+use Rattle.pg_config.specs.Config.{Config, has_horizontal}
+use Rattle.pg_stream.specs.Inside.Slots.{separator_height}
 use Rattle.pg_stream.proofs.DrawnLines.{length_of_row}
-use Rattle.pg_stream.proofs.FittingCells.{checked-is}
 use Rattle.pg_stream.proofs.frame.Frame.counts_lines.Goals as goal
 
-pub returns-in-Some : goal.returns-in-Some
-returns-in-Some g c =
+-- a separator has one line
+one_line : (config : Config) (k : ℕ) → separator_height config k ≤ 1
+unfolding separator_height
+one_line config k =
+    elim (cases_Bool (has_horizontal config k (k + 1))) [
+      | inl e ↦ rw e (omega arith)
+      | inr e ↦ rw e (omega arith)
+    ]
+
+pub returns-then-next-lt18446744073709551615 : goal.returns-then-next-lt18446744073709551615
+returns-then-next-lt18446744073709551615 g c =
     let lines = length_of_row c.args.self.now.config.now (g.D.Dimension.height c.args.self.now.dimension.now) c.args.row in
-    let next = c.in-Some.ensures.1 in
-    let same : c.in-Some.next + c.get_height-height.result ≡ c.args.lines + length (marks_of_row c.args.self.now.config.now (g.D.Dimension.height c.args.self.now.dimension.now) c.args.row) = omega (arith, lines, next, c.separator_lines.ensures, c.get_height-height.ensures) in
-    c.is_some.ensures ∙ checked-is c.checked_add-in-Some.result _ c.checked_add-in-Some.ensures ∙ ap (λ n. nat_lt n (2 ^ 64)) same
+    let one = one_line c.args.self.now.config.now c.args.row in
+    grind (arith, nat_tests, lines, one, c.in-Some.ensures.1, c.get_height-height.ensures, c.if-next-lt18446744073709551615.true)
+
+pub returns-else-next-lt18446744073709551615 : goal.returns-else-next-lt18446744073709551615
+returns-else-next-lt18446744073709551615 g c =
+    let lines = length_of_row c.args.self.now.config.now (g.D.Dimension.height c.args.self.now.dimension.now) c.args.row in
+    let one = one_line c.args.self.now.config.now c.args.row in
+    grind (arith, nat_tests, lines, one, c.separator_lines.ensures, c.in-Some.ensures.1, c.get_height-height.ensures, c.if-next-lt18446744073709551615.false)
 
 pub returns-in-None : goal.returns-in-None
 returns-in-None g c =
     let lines = length_of_row c.args.self.now.config.now (g.D.Dimension.height c.args.self.now.dimension.now) c.args.row in
-    let past = c.in-None.ensures in
-    grind (arith, nat_tests, lines, past, c.separator_lines.ensures)
+    grind (arith, nat_tests, lines, c.in-None.ensures, c.get_height-height.ensures)

@@ -1,5 +1,5 @@
 use Rattle.std.proofs.Common.{sym, ◌∙◌}
-use Rattle.pg_stream.specs.Told.{frame_table}
+use Rattle.pg_stream.specs.Inside.Frames.{frame_table}
 use Rattle.pg_stream.proofs.FittingCells.{room-from, room-fits, room-wide, room-high}
 use Rattle.pg_stream.proofs.frame.Frame.has_room.Goals as goal
 

@@ -5,7 +5,7 @@ use Rattle.pg_layout.specs.Position.{at, is_at}
 use Rattle.pg_config.specs.Spans.{is_left, left_span, owner}
 use Rattle.pg_picture.specs.Rectangles.{columns_or_one}
 use Rattle.pg_stream.specs.Conditions.{HasRoom}
-use Rattle.pg_stream.specs.Told.{frame_table}
+use Rattle.pg_stream.specs.Inside.Frames.{frame_table}
 use Rattle.pg_picture.proofs.LeftColumns.{step-some, step-inside, step-left, step-all}
 use Rattle.pg_picture.proofs.OwnersOfPlaces.{first_left}
 use Rattle.pg_stream.proofs.FittingCells.{last_end, in_order}
@@ -15,7 +15,7 @@ pub loop-column-init : goal.loop-column-init
 loop-column-init g c =
     record {
       rooms = λ x h own. absurd (omega (arith, h));
-      left = first_left c.args.self.now.config.now.spans (last_end c.args.self.now.config.now.spans) c.args.self.now.columns (in_order c.args.self.now.config.now.spans c.args.self.now.columns c.spans-spans.ensures.ascending c.spans-spans.ensures.places c.requires.spans) c.args.row;
+      left = first_left c.args.self.now.config.now.spans (last_end c.args.self.now.config.now.spans) c.args.self.now.columns (in_order c.args.self.now.config.now.spans c.args.self.now.columns c.spans-spans.ensures.ascending c.requires.spans) c.args.row;
       inside = omega arith;
     }
 
@@ -25,14 +25,14 @@ has_room_if_own-requires-clause-left g c = ap (λ (p : Position). is_left c.args
 pub overflow_add-column : goal.overflow_add-column
 overflow_add-column g c =
     let spans = c.args.self.now.config.now.spans in
-    let order = in_order spans c.args.self.now.columns c.spans-spans.ensures.ascending c.spans-spans.ensures.places c.requires.spans in
+    let order = in_order spans c.args.self.now.columns c.spans-spans.ensures.ascending c.requires.spans in
     let width = c.columns_of-column.ensures ∙ ap columns_or_one (c.left_span-span.ensures ∙ ap (λ (p : Position). left_span spans p.row p.col) c.new-pos.ensures) in
     omega (arith, c.requires.whole, step-inside spans (last_end spans) c.args.self.now.columns order c.args.row c.loop-column.column c.columns_of-column.result width c.loop-column.invariant.left c.loop-column-test.true)
 
 pub loop-column-preserved : goal.loop-column-preserved
 loop-column-preserved g c =
     let spans = c.args.self.now.config.now.spans in
-    let order = in_order spans c.args.self.now.columns c.spans-spans.ensures.ascending c.spans-spans.ensures.places c.requires.spans in
+    let order = in_order spans c.args.self.now.columns c.spans-spans.ensures.ascending c.requires.spans in
     let t = frame_table g.D.Dimension.width g.D.Dimension.height g.C.Colors.color c.args.self.now in
     let x = c.loop-column.column in
     let texts = map g.S.AsStr.text c.args.cells.now in
@@ -48,7 +48,7 @@ loop-column-preserved g c =
 pub loop-column-smaller : goal.loop-column-smaller
 loop-column-smaller g c =
     let spans = c.args.self.now.config.now.spans in
-    let order = in_order spans c.args.self.now.columns c.spans-spans.ensures.ascending c.spans-spans.ensures.places c.requires.spans in
+    let order = in_order spans c.args.self.now.columns c.spans-spans.ensures.ascending c.requires.spans in
     let width = c.columns_of-column.ensures ∙ ap columns_or_one (c.left_span-span.ensures ∙ ap (λ (p : Position). left_span spans p.row p.col) c.new-pos.ensures) in
     omega (arith, c.loop-column-test.true, step-some spans (last_end spans) c.args.self.now.columns order c.args.row c.loop-column.column c.columns_of-column.result width c.loop-column.invariant.left c.loop-column-test.true)
 

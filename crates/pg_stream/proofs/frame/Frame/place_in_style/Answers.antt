@@ -2,11 +2,11 @@ use Rattle.std.proofs.Common.{◌≡◌, ◌<◌, ◌==◌, true, false, sym, ap
 use Rattle.std.proofs.lemmas.Bool.Decides.{nat_tests}
 use Rattle.pg_picture.specs.declared.facts.TextFacts.{TextFacts}
 use Rattle.pg_picture.specs.Pieces.{Style, widest}
-use Rattle.pg_picture.specs.Cells.{style_of, facts_of, place_of}
+use Rattle.pg_picture.specs.Inside.Cells.{style_of, facts_of, place_of}
 use Rattle.pg_picture.specs.Fits.{cell_fits}
 use Rattle.pg_picture.proofs.PlacesOfTexts.{place-lines}
 use Rattle.pg_picture.proofs.Room.{cell_fits-room}
-use Rattle.pg_stream.specs.Turns.{place_in}
+use Rattle.pg_stream.specs.Inside.Turns.{place_in}
 use Rattle.pg_stream.proofs.frame.Frame.place_in_style.Goals as goal
 
 pub of-requires-clause-width : goal.of-requires-clause-width

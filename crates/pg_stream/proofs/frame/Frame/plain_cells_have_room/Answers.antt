@@ -1,9 +1,9 @@
-use Rattle.std.proofs.Common.{true, [], map, sym, ap, ◌∙◌, subst, arith, slice_index_or}
+use Rattle.std.proofs.Common.{[], map, sym, ap, ◌∙◌, subst, arith, slice_index_or}
 use Rattle.std.proofs.lemmas.Bool.{false≢true}
 use Rattle.std.proofs.lemmas.List.{get_or-map}
 use Rattle.pg_layout.specs.Position.{at}
 use Rattle.pg_stream.specs.Conditions.{HasRoom}
-use Rattle.pg_stream.specs.Told.{frame_table}
+use Rattle.pg_stream.specs.Inside.Frames.{frame_table}
 use Rattle.pg_stream.proofs.PlainRooms.{fits-in, own-plain, plain-room-from, plain-room-fits, up-to}
 use Rattle.pg_stream.proofs.frame.Frame.plain_cells_have_room.Goals as goal
 

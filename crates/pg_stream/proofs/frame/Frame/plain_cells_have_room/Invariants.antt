@@ -1,7 +1,7 @@
 use Rattle.std.proofs.Common.{◌<◌, ℕ, map, slice_index_or, []}
 use Rattle.pg_layout.specs.Position.{at}
 use Rattle.pg_stream.specs.Conditions.{HasRoom}
-use Rattle.pg_stream.specs.Told.{frame_table}
+use Rattle.pg_stream.specs.Inside.Frames.{frame_table}
 use Rattle.pg_stream.proofs.frame.Frame.plain_cells_have_room.Given as goal
 
 -- the cells before the column have room

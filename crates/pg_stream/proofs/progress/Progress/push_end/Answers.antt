@@ -1,11 +1,12 @@
 use Rattle.std.proofs.Common.{◌≡◌, ◌<◌, true, refl, ap, arith, replicate}
 use Rattle.pg_config.specs.Config.{has_horizontal}
 use Rattle.pg_picture.proofs.Appending.{◌then◌, stopped, Gained-none, Gained-all, Appends-text}
-use Rattle.pg_picture.specs.Joined.{continued, lines_before}
+use Rattle.pg_picture.specs.Joined.{continued}
+use Rattle.pg_picture.specs.Inside.Following.{lines_before}
 use Rattle.pg_picture.specs.Pieces.{written}
 use Rattle.pg_picture.specs.Table.{margin_line}
-use Rattle.pg_stream.specs.DrawnCells.{IsTall}
-use Rattle.pg_stream.specs.Sound.{now_of}
+use Rattle.pg_stream.specs.Placed.{IsTall}
+use Rattle.pg_stream.specs.Printers.{now_of}
 use Rattle.pg_stream.specs.Printing.{Printing, frame_of}
 use Rattle.pg_stream.proofs.Ending.{finish-none, no_cells, finish_text-is, ended_of}
 use Rattle.pg_stream.proofs.progress.Progress.push_end.Goals as goal

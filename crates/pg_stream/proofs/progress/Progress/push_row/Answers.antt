@@ -1,12 +1,11 @@
 use Rattle.std.proofs.Common.{◌≡◌, ℕ, ◌+◌, ◌<◌, ◌≤◌, ◌^◌, List, Option, refl, sym, ap, ap₂, ◌∙◌, subst, arith, map, length, get_or, None}
 use Rattle.std.proofs.lemmas.List.{length-map}
 use Rattle.pg_picture.proofs.Appending.{◌then◌, stopped, refused-as, appended-as, Appends-text}
-use Rattle.pg_stream.specs.DrawnCells.{draw_cell, AllOpen, AreDrawn}
-use Rattle.pg_stream.specs.Placed.{Placed, slots_of}
-use Rattle.pg_stream.specs.Sound.{now_of, IsSound, IsSoundAt}
+use Rattle.pg_stream.specs.Placed.{Placed, slots_of, draw_cell, AllOpen, AreDrawn}
+use Rattle.pg_stream.specs.Printers.{now_of, IsSound, IsSoundAt}
 use Rattle.pg_stream.specs.Printing.{Printing, frame_of}
-use Rattle.pg_stream.specs.Slots.{separator_height}
-use Rattle.pg_stream.specs.Turns.{IsOwnerAbove, cells_begun, cells_closed}
+use Rattle.pg_stream.specs.Inside.Slots.{separator_height}
+use Rattle.pg_stream.specs.Inside.Turns.{IsOwnerAbove, cells_begun, cells_closed}
 use Rattle.pg_stream.proofs.DrawnLines.{length_of_row}
 use Rattle.pg_stream.proofs.RowsPrinted.{room-above, drawn-above, owner-begins, whole-now, cells_now, begun-now, drawn-now, room-now}
 use Rattle.pg_stream.proofs.RowsAppended.{row_text-is, after-is, sound-next, open_lines-same}

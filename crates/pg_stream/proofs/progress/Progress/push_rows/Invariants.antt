@@ -2,8 +2,8 @@ use Rattle.std.proofs.Common.{◌≡◌, ◌∷◌, List, IfSome}
 use Rattle.pg_layout.specs.Records.{Gives}
 use Rattle.pg_layout.specs.Text.{Text}
 use Rattle.pg_stream.specs.Conditions.{AreRowsFrom, RowsFit}
-use Rattle.pg_stream.specs.Drawing.{IsSeparator}
-use Rattle.pg_stream.specs.Sound.{now_of, IsSoundAt}
+use Rattle.pg_stream.specs.Inside.Drawing.{IsSeparator}
+use Rattle.pg_stream.specs.Printers.{now_of, IsSoundAt}
 use Rattle.pg_stream.specs.Printing.{frame_of, rows_text}
 use Rattle.pg_stream.proofs.RowsInTurn.{Printed}
 use Rattle.pg_stream.proofs.progress.Progress.push_rows.Given as goal

@@ -1,4 +1,4 @@
-use Rattle.pg_stream.specs.Told.{told_of}
+use Rattle.pg_stream.specs.Inside.Told.{told_of}
 use Rattle.pg_stream.proofs.row_printer.RowPrinter.print_rows.Given as goal
 
 abbrev pub ghosts-push_rows : goal.ghosts-push_rows

@@ -1,4 +1,4 @@
-use Rattle.pg_stream.specs.Told.{told_of}
+use Rattle.pg_stream.specs.Inside.Told.{told_of}
 use Rattle.pg_stream.proofs.row_printer.RowPrinter.row.Given as goal
 
 abbrev pub ghosts-push_row : goal.ghosts-push_row

@@ -1,18 +1,5 @@
-use Rattle.std.proofs.Common.{◌≡◌, List, map, Result}
-use Rattle.std.specs.Result.{result_map_both}
-use Rattle.pg_layout.specs.Records.{AlwaysGives}
-use Rattle.pg_layout.specs.Text.{Text}
-use Rattle.pg_stream.specs.Streams.{Streaming, streaming}
-use Rattle.pg_stream.proofs.StreamedResults.{Streamed}
+use Rattle.pg_stream.specs.Inside.Told.{told_of}
 use Rattle.pg_stream.proofs.row_stream.RowStream.print_results.Given as goal
 
--- what the rows that are left append is what all append
-abbrev pub invariant-loop-row : goal.invariant-loop-row
-invariant-loop-row g l =
-    let now : Streaming = streaming g.D.Dimension.width g.D.Dimension.height g.C.Colors.color l.stream in
-    let began : Streaming = streaming g.D.Dimension.width g.D.Dimension.height g.C.Colors.color l.fn.self in
-    (goal.iterator-loop-row g).can_next l.row-iterator ×
-    (goal.iterator-loop-row g).is_finite l.row-iterator ×
-    ((items : List (Result (List Text) g.row.E.Denot))
-    → AlwaysGives (λ x y. result_map_both (λ row. map g.S.AsStr.text row.items) (λ error. error) x ≡ y) g.I.Iterator.next_gives l.fn.rows items
-    → Streamed (Unit {0}) (λ x. result_map_both (λ row. map g.S.AsStr.text row.items) (λ error. error) x) g.I.Iterator.next_gives l.fn.buf l.buf l.row-iterator now began items)
+abbrev pub ghosts-push_results : goal.ghosts-push_results
+ghosts-push_results g a = record { told = told_of g.D.Dimension.width g.D.Dimension.height g.C.Colors.color a.frame.now }

@@ -1,0 +1,11 @@
+use Rattle.std.proofs.Common.{sym, ap, ◌∙◌}
+use Rattle.pg_layout.specs.Keys.{in_column}
+use Rattle.pg_layout.proofs.PlacesSearches.{passes}
+use Rattle.pg_config.proofs.FirstKeys.{first-of_column}
+use Rattle.pg_config.proofs.overrides.has_column.Goals as goal
+
+pub returns-in-Some : goal.returns-in-Some
+returns-in-Some g c = sym (first-of_column c.args.col c.args.places.now c.stand_in_order.ensures ∙ ap (passes (in_column c.args.col)) (sym c.first_key_from.ensures ∙ c.in-Some.is))
+
+pub returns-in-None : goal.returns-in-None
+returns-in-None g c = sym (first-of_column c.args.col c.args.places.now c.stand_in_order.ensures ∙ ap (passes (in_column c.args.col)) (sym c.first_key_from.ensures ∙ c.in-None.is))

@@ -1,0 +1,4 @@
+-- What only bodies and their proofs need: no contract of a call from outside stands on it.
+pub mod Drawn
+pub mod DrawnProps
+pub mod Kept

@@ -1,0 +1,45 @@
+-- What is kept of cells from one of their lines to the next, and that it is right.
+use Rattle.std.specs.Prelude.{◌≡◌, ℕ, ◌-◌, ◌≤◌, ◌<◌, List, Option, IfSome, slice_index_or, None}
+use Rattle.pg_layout.specs.declared.position.Position.{Position}
+use Rattle.pg_layout.specs.LineCursor.{StandsIn, line_number}
+use Rattle.pg_layout.specs.Text.{Text}
+use Rattle.pg_picture.specs.Inside.Cells.{facts_of, place_of}
+use Rattle.pg_picture.specs.Pieces.{style_at, separator_text}
+use Rattle.pg_picture.specs.Rectangles.{rows_height}
+use Rattle.pg_picture.specs.Table.{Table, rect_width, rect_height, separator_items}
+use Rattle.pg_picture.specs.declared.place.CellPlace.{CellPlace}
+use Rattle.pg_peekable.specs.declared.kept.Reading.{Reading}
+use Rattle.pg_peekable.specs.declared.kept.KeptCell.{KeptCell}
+use Rattle.pg_peekable.specs.declared.kept.KeptRectangle.{KeptRectangle}
+
+-- the text is read up to the line of this number
+pub record Reads (reading : Reading) (text : Text) : Type 0 where
+  pub stands : StandsIn reading.cursor text
+  pub next : line_number reading.cursor text ≡ reading.next
+
+-- where the text of the cell p stands, if the cell is w columns wide and has h lines
+abbrev pub place_in : Table → Position → ℕ → ℕ → CellPlace
+place_in t p w h = place_of (facts_of (style_at t.config p).formatting (t.text p)) (style_at t.config p) w h
+
+-- a reading of the text of such a cell
+pub record IsReading (t : Table) (p : Position) (w h : ℕ) (reading : Reading) : Type 0 where
+  pub reads : Reads reading (t.text p)
+  pub place : reading.place ≡ place_in t p w h
+
+-- a rectangle has its cell's width and height, and so many of its lines stand above its row
+pub record IsRectangle (t : Table) (kept : KeptRectangle) : Type 0 where
+  pub width : kept.width ≡ rect_width t kept.corner
+  pub height : kept.height ≡ rect_height t kept.corner
+  pub begun : kept.corner.row ≤ kept.row
+  pub above : kept.above ≡ rows_height t kept.corner.row (kept.row - kept.corner.row)
+
+abbrev pub IsKept : Table → KeptCell → Type 0
+IsKept t cell = IsReading t cell.corner cell.width cell.height cell.reading
+
+-- the text is that of each separator between two rows
+abbrev pub IsSeparator : Table → Text → Type 0
+IsSeparator t text = (r : ℕ) → 0 < r → r < t.rows → text ≡ separator_text (separator_items t r)
+
+-- all that slots hold is right
+abbrev pub AllSlots : {X : Type 0} → (X → Type 0) → List (Option X) → Type 0
+AllSlots Right slots = (x : ℕ) → IfSome (slice_index_or slots x None) Right

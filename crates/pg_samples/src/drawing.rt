@@ -1,0 +1,302 @@
+//! How the tests draw a table.
+
+ghost use Rattle.std.specs.Prelude.{◌≡◌};
+
+use crate::settings::{Setting, color, tell_all};
+use pg_config::{CompactConfig, SpannedConfig};
+use pg_grid::{CompactGrid, IterGrid, PeekableGrid};
+use pg_layout::{ColorsMap, ConstantDimension, NoColors, Records, VecRecords};
+use pg_picture::fits::{compact_fits, table_fits};
+use std::alloc::{AllocError, Allocator, Global};
+use std::process::Abort;
+use std::test::Fail;
+
+/// The texts of a table, the widths of its columns, the heights of its rows, and what it is told.
+#[derive(Debug, Clone, Copy)]
+pub struct Sample<'a> {
+    pub texts: &'a [&'a [&'a str]],
+    pub widths: &'a [usize],
+    pub heights: &'a [usize],
+    pub settings: &'a [Setting],
+}
+
+/// The texts `0-0` to `1-1` in cells of width 3 and height 1, with ASCII borders.
+pub const FOUR: Sample<'static> = Sample {
+    texts: &[&["0-0", "0-1"], &["1-0", "1-1"]],
+    widths: &[3, 3],
+    heights: &[1, 1],
+    settings: &[Setting::Ascii],
+};
+
+/// The picture of [`FOUR`].
+pub const FOUR_TEXT: &str = "\
++---+---+
+|0-0|0-1|
++---+---+
+|1-0|1-1|
++---+---+";
+
+/// The texts `0-0` to `3-3`, of which one has four lines.
+pub const SIXTEEN: Sample<'static> = Sample {
+    texts: &[
+        &["0-0", "0-1", "0-2", "0-3"],
+        &["1-0", "123\n345\n555\n333", "1-2", "1-3"],
+        &["2-0", "2-1", "2-2", "2-3"],
+        &["3-0", "3-1", "3-2", "3-3"],
+    ],
+    widths: &[3, 3, 3, 3],
+    heights: &[1, 2, 1, 1],
+    settings: &[Setting::Ascii],
+};
+
+/// Which grid draws a table.
+#[derive(Debug, Clone, Copy)]
+pub enum Grid {
+    /// The looked-up grid.
+    Peekable,
+    /// The streaming grid, which is told how many rows there are.
+    Hinted,
+    /// The streaming grid, which isn't told.
+    Unhinted,
+}
+
+/// Records that don't tell how many rows there are.
+#[derive(Debug, Clone, Copy, Drop)]
+pub struct Unhinted<R> {
+    records: R,
+}
+
+impl<R> Unhinted<R> {
+    /// These records, without the number of their rows.
+    pub fn new(records: R) -> Unhinted<R>
+        ensures { result.records ≡ records }
+    {
+        Unhinted { records }
+    }
+}
+
+impl<R: Records> Records for Unhinted<R> {
+    ghost use Rattle.std.specs.Prelude.{None};
+
+    type Cell = R::Cell;
+
+    type Columns = R::Columns;
+
+    type Rows = R::Rows;
+
+    ghost texts = { λ r. R.texts r.records };
+
+    ghost columns = { λ r. R.columns r.records };
+
+    ghost hint = { λ r. None };
+
+    ghost is_readable = { λ r. R.is_readable r.records };
+
+    fn iter_rows(self) -> R::Rows {
+        self.records.iter_rows()
+    }
+
+    fn count_columns(&self) -> usize {
+        self.records.count_columns()
+    }
+
+    fn hint_count_rows(&self) -> Option<usize> {
+        None
+    }
+}
+
+/// A table's parts in memory.
+#[derive(Drop)]
+pub struct TableParts<'a> {
+    pub records: VecRecords<&'a str>,
+    pub dimension: ConstantDimension,
+    pub colors: ColorsMap,
+}
+
+/// The texts as records.
+pub fn records<'a>(alloc: Global, texts: &[&[&'a str]]) -> Result<VecRecords<&'a str>, Fail> {
+    let mut rows = Vec::new(alloc);
+    for row in texts {
+        rows.push(row.to_vec(alloc)?)?;
+    }
+    Ok(VecRecords::new(rows)?)
+}
+
+/// The sizes of the sample.
+pub fn dimension(alloc: Global, sample: &Sample<'_>) -> Result<ConstantDimension, AllocError> {
+    let widths = sample.widths.to_vec(alloc)?;
+    let heights = sample.heights.to_vec(alloc)?;
+    Ok(ConstantDimension(widths, heights))
+}
+
+// The colours of the cells' texts.
+fn cell_colors(alloc: Global, settings: &[Setting]) -> Result<ColorsMap, AllocError> {
+    let mut colors = ColorsMap::new(alloc);
+    for setting in settings {
+        if let Setting::CellColor(pos, paint) = *setting {
+            colors.set(pos, color(alloc, paint)?)?;
+        }
+    }
+    Ok(colors)
+}
+
+/// The sample's parts.
+pub fn parts_of<'a>(alloc: Global, sample: &Sample<'a>) -> Result<TableParts<'a>, Fail> {
+    Ok(TableParts {
+        records: records(alloc, sample.texts)?,
+        dimension: dimension(alloc, sample)?,
+        colors: cell_colors(alloc, sample.settings)?,
+    })
+}
+
+// Appends a table as a grid draws it, and tells whether there was memory for all of it.
+fn draw_parts<A: Allocator, B: Allocator>(
+    memory: A,
+    grid: Grid,
+    parts: &TableParts<'_>,
+    config: &SpannedConfig,
+    buf: &mut String<B>,
+) -> Result<bool, Fail> {
+    let (records, dimension, colors) = (&parts.records, &parts.dimension, &parts.colors);
+    table_fits(&records, config, dimension)?;
+    let drawn = match grid {
+        Grid::Peekable => PeekableGrid::new(records, config, dimension, colors).build(buf),
+        Grid::Hinted => IterGrid::new(records, config, dimension, colors).build(memory, buf),
+        Grid::Unhinted => {
+            IterGrid::new(Unhinted { records }, config, dimension, colors).build(memory, buf)
+        }
+    };
+    Ok(drawn.is_ok())
+}
+
+// The text of a table, as a grid gives it where there is memory for all of it.
+fn text_of_parts<A: Allocator + Copy>(
+    memory: A,
+    grid: Grid,
+    parts: &TableParts<'_>,
+    config: &SpannedConfig,
+) -> Result<Option<String<A>>, Fail> {
+    let (records, dimension, colors) = (&parts.records, &parts.dimension, &parts.colors);
+    table_fits(&records, config, dimension)?;
+    let text = match grid {
+        Grid::Peekable => PeekableGrid::new(records, config, dimension, colors).to_string(memory),
+        Grid::Hinted => IterGrid::new(records, config, dimension, colors).to_string(memory),
+        Grid::Unhinted => {
+            IterGrid::new(Unhinted { records }, config, dimension, colors).to_string(memory)
+        }
+    };
+    Ok(text.ok())
+}
+
+// Appends the sample as a grid draws it by a configuration that is told the settings, and tells
+// whether there was memory for all of it.
+fn draw_by<A: Allocator, B: Allocator>(
+    (alloc, memory): (Global, A),
+    (grid, sample): (Grid, &Sample<'_>),
+    config: &mut SpannedConfig,
+    buf: &mut String<B>,
+) -> Result<bool, Fail> {
+    tell_all(config, alloc, sample.settings)?;
+    let parts = parts_of(alloc, sample)?;
+    draw_parts(memory, grid, &parts, config, buf)
+}
+
+/// Appends the sample as a grid draws it, and tells whether there was memory for all of it. The
+/// grid's own memory is `memory`.
+pub fn draw<A: Allocator, B: Allocator>(
+    alloc: Global,
+    memory: A,
+    (grid, sample): (Grid, &Sample<'_>),
+    buf: &mut String<B>,
+) -> Result<bool, Fail> {
+    let mut config = SpannedConfig::new(alloc);
+    let is_whole = draw_by((alloc, memory), (grid, sample), &mut config, buf);
+    drop(config);
+    is_whole
+}
+
+/// Appends the sample as the compact grid draws it by this configuration, whatever the sample is told,
+/// and tells whether there was memory for all of it.
+pub fn draw_compact<A: Allocator>(
+    alloc: Global,
+    sample: &Sample<'_>,
+    config: &CompactConfig,
+    buf: &mut String<A>,
+) -> Result<bool, Fail> {
+    let records = records(alloc, sample.texts)?;
+    let dimension = dimension(alloc, sample)?;
+    compact_fits(config, &dimension, (&records).count_columns())?;
+    let grid = CompactGrid::new(records, config, &dimension, NoColors);
+    Ok(grid.build(buf).is_ok())
+}
+
+// The text of the sample, as a grid gives it by a configuration that is told the settings.
+fn text_by<A: Allocator + Copy>(
+    (alloc, memory): (Global, A),
+    (grid, sample): (Grid, &Sample<'_>),
+    config: &mut SpannedConfig,
+) -> Result<Option<String<A>>, Fail> {
+    tell_all(config, alloc, sample.settings)?;
+    let parts = parts_of(alloc, sample)?;
+    text_of_parts(memory, grid, &parts, config)
+}
+
+/// The text of the sample, as a grid gives it where there is memory for all of it. The memory of the
+/// text and of the grid is `memory`.
+pub fn text_of<A: Allocator + Copy>(
+    alloc: Global,
+    memory: A,
+    drawn: (Grid, &Sample<'_>),
+) -> Result<Option<String<A>>, Fail> {
+    let mut config = SpannedConfig::new(alloc);
+    let text = text_by((alloc, memory), drawn, &mut config);
+    drop(config);
+    text
+}
+
+/// The grid gives this text, and appends it.
+pub fn assert_drawn_by(
+    rt: &impl Abort,
+    alloc: Global,
+    (grid, sample): (Grid, &Sample<'_>),
+    text: &str,
+) -> Result<(), Fail> {
+    let mut buf = String::from_str(alloc, "log:")?;
+    assert!(rt; draw(alloc, alloc, (grid, sample), &mut buf)?);
+    assert_eq!(rt; buf.as_str().strip_prefix("log:"), Some(text));
+    assert_eq!(rt;
+        text_of(alloc, alloc, (grid, sample))?.as_deref(),
+        Some(text)
+    );
+    Ok(())
+}
+
+/// Each grid gives this text, and appends it: the looked-up one, and the streaming one with the
+/// number of rows and without it.
+pub fn assert_drawn(
+    rt: &impl Abort,
+    alloc: Global,
+    sample: &Sample<'_>,
+    text: &str,
+) -> Result<(), Fail> {
+    for grid in [Grid::Peekable, Grid::Hinted, Grid::Unhinted] {
+        assert_drawn_by(rt, alloc, (grid, sample), text)?;
+    }
+    Ok(())
+}
+
+/// Of one text in a cell of this width and height each grid gives this text, and appends it.
+pub fn assert_cell(
+    rt: &impl Abort,
+    alloc: Global,
+    (cell, width, height): (&str, usize, usize),
+    (settings, text): (&[Setting], &str),
+) -> Result<(), Fail> {
+    let sample = Sample {
+        texts: &[&[cell]],
+        widths: &[width],
+        heights: &[height],
+        settings,
+    };
+    assert_drawn(rt, alloc, &sample, text)
+}

@@ -1,0 +1,9 @@
+-- What only bodies and their proofs need: no contract of a call from outside stands on it.
+pub mod Drawing
+pub mod Slots
+pub mod Turns
+pub mod SingleRows
+pub mod Styles
+pub mod Told
+pub mod Frames
+pub mod Held

@@ -1,0 +1,88 @@
+-- What is drawn of open cells: lines of a row, and separators.
+use Rattle.std.specs.Prelude.{◌≡◌, ℕ, ◌+◌, ◌<◌, Bool, ◌&&◌, ◌==◌, nat_lt, List, [], ◌∷◌, ◌++◌, map, flat_map, replicate, slice_index_or, Option, Some, None, if◌then◌else◌}
+use Rattle.std.specs.List.{range_with_len}
+use Rattle.pg_layout.specs.Position.{at}
+use Rattle.pg_layout.specs.Text.{Text, greatest}
+use Rattle.pg_config.specs.Config.{Config, has_horizontal, get_horizontal}
+use Rattle.pg_config.specs.Spans.{Span, rect_columns}
+use Rattle.pg_picture.specs.Joined.{continued}
+use Rattle.pg_picture.specs.Inside.Following.{feed_before}
+use Rattle.pg_picture.specs.Pieces.{Piece, Item, block, written, separator_text}
+use Rattle.pg_picture.specs.Table.{Table, vertical, crossing_at, border_items, side_margin_at, margin_line}
+use Rattle.pg_stream.specs.Placed.{Placed, slot_of, draw_cell}
+use Rattle.pg_stream.specs.Inside.Slots.{slot_block}
+
+-- ---- a line of a row
+
+-- an open cell of column x adds the vertical left of it and its next line, and a column without one adds nothing
+abbrev pub cell_part : Table → Option Placed → ℕ → ℕ → ℕ → List Piece
+cell_part t None r i x = []
+cell_part t (Some cell) r i x = vertical t r i x ++ slot_block t (slot_of (Some cell)) x
+
+unfoldable pub open_part : Table → List (Option Placed) → ℕ → ℕ → ℕ → List Piece
+open_part t cells r i x = cell_part t (slice_index_or cells x None) r i x
+
+-- line i of row r: of all columns, and the vertical behind the last one
+unfoldable pub open_line : Table → List (Option Placed) → ℕ → ℕ → List Piece
+open_line t cells r i = flat_map (open_part t cells r i) (range_with_len 0 t.columns) ++ vertical t r i t.columns
+
+-- ---- a separator
+
+-- where the cell of column x ends
+abbrev pub column_end : List Span → Option Placed → ℕ → ℕ
+column_end spans None x = 0
+column_end spans (Some cell) x = x + rect_columns spans (at cell.begun x)
+
+-- where the open cells of the first x columns end
+unfoldable pub reach : List Span → List (Option Placed) → ℕ → ℕ
+reach spans cells x = greatest (map (λ y. column_end spans (slice_index_or cells y None) y) (range_with_len 0 x))
+
+-- the line of an open cell, or the horizontal
+abbrev pub cell_items : Table → ℕ → Option Placed → ℕ → ℕ → List Item
+cell_items t rows None r x = border_items t.config (at r x) rows (t.width x) (get_horizontal t.config (at r x) rows)
+cell_items t rows (Some cell) r x = block (slot_block t (slot_of (Some cell)) x) ∷ []
+
+-- the crossing left of column x, and what the column shows; nothing inside a cell that begins further left
+unfoldable pub open_separator_part : Table → ℕ → List (Option Placed) → ℕ → ℕ → List Item
+open_separator_part t rows cells r x =
+    if nat_lt x (reach t.config.spans cells x) then []
+    else crossing_at t.config rows t.columns (at r x) ++ cell_items t rows (slice_index_or cells x None) r x
+
+-- the separator above row r of so many rows, and the crossing behind the last column
+unfoldable pub open_separator : Table → ℕ → List (Option Placed) → ℕ → List Item
+open_separator t rows cells r = flat_map (open_separator_part t rows cells r) (range_with_len 0 t.columns) ++ crossing_at t.config rows t.columns (at r t.columns)
+
+-- no cell spans others, and this is the text of the separator above each row but the first
+abbrev pub IsSeparator : Table → Text → Type 0
+IsSeparator t text = (t.config.spans ≡ []) × ((r : ℕ) → 0 < r → text ≡ separator_text (open_separator t (r + 1) (replicate t.columns None) r))
+
+-- ---- lines of the body
+
+-- a line of the body after its line feed, unless it is the picture's first, and between its margins
+unfoldable pub line_at : Config → Option ℕ → Bool → ℕ → Text → Text
+line_at config height is_first i text =
+    feed_before (is_first && (i == 0))
+    ++ (written (side_margin_at height config.margin.left config.margin_offset.left config.margin_color.left i)
+    ++ (text ++ written (side_margin_at height config.margin.right config.margin_offset.right config.margin_color.right i)))
+
+-- line i of a row whose lines begin at line `index` of the body
+unfoldable pub open_line_at : Table → Option ℕ → Bool → List (Option Placed) → ℕ → ℕ → ℕ → Text
+open_line_at t height is_first cells r index i = line_at t.config height is_first (index + i) (written (open_line t (map (draw_cell i) cells) r i))
+
+-- the first n lines
+unfoldable pub open_lines : Table → Option ℕ → Bool → List (Option Placed) → ℕ → ℕ → ℕ → Text
+open_lines t height is_first cells r index n = flat_map (open_line_at t height is_first cells r index) (range_with_len 0 n)
+
+-- the separator above row r, where it is there, as line `index` of the body
+unfoldable pub above_text : Table → Option ℕ → Bool → List (Option Placed) → ℕ → ℕ → Text
+above_text t height is_first cells r index =
+    if has_horizontal t.config r (r + 1) then line_at t.config height is_first index (separator_text (open_separator t (r + 1) cells r)) else []
+
+-- the separator below the last of so many rows
+unfoldable pub below_text : Table → Option ℕ → Bool → List (Option Placed) → ℕ → ℕ → Text
+below_text t height is_first cells rows index =
+    if has_horizontal t.config rows rows then line_at t.config height is_first index (separator_text (open_separator t rows cells rows)) else []
+
+-- the lines of the top margin, w columns wide, which stand above row 0
+unfoldable pub top_text : Config → ℕ → ℕ → Text
+top_text config w rows = if rows == 0 then continued 0 (replicate config.margin.top.size (written (margin_line config.margin.top config.margin_offset.top config.margin_color.top w))) else []

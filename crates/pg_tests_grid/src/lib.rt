@@ -1,0 +1,18 @@
+//! Worked tables of cells that span others, rows that come by an iterator, checked calls, and refused
+//! memory.
+#![tactic(auto)]
+
+#[cfg(test)]
+mod checked;
+#[cfg(test)]
+mod counted;
+#[cfg(test)]
+mod given;
+#[cfg(test)]
+mod printing;
+#[cfg(test)]
+mod refusals;
+#[cfg(test)]
+mod span_fits;
+#[cfg(test)]
+mod spans;
