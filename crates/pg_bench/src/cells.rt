@@ -1,7 +1,8 @@
 //! Tables of cells in one row and one column.
 
+use crate::drawn::{assert_cell, assert_drawn};
 use pg_layout::{AlignmentHorizontal, AlignmentVertical, Borders, Entity};
-use pg_samples::drawing::{FOUR, FOUR_TEXT, Sample, assert_cell, assert_drawn};
+use pg_samples::drawing::{FOUR, FOUR_TEXT, Sample};
 use pg_samples::settings::Setting;
 use std::alloc::Global;
 use std::process::Abort;

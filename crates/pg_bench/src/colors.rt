@@ -1,7 +1,8 @@
 //! Tables with glyphs and colours of their own.
 
+use crate::drawn::{assert_cell, assert_drawn};
 use pg_layout::{AlignmentHorizontal, Border, Borders, Entity, Indent, Offset, Position, Sides};
-use pg_samples::drawing::{FOUR, Sample, assert_cell, assert_drawn};
+use pg_samples::drawing::{FOUR, Sample};
 use pg_samples::settings::{Paint, Setting};
 use std::alloc::Global;
 use std::process::Abort;

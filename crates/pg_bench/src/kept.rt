@@ -1,7 +1,8 @@
 //! Tables of whose lines something is kept: long separators, and tall cells in far columns.
 
+use crate::drawn::assert_drawn;
 use pg_layout::Position;
-use pg_samples::drawing::{Sample, assert_drawn};
+use pg_samples::drawing::Sample;
 use pg_samples::settings::Setting;
 use std::alloc::{AllocError, Allocator, Global};
 use std::process::Abort;

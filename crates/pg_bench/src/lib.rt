@@ -1,5 +1,4 @@
-//! Worked tables of cells side by side: what the printers answer, against texts that were drawn by
-//! hand.
+//! Worked tables of both spanned grids: what they answer, against texts that were drawn by hand.
 #![tactic(auto)]
 
 #[cfg(test)]
@@ -9,10 +8,14 @@ mod colors;
 #[cfg(test)]
 mod conditions;
 #[cfg(test)]
+mod drawn;
+#[cfg(test)]
 mod huge;
 #[cfg(test)]
 mod kept;
 #[cfg(test)]
 mod margins;
+#[cfg(test)]
+mod spans;
 #[cfg(test)]
 mod texts;

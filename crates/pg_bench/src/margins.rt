@@ -1,7 +1,8 @@
 //! Tables with something round them.
 
+use crate::drawn::{assert_cell, assert_drawn, assert_drawn_by};
 use pg_layout::{Indent, Offset, Position, Sides};
-use pg_samples::drawing::{Grid, Sample, assert_cell, assert_drawn, assert_drawn_by};
+use pg_samples::drawing::{Grid, Sample};
 use pg_samples::settings::{Paint, Setting};
 use std::alloc::Global;
 use std::process::Abort;

@@ -1,8 +1,8 @@
 //! Texts of several lines, trimmed and aligned.
 
+use crate::drawn::assert_cell;
 use pg_layout::{AlignmentHorizontal, AlignmentVertical, Entity, Indent, Sides};
 use pg_picture::count_empty_lines;
-use pg_samples::drawing::assert_cell;
 use pg_samples::settings::Setting;
 use std::alloc::Global;
 use std::process::Abort;

@@ -8,7 +8,6 @@ use pg_grid::{CompactGrid, IterGrid, PeekableGrid};
 use pg_layout::{ColorsMap, ConstantDimension, NoColors, Records, VecRecords};
 use pg_picture::fits::{compact_fits, table_fits};
 use std::alloc::{AllocError, Allocator, Global};
-use std::process::Abort;
 use std::test::Fail;
 
 /// The texts of a table, the widths of its columns, the heights of its rows, and what it is told.
@@ -252,51 +251,4 @@ pub fn text_of<A: Allocator + Copy>(
     let text = text_by((alloc, memory), drawn, &mut config);
     drop(config);
     text
-}
-
-/// The grid gives this text, and appends it.
-pub fn assert_drawn_by(
-    rt: &impl Abort,
-    alloc: Global,
-    (grid, sample): (Grid, &Sample<'_>),
-    text: &str,
-) -> Result<(), Fail> {
-    let mut buf = String::from_str(alloc, "log:")?;
-    assert!(rt; draw(alloc, alloc, (grid, sample), &mut buf)?);
-    assert_eq!(rt; buf.as_str().strip_prefix("log:"), Some(text));
-    assert_eq!(rt;
-        text_of(alloc, alloc, (grid, sample))?.as_deref(),
-        Some(text)
-    );
-    Ok(())
-}
-
-/// Each grid gives this text, and appends it: the looked-up one, and the streaming one with the
-/// number of rows and without it.
-pub fn assert_drawn(
-    rt: &impl Abort,
-    alloc: Global,
-    sample: &Sample<'_>,
-    text: &str,
-) -> Result<(), Fail> {
-    for grid in [Grid::Peekable, Grid::Hinted, Grid::Unhinted] {
-        assert_drawn_by(rt, alloc, (grid, sample), text)?;
-    }
-    Ok(())
-}
-
-/// Of one text in a cell of this width and height each grid gives this text, and appends it.
-pub fn assert_cell(
-    rt: &impl Abort,
-    alloc: Global,
-    (cell, width, height): (&str, usize, usize),
-    (settings, text): (&[Setting], &str),
-) -> Result<(), Fail> {
-    let sample = Sample {
-        texts: &[&[cell]],
-        widths: &[width],
-        heights: &[height],
-        settings,
-    };
-    assert_drawn(rt, alloc, &sample, text)
 }

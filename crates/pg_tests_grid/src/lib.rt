@@ -1,4 +1,4 @@
-//! Worked tables of cells that span others, rows that come by an iterator, checked calls, and refused
+//! Calls of the spanned grids: rows that come by an iterator, checked calls, conditions, refused
 //! memory.
 #![tactic(auto)]
 
@@ -14,5 +14,3 @@ mod printing;
 mod refusals;
 #[cfg(test)]
 mod span_fits;
-#[cfg(test)]
-mod spans;

@@ -1,7 +1,8 @@
 //! Tables with cells of several rows and columns.
 
+use crate::drawn::assert_drawn;
 use pg_layout::{AlignmentHorizontal, AlignmentVertical, Borders, Entity, Position};
-use pg_samples::drawing::{FOUR, SIXTEEN, Sample, assert_drawn};
+use pg_samples::drawing::{FOUR, SIXTEEN, Sample};
 use pg_samples::settings::{Paint, Setting};
 use std::test::Fail;
 
