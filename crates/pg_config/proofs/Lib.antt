@@ -9,6 +9,7 @@ mod FirstKeys
 mod TakenBack
 mod OverrideColumns
 mod KeptSpans
+mod Extents
 pub mod SettingsForAll
 mod CoveredPlaces
 pub mod SettingsLaw

@@ -2,6 +2,7 @@
 #![tactic(auto)]
 
 mod compact;
+mod extent;
 mod lines;
 mod noted_places;
 mod offsets;

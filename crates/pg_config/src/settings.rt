@@ -1,9 +1,11 @@
 //! Settings by entity: an answer is at most three searches, and a setter is one.
 
 ghost use Rattle.std.specs.Prelude.{◌≡◌, ℕ, suc, ◌<◌, ◌-◌, ◌^◌, Option, Some, None, option_map, OnOk, OnErr, IsOk, IsSome};
+ghost use Rattle.pg_layout.specs.Keys.{by_place};
 ghost use Rattle.pg_layout.specs.Places.{value_at, with_place};
 ghost use Rattle.pg_config.specs.Settings.{no_settings, latest, value_or, setting_of, with_setting, HasRoom, is_set, is_for_all};
 
+use crate::extent::Extent;
 use pg_layout::{Entity, Key, Places, Position};
 use std::alloc::{AllocError, Allocator, Global};
 use std::marker::Model;
@@ -18,19 +20,23 @@ pub struct Settings<V, A: Allocator = Global> {
     rows: Places<usize, (usize, V), A>,
     columns: Places<usize, (usize, V), A>,
     cells: Places<Position, (usize, V), A>,
+    // It has all cells.
+    extent: Extent,
     // The number of the next setting for a row, a column or a cell.
     next: usize,
 }
 
 impl<V, A: Allocator> Model for Settings<V, A> {
     ghost use Rattle.std.specs.Prelude.{◌≡◌};
+    ghost use Rattle.pg_layout.specs.Places.{Each};
     ghost use Rattle.pg_config.specs.Settings.{Settings as Parts, next_number};
+    ghost use Rattle.pg_config.specs.Inside.Extents.{HasCell};
 
     ghost Value = { Parts V };
 
     ghost view = { λ s. record { base = s.base; rows = s.rows; columns = s.columns; cells = s.cells } };
 
-    ghost invariant = { λ s. s.next ≡ next_number (record { base = s.base; rows = s.rows; columns = s.columns; cells = s.cells }) };
+    ghost invariant = { λ s. (s.next ≡ next_number (record { base = s.base; rows = s.rows; columns = s.columns; cells = s.cells })) × Each (HasCell s.extent) s.cells };
 }
 
 impl<V, A: Allocator + Copy> Settings<V, A> {
@@ -43,6 +49,7 @@ impl<V, A: Allocator + Copy> Settings<V, A> {
             rows: Places::new(alloc),
             columns: Places::new(alloc),
             cells: Places::new(alloc),
+            extent: Extent::none(),
             next: 0,
         }
     }
@@ -74,8 +81,18 @@ impl<V, A: Allocator> Settings<V, A> {
         ensures { option_map (λ x. x.now) result ≡ setting_of self.now pos }
     {
         let line = latest(self.rows.get(pos.row), self.columns.get(pos.col));
-        let cell = self.cells.get(pos);
-        value_or(&self.base, latest(cell, line))
+        value_or(&self.base, latest(self.of_cell(pos), line))
+    }
+
+    // That of the cell alone. Most places lie outside of the rows and columns where cells have one.
+    #[inline(always)]
+    fn of_cell(&self, pos: Position) -> Option<&(usize, V)>
+        ensures { option_map (λ x. x.now) result ≡ value_at by_place pos self.now.cells }
+    {
+        if self.extent.holds(pos) {
+            return self.cells.get(pos);
+        }
+        None
     }
 
     /// Whether something was set.
@@ -112,6 +129,7 @@ impl<V: Drop, A: Allocator> Settings<V, A> {
                 self.rows.clear();
                 self.columns.clear();
                 self.cells.clear();
+                self.extent = Extent::none();
                 self.next = 0;
                 Ok(())
             }
@@ -119,7 +137,9 @@ impl<V: Drop, A: Allocator> Settings<V, A> {
             Entity::Column(col) => set_next(&mut self.columns, &mut self.next, col, value),
             Entity::Cell(row, col) => {
                 let pos = Position { row, col };
-                set_next(&mut self.cells, &mut self.next, pos, value)
+                set_next(&mut self.cells, &mut self.next, pos, value)?;
+                self.extent = self.extent.with_rows(row, row, col);
+                Ok(())
             }
         }
     }

@@ -9,6 +9,7 @@ ghost use Rattle.pg_layout.specs.Places.{IsAscending, value_at, before, between,
 ghost use Rattle.pg_config.specs.declared.spans.SpanSize.{SpanSize};
 ghost use Rattle.pg_config.specs.Spans.{Span, span_size, size_of, with_size, with_column_span, with_row_span, has_column_spans, has_row_spans, in_span, if_left, left_span, is_covered_by_column, is_covered_by_row, is_covered_by_both, is_covered_from, is_covered_from_left};
 
+use crate::extent::Extent;
 use pg_layout::{ColumnPlace, Places, Position};
 use std::alloc::{AllocError, Allocator, Global};
 use std::collections::btree_map::Iter;
@@ -30,12 +31,21 @@ pub type Span = (ColumnPlace, SpanSize);
 #[derive(Debug, Drop)]
 pub struct Spans<A: Allocator = Global> {
     sizes: Places<ColumnPlace, SpanSize, A>,
+    // It has their places, and in their left columns all rows that they cover.
+    extent: Extent,
 }
 
 impl<A: Allocator> Model for Spans<A> {
+    ghost use Rattle.std.specs.Prelude.{List};
+    ghost use Rattle.pg_layout.specs.Places.{Each};
+    ghost use Rattle.pg_config.specs.Spans.{Span};
+    ghost use Rattle.pg_config.specs.Inside.Extents.{HasSpan};
+
     ghost Value = { List Span };
 
     ghost view = { λ s. s.sizes };
+
+    ghost invariant = { λ s. Each (HasSpan s.extent) s.sizes };
 }
 
 impl<A: Allocator> Spans<A> {
@@ -45,6 +55,7 @@ impl<A: Allocator> Spans<A> {
     {
         Spans {
             sizes: Places::new(alloc),
+            extent: Extent::none(),
         }
     }
 
@@ -90,8 +101,23 @@ impl<A: Allocator> Spans<A> {
     }
 
     /// How many rows and columns the rectangle of a place has.
+    #[inline(always)]
     #[tactic(auto, unfolding(crate::specs::Spans::size_of))]
     pub(crate) fn size(&self, pos: Position) -> SpanSize
+        ensures { result ≡ size_of self.now pos }
+    {
+        if self.extent.holds(pos) {
+            return self.find_size(pos);
+        }
+        SpanSize {
+            rows: 1,
+            columns: 1,
+        }
+    }
+
+    // The same by a search.
+    #[tactic(auto, unfolding(crate::specs::Spans::size_of))]
+    fn find_size(&self, pos: Position) -> SpanSize
         ensures { result ≡ size_of self.now pos }
     {
         match self.sizes.get(ColumnPlace::of(pos)) {
@@ -115,9 +141,15 @@ impl<A: Allocator> Spans<A> {
         let place = ColumnPlace::of(pos);
         if size.rows == 1 && size.columns == 1 {
             self.sizes.remove(place);
+            if self.sizes.is_empty() {
+                self.extent = Extent::none();
+            }
             return Ok(());
         }
-        self.sizes.set(place, size)
+        self.sizes.set(place, size)?;
+        let last = pos.row.saturating_add(size.rows.saturating_sub(1));
+        self.extent = self.extent.with_rows(pos.row, last, pos.col);
+        Ok(())
     }
 
     /// Makes the rectangle of a place so many columns wide. Where memory is refused, nothing changes.
@@ -167,7 +199,18 @@ impl<A: Allocator> Spans<A> {
     }
 
     /// The rectangle that holds a place and has its left column there, found by one search.
+    #[inline(always)]
     pub(crate) fn left_span(&self, pos: Position) -> Option<Span>
+        ensures { result ≡ left_span self.now pos.row pos.col }
+    {
+        if self.extent.holds(pos) {
+            return self.find_left_span(pos);
+        }
+        None
+    }
+
+    // The same by a search.
+    fn find_left_span(&self, pos: Position) -> Option<Span>
         ensures { result ≡ left_span self.now pos.row pos.col }
     {
         let (place, size) = self.sizes.last_up_to(ColumnPlace::of(pos))?;

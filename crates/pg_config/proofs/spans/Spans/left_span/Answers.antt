@@ -1,9 +1,10 @@
-use Rattle.std.proofs.Common.{ap, ◌∙◌}
-use Rattle.pg_layout.specs.Keys.{by_columns, column_place}
-use Rattle.pg_layout.specs.Places.{last_up_to}
-use Rattle.pg_config.specs.Spans.{if_left}
+use Rattle.std.proofs.Common.{◌<◌, ◌^◌, sym, subst, ◌∙◌, arith}
+use Rattle.pg_layout.specs.Places.{Each}
+use Rattle.pg_config.specs.Inside.Extents.{HasSpan}
+use Rattle.pg_config.proofs.Extents.{no-left_span-outside}
 use Rattle.pg_config.proofs.spans.Spans.left_span.Goals as goal
 
 pub returns : goal.returns
 returns g c =
-    c.if_left.ensures ∙ ap (λ span. if_left c.args.pos.row c.args.pos.col span) (c.in_ok-place.ensures ∙ ap (λ place. last_up_to by_columns place c.self.inside.sizes) c.of.ensures ∙ ap (λ spans. last_up_to by_columns (column_place c.args.pos) spans) c.self.view_is)
+    let fits : c.args.pos.row < 2 ^ 64 = omega (arith, c.well_formed) in
+    sym (no-left_span-outside c.self.inside.extent c.args.pos c.args.self.now fits (subst (Each (HasSpan c.self.inside.extent)) c.self.view_is c.self.invariant) (sym c.holds.ensures ∙ c.if-holds.false))
