@@ -53,7 +53,7 @@ module _ {K V : Type 0} (order : Order K) (P : K × V → Type 0) where
 pub spans-with_place : (e : Extent) (p : Position) (size : SpanSize) (ss : List Span) → Each (HasSpan e) ss → Each (HasSpan (with_rows p.row (last_row_of (column_place p, size)) p.col e)) (with_place by_columns (column_place p) size ss)
 spans-with_place e p size ss all =
     let wide = with_rows p.row (last_row_of (column_place p, size)) p.col e in
-    each-with_place by_columns (HasSpan wide) (column_place p) size ss (each-then (HasSpan e) (HasSpan wide) (λ s h. ((omega (arith, h), omega (arith, h)), (omega (arith, h), omega (arith, h)))) ss all) ((omega arith, omega arith), (omega arith, omega arith))
+    each-with_place by_columns (HasSpan wide) (column_place p) size ss (each-then (HasSpan e) (HasSpan wide) (λ s h. omega (arith, h)) ss all) (omega arith)
 
 pub no-size-outside : (e : Extent) (p : Position) (ss : List Span) → p.row < 2 ^ 64 → Each (HasSpan e) ss → in_extent e p ≡ false → value_at by_columns (column_place p) ss ≡ None
 no-size-outside e p [] fits all out = refl
@@ -76,7 +76,7 @@ module _ {X : Type 0} where
   pub cells-with_place : (e : Extent) (r c : ℕ) (x : X) (cells : List (Position × X)) → Each (HasCell e) cells → Each (HasCell (with_rows r r c e)) (with_place by_place (at r c) x cells)
   cells-with_place e r c x cells all =
       let wide = with_rows r r c e in
-      each-with_place by_place (HasCell wide) (at r c) x cells (each-then (HasCell e) (HasCell wide) (λ d h. ((omega (arith, h), omega (arith, h)), (omega (arith, h), omega (arith, h)))) cells all) ((omega arith, omega arith), (omega arith, omega arith))
+      each-with_place by_place (HasCell wide) (at r c) x cells (each-then (HasCell e) (HasCell wide) (λ d h. omega (arith, h)) cells all) (omega arith)
 
   pub no-cell-outside : (e : Extent) (p : Position) (cells : List (Position × X)) → Each (HasCell e) cells → in_extent e p ≡ false → value_at by_place p cells ≡ None
   no-cell-outside e p [] all out = refl
