@@ -1,5 +1,5 @@
 -- An iterator of arrays gives its rows, and each array its cells.
-use Rattle.std.proofs.Common.{◌≡◌, ℕ, List, [], ◌∷◌, map, length, All, IfSome, Option, Some, None, MatchOption, refl, ap, sym, ◌∙◌, subst}
+use Rattle.std.proofs.Common.{◌≡◌, ℕ, List, [], ◌∷◌, map, length, All, IfSome, Option, Some, None, sym, ◌∙◌, subst}
 use Rattle.std.specs.Iterator.{Count, IsFinite, at_most}
 use Rattle.std.specs.Array.Iter.{array_into_iter_items, array_steps}
 use Rattle.std.specs.declared.array.IntoIter.{IntoIter}

@@ -81,10 +81,18 @@ impl Default for ANSIStr<'_> {
 }
 
 /// A colour of two owned texts.
-#[derive(Debug, Drop)]
+#[derive(Debug)]
 pub struct ANSIBuf<A: Allocator = Global> {
     prefix: String<A>,
     suffix: String<A>,
+}
+
+// Written out, so that a caller's proof has one call where it lets a colour go.
+impl<A: Allocator> Drop for ANSIBuf<A> {
+    fn drop(self) {
+        let ANSIBuf { prefix, suffix } = self;
+        drop((prefix, suffix));
+    }
 }
 
 impl<A: Allocator> Model for ANSIBuf<A> {

@@ -39,13 +39,21 @@ impl<D: Dimension> Dimension for &D {
 
 /// The widths of the columns and the heights of the rows, and 0 past their ends: a row past the end
 /// of the heights is no line high. Where the rows aren't counted before, take [`EvenDimension`].
-#[derive(Debug, Drop)]
+#[derive(Debug)]
 pub struct ConstantDimension<A: Allocator = Global>(
     /// The widths of the columns, in terminal columns.
     pub Vec<usize, A>,
     /// The heights of the rows, in lines.
     pub Vec<usize, A>,
 );
+
+// Written out, so that a caller's proof has one call where it lets the sizes go.
+impl<A: Allocator> Drop for ConstantDimension<A> {
+    fn drop(self) {
+        let ConstantDimension(widths, heights) = self;
+        drop((widths, heights));
+    }
+}
 
 impl<A: Allocator> Dimension for ConstantDimension<A> {
     ghost width = { λ d column. slice_index_or d.0.items column 0 };
@@ -65,12 +73,20 @@ impl<A: Allocator> Dimension for ConstantDimension<A> {
 ///
 /// It is for a table whose number of rows isn't known, as for rows that come one at a time: past the
 /// end of its heights a [`ConstantDimension`] answers 0, so further rows would fit and show nothing.
-#[derive(Debug, Drop)]
+#[derive(Debug)]
 pub struct EvenDimension<A: Allocator = Global> {
     /// The widths of the columns, in terminal columns.
     pub widths: Vec<usize, A>,
     /// The height of each row, in lines.
     pub height: usize,
+}
+
+// Written out, as that of [`ConstantDimension`].
+impl<A: Allocator> Drop for EvenDimension<A> {
+    fn drop(self) {
+        let EvenDimension { widths, height: _ } = self;
+        drop(widths);
+    }
 }
 
 impl<A: Allocator> Dimension for EvenDimension<A> {
