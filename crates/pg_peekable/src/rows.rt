@@ -224,7 +224,7 @@ where
         ensures { Appends buf.old buf.new result (written (block_line (style_at T.table.config pos) (T.table.color pos) (T.table.text pos) width 1 0)) }
     {
         let text = self.text_of(pos);
-        push_single_line(buf, style, self.color_of(pos), text, width)
+        push_single_line(buf, style, self.color_of(pos), text, false, width)
     }
 
     // Line `line` of a cell, whose text is read on from its last line where that is kept.

@@ -1,8 +1,9 @@
 //! The lines of a cell: its text lines, and the fills above and below them.
 
-ghost use Rattle.std.specs.Prelude.{◌≡◌, ◌+◌, ◌<◌, ◌≤◌, ◌++◌, [], ℕ, length, IfSome, IsSome, None, slice_index_or};
+ghost use Rattle.std.specs.Prelude.{◌≡◌, ◌+◌, ◌<◌, ◌≤◌, ◌++◌, [], ℕ, length, IfSome, IsSome, None, slice_index_or, true};
+ghost use Rattle.std.specs.List.{list_all};
 ghost use Rattle.pg_layout.specs.Colors.{lent_color};
-ghost use Rattle.pg_layout.specs.Text.{lines_of, width_of};
+ghost use Rattle.pg_layout.specs.Text.{lines_of, width_of, is_plain_byte};
 ghost use Rattle.pg_picture.specs.Appending.{Appends};
 ghost use Rattle.pg_picture.specs.Pieces.{written, fill, repeated, widest, trimmed_if, inner_width, line_with, block_line};
 ghost use Rattle.pg_picture.specs.Inside.Cells.{style_of, facts_of, place_of, share_of, line_if, line_parts, placed_line};
@@ -250,7 +251,8 @@ fn line_if(text: &str, line: Option<usize>) -> &str
     }
 }
 
-/// Appends the one line of a cell of so many columns and height 1.
+/// Appends the one line of a cell of so many columns and height 1. A text that is known to be plain
+/// ([`pg_layout::is_plain`]) isn't read for it.
 ///
 /// The cell has room: for the side paddings and the widest line, and for the top padding. An error
 /// comes only where the buffer's room is too small; the buffer then holds a beginning.
@@ -260,14 +262,16 @@ pub fn push_single_line<C: ANSIFmt, B: Allocator, A: Allocator>(
     style: &CellStyle<'_, B>,
     color: Option<&C>,
     text: &str,
+    is_plain: bool,
     width: usize,
 ) -> Result<(), AllocError>
     requires width { style.now.padding.left.size + style.now.padding.right.size + widest style.now.formatting text.now ≤ width }
     requires height { style.now.padding.top.size ≤ 1 }
+    requires plain { is_plain ≡ true → list_all is_plain_byte text.now ≡ true }
     ensures { Appends buf.old buf.new result (written (block_line (style_of style.now) (lent_color C.color_of color.entry) text.now width 1 0)) }
 {
     if style.shows_texts_whole() {
-        if let Some(line_width) = single_line_width(text) {
+        if let Some(line_width) = single_line_width(text, is_plain) {
             return push_line_of_width(buf, style, color, text, line_width, None, width);
         }
     }

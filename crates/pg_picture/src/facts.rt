@@ -1,8 +1,8 @@
 //! What is known of a text before it is placed: its blank lines, its shown lines and its width.
 
-ghost use Rattle.std.specs.Prelude.{◌≡◌, ◌==◌, ◌&&◌, ◌+◌, ◌<◌, ◌∷◌, [], IfSome, length, map, not};
+ghost use Rattle.std.specs.Prelude.{◌≡◌, ◌==◌, ◌&&◌, ◌+◌, ◌<◌, ◌∷◌, [], IfSome, length, map, not, true};
 ghost use Rattle.std.specs.List.{list_all};
-ghost use Rattle.pg_layout.specs.Text.{lines_of, width_of, greatest, is_blank};
+ghost use Rattle.pg_layout.specs.Text.{lines_of, width_of, greatest, is_blank, is_plain_byte};
 ghost use Rattle.pg_layout.specs.Records.{text_at};
 ghost use Rattle.pg_picture.specs.Pieces.{trimmed_if};
 ghost use Rattle.pg_picture.specs.Inside.Cells.{with_line, empty_lines_of, facts_of};
@@ -97,19 +97,30 @@ fn line_facts(line: &str, formatting: Formatting) -> (bool, usize)
     (is_left_out, get_line_width(shown))
 }
 
-/// How many terminal columns a text takes that is one line; nothing where it has more lines.
+/// How many terminal columns a text takes that is one line; nothing where it has more lines. A text
+/// that is known to be plain isn't read.
 #[inline(always)]
-pub(crate) fn single_line_width(text: &str) -> Option<usize>
+pub(crate) fn single_line_width(text: &str, is_known: bool) -> Option<usize>
+    requires { is_known ≡ true → list_all is_plain_byte text.now ≡ true }
     ensures one { IfSome result (λ _. lines_of text.now ≡ text.now ∷ []) }
     ensures width { IfSome result (λ width. width ≡ width_of text.now) }
 {
-    if is_plain(text.as_bytes()) {
+    if is_plain_text(text, is_known) {
         return Some(text.len());
     }
     if has_no_feed(text.as_bytes()) {
         return Some(text.width());
     }
     None
+}
+
+// Whether a text is plain, which may be known.
+#[inline(always)]
+fn is_plain_text(text: &str, is_known: bool) -> bool
+    requires { is_known ≡ true → list_all is_plain_byte text.now ≡ true }
+    ensures { result ≡ list_all is_plain_byte text.now }
+{
+    is_known || is_plain(text.as_bytes())
 }
 
 // Whether no byte is a line feed.
@@ -153,7 +164,7 @@ impl TextFacts {
             ..
         } = formatting;
         if !horizontal_trim && !vertical_trim {
-            if let Some(widest) = single_line_width(text) {
+            if let Some(widest) = single_line_width(text, false) {
                 return TextFacts {
                     shown: 1,
                     skip: 0,

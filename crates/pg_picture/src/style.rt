@@ -1,17 +1,19 @@
 //! How a cell is drawn: what its table's configuration answers at its place.
 
-ghost use Rattle.std.specs.Prelude.{◌≡◌, ◌+◌, ◌≤◌, is_some};
+ghost use Rattle.std.specs.Prelude.{◌≡◌, ◌+◌, ◌≤◌, ◌&&◌, is_some};
+ghost use Rattle.std.specs.List.{list_all};
 ghost use Rattle.std.specs.Option.{ForSome};
 ghost use Rattle.pg_config.specs.Config.{has_one_style};
+ghost use Rattle.pg_layout.specs.Text.{is_plain_byte};
 ghost use Rattle.pg_picture.specs.Pieces.{style_at, inner_width};
 ghost use Rattle.pg_picture.specs.Inside.Cells.{style_of, shows_texts_whole};
 ghost use Rattle.pg_picture.specs.Fits.{cell_fits};
 ghost use Rattle.pg_picture.specs.Styles.{IsStyleOfAll};
 
-use crate::fits::text_fits;
+use crate::fits::{plain_text_fits, text_fits};
 use pg_config::SpannedConfig;
 use pg_layout::{
-    ANSIBuf, AlignmentHorizontal, AlignmentVertical, Formatting, Indent, Position, Sides,
+    ANSIBuf, AlignmentHorizontal, AlignmentVertical, Formatting, Indent, Position, Sides, is_plain,
 };
 use std::alloc::{Allocator, Global};
 
@@ -81,6 +83,16 @@ impl<'a, A: Allocator> CellStyle<'a, A> {
     {
         let trim = self.formatting.horizontal_trim;
         text_fits(text, &self.padding, trim, width, height)
+    }
+
+    /// Whether a text is plain ([`pg_layout::is_plain`]) and has room in such a cell, as
+    /// [`CellStyle::has_room`] says it.
+    #[inline(always)]
+    pub fn has_room_for_plain(&self, text: &str, width: usize, height: usize) -> bool
+        ensures { result ≡ (list_all is_plain_byte text.now && cell_fits (style_of self.now) text.now width height) }
+    {
+        let trim = self.formatting.horizontal_trim;
+        is_plain(text.as_bytes()) && plain_text_fits(text, &self.padding, trim, width, height)
     }
 
     // Whether line 0 of a cell is line 0 of its text, as it is.

@@ -7,6 +7,7 @@ ghost use Rattle.pg_layout.specs.Text.{Text};
 ghost use Rattle.pg_picture.specs.Appending.{Appends};
 ghost use Rattle.pg_stream.specs.Conditions.{AreRowsFrom, RowFits, RowsFit};
 ghost use Rattle.pg_stream.specs.Inside.Drawing.{IsSeparator};
+ghost use Rattle.pg_stream.specs.Inside.SingleRows.{ArePlain};
 ghost use Rattle.pg_stream.specs.Printers.{now_of, IsSoundAt};
 ghost use Rattle.pg_stream.specs.Printing.{frame_of, row_text, rows_text, finish_text, after_row};
 ghost use Rattle.pg_stream.specs.Inside.Told.{told_of};
@@ -36,13 +37,15 @@ pub(crate) struct Progress<S: AsStr, A: Allocator = Global> {
 impl<S: AsStr + Drop, A: Allocator> Progress<S, A> {
     // Prints the next row of the table of a frame, as `RowPrinter::row` does, and copies the separator
     // above it where it is kept: `kept` is handed on from row to row, and keeps the text of the separators
-    // above all rows but the first, if these are equal and it is short.
+    // above all rows but the first, if these are equal and it is short. `are_plain` where each text is known
+    // to be plain.
     #[inline(always)]
     pub(crate) fn push_row<'f, T, D, C, B, I, W>(
         &mut self,
         frame: &'f Frame<'f, D, C, B>,
         kept: &mut SeparatorKeeper<'_>,
         cells: I,
+        are_plain: bool,
         is_last: bool,
         buf: &mut String<W>,
     ) -> Result<(), AllocError>
@@ -56,7 +59,7 @@ impl<S: AsStr + Drop, A: Allocator> Progress<S, A> {
         requires is { told_of D.width D.height C.color frame.now ≡ T.told }
         requires can { I.can_next cells × IsFinite (I.remaining cells) }
         requires sound { IsSoundAt T.told frame.now self.old }
-        requires fits { (texts : List Text) × AlwaysGives (λ x y. S.text x ≡ y) I.next_gives cells texts × RowFits (now_of T.told self.old) texts is_last }
+        requires fits { (texts : List Text) × AlwaysGives (λ x y. S.text x ≡ y) I.next_gives cells texts × RowFits (now_of T.told self.old) texts is_last × (are_plain ≡ true → ArePlain T.told.columns texts) }
         requires kept { IfSome kept.old.text (IsSeparator (frame_of T.told)) }
         ensures sound { OnOk result (IsSoundAt T.told frame.now self.new) }
         ensures appends { (texts : List Text) → AlwaysGives (λ x y. S.text x ≡ y) I.next_gives cells texts → Appends buf.old buf.new result (row_text (now_of T.told self.old) texts is_last) }
@@ -73,7 +76,7 @@ impl<S: AsStr + Drop, A: Allocator> Progress<S, A> {
         let height = drawing.height_of(self.rows);
         let below = next + height;
         if drawing.draws_at_once(height) {
-            drawing.push_single_row(buf, is_first, next, self.rows, cells)?;
+            drawing.push_single_row(buf, is_first, next, self.rows, cells, are_plain)?;
             self.end_row(below, is_last);
             return Ok(());
         }
@@ -110,11 +113,11 @@ impl<S: AsStr + Drop, A: Allocator> Progress<S, A> {
         ensures after { OnOk result (now_of T.told self.new ≡ after_row (now_of T.told self.old) (map S.text cells.items) is_last) }
         ensures kept { IfSome kept.new.text (IsSeparator (frame_of T.told)) }
     {
-        if !self.fits(frame, &cells, is_last) {
+        let Some(are_plain) = self.plainness(frame, &cells, is_last) else {
             return Err(StreamFault::Row(self.rows));
-        }
+        };
         let cells = cells.into_iter();
-        self.push_row::<T, D, C, B, IntoIter<S, V>, W>(frame, kept, cells, is_last, buf)?;
+        self.push_row::<T, D, C, B, IntoIter<S, V>, W>(frame, kept, cells, are_plain, is_last, buf)?;
         Ok(())
     }
 
@@ -185,10 +188,10 @@ impl<S: AsStr + Drop, A: Allocator> Progress<S, A> {
         let mut kept = SeparatorKeeper::new(&mut room);
         let mut row = first;
         for next in rows {
-            self.push_row::<T, D, C, B, Cells, W>(frame, &mut kept, row, false, buf)?;
+            self.push_row::<T, D, C, B, Cells, W>(frame, &mut kept, row, false, false, buf)?;
             row = next;
         }
-        self.push_row::<T, D, C, B, Cells, W>(frame, &mut kept, row, true, buf)?;
+        self.push_row::<T, D, C, B, Cells, W>(frame, &mut kept, row, false, true, buf)?;
         self.push_end::<T, D, C, B, W>(frame, buf)
     }
 }

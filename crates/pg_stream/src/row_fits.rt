@@ -1,13 +1,16 @@
 //! Whether a row may be printed next.
 
-ghost use Rattle.std.specs.Prelude.{◌≡◌, ◌+◌, ◌^◌, ◌<◌, ◌≤◌, ◌↔◌, ◌-◌, ◌==◌, true, false, nat_lt, [], map, length, IfSome, IsTrue};
+ghost use Rattle.std.specs.Prelude.{◌≡◌, ◌+◌, ◌^◌, ◌<◌, ◌≤◌, ◌↔◌, ◌-◌, ◌==◌, true, false, nat_lt, [], map, length, Some, IfSome, IsSome, IsTrue};
+ghost use Rattle.std.specs.List.{list_all};
 ghost use Rattle.pg_layout.specs.Position.{is_at};
+ghost use Rattle.pg_layout.specs.Text.{is_plain_byte};
 ghost use Rattle.pg_config.specs.Spans.{owner, rect_rows, rect_columns, is_left, left_span};
 ghost use Rattle.pg_picture.specs.Fits.{cell_fits, spans_fit, spans_fit_columns};
 ghost use Rattle.pg_picture.specs.Marks.{marks_of_row};
 ghost use Rattle.pg_picture.specs.Pieces.{style_at};
 ghost use Rattle.pg_stream.specs.Conditions.{HasRoom, HaveRoom, RowFits};
 ghost use Rattle.pg_stream.specs.Printers.{printing, now_of, IsSoundAt};
+ghost use Rattle.pg_stream.specs.Inside.SingleRows.{ArePlain};
 ghost use Rattle.pg_stream.specs.Inside.Slots.{separator_height};
 ghost use Rattle.pg_stream.specs.Inside.Told.{told_of};
 
@@ -62,6 +65,52 @@ impl<S: AsStr, A: Allocator> Progress<S, A> {
         self.is_next(frame, cells.len(), is_last)
             && ends_spans(frame.config, self.rows, frame.columns, is_last)
             && frame.have_room(self.rows, cells)
+            && frame.counts_lines(self.rows, self.lines)
+    }
+
+    // Whether these cells may be printed as the next row, and then whether each text is known to be plain:
+    // such a row is read but once.
+    pub(crate) fn plainness<D, C, B>(
+        &self,
+        frame: &Frame<'_, D, C, B>,
+        cells: &[S],
+        is_last: bool,
+    ) -> Option<bool>
+    where
+        D: Dimension,
+        C: Colors,
+        B: Allocator,
+        requires { IsSoundAt (told_of D.width D.height C.color frame.now) frame.now self.now }
+        ensures fits { IsSome result ↔ RowFits (now_of (told_of D.width D.height C.color frame.now) self.now) (map S.text cells.now) is_last }
+        ensures plain { result ≡ Some true → ArePlain frame.now.columns (map S.text cells.now) }
+    {
+        if self.fits_plain(frame, cells, is_last) {
+            return Some(true);
+        }
+        if self.fits(frame, cells, is_last) {
+            return Some(false);
+        }
+        None
+    }
+
+    // Whether these cells may be printed as the next row, and each text is plain.
+    fn fits_plain<D, C, B>(
+        &self,
+        frame: &Frame<'_, D, C, B>,
+        cells: &[S],
+        is_last: bool,
+    ) -> bool
+    where
+        D: Dimension,
+        C: Colors,
+        B: Allocator,
+        requires { IsSoundAt (told_of D.width D.height C.color frame.now) frame.now self.now }
+        ensures fits { IsTrue result → RowFits (now_of (told_of D.width D.height C.color frame.now) self.now) (map S.text cells.now) is_last }
+        ensures plain { IsTrue result → ArePlain frame.now.columns (map S.text cells.now) }
+    {
+        self.is_next(frame, cells.len(), is_last)
+            && ends_spans(frame.config, self.rows, frame.columns, is_last)
+            && frame.have_plain_room(self.rows, cells)
             && frame.counts_lines(self.rows, self.lines)
     }
 
@@ -150,6 +199,36 @@ impl<'a, D: Dimension, C: Colors, B: Allocator> Frame<'a, D, C, B> {
         true
     }
 
+    // Whether each text of a row is plain and has room, where no cell spans others and all have one style
+    // that trims no line.
+    fn have_plain_room<S: AsStr>(&self, row: usize, cells: &[S]) -> bool
+        requires row { row + 1 < 2 ^ 64 }
+        requires whole { length cells.now ≡ self.now.columns }
+        ensures room { IsTrue result → HaveRoom (frame_table D.width D.height C.color self.now) row (map S.text cells.now) }
+        ensures plain { IsTrue result → ArePlain self.now.columns (map S.text cells.now) }
+    {
+        self.config.spans().is_empty() && self.are_plain(row, cells)
+    }
+
+    // The same where no cell spans others.
+    fn are_plain<S: AsStr>(&self, row: usize, cells: &[S]) -> bool
+        requires row { row + 1 < 2 ^ 64 }
+        requires plain { self.now.config.now.spans ≡ [] }
+        requires whole { length cells.now ≡ self.now.columns }
+        ensures room { IsTrue result → HaveRoom (frame_table D.width D.height C.color self.now) row (map S.text cells.now) }
+        ensures plain { IsTrue result → ArePlain self.now.columns (map S.text cells.now) }
+    {
+        let height = self.dimension.get_height(row);
+        for column in 0..self.columns {
+            let pos = Position::new(row, column);
+            let width = self.dimension.get_width(column);
+            if !self.is_plain_in_cell(cells[column].as_str(), pos, width, height) {
+                return false;
+            }
+        }
+        true
+    }
+
     // Whether a place in the left column of its owner has room, if it is its own owner.
     fn has_room_if_own(&self, span: Option<Span>, text: &str, pos: Position) -> bool
         requires spans { spans_fit_columns self.now.config.now.spans self.now.columns ≡ true }
@@ -188,6 +267,21 @@ impl<'a, D: Dimension, C: Colors, B: Allocator> Frame<'a, D, C, B> {
         match &self.all {
             Some(style) => style.has_room(text, width, height),
             None => cell_fits(text, self.config, pos, width, height),
+        }
+    }
+
+    // Whether a text is plain and has room in the cell at a place, where all cells have one style that trims
+    // no line.
+    #[inline(always)]
+    fn is_plain_in_cell(&self, text: &str, pos: Position, width: usize, height: usize) -> bool
+        ensures room { IsTrue result → cell_fits (style_at self.now.config.now pos) text.now width height ≡ true }
+        ensures plain { IsTrue result → list_all is_plain_byte text.now ≡ true }
+    {
+        match &self.all {
+            Some(style) => {
+                !style.formatting.horizontal_trim && style.has_room_for_plain(text, width, height)
+            }
+            None => false,
         }
     }
 

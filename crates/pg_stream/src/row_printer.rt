@@ -178,7 +178,7 @@ impl<'a, S: AsStr + Drop, D: Dimension, C: Colors, B: Allocator, A: Allocator> R
             mut progress,
         } = self;
         let mut kept = SeparatorKeeper::new(&mut []);
-        progress.push_row::<Brand, D, C, B, I, W>(&frame, &mut kept, cells, is_last, buf)?;
+        progress.push_row::<Brand, D, C, B, I, W>(&frame, &mut kept, cells, false, is_last, buf)?;
         Ok(RowPrinter { frame, progress })
     }
 

@@ -1,7 +1,8 @@
 //! The room of a cell.
 
-ghost use Rattle.std.specs.Prelude.{◌≡◌, ◌+◌, ◌-◌, ◌≤◌, SomeIff, map};
-ghost use Rattle.pg_layout.specs.Text.{lines_of, width_of, greatest};
+ghost use Rattle.std.specs.Prelude.{◌≡◌, ◌+◌, ◌-◌, ◌≤◌, ◌&&◌, SomeIff, map, nat_le, true};
+ghost use Rattle.std.specs.List.{list_all};
+ghost use Rattle.pg_layout.specs.Text.{lines_of, width_of, greatest, is_plain_byte};
 ghost use Rattle.pg_picture.specs.Pieces.{Style, style_at, trimmed_if};
 ghost use Rattle.pg_picture.specs.Fits.{cell_fits};
 
@@ -32,6 +33,30 @@ fn width_of_text(text: &str, trim: bool) -> usize
     text_width(text, trim)
 }
 
+// The same of a text that is plain.
+#[inline(always)]
+fn width_of_plain(text: &str, trim: bool) -> usize
+    requires { list_all is_plain_byte text.now ≡ true }
+    ensures { result ≡ greatest (map (λ line. width_of (trimmed_if trim line)) (lines_of text.now)) }
+{
+    if trim {
+        text_width(text, trim)
+    } else {
+        text.len()
+    }
+}
+
+// Whether a cell has room for so many columns beside its side paddings, and for its top padding.
+#[inline(always)]
+fn has_columns(padding: &Sides<Indent>, columns: usize, width: usize, height: usize) -> bool
+    ensures { result ≡ (nat_le ((padding.now.left.size + padding.now.right.size) + columns) width && nat_le padding.now.top.size height) }
+{
+    match inner_width(padding, width) {
+        Some(inner) => columns <= inner && padding.top.size <= height,
+        None => false,
+    }
+}
+
 /// Whether a cell of so many columns and lines has room for a text with these paddings, whose lines
 /// are trimmed or not.
 #[inline(always)]
@@ -45,13 +70,23 @@ pub(crate) fn text_fits(
 ) -> bool
     ensures { (style : Style) → style.padding ≡ padding.now → style.formatting.horizontal_trim ≡ trim → result ≡ cell_fits style text.now width height }
 {
-    if height == 0 {
-        return true;
-    }
-    match inner_width(padding, width) {
-        Some(inner) => padding.top.size <= height && width_of_text(text, trim) <= inner,
-        None => false,
-    }
+    height == 0 || has_columns(padding, width_of_text(text, trim), width, height)
+}
+
+/// The same of a text that is plain, and is read only to trim it.
+#[inline(always)]
+#[tactic(auto, unfolding(crate::specs::Fits::cell_fits, crate::specs::Pieces::widest))]
+pub(crate) fn plain_text_fits(
+    text: &str,
+    padding: &Sides<Indent>,
+    trim: bool,
+    width: usize,
+    height: usize,
+) -> bool
+    requires { list_all is_plain_byte text.now ≡ true }
+    ensures { (style : Style) → style.padding ≡ padding.now → style.formatting.horizontal_trim ≡ trim → result ≡ cell_fits style text.now width height }
+{
+    height == 0 || has_columns(padding, width_of_plain(text, trim), width, height)
 }
 
 /// Whether a cell of so many columns and lines has room for its side paddings beside its widest

@@ -1,8 +1,8 @@
 -- A row of one line in a table without spans, off the texts of its cells.
-use Rattle.std.specs.Prelude.{◌≡◌, ℕ, List, [], ◌++◌, flat_map, slice_index_or}
-use Rattle.std.specs.List.{range_with_len}
+use Rattle.std.specs.Prelude.{◌≡◌, ℕ, ◌<◌, true, List, [], ◌++◌, flat_map, slice_index_or}
+use Rattle.std.specs.List.{range_with_len, list_all}
 use Rattle.pg_layout.specs.Position.{at}
-use Rattle.pg_layout.specs.Text.{Text}
+use Rattle.pg_layout.specs.Text.{Text, is_plain_byte}
 use Rattle.pg_picture.specs.Pieces.{Piece, style_at, block_line}
 use Rattle.pg_picture.specs.Table.{Table, vertical}
 use Rattle.pg_stream.specs.Printing.{Printing}
@@ -19,3 +19,7 @@ single_part t k text x = vertical t k 0 x ++ block_line (style_at t.config (at k
 -- those of all columns, and the vertical behind the last one
 unfoldable pub single_line : Table → ℕ → List Text → List Piece
 single_line t k texts = flat_map (λ x. single_part t k (slice_index_or texts x []) x) (range_with_len 0 t.columns) ++ vertical t k 0 t.columns
+
+-- the texts of the first n columns are ASCII without line feeds
+abbrev pub ArePlain : ℕ → List Text → Type 0
+ArePlain n texts = (x : ℕ) → x < n → list_all is_plain_byte (slice_index_or texts x []) ≡ true

@@ -6,13 +6,13 @@ use Rattle.pg_layout.proofs.TextWidths.{width_of-plain, feed_place-plain}
 use Rattle.pg_picture.proofs.FactsOfTexts.{lines_of-unfed}
 use Rattle.pg_picture.proofs.facts.single_line_width.Goals as goal
 
-pub returns-then-is_plain : goal.returns-then-is_plain
-returns-then-is_plain c =
-    let plain : list_all is_plain_byte c.args.text.now ≡ true = ap (list_all is_plain_byte) (sym c.as_bytes.ensures.value) ∙ sym c.is_plain.ensures ∙ c.if-is_plain.true in
+pub returns-then-is_plain_text : goal.returns-then-is_plain_text
+returns-then-is_plain_text c =
+    let plain : list_all is_plain_byte c.args.text.now ≡ true = sym c.is_plain_text.ensures ∙ c.if-is_plain_text.true in
     record { one = lines_of-one c.args.text.now (feed_place-plain c.args.text.now plain); width = sym (width_of-plain c.args.text.now plain) }
 
 pub returns-then-has_no_feed : goal.returns-then-has_no_feed
 unfolding width_of
 returns-then-has_no_feed c =
-    let unfed : list_all (λ b. not (is_feed b)) c.args.text.now ≡ true = ap (list_all (λ b. not (is_feed b))) (sym c.as_bytes-2.ensures.value) ∙ sym c.has_no_feed.ensures ∙ c.if-has_no_feed.true in
+    let unfed : list_all (λ b. not (is_feed b)) c.args.text.now ≡ true = ap (list_all (λ b. not (is_feed b))) (sym c.as_bytes.ensures.value) ∙ sym c.has_no_feed.ensures ∙ c.if-has_no_feed.true in
     record { one = lines_of-unfed c.args.text.now unfed; width = c.width.ensures.value }

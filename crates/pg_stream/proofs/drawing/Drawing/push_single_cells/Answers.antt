@@ -1,7 +1,8 @@
-use Rattle.std.proofs.Common.{◌≡◌, ◌∙◌, [], slice_index_or, sym, ap, subst, arith}
+use Rattle.std.proofs.Common.{◌≡◌, ◌∙◌, true, [], slice_index_or, sym, ap, subst, arith}
+use Rattle.std.specs.List.{list_all}
 use Rattle.pg_layout.specs.declared.position.Position.{Position}
 use Rattle.pg_layout.specs.Position.{at}
-use Rattle.pg_layout.specs.Text.{Text}
+use Rattle.pg_layout.specs.Text.{Text, is_plain_byte}
 use Rattle.pg_picture.specs.Pieces.{written}
 use Rattle.pg_picture.specs.Table.{vertical}
 use Rattle.pg_picture.proofs.Appending.{Appends-text, Gained-none, Gained-text, Gained-more, gained-then, refused}
@@ -20,16 +21,23 @@ loop-column-init g c = λ texts gives. (gives, Gained-text (sym written-nil) (Ga
 
 pub returns-in_default : goal.returns-in_default
 returns-in_default g c = λ texts gives.
-    let (told, told_gives, whole, rooms) = c.requires.given in
+    let (told, told_gives, whole, rooms, plain) = c.requires.given in
     absurd (read-none g.S.AsStr.text g.I.Iterator.next_gives _ _ told c.loop-column.column (omega (arith, whole, c.loop-column-test.true)) (c.loop-column.invariant told told_gives).0 c.in_default.ensures.steps)
 
 pub push_single_cell-requires-clause-room : goal.push_single_cell-requires-clause-room
 push_single_cell-requires-clause-room g c =
     let t = frame_of g.T.Drawn.told in
-    let (texts, gives, whole, rooms) = c.requires.given in
+    let (texts, gives, whole, rooms, plain) = c.requires.given in
     let i = c.loop-column.column in
     let now = read-more g.S.AsStr.text g.I.Iterator.next_gives _ _ _ texts i (c.loop-column.invariant texts gives).0 c.in-Some.ensures.steps in
     subst (λ (text : Text). HasRoom t (at c.args.row i) text) (now.0 ∙ sym c.as_str.ensures) (rooms i (omega arith) (own-plain t c.requires.single.alone c.args.row i))
+
+pub push_single_cell-requires-clause-plain : goal.push_single_cell-requires-clause-plain
+push_single_cell-requires-clause-plain g c = λ known.
+    let (texts, gives, whole, rooms, plain) = c.requires.given in
+    let i = c.loop-column.column in
+    let now = read-more g.S.AsStr.text g.I.Iterator.next_gives _ _ _ texts i (c.loop-column.invariant texts gives).0 c.in-Some.ensures.steps in
+    subst (λ (text : Text). list_all is_plain_byte text ≡ true) (now.0 ∙ sym c.as_str.ensures) (plain known i (omega arith))
 
 pub returns-in_err-push_single_cell : goal.returns-in_err-push_single_cell
 returns-in_err-push_single_cell g c = λ texts gives.

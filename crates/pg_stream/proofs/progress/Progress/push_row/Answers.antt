@@ -79,7 +79,7 @@ push_single_row-requires-clause-single g c =
 pub push_single_row-requires-clause-given : goal.push_single_row-requires-clause-given
 push_single_row-requires-clause-given g c =
     let fits = c.requires.fits.2 in
-    (c.requires.fits.0, c.requires.fits.1, fits.whole, fits.rooms)
+    (c.requires.fits.0, c.requires.fits.1, fits.whole, fits.rooms, c.requires.fits.3)
 
 pub returns-in_err-push_single_row-clause-appends : goal.returns-in_err-push_single_row-clause-appends
 returns-in_err-push_single_row-clause-appends g c = λ texts gives.
