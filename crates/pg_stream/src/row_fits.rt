@@ -49,6 +49,7 @@ impl<'a, S: AsStr, D: Dimension, C: Colors, B: Allocator, A: Allocator> RowPrint
 impl<S: AsStr, A: Allocator> Progress<S, A> {
     // Whether these cells may be printed as the next row of the table of a frame, as `RowPrinter::fits`
     // tells.
+    #[inline(never)]
     pub(crate) fn fits<D, C, B>(
         &self,
         frame: &Frame<'_, D, C, B>,
@@ -70,6 +71,7 @@ impl<S: AsStr, A: Allocator> Progress<S, A> {
 
     // Whether these cells may be printed as the next row, and then whether each text is known to be plain:
     // such a row is read but once.
+    #[inline(always)]
     pub(crate) fn plainness<D, C, B>(
         &self,
         frame: &Frame<'_, D, C, B>,
@@ -94,6 +96,7 @@ impl<S: AsStr, A: Allocator> Progress<S, A> {
     }
 
     // Whether these cells may be printed as the next row, and each text is plain.
+    #[inline(always)]
     fn fits_plain<D, C, B>(
         &self,
         frame: &Frame<'_, D, C, B>,
@@ -142,6 +145,7 @@ fn agrees(hint: Option<usize>, row: usize, is_last: bool) -> bool
 }
 
 // Whether the rectangles end with a row, if it is the last one.
+#[inline(always)]
 fn ends_spans<B: Allocator>(
     config: &SpannedConfig<B>,
     row: usize,
@@ -201,6 +205,7 @@ impl<'a, D: Dimension, C: Colors, B: Allocator> Frame<'a, D, C, B> {
 
     // Whether each text of a row is plain and has room, where no cell spans others and all have one style
     // that trims no line.
+    #[inline(always)]
     fn have_plain_room<S: AsStr>(&self, row: usize, cells: &[S]) -> bool
         requires row { row + 1 < 2 ^ 64 }
         requires whole { length cells.now ≡ self.now.columns }
@@ -211,6 +216,7 @@ impl<'a, D: Dimension, C: Colors, B: Allocator> Frame<'a, D, C, B> {
     }
 
     // The same where no cell spans others.
+    #[inline(always)]
     fn are_plain<S: AsStr>(&self, row: usize, cells: &[S]) -> bool
         requires row { row + 1 < 2 ^ 64 }
         requires plain { self.now.config.now.spans ≡ [] }
