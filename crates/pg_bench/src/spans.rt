@@ -2,7 +2,7 @@
 
 use crate::drawn::assert_drawn;
 use pg_layout::{AlignmentHorizontal, AlignmentVertical, Borders, Entity, Position};
-use pg_samples::drawing::{FOUR, SIXTEEN, Sample};
+use pg_samples::drawing::{FOUR, RECTANGLE, RECTANGLE_TEXT, Sample};
 use pg_samples::settings::{Paint, Setting};
 use std::test::Fail;
 
@@ -16,31 +16,6 @@ const README: &str = "\
 +    Papergrid    +------------+----------------+-+
 |                 |Just like this                 |
 +-----------------+------------+----------------+-+";
-
-/// Sixteen cells, of which one has two rows and two columns, and its text in their middle.
-pub(crate) const RECTANGLE: Sample<'static> = Sample {
-    settings: &[
-        Setting::Ascii,
-        Setting::RowSpan(INNER, 2),
-        Setting::ColumnSpan(INNER, 2),
-        Setting::Horizontal(Entity::Cell(1, 1), AlignmentHorizontal::Center),
-        Setting::Vertical(Entity::Cell(1, 1), AlignmentVertical::Center),
-    ],
-    ..SIXTEEN
-};
-
-/// The picture of [`RECTANGLE`].
-pub(crate) const RECTANGLE_TEXT: &str = "\
-+---+---+---+---+
-|0-0|0-1|0-2|0-3|
-+---+---+---+---+
-|1-0|  123  |1-3|
-|   |  345  |   |
-+---+  555  +---+
-|2-0|  333  |2-3|
-+---+---+---+---+
-|3-0|3-1|3-2|3-3|
-+---+---+---+---+";
 
 #[test]
 fn a_text_of_four_lines_stands_in_a_rectangle(rt: HostRuntime) -> Result<(), Fail> {

@@ -5,7 +5,10 @@ ghost use Rattle.std.specs.Prelude.{◌≡◌};
 use crate::settings::{Setting, color, tell_all};
 use pg_config::{CompactConfig, SpannedConfig};
 use pg_grid::{CompactGrid, IterGrid, PeekableGrid};
-use pg_layout::{ColorsMap, ConstantDimension, NoColors, Records, VecRecords};
+use pg_layout::{
+    AlignmentHorizontal, AlignmentVertical, ColorsMap, ConstantDimension, Entity, NoColors,
+    Position, Records, VecRecords,
+};
 use pg_picture::fits::{compact_fits, table_fits};
 use std::alloc::{AllocError, Allocator, Global};
 use std::test::Fail;
@@ -47,6 +50,31 @@ pub const SIXTEEN: Sample<'static> = Sample {
     heights: &[1, 2, 1, 1],
     settings: &[Setting::Ascii],
 };
+
+/// Sixteen cells, of which one has two rows and two columns, and its text in their middle.
+pub const RECTANGLE: Sample<'static> = Sample {
+    settings: &[
+        Setting::Ascii,
+        Setting::RowSpan(Position { row: 1, col: 1 }, 2),
+        Setting::ColumnSpan(Position { row: 1, col: 1 }, 2),
+        Setting::Horizontal(Entity::Cell(1, 1), AlignmentHorizontal::Center),
+        Setting::Vertical(Entity::Cell(1, 1), AlignmentVertical::Center),
+    ],
+    ..SIXTEEN
+};
+
+/// The picture of [`RECTANGLE`].
+pub const RECTANGLE_TEXT: &str = "\
++---+---+---+---+
+|0-0|0-1|0-2|0-3|
++---+---+---+---+
+|1-0|  123  |1-3|
+|   |  345  |   |
++---+  555  +---+
+|2-0|  333  |2-3|
++---+---+---+---+
+|3-0|3-1|3-2|3-3|
++---+---+---+---+";
 
 /// Which grid draws a table.
 #[derive(Debug, Clone, Copy)]

@@ -1,9 +1,10 @@
 //! Tables drawn into a buffer while memory is refused.
 
-use crate::spans::{RECTANGLE, RECTANGLE_TEXT};
 use pg_config::CompactConfig;
 use pg_layout::{AlignmentHorizontal, Borders, Entity, Offset, Position};
-use pg_samples::drawing::{FOUR, FOUR_TEXT, Grid, SIXTEEN, Sample, draw, draw_compact, text_of};
+use pg_samples::drawing::{
+    FOUR, FOUR_TEXT, Grid, RECTANGLE, RECTANGLE_TEXT, SIXTEEN, Sample, draw, draw_compact, text_of,
+};
 use pg_samples::settings::{Paint, Setting};
 use pg_testing::refusing::Refusing;
 use std::alloc::{AllocError, Global};
