@@ -117,7 +117,9 @@ impl<S: AsStr + Drop, A: Allocator> Progress<S, A> {
             return Err(StreamFault::Row(self.rows));
         };
         let cells = cells.into_iter();
-        self.push_row::<T, D, C, B, IntoIter<S, V>, W>(frame, kept, cells, are_plain, is_last, buf)?;
+        self.push_row::<T, D, C, B, IntoIter<S, V>, W>(
+            frame, kept, cells, are_plain, is_last, buf,
+        )?;
         Ok(())
     }
 

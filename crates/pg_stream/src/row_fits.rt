@@ -97,12 +97,7 @@ impl<S: AsStr, A: Allocator> Progress<S, A> {
 
     // Whether these cells may be printed as the next row, and each text is plain.
     #[inline(always)]
-    fn fits_plain<D, C, B>(
-        &self,
-        frame: &Frame<'_, D, C, B>,
-        cells: &[S],
-        is_last: bool,
-    ) -> bool
+    fn fits_plain<D, C, B>(&self, frame: &Frame<'_, D, C, B>, cells: &[S], is_last: bool) -> bool
     where
         D: Dimension,
         C: Colors,
