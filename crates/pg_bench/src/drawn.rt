@@ -7,7 +7,7 @@ use std::process::Abort;
 use std::test::Fail;
 
 /// The grid gives this text, and appends it.
-pub fn assert_drawn_by(
+pub(crate) fn assert_drawn_by(
     rt: &impl Abort,
     alloc: Global,
     (grid, sample): (Grid, &Sample<'_>),
@@ -25,7 +25,7 @@ pub fn assert_drawn_by(
 
 /// Each grid gives this text, and appends it: the looked-up one, and the streaming one with the
 /// number of rows and without it.
-pub fn assert_drawn(
+pub(crate) fn assert_drawn(
     rt: &impl Abort,
     alloc: Global,
     sample: &Sample<'_>,
@@ -38,7 +38,7 @@ pub fn assert_drawn(
 }
 
 /// Of one text in a cell of this width and height each grid gives this text, and appends it.
-pub fn assert_cell(
+pub(crate) fn assert_cell(
     rt: &impl Abort,
     alloc: Global,
     (cell, width, height): (&str, usize, usize),
