@@ -5,7 +5,7 @@ ghost use Rattle.pg_picture.specs.declared.fault.PrintFault.{PrintFault};
 ghost use Rattle.pg_picture.specs.Printed.{print_fault_text};
 
 use crate::fits::Misfit;
-use std::alloc::AllocError;
+use std::alloc::{AllocError, AllocFailed};
 use std::error::Error;
 use std::fmt;
 
@@ -30,6 +30,14 @@ impl From<AllocError> for PrintFault {
     ghost from_gives = { λ _ fault. fault ≡ PrintFault.Memory };
 
     fn from(_error: AllocError) -> PrintFault {
+        PrintFault::Memory
+    }
+}
+
+impl<T: Drop> From<AllocFailed<T>> for PrintFault {
+    ghost from_gives = { λ _ fault. fault ≡ PrintFault.Memory };
+
+    fn from(_error: AllocFailed<T>) -> PrintFault {
         PrintFault::Memory
     }
 }

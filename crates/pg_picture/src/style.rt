@@ -1,6 +1,6 @@
 //! How a cell is drawn: what its table's configuration answers at its place.
 
-ghost use Rattle.std.specs.Prelude.{◌≡◌, ◌+◌, ◌≤◌, ◌&&◌, is_some};
+ghost use Rattle.std.specs.Prelude.{◌≡◌, ◌+◌, ◌≤◌, ◌&&◌, Some, is_some, true};
 ghost use Rattle.std.specs.List.{list_all};
 ghost use Rattle.std.specs.Option.{ForSome};
 ghost use Rattle.pg_config.specs.Config.{has_one_style};
@@ -10,10 +10,10 @@ ghost use Rattle.pg_picture.specs.Inside.Cells.{style_of, shows_texts_whole};
 ghost use Rattle.pg_picture.specs.Fits.{cell_fits};
 ghost use Rattle.pg_picture.specs.Styles.{IsStyleOfAll};
 
-use crate::fits::{plain_text_fits, text_fits};
+use crate::fits::plainness_with_room;
 use pg_config::SpannedConfig;
 use pg_layout::{
-    ANSIBuf, AlignmentHorizontal, AlignmentVertical, Formatting, Indent, Position, Sides, is_plain,
+    ANSIBuf, AlignmentHorizontal, AlignmentVertical, Formatting, Indent, Position, Sides,
 };
 use std::alloc::{Allocator, Global};
 
@@ -81,18 +81,19 @@ impl<'a, A: Allocator> CellStyle<'a, A> {
     pub fn has_room(&self, text: &str, width: usize, height: usize) -> bool
         ensures { result ≡ cell_fits (style_of self.now) text.now width height }
     {
-        let trim = self.formatting.horizontal_trim;
-        text_fits(text, &self.padding, trim, width, height)
+        self.plainness_with_room(text, width, height).is_some()
     }
 
-    /// Whether a text is plain ([`pg_layout::is_plain`]) and has room in such a cell, as
-    /// [`CellStyle::has_room`] says it.
+    /// Whether such a cell has room for a text, as [`CellStyle::has_room`] says it, and then whether the
+    /// text is known to be plain ([`pg_layout::is_plain`]). None is known to be where lines are trimmed,
+    /// or the cell has none.
     #[inline(always)]
-    pub fn has_room_for_plain(&self, text: &str, width: usize, height: usize) -> bool
-        ensures { result ≡ (list_all is_plain_byte text.now && cell_fits (style_of self.now) text.now width height) }
+    pub fn plainness_with_room(&self, text: &str, width: usize, height: usize) -> Option<bool>
+        ensures room { is_some result ≡ cell_fits (style_of self.now) text.now width height }
+        ensures plain { result ≡ Some true → list_all is_plain_byte text.now ≡ true }
     {
         let trim = self.formatting.horizontal_trim;
-        is_plain(text.as_bytes()) && plain_text_fits(text, &self.padding, trim, width, height)
+        plainness_with_room(text, &self.padding, trim, width, height)
     }
 
     // Whether line 0 of a cell is line 0 of its text, as it is.

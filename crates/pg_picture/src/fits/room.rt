@@ -1,6 +1,6 @@
 //! The room of a cell.
 
-ghost use Rattle.std.specs.Prelude.{◌≡◌, ◌+◌, ◌-◌, ◌≤◌, ◌&&◌, SomeIff, map, nat_le, true};
+ghost use Rattle.std.specs.Prelude.{◌≡◌, ◌+◌, ◌-◌, ◌≤◌, ◌&&◌, Some, SomeIff, false, is_some, map, nat_le, true};
 ghost use Rattle.std.specs.List.{list_all};
 ghost use Rattle.pg_layout.specs.Text.{lines_of, width_of, greatest, is_plain_byte};
 ghost use Rattle.pg_picture.specs.Pieces.{Style, style_at, trimmed_if};
@@ -22,28 +22,16 @@ fn inner_width(padding: &Sides<Indent>, width: usize) -> Option<usize>
 }
 
 // How many columns the widest line of a text takes, as `text_width` tells. It is told without a call
-// where the text is plain and isn't trimmed, as most are.
+// where the text is known to be plain and isn't trimmed, as most are.
 #[inline(always)]
-fn width_of_text(text: &str, trim: bool) -> usize
+fn width_of_text(text: &str, trim: bool, is_plain: bool) -> usize
+    requires { is_plain ≡ true → (trim ≡ false) × (list_all is_plain_byte text.now ≡ true) }
     ensures { result ≡ greatest (map (λ line. width_of (trimmed_if trim line)) (lines_of text.now)) }
 {
-    if !trim && is_plain(text.as_bytes()) {
+    if is_plain {
         return text.len();
     }
     text_width(text, trim)
-}
-
-// The same of a text that is plain.
-#[inline(always)]
-fn width_of_plain(text: &str, trim: bool) -> usize
-    requires { list_all is_plain_byte text.now ≡ true }
-    ensures { result ≡ greatest (map (λ line. width_of (trimmed_if trim line)) (lines_of text.now)) }
-{
-    if trim {
-        text_width(text, trim)
-    } else {
-        text.len()
-    }
 }
 
 // Whether a cell has room for so many columns beside its side paddings, and for its top padding.
@@ -58,35 +46,28 @@ fn has_columns(padding: &Sides<Indent>, columns: usize, width: usize, height: us
 }
 
 /// Whether a cell of so many columns and lines has room for a text with these paddings, whose lines
-/// are trimmed or not.
+/// are trimmed or not, and then whether the text is known to be plain and isn't trimmed.
 #[inline(always)]
 #[tactic(auto, unfolding(crate::specs::Fits::cell_fits, crate::specs::Pieces::widest))]
-pub(crate) fn text_fits(
+pub(crate) fn plainness_with_room(
     text: &str,
     padding: &Sides<Indent>,
     trim: bool,
     width: usize,
     height: usize,
-) -> bool
-    ensures { (style : Style) → style.padding ≡ padding.now → style.formatting.horizontal_trim ≡ trim → result ≡ cell_fits style text.now width height }
+) -> Option<bool>
+    ensures room { (style : Style) → style.padding ≡ padding.now → style.formatting.horizontal_trim ≡ trim → is_some result ≡ cell_fits style text.now width height }
+    ensures plain { result ≡ Some true → list_all is_plain_byte text.now ≡ true }
 {
-    height == 0 || has_columns(padding, width_of_text(text, trim), width, height)
-}
-
-/// The same of a text that is plain, and is read only to trim it.
-#[inline(always)]
-#[tactic(auto, unfolding(crate::specs::Fits::cell_fits, crate::specs::Pieces::widest))]
-pub(crate) fn plain_text_fits(
-    text: &str,
-    padding: &Sides<Indent>,
-    trim: bool,
-    width: usize,
-    height: usize,
-) -> bool
-    requires { list_all is_plain_byte text.now ≡ true }
-    ensures { (style : Style) → style.padding ≡ padding.now → style.formatting.horizontal_trim ≡ trim → result ≡ cell_fits style text.now width height }
-{
-    height == 0 || has_columns(padding, width_of_plain(text, trim), width, height)
+    if height == 0 {
+        return Some(false);
+    }
+    let is_plain = !trim && is_plain(text.as_bytes());
+    let columns = width_of_text(text, trim, is_plain);
+    if !has_columns(padding, columns, width, height) {
+        return None;
+    }
+    Some(is_plain)
 }
 
 /// Whether a cell of so many columns and lines has room for its side paddings beside its widest
@@ -105,5 +86,5 @@ pub fn cell_fits<A: Allocator>(
 {
     let padding = config.get_padding(pos);
     let trim = config.get_formatting(pos).horizontal_trim;
-    text_fits(text, &padding, trim, width, height)
+    plainness_with_room(text, &padding, trim, width, height).is_some()
 }
