@@ -58,6 +58,9 @@ impl<G: Drop, A: Allocator + Clone> Lines<G, A> {
 
     /// Gives the eight places round a cell the values of this border, or some of them where memory
     /// is refused.
+    ///
+    /// The row and the column of the place are below `usize::MAX`, which a comparison tells. Each
+    /// column of a crossing is listed, as in all `Overrides`.
     #[tactic(auto, unfolding(crate::specs::Overrides::with_border))]
     pub fn put_border(&mut self, pos: Position, border: Border<G>) -> Result<(), AllocError>
         requires row { pos.row < usize.MAX }
@@ -89,6 +92,9 @@ impl<A: Allocator + Clone> Lines<char, A> {
     ///
     /// Asks for room for the notes first, so that a line of more places than there is memory for is
     /// refused at once.
+    ///
+    /// There is a column, which a comparison tells. Each column of a crossing is listed, as in all
+    /// `Overrides`.
     #[tactic(auto, unfolding(crate::specs::Overrides::with_row_line))]
     pub fn put_row_line(
         &mut self,

@@ -61,7 +61,8 @@ impl<V, A: Allocator + Copy> Offsets<V, A> {
 }
 
 impl<V, A: Allocator> Offsets<V, A> {
-    /// The value of glyph `i` of `w`: counted from the start, else from the end.
+    /// The value of glyph `i` of `w`: counted from the start, else from the end. `i` is below `w`,
+    /// which a comparison tells.
     #[tactic(auto, unfolding(crate::specs::Offsets::lookup_offset))]
     #[inline(always)]
     pub fn lookup(&self, pos: Position, i: usize, w: usize) -> Option<&V>

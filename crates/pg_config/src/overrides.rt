@@ -103,8 +103,8 @@ impl<G: Drop, A: Allocator + Clone> Overrides<G, A> {
     /// Gives the eight places round a cell the values of this border. A value that it lacks leaves
     /// its place as it was.
     ///
-    /// Where memory is refused, nothing changes. The place is before the last row and the last
-    /// column that a `usize` counts.
+    /// Where memory is refused, nothing changes. The row and the column of the place are below
+    /// `usize::MAX`, which a comparison tells.
     pub fn set_border(&mut self, pos: Position, border: Border<G>) -> Result<(), AllocError>
         requires row { pos.row < usize.MAX }
         requires col { pos.col < usize.MAX }

@@ -54,7 +54,12 @@ impl Meaning {
     }
 }
 
-/// Records that an iterator of rows gives.
+/// Records that an iterator of rows gives. They are for who proves: the texts that they stand for are
+/// a ghost value, which a proof file picks, and whoever reads the records owes that the iterator gives
+/// these texts.
+///
+/// Without a proof, rows of an iterator go into a `RowStream` (`pg_stream`), and rows in memory into
+/// [`VecRecords`](crate::VecRecords).
 #[derive(Drop)]
 pub struct IterRecords<I> {
     iter: I,

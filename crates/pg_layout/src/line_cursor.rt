@@ -48,8 +48,9 @@ impl LineCursor {
     }
 
     /// The line at which the cursor stands, as a slice of the text, and a step to the next one; past
-    /// the last line `None`, and no step. The cursor must stand in the text: it does where it is new,
-    /// and where all its calls were given this text.
+    /// the last line `None`, and no step. The cursor must stand in the text, which
+    /// [`LineCursor::stands_in`] tells: it does where it is new, and where all its calls were given
+    /// this text.
     #[inline(always)]
     pub fn next_line<'a>(&mut self, text: &'a str) -> Option<&'a str>
         requires { StandsIn self.old text.now }

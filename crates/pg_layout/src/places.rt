@@ -130,7 +130,10 @@ impl<K: Key, V, A: Allocator> Places<K, V, A> {
         Some(found)
     }
 
-    /// The entries from one key on and up to another, in the order of their keys.
+    /// The entries whose keys stand from one key on to another, both among them, in the order of
+    /// their keys.
+    ///
+    /// The second key isn't before the first one, which a comparison tells.
     pub fn between(&self, from: K, to: K) -> Range<'_, K, V>
         requires { before K.order to from ≡ false }
         ensures all { result ≡ between K.order from to self.now }

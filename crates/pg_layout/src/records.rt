@@ -35,6 +35,10 @@ pub trait Records {
 
     /// The rows: an iterator that gives one iterator for each row, in order, and ends. Each of them
     /// gives the cells of its row, in order, and ends.
+    ///
+    /// The records may be read (`is_readable`). Records in memory always may. Of
+    /// [`IterRecords`](crate::IterRecords) no test tells it: it is for who proves what
+    /// [`IterRecords::new`](crate::IterRecords::new) says.
     fn iter_rows(self) -> Self::Rows
         requires { is_readable self }
         ensures { Gives (Gives (λ x y. Self.Cell.text x ≡ y) Self.Columns.can_next Self.Columns.next_gives Self.Columns.remaining) Self.Rows.can_next Self.Rows.next_gives Self.Rows.remaining result (texts self) };
@@ -59,35 +63,42 @@ pub trait ExactRecords: Records {
 
 /// Rows of cells that can be read at any place.
 ///
-/// The place that is asked for must lie in the table, and the line must be one of the text's.
+/// The place that is asked for must lie in the table: [`ExactRecords::count_rows`] tells how many
+/// rows there are, and [`Records::count_columns`] how many columns. The line must be one of the
+/// text's: [`PeekableRecords::count_lines`] tells how many there are.
 pub trait PeekableRecords: Records {
-    /// The text at a place in the table.
+    /// The text at a place in the table: its row is below `count_rows`, and its column below
+    /// `count_columns`.
     fn get_text(&self, pos: Position) -> &str
         requires row { pos.row < length (Self.texts self.now) }
         requires column { pos.col < Self.columns self.now }
         ensures { result.now ≡ text_at (Self.texts self.now) pos };
 
-    /// A line of the text at a place in the table, counted from 0.
+    /// A line of the text at a place in the table, counted from 0. The row is below `count_rows`, the
+    /// column below `count_columns`, and the line below `count_lines` of the place.
     fn get_line(&self, pos: Position, line: usize) -> &str
         requires row { pos.row < length (Self.texts self.now) }
         requires column { pos.col < Self.columns self.now }
         requires line { line < length (lines_of (text_at (Self.texts self.now) pos)) }
         ensures { result.now ≡ slice_index_or (lines_of (text_at (Self.texts self.now) pos)) line [] };
 
-    /// How many lines the text at a place in the table has.
+    /// How many lines the text at a place in the table has. The row is below `count_rows`, and the
+    /// column below `count_columns`.
     fn count_lines(&self, pos: Position) -> usize
         requires row { pos.row < length (Self.texts self.now) }
         requires column { pos.col < Self.columns self.now }
         ensures { result ≡ length (lines_of (text_at (Self.texts self.now) pos)) };
 
-    /// How many terminal columns a line of the text at a place in the table takes.
+    /// How many terminal columns a line of the text at a place in the table takes. The row is below
+    /// `count_rows`, the column below `count_columns`, and the line below `count_lines` of the place.
     fn get_line_width(&self, pos: Position, line: usize) -> usize
         requires row { pos.row < length (Self.texts self.now) }
         requires column { pos.col < Self.columns self.now }
         requires line { line < length (lines_of (text_at (Self.texts self.now) pos)) }
         ensures { result ≡ width_of (slice_index_or (lines_of (text_at (Self.texts self.now) pos)) line []) };
 
-    /// How many terminal columns the widest line of the text at a place in the table takes.
+    /// How many terminal columns the widest line of the text at a place in the table takes. The row
+    /// is below `count_rows`, and the column below `count_columns`.
     fn get_width(&self, pos: Position) -> usize
         requires row { pos.row < length (Self.texts self.now) }
         requires column { pos.col < Self.columns self.now }

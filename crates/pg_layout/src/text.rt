@@ -47,7 +47,8 @@ pub fn get_lines(text: &str) -> Lines<'_>
     Lines { rest: Some(text) }
 }
 
-/// A line of a text, counted from 0. The text has more lines than this.
+/// A line of a text, counted from 0. The text has more lines than this: [`count_lines`] tells how
+/// many.
 pub fn get_line(text: &str, line: usize) -> &str
     requires { line < length (lines_of text.now) }
     ensures { result.now ≡ slice_index_or (lines_of text.now) line [] }

@@ -21,7 +21,9 @@ use std::alloc::{AllocError, Allocator};
 /// justification or else the line's own left share, the line in its colour, what is left of the
 /// width, and the right padding. The line is written as it is, also where the style trims.
 ///
-/// The cell has room for all of them. An error comes only where the buffer's room is too small; the
+/// The cell has room for all of them. A cell with a line has it, where [`crate::fits::cell_fits`]
+/// holds of its text, for each line of the text, trimmed where the style trims, and with the `left`
+/// of its [`CellPlace`], or none. An error comes only where the buffer's room is too small; the
 /// buffer then holds a beginning.
 #[inline(always)]
 pub fn push_text_line<C: ANSIFmt, B: Allocator, A: Allocator>(
@@ -173,8 +175,9 @@ fn push_columns<A: Allocator>(buf: &mut String<A>, c: char, size: usize) -> Resu
 /// padding, a text line, or a line of the bottom padding. `line` is the one of the text's lines that
 /// [`CellPlace::text_line_at`] names, and any text where it names none.
 ///
-/// The cell has room for the line. An error comes only where the buffer's room is too small; the
-/// buffer then holds a beginning.
+/// Where a text line stands there, the cell has room for it: [`crate::fits::cell_fits`] of its text
+/// tells that. An error comes only where the buffer's room is too small; the buffer then holds a
+/// beginning.
 #[inline(always)]
 pub fn push_block_line_of<C: ANSIFmt, B: Allocator, A: Allocator>(
     buf: &mut String<A>,
@@ -217,10 +220,12 @@ fn push_padding<B: Allocator, A: Allocator>(
 }
 
 /// Appends line `i` of a cell of so many columns and lines: a line of the top padding, a line of its
-/// text, or a line of the bottom padding. `place` is that of the text in this cell.
+/// text, or a line of the bottom padding. `place` is that of the text in this cell, as
+/// [`CellPlace::of`] tells it.
 ///
-/// The cell has room: for the side paddings and the widest line, and for the top padding. An error
-/// comes only where the buffer's room is too small; the buffer then holds a beginning.
+/// The cell has room for the side paddings and the widest line, which [`crate::fits::cell_fits`]
+/// tells of a cell with a line. An error comes only where the buffer's room is too small; the buffer
+/// then holds a beginning.
 pub fn push_block_line<C: ANSIFmt, B: Allocator, A: Allocator>(
     buf: &mut String<A>,
     style: &CellStyle<'_, B>,
@@ -251,11 +256,12 @@ fn line_if(text: &str, line: Option<usize>) -> &str
     }
 }
 
-/// Appends the one line of a cell of so many columns and height 1. A text that is known to be plain
-/// ([`pg_layout::is_plain`]) isn't read for it.
+/// Appends the one line of a cell of so many columns and height 1. A text that is told to be plain
+/// isn't read for it: it is ASCII without line feeds, which [`pg_layout::is_plain`] tells.
 ///
-/// The cell has room: for the side paddings and the widest line, and for the top padding. An error
-/// comes only where the buffer's room is too small; the buffer then holds a beginning.
+/// The cell has room for the side paddings and the widest line, and for the top padding:
+/// [`crate::fits::cell_fits`] of height 1 tells it. An error comes only where the buffer's room is
+/// too small; the buffer then holds a beginning.
 #[inline(always)]
 pub fn push_single_line<C: ANSIFmt, B: Allocator, A: Allocator>(
     buf: &mut String<A>,

@@ -26,7 +26,7 @@ impl CellPlace {
     /// The place of a text with these facts, in a cell of so many columns and lines.
     ///
     /// The cell's width has room for the side paddings and the widest line, its height for the top
-    /// padding.
+    /// padding: [`crate::fits::cell_fits`] of the text tells it of a cell with a line.
     pub fn of<A: Allocator>(
         facts: TextFacts,
         style: &CellStyle<'_, A>,
@@ -49,7 +49,11 @@ impl CellPlace {
     }
 
     /// Which line of the text, counted from 0, stands at a line of the cell; nothing at a line that
-    /// is filled. The text has as many lines as are left out at its front and shown.
+    /// is filled.
+    ///
+    /// The lines that are left out at the front and those that are shown are at most `usize::MAX`
+    /// together: those of a text are, so a place that [`CellPlace::of`] made of its facts needs no
+    /// test.
     #[inline(always)]
     pub fn text_line_at(&self, line: usize) -> Option<usize>
         requires { self.now.skip + self.now.shown ≤ usize.MAX }

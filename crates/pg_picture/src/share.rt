@@ -6,7 +6,8 @@ ghost use Rattle.pg_picture.specs.Pieces.{shares, lines_above};
 use pg_layout::{AlignmentHorizontal, AlignmentVertical};
 
 /// How many of the columns that a text of `got` columns leaves free in `max` columns stand left of
-/// it, and how many right of it. The odd one of a centred text stands at its right.
+/// it, and how many right of it. The odd one of a centred text stands at its right. `got` is at most
+/// `max`, which a comparison tells.
 #[inline(always)]
 #[tactic(auto, unfolding(crate::specs::Pieces::shares))]
 pub fn calculate_indent(alignment: AlignmentHorizontal, got: usize, max: usize) -> (usize, usize)
@@ -22,7 +23,7 @@ pub fn calculate_indent(alignment: AlignmentHorizontal, got: usize, max: usize) 
 }
 
 /// How many of the `available` lines of a cell stand above its `real` lines of text. The odd one of
-/// a centred text stands below it.
+/// a centred text stands below it. `real` is at most `available`, which a comparison tells.
 #[inline(always)]
 #[tactic(auto, unfolding(crate::specs::Pieces::lines_above))]
 pub fn indent_from_top(alignment: AlignmentVertical, available: usize, real: usize) -> usize

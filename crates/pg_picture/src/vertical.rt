@@ -32,7 +32,8 @@ pub fn push_vertical<C: ANSIFmt, A: Allocator>(
 /// of the `height` lines of its row: the glyph set for that line, else the border's glyph, in the
 /// border's colour, else in the colour set for that line; nothing where no glyph stands.
 ///
-/// An error comes only where the buffer's room is too small; the buffer then holds a beginning.
+/// The line is below the height, which a comparison tells. An error comes only where the buffer's
+/// room is too small; the buffer then holds a beginning.
 #[inline(always)]
 pub fn push_vertical_at<B: Allocator, A: Allocator>(
     buf: &mut String<A>,

@@ -40,7 +40,8 @@ impl<A: Allocator> SpannedConfig<A> {
 
     /// Overrides the glyphs of the eight places round a cell by those that this border has.
     ///
-    /// The place is before the last row and the last column that a `usize` counts.
+    /// The row and the column of the place are below `usize::MAX`: a comparison tells it, and numbers
+    /// that are written out are.
     pub fn set_border(&mut self, pos: Position, border: Border<char>) -> Result<(), AllocError>
     where
         A: Clone,
@@ -166,7 +167,8 @@ impl<A: Allocator> SpannedConfig<A> {
         !has_overrides && !has_offsets
     }
 
-    /// How many row lines of a table of `rows` rows are there.
+    /// How many row lines of a table of `rows` rows are there. The rows are fewer than `usize::MAX`,
+    /// which a comparison tells.
     #[tactic(auto, unfolding(crate::specs::Config::count_horizontal))]
     pub fn count_horizontal(&self, rows: usize) -> usize
         requires { rows < usize.MAX }
@@ -177,7 +179,8 @@ impl<A: Allocator> SpannedConfig<A> {
             .count()
     }
 
-    /// How many column lines of a table of `columns` columns are there.
+    /// How many column lines of a table of `columns` columns are there. The columns are fewer than
+    /// `usize::MAX`, which a comparison tells.
     #[tactic(auto, unfolding(crate::specs::Config::count_vertical))]
     pub fn count_vertical(&self, columns: usize) -> usize
         requires { columns < usize.MAX }
@@ -206,7 +209,8 @@ impl<A: Allocator> SpannedConfig<A> {
 
     /// Overrides the colours of the eight places round a cell by those that this border has.
     ///
-    /// The place is before the last row and the last column that a `usize` counts.
+    /// The row and the column of the place are below `usize::MAX`: a comparison tells it, and numbers
+    /// that are written out are.
     pub fn set_border_color(
         &mut self,
         pos: Position,

@@ -25,8 +25,8 @@ impl<A: Allocator> SpannedConfig<A> {
         self.horizontal_chars.set(pos, offset, glyph)
     }
 
-    /// The glyph that was set for glyph `i` of the `w` columns of a horizontal: counted from its start,
-    /// else from its end.
+    /// The glyph that was set for glyph `i` of the `w` columns of a horizontal: counted from its
+    /// start, else from its end. `i` is below `w`, which a comparison tells.
     pub fn lookup_horizontal_char(&self, pos: Position, i: usize, w: usize) -> Option<char>
         requires { i < w }
         ensures { result ≡ lookup_offset self.now.horizontal_chars pos i w }
@@ -50,8 +50,8 @@ impl<A: Allocator> SpannedConfig<A> {
         self.horizontal_colors.set(pos, offset, color)
     }
 
-    /// The colour that was set for glyph `i` of the `w` columns of a horizontal: counted from its start,
-    /// else from its end.
+    /// The colour that was set for glyph `i` of the `w` columns of a horizontal: counted from its
+    /// start, else from its end. `i` is below `w`, which a comparison tells.
     pub fn lookup_horizontal_color(&self, pos: Position, i: usize, w: usize) -> Option<&ANSIBuf<A>>
         requires { i < w }
         ensures { option_map (λ x. x.now) result ≡ lookup_offset self.now.horizontal_colors pos i w }
@@ -76,7 +76,7 @@ impl<A: Allocator> SpannedConfig<A> {
     }
 
     /// The glyph that was set for glyph `i` of the `w` lines of a vertical: counted from its start,
-    /// else from its end.
+    /// else from its end. `i` is below `w`, which a comparison tells.
     #[inline(always)]
     pub fn lookup_vertical_char(&self, pos: Position, i: usize, w: usize) -> Option<char>
         requires { i < w }
@@ -102,7 +102,7 @@ impl<A: Allocator> SpannedConfig<A> {
     }
 
     /// The colour that was set for glyph `i` of the `w` lines of a vertical: counted from its start,
-    /// else from its end.
+    /// else from its end. `i` is below `w`, which a comparison tells.
     #[inline(always)]
     pub fn lookup_vertical_color(&self, pos: Position, i: usize, w: usize) -> Option<&ANSIBuf<A>>
         requires { i < w }

@@ -41,6 +41,9 @@ pub fn compact_fits<D: Dimension>(
 
 /// How many terminal columns a line of a compact table has, its side margins among them, or None
 /// where they pass `usize::MAX`.
+///
+/// The columns are fewer than `usize::MAX`: a comparison tells it, and where [`compact_fits`] holds
+/// they are.
 pub fn compact_full_width<D: Dimension>(
     config: &CompactConfig,
     dimension: &D,

@@ -15,8 +15,8 @@ use std::alloc::Allocator;
 /// How many terminal columns the rectangle of a place takes in a table of so many columns: its
 /// columns and the verticals between them. None where that passes `usize::MAX`.
 ///
-/// The rectangle has a column, and its columns end inside the table ([`crate::fits::spans_fit`]).
-/// Takes no memory.
+/// The rectangle has a column, and its columns end inside the table: [`crate::fits::spans_fit`] and
+/// [`crate::fits::spans_fit_columns`] tell it of each place in the table. Takes no memory.
 pub fn rect_width<A: Allocator, D: Dimension>(
     config: &SpannedConfig<A>,
     dimension: &D,
@@ -30,8 +30,9 @@ pub fn rect_width<A: Allocator, D: Dimension>(
     width_of_columns(config, dimension, pos, config.rect_columns(pos), columns)
 }
 
-/// What [`rect_width`] answers, for a rectangle of which it is known how many columns it has
-/// ([`SpannedConfig::rect_size`] tells columns and rows by one search).
+/// What [`rect_width`] answers, for a rectangle of which it is known how many columns it has: `count`
+/// ([`SpannedConfig::rect_size`] tells columns and rows by one search). It has a column, and its
+/// columns end inside the table, as [`rect_width`] asks.
 pub fn width_of_columns<A: Allocator, D: Dimension>(
     config: &SpannedConfig<A>,
     dimension: &D,
@@ -56,7 +57,8 @@ pub fn width_of_columns<A: Allocator, D: Dimension>(
 /// How many lines the rectangle of a place has in each table that it ends in: those of its rows and
 /// the separators between them. None where that or the rectangle's end passes `usize::MAX`.
 ///
-/// The rectangle has a row ([`crate::fits::spans_fit_columns`]). Takes no memory.
+/// The rectangle has a row: [`crate::fits::spans_fit`] and [`crate::fits::spans_fit_columns`] tell
+/// it. Takes no memory.
 pub fn rect_height<A: Allocator, D: Dimension>(
     config: &SpannedConfig<A>,
     dimension: &D,
@@ -68,7 +70,8 @@ pub fn rect_height<A: Allocator, D: Dimension>(
     height_of_rows(config, dimension, pos, config.rect_rows(pos))
 }
 
-/// What [`rect_height`] answers, for a rectangle of which it is known how many rows it has.
+/// What [`rect_height`] answers, for a rectangle of which it is known how many rows it has: `count`
+/// ([`SpannedConfig::rect_size`]). It has a row, as [`rect_height`] asks.
 pub fn height_of_rows<A: Allocator, D: Dimension>(
     config: &SpannedConfig<A>,
     dimension: &D,

@@ -45,6 +45,9 @@ pub(crate) fn plus(sum: Option<usize>, more: usize) -> Option<usize>
 
 /// How many terminal columns a line of the table has, its side margins among them, or None where
 /// they pass `usize::MAX`.
+///
+/// The columns are fewer than `usize::MAX`: a comparison tells it, and where [`totals_fit`] holds
+/// they are.
 pub fn full_width<A: Allocator, D: Dimension>(
     config: &SpannedConfig<A>,
     dimension: &D,
@@ -62,6 +65,9 @@ pub fn full_width<A: Allocator, D: Dimension>(
 }
 
 /// How many lines the body of the table has, or None where they pass `usize::MAX`.
+///
+/// The rows are fewer than `usize::MAX`: a comparison tells it, and where [`totals_fit`] holds they
+/// are.
 pub fn body_height<A: Allocator, D: Dimension>(
     config: &SpannedConfig<A>,
     dimension: &D,
