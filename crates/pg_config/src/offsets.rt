@@ -114,6 +114,7 @@ impl<V: Drop, A: Allocator> Offsets<V, A> {
 fn has_place<V, A: Allocator>(glyphs: &Places<GlyphPlace, V, A>, pos: Position) -> bool
     ensures { result ≡ has_key (of_place pos) glyphs.now }
 {
+    // Shows that the places stand in order.
     glyphs.stand_in_order();
     match glyphs.first_key_from(GlyphPlace { pos, number: 0 }) {
         Some(key) => key.pos == pos,

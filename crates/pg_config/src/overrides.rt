@@ -146,6 +146,7 @@ impl<A: Allocator + Clone> Overrides<char, A> {
 fn has_row<G, A: Allocator>(places: &Places<Position, G, A>, row: usize) -> bool
     ensures { result ≡ has_key (in_row row) places.now }
 {
+    // Shows that they stand in order.
     places.stand_in_order();
     match places.first_key_from(Position { row, col: 0 }) {
         Some(key) => key.row == row,
@@ -158,6 +159,7 @@ fn has_row<G, A: Allocator>(places: &Places<Position, G, A>, row: usize) -> bool
 fn has_column<G, A: Allocator>(places: &Places<ColumnPlace, G, A>, col: usize) -> bool
     ensures { result ≡ has_key (in_column col) places.now }
 {
+    // Shows that they stand in order.
     places.stand_in_order();
     match places.first_key_from(ColumnPlace { col, row: 0 }) {
         Some(key) => key.col == col,

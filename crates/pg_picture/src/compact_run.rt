@@ -38,7 +38,7 @@ impl<'a> CompactRun<'a> {
     /// Appends a part: a character `count` times, in its own colour; one that has none stands in
     /// the colour that is open.
     #[inline(always)]
-    pub fn part<A: Allocator>(
+    pub(crate) fn part<A: Allocator>(
         self,
         buf: &mut String<A>,
         c: char,

@@ -32,6 +32,8 @@ pub fn push_feed<A: Allocator>(buf: &mut String<A>, is_first: bool) -> Result<()
 ///
 /// An offset that is counted from the last line leaves nothing blank where the height isn't known.
 /// An error comes only where the buffer's room is too small; the buffer then holds a beginning.
+///
+/// It is for who draws pieces of a table by themselves.
 #[inline(always)]
 pub fn push_side_margin<C: ANSIFmt, A: Allocator>(
     buf: &mut String<A>,
@@ -84,6 +86,8 @@ fn is_blank(offset: Offset, line: usize, height: Option<usize>) -> bool
 ///
 /// The columns that the offset leaves blank are uncoloured spaces, and the fill is coloured.
 /// An error comes only where the buffer's room is too small; the buffer then holds a beginning.
+///
+/// It is for who draws pieces of a table by themselves.
 pub fn push_margin_lines<C: ANSIFmt, A: Allocator>(
     buf: &mut String<A>,
     indent: Indent,

@@ -13,6 +13,8 @@ use std::alloc::{AllocError, Allocator};
 /// the characters alone where there is no colour, and nothing at all for a size of 0.
 ///
 /// An error comes only where the buffer's room is too small; the buffer then holds a beginning.
+///
+/// It is for who draws pieces of a table by themselves.
 #[inline(always)]
 #[tactic(auto, using(crate::proofs::PiecesOfLines::fill_texts))]
 pub fn push_fill<C: ANSIFmt, A: Allocator>(

@@ -38,7 +38,7 @@ impl<'a, C: ANSIFmt> Run<'a, C> {
 
     /// Appends a glyph with a colour of its own, or with none.
     #[inline(always)]
-    pub fn glyph<A: Allocator>(
+    pub(crate) fn glyph<A: Allocator>(
         self,
         buf: &mut String<A>,
         c: char,
@@ -54,7 +54,7 @@ impl<'a, C: ANSIFmt> Run<'a, C> {
 
     /// Appends a glyph with a colour of its own, or with none, and an offset's colour put round it
     /// where there is one.
-    pub fn offset_glyph<F: ANSIFmt, A: Allocator>(
+    pub(crate) fn offset_glyph<F: ANSIFmt, A: Allocator>(
         self,
         buf: &mut String<A>,
         c: char,
@@ -77,7 +77,7 @@ impl<'a, C: ANSIFmt> Run<'a, C> {
     /// Appends `count` equal glyphs, with a colour of their own or with none; nothing changes for a
     /// count of 0.
     #[inline(always)]
-    pub fn repeated_glyph<A: Allocator>(
+    pub(crate) fn repeated_glyph<A: Allocator>(
         self,
         buf: &mut String<A>,
         c: char,
@@ -96,7 +96,7 @@ impl<'a, C: ANSIFmt> Run<'a, C> {
 
     /// Appends `count` spaces, which stand in the colour that is open.
     #[inline(always)]
-    pub fn spaces<A: Allocator>(
+    pub(crate) fn spaces<A: Allocator>(
         self,
         buf: &mut String<A>,
         count: usize,

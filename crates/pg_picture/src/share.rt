@@ -8,6 +8,8 @@ use pg_layout::{AlignmentHorizontal, AlignmentVertical};
 /// How many of the columns that a text of `got` columns leaves free in `max` columns stand left of
 /// it, and how many right of it. The odd one of a centred text stands at its right. `got` is at most
 /// `max`, which a comparison tells.
+///
+/// It is for who draws pieces of a table by themselves.
 #[inline(always)]
 #[tactic(auto, unfolding(crate::specs::Pieces::shares))]
 pub fn calculate_indent(alignment: AlignmentHorizontal, got: usize, max: usize) -> (usize, usize)

@@ -17,6 +17,8 @@ use std::alloc::Allocator;
 ///
 /// The rectangle has a column, and its columns end inside the table: [`crate::fits::spans_fit`] and
 /// [`crate::fits::spans_fit_columns`] tell it of each place in the table. Takes no memory.
+///
+/// It is for who works out single rectangles; the tests of a whole table ask it of all.
 pub fn rect_width<A: Allocator, D: Dimension>(
     config: &SpannedConfig<A>,
     dimension: &D,
@@ -59,6 +61,8 @@ pub fn width_of_columns<A: Allocator, D: Dimension>(
 ///
 /// The rectangle has a row: [`crate::fits::spans_fit`] and [`crate::fits::spans_fit_columns`] tell
 /// it. Takes no memory.
+///
+/// It is for who works out single rectangles; the tests of a whole table ask it of all.
 pub fn rect_height<A: Allocator, D: Dimension>(
     config: &SpannedConfig<A>,
     dimension: &D,
