@@ -1,6 +1,5 @@
 pub mod Natural
-pub mod Styles
-pub mod Sizes
+pub mod Inside
 pub mod Printing
 pub mod Laws
 pub mod Fault

@@ -7,7 +7,7 @@ ghost use Rattle.pg_layout.specs.Records.{text_at};
 ghost use Rattle.pg_picture.specs.Sizes.{if_fits};
 ghost use Rattle.pg_table.specs.Natural.{paddings, text_size, cell_size, cell_at, all_fit};
 ghost use Rattle.pg_table.specs.declared.sizes.Axis.TheVariants.{Columns, Rows};
-ghost use Rattle.pg_table.specs.Styles.{IsStyleAt, IsStyleOfAll};
+ghost use Rattle.pg_table.specs.Inside.Styles.{IsStyleAt, IsStyleOfAll};
 
 use crate::style::SizeStyle;
 use pg_config::SpannedConfig;
@@ -51,7 +51,7 @@ pub(crate) struct NaturalSizes<'a, R, B: Allocator> {
 }
 
 impl<'a, R: PeekableRecords + ExactRecords, B: Allocator> NaturalSizes<'a, R, B> {
-    ghost use Rattle.pg_table.specs.Sizes.{size_of, sizes_of, count_of, cells_of};
+    ghost use Rattle.pg_table.specs.Inside.Sizes.{size_of, sizes_of, count_of, cells_of};
 
     /// The natural sizes of these records in a table that is told this.
     pub(crate) fn new(records: R, config: &'a SpannedConfig<B>) -> NaturalSizes<'a, R, B>

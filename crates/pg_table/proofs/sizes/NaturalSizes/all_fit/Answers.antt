@@ -1,6 +1,6 @@
 use Rattle.std.proofs.Common.{◌<◌, ℕ, not, sym, ap, ◌∙◌, arith}
 use Rattle.pg_table.specs.Natural.{natural_sizes}
-use Rattle.pg_table.specs.Sizes.{size_of, count_of}
+use Rattle.pg_table.specs.Inside.Sizes.{size_of, count_of}
 use Rattle.pg_table.proofs.ListedSizes.{fits-some, fits-none, one-past, all_fit-each}
 use Rattle.pg_table.proofs.sizes.NaturalSizes.all_fit.Goals as goal
 

@@ -1,0 +1,3 @@
+-- What only bodies and their proofs need: no contract of a call from outside stands on it.
+pub mod Styles
+pub mod Sizes
