@@ -99,6 +99,15 @@ where
         self.frame.config.rect_rows(pos)
     }
 
+    // How many rows and columns it has.
+    #[inline(always)]
+    pub(crate) fn rect_size(self, pos: Position) -> (usize, usize)
+        ensures rows { result.0 ≡ rect_rows T.told.config.spans pos }
+        ensures columns { result.1 ≡ rect_columns T.told.config.spans pos }
+    {
+        self.frame.config.rect_size(pos)
+    }
+
     // How many columns the rectangle of a place has.
     #[inline(always)]
     pub(crate) fn rect_columns(self, pos: Position) -> usize
@@ -277,12 +286,19 @@ where
         )
     }
 
-    // A cell that begins at a place and has room there.
-    pub(crate) fn begin_cell<S: AsStr>(self, value: S, pos: Position) -> OpenCell<S>
-        requires { MayBegin (frame_of T.told) pos (S.text value) }
+    // A cell that begins at a place, where it has so many rows and columns and room for its text.
+    pub(crate) fn begin_cell<S: AsStr>(
+        self,
+        value: S,
+        pos: Position,
+        rows: usize,
+        columns: usize,
+    ) -> OpenCell<S>
+        requires rows { rows ≡ rect_rows T.told.config.spans pos }
+        requires columns { columns ≡ rect_columns T.told.config.spans pos }
+        requires may { MayBegin (frame_of T.told) pos (S.text value) }
         ensures { result ≡ new_cell (frame_of T.told) pos (S.text value) }
     {
-        let (rows, columns) = self.frame.config.rect_size(pos);
         let width = width_of_columns(
             self.frame.config,
             self.frame.dimension,

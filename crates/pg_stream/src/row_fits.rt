@@ -1,6 +1,6 @@
 //! Whether a row may be printed next.
 
-ghost use Rattle.std.specs.Prelude.{◌≡◌, ◌+◌, ◌^◌, ◌<◌, ◌≤◌, ◌↔◌, ◌-◌, ◌==◌, true, false, nat_lt, [], map, length, Some, IfSome, IsSome, IsTrue};
+ghost use Rattle.std.specs.Prelude.{◌≡◌, ◌+◌, ◌^◌, ◌<◌, ◌≤◌, ◌↔◌, ◌-◌, ◌==◌, true, false, nat_lt, [], map, length, is_some, Some, IfSome, IsSome, IsTrue};
 ghost use Rattle.std.specs.List.{list_all};
 ghost use Rattle.pg_layout.specs.Position.{is_at};
 ghost use Rattle.pg_layout.specs.Text.{is_plain_byte};
@@ -42,35 +42,15 @@ impl<'a, S: AsStr, D: Dimension, C: Colors, B: Allocator, A: Allocator> RowPrint
     pub fn fits(&self, cells: &[S], is_last: bool) -> bool
         ensures { IsTrue result ↔ RowFits (printing D.width D.height C.color self.now) (map S.text cells.now) is_last }
     {
-        self.progress.fits(&self.frame, cells, is_last)
+        self.progress
+            .plainness(&self.frame, cells, is_last)
+            .is_some()
     }
 }
 
 impl<S: AsStr, A: Allocator> Progress<S, A> {
     // Whether these cells may be printed as the next row of the table of a frame, as `RowPrinter::fits`
-    // tells.
-    #[inline(never)]
-    pub(crate) fn fits<D, C, B>(
-        &self,
-        frame: &Frame<'_, D, C, B>,
-        cells: &[S],
-        is_last: bool,
-    ) -> bool
-    where
-        D: Dimension,
-        C: Colors,
-        B: Allocator,
-        requires { IsSoundAt (told_of D.width D.height C.color frame.now) frame.now self.now }
-        ensures { IsTrue result ↔ RowFits (now_of (told_of D.width D.height C.color frame.now) self.now) (map S.text cells.now) is_last }
-    {
-        self.is_next(frame, cells.len(), is_last)
-            && ends_spans(frame.config, self.rows, frame.columns, is_last)
-            && frame.have_room(self.rows, cells)
-            && frame.counts_lines(self.rows, self.lines)
-    }
-
-    // Whether these cells may be printed as the next row, and then whether each text is known to be plain:
-    // such a row is read but once.
+    // tells, and then whether each text is known to be plain: such a row is read but once.
     #[inline(always)]
     pub(crate) fn plainness<D, C, B>(
         &self,
@@ -86,30 +66,13 @@ impl<S: AsStr, A: Allocator> Progress<S, A> {
         ensures fits { IsSome result ↔ RowFits (now_of (told_of D.width D.height C.color frame.now) self.now) (map S.text cells.now) is_last }
         ensures plain { result ≡ Some true → ArePlain frame.now.columns (map S.text cells.now) }
     {
-        if self.fits_plain(frame, cells, is_last) {
-            return Some(true);
-        }
-        if self.fits(frame, cells, is_last) {
-            return Some(false);
+        if self.is_next(frame, cells.len(), is_last)
+            && ends_spans(frame.config, self.rows, frame.columns, is_last)
+            && frame.counts_lines(self.rows, self.lines)
+        {
+            return frame.plainness(self.rows, cells);
         }
         None
-    }
-
-    // Whether these cells may be printed as the next row, and each text is plain.
-    #[inline(always)]
-    fn fits_plain<D, C, B>(&self, frame: &Frame<'_, D, C, B>, cells: &[S], is_last: bool) -> bool
-    where
-        D: Dimension,
-        C: Colors,
-        B: Allocator,
-        requires { IsSoundAt (told_of D.width D.height C.color frame.now) frame.now self.now }
-        ensures fits { IsTrue result → RowFits (now_of (told_of D.width D.height C.color frame.now) self.now) (map S.text cells.now) is_last }
-        ensures plain { IsTrue result → ArePlain frame.now.columns (map S.text cells.now) }
-    {
-        self.is_next(frame, cells.len(), is_last)
-            && ends_spans(frame.config, self.rows, frame.columns, is_last)
-            && frame.have_plain_room(self.rows, cells)
-            && frame.counts_lines(self.rows, self.lines)
     }
 
     // Whether a row of so many cells comes next.
@@ -156,6 +119,49 @@ fn ends_spans<B: Allocator>(
 impl<'a, D: Dimension, C: Colors, B: Allocator> Frame<'a, D, C, B> {
     ghost use Rattle.pg_stream.specs.Inside.Frames.{frame_table};
 
+    // Whether each cell that begins in a row has room for its text, and then whether each text is known
+    // to be plain. None is known to be where a cell spans others.
+    #[inline(always)]
+    fn plainness<S: AsStr>(&self, row: usize, cells: &[S]) -> Option<bool>
+        requires row { row + 1 < 2 ^ 64 }
+        requires whole { length cells.now ≡ self.now.columns }
+        requires spans { spans_fit_columns self.now.config.now.spans self.now.columns ≡ true }
+        ensures room { IsSome result ↔ HaveRoom (frame_table D.width D.height C.color self.now) row (map S.text cells.now) }
+        ensures plain { result ≡ Some true → ArePlain self.now.columns (map S.text cells.now) }
+    {
+        if self.config.spans().is_empty() {
+            return self.plainness_of_single(row, cells);
+        }
+        if self.have_room(row, cells) {
+            return Some(false);
+        }
+        None
+    }
+
+    // The same where no cell spans rows or columns: each is as wide as its column and as high as the
+    // row.
+    #[inline(always)]
+    fn plainness_of_single<S: AsStr>(&self, row: usize, cells: &[S]) -> Option<bool>
+        requires row { row + 1 < 2 ^ 64 }
+        requires alone { self.now.config.now.spans ≡ [] }
+        requires whole { length cells.now ≡ self.now.columns }
+        ensures room { IsSome result ↔ HaveRoom (frame_table D.width D.height C.color self.now) row (map S.text cells.now) }
+        ensures plain { result ≡ Some true → ArePlain self.now.columns (map S.text cells.now) }
+    {
+        let height = self.dimension.get_height(row);
+        let mut are_plain = true;
+        for column in 0..self.columns {
+            let pos = Position::new(row, column);
+            let width = self.dimension.get_width(column);
+            let text = cells[column].as_str();
+            let Some(is_plain) = self.plainness_in_cell(text, pos, width, height) else {
+                return None;
+            };
+            are_plain &= is_plain;
+        }
+        Some(are_plain)
+    }
+
     // Whether each cell that begins in a row has room for its text.
     fn have_room<S: AsStr>(&self, row: usize, cells: &[S]) -> bool
         requires row { row + 1 < 2 ^ 64 }
@@ -163,10 +169,8 @@ impl<'a, D: Dimension, C: Colors, B: Allocator> Frame<'a, D, C, B> {
         requires spans { spans_fit_columns self.now.config.now.spans self.now.columns ≡ true }
         ensures { IsTrue result ↔ HaveRoom (frame_table D.width D.height C.color self.now) row (map S.text cells.now) }
     {
-        let spans = self.config.spans();
-        if spans.is_empty() {
-            return self.plain_cells_have_room(row, cells);
-        }
+        // Shows that the spans stand in order.
+        let _spans = self.config.spans();
         let mut column = 0;
         while column < self.columns {
             let pos = Position::new(row, column);
@@ -175,57 +179,6 @@ impl<'a, D: Dimension, C: Colors, B: Allocator> Frame<'a, D, C, B> {
                 return false;
             }
             column += columns_of(span);
-        }
-        true
-    }
-
-    // The same where no cell spans rows or columns: each is as wide as its column and as high as the
-    // row.
-    fn plain_cells_have_room<S: AsStr>(&self, row: usize, cells: &[S]) -> bool
-        requires row { row + 1 < 2 ^ 64 }
-        requires plain { self.now.config.now.spans ≡ [] }
-        requires whole { length cells.now ≡ self.now.columns }
-        ensures { IsTrue result ↔ HaveRoom (frame_table D.width D.height C.color self.now) row (map S.text cells.now) }
-    {
-        let height = self.dimension.get_height(row);
-        for column in 0..self.columns {
-            let pos = Position::new(row, column);
-            let width = self.dimension.get_width(column);
-            if !self.fits_in_cell(cells[column].as_str(), pos, width, height) {
-                return false;
-            }
-        }
-        true
-    }
-
-    // Whether each text of a row is plain and has room, where no cell spans others and all have one style
-    // that trims no line.
-    #[inline(always)]
-    fn have_plain_room<S: AsStr>(&self, row: usize, cells: &[S]) -> bool
-        requires row { row + 1 < 2 ^ 64 }
-        requires whole { length cells.now ≡ self.now.columns }
-        ensures room { IsTrue result → HaveRoom (frame_table D.width D.height C.color self.now) row (map S.text cells.now) }
-        ensures plain { IsTrue result → ArePlain self.now.columns (map S.text cells.now) }
-    {
-        self.config.spans().is_empty() && self.are_plain(row, cells)
-    }
-
-    // The same where no cell spans others.
-    #[inline(always)]
-    fn are_plain<S: AsStr>(&self, row: usize, cells: &[S]) -> bool
-        requires row { row + 1 < 2 ^ 64 }
-        requires plain { self.now.config.now.spans ≡ [] }
-        requires whole { length cells.now ≡ self.now.columns }
-        ensures room { IsTrue result → HaveRoom (frame_table D.width D.height C.color self.now) row (map S.text cells.now) }
-        ensures plain { IsTrue result → ArePlain self.now.columns (map S.text cells.now) }
-    {
-        let height = self.dimension.get_height(row);
-        for column in 0..self.columns {
-            let pos = Position::new(row, column);
-            let width = self.dimension.get_width(column);
-            if !self.is_plain_in_cell(cells[column].as_str(), pos, width, height) {
-                return false;
-            }
         }
         true
     }
@@ -255,35 +208,33 @@ impl<'a, D: Dimension, C: Colors, B: Allocator> Frame<'a, D, C, B> {
         let width = width_of_columns(self.config, self.dimension, pos, columns, self.columns);
         let height = height_of_rows(self.config, self.dimension, pos, rows);
         match (width, height) {
-            (Some(width), Some(height)) => self.fits_in_cell(text, pos, width, height),
+            (Some(width), Some(height)) => self
+                .plainness_in_cell(text, pos, width, height)
+                .is_some(),
             _ => false,
         }
     }
 
-    // Whether a text has room in the cell at a place, which has so many columns and lines.
+    // Whether a text has room in the cell at a place, which has so many columns and lines, and then
+    // whether it is known to be plain.
     #[inline(always)]
-    fn fits_in_cell(&self, text: &str, pos: Position, width: usize, height: usize) -> bool
-        ensures { result ≡ cell_fits (style_at self.now.config.now pos) text.now width height }
+    fn plainness_in_cell(
+        &self,
+        text: &str,
+        pos: Position,
+        width: usize,
+        height: usize,
+    ) -> Option<bool>
+        ensures room { is_some result ≡ cell_fits (style_at self.now.config.now pos) text.now width height }
+        ensures plain { result ≡ Some true → list_all is_plain_byte text.now ≡ true }
     {
-        match &self.all {
-            Some(style) => style.has_room(text, width, height),
-            None => cell_fits(text, self.config, pos, width, height),
+        if let Some(style) = &self.all {
+            return style.plainness_with_room(text, width, height);
         }
-    }
-
-    // Whether a text is plain and has room in the cell at a place, where all cells have one style that trims
-    // no line.
-    #[inline(always)]
-    fn is_plain_in_cell(&self, text: &str, pos: Position, width: usize, height: usize) -> bool
-        ensures room { IsTrue result → cell_fits (style_at self.now.config.now pos) text.now width height ≡ true }
-        ensures plain { IsTrue result → list_all is_plain_byte text.now ≡ true }
-    {
-        match &self.all {
-            Some(style) => {
-                !style.formatting.horizontal_trim && style.has_room_for_plain(text, width, height)
-            }
-            None => false,
+        if cell_fits(text, self.config, pos, width, height) {
+            return Some(false);
         }
+        None
     }
 
     // Whether the lines of a row, with its separator, can be counted after so many. The separator is asked

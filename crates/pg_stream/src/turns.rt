@@ -1,13 +1,14 @@
 //! What becomes of the open cells in one row: its cells begin, and those that end with it leave.
 
-ghost use Rattle.std.specs.Prelude.{◌≡◌, ◌+◌, ◌<◌, ◌≤◌, ◌^◌, ◌&&◌, ℕ, List, not, nat_lt, true, length, is_some, slice_index_or, slice_set, IfSome, None};
+ghost use Rattle.std.specs.Prelude.{◌≡◌, ◌+◌, ◌<◌, ◌≤◌, ◌^◌, ◌&&◌, ℕ, List, not, nat_lt, true, length, is_some, max, slice_index_or, slice_set, IfSome, None};
 ghost use Rattle.std.specs.Iterator.{IsFinite};
-ghost use Rattle.pg_config.specs.Spans.{owner};
+ghost use Rattle.pg_config.specs.Spans.{owner, rect_columns};
 ghost use Rattle.pg_layout.specs.Position.{at, is_at};
 ghost use Rattle.pg_layout.specs.Records.{AlwaysGives};
 ghost use Rattle.pg_layout.specs.Text.{Text};
 ghost use Rattle.pg_picture.specs.Fits.{spans_fit_columns};
 ghost use Rattle.pg_stream.specs.Conditions.{HaveRoom};
+ghost use Rattle.pg_stream.specs.Inside.Drawing.{column_end};
 ghost use Rattle.pg_stream.specs.Placed.{AllOpen};
 ghost use Rattle.pg_stream.specs.Printing.{frame_of};
 ghost use Rattle.pg_stream.specs.Inside.Turns.{IsOwnerAbove, MayBegin, begin_cell, cells_begun, is_done, close_cell, cells_closed};
@@ -45,12 +46,12 @@ where
             let Some(value) = cells.next() else {
                 return;
             };
-            self.begin_one(opened, value, row, column, end);
-            end = self.end_past(opened, column, end);
+            end = self.begin_one(opened, value, row, column, end);
         }
     }
 
-    // A cell begins in its column, unless another one holds its place.
+    // A cell begins in its column, unless another one holds its place. Answers where the cell of the column
+    // ends, or those before it where that is further right.
     fn begin_one<S: AsStr + Drop, A: Allocator>(
         self,
         opened: &mut OpenCells<S, A>,
@@ -58,16 +59,23 @@ where
         row: usize,
         column: usize,
         end: usize,
-    )
+    ) -> usize
         requires column { column < length opened.old }
         requires own { (not (nat_lt column end) && not (is_some (slice_index_or opened.old column None))) ≡ is_at (owner T.told.config.spans row column) row column }
         requires may { is_at (owner T.told.config.spans row column) row column ≡ true → MayBegin (frame_of T.told) (at row column) (S.text value) }
-        ensures { opened.new ≡ slice_set opened.old column (begin_cell (frame_of T.told) row (S.text value) column (slice_index_or opened.old column None)) }
+        requires inside { AllOpen (λ x cell. x + rect_columns T.told.config.spans (at cell.begun x) ≤ T.told.columns) opened.old }
+        ensures begun { opened.new ≡ slice_set opened.old column (begin_cell (frame_of T.told) row (S.text value) column (slice_index_or opened.old column None)) }
+        ensures end { result ≡ max end (column_end T.told.config.spans (slice_index_or opened.new column None) column) }
     {
         if is_free(opened, column, end) {
-            opened.put(column, self.begin_cell(value, Position::new(row, column)));
-            return;
+            let pos = Position::new(row, column);
+            let (rows, columns) = self.rect_size(pos);
+            opened.put(column, self.begin_cell(value, pos, rows, columns));
+            // Shows that the columns of the table are a number.
+            let _columns = self.columns();
+            return end.max(column + columns);
         }
+        self.end_past(opened, column, end)
     }
 
     // The cells that end with a row leave.

@@ -24,8 +24,8 @@ returns-in_default g c = λ texts gives.
     let i = c.loop-column.column in
     absurd (read-none g.S.AsStr.text g.I.Iterator.next_gives c.loop-column.cells c.next.new.self texts i (omega arith) reading.left (subst (λ (r : Option g.row.S.Denot). g.I.Iterator.next_gives c.loop-column.cells r c.next.new.self) c.in_default.is c.next.ensures.steps))
 
-pub begin_one-requires-clause-column : goal.begin_one-requires-clause-column
-begin_one-requires-clause-column g c =
+pub begin_one-end-requires-clause-column : goal.begin_one-end-requires-clause-column
+begin_one-end-requires-clause-column g c =
     let t = frame_of g.T.Drawn.told in
     let texts = c.requires.given.0 in
     let reading = c.loop-column.invariant.1 texts c.requires.given.1 in
@@ -33,8 +33,8 @@ begin_one-requires-clause-column g c =
     let e = ap length reading.begun ∙ partly-length (λ x. begin_cell t c.args.row (slice_index_or texts x []) x) 0 i c.args.opened.now in
     omega (arith, e, c.loop-column-test.true, c.requires.columns)
 
-pub begin_one-requires-clause-own : goal.begin_one-requires-clause-own
-begin_one-requires-clause-own g c =
+pub begin_one-end-requires-clause-own : goal.begin_one-end-requires-clause-own
+begin_one-end-requires-clause-own g c =
     let t = frame_of g.T.Drawn.told in
     let spans = t.config.spans in
     let texts = c.requires.given.0 in
@@ -44,8 +44,8 @@ begin_one-requires-clause-own g c =
     let i = c.loop-column.column in
     own-now t owners c.args.row t.columns texts c.args.opened.now c.requires.columns c.requires.above i c.loop-column.opened c.loop-column.end (omega arith) reading.begun c.loop-column.invariant.0
 
-pub begin_one-requires-clause-may : goal.begin_one-requires-clause-may
-begin_one-requires-clause-may g c = λ own.
+pub begin_one-end-requires-clause-may : goal.begin_one-end-requires-clause-may
+begin_one-end-requires-clause-may g c = λ own.
     let t = frame_of g.T.Drawn.told in
     let spans = t.config.spans in
     let texts = c.requires.given.0 in
@@ -64,8 +64,8 @@ begin_one-requires-clause-may g c = λ own.
       room = subst (HasRoom t (at c.args.row i)) now.0 (c.requires.given.3 i (omega arith) own);
     }
 
-pub end_past-end-requires : goal.end_past-end-requires
-end_past-end-requires g c =
+pub begin_one-end-requires-clause-inside : goal.begin_one-end-requires-clause-inside
+begin_one-end-requires-clause-inside g c =
     let t = frame_of g.T.Drawn.told in
     let spans = t.config.spans in
     let texts = c.requires.given.0 in
@@ -73,25 +73,22 @@ end_past-end-requires g c =
     let apart = apart_from spans t.columns c.requires.spans in
     let owners = owners_of spans apart in
     let i = c.loop-column.column in
-    let now = read-more g.S.AsStr.text g.I.Iterator.next_gives c.loop-column.cells c.next.new.self c.in-Some.value texts i reading.left (subst (λ (r : Option g.row.S.Denot). g.I.Iterator.next_gives c.loop-column.cells r c.next.new.self) c.in-Some.is c.next.ensures.steps) in
-    let inside : i < length c.args.opened.now = omega (arith, c.loop-column-test.true, c.requires.columns) in
-    let begun = begun-more t c.args.row i (g.S.AsStr.text c.in-Some.value) texts c.args.opened.now c.loop-column.opened c.begin_one.new.opened reading.begun inside now.0 c.begin_one.ensures in
-    let whole : t.columns ≡ length c.begin_one.new.opened = c.requires.columns ∙ sym (ap length begun ∙ partly-length (λ x. begin_cell t c.args.row (slice_index_or texts x []) x) 0 (i + 1) c.args.opened.now) in
-    inside-columns spans c.args.row t.columns c.begin_one.new.opened apart c.requires.spans whole
-    (λ x cell h here. owner-now t owners c.args.row t.columns texts c.args.opened.now c.requires.columns c.requires.above (i + 1) x c.begin_one.new.opened cell h begun here)
+    let whole : t.columns ≡ length c.loop-column.opened = c.requires.columns ∙ sym (ap length reading.begun ∙ partly-length (λ x. begin_cell t c.args.row (slice_index_or texts x []) x) 0 i c.args.opened.now) in
+    inside-columns spans c.args.row t.columns c.loop-column.opened apart c.requires.spans whole
+    (λ x cell h here. owner-now t owners c.args.row t.columns texts c.args.opened.now c.requires.columns c.requires.above i x c.loop-column.opened cell h reading.begun here)
 
 pub loop-column-preserved : goal.loop-column-preserved
 loop-column-preserved g c =
     let t = frame_of g.T.Drawn.told in
     let i = c.loop-column.column in
     let inside : i < length c.args.opened.now = omega (arith, c.loop-column-test.true, c.requires.columns) in (
-      c.end_past-end.ensures
-          ∙ ap (λ n. max n (column_end t.config.spans (get_or c.begin_one.new.opened i None) i)) (c.loop-column.invariant.0 ∙ sym (ap (λ l. reach t.config.spans l i) c.begin_one.ensures ∙ reach-set t.config.spans c.loop-column.opened i _))
-          ∙ reach-more t.config.spans c.begin_one.new.opened i,
+      c.begin_one-end.ensures.end
+          ∙ ap (λ n. max n (column_end t.config.spans (get_or c.begin_one-end.new.opened i None) i)) (c.loop-column.invariant.0 ∙ sym (ap (λ l. reach t.config.spans l i) c.begin_one-end.ensures.begun ∙ reach-set t.config.spans c.loop-column.opened i _))
+          ∙ reach-more t.config.spans c.begin_one-end.new.opened i,
       λ texts gives.
           let reading = c.loop-column.invariant.1 texts gives in
           let now = read-more g.S.AsStr.text g.I.Iterator.next_gives c.loop-column.cells c.next.new.self c.in-Some.value texts i reading.left (subst (λ (r : Option g.row.S.Denot). g.I.Iterator.next_gives c.loop-column.cells r c.next.new.self) c.in-Some.is c.next.ensures.steps) in
-          record { left = now.1; begun = begun-more t c.args.row i (g.S.AsStr.text c.in-Some.value) texts c.args.opened.now c.loop-column.opened c.begin_one.new.opened reading.begun inside now.0 c.begin_one.ensures },
+          record { left = now.1; begun = begun-more t c.args.row i (g.S.AsStr.text c.in-Some.value) texts c.args.opened.now c.loop-column.opened c.begin_one-end.new.opened reading.begun inside now.0 c.begin_one-end.ensures.begun },
     )
 
 pub returns : goal.returns

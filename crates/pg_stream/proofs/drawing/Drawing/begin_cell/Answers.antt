@@ -13,13 +13,13 @@ use Rattle.pg_stream.proofs.drawing.Drawing.begin_cell.Goals as goal
 pub unwrap-width-requires : goal.unwrap-width-requires
 unwrap-width-requires g c =
     let t = frame_table g.D.Dimension.width g.D.Dimension.height g.C.Colors.color c.args.self.frame.now in
-    let may = rw (← c.args.self.is) at c.requires in
+    let may = rw (← c.args.self.is) at c.requires.may in
     subst IsSome (sym (width-some t c.args.pos c.width_of_columns.result may.room.width (c.width_of_columns.ensures 0))) refl
 
 pub place_of_text-place-requires : goal.place_of_text-place-requires
 place_of_text-place-requires g c =
     let t = frame_table g.D.Dimension.width g.D.Dimension.height g.C.Colors.color c.args.self.frame.now in
-    let may = rw (← c.args.self.is) at c.requires in
+    let may = rw (← c.args.self.is) at c.requires.may in
     let w = some_is c.unwrap-width.result (rect_width t c.args.pos) (sym c.unwrap-width.ensures ∙ width-some t c.args.pos c.width_of_columns.result may.room.width (c.width_of_columns.ensures 0)) in
     let h = some_is c.unwrap-height.result (height_of_rect t.config t.height c.args.pos) (sym c.unwrap-height.ensures ∙ height-some t c.args.pos c.height_of_rows.result may.room.end may.room.height c.height_of_rows.ensures) in
     rw (c.as_str.ensures, w, h) may.room.room
@@ -27,7 +27,7 @@ place_of_text-place-requires g c =
 pub returns : goal.returns
 returns g c =
     let t = frame_table g.D.Dimension.width g.D.Dimension.height g.C.Colors.color c.args.self.frame.now in
-    let may = rw (← c.args.self.is) at c.requires in
+    let may = rw (← c.args.self.is) at c.requires.may in
     let text = g.S.AsStr.text c.args.value in
     let w = some_is c.unwrap-width.result (rect_width t c.args.pos) (sym c.unwrap-width.ensures ∙ width-some t c.args.pos c.width_of_columns.result may.room.width (c.width_of_columns.ensures 0)) in
     let h = some_is c.unwrap-height.result (height_of_rect t.config t.height c.args.pos) (sym c.unwrap-height.ensures ∙ height-some t c.args.pos c.height_of_rows.result may.room.end may.room.height c.height_of_rows.ensures) in

@@ -1,19 +1,31 @@
-use Rattle.std.proofs.Common.{◌∙◌, sym, ap, set, Some}
+use Rattle.std.proofs.Common.{◌≡◌, ◌+◌, ◌∙◌, sym, ap, arith, max, set, Some, None, slice_index_or}
+use Rattle.pg_config.specs.Spans.{rect_columns}
 use Rattle.pg_layout.specs.declared.position.Position.{Position}
-use Rattle.pg_stream.specs.Printing.{frame_of}
+use Rattle.pg_layout.specs.Position.{at}
+use Rattle.pg_stream.specs.Inside.Drawing.{column_end}
+use Rattle.pg_stream.specs.Printing.{Printing, frame_of}
 use Rattle.pg_stream.specs.Inside.Turns.{new_cell}
 use Rattle.pg_stream.proofs.Beginning.{begins, keeps}
 use Rattle.pg_stream.proofs.drawing.Drawing.begin_one.Goals as goal
 
-pub begin_cell-requires : goal.begin_cell-requires
-begin_cell-requires g c = rw c.new.ensures (c.requires.may (sym c.requires.own ∙ sym c.is_free.ensures ∙ c.if-is_free.true))
+pub begin_cell-requires-clause-may : goal.begin_cell-requires-clause-may
+begin_cell-requires-clause-may g c = rw c.new-pos.ensures (c.requires.may (sym c.requires.own ∙ sym c.is_free.ensures ∙ c.if-is_free.true))
 
-pub returns-then-is_free : goal.returns-then-is_free
-returns-then-is_free g c =
+-- the rectangle ends inside the columns
+pub overflow_add-column : goal.overflow_add-column
+overflow_add-column g c =
+    let told = g.T.Drawn.told in
+    let may = c.requires.may (sym c.requires.own ∙ sym c.is_free.ensures ∙ c.if-is_free.true) in
+    let wide = c.rect_size-rows.ensures.columns ∙ ap (λ (p : Position). rect_columns told.config.spans p) c.new-pos.ensures in
+    let columns = ap (λ (s : Printing). s.columns) c.args.self.is in
+    omega (arith, may.inside, wide, columns)
+
+pub returns-then-is_free-clause-begun : goal.returns-then-is_free-clause-begun
+returns-then-is_free-clause-begun g c =
     let t = frame_of g.T.Drawn.told in
     let text = g.S.AsStr.text c.args.value in
-    c.put.ensures ∙ ap (λ x. set c.args.opened.now c.args.column (Some x)) (c.begin_cell.ensures ∙ ap (λ (p : Position). new_cell t p text) c.new.ensures)
+    c.put.ensures ∙ ap (λ x. set c.args.opened.now c.args.column (Some x)) (c.begin_cell.ensures ∙ ap (λ (p : Position). new_cell t p text) c.new-pos.ensures)
     ∙ begins t c.args.row c.args.column text c.args.opened.now (sym c.requires.own ∙ sym c.is_free.ensures ∙ c.if-is_free.true)
 
-pub returns : goal.returns
-returns g c = keeps (frame_of g.T.Drawn.told) c.args.row c.args.column (g.S.AsStr.text c.args.value) c.args.opened.now (sym c.requires.own ∙ sym c.is_free.ensures ∙ c.if-is_free.false) c.requires.column
+pub returns-clause-begun : goal.returns-clause-begun
+returns-clause-begun g c = keeps (frame_of g.T.Drawn.told) c.args.row c.args.column (g.S.AsStr.text c.args.value) c.args.opened.now (sym c.requires.own ∙ sym c.is_free.ensures ∙ c.if-is_free.false) c.requires.column
