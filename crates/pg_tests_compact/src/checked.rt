@@ -95,7 +95,11 @@ fn a_text_is_refused_for_want_of_memory_alone(rt: HostRuntime) -> Result<(), Fai
     Err(Fail::new("more requests than were tried"))
 }
 
-// The table of the sample has this misfit: each call answers it, and asks for no memory.
+/// What the buffer has before, byte by byte.
+const OLD: &str = "log:\u{e9}\n";
+
+// The table of the sample has this misfit: each call answers it, asks for no memory and leaves the
+// buffer as it was.
 fn assert_misfit(
     rt: &impl Abort,
     alloc: Global,
@@ -106,60 +110,77 @@ fn assert_misfit(
     let dimension = dimension(alloc, sample.widths)?;
     let parts = (&records, &dimension, &sample.config);
     let memory = Refusing::from_on(alloc, 1);
-    let mut buf = String::from_str(&memory, "log:")?;
+    let mut buf = String::from_str(&memory, OLD)?;
     assert_eq!(rt; fits(parts), Err(misfit));
     assert_eq!(rt; print(parts, &mut buf), Err(PrintFault::Misfit(misfit)));
-    assert_eq!(rt;
-        text(&memory, parts).err(),
-        Some(PrintFault::Misfit(misfit))
-    );
-    assert_eq!(rt; buf.as_str(), "log:");
+    assert_eq!(rt; buf.as_bytes(), OLD.as_bytes());
+    let given = text(&memory, parts).err();
+    assert_eq!(rt; given, Some(PrintFault::Misfit(misfit)));
     assert_eq!(rt; memory.requests(), 1);
     Ok(())
 }
 
-/// Two columns, of which the second has no room for its paddings.
-fn without_room(texts: &'static [&'static [&'static str]]) -> Sample<'static> {
-    let padding = Sides::new(
-        Indent::spaced(1),
-        Indent::spaced(1),
-        Indent::zero(),
-        Indent::zero(),
-    );
+// A table whose texts have a padding of one column at each side.
+fn padded(texts: &'static [&'static [&'static str]], widths: &'static [usize]) -> Sample<'static> {
+    let (beside, none) = (Indent::spaced(1), Indent::zero());
     Sample {
         texts,
-        widths: &[3, 1],
-        config: bordered().set_padding(padding),
+        widths,
+        config: bordered().set_padding(Sides::new(beside, beside, none, none)),
         colored: &[],
     }
 }
 
+// A misfit is one of a column, and is named in row 0, whatever the rows are.
 #[test]
-fn the_first_column_without_room_is_named(rt: HostRuntime) -> Result<(), Fail> {
-    assert_misfit(
-        &rt,
-        rt.alloc(),
-        &without_room(&[&["a", ""]]),
-        Misfit::Room(0, 1),
-    )
+fn a_table_that_does_not_fit_is_refused_by_its_first_misfit(rt: HostRuntime) -> Result<(), Fail> {
+    let one: &[&[&str]] = &[&["a", "b", "c"]];
+    let three: &[&[&str]] = &[&["", "", ""], &["aaaa", "b", ""], &["", "", "cccc"]];
+    for texts in [one, three] {
+        for (widths, misfit) in [
+            // The first column has no room for its paddings, and nor has the next one.
+            ([1, 1, 3].as_slice(), Misfit::Room(0, 0)),
+            ([3, 1, 0].as_slice(), Misfit::Room(0, 1)),
+            ([3, 2, 1].as_slice(), Misfit::Room(0, 2)),
+            // The total width is no number, which is told before room.
+            ([1, usize::MAX, 1].as_slice(), Misfit::Totals),
+        ] {
+            assert_misfit(&rt, rt.alloc(), &padded(texts, widths), misfit)?;
+        }
+    }
+    Ok(())
 }
 
-#[test]
-fn a_total_that_is_no_number_is_named_before_room(rt: HostRuntime) -> Result<(), Fail> {
-    let sample = Sample {
-        widths: &[usize::MAX, 1],
-        ..without_room(&[&["a", ""]])
-    };
-    assert_misfit(&rt, rt.alloc(), &sample, Misfit::Totals)
-}
-
-#[test]
-fn nothing_is_asked_of_a_table_with_no_rows(rt: HostRuntime) -> Result<(), Fail> {
-    let (alloc, sample) = (rt.alloc(), without_room(&[]));
+// This table fits, and is given and appended.
+fn assert_fits(
+    rt: &impl Abort,
+    alloc: Global,
+    sample: &Sample<'_>,
+    picture: &str,
+) -> Result<(), Fail> {
     let records = records(alloc, sample.texts)?;
     let dimension = dimension(alloc, sample.widths)?;
     let parts = (&records, &dimension, &sample.config);
+    let mut buf = String::new(alloc);
     assert_eq!(rt; fits(parts), Ok(()));
-    assert_eq!(rt; text(alloc, parts).ok().as_deref(), Some(""));
+    assert_eq!(rt; print(parts, &mut buf), Ok(()));
+    assert_eq!(rt; buf.as_str(), picture);
+    assert_eq!(rt; text(alloc, parts).ok().as_deref(), Some(picture));
     Ok(())
+}
+
+// Nothing is asked of a table with no rows, and of one with rows nothing of its texts.
+#[test]
+fn no_text_of_any_row_is_a_misfit(rt: HostRuntime) -> Result<(), Fail> {
+    assert_fits(&rt, rt.alloc(), &padded(&[], &[3, 1]), "")?;
+    let wide = padded(&[&["a", "b"], &["cc", "d"], &["e", "fff"]], &[3, 3]);
+    let picture = "\
++---+---+
+| a | b |
+|---+---|
+| cc | d |
+|---+---|
+| e | fff |
++---+---+";
+    assert_fits(&rt, rt.alloc(), &wide, picture)
 }

@@ -136,8 +136,80 @@ fn a_table_that_fits_is_refused_for_want_of_memory_alone(rt: HostRuntime) -> Res
     is_right
 }
 
-// The table of the sample has this misfit: each call answers it, and asks for no memory.
-fn assert_misfit_by(
+/// Three rows of two cells of width 1.
+const SIX: Sample<'static> = Sample {
+    texts: &[&["a", "b"], &["c", "d"], &["e", "f"]],
+    widths: &[1, 1],
+    heights: &[1, 1, 1],
+    settings: &[Setting::Ascii],
+};
+
+/// Tables that don't fit, and the first misfit of each.
+const MISFITS: [(Sample<'static>, Misfit); 7] = [
+    // The first row has no room for `0-1`.
+    (
+        Sample {
+            widths: &[3, 2],
+            ..FOUR
+        },
+        Misfit::Room(0, 1),
+    ),
+    // The middle row has no room for `dd`, and the one below it none for `ee`.
+    (
+        Sample {
+            texts: &[&["a", "b"], &["c", "dd"], &["ee", "f"]],
+            ..SIX
+        },
+        Misfit::Room(1, 1),
+    ),
+    // The last row has no room for the second line of a text, though that isn't shown.
+    (
+        Sample {
+            texts: &[&["a", "b"], &["c", "d"], &["e\nee", "f"]],
+            ..SIX
+        },
+        Misfit::Room(2, 0),
+    ),
+    // The total width is no number, which is told before room.
+    (
+        Sample {
+            widths: &[2, usize::MAX],
+            ..FOUR
+        },
+        Misfit::Totals,
+    ),
+    // A span leaves the table at its right, which is told before totals.
+    (
+        Sample {
+            widths: &[2, usize::MAX],
+            settings: &[Setting::ColumnSpan(Position { row: 0, col: 0 }, 3)],
+            ..FOUR
+        },
+        Misfit::Spans,
+    ),
+    // A span of the middle row goes on past the last one, and so does one of the last row.
+    (
+        Sample {
+            settings: &[Setting::RowSpan(Position { row: 1, col: 1 }, 3)],
+            ..SIX
+        },
+        Misfit::Spans,
+    ),
+    (
+        Sample {
+            settings: &[Setting::RowSpan(Position { row: 2, col: 0 }, 2)],
+            ..SIX
+        },
+        Misfit::Spans,
+    ),
+];
+
+/// What the buffer has before, byte by byte.
+const OLD: &str = "log:\u{e9}\n";
+
+// The table of the sample has this misfit: each call answers it, asks for no memory and leaves the
+// buffer as it was.
+fn assert_misfit(
     rt: &impl Abort,
     alloc: Global,
     (sample, misfit): (&Sample<'_>, Misfit),
@@ -147,55 +219,25 @@ fn assert_misfit_by(
     let parts = parts_of(alloc, sample)?;
     for grid in [Grid::Peekable, Grid::Iter] {
         let memory = Refusing::from_on(alloc, 1);
-        let mut buf = String::from_str(&memory, "log:")?;
-        let printed = print(&memory, grid, (&parts, config), &mut buf);
-        let given = text(&memory, grid, &parts, config).err();
+        let mut buf = String::from_str(&memory, OLD)?;
         assert_eq!(rt; fits(grid, &parts, config), Err(misfit));
+        let printed = print(&memory, grid, (&parts, config), &mut buf);
         assert_eq!(rt; printed, Err(PrintFault::Misfit(misfit)));
+        assert_eq!(rt; buf.as_bytes(), OLD.as_bytes());
+        let given = text(&memory, grid, &parts, config).err();
         assert_eq!(rt; given, Some(PrintFault::Misfit(misfit)));
-        assert_eq!(rt; buf.as_str(), "log:");
         assert_eq!(rt; memory.requests(), 1);
     }
     Ok(())
 }
 
-// The same by a configuration that is told the sample's settings.
-fn assert_misfit(
-    rt: &impl Abort,
-    alloc: Global,
-    sample: &Sample<'_>,
-    misfit: Misfit,
-) -> Result<(), Fail> {
-    let mut config = SpannedConfig::new(alloc);
-    let is_right = assert_misfit_by(rt, alloc, (sample, misfit), &mut config);
-    drop(config);
-    is_right
-}
-
 #[test]
-fn the_first_cell_without_room_is_named(rt: HostRuntime) -> Result<(), Fail> {
-    let sample = Sample {
-        widths: &[3, 2],
-        ..FOUR
-    };
-    assert_misfit(&rt, rt.alloc(), &sample, Misfit::Room(0, 1))
-}
-
-#[test]
-fn a_total_that_is_no_number_is_named_before_room(rt: HostRuntime) -> Result<(), Fail> {
-    let sample = Sample {
-        widths: &[2, usize::MAX],
-        ..FOUR
-    };
-    assert_misfit(&rt, rt.alloc(), &sample, Misfit::Totals)
-}
-
-#[test]
-fn a_span_that_leaves_the_table_is_named_before_totals(rt: HostRuntime) -> Result<(), Fail> {
-    let sample = Sample {
-        widths: &[2, usize::MAX],
-        settings: &[Setting::ColumnSpan(Position { row: 0, col: 0 }, 3)],
-        ..FOUR
-    };
-    assert_misfit(&rt, rt.alloc(), &sample, Misfit::Spans)
+fn a_table_that_does_not_fit_is_refused_by_its_first_misfit(rt: HostRuntime) -> Result<(), Fail> {
+    for (sample, misfit) in MISFITS {
+        let mut config = SpannedConfig::new(rt.alloc());
+        let is_right = assert_misfit(&rt, rt.alloc(), (&sample, misfit), &mut config);
+        drop(config);
+        is_right?;
+    }
+    Ok(())
 }

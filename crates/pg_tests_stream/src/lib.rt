@@ -3,6 +3,12 @@
 #![tactic(auto)]
 
 #[cfg(test)]
+mod parts;
+#[cfg(test)]
+mod printers;
+#[cfg(test)]
+mod refusals;
+#[cfg(test)]
 mod settings;
 #[cfg(test)]
 mod streams;

@@ -35,3 +35,9 @@ pub(crate) fn tell_all(config: &mut SpannedConfig, settings: &[Setting]) -> Resu
     }
     Ok(())
 }
+
+/// ASCII borders, and a margin of one column or line at each side.
+pub(crate) fn framed() -> [Setting; 2] {
+    let margin = Sides::filled(Indent::new(1, '#'));
+    [Setting::Ascii, Setting::Margin(margin)]
+}
