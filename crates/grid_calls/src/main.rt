@@ -1,8 +1,9 @@
-//! The program `grid_calls`: the ways to call a table printer, each tried on one table.
+//! The program `grid_calls`: the ways to call a table printer.
 //!
 //! A printer asks that its table fits. [`checked`] has the calls that test it themselves, [`tested`]
-//! those behind a test of the caller's, and [`stated`] a caller that says in turn what it appended.
-//! None of these functions needs a proof of its own.
+//! those behind a test of the caller's, and [`stated`] a caller that says in turn what it appended,
+//! each tried on one table; [`told`] has a table of its own, all of it told in one function. None of
+//! these functions needs a proof of its own.
 #![tactic(auto)]
 
 mod checked;
@@ -10,52 +11,91 @@ mod fault;
 mod parts;
 mod stated;
 mod tested;
+mod told;
 
 use crate::fault::Fault;
 use pg_config::{CompactConfig, SpannedConfig};
 use pg_grid::PrintFault;
 use pg_layout::{Borders, NoColors};
 use pg_picture::fits::Misfit;
+use std::alloc::Global;
 
 fn main(rt: HostRuntime) -> Result<(), Fault> {
     let alloc = rt.alloc();
-    let records = parts::records(alloc)?;
-    let (wide, narrow) = (parts::sizes(alloc, 9)?, parts::sizes(alloc, 6)?);
     let mut config = SpannedConfig::new(alloc);
     config.set_borders(Borders::ascii());
     let compact = CompactConfig::new().set_borders(Borders::ascii());
+    println!(rt; "checked:\n{}", checked_tables(alloc, &config, &compact)?)?;
+    println!(rt; "tested:\n{}", tested_tables(alloc, &config)?)?;
+    println!(rt; "built:\n{}", built_tables(alloc, &config, &compact)?)?;
+    println!(rt; "stated:\n{}", stated_table(alloc, &config)?)?;
+    println!(rt; "told:\n{}", told::titled_text(alloc)?)?;
+    Ok(())
+}
 
-    println!(rt; "checked:")?;
+// The tables of calls that test them, and what such a call answers where the table is too narrow.
+fn checked_tables(
+    alloc: Global,
+    config: &SpannedConfig,
+    compact: &CompactConfig,
+) -> Result<String, Fault> {
+    let records = parts::records(alloc)?;
+    let (wide, narrow) = (parts::sizes(alloc, 9)?, parts::sizes(alloc, 6)?);
     let mut text = String::new(alloc);
-    checked::push_looked_up(&records, &config, &wide, &mut text)?;
+    checked::push_looked_up(&records, config, &wide, &mut text)?;
     text.push('\n')?;
-    checked::push_streamed(alloc, parts::records(alloc)?, &config, &wide, &mut text)?;
-    println!(rt; "{text}")?;
-    println!(rt;
-        "{}",
-        checked::compact_text(alloc, &records, &compact, &wide)?
-    )?;
-    let refused = checked::push_looked_up(&records, &config, &narrow, &mut text);
+    checked::push_streamed(alloc, parts::records(alloc)?, config, &wide, &mut text)?;
+    text.push('\n')?;
+    text.push_str(checked::compact_text(alloc, &records, compact, &wide)?.as_str())?;
+    let refused = checked::push_looked_up(&records, config, &narrow, &mut text);
     if let Err(PrintFault::Misfit(Misfit::Room(row, column))) = refused {
-        println!(rt; "no room in row {row}, column {column}")?;
+        let line = format!(in alloc; "\nno room in row {row}, column {column}")?;
+        text.push_str(line.as_str())?;
     }
+    Ok(text)
+}
 
-    println!(rt; "tested:")?;
-    println!(rt; "{}", tested::text(alloc, &records, &config, &wide)?)?;
-    let found = tested::text_of_first_fit(alloc, &records, &config, &[narrow, wide])?;
-    if let Some(text) = found {
-        println!(rt; "{text}")?;
+// Texts of tables behind a test.
+fn tested_tables(alloc: Global, config: &SpannedConfig) -> Result<String, Fault> {
+    let records = parts::records(alloc)?;
+    let (wide, narrow) = (parts::sizes(alloc, 9)?, parts::sizes(alloc, 6)?);
+    let mut text = tested::text(alloc, &records, config, &wide)?;
+    if let Some(found) = tested::text_of_first_fit(alloc, &records, config, &[narrow, wide])? {
+        text.push('\n')?;
+        text.push_str(found.as_str())?;
     }
+    Ok(text)
+}
 
-    println!(rt; "stated:")?;
+// Tables that are built behind a test, and what stands in the place of one that is too narrow.
+fn built_tables(
+    alloc: Global,
+    config: &SpannedConfig,
+    compact: &CompactConfig,
+) -> Result<String, Fault> {
+    let records = parts::records(alloc)?;
+    let (wide, narrow) = (parts::sizes(alloc, 9)?, parts::sizes(alloc, 6)?);
+    let mut text = String::new(alloc);
+    tested::push_twice(&records, config, &wide, &mut text)?;
+    text.push('\n')?;
+    tested::push_compact(&records, compact, &wide, &mut text)?;
+    for sizes in [&wide, &narrow] {
+        text.push('\n')?;
+        tested::push_streamed(alloc, parts::records(alloc)?, config, sizes, &mut text)?;
+    }
+    Ok(text)
+}
+
+// A title, and a table whose text is known.
+fn stated_table(alloc: Global, config: &SpannedConfig) -> Result<String, Fault> {
+    let records = parts::records(alloc)?;
     let mut text = String::from_str(alloc, "Stock\n")?;
     stated::push_table(
         &records,
-        &config,
+        config,
         parts::sizes(alloc, 9)?,
         NoColors,
         &mut text,
     )?;
-    println!(rt; "{text}")?;
-    Ok(())
+    Ok(text)
 }

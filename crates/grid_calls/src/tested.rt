@@ -1,8 +1,8 @@
 //! Calls that ask for a table that fits, behind the test that it does.
 
 use crate::fault::Fault;
-use pg_config::SpannedConfig;
-use pg_grid::PeekableGrid;
+use pg_config::{CompactConfig, SpannedConfig};
+use pg_grid::{CompactGrid, IterGrid, PeekableGrid};
 use pg_layout::{ConstantDimension, NoColors, VecRecords};
 use std::alloc::{AllocError, Global};
 
@@ -32,4 +32,46 @@ pub(crate) fn text_of_first_fit(
         }
     }
     Ok(None)
+}
+
+/// Appends the table twice, as the looked-up grid builds it: one test serves both.
+pub(crate) fn push_twice(
+    records: &VecRecords<String>,
+    config: &SpannedConfig,
+    dimension: &ConstantDimension,
+    buf: &mut String,
+) -> Result<(), Fault> {
+    let grid = PeekableGrid::new(records, config, dimension, &NoColors);
+    grid.fits()?;
+    grid.build(buf)?;
+    buf.push('\n')?;
+    grid.build(buf)?;
+    Ok(())
+}
+
+/// Appends the table, as the streaming grid builds it, or a line in its place if it doesn't fit.
+pub(crate) fn push_streamed(
+    alloc: Global,
+    records: VecRecords<String>,
+    config: &SpannedConfig,
+    dimension: &ConstantDimension,
+    buf: &mut String,
+) -> Result<(), AllocError> {
+    let grid = IterGrid::new(records, config, dimension, &NoColors);
+    if grid.fits().is_err() {
+        return buf.push_str("the table does not fit");
+    }
+    grid.build(alloc, buf)
+}
+
+/// Appends the table, as the compact grid builds it.
+pub(crate) fn push_compact(
+    records: &VecRecords<String>,
+    config: &CompactConfig,
+    dimension: &ConstantDimension,
+    buf: &mut String,
+) -> Result<(), Fault> {
+    let grid = CompactGrid::new(records, config, dimension, &NoColors);
+    grid.fits()?;
+    Ok(grid.build(buf)?)
 }

@@ -1,16 +1,22 @@
 //! The program `streamed_rows`: it prints tables of articles and prices, whose rows come from a vector,
 //! from iterators over it, from arrays and from the parts of lines.
 //!
-//! It shows the calls that take all rows at once, or rows of any kind. None of its functions needs a
-//! proof by hand, nor does [`append_rows`], whose contract says what text it appends.
+//! It shows the calls that take all rows at once, or rows of any kind: [`priced_lines`] has rows that
+//! may be errors, and [`tested_rows`] has rows behind a test. None of its functions needs a proof by
+//! hand, nor does [`append_rows`], whose contract says what text it appends.
 #![tactic(auto)]
+
+mod priced_lines;
+mod tested_rows;
 
 ghost use Rattle.std.specs.Prelude.{◌≡◌, ◌++◌, map, None, OnOk, string_bytes};
 ghost use Rattle.pg_stream.specs.Printing.{printer, rows_text};
 
+use crate::priced_lines::{LineFault, append_priced_lines};
+use crate::tested_rows::append_fitting;
 use pg_config::SpannedConfig;
 use pg_layout::{Borders, Colors, Dimension, Entity, EvenDimension, Indent, NoColors, Sides};
-use pg_stream::{RowStream, StreamFault};
+use pg_stream::{RowStream, RowsFault, StreamFault};
 use std::alloc::{AllocError, Global};
 use std::io;
 
@@ -42,6 +48,18 @@ fn append_rows<D: Dimension, C: Colors>(
 {
     let stream = RowStream::new(alloc, config, dimension, colors, COLUMNS, None)?;
     stream.print_vec(rows, buf)
+}
+
+// Appends the rows that the iterator of a vector gives.
+fn append_all(
+    alloc: Global,
+    config: &SpannedConfig,
+    dimension: &EvenDimension,
+    rows: Vec<Vec<&str>>,
+    buf: &mut String,
+) -> Result<(), StreamFault> {
+    let stream = RowStream::new(alloc, config, dimension, &NoColors, COLUMNS, None)?;
+    stream.print_all(rows.into_iter(), buf)
 }
 
 // Appends those of the rows that have a price.
@@ -99,6 +117,66 @@ fn append_lines(
     stream.finish(buf)
 }
 
+// Rows of vectors.
+fn append_vectors(
+    alloc: Global,
+    config: &SpannedConfig,
+    dimension: &EvenDimension,
+    buf: &mut String,
+) -> Result<(), StreamFault> {
+    let bread = vec![in alloc; "bread", "2.10"]?;
+    let milk = vec![in alloc; "milk", "0.95"]?;
+    let rows = vec![in alloc; bread, milk]?;
+    append_rows(alloc, config, dimension, &NoColors, rows, buf)?;
+    buf.push_str("\n--\n")?;
+    let flour = vec![in alloc; "flour", "1.15"]?;
+    let yeast = vec![in alloc; "yeast", "0.70"]?;
+    append_all(alloc, config, dimension, vec![in alloc; flour, yeast]?, buf)?;
+    buf.push_str("\n--\n")?;
+    let salt = vec![in alloc; "salt", "0.40"]?;
+    let rows = vec![in alloc; salt, vec![in alloc; "sugar"]?]?;
+    append_priced(alloc, config, dimension, rows, buf)?;
+    buf.push_str("\n--\n")?;
+    let rice = vec![in alloc; "rice", "1.80"]?;
+    append_counted(alloc, config, dimension, vec![in alloc; (3, rice)]?, buf)
+}
+
+// Rows of arrays and of lines, of which one has no price.
+fn append_parts(
+    alloc: Global,
+    config: &SpannedConfig,
+    dimension: &EvenDimension,
+    buf: &mut String,
+) -> Result<(), StreamFault> {
+    let pairs = [("oil", "6.00"), ("oats", "1.20")];
+    append_pairs(alloc, config, dimension, &pairs, buf)?;
+    buf.push_str("\n--\n")?;
+    append_lines(alloc, config, dimension, "eggs,3.10\nbeans,1.05", buf)?;
+    buf.push_str("\n--\n")?;
+    let lines = "tea,2.40\njam,3.20\nfigs";
+    match append_priced_lines(alloc, config, dimension, lines, buf) {
+        Ok(()) => Ok(()),
+        Err(RowsFault::Stream(fault)) => Err(fault),
+        Err(RowsFault::Source(LineFault::Memory)) => Err(StreamFault::Memory),
+        Err(RowsFault::Source(LineFault::NoPrice)) => Ok(buf.push_str("\nno price")?),
+    }
+}
+
+// Rows of which one doesn't fit, and is left out.
+fn append_tested(
+    alloc: Global,
+    config: &SpannedConfig,
+    dimension: &EvenDimension,
+    buf: &mut String,
+) -> Result<(), StreamFault> {
+    let honey = vec![in alloc; "honey", "4.75"]?;
+    let berries = vec![in alloc; "strawberries", "5.50"]?;
+    let plums = vec![in alloc; "plums", "2.20"]?;
+    let rows = vec![in alloc; honey, berries, plums]?;
+    let sum = vec![in alloc; "sum", "6.95"]?;
+    append_fitting(alloc, config, dimension, (rows, sum), buf)
+}
+
 // All of them, parted by dashes.
 fn lists(alloc: Global) -> Result<String, StreamFault> {
     let mut config = SpannedConfig::new(alloc);
@@ -108,24 +186,11 @@ fn lists(alloc: Global) -> Result<String, StreamFault> {
         height: 1,
     };
     let mut buf = String::new(alloc);
-    let bread = vec![in alloc; "bread", "2.10"]?;
-    let milk = vec![in alloc; "milk", "0.95"]?;
-    let rows = vec![in alloc; bread, milk]?;
-    append_rows(alloc, &config, &dimension, &NoColors, rows, &mut buf)?;
+    append_vectors(alloc, &config, &dimension, &mut buf)?;
     buf.push_str("\n--\n")?;
-    let salt = vec![in alloc; "salt", "0.40"]?;
-    let rows = vec![in alloc; salt, vec![in alloc; "sugar"]?]?;
-    append_priced(alloc, &config, &dimension, rows, &mut buf)?;
+    append_parts(alloc, &config, &dimension, &mut buf)?;
     buf.push_str("\n--\n")?;
-    let rice = vec![in alloc; "rice", "1.80"]?;
-    let rows = vec![in alloc; (3, rice)]?;
-    append_counted(alloc, &config, &dimension, rows, &mut buf)?;
-    buf.push_str("\n--\n")?;
-    let pairs = [("oil", "6.00"), ("oats", "1.20")];
-    append_pairs(alloc, &config, &dimension, &pairs, &mut buf)?;
-    buf.push_str("\n--\n")?;
-    let lines = "eggs,3.10\nbeans,1.05";
-    append_lines(alloc, &config, &dimension, lines, &mut buf)?;
+    append_tested(alloc, &config, &dimension, &mut buf)?;
     Ok(buf)
 }
 

@@ -1,0 +1,43 @@
+//! Lines that are rows, or errors in the place of rows.
+
+use crate::COLUMNS;
+use pg_config::SpannedConfig;
+use pg_layout::{EvenDimension, NoColors};
+use pg_stream::{RowStream, RowsFault};
+use std::alloc::{AllocFailed, Global};
+
+/// Why a line is no row.
+#[derive(Debug, Clone, Copy, PartialEq, Eq)]
+pub(crate) enum LineFault {
+    /// No comma parts a price from the article.
+    NoPrice,
+    /// No memory was found for its cells.
+    Memory,
+}
+
+impl<T: Drop> From<AllocFailed<T>> for LineFault {
+    fn from(_error: AllocFailed<T>) -> LineFault {
+        LineFault::Memory
+    }
+}
+
+// The article and the price of a line.
+fn cells_of<'a>(alloc: Global, line: &'a str) -> Result<Vec<&'a str>, LineFault> {
+    match line.split_once(',') {
+        Some((article, price)) => Ok(vec![in alloc; article, price]?),
+        None => Err(LineFault::NoPrice),
+    }
+}
+
+/// Appends a row for each line, and ends with the first line that is none: the rows above it stand, but
+/// for the latest.
+pub(crate) fn append_priced_lines(
+    alloc: Global,
+    config: &SpannedConfig,
+    dimension: &EvenDimension,
+    lines: &str,
+    buf: &mut String,
+) -> Result<(), RowsFault<LineFault>> {
+    let stream = RowStream::new(alloc, config, dimension, &NoColors, COLUMNS, None)?;
+    stream.print_results(lines.lines().map(|line| cells_of(alloc, line)), buf)
+}
