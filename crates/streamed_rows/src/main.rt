@@ -12,11 +12,11 @@ mod tested_rows;
 ghost use Rattle.std.specs.Prelude.{◌≡◌, ◌++◌, map, None, OnOk, string_bytes};
 ghost use Rattle.pg_stream.specs.Printing.{printer, rows_text};
 
-use crate::priced_lines::{LineFault, append_priced_lines};
+use crate::priced_lines::append_priced_lines;
 use crate::tested_rows::append_fitting;
 use pg_config::SpannedConfig;
 use pg_layout::{Borders, Colors, Dimension, Entity, EvenDimension, Indent, NoColors, Sides};
-use pg_stream::{RowStream, RowsFault, StreamFault};
+use pg_stream::{RowStream, StreamFault};
 use std::alloc::{AllocError, Global};
 use std::io;
 
@@ -153,13 +153,7 @@ fn append_parts(
     buf.push_str("\n--\n")?;
     append_lines(alloc, config, dimension, "eggs,3.10\nbeans,1.05", buf)?;
     buf.push_str("\n--\n")?;
-    let lines = "tea,2.40\njam,3.20\nfigs";
-    match append_priced_lines(alloc, config, dimension, lines, buf) {
-        Ok(()) => Ok(()),
-        Err(RowsFault::Stream(fault)) => Err(fault),
-        Err(RowsFault::Source(LineFault::Memory)) => Err(StreamFault::Memory),
-        Err(RowsFault::Source(LineFault::NoPrice)) => Ok(buf.push_str("\nno price")?),
-    }
+    append_priced_lines(alloc, config, dimension, "tea,2.40\njam,3.20\nfigs", buf)
 }
 
 // Rows of which one doesn't fit, and is left out.

@@ -3,12 +3,12 @@
 use crate::COLUMNS;
 use pg_config::SpannedConfig;
 use pg_layout::{EvenDimension, NoColors};
-use pg_stream::{RowStream, RowsFault};
+use pg_stream::{RowStream, RowsFault, StreamFault};
 use std::alloc::{AllocFailed, Global};
 
 /// Why a line is no row.
 #[derive(Debug, Clone, Copy, PartialEq, Eq)]
-pub(crate) enum LineFault {
+enum LineFault {
     /// No comma parts a price from the article.
     NoPrice,
     /// No memory was found for its cells.
@@ -29,9 +29,8 @@ fn cells_of<'a>(alloc: Global, line: &'a str) -> Result<Vec<&'a str>, LineFault>
     }
 }
 
-/// Appends a row for each line, and ends with the first line that is none: the rows above it stand, but
-/// for the latest.
-pub(crate) fn append_priced_lines(
+// Prints a row for each line, up to the first one that is none.
+fn print_lines(
     alloc: Global,
     config: &SpannedConfig,
     dimension: &EvenDimension,
@@ -40,4 +39,21 @@ pub(crate) fn append_priced_lines(
 ) -> Result<(), RowsFault<LineFault>> {
     let stream = RowStream::new(alloc, config, dimension, &NoColors, COLUMNS, None)?;
     stream.print_results(lines.lines().map(|line| cells_of(alloc, line)), buf)
+}
+
+/// Appends a row for each line. A line without a price ends the list: the rows above it stand, but for
+/// the latest, and the list says why.
+pub(crate) fn append_priced_lines(
+    alloc: Global,
+    config: &SpannedConfig,
+    dimension: &EvenDimension,
+    lines: &str,
+    buf: &mut String,
+) -> Result<(), StreamFault> {
+    match print_lines(alloc, config, dimension, lines, buf) {
+        Ok(()) => Ok(()),
+        Err(RowsFault::Stream(fault)) => Err(fault),
+        Err(RowsFault::Source(LineFault::Memory)) => Err(StreamFault::Memory),
+        Err(RowsFault::Source(LineFault::NoPrice)) => Ok(buf.push_str("\nno price")?),
+    }
 }
