@@ -43,13 +43,10 @@ fn assert_separators(rt: &impl Abort, alloc: Global, bytes: usize) -> Result<(),
     assert_drawn(rt, alloc, &sample, text.as_str())
 }
 
+// The longest one that is kept, and one that is too long to be kept.
 #[test]
-fn the_longest_kept_separator_is_whole(rt: HostRuntime) -> Result<(), Fail> {
-    assert_separators(&rt, rt.alloc(), 8192)
-}
-
-#[test]
-fn a_separator_too_long_to_be_kept_is_whole(rt: HostRuntime) -> Result<(), Fail> {
+fn separators_are_whole_whether_they_are_kept_or_not(rt: HostRuntime) -> Result<(), Fail> {
+    assert_separators(&rt, rt.alloc(), 8192)?;
     assert_separators(&rt, rt.alloc(), 8193)
 }
 

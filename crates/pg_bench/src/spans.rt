@@ -2,7 +2,7 @@
 
 use crate::drawn::assert_drawn;
 use pg_layout::{AlignmentHorizontal, AlignmentVertical, Borders, Entity, Position};
-use pg_samples::drawing::{FOUR, RECTANGLE, RECTANGLE_TEXT, Sample};
+use pg_samples::drawing::{FOUR, RECTANGLE, RECTANGLE_TEXT, Sample, TALL, TALL_TEXT};
 use pg_samples::settings::{Paint, Setting};
 use std::test::Fail;
 
@@ -99,20 +99,7 @@ fn columns_of_width_0_are_spanned(rt: HostRuntime) -> Result<(), Fail> {
 
 #[test]
 fn a_rectangle_goes_through_a_row_of_height_0(rt: HostRuntime) -> Result<(), Fail> {
-    let sample = Sample {
-        texts: &[&["x", "a"], &["", "b"], &["", "c"]],
-        widths: &[1, 1],
-        heights: &[1, 0, 1],
-        settings: &[Setting::Ascii, Setting::RowSpan(FIRST, 3)],
-    };
-    let text = "\
-+-+-+
-|x|a|
-+ +-+
-+ +-+
-| |c|
-+-+-+";
-    assert_drawn(&rt, rt.alloc(), &sample, text)
+    assert_drawn(&rt, rt.alloc(), &TALL, TALL_TEXT)
 }
 
 #[test]

@@ -76,6 +76,26 @@ pub const RECTANGLE_TEXT: &str = "\
 |3-0|3-1|3-2|3-3|
 +---+---+---+---+";
 
+/// The text `x` in three rows, of which the middle one has no line.
+pub const TALL: Sample<'static> = Sample {
+    texts: &[&["x", "a"], &["", "b"], &["", "c"]],
+    widths: &[1, 1],
+    heights: &[1, 0, 1],
+    settings: &[
+        Setting::Ascii,
+        Setting::RowSpan(Position { row: 0, col: 0 }, 3),
+    ],
+};
+
+/// The picture of [`TALL`].
+pub const TALL_TEXT: &str = "\
++-+-+
+|x|a|
++ +-+
++ +-+
+| |c|
++-+-+";
+
 /// Which grid draws a table.
 #[derive(Debug, Clone, Copy)]
 pub enum Grid {

@@ -67,49 +67,6 @@ fn glyphs_round(
     Ok(text)
 }
 
-// All cells have the same glyphs round them.
-fn assert_glyphs(
-    rt: &impl Abort,
-    alloc: Global,
-    config: &SpannedConfig<Global>,
-    wanted: &str,
-) -> Result<(), Fail> {
-    for place in PLACES {
-        let glyphs = glyphs_round(alloc, config, place)?;
-        assert_eq!(rt; glyphs.as_str(), wanted, "at {place:?}");
-    }
-    Ok(())
-}
-
-// Gives all cells this border.
-fn set_borders(config: &mut SpannedConfig<Global>, border: Border<char>) -> Result<(), AllocError> {
-    for place in PLACES {
-        config.set_border(position(place), border)?;
-    }
-    Ok(())
-}
-
-fn set_borders_round_cells(
-    rt: &impl Abort,
-    alloc: Global,
-    config: &mut SpannedConfig<Global>,
-) -> Result<(), Fail> {
-    assert_glyphs(rt, alloc, config, "........")?;
-    set_borders(config, Border::full('t', 'b', 'l', 'r', '1', '2', '3', '4'))?;
-    assert_glyphs(rt, alloc, config, "tblr1234")?;
-    let mut border = Border::empty();
-    border.bottom = Some('B');
-    border.left = Some('L');
-    border.top_right = Some('7');
-    set_borders(config, border)?;
-    assert_glyphs(rt, alloc, config, "tBLr1734")
-}
-
-#[test]
-fn a_border_is_answered_round_each_cell(rt: HostRuntime) -> Result<(), Fail> {
-    set_borders_round_cells(&rt, rt.alloc(), &mut SpannedConfig::new(rt.alloc()))
-}
-
 // The prefixes of the colours round a cell, in the order of its glyphs.
 fn colors_round(
     alloc: Global,
@@ -133,18 +90,57 @@ fn colors_round(
     Ok(text)
 }
 
-// All cells have colours of the same prefixes round them.
-fn assert_colors(
+/// What is answered round a cell.
+#[derive(Debug, Clone, Copy)]
+enum Answer {
+    Glyphs,
+    Colors,
+}
+
+// All cells have the same glyphs round them, or colours of the same prefixes.
+fn assert_round(
     rt: &impl Abort,
     alloc: Global,
     config: &SpannedConfig<Global>,
-    wanted: &str,
+    (answer, wanted): (Answer, &str),
 ) -> Result<(), Fail> {
     for place in PLACES {
-        let colors = colors_round(alloc, config, place)?;
-        assert_eq!(rt; colors.as_str(), wanted, "at {place:?}");
+        let answered = match answer {
+            Answer::Glyphs => glyphs_round(alloc, config, place)?,
+            Answer::Colors => colors_round(alloc, config, place)?,
+        };
+        assert_eq!(rt; answered.as_str(), wanted, "at {place:?}");
     }
     Ok(())
+}
+
+// Gives all cells this border.
+fn set_borders(config: &mut SpannedConfig<Global>, border: Border<char>) -> Result<(), AllocError> {
+    for place in PLACES {
+        config.set_border(position(place), border)?;
+    }
+    Ok(())
+}
+
+fn set_borders_round_cells(
+    rt: &impl Abort,
+    alloc: Global,
+    config: &mut SpannedConfig<Global>,
+) -> Result<(), Fail> {
+    assert_round(rt, alloc, config, (Answer::Glyphs, "........"))?;
+    set_borders(config, Border::full('t', 'b', 'l', 'r', '1', '2', '3', '4'))?;
+    assert_round(rt, alloc, config, (Answer::Glyphs, "tblr1234"))?;
+    let mut border = Border::empty();
+    border.bottom = Some('B');
+    border.left = Some('L');
+    border.top_right = Some('7');
+    set_borders(config, border)?;
+    assert_round(rt, alloc, config, (Answer::Glyphs, "tBLr1734"))
+}
+
+#[test]
+fn a_border_is_answered_round_each_cell(rt: HostRuntime) -> Result<(), Fail> {
+    set_borders_round_cells(&rt, rt.alloc(), &mut SpannedConfig::new(rt.alloc()))
 }
 
 // A colour at each side and each corner.
@@ -191,11 +187,11 @@ fn set_border_colors_round_cells(
     alloc: Global,
     config: &mut SpannedConfig<Global>,
 ) -> Result<(), Fail> {
-    assert_colors(rt, alloc, config, "........")?;
+    assert_round(rt, alloc, config, (Answer::Colors, "........"))?;
     set_border_colors(alloc, config, true)?;
-    assert_colors(rt, alloc, config, "tblr1234")?;
+    assert_round(rt, alloc, config, (Answer::Colors, "tblr1234"))?;
     set_border_colors(alloc, config, false)?;
-    assert_colors(rt, alloc, config, "tblR1284")
+    assert_round(rt, alloc, config, (Answer::Colors, "tblR1284"))
 }
 
 #[test]

@@ -13,7 +13,7 @@ ghost use Rattle.pg_stream.specs.Conditions.{AreRowsFrom};
 use pg_config::SpannedConfig;
 use pg_layout::{Colors, ConstantDimension, Dimension, NoColors, Position, Records, VecRecords};
 use pg_picture::fits::{full_width, spans_fit_columns, table_fits};
-use pg_samples::drawing::{Sample, Unhinted, dimension, records};
+use pg_samples::drawing::{Sample, TALL, TALL_TEXT, Unhinted, dimension, records};
 use pg_samples::settings::{Setting, tell_all};
 use pg_stream::RowPrinter;
 use pg_testing::refusing::Refusing;
@@ -191,12 +191,6 @@ fn assert_printed(
 
 #[test]
 fn each_row_is_printed_before_its_call_returns(rt: HostRuntime) -> Result<(), Fail> {
-    let sample = Sample {
-        texts: &[&["x", "a"], &["", "b"], &["", "c"]],
-        widths: &[1, 1],
-        heights: &[1, 0, 1],
-        settings: &[Setting::Ascii, Setting::RowSpan(FIRST, 3)],
-    };
     let first = Note {
         rows: 1,
         lines: 2,
@@ -220,14 +214,7 @@ fn each_row_is_printed_before_its_call_returns(rt: HostRuntime) -> Result<(), Fa
         bytes: 29,
         ..BEFORE
     };
-    let text = "\
-+-+-+
-|x|a|
-+ +-+
-+ +-+
-| |c|
-+-+-+";
-    assert_printed(&rt, rt.alloc(), &sample, text, &[first, second, third])
+    assert_printed(&rt, rt.alloc(), &TALL, TALL_TEXT, &[first, second, third])
 }
 
 #[test]
