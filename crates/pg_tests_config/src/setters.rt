@@ -146,6 +146,11 @@ fn a_border_is_answered_round_each_cell(rt: HostRuntime) -> Result<(), Fail> {
 // A colour at each side and each corner.
 fn colored(alloc: Global) -> Result<Border<ANSIBuf>, Fail> {
     let mut border = Border::empty();
+    color_all(alloc, &mut border)?;
+    Ok(border)
+}
+
+fn color_all(alloc: Global, border: &mut Border<ANSIBuf>) -> Result<(), Fail> {
     border.top = Some(color(alloc, "t")?);
     border.bottom = Some(color(alloc, "b")?);
     border.left = Some(color(alloc, "l")?);
@@ -154,7 +159,7 @@ fn colored(alloc: Global) -> Result<Border<ANSIBuf>, Fail> {
     border.top_right = Some(color(alloc, "2")?);
     border.bottom_left = Some(color(alloc, "3")?);
     border.bottom_right = Some(color(alloc, "4")?);
-    Ok(border)
+    Ok(())
 }
 
 // Colours at two places.
