@@ -1,37 +1,35 @@
 -- Rows of a stream that may be errors.
-use Rattle.std.proofs.Common.{◌≡◌, false, List, [], ◌∷◌, ◌++◌, Option, Some, None, refl, sym, ap, ◌∙◌, subst, append_assoc, append-nil}
-use Rattle.std.specs.Prelude.{String, string_bytes, Result, Ok, Err}
+use Rattle.std.proofs.Common.{◌≡◌, List, [], ◌∷◌, Option, Some, None, refl, sym, ◌∙◌, subst}
+use Rattle.std.specs.Prelude.{String, Result, Ok, Err}
 use Rattle.pg_layout.specs.Records.{AlwaysGives}
 use Rattle.pg_layout.specs.Text.{Text}
-use Rattle.pg_stream.specs.Printing.{Printing, row_text, after_row}
-use Rattle.pg_stream.specs.Streams.{Streaming, held_text, HeldFits, after_push, rows_left, rows_before, text_but_latest, AppendsIf, PrintsResults}
+use Rattle.pg_stream.specs.Printing.{Printing}
+use Rattle.pg_stream.specs.Streams.{Streaming, held_text, HeldFits, after_push, rows_left, rows_before, first_error, AppendsIf, PrintsUntil, PrintsResults}
 use Rattle.pg_stream.specs.declared.fault.RowsFault.{RowsFault}
 use Rattle.pg_stream.specs.declared.fault.RowsFault.TheVariants.{Stream, Source}
 use Rattle.pg_stream.specs.declared.fault.StreamFault.{StreamFault}
-use Rattle.pg_stream.proofs.StreamedRows.{push-goes, push-stops}
+use Rattle.pg_stream.proofs.StreamedRows.{push-goes, push-stops, push-goes-but-latest, push-stops-but-latest, none-left}
 
-module _ {Z : Type 0} where
-  -- the text of a row that is printed goes before that of all behind it
-  latest-below : {V : Type 0} {old mid : String Z} (new : String Z) (value : V) (before : Printing) (held : Option (List Text)) (next : List Text) (rows : List (List Text))
+module _ {Z V E : Type 0} where
+  -- the held row and those behind it, until an error comes or none
+  until-stops : (U : Type 0) {old new : String Z} (error : Option E) (fault : StreamFault) (before : Printing) (held : Option (List Text)) (next : List Text) (rows : List (List Text))
+      → AppendsIf {U = V} (HeldFits (record { before = before; held = held })) before.rows (held_text (record { before = before; held = held })) old new (Err fault)
+      → PrintsUntil {U = U} error before (rows_left (record { before = before; held = held }) (next ∷ rows)) old new (Err fault)
+  until-stops U None fault before held next rows p = push-stops fault before held next rows p
+  until-stops U (Some error) fault before held next rows p = push-stops-but-latest fault before held next rows p
+
+  until-goes : {U : Type 0} {old mid : String Z} (new : String Z) (error : Option E) (r : Result U StreamFault) (value : V) (before : Printing) (held : Option (List Text)) (next : List Text) (rows : List (List Text))
       → AppendsIf (HeldFits (record { before = before; held = held })) before.rows (held_text (record { before = before; held = held })) old mid (Ok value)
-      → string_bytes new ≡ string_bytes mid ++ text_but_latest (after_push (record { before = before; held = held }) next).before (next ∷ rows)
-      → string_bytes new ≡ string_bytes old ++ text_but_latest before (rows_left (record { before = before; held = held }) (next ∷ rows))
-  unfolding text_but_latest
-  latest-below {old} new value before None next rows p is = is ∙ ap (λ t. t ++ text_but_latest before (next ∷ rows)) ((p.whole tt).0.ok ∙ append-nil (string_bytes old))
-  latest-below {old} new value before (Some row) next rows p is =
-      is ∙ ap (λ t. t ++ text_but_latest (after_row before row false) (next ∷ rows)) (p.whole p.tells).0.ok ∙ append_assoc (string_bytes old) (row_text before row false) (text_but_latest (after_row before row false) (next ∷ rows))
+      → PrintsUntil error (after_push (record { before = before; held = held }) next).before (next ∷ rows) mid new r
+      → PrintsUntil error before (rows_left (record { before = before; held = held }) (next ∷ rows)) old new r
+  until-goes new None r value before held next rows p q = push-goes r value before held next rows p q
+  until-goes new (Some error) r value before held next rows p q = push-goes-but-latest r value before held next rows p q
 
-  results-go : {U V E : Type 0} {old mid : String Z} (new : String Z) (r : Result U (RowsFault E)) (value : V) (s : Streaming) (next : List Text) (items : List (Result (List Text) E)) → AppendsIf (HeldFits s) s.before.rows (held_text s) old mid (Ok value)
+  results-go : {U : Type 0} {old mid : String Z} (new : String Z) (r : Result U (RowsFault E)) (value : V) (s : Streaming) (next : List Text) (items : List (Result (List Text) E)) → AppendsIf (HeldFits s) s.before.rows (held_text s) old mid (Ok value)
       → PrintsResults (after_push s next) items mid new r → PrintsResults s (Ok next ∷ items) old new r
   results-go new (Ok done) value s next items p q = (q.0, push-goes (Ok done) value s.before s.held next (rows_before items) p q.1)
-  results-go new (Err (Stream fault)) value s next items p q = push-goes (Err fault) value s.before s.held next (rows_before items) p q
-  results-go new (Err (Source error)) value s next items p q = (q.0, latest-below new value s.before s.held next (rows_before items) p q.1)
-
--- the held row isn't appended where an error comes next
-latest-held : {Z : Type 0} (now : String Z) (before : Printing) (held : Option (List Text)) → string_bytes now ≡ string_bytes now ++ text_but_latest before (rows_left (record { before = before; held = held }) [])
-unfolding text_but_latest
-latest-held now before None = sym (append-nil (string_bytes now))
-latest-held now before (Some row) = sym (append-nil (string_bytes now))
+  results-go new (Err (Stream fault)) value s next items p q = until-goes new (first_error items) (Err fault) value s.before s.held next (rows_before items) p q
+  results-go new (Err (Source error)) value s next items p q = (q.0, push-goes-but-latest (Ok tt) value s.before s.held next (rows_before items) p q.1)
 
 -- ---- of an iterator
 
@@ -78,11 +76,11 @@ module _ {I A Z E : Type 0} (U : Type 0) (view : A → Result (List Text) E) (st
 
   pub streamed-stops : {V : Type 0} {old now new : String Z} {later : I} (s began : Streaming) (all : List (Result (List Text) E)) (fault : StreamFault) (cells : List Text) → Taken old now later s began (Ok cells) all
       → AppendsIf {U = V} (HeldFits s) s.before.rows (held_text s) now new (Err fault) → PrintsResults {U = U} began all old new (Err (Stream fault))
-  streamed-stops {new} s began all fault cells p appends = p.rest new (Err (Stream fault)) (push-stops fault s.before s.held cells (rows_before p.others) appends)
+  streamed-stops {new} s began all fault cells p appends = p.rest new (Err (Stream fault)) (until-stops U (first_error p.others) fault s.before s.held cells (rows_before p.others) appends)
 
   -- an error
   pub streamed-fails : {old now : String Z} {later : I} (s began : Streaming) (all : List (Result (List Text) E)) (error : E) → Taken old now later s began (Err error) all → PrintsResults {U = U} began all old now (Err (Source error))
-  streamed-fails {now} s began all error p = p.rest now (Err (Source error)) (refl, latest-held now s.before s.held)
+  streamed-fails {now} s began all error p = p.rest now (Err (Source error)) (refl, none-left now s.before s.held tt)
 
   -- the end
   end-streamed : {old now : String Z} {rows later : I} (new : String Z) (s began : Streaming) (all : List (Result (List Text) E)) (r : Result U (RowsFault E)) (items : List (Result (List Text) E)) → AlwaysGives (λ x y. view x ≡ y) steps rows items

@@ -1,14 +1,14 @@
 -- What a stream of rows appends: the row that it holds, and all rows behind it.
-use Rattle.std.proofs.Common.{◌≡◌, ℕ, ◌+◌, ◌<◌, ◌≤◌, Bool, true, false, nat_lt, List, [], ◌∷◌, ◌++◌, Option, Some, None, refl, sym, ap, ap₂, ◌∙◌, subst, append_assoc, append-nil, arith, inl, inr, if◌then◌else◌}
+use Rattle.std.proofs.Common.{◌≡◌, ◌⊎◌, ℕ, ◌+◌, ◌<◌, ◌≤◌, Bool, true, false, nat_lt, List, [], ◌∷◌, ◌++◌, Option, Some, None, refl, sym, ap, ap₂, ◌∙◌, subst, append_assoc, append-nil, arith, inl, inr, if◌then◌else◌}
 use Rattle.std.specs.Prelude.{String, string_bytes, Result, Ok, Err, OnOk}
 use Rattle.std.proofs.lemmas.Bool.Decides.{nat_tests}
 use Rattle.pg_layout.specs.Records.{AlwaysGives}
 use Rattle.pg_layout.specs.Text.{Text}
-use Rattle.pg_picture.specs.Appending.{Appends, GainedBeginning}
-use Rattle.pg_picture.proofs.Appending.{◌then◌, Appends-beginning, stopped, refused-as, appended-as, Gained-none, Gained-all}
-use Rattle.pg_stream.specs.Conditions.{RowFits, RowsFit}
+use Rattle.pg_picture.specs.Appending.{Appends, AppendsOrNothing}
+use Rattle.pg_picture.proofs.Appending.{◌then◌, Appends-text, stopped, refused-as, appended-as, Gained-none, Gained-all}
+use Rattle.pg_stream.specs.Conditions.{RowFits}
 use Rattle.pg_stream.specs.Printing.{Printing, row_text, finish_text, after_row, rows_text}
-use Rattle.pg_stream.specs.Streams.{Streaming, held_text, HeldFits, after_push, rows_left, IsMisfit, text_above, OnlyMemory, TellsRow, AppendsIf, PrintsRows}
+use Rattle.pg_stream.specs.Streams.{Streaming, held_text, HeldFits, after_push, rows_left, IsMisfit, text_above, OnlyMemory, TellsRow, AppendsIf, AppendsRows, PrintsRows, IsMisfitButLatest, text_but_latest, PrintsButLatest}
 use Rattle.pg_stream.specs.declared.fault.StreamFault.{StreamFault}
 use Rattle.pg_stream.specs.declared.fault.StreamFault.TheVariants.{Misfit, Row, Memory}
 
@@ -38,11 +38,22 @@ rows-after : (s : Printing) (cells : List Text) (b : Bool) → (after_row s cell
 unfolding after_row
 rows-after s cells b = refl
 
+-- a row that doesn't fit is none of those above them
 misfit-below : (s : Printing) (rows : List (List Text)) (n : ℕ) → IsMisfit s rows n → s.rows ≤ n
 misfit-below s [] n is = absurd is
 misfit-below s (cells ∷ []) n is = omega (arith, is.0)
 misfit-below s (cells ∷ next ∷ rows) n (inl is) = omega (arith, is.0)
 misfit-below s (cells ∷ next ∷ rows) n (inr is) = omega (arith, misfit-below (after_row s cells false) (next ∷ rows) n is.1, rows-after s cells false)
+
+misfit-below-but-latest : (s : Printing) (rows : List (List Text)) (n : ℕ) → IsMisfitButLatest s rows n → s.rows ≤ n
+misfit-below-but-latest s [] n is = absurd is
+misfit-below-but-latest s (cells ∷ []) n is = absurd is
+misfit-below-but-latest s (cells ∷ next ∷ rows) n (inl is) = omega (arith, is.0)
+misfit-below-but-latest s (cells ∷ next ∷ rows) n (inr is) = omega (arith, misfit-below-but-latest (after_row s cells false) (next ∷ rows) n is.1, rows-after s cells false)
+
+-- above a later row stands the first one
+above-later : (s : Printing) (cells : List Text) (rows : List (List Text)) (n : ℕ) → (after_row s cells false).rows ≤ n → text_above s (cells ∷ rows) n ≡ row_text s cells false ++ text_above (after_row s cells false) rows n
+above-later s cells rows n later = more-above s cells rows n (omega (arith, later, rows-after s cells false))
 
 module _ {Z U : Type 0} where
   -- ---- a row that is tested, and printed if it fits
@@ -82,88 +93,165 @@ module _ {Z U : Type 0} where
   pub tells-row : {Fits : Type 0} {row : ℕ} {text : Text} {old new : String Z} {r : Result U StreamFault} (n : ℕ) → AppendsIf Fits row text old new r → r ≡ Err (Row n) → (n ≡ row) × (new ≡ old) × ¬ Fits
   tells-row {Fits} {row} n p is = let t : TellsRow {U = U} Fits row (Err (Row n)) = subst (λ (q : Result U StreamFault). TellsRow Fits row q) is p.tells in (t.0, (p.misfit t.1).1, t.1)
 
-  pub tells-memory : {Fits : Type 0} {row : ℕ} {text : Text} {old new : String Z} {r : Result U StreamFault} → AppendsIf Fits row text old new r → r ≡ Err Memory → GainedBeginning old new text
-  tells-memory {Fits} {row} {text} {old} {new} p is =
-      let t : TellsRow {U = U} Fits row (Err Memory) = subst (λ (q : Result U StreamFault). TellsRow Fits row q) is p.tells in
-      Appends-beginning (subst (λ (q : Result U StreamFault). Appends old new q text) is (p.whole t).0)
+  pub tells-memory : {Fits : Type 0} {row : ℕ} {text : Text} {old new : String Z} {r : Result U StreamFault} → AppendsIf Fits row text old new r → r ≡ Err Memory → AppendsOrNothing old new r text
+  tells-memory {Fits} {row} p is = let t : TellsRow {U = U} Fits row (Err Memory) = subst (λ (q : Result U StreamFault). TellsRow Fits row q) is p.tells in inl (p.whole t).0
 
-  -- ---- rows to the end
+  pub rows-ok : {Fit : Type 0} {IsFirst : ℕ → Type 0} {text : Text} {above : ℕ → Text} {old new : String Z} (r : Result U StreamFault) → AppendsRows Fit IsFirst text above old new r → OnOk r (string_bytes new ≡ string_bytes old ++ text)
+  rows-ok (Ok value) p = (p.whole p.tells).0.ok
+  rows-ok (Err fault) p = tt
 
+-- nothing is added to a text by none
+bytes-none : {Z : Type 0} (old : String Z) (text : Text) → text ≡ [] → string_bytes old ≡ string_bytes old ++ text
+bytes-none old text is = sym (append-nil (string_bytes old)) ∙ ap (λ t. string_bytes old ++ t) (sym is)
+
+-- ---- rows, whatever it is that they meet
+
+module _ {Z U : Type 0} {Fit : Type 0} {IsFirst : ℕ → Type 0} {text : Text} {above : ℕ → Text} where
   -- rows that fit, and whose text was appended or refused
-  pub prints-all : {old new : String Z} (r : Result U StreamFault) (s : Printing) (rows : List (List Text)) → RowsFit s rows → Appends old new r (rows_text s rows) → OnlyMemory r → PrintsRows s rows old new r
-  prints-all (Ok value) s rows fit a memory = record { whole = λ fits. (a, tt); tells = fit }
-  prints-all (Err (Misfit m)) s rows fit a memory = absurd memory
-  prints-all (Err (Row n)) s rows fit a memory = absurd memory
-  prints-all (Err Memory) s rows fit a memory = record { whole = λ fits. (a, tt); tells = a }
+  pub rows-fit : {old new : String Z} (r : Result U StreamFault) → Fit → ((n : ℕ) → ¬ (IsFirst n)) → Appends old new r text → OnlyMemory r → AppendsRows Fit IsFirst text above old new r
+  rows-fit (Ok value) fit none a memory = record { whole = λ _. (a, tt); misfit = λ n is. absurd (none n is); tells = fit }
+  rows-fit (Err (Misfit m)) fit none a memory = absurd memory
+  rows-fit (Err (Row n)) fit none a memory = absurd memory
+  rows-fit (Err Memory) fit none a memory = record { whole = λ _. (a, tt); misfit = λ n is. absurd (none n is); tells = a }
 
-  pub prints-ok : {old new : String Z} (r : Result U StreamFault) (s : Printing) (rows : List (List Text)) → PrintsRows s rows old new r → OnOk r (string_bytes new ≡ string_bytes old ++ rows_text s rows)
-  prints-ok (Ok value) s rows p = (p.whole p.tells).0.ok
-  prints-ok (Err fault) s rows p = tt
+  -- where no row is held, nothing comes before them
+  same-stop : {V : Type 0} {row : ℕ} {old new : String Z} (fault : StreamFault) → AppendsIf {U = V} (Unit {0}) row [] old new (Err fault) → AppendsRows {U = U} Fit IsFirst text above old new (Err fault)
+  same-stop (Misfit m) p = absurd p.tells
+  same-stop (Row n) p = absurd (p.tells.1 tt)
+  same-stop Memory p = record { whole = λ _. (stopped text refl (p.whole tt).0, tt); misfit = λ n is. stopped (above n) refl (p.whole tt).0; tells = stopped text refl (p.whole tt).0 }
 
-  -- a row that isn't printed stops all behind it
-  last-stops : {V : Type 0} {old new : String Z} (fault : StreamFault) (s : Printing) (row : List Text) → AppendsIf {U = V} (RowFits s row true) s.rows (row_text s row true) old new (Err fault) → PrintsRows {U = U} s (row ∷ []) old new (Err fault)
-  unfolding rows_text
-  last-stops (Misfit m) s row p = absurd p.tells
-  last-stops {old} {new} (Row n) s row p = record {
-    whole = λ fit. absurd (p.tells.1 fit);
-    tells = (p.tells, ap (λ (b : String Z). string_bytes b) (p.misfit p.tells.1).1 ∙ sym (append-nil (string_bytes old)) ∙ ap (λ t. string_bytes old ++ t) (sym (none-above s row [] n p.tells.0)));
+  same-rows : {V : Type 0} {old mid new : String Z} {value : V} (r : Result U StreamFault) → Appends {U = V} {E = StreamFault} old mid (Ok value) [] → AppendsRows Fit IsFirst text above mid new r → AppendsRows Fit IsFirst text above old new r
+  same-rows (Ok value) a q = record { whole = λ fit. (a then (q.whole fit).0, tt); misfit = λ n is. q.misfit n is; tells = q.tells }
+  same-rows (Err (Misfit m)) a q = absurd q.tells
+  same-rows {old} (Err (Row n)) a q =
+      let same = a.ok ∙ append-nil (string_bytes old) in
+      record {
+        whole = λ fit. absurd (q.whole fit).1;
+        misfit = λ k is. ((q.misfit k is).0, (q.misfit k is).1 ∙ ap (λ t. t ++ above k) same);
+        tells = (q.tells.0, q.tells.1 ∙ ap (λ t. t ++ above n) same);
+      }
+  same-rows (Err Memory) a q = record { whole = λ _. (a then q.tells, tt); misfit = λ k is. a then q.misfit k is; tells = a then q.tells }
+
+-- ---- a row before others
+
+-- the first row that doesn't fit is this one, or it is one of those behind it
+abbrev pub OneOrBehind : Type 0 → ℕ → (ℕ → Type 0) → ℕ → Type 0
+OneOrBehind Fits row IsFirst n = ((n ≡ row) × ¬ Fits) ⊎ (Fits × IsFirst n)
+
+module _ {Z U : Type 0} {Fits Fit : Type 0} {IsFirst : ℕ → Type 0} {row : ℕ} {head : Text} {above : ℕ → Text} where
+  -- where it isn't printed, nor are those behind it
+  row-stop : {V : Type 0} {old new : String Z} (fault : StreamFault) (text : Text) (behind : ℕ → Text) → ((n : ℕ) → n ≡ row → above n ≡ []) → ((n : ℕ) → IsFirst n → above n ≡ head ++ behind n) → AppendsIf {U = V} Fits row head old new (Err fault)
+      → AppendsRows {U = U} (Fits × Fit) (OneOrBehind Fits row IsFirst) (head ++ text) above old new (Err fault)
+  row-stop (Misfit m) text behind none more p = absurd p.tells
+  row-stop {old} {new} (Row n) text behind none more p =
+      let same = ap (λ (b : String Z). string_bytes b) (p.misfit p.tells.1).1 in
+      record {
+        whole = λ fit. absurd (p.tells.1 fit.0);
+        misfit = λ k is. elim is [
+          | inl here ↦ (p.tells.0 ∙ sym here.0, same ∙ bytes-none old (above k) (none k here.0))
+          | inr later ↦ absurd (p.tells.1 later.0)
+        ];
+        tells = (inl p.tells, same ∙ bytes-none old (above n) (none n p.tells.0));
+      }
+  row-stop Memory text behind none more p = record {
+    whole = λ fit. (stopped text refl (p.whole p.tells).0, tt);
+    misfit = λ k is. elim is [
+      | inl here ↦ absurd (here.1 p.tells)
+      | inr later ↦ Appends-text (sym (more k later.1)) (stopped (behind k) refl (p.whole p.tells).0)
+    ];
+    tells = stopped text refl (p.whole p.tells).0;
   }
-  last-stops Memory s row p = let a = stopped (finish_text (after_row s row true)) refl (p.whole p.tells).0 in record { whole = λ fit. (a, tt); tells = a }
 
-  row-stops : {V : Type 0} {old new : String Z} (fault : StreamFault) (s : Printing) (row next : List Text) (rows : List (List Text)) → AppendsIf {U = V} (RowFits s row false) s.rows (row_text s row false) old new (Err fault)
-      → PrintsRows {U = U} s (row ∷ next ∷ rows) old new (Err fault)
-  unfolding rows_text
-  row-stops (Misfit m) s row next rows p = absurd p.tells
-  row-stops {old} {new} (Row n) s row next rows p = record {
-    whole = λ fit. absurd (p.tells.1 fit.0);
-    tells = (inl p.tells, ap (λ (b : String Z). string_bytes b) (p.misfit p.tells.1).1 ∙ sym (append-nil (string_bytes old)) ∙ ap (λ t. string_bytes old ++ t) (sym (none-above s row (next ∷ rows) n p.tells.0)));
+  -- where it is printed, its text goes before theirs
+  row-goes : {V : Type 0} {text : Text} {behind : ℕ → Text} {old mid new : String Z} {value : V} (r : Result U StreamFault) → ((n : ℕ) → IsFirst n → above n ≡ head ++ behind n) → Fits → Appends {U = V} {E = StreamFault} old mid (Ok value) head → AppendsRows Fit IsFirst text behind mid new r
+      → AppendsRows (Fits × Fit) (OneOrBehind Fits row IsFirst) (head ++ text) above old new r
+  row-goes (Ok value) more fits a q = record {
+    whole = λ fit. (a then (q.whole fit.1).0, tt);
+    misfit = λ k is. elim is [
+      | inl here ↦ absurd (here.1 fits)
+      | inr later ↦ q.misfit k later.1
+    ];
+    tells = (fits, q.tells);
   }
-  row-stops Memory s row next rows p = let a = stopped (rows_text (after_row s row false) (next ∷ rows)) refl (p.whole p.tells).0 in record { whole = λ fit. (a, tt); tells = a }
-
-  pub push-stops : {V : Type 0} {old new : String Z} (fault : StreamFault) (before : Printing) (held : Option (List Text)) (next : List Text) (rows : List (List Text))
-      → AppendsIf {U = V} (HeldFits (record { before = before; held = held })) before.rows (held_text (record { before = before; held = held })) old new (Err fault)
-      → PrintsRows {U = U} before (rows_left (record { before = before; held = held }) (next ∷ rows)) old new (Err fault)
-  push-stops fault before (Some row) next rows p = row-stops fault before row next rows p
-  push-stops (Misfit m) before None next rows p = absurd p.tells
-  push-stops (Row n) before None next rows p = absurd (p.tells.1 tt)
-  push-stops Memory before None next rows p = let a = stopped (rows_text before (next ∷ rows)) refl (p.whole tt).0 in record { whole = λ fit. (a, tt); tells = a }
-
-  -- a row that is printed goes before all behind it
-  same-rows : {V : Type 0} {old mid new : String Z} {value : V} (r : Result U StreamFault) (s : Printing) (rows : List (List Text)) → Appends {U = V} {E = StreamFault} old mid (Ok value) [] → PrintsRows s rows mid new r → PrintsRows s rows old new r
-  same-rows (Ok value) s rows a q = record { whole = λ fit. (a then (q.whole fit).0, tt); tells = q.tells }
-  same-rows (Err (Misfit m)) s rows a q = absurd q.tells
-  same-rows {old} (Err (Row n)) s rows a q = record {
-    whole = λ fit. absurd (q.whole fit).1;
-    tells = (q.tells.0, q.tells.1 ∙ ap (λ t. t ++ text_above s rows n) (a.ok ∙ append-nil (string_bytes old)));
-  }
-  same-rows (Err Memory) s rows a q = let b = a then q.tells in record { whole = λ fit. (b, tt); tells = b }
-
-  row-goes : {V : Type 0} {old mid new : String Z} {value : V} (r : Result U StreamFault) (s : Printing) (row next : List Text) (rows : List (List Text)) → RowFits s row false → Appends {U = V} {E = StreamFault} old mid (Ok value) (row_text s row false)
-      → PrintsRows (after_row s row false) (next ∷ rows) mid new r → PrintsRows s (row ∷ next ∷ rows) old new r
-  unfolding rows_text
-  row-goes (Ok value) s row next rows fits a q = record { whole = λ fit. (a then (q.whole fit.1).0, tt); tells = (fits, q.tells) }
-  row-goes (Err (Misfit m)) s row next rows fits a q = absurd q.tells
-  row-goes {old} (Err (Row n)) s row next rows fits a q =
-      let below : s.rows < n = omega (arith, misfit-below (after_row s row false) (next ∷ rows) n q.tells.0, rows-after s row false) in
+  row-goes (Err (Misfit m)) more fits a q = absurd q.tells
+  row-goes {behind} {old} {mid} (Err (Row n)) more fits a q =
+      let joined : (k : ℕ) → IsFirst k → string_bytes mid ++ behind k ≡ string_bytes old ++ above k =
+      λ k is. ap (λ t. t ++ behind k) a.ok ∙ append_assoc (string_bytes old) head (behind k) ∙ ap (λ t. string_bytes old ++ t) (sym (more k is)) in
       record {
         whole = λ fit. absurd (q.whole fit.1).1;
-        tells = (
-          inr (fits, q.tells.0),
-          q.tells.1 ∙ ap (λ t. t ++ text_above (after_row s row false) (next ∷ rows) n) a.ok ∙ append_assoc (string_bytes old) (row_text s row false) _ ∙ ap (λ t. string_bytes old ++ t) (sym (more-above s row (next ∷ rows) n below)),
-        );
+        misfit = λ k is. elim is [
+          | inl here ↦ absurd (here.1 fits)
+          | inr later ↦ ((q.misfit k later.1).0, (q.misfit k later.1).1 ∙ joined k later.1)
+        ];
+        tells = (inr (fits, q.tells.0), q.tells.1 ∙ joined n q.tells.0);
       }
-  row-goes (Err Memory) s row next rows fits a q = let b = a then q.tells in record { whole = λ fit. (b, tt); tells = b }
+  row-goes (Err Memory) more fits a q = record {
+    whole = λ fit. (a then q.tells, tt);
+    misfit = λ k is. elim is [
+      | inl here ↦ absurd (here.1 fits)
+      | inr later ↦ Appends-text (sym (more k later.1)) (a then q.misfit k later.1)
+    ];
+    tells = a then q.tells;
+  }
 
-  pub push-goes : {V : Type 0} {old mid new : String Z} (r : Result U StreamFault) (value : V) (before : Printing) (held : Option (List Text)) (next : List Text) (rows : List (List Text))
+-- ---- the held row and those behind it
+
+module _ {Z U V : Type 0} where
+  pub push-stops : {old new : String Z} (fault : StreamFault) (before : Printing) (held : Option (List Text)) (next : List Text) (rows : List (List Text))
+      → AppendsIf {U = V} (HeldFits (record { before = before; held = held })) before.rows (held_text (record { before = before; held = held })) old new (Err fault)
+      → PrintsRows {U = U} before (rows_left (record { before = before; held = held }) (next ∷ rows)) old new (Err fault)
+  unfolding rows_text
+  push-stops fault before None next rows p = same-stop fault p
+  push-stops fault before (Some row) next rows p = row-stop fault _ (text_above (after_row before row false) (next ∷ rows)) (none-above before row (next ∷ rows)) (λ n is. above-later before row (next ∷ rows) n (misfit-below (after_row before row false) (next ∷ rows) n is)) p
+
+  pub push-goes : {old mid new : String Z} (r : Result U StreamFault) (value : V) (before : Printing) (held : Option (List Text)) (next : List Text) (rows : List (List Text))
       → AppendsIf (HeldFits (record { before = before; held = held })) before.rows (held_text (record { before = before; held = held })) old mid (Ok value)
       → PrintsRows (after_push (record { before = before; held = held }) next).before (next ∷ rows) mid new r
       → PrintsRows before (rows_left (record { before = before; held = held }) (next ∷ rows)) old new r
-  push-goes r value before None next rows p q = same-rows r before (next ∷ rows) (p.whole tt).0 q
-  push-goes r value before (Some row) next rows p q = row-goes r before row next rows p.tells (p.whole p.tells).0 q
+  unfolding rows_text
+  push-goes r value before None next rows p q = same-rows r (p.whole tt).0 q
+  push-goes r value before (Some row) next rows p q = row-goes r (λ n is. above-later before row (next ∷ rows) n (misfit-below (after_row before row false) (next ∷ rows) n is)) p.tells (p.whole p.tells).0 q
 
-  -- ---- the end
+  -- the same where an error comes behind them
+  pub push-stops-but-latest : {old new : String Z} (fault : StreamFault) (before : Printing) (held : Option (List Text)) (next : List Text) (rows : List (List Text))
+      → AppendsIf {U = V} (HeldFits (record { before = before; held = held })) before.rows (held_text (record { before = before; held = held })) old new (Err fault)
+      → PrintsButLatest {U = U} before (rows_left (record { before = before; held = held }) (next ∷ rows)) old new (Err fault)
+  unfolding text_but_latest
+  push-stops-but-latest fault before None next rows p = same-stop fault p
+  push-stops-but-latest fault before (Some row) next rows p =
+      row-stop fault _ (text_above (after_row before row false) (next ∷ rows)) (none-above before row (next ∷ rows)) (λ n is. above-later before row (next ∷ rows) n (misfit-below-but-latest (after_row before row false) (next ∷ rows) n is)) p
 
+  pub push-goes-but-latest : {old mid new : String Z} (r : Result U StreamFault) (value : V) (before : Printing) (held : Option (List Text)) (next : List Text) (rows : List (List Text))
+      → AppendsIf (HeldFits (record { before = before; held = held })) before.rows (held_text (record { before = before; held = held })) old mid (Ok value)
+      → PrintsButLatest (after_push (record { before = before; held = held }) next).before (next ∷ rows) mid new r
+      → PrintsButLatest before (rows_left (record { before = before; held = held }) (next ∷ rows)) old new r
+  unfolding text_but_latest
+  push-goes-but-latest r value before None next rows p q = same-rows r (p.whole tt).0 q
+  push-goes-but-latest r value before (Some row) next rows p q =
+      row-goes r (λ n is. above-later before row (next ∷ rows) n (misfit-below-but-latest (after_row before row false) (next ∷ rows) n is)) p.tells (p.whole p.tells).0 q
+
+-- no row is left
+pub none-left : {Z U : Type 0} (now : String Z) (before : Printing) (held : Option (List Text)) (value : U) → PrintsButLatest before (rows_left (record { before = before; held = held }) []) now now (Ok value)
+unfolding text_but_latest
+none-left now before None value = rows-fit (Ok value) tt (λ n is. is) (Gained-all (Gained-none now)) tt
+none-left now before (Some row) value = rows-fit (Ok value) tt (λ n is. is) (Gained-all (Gained-none now)) tt
+
+-- ---- the end
+
+module _ {Z U : Type 0} where
   -- the held row is the last
+  last-stops : {V : Type 0} {old new : String Z} (fault : StreamFault) (s : Printing) (row : List Text) → AppendsIf {U = V} (RowFits s row true) s.rows (row_text s row true) old new (Err fault) → PrintsRows {U = U} s (row ∷ []) old new (Err fault)
+  unfolding rows_text
+  last-stops (Misfit m) s row p = absurd p.tells
+  last-stops {old} {new} (Row n) s row p =
+      let same = ap (λ (b : String Z). string_bytes b) (p.misfit p.tells.1).1 in
+      record {
+        whole = λ fit. absurd (p.tells.1 fit);
+        misfit = λ k is. (p.tells.0 ∙ sym is.0, same ∙ bytes-none old _ (none-above s row [] k is.0));
+        tells = (p.tells, same ∙ bytes-none old _ (none-above s row [] n p.tells.0));
+      }
+  last-stops Memory s row p = rows-fit (Err Memory) p.tells (λ n is. is.1 p.tells) (stopped (finish_text (after_row s row true)) refl (p.whole p.tells).0) tt
+
   pub end-stops : {V : Type 0} {old new : String Z} (fault : StreamFault) (s : Streaming) (row : List Text) → s.held ≡ Some row → AppendsIf {U = V} (RowFits s.before row true) s.before.rows (row_text s.before row true) old new (Err fault)
       → PrintsRows {U = U} s.before (rows_left s []) old new (Err fault)
   end-stops fault s row is p = rw is (last-stops fault s.before row p)
@@ -174,12 +262,15 @@ module _ {Z U : Type 0} where
   unfolding rows_text
   end-some {old} {new} r s row q is p after a memory =
       let b : Appends old new r (rows_text s.before (row ∷ [])) = (p.whole p.tells).0 then rw after at a in
-      rw is (prints-all r s.before (row ∷ []) p.tells b memory)
+      let printed : PrintsRows s.before (row ∷ []) old new r = rows-fit r p.tells (λ n first. first.1 p.tells) b memory in
+      rw is printed
 
   -- no row was pushed
   pub end-none : {old new : String Z} (r : Result U StreamFault) (s : Streaming) → s.held ≡ None → Appends old new r (finish_text s.before) → OnlyMemory r → PrintsRows s.before (rows_left s []) old new r
   unfolding rows_text
-  end-none r s is a memory = rw is (prints-all r s.before [] tt a memory)
+  end-none {old} {new} r s is a memory =
+      let printed : PrintsRows s.before [] old new r = rows-fit r tt (λ n first. first) a memory in
+      rw is printed
 
 -- ---- rows of an iterator
 

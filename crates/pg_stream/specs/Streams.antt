@@ -79,17 +79,34 @@ pub record AppendsIf {Z U : Type 0} (Fits : Type 0) (row : ℕ) (text : Text) (o
   pub misfit : ¬ Fits → (result ≡ Err (Row row)) × (new ≡ old)
   pub tells : TellsRow Fits row result
 
+-- This row doesn't fit, and this is the text of the rows above it: the row is named behind that text, or memory was refused
+-- for that text. Nothing of the row itself is appended. Where the text is empty, no buffer has too little room for it.
+abbrev pub StopsAt : {Z U : Type 0} → ℕ → Text → String Z → String Z → Result U StreamFault → Type 0
+StopsAt row above old new (Ok value) = ⊥
+StopsAt row above old new (Err (Misfit misfit)) = ⊥
+StopsAt row above old new (Err (Row n)) = (n ≡ row) × (string_bytes new ≡ string_bytes old ++ above)
+StopsAt {U} row above old new (Err Memory) = Appends {U = U} old new (Err Memory) above
+
 -- the answer says whether all rows fit, or names the first that doesn't, and then those above it are appended
-abbrev pub TellsRows : {Z U : Type 0} → Printing → List (List Text) → String Z → String Z → Result U StreamFault → Type 0
-TellsRows s rows old new (Ok value) = RowsFit s rows
-TellsRows s rows old new (Err (Misfit misfit)) = ⊥
-TellsRows s rows old new (Err (Row n)) = IsMisfit s rows n × (string_bytes new ≡ string_bytes old ++ text_above s rows n)
-TellsRows {U} s rows old new (Err Memory) = Appends {U = U} old new (Err Memory) (rows_text s rows)
+abbrev pub TellsRows : {Z U : Type 0} → Type 0 → (ℕ → Type 0) → Text → (ℕ → Text) → String Z → String Z → Result U StreamFault → Type 0
+TellsRows Fit IsFirst text above old new (Ok value) = Fit
+TellsRows Fit IsFirst text above old new (Err (Misfit misfit)) = ⊥
+TellsRows Fit IsFirst text above old new (Err (Row n)) = IsFirst n × (string_bytes new ≡ string_bytes old ++ above n)
+TellsRows {U} Fit IsFirst text above old new (Err Memory) = Appends {U = U} old new (Err Memory) text
+
+-- A call appends rows, if they fit. Else it stops at the first that doesn't. The rows alone say which: `Fit`, that they fit;
+-- `IsFirst n`, that row n is the first that doesn't; `text`, what they append together; `above n`, what those above row n do.
+pub record AppendsRows {Z U : Type 0} (Fit : Type 0) (IsFirst : ℕ → Type 0) (text : Text) (above : ℕ → Text) (old new : String Z) (result : Result U StreamFault) : Type 0 where
+  -- rows that fit are appended, and refused for want of memory alone
+  pub whole : Fit → Appends old new result text × OnlyMemory result
+  -- at the first row that doesn't fit it stops
+  pub misfit : (n : ℕ) → IsFirst n → StopsAt n (above n) old new result
+  -- and what the answer tells of the rows
+  pub tells : TellsRows Fit IsFirst text above old new result
 
 -- A call appends the text of these rows and ends the table, if they fit. Else it names the first row that doesn't.
-pub record PrintsRows {Z U : Type 0} (s : Printing) (rows : List (List Text)) (old new : String Z) (result : Result U StreamFault) : Type 0 where
-  pub whole : RowsFit s rows → Appends old new result (rows_text s rows) × OnlyMemory result
-  pub tells : TellsRows s rows old new result
+abbrev pub PrintsRows : {Z U : Type 0} → Printing → List (List Text) → String Z → String Z → Result U StreamFault → Type 0
+PrintsRows s rows old new result = AppendsRows (RowsFit s rows) (IsMisfit s rows) (rows_text s rows) (text_above s rows) old new result
 
 -- ---- rows that may be errors
 
@@ -104,15 +121,37 @@ first_error [] = None
 first_error (Ok row ∷ items) = first_error items
 first_error (Err error ∷ items) = Some error
 
--- the text of these rows but for the latest, which is held
+-- Where an error comes behind these rows, the latest is held and never printed: it isn't known whether it is the last. So it
+-- needn't fit, and the others are printed as rows that aren't the last.
+abbrev pub FitButLatest : Printing → List (List Text) → Type 0
+FitButLatest s [] = ⊤
+FitButLatest s (cells ∷ []) = ⊤
+FitButLatest s (cells ∷ next ∷ rows) = RowFits s cells false × FitButLatest (after_row s cells false) (next ∷ rows)
+
+-- row n of the table is the first of these but the latest that doesn't fit
+abbrev pub IsMisfitButLatest : Printing → List (List Text) → ℕ → Type 0
+IsMisfitButLatest s [] n = ⊥
+IsMisfitButLatest s (cells ∷ []) n = ⊥
+IsMisfitButLatest s (cells ∷ next ∷ rows) n = ((n ≡ s.rows) × ¬ (RowFits s cells false)) ⊎ (RowFits s cells false × IsMisfitButLatest (after_row s cells false) (next ∷ rows) n)
+
+-- the text of these rows but for the latest
 unfoldable pub text_but_latest : Printing → List (List Text) → Text
 text_but_latest s [] = []
 text_but_latest s (cells ∷ []) = []
 text_but_latest s (cells ∷ next ∷ rows) = row_text s cells false ++ text_but_latest (after_row s cells false) (next ∷ rows)
 
--- A call prints the rows before the first error, and ends the table if there is none. At an error it answers that, and the
--- latest row before it isn't appended, since it isn't known whether it is the last.
+-- A call appends the text of these rows but for the latest, if they fit. Else it names the first that doesn't.
+abbrev pub PrintsButLatest : {Z U : Type 0} → Printing → List (List Text) → String Z → String Z → Result U StreamFault → Type 0
+PrintsButLatest s rows old new result = AppendsRows (FitButLatest s rows) (IsMisfitButLatest s rows) (text_but_latest s rows) (text_above s rows) old new result
+
+-- A call prints the rows before the first error, where there is one, and else all of them and the table's end.
+abbrev pub PrintsUntil : {Z U E : Type 0} → Option E → Printing → List (List Text) → String Z → String Z → Result U StreamFault → Type 0
+PrintsUntil None s rows old new result = PrintsRows s rows old new result
+PrintsUntil (Some error) s rows old new result = PrintsButLatest s rows old new result
+
+-- A call prints the rows before the first error. It answers `Ok` where there is none, and the error where one comes and the
+-- rows were printed; any other answer says why these weren't.
 abbrev pub PrintsResults : {Z U E : Type 0} → Streaming → List (Result (List Text) E) → String Z → String Z → Result U (RowsFault E) → Type 0
 PrintsResults s items old new (Ok value) = (first_error items ≡ None) × PrintsRows s.before (rows_left s (rows_before items)) old new (Ok value)
-PrintsResults {U} s items old new (Err (InStream fault)) = PrintsRows {U = U} s.before (rows_left s (rows_before items)) old new (Err fault)
-PrintsResults s items old new (Err (Source error)) = (first_error items ≡ Some error) × (string_bytes new ≡ string_bytes old ++ text_but_latest s.before (rows_left s (rows_before items)))
+PrintsResults {U} s items old new (Err (InStream fault)) = PrintsUntil {U = U} (first_error items) s.before (rows_left s (rows_before items)) old new (Err fault)
+PrintsResults s items old new (Err (Source error)) = (first_error items ≡ Some error) × PrintsButLatest {U = Unit {0}} s.before (rows_left s (rows_before items)) old new (Ok tt)

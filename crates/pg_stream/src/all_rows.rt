@@ -26,8 +26,13 @@ impl<'a, S: AsStr + Drop, D: Dimension, C: Colors, B: Allocator, A: Allocator> R
     /// Prints a row and all behind it, and ends the table: what `row` and `finish` append, one after
     /// another. A row is printed when the next one was asked for, which tells whether it is the last.
     ///
-    /// Each row fits behind those before it, as `row` asks (`RowsFit`). Separators between rows that
-    /// are equal are drawn once and copied. Takes no memory but the buffer's.
+    /// Each row fits behind those before it, as `row` asks (`RowsFit`), and the iterators of the rows
+    /// and of their cells may be asked, and end. [`RowStream::print_all`] tests each row, and
+    /// [`RowStream::print_vec`] asks nothing at all. Separators between rows that are equal are drawn
+    /// once and copied. Takes no memory but the buffer's.
+    ///
+    /// [`RowStream::print_all`]: crate::RowStream::print_all
+    /// [`RowStream::print_vec`]: crate::RowStream::print_vec
     pub fn print_rows<Cells: Iterator<Item = S>, Rows: Iterator<Item = Cells>, W: Allocator>(
         self,
         first: Cells,

@@ -3,7 +3,7 @@
 ghost use Rattle.std.specs.Prelude.{◌≡◌, Some};
 ghost use Rattle.pg_stream.specs.declared.fault.RowsFault.{RowsFault};
 ghost use Rattle.pg_stream.specs.declared.fault.StreamFault.{StreamFault};
-ghost use Rattle.pg_stream.specs.Faults.{stream_fault_text};
+ghost use Rattle.pg_stream.specs.Faults.{stream_fault_text, rows_fault_text};
 
 use pg_picture::PrintFault;
 use pg_picture::fits::Misfit;
@@ -87,3 +87,17 @@ impl<E> From<StreamFault> for RowsFault<E> {
         RowsFault::Stream(fault)
     }
 }
+
+/// Writes what its part writes.
+impl<E: fmt::Display> fmt::Display for RowsFault<E> {
+    ghost output = { λ fault. rows_fault_text E.output fault };
+
+    fn fmt<W: fmt::Write>(&self, f: &mut fmt::Formatter<W>) -> fmt::Result {
+        match self {
+            RowsFault::Stream(fault) => fault.fmt(f),
+            RowsFault::Source(error) => error.fmt(f),
+        }
+    }
+}
+
+impl<E: Error> Error for RowsFault<E> {}

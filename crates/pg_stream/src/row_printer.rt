@@ -186,7 +186,12 @@ impl<'a, S: AsStr + Drop, D: Dimension, C: Colors, B: Allocator, A: Allocator> R
     /// line after a line feed unless it is the picture's first line. Where no row was printed, it
     /// appends nothing.
     ///
+    /// No row was printed, or the last one was: [`RowPrinter::rows`] answers 0, or
+    /// [`RowPrinter::is_ended`] that it was. [`RowStream::finish`] asks nothing.
+    ///
     /// Takes no memory but the buffer's.
+    ///
+    /// [`RowStream::finish`]: crate::RowStream::finish
     pub fn finish<W: Allocator>(self, buf: &mut String<W>) -> Result<(), AllocError>
         requires { ((printing D.width D.height C.color self).rows ≡ 0) ⊎ ((printing D.width D.height C.color self).is_ended ≡ true) }
         ensures { Appends buf.old buf.new result (finish_text (printing D.width D.height C.color self.entry)) }

@@ -5,7 +5,7 @@ ghost use Rattle.std.specs.Iterator.{IsFinite};
 ghost use Rattle.std.specs.Result.{result_map_both};
 ghost use Rattle.pg_layout.specs.Records.{AlwaysGives, Becomes};
 ghost use Rattle.pg_layout.specs.Text.{Text};
-ghost use Rattle.pg_picture.specs.Appending.{GainedBeginning};
+ghost use Rattle.pg_picture.specs.Appending.{AppendsOrNothing};
 ghost use Rattle.pg_picture.specs.declared.fits.Misfit.{Misfit};
 ghost use Rattle.pg_stream.specs.Conditions.{PrinterFits, printer_misfit};
 ghost use Rattle.pg_stream.specs.Printing.{printer, rows_text};
@@ -153,8 +153,11 @@ impl<
     /// Holds a row whose cells anything gives that can be iterated over, as an array or the parts of a
     /// line, and prints the one that was held until now.
     ///
-    /// The cells stand in a vector of this allocator. Where that finds no memory, nothing is appended.
-    /// Their iterator may be asked, and ends.
+    /// The cells stand in a vector of this allocator. Where that finds no memory, nothing is appended,
+    /// and the row that was held isn't tested. Else it answers as [`RowStream::push`] does.
+    ///
+    /// The iterator of the cells may be asked, and ends: those over arrays, vectors and parts of a text
+    /// do. [`RowStream::push`] asks nothing.
     ///
     /// ```rust
     /// stream = stream.push_from(alloc, line.split(','), &mut buf)?;
@@ -172,7 +175,8 @@ impl<
         ensures appends { OnOk result (string_bytes buf.new ≡ string_bytes buf.old ++ held_text (streaming D.width D.height C.color self.entry)) }
         ensures after { (texts : List Text) → Becomes R.into_iter_gives (AlwaysGives (λ x y. S.text x ≡ y) R.IntoIter.next_gives) row texts → IfOk result (λ s. streaming D.width D.height C.color s ≡ after_push (streaming D.width D.height C.color self.entry) texts) }
         ensures misfit { (row : ℕ) → result ≡ Err (StreamFault.Row row) → (row ≡ (streaming D.width D.height C.color self.entry).before.rows) × (buf.new ≡ buf.old) × ¬ (HeldFits (streaming D.width D.height C.color self.entry)) }
-        ensures memory { result ≡ Err StreamFault.Memory → GainedBeginning buf.old buf.new (held_text (streaming D.width D.height C.color self.entry)) }
+        ensures memory { result ≡ Err StreamFault.Memory → AppendsOrNothing buf.old buf.new result (held_text (streaming D.width D.height C.color self.entry)) }
+        ensures untouched { ¬ (HeldFits (streaming D.width D.height C.color self.entry)) → buf.new ≡ buf.old }
         ensures told { (misfit : Misfit) → result ≢ Err (StreamFault.Misfit misfit) }
     {
         let cells = collect_cells(alloc, row)?;
@@ -181,6 +185,9 @@ impl<
 
     /// Prints the row that is held as the last one, and ends the table. Where no row was pushed, it
     /// appends nothing.
+    ///
+    /// `StreamFault::Row` names the row that was held, where that doesn't fit as the last one; then
+    /// nothing is appended. Where memory is refused, a beginning of its text and the table's end is.
     pub fn finish<W: Allocator>(self, buf: &mut String<W>) -> Result<(), StreamFault>
         ensures appends { OnOk result (string_bytes buf.new ≡ string_bytes buf.old ++ rows_text (streaming D.width D.height C.color self.entry).before (rows_left (streaming D.width D.height C.color self.entry) [])) }
         ensures prints { PrintsRows (streaming D.width D.height C.color self.entry).before (rows_left (streaming D.width D.height C.color self.entry) []) buf.old buf.new result }
@@ -193,8 +200,11 @@ impl<
     /// Pushes all rows that an iterator gives, and ends the table.
     ///
     /// It stops at the first row that doesn't fit: the rows above that one stand whole, and it is named
-    /// by its number. Where memory is refused, a beginning of the text stands. The iterator may be asked,
-    /// and ends.
+    /// by its number (`StreamFault::Row`). Where memory is refused, a beginning of their text stands, or
+    /// of that of all rows where all fit.
+    ///
+    /// The iterator may be asked, and ends: those over arrays and vectors do. [`RowStream::print_vec`]
+    /// asks nothing.
     ///
     /// ```rust
     /// stream.print_all(rows.into_iter().filter(|row| row.len() == 2), &mut buf)?;
@@ -228,10 +238,13 @@ impl<
     }
 
     /// Pushes the rows before the first error that an iterator gives, and ends the table if there is
-    /// none. It stops at a row that doesn't fit as [`RowStream::print_all`] does.
+    /// none. It stops at a row that doesn't fit as [`RowStream::print_all`] does (`RowsFault::Stream`).
     ///
     /// At an error it answers `RowsFault::Source`. The rows before it stand whole, but for the latest:
-    /// it isn't known whether that is the last. The iterator may be asked, and ends.
+    /// it isn't known whether that is the last, so it is neither tested nor printed.
+    ///
+    /// The iterator may be asked, and ends: those over arrays and vectors do. [`RowStream::print_vec`]
+    /// takes rows that are no errors, and asks nothing.
     ///
     /// ```rust
     /// stream.print_results(reader.lines(alloc).map(|line| cells_of(alloc, line)), &mut buf)?;

@@ -179,6 +179,16 @@ fn rows_that_may_be_errors_stop_at_the_first_one(rt: HostRuntime) -> Result<(), 
 }
 
 #[test]
+fn why_rows_are_not_printed_is_told_in_words(rt: HostRuntime) -> Result<(), Fail> {
+    let alloc = rt.alloc();
+    let found: RowsFault<u8> = StreamFault::Row(3).into();
+    let came: RowsFault<u8> = RowsFault::Source(7);
+    let told = format!(in alloc; "{found}, {came}")?;
+    assert_eq!(rt; told.as_str(), "row 3 does not fit, 7");
+    Ok(())
+}
+
+#[test]
 fn rows_are_as_many_as_is_known(rt: HostRuntime) -> Result<(), Fail> {
     let many = Rows {
         texts: &[&["a", "b"], &["c", "d"], &["e", "f"]],

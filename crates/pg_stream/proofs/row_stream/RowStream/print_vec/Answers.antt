@@ -2,7 +2,7 @@ use Rattle.std.proofs.Common.{◌≡◌, map, refl, arith, length}
 use Rattle.std.specs.Vec.Iter.{into_iter_len}
 use Rattle.std.proofs.lemmas.Iterator.Adapters.{YieldsList-from_vec}
 use Rattle.pg_layout.proofs.Given.{given-items}
-use Rattle.pg_stream.proofs.StreamedRows.{prints-ok}
+use Rattle.pg_stream.proofs.StreamedRows.{rows-ok}
 use Rattle.pg_stream.proofs.row_stream.RowStream.print_vec.Goals as goal
 
 pub returns-clause-prints : goal.returns-clause-prints
@@ -12,4 +12,4 @@ returns-clause-prints g c =
     (given-items _ (λ row. map g.S.AsStr.text row.items) (λ x y. map g.S.AsStr.text x.items ≡ y) (λ x. refl) (YieldsList-from_vec c.args.rows.items c.into_iter.ensures.rest len))
 
 pub returns-clause-appends : goal.returns-clause-appends
-returns-clause-appends g c = prints-ok c.print_all.result _ _ (returns-clause-prints g c)
+returns-clause-appends g c = rows-ok c.print_all.result (returns-clause-prints g c)

@@ -14,3 +14,6 @@ returns-clause-misfit g c = λ row is. tells-row row c.push.ensures.prints is
 
 pub returns-clause-memory : goal.returns-clause-memory
 returns-clause-memory g c = λ is. tells-memory c.push.ensures.prints is
+
+pub returns-clause-untouched : goal.returns-clause-untouched
+returns-clause-untouched g c = λ no. (c.push.ensures.prints.misfit no).1
