@@ -13,9 +13,8 @@ mod tested;
 
 use crate::fault::Fault;
 use pg_config::{CompactConfig, SpannedConfig};
-use pg_grid::PrintFault;
+use pg_grid::{Misfit, PrintFault};
 use pg_layout::{Borders, NoColors};
-use pg_picture::fits::Misfit;
 
 fn main(rt: HostRuntime) -> Result<(), Fault> {
     let alloc = rt.alloc();
