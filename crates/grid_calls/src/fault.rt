@@ -1,8 +1,7 @@
 //! Why the program ends early.
 
-use pg_grid::PrintFault;
+use pg_grid::{Misfit, PrintFault};
 use pg_layout::RecordsFault;
-use pg_picture::fits::Misfit;
 use std::alloc::{AllocError, AllocFailed};
 use std::io;
 

@@ -15,9 +15,8 @@ mod told;
 
 use crate::fault::Fault;
 use pg_config::{CompactConfig, SpannedConfig};
-use pg_grid::PrintFault;
+use pg_grid::{Misfit, PrintFault};
 use pg_layout::{Borders, NoColors};
-use pg_picture::fits::Misfit;
 use std::alloc::Global;
 
 fn main(rt: HostRuntime) -> Result<(), Fault> {

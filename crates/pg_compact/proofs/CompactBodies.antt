@@ -19,7 +19,7 @@ use Rattle.pg_picture.proofs.JoinedLines.{continued-nil, continued-line, continu
 use Rattle.pg_picture.proofs.Pictures.{continued-any}
 use Rattle.pg_picture.proofs.Ranges.{range-more, range-cut}
 use Rattle.pg_compact.specs.declared.printer.CompactPrinter.{CompactPrinter}
-use Rattle.pg_compact.specs.Inside.Drawing.{printed_table, inner_separator, lines_of_row, head_lines, foot_lines}
+use Rattle.pg_compact.specs.Inside.Drawing.{printed_table, lines_between, lines_of_row, head_lines, foot_lines}
 
 -- ---- lines after others
 
@@ -100,18 +100,17 @@ module _ {D C : Type 0} (width : D → ℕ → ℕ) (color : C → Position → 
 
   -- a row after the first one, and the separator above it
   pub next_row-text : (r : ℕ) → 0 < r
-      → continued (lines_before false) (line_if (has_inner_horizontal p.config.now.borders) (inner_separator (printed_table width color p []))) ++ continued (lines_before false) (lines_of_row (printed_table width color p texts) r)
+      → continued (lines_before false) (lines_between (printed_table width color p [])) ++ continued (lines_before false) (lines_of_row (printed_table width color p texts) r)
       ≡ fed (row_lines (printed_table width color p texts) r)
   unfolding lines_of_row row_lines
   next_row-text r later =
       let t = printed_table width color p texts in
       let next : nat_lt 0 r ≡ true = grind (arith, nat_tests, later) in
-      let there : Bool = has_inner_horizontal p.config.now.borders in
-      let line : List Text = line_if there (inner_separator t) in
+      let line : List Text = lines_between t in
       let padding = t.config.padding in
       let above : List Text = replicate padding.top.size (padding_row t t.config.padding_color.top) in
       let below : List Text = text_row t r ∷ replicate padding.bottom.size (padding_row t t.config.padding_color.bottom) in
-      ap (λ x. continued (lines_before false) (line_if there x) ++ continued (lines_before false) (above ++ below)) (separator-any (inner_line t.config.borders) (inner_line t.config.borders_color))
+      ap (λ x. continued (lines_before false) (line_if (has_inner_horizontal t.config.borders) x) ++ continued (lines_before false) (above ++ below)) (separator-any (inner_line t.config.borders) (inner_line t.config.borders_color))
       ∙ rw next
       (ap₂ (λ a b. a ++ b) (after-others line) (after-others (above ++ below)) ∙ sym (fed-append line (above ++ below)) ∙ ap fed (sym (append_assoc line above below)))
 

@@ -13,17 +13,29 @@ use Rattle.pg_picture.specs.Picture.{compact_picture}
 use Rattle.pg_picture.specs.Sizes.{if_fits}
 use Rattle.pg_picture.specs.declared.fits.Misfit.{Misfit}
 use Rattle.pg_compact.specs.declared.printer.CompactPrinter.{CompactPrinter}
-use Rattle.pg_compact.specs.CompactGrids.{CompactFits}
+use Rattle.pg_compact.specs.CompactGrids.{CompactFits, compact_misfit, has_no_cells}
 use Rattle.pg_compact.specs.Inside.Drawing.{printed_table}
 use Rattle.pg_picture.proofs.SumsOfSizes.{some_answer}
 
-pub no_columns-text : (t : CompactTable) → t.columns ≡ 0 → [] ≡ compact_picture t
+-- a table without cells has no picture
+pub picture-empty : (t : CompactTable) → has_no_cells t ≡ true → compact_picture t ≡ []
 unfolding compact_picture
-no_columns-text t none = let e : ((t.rows == 0) || (t.columns == 0)) ≡ true = grind (arith, nat_tests, none) in rw e refl
+picture-empty t empty = rw empty refl
+
+pub no_columns-text : (t : CompactTable) → t.columns ≡ 0 → [] ≡ compact_picture t
+no_columns-text t none = sym (picture-empty t (grind (arith, nat_tests, none)))
 
 pub no_rows-text : (t : CompactTable) → t.rows ≡ 0 → [] ≡ compact_picture t
-unfolding compact_picture
-no_rows-text t none = let e : ((t.rows == 0) || (t.columns == 0)) ≡ true = grind (arith, nat_tests, none) in rw e refl
+no_rows-text t none = sym (picture-empty t (grind (arith, nat_tests, none)))
+
+-- and no misfit
+pub misfit-empty : (t : CompactTable) → has_no_cells t ≡ true → compact_misfit t ≡ None
+unfolding compact_misfit_of
+misfit-empty t empty =
+    elim (cases_Bool (t.rows == 0)) [
+      | inl none ↦ rw none refl
+      | inr some ↦ (let columns : (t.columns == 0) ≡ true = grind (arith, nat_tests, empty, some) in rw (some, columns) refl)
+    ]
 
 -- what the totals of a table are that has no misfit
 pub record CompactTotals (t : CompactTable) : Type 0 where

@@ -1,5 +1,5 @@
 -- The table that a compact grid draws, and its condition.
-use Rattle.std.specs.Prelude.{◌≡◌, ℕ, ◌<◌, ◌==◌, List, length, Option, None, if◌then◌else◌}
+use Rattle.std.specs.Prelude.{◌≡◌, ℕ, ◌<◌, ◌==◌, ◌||◌, Bool, List, length, Option, None, if◌then◌else◌}
 use Rattle.std.specs.Borrow.{Bor}
 use Rattle.pg_layout.specs.declared.position.Position.{Position}
 use Rattle.pg_layout.specs.Colors.{Color}
@@ -32,6 +32,10 @@ MayBeRead records grid = records.is_readable grid.records
 -- what a compact grid is made of
 abbrev pub compact_parts : {R D G C : Type 0} → CompactGrid R D G C → R × D × G × C
 compact_parts grid = (grid.records, grid.dimension, grid.config, grid.colors)
+
+-- it has no rows or no columns
+abbrev pub has_no_cells : CompactTable → Bool
+has_no_cells t = (t.rows == 0) || (t.columns == 0)
 
 -- A table with rows fits: its columns can be counted, its total width is a number of 64 bits, and each column has room
 -- for the side paddings. Its texts don't matter, and nothing is asked of a table with no rows.

@@ -1,9 +1,8 @@
 //! The lines of a compact table, one below the other.
 
-ghost use Rattle.std.specs.Prelude.{◌≡◌, ◌≤◌, ◌<◌, ◌==◌, ◌-◌, ◌+◌, ◌++◌, ◌^◌, [], ◌∷◌, ℕ, List, All, IfSome, false, length, flat_map, replicate, drop, slice_index_or};
+ghost use Rattle.std.specs.Prelude.{◌≡◌, ◌<◌, ◌==◌, ◌-◌, ◌++◌, [], ℕ, List, IfSome, false, length, flat_map, replicate};
 ghost use Rattle.std.specs.Iterator.{IsFinite};
 ghost use Rattle.std.specs.List.{range_with_len};
-ghost use Rattle.pg_layout.specs.Borders.{has_inner_horizontal};
 ghost use Rattle.pg_layout.specs.Colors.{str_color};
 ghost use Rattle.pg_layout.specs.Records.{Gives};
 ghost use Rattle.pg_picture.specs.Appending.{Appends};
@@ -12,7 +11,7 @@ ghost use Rattle.pg_picture.specs.Joined.{continued, fed};
 ghost use Rattle.pg_picture.specs.Inside.Following.{feed_before, lines_before};
 ghost use Rattle.pg_picture.specs.Picture.{compact_picture};
 ghost use Rattle.pg_compact.specs.CompactGrids.{CompactFits};
-ghost use Rattle.pg_compact.specs.Inside.Drawing.{printed_table, IsRow, AreRows, IsInnerSeparator, inner_separator, line_colors, lines_of_row, head_lines, foot_lines};
+ghost use Rattle.pg_compact.specs.Inside.Drawing.{printed_table, IsRow, AreRows, IsInnerSeparator, lines_between, line_colors, lines_of_row, head_lines, foot_lines};
 
 use crate::printer::CompactPrinter;
 use crate::separators::{bottom_line, top_line};
@@ -216,7 +215,7 @@ impl<D: Dimension, C: Colors> CompactPrinter<'_, D, C> {
         kept: &mut SeparatorKeeper<'_>,
     ) -> Result<(), AllocError>
         requires kept { IfSome kept.old.text (IsInnerSeparator (printed_table D.width C.color self.now [])) }
-        ensures appends { Appends buf.old buf.new result (continued (lines_before false) (line_if (has_inner_horizontal self.now.config.now.borders) (inner_separator (printed_table D.width C.color self.now [])))) }
+        ensures appends { Appends buf.old buf.new result (continued (lines_before false) (lines_between (printed_table D.width C.color self.now []))) }
         ensures kept { IfSome kept.new.text (IsInnerSeparator (printed_table D.width C.color self.now [])) }
     {
         if !self.config.get_borders().has_horizontal() {

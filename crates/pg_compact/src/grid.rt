@@ -1,5 +1,12 @@
 //! The compact grid: it reads its records once, row by row, and shows the first line of each text.
 
+ghost use Rattle.std.specs.Prelude.{◌≡◌, ◌≤◌, ◌++◌, ◌↔◌, true, Some, Err, IsOk, IfOk, OnOk, string_bytes};
+ghost use Rattle.pg_picture.specs.Appending.{Appends};
+ghost use Rattle.pg_picture.specs.Picture.{compact_picture};
+ghost use Rattle.pg_picture.specs.Printed.{Prints};
+ghost use Rattle.pg_picture.specs.Sizes.{unless_misfit};
+ghost use Rattle.pg_compact.specs.CompactGrids.{compact_parts, compact_table, compact_misfit, has_no_cells, CompactFits, MayBeRead};
+
 use crate::printer::CompactPrinter;
 use crate::row_edges::RowEdges;
 use pg_config::CompactConfig;
@@ -22,12 +29,9 @@ pub struct CompactGrid<R, D, G, C> {
 }
 
 impl<R, D, G, C> CompactGrid<R, D, G, C> {
-    ghost use Rattle.std.specs.Prelude.{◌≡◌};
-    ghost use Rattle.pg_compact.specs.CompactGrids.{compact_parts};
-
     /// A grid of these parts.
     pub fn new(records: R, config: G, dimension: D, colors: C) -> CompactGrid<R, D, G, C>
-        ensures { compact_parts result ≡ (records, dimension, config, colors) }
+        ensures parts { compact_parts result ≡ (records, dimension, config, colors) }
     {
         CompactGrid {
             records,
@@ -39,12 +43,9 @@ impl<R, D, G, C> CompactGrid<R, D, G, C> {
 }
 
 impl<R, D, G, C: Drop> CompactGrid<R, D, G, C> {
-    ghost use Rattle.std.specs.Prelude.{◌≡◌};
-    ghost use Rattle.pg_compact.specs.CompactGrids.{compact_parts};
-
     /// The same grid with these colours in place of its own.
     pub fn with_colors<Colors>(self, colors: Colors) -> CompactGrid<R, D, G, Colors>
-        ensures { compact_parts result ≡ ((compact_parts self).0, (compact_parts self).1, (compact_parts self).2, colors) }
+        ensures parts { compact_parts result ≡ ((compact_parts self).0, (compact_parts self).1, (compact_parts self).2, colors) }
     {
         CompactGrid::new(self.records, self.config, self.dimension, colors)
     }
@@ -56,11 +57,6 @@ where
     D: Dimension + Drop,
     C: Colors + Drop,
 {
-    ghost use Rattle.std.specs.Prelude.{◌≡◌, ◌≤◌, IfOk, string_bytes};
-    ghost use Rattle.pg_picture.specs.Appending.{Appends};
-    ghost use Rattle.pg_picture.specs.Picture.{compact_picture};
-    ghost use Rattle.pg_compact.specs.CompactGrids.{compact_table, CompactFits, MayBeRead};
-
     /// Appends the picture of the table, whose records may be read (all records in memory may), have
     /// at most `usize::MAX` rows, and in which the columns fit where there are rows: of records that
     /// know their rows [`CompactGrid::fits`] is the test, and [`CompactGrid::print`] the call that
@@ -88,12 +84,13 @@ where
 
     /// The picture of the table as a text of its own, under the conditions of `build`; of records that
     /// know their rows `text` is the call that tests them first. An error comes where no memory is
-    /// found.
+    /// found; a table with no rows or no columns asks for none.
     pub fn to_string<A: Allocator>(self, alloc: A) -> Result<String<A>, AllocError>
         requires readable { MayBeRead R.Records self }
         requires rows { (compact_table R.texts R.columns D.width C.color self).rows ≤ usize.MAX }
         requires fits { CompactFits (compact_table R.texts R.columns D.width C.color self) }
-        ensures { IfOk result (λ text. string_bytes text ≡ compact_picture (compact_table R.texts R.columns D.width C.color self.entry)) }
+        ensures text { IfOk result (λ text. string_bytes text ≡ compact_picture (compact_table R.texts R.columns D.width C.color self.entry)) }
+        ensures empty { has_no_cells (compact_table R.texts R.columns D.width C.color self.entry) ≡ true → IsOk result }
     {
         let mut text = String::new(alloc);
         self.build(&mut text)?;
@@ -107,12 +104,6 @@ where
     D: Dimension + Drop,
     C: Colors + Drop,
 {
-    ghost use Rattle.std.specs.Prelude.{◌≡◌, ◌≤◌, ◌++◌, ◌↔◌, Some, Err, IsOk, IfOk, OnOk, string_bytes};
-    ghost use Rattle.pg_picture.specs.Picture.{compact_picture};
-    ghost use Rattle.pg_picture.specs.Sizes.{unless_misfit};
-    ghost use Rattle.pg_compact.specs.CompactGrids.{compact_table, compact_misfit, CompactFits, MayBeRead};
-    ghost use Rattle.pg_picture.specs.Printed.{Prints};
-
     /// Whether the columns fit: the condition of `build` and `to_string` on its sizes, as a test. It
     /// answers the first thing that doesn't (`pg_picture::fits::Misfit`), and takes no memory. A table
     /// with no rows fits. The records stay unread, and their rows can be counted.
@@ -145,11 +136,12 @@ where
     }
 
     /// The picture of the table as a text of its own, under the condition of `print`, as that call
-    /// appends it.
+    /// appends it. A table with no rows or no columns asks for no memory.
     pub fn text<A: Allocator>(self, alloc: A) -> Result<String<A>, PrintFault>
         requires readable { MayBeRead R.Records self }
         ensures misfit { (m : _) → (result ≡ Err (PrintFault.Misfit m)) ↔ (compact_misfit (compact_table R.texts R.columns D.width C.color self.entry) ≡ Some m) }
         ensures text { IfOk result (λ text. string_bytes text ≡ compact_picture (compact_table R.texts R.columns D.width C.color self.entry)) }
+        ensures empty { has_no_cells (compact_table R.texts R.columns D.width C.color self.entry) ≡ true → IsOk result }
     {
         let mut text = String::new(alloc);
         self.print(&mut text)?;

@@ -99,7 +99,8 @@ where
     }
 
     /// The picture of the table as a text of its own, under the conditions of `build`; of records in
-    /// memory `text` is the call that tests them first. An error comes where no memory is found.
+    /// memory `text` is the call that tests them first. An error comes where no memory is found; a
+    /// table with no rows or no columns asks for none.
     pub fn to_string<A: Allocator + Copy>(self, alloc: A) -> Result<String<A>, AllocError>
         requires readable { MayBeRead R.Records self }
         requires fits { misfit_of (streamed R.Records D.Dimension C.Colors self) ≡ None }
@@ -160,7 +161,7 @@ where
     }
 
     /// The picture of the table as a text of its own, under the condition of `print`, as that call
-    /// appends it.
+    /// appends it. A table with no rows or no columns asks for no memory.
     pub fn text<A: Allocator + Copy>(self, alloc: A) -> Result<String<A>, PrintFault>
         requires readable { MayBeRead R.Records self }
         ensures misfit { (m : _) → (result ≡ Err (PrintFault.Misfit m)) ↔ (misfit_of (streamed R.Records D.Dimension C.Colors self.entry) ≡ Some m) }

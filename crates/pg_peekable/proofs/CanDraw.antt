@@ -1,12 +1,13 @@
 -- A table in which everything fits can be drawn; its width and its height are numbers.
-use Rattle.std.proofs.Common.{◌≡◌, ℕ, ◌+◌, ◌<◌, true, Option, Some, None, ap, ◌∙◌, sum_by}
+use Rattle.std.proofs.Common.{◌≡◌, ℕ, ◌+◌, ◌<◌, ◌==◌, ◌||◌, true, false, Option, Some, None, ap, ◌∙◌, sum_by, arith}
 use Rattle.std.specs.List.{range_with_len}
+use Rattle.std.proofs.lemmas.Bool.Decides.{nat_tests}
 use Rattle.pg_layout.specs.Keys.{by_columns}
 use Rattle.pg_layout.specs.declared.position.Position.{Position}
 use Rattle.pg_layout.specs.Places.{IsAscending}
 use Rattle.pg_config.specs.Config.{count_vertical, count_horizontal}
 use Rattle.pg_picture.specs.Pieces.{style_at}
-use Rattle.pg_picture.specs.Table.{Table, total_width, full_width}
+use Rattle.pg_picture.specs.Table.{Table, is_empty, total_width, full_width}
 use Rattle.pg_picture.specs.Fits.{misfit_of, cell_fits, body_height}
 use Rattle.pg_picture.specs.Sizes.{if_fits, sized}
 use Rattle.pg_picture.proofs.Rooms.{fits, cell_fits_plain}
@@ -15,8 +16,11 @@ use Rattle.pg_picture.proofs.OwnersOfPlaces.{InOrder}
 use Rattle.pg_picture.proofs.SumsOfSizes.{some_answer}
 use Rattle.pg_peekable.specs.Inside.Drawn.{CanDraw, HasNoSpans}
 
-pub can_draw : (t : Table) → IsAscending by_columns t.config.spans → misfit_of t ≡ None → 0 < t.rows → 0 < t.columns → CanDraw t
-can_draw t ascending fitting some_rows some_columns = record { ascending = ascending; fits = fits t fitting some_rows some_columns }
+pub can_draw : (t : Table) → IsAscending by_columns t.config.spans → misfit_of t ≡ None → is_empty t ≡ false → CanDraw t
+can_draw t ascending fitting some =
+    let rows : 0 < t.rows = grind (arith, nat_tests, some) in
+    let columns : 0 < t.columns = grind (arith, nat_tests, some) in
+    record { ascending = ascending; fits = fits t fitting rows columns }
 
 pub in_order : (t : Table) → CanDraw t → InOrder t.config.spans t.rows t.columns
 in_order t can = record { ascending = can.ascending; fit = can.fits.spans }

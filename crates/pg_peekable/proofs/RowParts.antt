@@ -27,9 +27,8 @@ module _ (t : Table) (none : t.config.spans ≡ []) where
       sym (ap written (row_part_plain t none p.row i p.col r k l) ∙ written-append (vertical t p.row i p.col) (cell_line t p.row p.col i))
 
 -- behind the last column its vertical alone
-pub end-text : (t : Table) (h r i : ℕ) → h ≡ t.height r
-    → written (vertical_at t.config t.columns h (at r t.columns) i) ≡ written (row_part t r i t.columns)
-end-text t h r i e = ap (λ m. written (vertical_at t.config t.columns m (at r t.columns) i)) e ∙ sym (ap written (row_part_end t r i))
+pub end-text : (t : Table) (r i : ℕ) → written (vertical_at t.config t.columns (t.height r) (at r t.columns) i) ≡ written (row_part t r i t.columns)
+end-text t r i = sym (ap written (row_part_end t r i))
 
 -- what a left column adds where cells span rows or columns: its vertical and the line of its owner
 module _ (t : Table) (order : InOrder t.config.spans t.rows t.columns) (p : Position) (i : ℕ) (r : p.row < t.rows) (l : p.col < t.columns) (k : i < t.height p.row) (left : is_left t.config.spans p.row p.col ≡ true) where

@@ -27,7 +27,7 @@ impl<R, G, D, C> PeekableGrid<R, G, D, C> {
     ghost use Rattle.pg_peekable.specs.Grids.{peekable_parts};
 
     /// A grid of these parts.
-    pub fn new(records: R, config: G, dimension: D, colors: C) -> PeekableGrid<R, G, D, C>
+    pub fn new(records: R, config: G, dimension: D, colors: C) -> Self
         ensures { peekable_parts result ≡ (records, config, dimension, colors) }
     {
         PeekableGrid {
@@ -46,18 +46,18 @@ where
     C: Colors,
     B: Allocator,
 {
-    ghost use Rattle.std.specs.Prelude.{◌≡◌, ◌<◌, ◌==◌, ◌++◌, ◌↔◌, [], Some, None, Err, IsOk, IfOk, OnOk, string_bytes};
+    ghost use Rattle.std.specs.Prelude.{◌≡◌, ◌++◌, ◌↔◌, true, false, Some, None, Err, IsOk, IfOk, OnOk, string_bytes};
     ghost use Rattle.pg_picture.specs.Appending.{Appends};
     ghost use Rattle.pg_picture.specs.Fits.{misfit_of};
-    ghost use Rattle.pg_picture.specs.Joined.{joined};
     ghost use Rattle.pg_picture.specs.Inside.Following.{lines_before};
-    ghost use Rattle.pg_picture.specs.Straight.{IsStraight};
-    ghost use Rattle.pg_picture.specs.Sizes.{unless_misfit};
-    ghost use Rattle.pg_picture.specs.Table.{Known, table_body};
+    ghost use Rattle.pg_picture.specs.Joined.{joined};
     ghost use Rattle.pg_picture.specs.Picture.{body_text, picture, picture_lines};
-    ghost use Rattle.pg_peekable.specs.Inside.Drawn.{CanDraw, Draws, IsShapeOf};
-    ghost use Rattle.pg_peekable.specs.Grids.{drawn};
     ghost use Rattle.pg_picture.specs.Printed.{Prints};
+    ghost use Rattle.pg_picture.specs.Sizes.{unless_misfit};
+    ghost use Rattle.pg_picture.specs.Straight.{IsStraight};
+    ghost use Rattle.pg_picture.specs.Table.{Known, is_empty, table_body};
+    ghost use Rattle.pg_peekable.specs.Grids.{drawn};
+    ghost use Rattle.pg_peekable.specs.Inside.Drawn.{CanDraw, IsShapeOf};
 
     /// Whether everything fits in the table: the condition of `build` and `to_string`, as a test. It
     /// answers the first thing that doesn't (`pg_picture::fits::Misfit`), and takes no memory.
@@ -84,9 +84,11 @@ where
     }
 
     /// The picture of the table as a text of its own, if everything fits in it, as `print` appends it.
+    /// A table with no rows or no columns asks for no memory.
     pub fn text<A: Allocator>(&self, alloc: A) -> Result<String<A>, PrintFault>
         ensures misfit { (m : _) → (result ≡ Err (PrintFault.Misfit m)) ↔ (misfit_of (drawn R.Records D.Dimension C.Colors self.now) ≡ Some m) }
         ensures text { IfOk result (λ text. string_bytes text ≡ picture Known (drawn R.Records D.Dimension C.Colors self.now)) }
+        ensures empty { is_empty (drawn R.Records D.Dimension C.Colors self.now) ≡ true → IsOk result }
     {
         let mut text = String::new(alloc);
         self.print(&mut text)?;
@@ -109,20 +111,21 @@ where
         ensures appends { Appends buf.old buf.new result (picture Known (drawn R.Records D.Dimension C.Colors self.now)) }
         ensures straight { IsStraight (drawn R.Records D.Dimension C.Colors self.now) }
     {
-        let is_spanned = !self.config.spans().is_empty();
         let rows = self.records.count_rows();
         let columns = self.records.count_columns();
         if rows == 0 || columns == 0 {
             return Ok(());
         }
-        self.push_picture(buf, rows, columns, self.path(is_spanned))
+        self.push_picture(buf, rows, columns)
     }
 
     /// The picture of the table as a text of its own, under the condition of `build`; `text` is the
-    /// call that tests it first. An error comes where no memory is found.
+    /// call that tests it first. An error comes where no memory is found; a table with no rows or no
+    /// columns asks for none.
     pub fn to_string<A: Allocator>(&self, alloc: A) -> Result<String<A>, AllocError>
         requires fits { misfit_of (drawn R.Records D.Dimension C.Colors self.now) ≡ None }
-        ensures { IfOk result (λ text. string_bytes text ≡ picture Known (drawn R.Records D.Dimension C.Colors self.now)) }
+        ensures text { IfOk result (λ text. string_bytes text ≡ picture Known (drawn R.Records D.Dimension C.Colors self.now)) }
+        ensures empty { is_empty (drawn R.Records D.Dimension C.Colors self.now) ≡ true → IsOk result }
     {
         let mut text = String::new(alloc);
         self.build(&mut text)?;
@@ -135,14 +138,14 @@ where
         buf: &mut String<A>,
         rows: usize,
         columns: usize,
-        path: Path,
     ) -> Result<(), AllocError>
-        requires can { CanDraw (drawn R.Records D.Dimension C.Colors self.now) }
+        requires fits { misfit_of (drawn R.Records D.Dimension C.Colors self.now) ≡ None }
+        requires some { is_empty (drawn R.Records D.Dimension C.Colors self.now) ≡ false }
         requires rows { rows ≡ (drawn R.Records D.Dimension C.Colors self.now).rows }
         requires columns { columns ≡ (drawn R.Records D.Dimension C.Colors self.now).columns }
-        requires path { Draws path (drawn R.Records D.Dimension C.Colors self.now) }
         ensures { Appends buf.old buf.new result (joined (picture_lines Known (drawn R.Records D.Dimension C.Colors self.now))) }
     {
+        let path = self.path(!self.config.spans().is_empty());
         let width = full_width(self.config, &self.dimension, columns).unwrap();
         let height = body_height(self.config, &self.dimension, rows).unwrap();
         let is_first = self.config.get_margin().top.size == 0;

@@ -98,7 +98,7 @@ where
     {
         let height = self.height_of(pos.row);
         let width = self.width_of(pos.col);
-        self.push_vertical(buf, height, pos, line)?;
+        self.push_vertical(buf, pos, line)?;
         self.push_cell(buf, kept, pos, width, height, line)
     }
 
@@ -112,29 +112,27 @@ where
         requires line { line < T.table.height row }
         ensures { Appends buf.old buf.new result (written (row_part T.table row line T.table.columns)) }
     {
-        let height = self.height_of(row);
-        let pos = Position::new(row, self.columns);
-        self.push_vertical(buf, height, pos, line)
+        self.push_vertical(buf, Position::new(row, self.columns), line)
     }
 
-    // A vertical, on a line of its row, which has so many. Tables of the basic path have no glyphs and
-    // colours of single lines, which aren't looked up there.
+    // A vertical, on a line of its row. Tables of the basic path have no glyphs and colours of single
+    // lines, which aren't looked up there.
     #[inline(always)]
     pub(super) fn push_vertical<A: Allocator>(
         &self,
         buf: &mut String<A>,
-        height: usize,
         pos: Position,
         line: usize,
     ) -> Result<(), AllocError>
-        requires line { line < height }
-        ensures { Appends buf.old buf.new result (written (vertical_at T.table.config T.table.columns height pos line)) }
+        requires line { line < T.table.height pos.row }
+        ensures { Appends buf.old buf.new result (written (vertical_at T.table.config T.table.columns (T.table.height pos.row) pos line)) }
     {
         if self.is_basic() {
             let glyph = self.config.get_vertical(pos, self.columns);
             let color = self.config.get_vertical_color(pos, self.columns);
             return push_vertical(buf, glyph, color);
         }
+        let height = self.height_of(pos.row);
         push_vertical_at(buf, self.config, self.columns, height, pos, line)
     }
 

@@ -87,8 +87,7 @@ where
         requires span { left_span T.table.config.spans pos.row pos.col ≡ Some span }
         ensures { Appends buf.old buf.new result (written (vertical_at T.table.config T.table.columns (T.table.height pos.row) pos number) ++ written (block_at T.table (corner span) (line pos.row number))) }
     {
-        let height = self.height_of(pos.row);
-        self.push_vertical(buf, height, pos, number)?;
+        self.push_vertical(buf, pos, number)?;
         let rectangle = self.rectangle_at(kept, corner_of(span), pos.row);
         self.push_rectangle(buf, kept, rectangle, rectangle.above + number)
     }

@@ -5,7 +5,7 @@ use Rattle.pg_layout.specs.declared.borders.HorizontalLine.{HorizontalLine}
 use Rattle.pg_layout.specs.declared.colors.ANSIStr.{ANSIStr}
 use Rattle.pg_layout.specs.declared.position.Position.{Position}
 use Rattle.pg_layout.specs.Colors.{Color, str_color}
-use Rattle.pg_layout.specs.Borders.{has_top, has_bottom}
+use Rattle.pg_layout.specs.Borders.{has_top, has_bottom, has_inner_horizontal}
 use Rattle.pg_layout.specs.Records.{text_at, AlwaysGives}
 use Rattle.pg_layout.specs.Text.{Text}
 use Rattle.pg_config.specs.CompactConfig.{settings_of}
@@ -60,6 +60,10 @@ column_parts t g c x = (if x == 0 then [] else part_if g.intersection c.intersec
 -- the separator between two rows
 abbrev pub inner_separator : CompactTable → Text
 inner_separator t = separator_row t (inner_line t.config.borders) (inner_line t.config.borders_color)
+
+-- the line between two rows, where it is there
+abbrev pub lines_between : CompactTable → List Text
+lines_between t = line_if (has_inner_horizontal t.config.borders) (inner_separator t)
 
 -- the text is that of each separator between two rows
 abbrev pub IsInnerSeparator : CompactTable → Text → Type 0

@@ -14,7 +14,7 @@ returns-in_err-push_vertical g c =
     let t = g.T.Drawn.table in
     let p = c.args.pos in
     Appends-text
-    (ap₂ (λ h w. written (vertical_at t.config t.columns h p c.args.line) ++ written (block_line (style_at t.config p) (t.color p) (t.text p) w h c.args.line)) c.height_of-height.ensures c.width_of-width.ensures)
+    (ap₂ (λ h w. written (vertical_at t.config t.columns (t.height p.row) p c.args.line) ++ written (block_line (style_at t.config p) (t.color p) (t.text p) w h c.args.line)) c.height_of-height.ensures c.width_of-width.ensures)
     (stopped (written (block_line (style_at t.config p) (t.color p) (t.text p) c.width_of-width.result c.height_of-height.result c.args.line)) c.from_residual.ensures.0 c.in_err-push_vertical.ensures)
 
 pub returns : goal.returns
@@ -22,5 +22,5 @@ returns g c =
     let t = g.T.Drawn.table in
     let p = c.args.pos in
     Appends-text
-    (ap₂ (λ h w. written (vertical_at t.config t.columns h p c.args.line) ++ written (block_line (style_at t.config p) (t.color p) (t.text p) w h c.args.line)) c.height_of-height.ensures c.width_of-width.ensures)
+    (ap₂ (λ h w. written (vertical_at t.config t.columns (t.height p.row) p c.args.line) ++ written (block_line (style_at t.config p) (t.color p) (t.text p) w h c.args.line)) c.height_of-height.ensures c.width_of-width.ensures)
     (c.in_ok-push_vertical.ensures then c.push_cell.ensures)

@@ -1,4 +1,4 @@
-use Rattle.std.proofs.Common.{◌++◌, ap₂, ◌∙◌, arith}
+use Rattle.std.proofs.Common.{◌++◌, ap, ◌∙◌, arith}
 use Rattle.pg_picture.specs.Pieces.{written}
 use Rattle.pg_picture.specs.Table.{vertical_at}
 use Rattle.pg_picture.proofs.Appending.{Appends-text, ◌then◌}
@@ -34,6 +34,6 @@ returns g c =
     let rectangle = c.rectangle_at-rectangle.result in
     let above = above-row t rectangle c.args.pos.row c.rectangle_at-rectangle.ensures.is c.rectangle_at-rectangle.ensures.row in
     Appends-text
-    (ap₂ (λ h l. written (vertical_at t.config t.columns h c.args.pos c.args.number) ++ l) c.height_of-height.ensures
+    (ap (λ l. written (vertical_at t.config t.columns (t.height c.args.pos.row) c.args.pos c.args.number) ++ l)
     (found_line t c.args.self.now.can c.args.pos.row c.args.pos.col c.args.span c.requires.span rectangle.corner (c.rectangle_at-rectangle.ensures.corner ∙ c.corner_of.ensures) rectangle.above above c.args.number c.requires.number))
     (c.in_ok-push_vertical.ensures then c.push_rectangle.ensures)

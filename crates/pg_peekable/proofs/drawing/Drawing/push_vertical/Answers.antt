@@ -15,10 +15,13 @@ returns-then-is_basic g c =
     let color = c.get_vertical_color-color.ensures ∙ ap₂ (λ k n. get_vertical_color k c.args.pos n) self.is.config self.shape.columns in
     Appends-text
     (ap₂ (λ glyph color. written (glyph_piece glyph color)) glyph color
-    ∙ sym (ap written (vertical-border t.config basic.config t.columns c.args.height c.args.pos c.args.line)))
+    ∙ sym (ap written (vertical-border t.config basic.config t.columns (t.height c.args.pos.row) c.args.pos c.args.line)))
     c.push_vertical.ensures
 
 pub returns : goal.returns
 returns g c =
     let self = c.args.self.now in
-    Appends-text (ap₂ (λ k n. written (vertical_at k n c.args.height c.args.pos c.args.line)) self.is.config self.shape.columns) c.push_vertical_at.ensures
+    Appends-text
+    (ap₂ (λ k n. written (vertical_at k n c.height_of-height.result c.args.pos c.args.line)) self.is.config self.shape.columns
+    ∙ ap (λ h. written (vertical_at g.T.Drawn.table.config g.T.Drawn.table.columns h c.args.pos c.args.line)) c.height_of-height.ensures)
+    c.push_vertical_at.ensures

@@ -3,7 +3,6 @@ use Rattle.std.proofs.lemmas.Bool.Decides.{nat_tests}
 use Rattle.pg_picture.specs.Table.{Known}
 use Rattle.pg_picture.proofs.Appending.{Appends-text, Gained-none, Gained-all}
 use Rattle.pg_peekable.specs.Grids.{drawn}
-use Rattle.pg_peekable.proofs.CanDraw.{can_draw}
 use Rattle.pg_picture.proofs.Pictures.{picture-none, picture-some}
 use Rattle.pg_peekable.proofs.grid.PeekableGrid+R+ref+SpannedConfig+B+D+C.build.Goals as goal
 use Rattle.pg_peekable.proofs.grid.PeekableGrid+R+ref+SpannedConfig+B+D+C.build.Goals.{then-rows-eq0-via-then-rows-eq0, then-rows-eq0-via-else-rows-eq0+then-columns-eq0}
@@ -18,12 +17,12 @@ returns-then-rows-eq0-clause-appends g c =
     ] in
     Appends-text (sym (picture-none Known t none)) (Gained-all (Gained-none c.args.buf.now))
 
-pub push_picture-requires-clause-can : goal.push_picture-requires-clause-can
-push_picture-requires-clause-can g c =
+pub push_picture-requires-clause-some : goal.push_picture-requires-clause-some
+push_picture-requires-clause-some g c =
     let t = drawn g.R.Records g.D.Dimension g.C.Colors c.args.self.now in
-    let rows : 0 < t.rows = omega (arith, c.count_rows-rows.ensures) in
-    let columns : 0 < t.columns = omega (arith, c.count_columns-columns.ensures.value) in
-    can_draw t c.spans.ensures.ascending c.requires.fits rows columns
+    let rows = c.count_rows-rows.ensures in
+    let columns = c.count_columns-columns.ensures.value in
+    grind (arith, nat_tests, rows, columns)
 
 pub returns-clause-appends : goal.returns-clause-appends
 returns-clause-appends g c =

@@ -13,35 +13,52 @@ use Rattle.pg_picture.proofs.HeightsOfRectangles.{length-table_body}
 use Rattle.pg_peekable.specs.Grids.{drawn}
 use Rattle.pg_picture.specs.Picture.{body_text}
 use Rattle.pg_picture.proofs.SumsOfSizes.{is_some_answer}
-use Rattle.pg_peekable.proofs.CanDraw.{width-answer, height-answer}
+use Rattle.pg_peekable.proofs.CanDraw.{can_draw, width-answer, height-answer}
 use Rattle.pg_picture.proofs.Pictures.{picture-parts}
 use Rattle.pg_peekable.proofs.grid.PeekableGrid+R+ref+SpannedConfig+B+D+C.push_picture.Goals as goal
 use Rattle.pg_peekable.proofs.grid.PeekableGrid+R+ref+SpannedConfig+B+D+C.push_picture.Goals.{then-is_first, else-is_first}
 
 pub full_width-requires : goal.full_width-requires
-full_width-requires g c = omega (arith, c.requires.columns, (totals_facts (drawn g.R.Records g.D.Dimension g.C.Colors c.args.self.now) c.requires.can.fits.totals).columns)
+full_width-requires g c =
+    let t = drawn g.R.Records g.D.Dimension g.C.Colors c.args.self.now in
+    let can = can_draw t c.spans.ensures.ascending c.requires.fits c.requires.some in
+    omega (arith, c.requires.columns, (totals_facts t can.fits.totals).columns)
 
 pub body_height-requires : goal.body_height-requires
-body_height-requires g c = omega (arith, c.requires.rows, (totals_facts (drawn g.R.Records g.D.Dimension g.C.Colors c.args.self.now) c.requires.can.fits.totals).rows)
+body_height-requires g c =
+    let t = drawn g.R.Records g.D.Dimension g.C.Colors c.args.self.now in
+    let can = can_draw t c.spans.ensures.ascending c.requires.fits c.requires.some in
+    omega (arith, c.requires.rows, (totals_facts t can.fits.totals).rows)
 
 pub unwrap-width-requires : goal.unwrap-width-requires
-unwrap-width-requires g c = is_some_answer (width-answer (drawn g.R.Records g.D.Dimension g.C.Colors c.args.self.now) c.args.columns c.requires.can c.requires.columns c.full_width.ensures)
+unwrap-width-requires g c =
+    let t = drawn g.R.Records g.D.Dimension g.C.Colors c.args.self.now in
+    let can = can_draw t c.spans.ensures.ascending c.requires.fits c.requires.some in
+    is_some_answer (width-answer t c.args.columns can c.requires.columns c.full_width.ensures)
 
 pub unwrap-height-requires : goal.unwrap-height-requires
-unwrap-height-requires g c = is_some_answer (height-answer (drawn g.R.Records g.D.Dimension g.C.Colors c.args.self.now) c.args.rows c.requires.can c.requires.rows c.body_height.ensures)
+unwrap-height-requires g c =
+    let t = drawn g.R.Records g.D.Dimension g.C.Colors c.args.self.now in
+    let can = can_draw t c.spans.ensures.ascending c.requires.fits c.requires.some in
+    is_some_answer (height-answer t c.args.rows can c.requires.rows c.body_height.ensures)
+
+pub push_drawn-requires-clause-can : goal.push_drawn-requires-clause-can
+push_drawn-requires-clause-can g c = can_draw (drawn g.R.Records g.D.Dimension g.C.Colors c.args.self.now) c.spans.ensures.ascending c.requires.fits c.requires.some
 
 pub push_drawn-requires-clause-shape : goal.push_drawn-requires-clause-shape
 push_drawn-requires-clause-shape g c =
     let t = drawn g.R.Records g.D.Dimension g.C.Colors c.args.self.now in
+    let can = can_draw t c.spans.ensures.ascending c.requires.fits c.requires.some in
     let height : c.unwrap-height.result ≡ length (table_body t) =
-    some_is c.unwrap-height.result (body_height t) (sym c.unwrap-height.ensures ∙ height-answer t c.args.rows c.requires.can c.requires.rows c.body_height.ensures) ∙ sym (length-table_body t) in
-    record { rows = c.requires.rows; columns = c.requires.columns; height = height; path = c.requires.path }
+    some_is c.unwrap-height.result (body_height t) (sym c.unwrap-height.ensures ∙ height-answer t c.args.rows can c.requires.rows c.body_height.ensures) ∙ sym (length-table_body t) in
+    record { rows = c.requires.rows; columns = c.requires.columns; height = height; path = c.path-path.ensures }
 
 pub returns-in_err-push_top_margin : goal.returns-in_err-push_top_margin
 returns-in_err-push_top_margin g c =
     let t = drawn g.R.Records g.D.Dimension g.C.Colors c.args.self.now in
-    let wide = some_is c.unwrap-width.result (full_width t) (sym c.unwrap-width.ensures ∙ width-answer t c.args.columns c.requires.can c.requires.columns c.full_width.ensures) in
-    let high = some_is c.unwrap-height.result (body_height t) (sym c.unwrap-height.ensures ∙ height-answer t c.args.rows c.requires.can c.requires.rows c.body_height.ensures) ∙ sym (length-table_body t) in
+    let can = can_draw t c.spans.ensures.ascending c.requires.fits c.requires.some in
+    let wide = some_is c.unwrap-width.result (full_width t) (sym c.unwrap-width.ensures ∙ width-answer t c.args.columns can c.requires.columns c.full_width.ensures) in
+    let high = some_is c.unwrap-height.result (body_height t) (sym c.unwrap-height.ensures ∙ height-answer t c.args.rows can c.requires.rows c.body_height.ensures) ∙ sym (length-table_body t) in
     let first : Bool = t.config.margin.top.size == 0 in
     let last : Bool = first && (c.unwrap-height.result == 0) in
     Appends-text (picture-parts Known t c.unwrap-width.result c.unwrap-height.result {is_first = first} {is_last = last} wide high refl refl)
@@ -53,8 +70,9 @@ returns-in_err-push_top_margin g c =
 pub returns-in_err-push_drawn : goal.returns-in_err-push_drawn
 returns-in_err-push_drawn g c =
     let t = drawn g.R.Records g.D.Dimension g.C.Colors c.args.self.now in
-    let wide = some_is c.unwrap-width.result (full_width t) (sym c.unwrap-width.ensures ∙ width-answer t c.args.columns c.requires.can c.requires.columns c.full_width.ensures) in
-    let high = some_is c.unwrap-height.result (body_height t) (sym c.unwrap-height.ensures ∙ height-answer t c.args.rows c.requires.can c.requires.rows c.body_height.ensures) ∙ sym (length-table_body t) in
+    let can = can_draw t c.spans.ensures.ascending c.requires.fits c.requires.some in
+    let wide = some_is c.unwrap-width.result (full_width t) (sym c.unwrap-width.ensures ∙ width-answer t c.args.columns can c.requires.columns c.full_width.ensures) in
+    let high = some_is c.unwrap-height.result (body_height t) (sym c.unwrap-height.ensures ∙ height-answer t c.args.rows can c.requires.rows c.body_height.ensures) ∙ sym (length-table_body t) in
     let first : Bool = c.get_margin.result.top.size == 0 in
     let last : Bool = first && (c.unwrap-height.result == 0) in
     Appends-text (picture-parts Known t c.unwrap-width.result c.unwrap-height.result {is_first = first} {is_last = last} wide high (ap (λ (m : Sides Indent). m.top.size == 0) c.get_margin.ensures) refl)
@@ -65,8 +83,9 @@ returns-in_err-push_drawn g c =
 pub returns : goal.returns
 returns g c =
     let t = drawn g.R.Records g.D.Dimension g.C.Colors c.args.self.now in
-    let wide = some_is c.unwrap-width.result (full_width t) (sym c.unwrap-width.ensures ∙ width-answer t c.args.columns c.requires.can c.requires.columns c.full_width.ensures) in
-    let high = some_is c.unwrap-height.result (body_height t) (sym c.unwrap-height.ensures ∙ height-answer t c.args.rows c.requires.can c.requires.rows c.body_height.ensures) ∙ sym (length-table_body t) in
+    let can = can_draw t c.spans.ensures.ascending c.requires.fits c.requires.some in
+    let wide = some_is c.unwrap-width.result (full_width t) (sym c.unwrap-width.ensures ∙ width-answer t c.args.columns can c.requires.columns c.full_width.ensures) in
+    let high = some_is c.unwrap-height.result (body_height t) (sym c.unwrap-height.ensures ∙ height-answer t c.args.rows can c.requires.rows c.body_height.ensures) ∙ sym (length-table_body t) in
     let first : Bool = c.get_margin.result.top.size == 0 in
     let last : c.if-is_first.push_bottom_margin ≡ (first && (c.unwrap-height.result == 0)) =
     elim c.if-is_first.branch [
