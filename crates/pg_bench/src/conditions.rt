@@ -29,14 +29,12 @@ fn assert_room(rt: &impl Abort, config: &SpannedConfig) {
 #[test]
 fn a_cell_has_room_for_its_text_and_paddings(rt: HostRuntime) -> Result<(), Fail> {
     let mut config = SpannedConfig::new(rt.alloc());
-    let is_told = tell_all(
+    tell_all(
         &mut config,
         rt.alloc(),
         &[Setting::Padding(Entity::Global, [1, 0, 0, 0])],
-    );
+    )?;
     assert_room(&rt, &config);
-    drop(config);
-    is_told?;
     Ok(())
 }
 

@@ -235,19 +235,6 @@ fn text_of_parts<A: Allocator + Copy>(
     Ok(text.ok())
 }
 
-// Appends the sample as a grid draws it by a configuration that is told the settings, and tells
-// whether there was memory for all of it.
-fn draw_by<A: Allocator, B: Allocator>(
-    (alloc, memory): (Global, A),
-    (grid, sample): (Grid, &Sample<'_>),
-    config: &mut SpannedConfig,
-    buf: &mut String<B>,
-) -> Result<bool, Fail> {
-    tell_all(config, alloc, sample.settings)?;
-    let parts = parts_of(alloc, sample)?;
-    draw_parts(memory, grid, &parts, config, buf)
-}
-
 /// Appends the sample as a grid draws it, and tells whether there was memory for all of it. The
 /// grid's own memory is `memory`.
 pub fn draw<A: Allocator, B: Allocator>(
@@ -257,9 +244,9 @@ pub fn draw<A: Allocator, B: Allocator>(
     buf: &mut String<B>,
 ) -> Result<bool, Fail> {
     let mut config = SpannedConfig::new(alloc);
-    let is_whole = draw_by((alloc, memory), (grid, sample), &mut config, buf);
-    drop(config);
-    is_whole
+    tell_all(&mut config, alloc, sample.settings)?;
+    let parts = parts_of(alloc, sample)?;
+    draw_parts(memory, grid, &parts, &config, buf)
 }
 
 /// Appends the sample as the compact grid draws it by this configuration, whatever the sample is told,
@@ -277,26 +264,15 @@ pub fn draw_compact<A: Allocator>(
     Ok(grid.build(buf).is_ok())
 }
 
-// The text of the sample, as a grid gives it by a configuration that is told the settings.
-fn text_by<A: Allocator + Copy>(
-    (alloc, memory): (Global, A),
-    (grid, sample): (Grid, &Sample<'_>),
-    config: &mut SpannedConfig,
-) -> Result<Option<String<A>>, Fail> {
-    tell_all(config, alloc, sample.settings)?;
-    let parts = parts_of(alloc, sample)?;
-    text_of_parts(memory, grid, &parts, config)
-}
-
 /// The text of the sample, as a grid gives it where there is memory for all of it. The memory of the
 /// text and of the grid is `memory`.
 pub fn text_of<A: Allocator + Copy>(
     alloc: Global,
     memory: A,
-    drawn: (Grid, &Sample<'_>),
+    (grid, sample): (Grid, &Sample<'_>),
 ) -> Result<Option<String<A>>, Fail> {
     let mut config = SpannedConfig::new(alloc);
-    let text = text_by((alloc, memory), drawn, &mut config);
-    drop(config);
-    text
+    tell_all(&mut config, alloc, sample.settings)?;
+    let parts = parts_of(alloc, sample)?;
+    text_of_parts(memory, grid, &parts, &config)
 }

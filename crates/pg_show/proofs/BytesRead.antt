@@ -1,5 +1,5 @@
 -- The bytes that were read from an input.
-use Rattle.std.proofs.Common.{◌≡◌, ◌≤◌, ℕ, List, Option, Some, None, IfSome, length, length-append, arith, ap}
+use Rattle.std.proofs.Common.{◌≤◌, ℕ, List, Option, Some, None, IfSome, length, length-append, arith, ap}
 use Rattle.std.specs.Io.KnownBytes.{Consumes}
 
 -- what a reader had is no shorter than what it has lost

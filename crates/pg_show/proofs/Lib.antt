@@ -6,6 +6,7 @@ pub mod LineWords
 pub mod LinesRead
 pub mod NaturalTables
 pub mod NumbersOfWords
+pub mod PrintedGrids
 pub mod RightAnswers
 pub mod RowsOfTexts
 pub mod ScriptLines

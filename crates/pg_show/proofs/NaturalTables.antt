@@ -1,26 +1,24 @@
 -- A script's table at its natural sizes: what its printing answers shows it.
-use Rattle.std.proofs.Common.{◌≡◌, ◌⊎◌, Option, Some, None, Result, Ok, Err, String, is_some, inl, inr, refl, sym, ap, ◌∙◌}
+use Rattle.std.proofs.Common.{◌≡◌, ◌⊎◌, Some, None, Result, Ok, Err, String, inl, inr, refl, sym, ap, ◌∙◌}
 use Rattle.std.specs.Result.{is_err, IsErrAnd}
 use Rattle.std.proofs.lemmas.Bool.{cases_Bool, false≢true}
 use Rattle.pg_layout.specs.Records.{columns_of}
 use Rattle.pg_config.specs.Config.{default_config}
 use Rattle.pg_picture.specs.Fits.{misfit_of, totals_fit}
 use Rattle.pg_picture.specs.Picture.{picture}
+use Rattle.pg_picture.proofs.Appending.{appended-as, refused-as}
 use Rattle.pg_picture.specs.Table.{Table, Known, is_empty}
 use Rattle.pg_picture.specs.declared.fits.Misfit.TheVariants as misfits
-use Rattle.pg_picture.proofs.Appending.{appended-as, refused-as}
 use Rattle.pg_table.specs.Printing.{fault_of, Prints}
 use Rattle.pg_table.specs.declared.fault.TableFault.{TableFault}
-use Rattle.pg_table.specs.declared.fault.TableFault.TheVariants.{Totals, Memory}
+use Rattle.pg_table.specs.declared.fault.TableFault.TheVariants.{Totals}
 use Rattle.pg_table.proofs.NaturalRoom.{natural_tables_have_room}
 use Rattle.pg_show.specs.Show.{natural_config, natural_table_of_told, fault_of_table, Shows}
 use Rattle.pg_show.specs.Told.{Told}
+use Rattle.pg_show.proofs.PrintedGrids.{some≢none}
 use Rattle.pg_show.specs.declared.mode.Mode.TheVariants as mode
 use Rattle.pg_show.specs.declared.show.ShowFault.{ShowFault}
 use Rattle.pg_show.specs.declared.show.ShowFault.TheVariants as show
-
-some≢none : {X : Type 0} (x : X) → Some x ≡ None → ⊥
-some≢none {X} x e = false≢true (sym (ap (λ (o : Option X). is_some o) e))
 
 module _ (told : Told) where
   abbrev t : Table

@@ -1,18 +1,15 @@
 -- The tables of a script: by its records and by what it tells, with and without colours.
-use Rattle.std.proofs.Common.{◌≡◌, ◌<◌, ◌==◌, ℕ, false, if◌then◌else◌, None, List, [], ◌∷◌, length, map, slice_index_or, string_bytes, arith, refl, sym, ap}
-use Rattle.std.proofs.lemmas.Bool.Decides.{nat_tests}
+use Rattle.std.proofs.Common.{◌≡◌, ◌==◌, ℕ, if◌then◌else◌, None, List, [], ◌∷◌, length, map, slice_index_or, string_bytes, refl, sym, ap}
 use Rattle.std.proofs.lemmas.List.{length-map}
 use Rattle.pg_layout.specs.Colors.{Color}
 use Rattle.pg_layout.specs.declared.position.Position.{Position}
 use Rattle.pg_layout.specs.Records.{columns_of}
 use Rattle.pg_layout.specs.Text.{Text}
 use Rattle.pg_config.specs.CompactConfig.{CompactSettings, settings_of}
-use Rattle.pg_config.specs.Config.{Config}
 use Rattle.pg_picture.specs.CompactLines.{compact_full_width, compact_width}
 use Rattle.pg_picture.specs.CompactSizes.{compact_sized}
-use Rattle.pg_picture.specs.Fits.{misfit_of, compact_misfit_of, totals_fit, body_height, owner_fits}
-use Rattle.pg_picture.specs.Sizes.{table_of}
-use Rattle.pg_picture.specs.Table.{total_width, full_width, rect_width, rect_height, rect_marks}
+use Rattle.pg_picture.specs.Fits.{compact_misfit_of}
+use Rattle.pg_compact.specs.CompactGrids.{compact_misfit}
 use Rattle.pg_table.specs.Natural.{natural_table}
 use Rattle.pg_show.specs.Script.{told_of_script}
 use Rattle.pg_show.specs.Show.{table_with, compact_table_with, table_of_told, compact_table_of_told, natural_config, natural_table_of_told, misfit_in}
@@ -20,13 +17,8 @@ use Rattle.pg_show.specs.Told.{Told}
 use Rattle.pg_show.specs.declared.mode.Mode.TheVariants.{Compact}
 use Rattle.pg_show.specs.declared.script.Script.{Script}
 
--- colours are no reason for a misfit
-pub misfit_of-table_with : (config : Config) (widths heights : List ℕ) (texts : List (List Text)) (columns : ℕ) (colors : List (Position × Color)) → misfit_of (table_of config (λ i. slice_index_or widths i 0) (λ i. slice_index_or heights i 0) texts columns) ≡ misfit_of (table_with config widths heights texts columns colors)
-unfolding misfit_of totals_fit body_height total_width full_width owner_fits rect_width rect_height rect_marks
-misfit_of-table_with config widths heights texts columns colors = refl
-
--- nor are texts and colours in a compact table
-pub misfit_of-compact_table_with : (config : CompactSettings) (widths : List ℕ) (texts : List (List Text)) (columns : ℕ) (colors : List (Position × Color)) → compact_misfit_of (compact_sized config (λ i. slice_index_or widths i 0) columns) ≡ compact_misfit_of (compact_table_with config widths texts columns colors)
+-- texts and colours are no reason for a misfit of a compact table
+misfit_of-compact_table_with : (config : CompactSettings) (widths : List ℕ) (texts : List (List Text)) (columns : ℕ) (colors : List (Position × Color)) → compact_misfit_of (compact_sized config (λ i. slice_index_or widths i 0) columns) ≡ compact_misfit_of (compact_table_with config widths texts columns colors)
 unfolding compact_misfit_of compact_full_width compact_width
 misfit_of-compact_table_with config widths texts columns colors = refl
 
@@ -48,8 +40,7 @@ pub natural_table-script : {A : Type 0} (script : Script A) → natural_table (n
 natural_table-script script =
     ap (λ columns. natural_table (natural_config (settings_of script.compact)) (map (λ row. map string_bytes row) script.records) columns (λ place. None)) (columns_of-map string_bytes script.records)
 
--- what doesn't fit in a compact table with rows
-pub misfit_in-rows : (told : Told) → 0 < length told.texts → misfit_in Compact told ≡ compact_misfit_of (compact_table_of_told told)
-misfit_in-rows told some =
-    let rows : (length told.texts == 0) ≡ false = grind (arith, nat_tests) in
-    ap (λ v. if v then None else compact_misfit_of (compact_table_of_told told)) rows
+-- what doesn't fit in a compact table with rows: its texts and colours don't matter
+pub compact_misfit-told : (told : Told) → compact_misfit (compact_table_of_told told) ≡ misfit_in Compact told
+compact_misfit-told told =
+    ap (λ found. if length told.texts == 0 then None else found) (misfit_of-compact_table_with told.compact told.widths told.texts (columns_of told.texts) told.colors)

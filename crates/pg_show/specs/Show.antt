@@ -23,6 +23,8 @@ use Rattle.pg_show.specs.declared.mode.Mode.{Mode}
 use Rattle.pg_show.specs.declared.mode.Mode.TheVariants as mode
 use Rattle.pg_show.specs.declared.show.ShowFault.{ShowFault}
 use Rattle.pg_show.specs.declared.show.ShowFault.TheVariants as show
+use Rattle.pg_picture.specs.declared.fault.PrintFault.{PrintFault}
+use Rattle.pg_picture.specs.declared.fault.PrintFault.TheVariants as print
 use Rattle.pg_table.specs.declared.fault.TableFault.{TableFault}
 use Rattle.pg_table.specs.declared.fault.TableFault.TheVariants as table
 
@@ -104,3 +106,8 @@ fault_of_table table.Spans = show.Misfit Spans
 fault_of_table table.Totals = show.Misfit Totals
 fault_of_table (table.Ragged row) = show.Misfit Totals
 fault_of_table table.Memory = show.Memory
+
+-- the fault of a script's table that a grid prints
+abbrev pub fault_of_print : PrintFault → ShowFault
+fault_of_print (print.Misfit misfit) = show.Misfit misfit
+fault_of_print print.Memory = show.Memory

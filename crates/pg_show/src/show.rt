@@ -2,12 +2,9 @@
 
 ghost use Rattle.std.specs.Prelude.{◌≡◌, ◌↔◌, true, Some, None, Err, IsOk};
 ghost use Rattle.pg_config.specs.CompactConfig.{settings_of};
-ghost use Rattle.pg_picture.specs.Appending.{Appends, AppendsOrNothing};
-ghost use Rattle.pg_picture.specs.Fits.{misfit_of};
-ghost use Rattle.pg_picture.specs.Sizes.{unless_misfit};
 ghost use Rattle.pg_picture.specs.Table.{is_empty};
 ghost use Rattle.pg_show.specs.Script.{told_of_script};
-ghost use Rattle.pg_show.specs.Show.{fault_of_table, misfit_in, natural_config, table_of_told, text_in, Prints, Shows};
+ghost use Rattle.pg_show.specs.Show.{fault_of_print, fault_of_table, misfit_in, natural_config, table_of_told, text_in, Prints, Shows};
 ghost use Rattle.pg_show.specs.declared.mode.Mode.TheVariants as mode;
 ghost use Rattle.pg_show.specs.declared.mode.Mode.TheVariants.{Iter};
 ghost use Rattle.pg_show.specs.declared.show.ShowFault.TheVariants.{Memory};
@@ -17,10 +14,11 @@ use crate::mode::Mode;
 use crate::script::Script;
 use pg_config::{CompactConfig, SpannedConfig};
 use pg_grid::{CompactGrid, IterGrid, PeekableGrid};
-use pg_layout::{Borders, Entity, ExactRecords, NoColors, Records};
-use pg_picture::fits::{Misfit, compact_fits, table_fits};
+use pg_layout::{Borders, Entity, NoColors};
+use pg_picture::PrintFault;
+use pg_picture::fits::Misfit;
 use pg_table::{NaturalTable, TableFault};
-use std::alloc::{AllocError, Allocator};
+use std::alloc::Allocator;
 
 /// Why a table isn't printed.
 #[derive(Debug, Clone, Copy, PartialEq, Eq)]
@@ -31,11 +29,14 @@ pub enum ShowFault {
     Memory,
 }
 
-impl From<AllocError> for ShowFault {
-    ghost from_gives = { λ _ fault. fault ≡ Memory };
+impl From<PrintFault> for ShowFault {
+    ghost from_gives = { λ found fault. fault ≡ fault_of_print found };
 
-    fn from(_error: AllocError) -> ShowFault {
-        ShowFault::Memory
+    fn from(fault: PrintFault) -> ShowFault {
+        match fault {
+            PrintFault::Misfit(misfit) => ShowFault::Misfit(misfit),
+            PrintFault::Memory => ShowFault::Memory,
+        }
     }
 }
 
@@ -49,14 +50,6 @@ impl From<TableFault> for ShowFault {
             // The rows of a script are of one length.
             TableFault::Totals | TableFault::Ragged(_) => ShowFault::Misfit(Misfit::Totals),
         }
-    }
-}
-
-impl From<Misfit> for ShowFault {
-    ghost from_gives = { λ found fault. fault ≡ variants.Misfit found };
-
-    fn from(misfit: Misfit) -> ShowFault {
-        ShowFault::Misfit(misfit)
     }
 }
 
@@ -92,8 +85,8 @@ fn print_compact<A: Allocator, B: Allocator>(
 ) -> Result<(), ShowFault>
     ensures { Shows mode.Compact (told_of_script script.now) buf.old buf.new result }
 {
-    compact_script_fits(script)?;
-    push_compact(script, buf)?;
+    let (dimension, colors) = (&script.dimension, &script.colors);
+    CompactGrid::new(&script.records, &script.compact, dimension, colors).print(buf)?;
     Ok(())
 }
 
@@ -106,8 +99,8 @@ fn print_streamed<C: Allocator, A: Allocator, B: Allocator>(
     ensures shows { Shows mode.Iter (told_of_script script.now) buf.old buf.new result }
     ensures empty { is_empty (table_of_told (told_of_script script.now)) ≡ true → IsOk result }
 {
-    spanned_script_fits(script)?;
-    push_streamed(alloc, script, buf)?;
+    let (dimension, colors) = (&script.dimension, &script.colors);
+    IterGrid::new(&script.records, &script.config, dimension, colors).print(alloc, buf)?;
     Ok(())
 }
 
@@ -118,8 +111,8 @@ fn print_peekable<A: Allocator, B: Allocator>(
 ) -> Result<(), ShowFault>
     ensures { Shows mode.Peek (told_of_script script.now) buf.old buf.new result }
 {
-    spanned_script_fits(script)?;
-    push_peekable(script, buf)?;
+    let (dimension, colors) = (&script.dimension, &script.colors);
+    PeekableGrid::new(&script.records, &script.config, dimension, colors).print(buf)?;
     Ok(())
 }
 
@@ -132,9 +125,8 @@ fn print_natural<C: Allocator + Copy, A: Allocator, B: Allocator>(
     ensures { Shows mode.Table (told_of_script script.now) buf.old buf.new result }
 {
     let config = natural_config(alloc, &script.compact);
-    let printed = print_natural_told(alloc, script, &config, buf);
-    drop(config);
-    printed
+    NaturalTable::new(&script.records, &config, &NoColors).print(alloc, buf)?;
+    Ok(())
 }
 
 // What a table at its natural sizes is told. Takes no memory.
@@ -149,78 +141,4 @@ fn natural_config<C: Allocator + Copy>(alloc: C, told: &CompactConfig) -> Spanne
         .set_alignment_horizontal(Entity::Global, alignment)
         .unwrap();
     config
-}
-
-// Appends the texts of a script at their natural sizes, where what they are told is there.
-fn print_natural_told<C: Allocator + Copy, A: Allocator, B: Allocator>(
-    alloc: C,
-    script: &Script<A>,
-    config: &SpannedConfig<C>,
-    buf: &mut String<B>,
-) -> Result<(), ShowFault>
-    requires { config.now ≡ natural_config (told_of_script script.now).compact }
-    ensures { Shows mode.Table (told_of_script script.now) buf.old buf.new result }
-{
-    NaturalTable::new(&script.records, config, &NoColors).print(alloc, buf)?;
-    Ok(())
-}
-
-// Whether it fits as a compact table.
-fn compact_script_fits<A: Allocator>(script: &Script<A>) -> Result<(), Misfit>
-    ensures { result ≡ unless_misfit (misfit_in mode.Compact (told_of_script script.now)) }
-{
-    let records = &script.records;
-    if records.count_rows() == 0 {
-        return Ok(());
-    }
-    compact_fits(&script.compact, &script.dimension, records.count_columns())
-}
-
-// Whether it fits as a table whose cells may span rows and columns.
-fn spanned_script_fits<A: Allocator>(script: &Script<A>) -> Result<(), Misfit>
-    ensures { result ≡ unless_misfit (misfit_of (table_of_told (told_of_script script.now))) }
-{
-    table_fits(&&script.records, &script.config, &script.dimension)
-}
-
-// Appends the table of a script, as the compact grid prints it.
-fn push_compact<A: Allocator, B: Allocator>(
-    script: &Script<A>,
-    buf: &mut String<B>,
-) -> Result<(), AllocError>
-    requires { misfit_in mode.Compact (told_of_script script.now) ≡ None }
-    ensures { Appends buf.old buf.new result (text_in mode.Compact (told_of_script script.now)) }
-{
-    // A table with no rows prints nothing.
-    if (&script.records).count_rows() == 0 {
-        return Ok(());
-    }
-    let (dimension, colors) = (&script.dimension, &script.colors);
-    CompactGrid::new(&script.records, &script.compact, dimension, colors).build(buf)
-}
-
-// Appends the table of a script, as the streaming grid prints it.
-fn push_streamed<C: Allocator, A: Allocator, B: Allocator>(
-    alloc: C,
-    script: &Script<A>,
-    buf: &mut String<B>,
-) -> Result<(), AllocError>
-    requires { misfit_in mode.Iter (told_of_script script.now) ≡ None }
-    ensures appends { AppendsOrNothing buf.old buf.new result (text_in mode.Iter (told_of_script script.now)) }
-    ensures empty { is_empty (table_of_told (told_of_script script.now)) ≡ true → IsOk result }
-{
-    let (dimension, colors) = (&script.dimension, &script.colors);
-    IterGrid::new(&script.records, &script.config, dimension, colors).build(alloc, buf)
-}
-
-// Appends the table of a script, as the looked-up grid prints it.
-fn push_peekable<A: Allocator, B: Allocator>(
-    script: &Script<A>,
-    buf: &mut String<B>,
-) -> Result<(), AllocError>
-    requires { misfit_in mode.Peek (told_of_script script.now) ≡ None }
-    ensures { Appends buf.old buf.new result (text_in mode.Peek (told_of_script script.now)) }
-{
-    let (dimension, colors) = (&script.dimension, &script.colors);
-    PeekableGrid::new(&script.records, &script.config, dimension, colors).build(buf)
 }

@@ -23,6 +23,8 @@ pub(crate) enum Grid {
     Checked,
     /// A stream of rows, each of which is made when it is pushed.
     Rows,
+    /// The same stream, handed an iterator that makes the rows.
+    Results,
     /// The looked-up grid at the table's natural sizes, which are worked out in each build, from
     /// texts in memory.
     Natural,
@@ -227,7 +229,7 @@ pub(crate) const CASES: [Case; 19] = [
 ];
 
 /// Tables that are printed by other calls, and tables of other sizes, some of which take long.
-pub(crate) const OTHER_SIZES: [Case; 7] = [
+pub(crate) const OTHER_SIZES: [Case; 9] = [
     Case("iter_tall10", Grid::IterMade, TALL10),
     Case("iter_tall1000000", Grid::IterMade, TALL1000000),
     Case("peek_cells100", Grid::Peekable, CELLS100),
@@ -235,6 +237,8 @@ pub(crate) const OTHER_SIZES: [Case; 7] = [
     Case("peek_checked", Grid::Checked, BASIC),
     Case("rows_tall", Grid::Rows, TALL),
     Case("rows_tall1000000", Grid::Rows, TALL1000000),
+    Case("results_tall", Grid::Results, TALL),
+    Case("results_tall1000000", Grid::Results, TALL1000000),
 ];
 
 /// All cases, as they are listed.

@@ -22,6 +22,16 @@ pub(crate) struct EvenDimension {
     pub(crate) height: usize,
 }
 
+impl EvenDimension {
+    /// The sizes of a table's columns and rows.
+    pub(crate) fn of(table: Table) -> EvenDimension {
+        EvenDimension {
+            width: table.width,
+            height: table.height,
+        }
+    }
+}
+
 impl Dimension for EvenDimension {
     ghost width = { λ d _. d.width };
 

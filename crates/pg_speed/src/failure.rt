@@ -5,7 +5,7 @@ ghost use Rattle.std.specs.Prelude.{⊤};
 use pg_grid::PrintFault;
 use pg_layout::RecordsFault;
 use pg_picture::fits::Misfit;
-use pg_stream::StreamFault;
+use pg_stream::{RowsFault, StreamFault};
 use pg_table::TableFault;
 use std::alloc::AllocError;
 use std::process::ExitCode;
@@ -89,6 +89,17 @@ impl From<StreamFault> for Failure {
         match fault {
             StreamFault::Memory => Failure::Memory,
             _ => Failure::Table,
+        }
+    }
+}
+
+impl From<RowsFault<Failure>> for Failure {
+    ghost from_gives = { λ _ failure. ⊤ };
+
+    fn from(fault: RowsFault<Failure>) -> Failure {
+        match fault {
+            RowsFault::Stream(fault) => Failure::from(fault),
+            RowsFault::Source(failure) => failure,
         }
     }
 }

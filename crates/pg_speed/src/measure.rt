@@ -8,7 +8,7 @@ use crate::case::{Case, Grid, Look, Table};
 use crate::checksum::checksum;
 use crate::dimension::dimension;
 use crate::failure::Failure;
-use crate::rows::pushed;
+use crate::rows::text_of_rows;
 use crate::settings::{colors, compact_settings, set};
 use crate::streamed::{streamed, streamed_as_made};
 use crate::texts::records;
@@ -56,26 +56,22 @@ fn spanned_text<A: Allocator + Copy>(
     times: usize,
 ) -> Result<String<A>, Failure> {
     let mut config = SpannedConfig::new(alloc);
-    let text = text_by(alloc, grid, table, times, &mut config);
-    drop(config);
-    text
+    set(alloc, table, &mut config)?;
+    match grid {
+        Grid::IterMade => streamed_as_made(alloc, table, &config, times),
+        Grid::Rows | Grid::Results => text_of_rows(alloc, grid, table, &config, times),
+        _ => text_of_records(alloc, grid, table, &config, times),
+    }
 }
 
-// The same by a configuration that is told the table's settings.
-fn text_by<A: Allocator + Copy>(
+// The same of texts that are there.
+fn text_of_records<A: Allocator + Copy>(
     alloc: A,
     grid: Grid,
     table: Table,
+    config: &SpannedConfig<A>,
     times: usize,
-    config: &mut SpannedConfig<A>,
 ) -> Result<String<A>, Failure> {
-    set(alloc, table, config)?;
-    if grid == Grid::IterMade {
-        return streamed_as_made(alloc, table, config, times);
-    }
-    if grid == Grid::Rows {
-        return pushed(alloc, table, config, times);
-    }
     let records = records(alloc, table)?;
     if grid == Grid::Natural {
         return natural(alloc, &records, config, times);

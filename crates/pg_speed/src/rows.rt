@@ -1,6 +1,6 @@
 //! Tables whose rows come one at a time.
 
-use crate::case::Table;
+use crate::case::{Grid, Table};
 use crate::dimension::EvenDimension;
 use crate::failure::Failure;
 use crate::texts::SAME;
@@ -9,9 +9,10 @@ use pg_layout::NoColors;
 use pg_stream::RowStream;
 use std::alloc::Allocator;
 
-/// The text of a table whose rows are pushed one after another, built so many times.
-pub(crate) fn pushed<A: Allocator + Copy>(
+/// The text of a table whose rows come one at a time, built so many times.
+pub(crate) fn text_of_rows<A: Allocator + Copy>(
     alloc: A,
+    grid: Grid,
     table: Table,
     config: &SpannedConfig<A>,
     times: usize,
@@ -19,26 +20,43 @@ pub(crate) fn pushed<A: Allocator + Copy>(
     let mut text = String::new(alloc);
     for _ in 0..times {
         text.clear();
-        push_rows(alloc, table, config, &mut text)?;
+        match grid {
+            Grid::Results => print_rows(alloc, table, config, &mut text)?,
+            _ => push_rows(alloc, table, config, &mut text)?,
+        }
     }
     Ok(text)
 }
 
-// Appends all rows of a table.
+// Appends all rows of a table, each of which is pushed.
 fn push_rows<A: Allocator + Copy>(
     alloc: A,
     table: Table,
     config: &SpannedConfig<A>,
     text: &mut String<A>,
 ) -> Result<(), Failure> {
-    let dimension = EvenDimension {
-        width: table.width,
-        height: table.height,
-    };
+    let dimension = EvenDimension::of(table);
     let mut stream = RowStream::new(alloc, config, &dimension, &NoColors, table.columns, None)?;
     for _ in 0..table.rows {
-        let row = vec![in alloc; SAME; table.columns]?;
-        stream = stream.push(row, text)?;
+        stream = stream.push(row_of(alloc, table)?, text)?;
     }
     Ok(stream.finish(text)?)
+}
+
+// Appends all rows of a table, which an iterator gives.
+fn print_rows<A: Allocator + Copy>(
+    alloc: A,
+    table: Table,
+    config: &SpannedConfig<A>,
+    text: &mut String<A>,
+) -> Result<(), Failure> {
+    let dimension = EvenDimension::of(table);
+    let stream = RowStream::new(alloc, config, &dimension, &NoColors, table.columns, None)?;
+    let rows = (0..table.rows).map(|_| row_of(alloc, table));
+    Ok(stream.print_results(rows, text)?)
+}
+
+// A row of a table.
+fn row_of<A: Allocator>(alloc: A, table: Table) -> Result<Vec<&'static str, A>, Failure> {
+    Ok(vec![in alloc; SAME; table.columns]?)
 }

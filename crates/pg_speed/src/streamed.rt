@@ -23,11 +23,7 @@ pub(crate) fn streamed_as_made<A: Allocator + Copy>(
         rows: table.rows,
         columns: table.columns,
     };
-    let dimension = EvenDimension {
-        width: table.width,
-        height: table.height,
-    };
-    streamed(alloc, records, &dimension, config, times)
+    streamed(alloc, records, &EvenDimension::of(table), config, times)
 }
 
 /// The text of a table as the streaming grid prints it, built so many times.

@@ -49,24 +49,8 @@ fn push_told<A: Allocator + Copy>(
 ) -> Result<(), Failure> {
     let mut config = SpannedConfig::new(alloc);
     let mut colors = ColorsMap::new(alloc);
-    let told = tell_all(alloc, table, &mut config, &mut colors);
-    let pushed = told.and_then(|()| {
-        let grid = PeekableGrid::new(records, &config, dimension, &colors);
-        Ok(grid.print(text)?)
-    });
-    drop(config);
-    drop(colors);
-    pushed
-}
-
-// Tells all that a table sets.
-fn tell_all<A: Allocator + Copy>(
-    alloc: A,
-    table: Table,
-    config: &mut SpannedConfig<A>,
-    colors: &mut ColorsMap<A>,
-) -> Result<(), Failure> {
-    set(alloc, table, config)?;
-    tell(alloc, table, config, colors)?;
+    set(alloc, table, &mut config)?;
+    tell(alloc, table, &mut config, &mut colors)?;
+    PeekableGrid::new(records, &config, dimension, &colors).print(text)?;
     Ok(())
 }

@@ -192,9 +192,7 @@ fn a_row_a_column_and_a_cell_are_told_all_of_a_cell(rt: HostRuntime) -> Result<(
         (Entity::Cell(5, 3), (5, 3), (4, 3)),
     ] {
         let mut config = SpannedConfig::new(rt.alloc());
-        let is_told = tell_alone(&rt, rt.alloc(), &mut config, (entity, cell), other);
-        drop(config);
-        is_told?;
+        tell_alone(&rt, rt.alloc(), &mut config, (entity, cell), other)?;
     }
     Ok(())
 }

@@ -164,9 +164,7 @@ fn a_row_line_is_answered_in_each_row_and_for_each_number_of_columns(
         ((3, 3), ["<=+=+=>", "<-+-+->"]),
     ] {
         let mut config = SpannedConfig::new(rt.alloc());
-        let is_set = set_line_twice(&rt, rt.alloc(), &mut config, line, texts);
-        drop(config);
-        is_set?;
+        set_line_twice(&rt, rt.alloc(), &mut config, line, texts)?;
     }
     Ok(())
 }

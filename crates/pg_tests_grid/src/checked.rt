@@ -131,9 +131,7 @@ fn assert_four(rt: &impl Abort, alloc: Global, config: &mut SpannedConfig) -> Re
 #[test]
 fn a_table_that_fits_is_refused_for_want_of_memory_alone(rt: HostRuntime) -> Result<(), Fail> {
     let mut config = SpannedConfig::new(rt.alloc());
-    let is_right = assert_four(&rt, rt.alloc(), &mut config);
-    drop(config);
-    is_right
+    assert_four(&rt, rt.alloc(), &mut config)
 }
 
 /// Three rows of two cells of width 1.
@@ -235,9 +233,7 @@ fn assert_misfit(
 fn a_table_that_does_not_fit_is_refused_by_its_first_misfit(rt: HostRuntime) -> Result<(), Fail> {
     for (sample, misfit) in MISFITS {
         let mut config = SpannedConfig::new(rt.alloc());
-        let is_right = assert_misfit(&rt, rt.alloc(), (&sample, misfit), &mut config);
-        drop(config);
-        is_right?;
+        assert_misfit(&rt, rt.alloc(), (&sample, misfit), &mut config)?;
     }
     Ok(())
 }

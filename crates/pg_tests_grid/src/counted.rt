@@ -134,9 +134,7 @@ fn cells_of_a_row_are_drawn_as_they_come(rt: HostRuntime) -> Result<(), Fail> {
         records: &records,
         asked: &asked,
     };
-    let is_whole = is_drawn(alloc, counted, &config, &dimension);
-    drop(config);
-    assert!(rt; !is_whole?);
+    assert!(rt; !is_drawn(alloc, counted, &config, &dimension)?);
     assert_eq!(rt; asked.get(), 1);
     Ok(())
 }

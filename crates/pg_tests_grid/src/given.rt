@@ -93,9 +93,7 @@ fn assert_given(
 ) -> Result<(), Fail> {
     for is_hinted in [true, false] {
         let mut config = SpannedConfig::new(alloc);
-        let is_given = assert_given_by(rt, alloc, &mut config, is_hinted, (second, settings));
-        drop(config);
-        is_given?;
+        assert_given_by(rt, alloc, &mut config, is_hinted, (second, settings))?;
     }
     Ok(())
 }
@@ -131,10 +129,8 @@ fn rows_that_never_come_have_no_margins(rt: HostRuntime) -> Result<(), Fail> {
     let memory = Refusing::from_on(alloc, 1);
     let mut buf = String::from_str(&memory, "log:")?;
     let mut config = SpannedConfig::new(alloc);
-    let is_told = tell_all(&mut config, alloc, &[Setting::Ascii, margin]);
+    tell_all(&mut config, alloc, &[Setting::Ascii, margin])?;
     let is_whole = draw_no_rows(&memory, &config, &dimension, &mut buf);
-    drop(config);
-    is_told?;
     assert!(rt; is_whole && memory.requests() == 1);
     assert_eq!(rt; buf.as_str(), "log:");
     Ok(())

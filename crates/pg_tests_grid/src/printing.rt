@@ -175,14 +175,12 @@ fn assert_printed(
         let mut buf = String::new(alloc);
         let mut notes = Vec::new(alloc);
         let mut config = SpannedConfig::new(alloc);
-        let printed = print_by(
+        print_by(
             alloc,
             (sample, is_hinted),
             &mut config,
             (&mut buf, &mut notes),
-        );
-        drop(config);
-        printed?;
+        )?;
         assert_eq!(rt; buf.as_str(), text);
         assert_eq!(rt; notes.as_slice(), told);
     }
@@ -283,9 +281,7 @@ fn print_narrow_row<W: Allocator>(
 ) -> Result<usize, Fail> {
     let dimension = ConstantDimension(vec![in alloc; 2, 2, 2]?, vec![in alloc; 1]?);
     let config = SpannedConfig::new(alloc);
-    let left = print_only_row(alloc, &config, &dimension, (buf, notes));
-    drop(config);
-    left
+    print_only_row(alloc, &config, &dimension, (buf, notes))
 }
 
 #[test]

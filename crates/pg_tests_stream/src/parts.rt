@@ -79,17 +79,21 @@ pub(crate) fn rows_of<V: Allocator + Copy>(
 }
 
 /// The rows of these texts, with this error in the place of the row of its number, if there is one.
-pub(crate) fn items_of<E: Copy + Drop, V: Allocator + Copy>(
+pub(crate) fn items_of<E: Drop, V: Allocator + Copy>(
     alloc: V,
     texts: &[&[&'static str]],
     error: Option<(usize, E)>,
 ) -> Result<Vec<Item<E, V>, V>, AllocError> {
     let mut items = Vec::new(alloc);
     for row in rows_of(alloc, texts)? {
-        items.push(match error {
-            Some((place, error)) if place == items.len() => Err(error),
-            _ => Ok(row),
-        })?;
+        items.push(Ok(row))?;
+    }
+    let Some((place, error)) = error else {
+        return Ok(items);
+    };
+    match items.get_mut(place) {
+        Some(item) => *item = Err(error),
+        None => drop(error),
     }
     Ok(items)
 }

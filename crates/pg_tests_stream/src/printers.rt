@@ -95,9 +95,7 @@ fn a_printer_that_ends_before_its_first_row_appends_nothing(rt: HostRuntime) -> 
     for hint in [None, Some(0), Some(2)] {
         let mut buf = String::from_str(rt.alloc(), "log:")?;
         let mut config = SpannedConfig::new(rt.alloc());
-        let finished = finish_at_once(rt.alloc(), &mut config, hint, &mut buf);
-        drop(config);
-        finished?;
+        finish_at_once(rt.alloc(), &mut config, hint, &mut buf)?;
         assert_eq!(rt; buf.as_str(), "log:");
     }
     Ok(())

@@ -41,9 +41,7 @@ fn assert_streamed(
     for way in WAYS {
         let mut buf = String::from_str(alloc, "log:")?;
         let mut config = SpannedConfig::new(alloc);
-        let ended = print_told(alloc, way, rows, &mut config, &mut buf);
-        drop(config);
-        assert_eq!(rt; ended?, end);
+        assert_eq!(rt; print_told(alloc, way, rows, &mut config, &mut buf)?, end);
         assert_eq!(rt; buf.as_str(), text);
     }
     Ok(())
@@ -217,7 +215,6 @@ fn what_is_told_before_the_first_row_must_fit(rt: HostRuntime) -> Result<(), Fai
     let dimension = narrow(rt.alloc())?;
     let none = printer_fits(&config, &dimension, &NoColors, 0, None);
     let some = printer_fits(&config, &dimension, &NoColors, COLUMNS, Some(7));
-    drop(config);
     assert_eq!(rt; none, Err(Misfit::Totals));
     assert_eq!(rt; some, Ok(()));
     Ok(())
@@ -251,9 +248,7 @@ fn assert_held(
 fn a_row_is_held_until_the_next_one_is_there(rt: HostRuntime) -> Result<(), Fail> {
     let config = SpannedConfig::new(rt.alloc());
     let dimension = narrow(rt.alloc())?;
-    let held = assert_held(&rt, rt.alloc(), &config, &dimension);
-    drop(config);
-    held
+    assert_held(&rt, rt.alloc(), &config, &dimension)
 }
 
 #[test]

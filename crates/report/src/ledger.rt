@@ -171,14 +171,12 @@ fn print_with<R: Read + Drop, W: Write>(
     print_lines(alloc, rows, reader, out)
 }
 
-// Prints a ledger. The configuration goes back before the answer is looked at.
+// Prints a ledger.
 fn print<R: Read + Drop, W: Write>(alloc: Global, input: R, out: &mut W) -> Result<(), Fault>
     ensures { result ≢ Err Fault.Write → IfSome (R.remaining input) (λ bytes. (text : Text) × Writes bytes (result_err result) text × Appends (W.contents out.old) (W.contents out.new) text) }
 {
     let mut config = SpannedConfig::new(alloc);
-    let result = print_with(alloc, &mut config, input, out);
-    drop(config);
-    result
+    print_with(alloc, &mut config, input, out)
 }
 
 /// Runs the program, and answers how the run ended.
