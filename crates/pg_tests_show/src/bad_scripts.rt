@@ -1,6 +1,6 @@
 //! Scripts with a bad line, which is named in each mode before anything else is asked.
 
-use pg_runs::running::{ALL_MODES, assert_bytes_bad, assert_refused};
+use crate::running::{ALL_MODES, assert_bytes_bad, assert_refused};
 use std::alloc::Global;
 use std::process::Abort;
 use std::test::Fail;

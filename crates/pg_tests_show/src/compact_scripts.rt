@@ -1,6 +1,6 @@
 //! Scripts, and what the program answers to them with the word `compact`, and to wrong arguments.
 
-use pg_runs::running::{TOO_WIDE, assert_refused, assert_refused_with, assert_shown};
+use crate::running::{TOO_WIDE, assert_refused, assert_refused_with, assert_shown};
 use std::test::Fail;
 
 /// What the program is told.

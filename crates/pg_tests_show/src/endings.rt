@@ -1,6 +1,6 @@
 //! How runs of the program end, and how they do where the arguments can't be read.
 
-use pg_runs::running::{ALL_MODES, TOO_WIDE, arguments};
+use crate::running::{ALL_MODES, TOO_WIDE, arguments};
 use pg_show::{Ending, Fault, show_or_tell};
 use pg_testing::ledger::Rule;
 use pg_testing::streams::{FailingWriter, PIECE};

@@ -1,5 +1,4 @@
-//! Tests of the program that prints the table of a script: its modes, its faults, its streams and its
-//! memory.
+//! Tests of scripts and of the program that prints them.
 #![tactic(auto)]
 
 #[cfg(test)]
@@ -9,9 +8,19 @@ mod compact_scripts;
 #[cfg(test)]
 mod endings;
 #[cfg(test)]
+mod entity_scripts;
+#[cfg(test)]
+mod look_scripts;
+#[cfg(test)]
 mod misfit_scripts;
 #[cfg(test)]
 mod refused;
+#[cfg(test)]
+mod running;
+#[cfg(test)]
+mod scripts;
+#[cfg(test)]
+mod span_scripts;
 #[cfg(test)]
 mod streams;
 #[cfg(test)]

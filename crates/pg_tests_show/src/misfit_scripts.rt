@@ -1,7 +1,7 @@
 //! Tables at the edge of what fits, in each mode. None of the largest is printed: where its sizes fit,
 //! a cell without room is named.
 
-use pg_runs::running::{assert_refused, assert_shown};
+use crate::running::{assert_refused, assert_shown};
 use std::test::Fail;
 
 /// The words whose tables have rows of any height.

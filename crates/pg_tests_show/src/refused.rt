@@ -1,6 +1,6 @@
 //! Scripts read and printed, and runs of the program, while memory is refused.
 
-use pg_runs::running::arguments;
+use crate::running::arguments;
 use pg_show::{Mode, ScriptFault, ShowFault, parse_script, print_script, run};
 use pg_testing::refusing::Refusing;
 use std::alloc::Global;

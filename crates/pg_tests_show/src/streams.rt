@@ -1,6 +1,6 @@
 //! Runs of the program whose reads or writes fail, or are many.
 
-use pg_runs::running::{ALL_MODES, arguments};
+use crate::running::{ALL_MODES, arguments};
 use pg_show::run;
 use pg_testing::ledger::Rule;
 use pg_testing::streams::{EndlessReader, FailingReader, FailingWriter, PIECE};

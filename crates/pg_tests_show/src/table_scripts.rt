@@ -1,6 +1,6 @@
 //! Scripts, and what the program answers to them with the word `table`.
 
-use pg_runs::running::{assert_refused, assert_shown};
+use crate::running::{assert_refused, assert_shown};
 use std::test::Fail;
 
 /// What the program is told.

@@ -1,6 +1,6 @@
 //! How the lines of a script are written: spaces, ends of lines, numbers and texts.
 
-use pg_runs::running::assert_shown;
+use crate::running::assert_shown;
 use std::test::Fail;
 
 /// The words whose tables have cells of more than one line.

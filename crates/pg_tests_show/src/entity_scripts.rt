@@ -1,8 +1,8 @@
 //! Statements for all cells, for a row, for a column and for a cell, with the words `peek` and
 //! `iter`. A row that is read as a column, or a cell's row as its column, gives another text.
 
+use crate::running::assert_shown;
 use crate::scripts::assert_four;
-use pg_runs::running::assert_shown;
 use std::alloc::{AllocError, Global};
 use std::process::Abort;
 use std::test::Fail;

@@ -1,7 +1,7 @@
 //! Scripts that tell of borders, colours, margins and heights.
 
+use crate::running::assert_shown;
 use crate::scripts::{assert_cell, assert_four};
-use pg_runs::running::assert_shown;
 use std::test::Fail;
 
 /// The words whose tables have heights and spans.

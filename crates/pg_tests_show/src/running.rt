@@ -6,7 +6,7 @@ use std::process::Abort;
 use std::test::Fail;
 
 /// The words that name a mode.
-pub const ALL_MODES: [&str; 4] = ["compact", "iter", "peek", "table"];
+pub(crate) const ALL_MODES: [&str; 4] = ["compact", "iter", "peek", "table"];
 
 /// What a run of the program leaves.
 #[derive(Drop)]
@@ -17,7 +17,7 @@ struct Run {
 }
 
 /// The arguments of a run.
-pub fn arguments(alloc: Global, words: &[&str]) -> Result<Vec<String>, AllocError> {
+pub(crate) fn arguments(alloc: Global, words: &[&str]) -> Result<Vec<String>, AllocError> {
     let mut arguments = Vec::new(alloc);
     for word in words {
         arguments.push(String::from_str(alloc, word)?)?;
@@ -36,14 +36,14 @@ fn run_with(alloc: Global, words: &[&str], script: &[u8]) -> Result<Run, AllocEr
 }
 
 /// A script whose total width is no number of 64 bits, with the line and the status of its refusal.
-pub const TOO_WIDE: (&str, &str, u8) = (
+pub(crate) const TOO_WIDE: (&str, &str, u8) = (
     "size 1 2\nwidths 18446744073709551615 1\n",
     "does not fit: totals\n",
     3,
 );
 
 /// With each of these words alone the script's table is this text, the line feed at its end among it.
-pub fn assert_shown(
+pub(crate) fn assert_shown(
     rt: &impl Abort,
     alloc: Global,
     modes: &[&str],
@@ -59,7 +59,7 @@ pub fn assert_shown(
 }
 
 /// With these arguments the script is refused with this line and this status.
-pub fn assert_refused_with(
+pub(crate) fn assert_refused_with(
     rt: &impl Abort,
     alloc: Global,
     words: &[&str],
@@ -73,7 +73,7 @@ pub fn assert_refused_with(
 }
 
 /// With each of these words alone these bytes, as a script, are bad, and this line says where.
-pub fn assert_bytes_bad(
+pub(crate) fn assert_bytes_bad(
     rt: &impl Abort,
     alloc: Global,
     modes: &[&str],
@@ -89,7 +89,7 @@ pub fn assert_bytes_bad(
 }
 
 /// With each of these words alone the script is refused with this line and this status.
-pub fn assert_refused(
+pub(crate) fn assert_refused(
     rt: &impl Abort,
     alloc: Global,
     modes: &[&str],

@@ -1,7 +1,7 @@
 //! Scripts with spans, and what the program answers to them with the words `peek` and `iter`.
 
+use crate::running::{assert_refused, assert_shown};
 use crate::scripts::assert_four;
-use pg_runs::running::{assert_refused, assert_shown};
 use std::test::Fail;
 
 const MODES: &[&str] = &["peek", "iter"];

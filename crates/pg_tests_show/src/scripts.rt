@@ -1,6 +1,6 @@
 //! Scripts, and what the program answers to them with the word `peek`, and so with `iter`.
 
-use pg_runs::running::{TOO_WIDE, assert_refused, assert_shown};
+use crate::running::{TOO_WIDE, assert_refused, assert_shown};
 use std::alloc::Global;
 use std::process::Abort;
 use std::test::Fail;
