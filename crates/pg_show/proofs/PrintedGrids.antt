@@ -9,7 +9,7 @@ use Rattle.pg_picture.specs.declared.fault.PrintFault.{PrintFault}
 use Rattle.pg_picture.specs.declared.fault.PrintFault.TheVariants as print
 use Rattle.pg_picture.proofs.Appending.{appended-as, refused-as}
 use Rattle.pg_show.specs.Show.{fault_of_print, misfit_in, text_in, Prints, Shows}
-use Rattle.pg_show.specs.Told.{Told}
+use Rattle.pg_script.specs.Told.{Told}
 use Rattle.pg_show.specs.declared.mode.Mode.{Mode}
 use Rattle.pg_show.specs.declared.mode.Mode.TheVariants as mode
 use Rattle.pg_show.specs.declared.show.ShowFault.{ShowFault}

@@ -6,7 +6,7 @@ use Rattle.pg_layout.specs.Text.{Text}
 use Rattle.pg_picture.specs.declared.fits.Misfit.{Misfit}
 use Rattle.pg_show.specs.Program.{Answers, answer_of_told, unless_misfit_shown, fault_of_show, is_failure, tells_failure, status_of, status_after, status_of_answer}
 use Rattle.pg_show.specs.Show.{misfit_in, text_in, Prints}
-use Rattle.pg_show.specs.Told.{Told}
+use Rattle.pg_script.specs.Told.{Told}
 use Rattle.pg_show.specs.declared.fault.Fault.{Fault}
 use Rattle.pg_show.specs.declared.fault.Fault.TheVariants as fault
 use Rattle.pg_show.specs.declared.mode.Mode.{Mode}

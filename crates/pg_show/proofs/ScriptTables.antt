@@ -11,11 +11,11 @@ use Rattle.pg_picture.specs.CompactSizes.{compact_sized}
 use Rattle.pg_picture.specs.Fits.{compact_misfit_of}
 use Rattle.pg_compact.specs.CompactGrids.{compact_misfit}
 use Rattle.pg_table.specs.Natural.{natural_table}
-use Rattle.pg_show.specs.Script.{told_of_script}
+use Rattle.pg_script.specs.Script.{told_of_script}
 use Rattle.pg_show.specs.Show.{table_with, compact_table_with, table_of_told, compact_table_of_told, natural_config, natural_table_of_told, misfit_in}
-use Rattle.pg_show.specs.Told.{Told}
+use Rattle.pg_script.specs.Told.{Told}
 use Rattle.pg_show.specs.declared.mode.Mode.TheVariants.{Compact}
-use Rattle.pg_show.specs.declared.script.Script.{Script}
+use Rattle.pg_script.specs.declared.script.Script.{Script}
 
 -- texts and colours are no reason for a misfit of a compact table
 misfit_of-compact_table_with : (config : CompactSettings) (widths : List ℕ) (texts : List (List Text)) (columns : ℕ) (colors : List (Position × Color)) → compact_misfit_of (compact_sized config (λ i. slice_index_or widths i 0) columns) ≡ compact_misfit_of (compact_table_with config widths texts columns colors)

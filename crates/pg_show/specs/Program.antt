@@ -4,14 +4,14 @@ use Rattle.pg_layout.specs.Text.{Text}
 use Rattle.pg_picture.specs.declared.fits.Misfit.{Misfit as WhatMisfits}
 use Rattle.pg_picture.specs.Fits.{misfit_text}
 use Rattle.pg_show.specs.Mode.{mode_of}
-use Rattle.pg_show.specs.Script.{told_by}
+use Rattle.pg_script.specs.Script.{told_by}
 use Rattle.pg_show.specs.Show.{misfit_in, text_in}
-use Rattle.pg_show.specs.Told.{Told}
+use Rattle.pg_script.specs.Told.{Told}
 use Rattle.pg_show.specs.declared.fault.Fault.{Fault}
 use Rattle.pg_show.specs.declared.fault.Fault.TheVariants.{Usage, Bad, Misfit, Memory, Read, Write}
 use Rattle.pg_show.specs.declared.mode.Mode.{Mode}
-use Rattle.pg_show.specs.declared.script.ScriptFault.{ScriptFault}
-use Rattle.pg_show.specs.declared.script.ScriptFault.TheVariants as script
+use Rattle.pg_script.specs.declared.script.ScriptFault.{ScriptFault}
+use Rattle.pg_script.specs.declared.script.ScriptFault.TheVariants as script
 use Rattle.pg_show.specs.declared.show.ShowFault.{ShowFault}
 use Rattle.pg_show.specs.declared.show.ShowFault.TheVariants as show
 

@@ -18,7 +18,7 @@ use Rattle.pg_picture.specs.Table.{Table, Known}
 use Rattle.pg_picture.specs.declared.fits.Misfit.{Misfit}
 use Rattle.pg_picture.specs.declared.fits.Misfit.TheVariants.{Spans, Totals}
 use Rattle.pg_table.specs.Natural.{natural_table}
-use Rattle.pg_show.specs.Told.{Told}
+use Rattle.pg_script.specs.Told.{Told}
 use Rattle.pg_show.specs.declared.mode.Mode.{Mode}
 use Rattle.pg_show.specs.declared.mode.Mode.TheVariants as mode
 use Rattle.pg_show.specs.declared.show.ShowFault.{ShowFault}

@@ -6,9 +6,9 @@ ghost use Rattle.std.specs.IoError.{error_kind};
 ghost use Rattle.pg_show.specs.Program.{status_of, line_of, fault_text, fault_of_script, fault_of_show};
 ghost use Rattle.pg_show.specs.declared.fault.Fault.TheVariants.{Memory};
 
-use crate::script::ScriptFault;
 use crate::show::ShowFault;
 use pg_picture::fits::Misfit;
+use pg_script::ScriptFault;
 use std::alloc::AllocError;
 use std::error::Error;
 use std::io::{ErrorKind, Write};

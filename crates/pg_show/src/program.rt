@@ -4,14 +4,13 @@ ghost use Rattle.std.specs.Prelude.{◌≡◌, ◌≢◌, ◌^◌, ◌≤◌, Li
 ghost use Rattle.std.specs.Io.KnownBytes.{Appends, Keeps};
 ghost use Rattle.pg_layout.specs.Text.{Text};
 ghost use Rattle.pg_show.specs.Mode.{mode_of};
-ghost use Rattle.pg_show.specs.Script.{told_of_script};
+ghost use Rattle.pg_script.specs.Script.{told_of_script};
 ghost use Rattle.pg_show.specs.Program.{Answers, answer_of_told, answer_of_script, answer_to, is_failure, line_of, status_of, status_after, status_of_answer, tells_failure};
 
 use crate::fault::Fault;
 use crate::mode::Mode;
-use crate::reading::parse_script;
-use crate::script::Script;
 use crate::show::print_script;
+use pg_script::{Script, parse_script};
 use std::alloc::Allocator;
 use std::io::{Read, Write};
 

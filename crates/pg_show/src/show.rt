@@ -3,7 +3,7 @@
 ghost use Rattle.std.specs.Prelude.{◌≡◌, ◌↔◌, true, Some, None, Err, IsOk};
 ghost use Rattle.pg_config.specs.CompactConfig.{settings_of};
 ghost use Rattle.pg_picture.specs.Table.{is_empty};
-ghost use Rattle.pg_show.specs.Script.{told_of_script};
+ghost use Rattle.pg_script.specs.Script.{told_of_script};
 ghost use Rattle.pg_show.specs.Show.{fault_of_print, fault_of_table, misfit_in, natural_config, table_of_told, text_in, Prints, Shows};
 ghost use Rattle.pg_show.specs.declared.mode.Mode.TheVariants as mode;
 ghost use Rattle.pg_show.specs.declared.mode.Mode.TheVariants.{Iter};
@@ -11,12 +11,12 @@ ghost use Rattle.pg_show.specs.declared.show.ShowFault.TheVariants.{Memory};
 ghost use Rattle.pg_show.specs.declared.show.ShowFault.TheVariants as variants;
 
 use crate::mode::Mode;
-use crate::script::Script;
 use pg_config::{CompactConfig, SpannedConfig};
 use pg_grid::{CompactGrid, IterGrid, PeekableGrid};
 use pg_layout::{Borders, Entity, NoColors};
 use pg_picture::PrintFault;
 use pg_picture::fits::Misfit;
+use pg_script::Script;
 use pg_table::{NaturalTable, TableFault};
 use std::alloc::Allocator;
 

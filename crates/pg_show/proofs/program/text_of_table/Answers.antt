@@ -1,7 +1,7 @@
 use Rattle.std.proofs.Common.{◌≡◌, ◌∙◌, ◌++◌, None, Err, string_bytes, arith, ap}
 use Rattle.std.specs.Result.{is_err}
 use Rattle.std.proofs.lemmas.Bool.{false≢true}
-use Rattle.pg_show.specs.Script.{told_of_script}
+use Rattle.pg_script.specs.Script.{told_of_script}
 use Rattle.pg_show.specs.Show.{misfit_in, text_in}
 use Rattle.pg_show.proofs.RightAnswers.{Answers-unprinted, answer_of_told-printed, misfit-none, Prints-ok}
 use Rattle.pg_show.proofs.program.text_of_table.Goals as goal

@@ -3,7 +3,7 @@ use Rattle.pg_layout.specs.Records.{columns_of}
 use Rattle.pg_config.specs.CompactConfig.{settings_of}
 use Rattle.pg_compact.specs.CompactGrids.{compact_misfit}
 use Rattle.pg_picture.specs.Picture.{compact_picture}
-use Rattle.pg_show.specs.Script.{told_of_script}
+use Rattle.pg_script.specs.Script.{told_of_script}
 use Rattle.pg_show.specs.Show.{compact_table_with}
 use Rattle.pg_show.specs.declared.mode.Mode.TheVariants as mode
 use Rattle.pg_show.proofs.PrintedGrids.{Shows-appended, Shows-stopped}

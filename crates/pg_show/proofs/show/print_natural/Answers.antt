@@ -1,7 +1,7 @@
 use Rattle.std.proofs.Common.{◌∙◌, None, map, string_bytes, ap}
 use Rattle.pg_layout.specs.Records.{columns_of}
 use Rattle.pg_table.specs.Natural.{natural_table}
-use Rattle.pg_show.specs.Script.{told_of_script}
+use Rattle.pg_script.specs.Script.{told_of_script}
 use Rattle.pg_show.proofs.NaturalTables.{Shows-printed, Shows-refused}
 use Rattle.pg_show.proofs.ScriptTables.{natural_table-script}
 use Rattle.pg_show.proofs.show.print_natural.Goals as goal

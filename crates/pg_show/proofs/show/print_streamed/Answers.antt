@@ -2,7 +2,7 @@ use Rattle.std.proofs.Common.{◌∙◌, ap, map, refl, string_bytes}
 use Rattle.pg_layout.specs.Records.{columns_of}
 use Rattle.std.proofs.lemmas.Bool.{false≢true}
 use Rattle.pg_picture.specs.Table.{is_empty}
-use Rattle.pg_show.specs.Script.{told_of_script}
+use Rattle.pg_script.specs.Script.{told_of_script}
 use Rattle.pg_show.specs.Show.{table_with}
 use Rattle.pg_show.specs.declared.mode.Mode.TheVariants as mode
 use Rattle.pg_show.proofs.PrintedGrids.{Shows-appended, Shows-stopped}

@@ -1,0 +1,14 @@
+//! Scripts: how one is read, and what it tells of a table.
+#![tactic(auto)]
+
+mod cell_texts;
+mod draft;
+pub mod examples;
+mod lines;
+mod reading;
+mod script;
+mod statement;
+mod words;
+
+pub use crate::reading::parse_script;
+pub use crate::script::{Script, ScriptFault};

@@ -1,0 +1,40 @@
+//! Scripts, and what they tell of a table.
+
+ghost use Rattle.std.specs.Prelude.{◌≡◌};
+ghost use Rattle.pg_script.specs.declared.script.ScriptFault.TheVariants.{Memory};
+
+use pg_config::{CompactConfig, SpannedConfig};
+use pg_layout::{ColorsMap, ConstantDimension, VecRecords};
+use std::alloc::{AllocError, Allocator, Global};
+
+/// Why a script tells of no table.
+#[derive(Debug, Clone, Copy, PartialEq, Eq)]
+pub enum ScriptFault {
+    /// The first bad line, counted from 1.
+    Bad(usize),
+    /// Memory was refused.
+    Memory,
+}
+
+impl From<AllocError> for ScriptFault {
+    ghost from_gives = { λ _ fault. fault ≡ Memory };
+
+    fn from(_error: AllocError) -> ScriptFault {
+        ScriptFault::Memory
+    }
+}
+
+/// All that the printing of a script's table needs.
+#[derive(Drop)]
+pub struct Script<A: Allocator = Global> {
+    /// The texts of the cells.
+    pub records: VecRecords<String<A>, A>,
+    /// The widths of the columns and the heights of the rows.
+    pub dimension: ConstantDimension<A>,
+    /// The colours of the cells.
+    pub colors: ColorsMap<A>,
+    /// The settings of the table.
+    pub config: SpannedConfig<A>,
+    /// The settings of the table as a compact one.
+    pub compact: CompactConfig,
+}
