@@ -1,12 +1,15 @@
 -- What a script tells of a table, and its first bad line.
-use Rattle.std.specs.Prelude.{ℕ, ◌+◌, List, [], ◌∷◌, map, Option, Some, None, option_map, Result, Ok, Err, string_bytes, if◌then◌else◌, codes}
+use Rattle.std.specs.Prelude.{ℕ, ◌+◌, List, [], ◌∷◌, ◌++◌, map, Option, Some, None, option_map, Result, Ok, Err, string_bytes, if◌then◌else◌, codes, decimal}
 use Rattle.std.specs.Str.{bytes_eq, is_utf8}
 use Rattle.std.specs.Str.Lines.{lines}
+use Rattle.pg_layout.specs.Text.{Text}
 use Rattle.pg_config.specs.CompactConfig.{settings_of}
 use Rattle.pg_script.specs.Told.{Told, told_nothing}
 use Rattle.pg_script.specs.Statement.{size_said, line_said}
 use Rattle.pg_script.specs.Words.{Word, words_of, behind_word}
 use Rattle.pg_script.specs.declared.script.Script.{Script}
+use Rattle.pg_script.specs.declared.script.ScriptFault.{ScriptFault}
+use Rattle.pg_script.specs.declared.script.ScriptFault.TheVariants.{Bad, Memory}
 use Rattle.pg_script.specs.declared.statement.Size.{Size}
 
 -- the first line with words tells the size of the table; nothing is told before it
@@ -61,3 +64,8 @@ told_of_script script = record {
   config = script.config;
   compact = settings_of script.compact;
 }
+
+-- the words for why a script tells of no table
+abbrev pub script_fault_text : ScriptFault → Text
+script_fault_text (Bad line) = codes "line " ++ (decimal line ++ codes ": bad")
+script_fault_text Memory = codes "out of memory"

@@ -1,11 +1,14 @@
 //! Scripts, and what they tell of a table.
 
-ghost use Rattle.std.specs.Prelude.{◌≡◌};
+ghost use Rattle.std.specs.Prelude.{◌≡◌, Some};
+ghost use Rattle.pg_script.specs.Script.{script_fault_text};
 ghost use Rattle.pg_script.specs.declared.script.ScriptFault.TheVariants.{Memory};
 
 use pg_config::{CompactConfig, SpannedConfig};
 use pg_layout::{ColorsMap, ConstantDimension, VecRecords};
 use std::alloc::{AllocError, Allocator, Global};
+use std::error::Error;
+use std::fmt;
 
 /// Why a script tells of no table.
 #[derive(Debug, Clone, Copy, PartialEq, Eq)]
@@ -23,6 +26,20 @@ impl From<AllocError> for ScriptFault {
         ScriptFault::Memory
     }
 }
+
+/// Writes what is wrong.
+impl fmt::Display for ScriptFault {
+    ghost output = { λ fault. Some (script_fault_text fault) };
+
+    fn fmt<W: fmt::Write>(&self, f: &mut fmt::Formatter<W>) -> fmt::Result {
+        match self {
+            ScriptFault::Bad(line) => write!(f, "line {line}: bad"),
+            ScriptFault::Memory => write!(f, "out of memory"),
+        }
+    }
+}
+
+impl Error for ScriptFault {}
 
 /// All that the printing of a script's table needs.
 #[derive(Drop)]

@@ -114,17 +114,6 @@ impl fmt::Display for Fault {
 impl Error for Fault {}
 
 /// Writes what the program says of it.
-impl fmt::Display for ScriptFault {
-    ghost output = { λ fault. Some (fault_text (fault_of_script fault)) };
-
-    fn fmt<W: fmt::Write>(&self, f: &mut fmt::Formatter<W>) -> fmt::Result {
-        write!(f, "{}", Fault::from(*self))
-    }
-}
-
-impl Error for ScriptFault {}
-
-/// Writes what the program says of it.
 impl fmt::Display for ShowFault {
     ghost output = { λ fault. Some (fault_text (fault_of_show fault)) };
 
