@@ -1,6 +1,6 @@
 //! How runs of the program end, and how they do where the arguments can't be read.
 
-use crate::running::{ALL_MODES, TOO_WIDE, arguments};
+use crate::running::{ALL_MODES, arguments};
 use pg_show::{Ending, Fault, show_or_tell};
 use pg_testing::ledger::Rule;
 use pg_testing::streams::{FailingWriter, PIECE};
@@ -12,6 +12,13 @@ use std::test::Fail;
 
 /// More writes than the line of a fault takes.
 const MANY: u64 = 100;
+
+/// A script whose total width is no number of 64 bits, with the line and the status of its refusal.
+const TOO_WIDE: (&str, &str, u8) = (
+    "size 1 2\nwidths 18446744073709551615 1\n",
+    "does not fit: totals\n",
+    3,
+);
 
 // Arguments that can't be read for this error end the run with this line and this status.
 fn assert_unread(

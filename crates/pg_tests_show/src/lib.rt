@@ -1,29 +1,15 @@
-//! Tests of scripts and of the program that prints them.
+//! Tests of the program that prints the tables of scripts: how its runs end where arguments are wrong,
+//! a script is no text, or memory, a read or a write fails. What it answers to scripts is told by the
+//! cases of `pg_tests_scripts`.
 #![tactic(auto)]
 
 #[cfg(test)]
-mod bad_scripts;
-#[cfg(test)]
-mod compact_scripts;
-#[cfg(test)]
 mod endings;
-#[cfg(test)]
-mod entity_scripts;
-#[cfg(test)]
-mod look_scripts;
-#[cfg(test)]
-mod misfit_scripts;
 #[cfg(test)]
 mod refused;
 #[cfg(test)]
 mod running;
 #[cfg(test)]
-mod scripts;
-#[cfg(test)]
-mod span_scripts;
-#[cfg(test)]
 mod streams;
 #[cfg(test)]
-mod table_scripts;
-#[cfg(test)]
-mod word_scripts;
+mod wrong_inputs;
