@@ -6,8 +6,14 @@ use pg_testing::ledger::Rule;
 use pg_testing::refusing::Refusing;
 use pg_testing::streams::{FailingReader, FailingWriter};
 use std::alloc::Global;
+use std::fmt::Debug;
 use std::process::Abort;
 use std::test::Fail;
+
+// What is given is what is wanted.
+fn assert_same<T: PartialEq + Debug + Drop>(rt: &impl Abort, given: T, wanted: T) {
+    assert_eq!(rt; given, wanted);
+}
 
 // What a run of the program leaves.
 #[derive(Drop)]
@@ -21,18 +27,18 @@ struct Run {
 fn assert_shown(rt: &impl Abort, alloc: Global, input: &str, text: &str) {
     let (mut out, mut err) = (Vec::new(alloc), Vec::new(alloc));
     let status = run(alloc, input.as_bytes(), &mut out, &mut err);
-    assert_eq!(rt; status, 0);
-    assert_eq!(rt; out.as_slice(), text.as_bytes());
-    assert_eq!(rt; err.len(), 0);
+    assert_same(rt, status, 0);
+    assert_same(rt, out.as_slice(), text.as_bytes());
+    assert_same(rt, err.len(), 0);
 }
 
 // The program refuses this input as bad, in this line.
 fn assert_refused(rt: &impl Abort, alloc: Global, input: &[u8], line: &str) {
     let (mut out, mut err) = (Vec::new(alloc), Vec::new(alloc));
     let status = run(alloc, input, &mut out, &mut err);
-    assert_eq!(rt; status, 2);
-    assert_eq!(rt; out.len(), 0);
-    assert_eq!(rt; err.as_slice(), line.as_bytes());
+    assert_same(rt, status, 2);
+    assert_same(rt, out.len(), 0);
+    assert_same(rt, err.as_slice(), line.as_bytes());
 }
 
 #[test]
@@ -178,9 +184,9 @@ fn run_failing(alloc: Global, (reads, writes, tellings): (Rule, Rule, Rule)) -> 
 fn a_failed_read_ends_the_run(rt: HostRuntime) {
     for k in 0..8 {
         let run = run_failing(rt.alloc(), (Rule::Only(k), Rule::Never, Rule::Never));
-        assert_eq!(&rt; run.status, 5);
-        assert_eq!(&rt; run.out.len(), 0);
-        assert_eq!(&rt; run.err.as_slice(), "read failed\n".as_bytes());
+        assert_same(&rt, run.status, 5);
+        assert_same(&rt, run.out.len(), 0);
+        assert_same(&rt, run.err.as_slice(), "read failed\n".as_bytes());
     }
 }
 
@@ -190,12 +196,12 @@ fn a_failed_read_ends_the_run(rt: HostRuntime) {
 fn a_failed_write_ends_the_run(rt: HostRuntime) {
     for k in 0..20 {
         let run = run_failing(rt.alloc(), (Rule::Never, Rule::Only(k), Rule::Never));
-        assert_eq!(&rt; run.status, 5);
+        assert_same(&rt, run.status, 5);
         assert!(&rt; TEXT.as_bytes().starts_with(&run.out));
-        assert_eq!(&rt; run.err.as_slice(), "write failed\n".as_bytes());
+        assert_same(&rt, run.err.as_slice(), "write failed\n".as_bytes());
     }
     let run = run_failing(rt.alloc(), (Rule::Never, Rule::Only(0), Rule::FromOn(0)));
-    assert_eq!(&rt; (run.status, run.err.len()), (5, 0));
+    assert_same(&rt, (run.status, run.err.len()), (5, 0));
 }
 
 // The program runs while the request for memory of this number is refused. Tells whether none was.
@@ -207,9 +213,9 @@ fn is_run(rt: &impl Abort, alloc: Global, k: u64) -> bool {
         true => (4, "", "out of memory\n"),
         false => (0, TEXT, ""),
     };
-    assert_eq!(rt; status, code);
-    assert_eq!(rt; out.as_slice(), text.as_bytes());
-    assert_eq!(rt; err.as_slice(), line.as_bytes());
+    assert_same(rt, status, code);
+    assert_same(rt, out.as_slice(), text.as_bytes());
+    assert_same(rt, err.as_slice(), line.as_bytes());
     !memory.has_refused()
 }
 

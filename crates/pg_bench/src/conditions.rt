@@ -1,5 +1,6 @@
 //! Conditions of tables and records, and indents, at single values.
 
+use crate::same::assert_same;
 use pg_config::SpannedConfig;
 use pg_layout::{AlignmentVertical, Entity, Position, RecordsFault, VecRecords};
 use pg_picture::fits::cell_fits;
@@ -14,7 +15,11 @@ fn the_first_row_of_another_length_is_named(rt: HostRuntime) -> Result<(), Fail>
     for length in [2, 2, 1, 3] {
         rows.push(vec![in rt.alloc(); "a"; length]?)?;
     }
-    assert_eq!(rt; VecRecords::new(rows).err(), Some(RecordsFault::Ragged(2)));
+    assert_same(
+        &rt,
+        VecRecords::new(rows).err(),
+        Some(RecordsFault::Ragged(2)),
+    );
     Ok(())
 }
 
@@ -40,11 +45,11 @@ fn a_cell_has_room_for_its_text_and_paddings(rt: HostRuntime) -> Result<(), Fail
 
 #[test]
 fn lines_stand_by_the_vertical_alignment(rt: HostRuntime) {
-    assert_eq!(rt; indent_from_top(AlignmentVertical::Bottom, 1, 1), 0);
-    assert_eq!(rt; indent_from_top(AlignmentVertical::Top, 1, 1), 0);
-    assert_eq!(rt; indent_from_top(AlignmentVertical::Center, 1, 1), 0);
-    assert_eq!(rt; indent_from_top(AlignmentVertical::Bottom, 3, 1), 2);
-    assert_eq!(rt; indent_from_top(AlignmentVertical::Top, 3, 1), 0);
-    assert_eq!(rt; indent_from_top(AlignmentVertical::Center, 3, 1), 1);
-    assert_eq!(rt; indent_from_top(AlignmentVertical::Center, 4, 1), 1);
+    assert_same(&rt, indent_from_top(AlignmentVertical::Bottom, 1, 1), 0);
+    assert_same(&rt, indent_from_top(AlignmentVertical::Top, 1, 1), 0);
+    assert_same(&rt, indent_from_top(AlignmentVertical::Center, 1, 1), 0);
+    assert_same(&rt, indent_from_top(AlignmentVertical::Bottom, 3, 1), 2);
+    assert_same(&rt, indent_from_top(AlignmentVertical::Top, 3, 1), 0);
+    assert_same(&rt, indent_from_top(AlignmentVertical::Center, 3, 1), 1);
+    assert_same(&rt, indent_from_top(AlignmentVertical::Center, 4, 1), 1);
 }

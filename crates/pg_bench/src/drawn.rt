@@ -1,5 +1,6 @@
 //! Tables against the text that was drawn of them by hand.
 
+use crate::same::assert_same;
 use pg_samples::drawing::{Grid, Sample, draw, text_of};
 use pg_samples::settings::Setting;
 use std::alloc::Global;
@@ -15,10 +16,11 @@ pub(crate) fn assert_drawn_by(
 ) -> Result<(), Fail> {
     let mut buf = String::from_str(alloc, "log:")?;
     assert!(rt; draw(alloc, alloc, (grid, sample), &mut buf)?);
-    assert_eq!(rt; buf.as_str().strip_prefix("log:"), Some(text));
-    assert_eq!(rt;
+    assert_same(rt, buf.as_str().strip_prefix("log:"), Some(text));
+    assert_same(
+        rt,
         text_of(alloc, alloc, (grid, sample))?.as_deref(),
-        Some(text)
+        Some(text),
     );
     Ok(())
 }

@@ -1,5 +1,6 @@
 //! Tables larger than any memory.
 
+use crate::same::assert_same;
 use pg_config::CompactConfig;
 use pg_layout::{
     AlignmentHorizontal, AlignmentVertical, Borders, Entity, Indent, Offset, Position, Sides,
@@ -83,7 +84,7 @@ fn drawn_bytes(
     let memory = Refusing::from_on(alloc, k);
     let mut buf = String::from_str(&memory, "log:")?;
     assert!(rt; !draw_by(alloc, &memory, drawn, &mut buf)?);
-    assert_eq!(rt; memory.requests(), k.saturating_add(1));
+    assert_same(rt, memory.requests(), k.saturating_add(1));
     let Some(gained) = buf.as_str().strip_prefix("log:") else {
         panic!(rt; "the old text is lost");
     };

@@ -16,6 +16,8 @@ mod kept;
 #[cfg(test)]
 mod margins;
 #[cfg(test)]
+mod same;
+#[cfg(test)]
 mod spans;
 #[cfg(test)]
 mod texts;

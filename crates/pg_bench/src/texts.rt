@@ -1,6 +1,7 @@
 //! Texts of several lines, trimmed and aligned.
 
 use crate::drawn::assert_cell;
+use crate::same::assert_same;
 use pg_layout::{AlignmentHorizontal, AlignmentVertical, Entity, Indent, Sides};
 use pg_picture::count_empty_lines;
 use pg_samples::settings::Setting;
@@ -117,8 +118,8 @@ fn a_fill_may_be_two_columns_wide(rt: HostRuntime) -> Result<(), Fail> {
 
 #[test]
 fn blank_lines_are_counted_before_and_behind_the_others(rt: HostRuntime) {
-    assert_eq!(rt; count_empty_lines(" \n\na\n \nb\n"), (3, 2, 1));
-    assert_eq!(rt; count_empty_lines("a"), (1, 0, 0));
-    assert_eq!(rt; count_empty_lines("\n \n"), (0, 3, 0));
-    assert_eq!(rt; count_empty_lines(""), (0, 1, 0));
+    assert_same(&rt, count_empty_lines(" \n\na\n \nb\n"), (3, 2, 1));
+    assert_same(&rt, count_empty_lines("a"), (1, 0, 0));
+    assert_same(&rt, count_empty_lines("\n \n"), (0, 3, 0));
+    assert_same(&rt, count_empty_lines(""), (0, 1, 0));
 }

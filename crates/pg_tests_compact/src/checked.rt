@@ -1,6 +1,7 @@
 //! Calls that test their table themselves, where it doesn't fit and where memory is refused.
 
 use crate::drawing::{Sample, WITH_MARGINS, bordered, dimension, records, with_margins};
+use crate::same::assert_same;
 use pg_compact::CompactGrid;
 use pg_config::CompactConfig;
 use pg_layout::{ConstantDimension, Indent, NoColors, Sides, VecRecords};
@@ -56,9 +57,9 @@ fn is_refused(
         panic!(rt; "the old text is lost");
     };
     assert!(rt; picture.starts_with(gained));
-    assert_eq!(rt; printed.is_ok(), gained == picture);
+    assert_same(rt, printed.is_ok(), gained == picture);
     let is_refused = memory.has_refused();
-    assert_eq!(rt; printed.err(), is_refused.then_some(PrintFault::Memory));
+    assert_same(rt, printed.err(), is_refused.then_some(PrintFault::Memory));
     Ok(is_refused)
 }
 
@@ -87,10 +88,10 @@ fn a_text_is_refused_for_want_of_memory_alone(rt: HostRuntime) -> Result<(), Fai
         let given = text(&memory, (&records, &dimension, &sample.config));
         if !memory.has_refused() {
             assert!(rt; k > 0);
-            assert_eq!(rt; given.ok().as_deref(), Some(WITH_MARGINS));
+            assert_same(&rt, given.ok().as_deref(), Some(WITH_MARGINS));
             return Ok(());
         }
-        assert_eq!(rt; given.err(), Some(PrintFault::Memory));
+        assert_same(&rt, given.err(), Some(PrintFault::Memory));
     }
     Err(Fail::new("more requests than were tried"))
 }
@@ -111,12 +112,12 @@ fn assert_misfit(
     let parts = (&records, &dimension, &sample.config);
     let memory = Refusing::from_on(alloc, 1);
     let mut buf = String::from_str(&memory, OLD)?;
-    assert_eq!(rt; fits(parts), Err(misfit));
-    assert_eq!(rt; print(parts, &mut buf), Err(PrintFault::Misfit(misfit)));
-    assert_eq!(rt; buf.as_bytes(), OLD.as_bytes());
+    assert_same(rt, fits(parts), Err(misfit));
+    assert_same(rt, print(parts, &mut buf), Err(PrintFault::Misfit(misfit)));
+    assert_same(rt, buf.as_bytes(), OLD.as_bytes());
     let given = text(&memory, parts).err();
-    assert_eq!(rt; given, Some(PrintFault::Misfit(misfit)));
-    assert_eq!(rt; memory.requests(), 1);
+    assert_same(rt, given, Some(PrintFault::Misfit(misfit)));
+    assert_same(rt, memory.requests(), 1);
     Ok(())
 }
 
@@ -162,10 +163,10 @@ fn assert_fits(
     let dimension = dimension(alloc, sample.widths)?;
     let parts = (&records, &dimension, &sample.config);
     let mut buf = String::new(alloc);
-    assert_eq!(rt; fits(parts), Ok(()));
-    assert_eq!(rt; print(parts, &mut buf), Ok(()));
-    assert_eq!(rt; buf.as_str(), picture);
-    assert_eq!(rt; text(alloc, parts).ok().as_deref(), Some(picture));
+    assert_same(rt, fits(parts), Ok(()));
+    assert_same(rt, print(parts, &mut buf), Ok(()));
+    assert_same(rt, buf.as_str(), picture);
+    assert_same(rt, text(alloc, parts).ok().as_deref(), Some(picture));
     Ok(())
 }
 

@@ -1,5 +1,6 @@
 //! How the tests draw a compact table.
 
+use crate::same::assert_same;
 use pg_compact::CompactGrid;
 use pg_config::CompactConfig;
 use pg_layout::{
@@ -169,7 +170,7 @@ pub(crate) fn assert_drawn(
 ) -> Result<(), Fail> {
     let mut buf = String::from_str(alloc, "log:")?;
     assert!(rt; draw(alloc, sample, &mut buf)?);
-    assert_eq!(rt; buf.as_str().strip_prefix("log:"), Some(text));
-    assert_eq!(rt; text_of(alloc, alloc, sample)?.as_deref(), Some(text));
+    assert_same(rt, buf.as_str().strip_prefix("log:"), Some(text));
+    assert_same(rt, text_of(alloc, alloc, sample)?.as_deref(), Some(text));
     Ok(())
 }

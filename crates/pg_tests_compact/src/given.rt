@@ -3,6 +3,7 @@
 ghost use Rattle.std.specs.Prelude.{map, replicate};
 
 use crate::drawing::bordered;
+use crate::same::assert_same;
 use pg_compact::CompactGrid;
 use pg_config::CompactConfig;
 use pg_layout::{ConstantDimension, Indent, IterRecords, NoColors, Sides};
@@ -28,6 +29,6 @@ fn rows_that_never_come_have_no_picture(rt: HostRuntime) -> Result<(), Fail> {
     let dimension = ConstantDimension(Vec::new(alloc), Vec::new(alloc));
     let mut buf = String::from_str(alloc, "log:")?;
     assert!(rt; draw_no_rows(&config, &dimension, &mut buf));
-    assert_eq!(rt; buf.as_str(), "log:");
+    assert_same(&rt, buf.as_str(), "log:");
     Ok(())
 }

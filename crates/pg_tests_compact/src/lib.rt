@@ -10,4 +10,6 @@ mod given;
 #[cfg(test)]
 mod refusals;
 #[cfg(test)]
+mod same;
+#[cfg(test)]
 mod tables;

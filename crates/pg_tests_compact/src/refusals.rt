@@ -4,6 +4,7 @@ use crate::drawing::{
     Sample, WITH_COLORED_CORNER, WITH_MARGINS, bordered, draw, text_of, with_colored_corner,
     with_margins,
 };
+use crate::same::assert_same;
 use pg_testing::refusing::Refusing;
 use std::alloc::Global;
 use std::process::Abort;
@@ -25,12 +26,12 @@ fn is_refused(
 ) -> Result<bool, Fail> {
     let mut buf = String::from_str(memory, "log:")?;
     let is_whole = draw(alloc, sample, &mut buf)?;
-    assert_eq!(rt; is_whole, !memory.has_refused());
+    assert_same(rt, is_whole, !memory.has_refused());
     let Some(drawn) = buf.as_str().strip_prefix("log:") else {
         panic!(rt; "the old text is lost");
     };
     assert!(rt; text.starts_with(drawn));
-    assert_eq!(rt; is_whole, drawn == text);
+    assert_same(rt, is_whole, drawn == text);
     Ok(!is_whole)
 }
 
@@ -76,7 +77,7 @@ fn is_text_refused(
     } else {
         Some(text)
     };
-    assert_eq!(rt; given.as_deref(), wanted);
+    assert_same(rt, given.as_deref(), wanted);
     Ok(memory.has_refused())
 }
 
@@ -87,7 +88,7 @@ fn a_refusal_leaves_no_text(rt: HostRuntime) -> Result<(), Fail> {
     for k in 0..MANY {
         let is_one_refused = is_text_refused(&rt, alloc, &Refusing::only(alloc, k), drawn)?;
         let are_all_refused = is_text_refused(&rt, alloc, &Refusing::from_on(alloc, k), drawn)?;
-        assert_eq!(rt; is_one_refused, are_all_refused);
+        assert_same(&rt, is_one_refused, are_all_refused);
         if !is_one_refused {
             assert!(rt; k > 0);
             return Ok(());
@@ -108,13 +109,13 @@ fn assert_drawn_into(
     let mut buf = String::with_capacity(&memory, room.saturating_add(4))?;
     buf.push_str("log:")?;
     let is_whole = draw(alloc, sample, &mut buf)?;
-    assert_eq!(rt; is_whole, room >= text.len());
-    assert_eq!(rt; memory.has_refused(), !is_whole);
+    assert_same(rt, is_whole, room >= text.len());
+    assert_same(rt, memory.has_refused(), !is_whole);
     let Some(drawn) = buf.as_str().strip_prefix("log:") else {
         panic!(rt; "the old text is lost");
     };
     assert!(rt; text.starts_with(drawn));
-    assert_eq!(rt; drawn == text, is_whole);
+    assert_same(rt, drawn == text, is_whole);
     Ok(())
 }
 
@@ -154,7 +155,7 @@ fn a_table_of_1000_rows_asks_for_no_memory_where_the_buffer_has_room(
     let memory = Refusing::from_on(alloc, 1);
     let mut buf = String::with_capacity(&memory, text.len())?;
     assert!(rt; draw(alloc, &sample, &mut buf)?);
-    assert_eq!(rt; memory.requests(), 1);
-    assert_eq!(rt; buf.as_str(), text.as_str());
+    assert_same(&rt, memory.requests(), 1);
+    assert_same(&rt, buf.as_str(), text.as_str());
     Ok(())
 }

@@ -4,6 +4,7 @@ use crate::drawing::{
     Sample, WITH_COLORED_CORNER, WITH_MARGINS, assert_drawn, blue, bordered, no_colors, no_indents,
     red, red_corner, with_colored_corner, with_margins,
 };
+use crate::same::assert_same;
 use pg_config::CompactConfig;
 use pg_layout::{
     ANSIStr, AlignmentHorizontal, Borders, ConstantDimension, Indent, NoColors, Sides,
@@ -173,14 +174,19 @@ fn a_column_has_room_for_its_paddings(rt: HostRuntime) -> Result<(), Fail> {
     let config = CompactConfig::new().set_padding(padding);
     let widths = [2, 1, 0].as_slice().to_vec(alloc)?;
     let dimension = ConstantDimension(widths, Vec::new(alloc));
-    assert_eq!(rt; compact_fits(&config, &dimension, 1), Ok(()));
-    assert_eq!(rt;
+    assert_same(&rt, compact_fits(&config, &dimension, 1), Ok(()));
+    assert_same(
+        &rt,
         compact_fits(&config, &dimension, 3),
-        Err(Misfit::Room(0, 1))
+        Err(Misfit::Room(0, 1)),
     );
     padding.right = Indent::spaced(usize::MAX);
     let over = config.set_padding(padding);
-    assert_eq!(rt; compact_fits(&over, &dimension, 3), Err(Misfit::Room(0, 0)));
+    assert_same(
+        &rt,
+        compact_fits(&over, &dimension, 3),
+        Err(Misfit::Room(0, 0)),
+    );
     Ok(())
 }
 
@@ -190,17 +196,22 @@ fn totals_are_numbers_of_64_bits(rt: HostRuntime) -> Result<(), Fail> {
     let widths = [usize::MAX, 0].as_slice().to_vec(alloc)?;
     let dimension = ConstantDimension(widths, Vec::new(alloc));
     let config = CompactConfig::new();
-    assert_eq!(rt; compact_fits(&config, &dimension, 2), Ok(()));
+    assert_same(&rt, compact_fits(&config, &dimension, 2), Ok(()));
     let bordered = config.set_borders(Borders::ascii());
-    assert_eq!(rt; compact_fits(&bordered, &dimension, 2), Err(Misfit::Totals));
+    assert_same(
+        &rt,
+        compact_fits(&bordered, &dimension, 2),
+        Err(Misfit::Totals),
+    );
     let mut margin = no_indents();
     margin.right = Indent::spaced(1);
     let wide = config.set_margin(margin);
-    assert_eq!(rt; compact_fits(&wide, &dimension, 2), Err(Misfit::Totals));
-    assert_eq!(rt; compact_fits(&wide, &dimension, 0), Ok(()));
-    assert_eq!(rt;
+    assert_same(&rt, compact_fits(&wide, &dimension, 2), Err(Misfit::Totals));
+    assert_same(&rt, compact_fits(&wide, &dimension, 0), Ok(()));
+    assert_same(
+        &rt,
         compact_fits(&config, &dimension, usize::MAX),
-        Err(Misfit::Totals)
+        Err(Misfit::Totals),
     );
     Ok(())
 }

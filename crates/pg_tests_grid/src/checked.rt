@@ -1,5 +1,6 @@
 //! Calls that test their table themselves, where it doesn't fit and where memory is refused.
 
+use crate::same::assert_same;
 use pg_config::SpannedConfig;
 use pg_grid::{IterGrid, PeekableGrid, PrintFault};
 use pg_layout::Position;
@@ -74,9 +75,9 @@ fn is_refused(
         panic!(rt; "the old text is lost");
     };
     assert!(rt; FOUR_TEXT.starts_with(gained));
-    assert_eq!(rt; printed.is_ok(), gained == FOUR_TEXT);
+    assert_same(rt, printed.is_ok(), gained == FOUR_TEXT);
     let is_refused = memory.has_refused();
-    assert_eq!(rt; printed.err(), is_refused.then_some(PrintFault::Memory));
+    assert_same(rt, printed.err(), is_refused.then_some(PrintFault::Memory));
     Ok(is_refused)
 }
 
@@ -108,10 +109,10 @@ fn assert_text_refused(
         let given = text(&memory, grid, parts, config);
         if !memory.has_refused() {
             assert!(rt; k > 0);
-            assert_eq!(rt; given.ok().as_deref(), Some(FOUR_TEXT));
+            assert_same(rt, given.ok().as_deref(), Some(FOUR_TEXT));
             return Ok(());
         }
-        assert_eq!(rt; given.err(), Some(PrintFault::Memory));
+        assert_same(rt, given.err(), Some(PrintFault::Memory));
     }
     Err(Fail::new("more requests than were tried"))
 }
@@ -121,7 +122,7 @@ fn assert_four(rt: &impl Abort, alloc: Global, config: &mut SpannedConfig) -> Re
     tell_all(config, alloc, FOUR.settings)?;
     let parts = parts_of(alloc, &FOUR)?;
     for grid in [Grid::Peekable, Grid::Iter] {
-        assert_eq!(rt; fits(grid, &parts, config), Ok(()));
+        assert_same(rt, fits(grid, &parts, config), Ok(()));
         assert_print_begun(rt, alloc, grid, (&parts, config))?;
         assert_text_refused(rt, alloc, grid, (&parts, config))?;
     }
@@ -218,13 +219,13 @@ fn assert_misfit(
     for grid in [Grid::Peekable, Grid::Iter] {
         let memory = Refusing::from_on(alloc, 1);
         let mut buf = String::from_str(&memory, OLD)?;
-        assert_eq!(rt; fits(grid, &parts, config), Err(misfit));
+        assert_same(rt, fits(grid, &parts, config), Err(misfit));
         let printed = print(&memory, grid, (&parts, config), &mut buf);
-        assert_eq!(rt; printed, Err(PrintFault::Misfit(misfit)));
-        assert_eq!(rt; buf.as_bytes(), OLD.as_bytes());
+        assert_same(rt, printed, Err(PrintFault::Misfit(misfit)));
+        assert_same(rt, buf.as_bytes(), OLD.as_bytes());
         let given = text(&memory, grid, &parts, config).err();
-        assert_eq!(rt; given, Some(PrintFault::Misfit(misfit)));
-        assert_eq!(rt; memory.requests(), 1);
+        assert_same(rt, given, Some(PrintFault::Misfit(misfit)));
+        assert_same(rt, memory.requests(), 1);
     }
     Ok(())
 }

@@ -2,6 +2,7 @@
 
 ghost use Rattle.std.specs.Prelude.{None, Some, MatchOption};
 
+use crate::same::assert_same;
 use pg_config::SpannedConfig;
 use pg_grid::IterGrid;
 use pg_layout::{ConstantDimension, NoColors, Records, VecRecords};
@@ -135,6 +136,6 @@ fn cells_of_a_row_are_drawn_as_they_come(rt: HostRuntime) -> Result<(), Fail> {
         asked: &asked,
     };
     assert!(rt; !is_drawn(alloc, counted, &config, &dimension)?);
-    assert_eq!(rt; asked.get(), 1);
+    assert_same(&rt, asked.get(), 1);
     Ok(())
 }

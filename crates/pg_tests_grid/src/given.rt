@@ -3,6 +3,7 @@
 ghost use Rattle.std.specs.Prelude.{◌≡◌, [], ◌∷◌, map, replicate, IfOk, IfSome};
 
 use crate::refusals::{LONG, ROWS, long_text};
+use crate::same::assert_same;
 use pg_config::SpannedConfig;
 use pg_grid::IterGrid;
 use pg_layout::{ConstantDimension, Indent, IterRecords, NoColors, Position, Sides, VecRecords};
@@ -79,8 +80,8 @@ fn assert_given_by(
     let memory = Refusing::from_on(alloc, 2);
     let mut buf = String::with_capacity(&memory, 9999)?;
     assert!(rt; draw_given(&memory, alike, &rows, config, &dimension, &mut buf)?);
-    assert_eq!(rt; memory.requests(), 2);
-    assert_eq!(rt; buf.as_str(), long_text(alloc, second)?.as_str());
+    assert_same(rt, memory.requests(), 2);
+    assert_same(rt, buf.as_str(), long_text(alloc, second)?.as_str());
     Ok(())
 }
 
@@ -132,6 +133,6 @@ fn rows_that_never_come_have_no_margins(rt: HostRuntime) -> Result<(), Fail> {
     tell_all(&mut config, alloc, &[Setting::Ascii, margin])?;
     let is_whole = draw_no_rows(&memory, &config, &dimension, &mut buf);
     assert!(rt; is_whole && memory.requests() == 1);
-    assert_eq!(rt; buf.as_str(), "log:");
+    assert_same(&rt, buf.as_str(), "log:");
     Ok(())
 }

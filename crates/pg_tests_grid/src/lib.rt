@@ -13,4 +13,6 @@ mod printing;
 #[cfg(test)]
 mod refusals;
 #[cfg(test)]
+mod same;
+#[cfg(test)]
 mod span_fits;

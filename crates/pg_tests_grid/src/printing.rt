@@ -10,6 +10,7 @@ ghost use Rattle.pg_picture.specs.Fits.{misfit_of};
 ghost use Rattle.pg_picture.specs.Grids.{table_of_parts};
 ghost use Rattle.pg_stream.specs.Conditions.{AreRowsFrom};
 
+use crate::same::assert_same;
 use pg_config::SpannedConfig;
 use pg_layout::{Colors, ConstantDimension, Dimension, NoColors, Position, Records, VecRecords};
 use pg_picture::fits::{full_width, spans_fit_columns, table_fits};
@@ -181,8 +182,8 @@ fn assert_printed(
             &mut config,
             (&mut buf, &mut notes),
         )?;
-        assert_eq!(rt; buf.as_str(), text);
-        assert_eq!(rt; notes.as_slice(), told);
+        assert_same(rt, buf.as_str(), text);
+        assert_same(rt, notes.as_slice(), told);
     }
     Ok(())
 }
@@ -289,7 +290,7 @@ fn a_row_of_one_line_is_printed_cell_by_cell(rt: HostRuntime) -> Result<(), Fail
     let mut buf = String::new(rt.alloc());
     let mut notes = Vec::new(rt.alloc());
     let left = print_narrow_row(rt.alloc(), &mut buf, &mut notes)?;
-    assert_eq!(rt; (buf.as_str(), left), ("ababab", 0));
+    assert_same(&rt, (buf.as_str(), left), ("ababab", 0));
     let after = Note {
         rows: 1,
         lines: 1,
@@ -297,7 +298,7 @@ fn a_row_of_one_line_is_printed_cell_by_cell(rt: HostRuntime) -> Result<(), Fail
         bytes: 6,
         ..BEFORE
     };
-    assert_eq!(rt; notes.as_slice(), [BEFORE, after].as_slice());
+    assert_same(&rt, notes.as_slice(), [BEFORE, after].as_slice());
     Ok(())
 }
 
@@ -310,6 +311,6 @@ fn cells_behind_a_refusal_are_not_taken(rt: HostRuntime) -> Result<(), Fail> {
     let left = print_narrow_row(rt.alloc(), &mut buf, &mut notes)?;
     assert!(rt; memory.has_refused() && left >= 2);
     assert!(rt; "ababab".starts_with(buf.as_str()));
-    assert_eq!(rt; notes.as_slice(), [BEFORE].as_slice());
+    assert_same(&rt, notes.as_slice(), [BEFORE].as_slice());
     Ok(())
 }

@@ -1,5 +1,6 @@
 //! Tables drawn into a buffer while memory is refused.
 
+use crate::same::assert_same;
 use pg_config::CompactConfig;
 use pg_layout::{AlignmentHorizontal, Borders, Entity, Offset, Position};
 use pg_samples::drawing::{
@@ -30,8 +31,8 @@ fn is_refused(
         panic!(rt; "the old text is lost");
     };
     assert!(rt; text.starts_with(gained));
-    assert_eq!(rt; is_whole, !memory.has_refused());
-    assert_eq!(rt; is_whole, gained == text);
+    assert_same(rt, is_whole, !memory.has_refused());
+    assert_same(rt, is_whole, gained == text);
     Ok(memory.has_refused())
 }
 
@@ -134,7 +135,7 @@ fn is_text_refused(
 ) -> Result<bool, Fail> {
     let given = text_of(alloc, memory, (grid, sample))?;
     let is_refused = memory.has_refused();
-    assert_eq!(rt; given.as_deref(), (!is_refused).then_some(text));
+    assert_same(rt, given.as_deref(), (!is_refused).then_some(text));
     Ok(is_refused)
 }
 
@@ -205,8 +206,8 @@ fn assert_long(
     let memory = Refusing::from_on(alloc, requests);
     let mut buf = String::with_capacity(&memory, 9999)?;
     assert!(rt; draw(alloc, &memory, (grid, &sample), &mut buf)?);
-    assert_eq!(rt; memory.requests(), requests);
-    assert_eq!(rt; buf.as_str(), text.as_str());
+    assert_same(rt, memory.requests(), requests);
+    assert_same(rt, buf.as_str(), text.as_str());
     Ok(())
 }
 
@@ -239,10 +240,10 @@ fn assert_long_alike(
     let mut compact = String::with_capacity(&memory, bytes)?;
     assert!(rt; draw(alloc, &memory, (Grid::Peekable, &sample), &mut looked_up)?);
     assert!(rt; draw_compact(alloc, &LONG, &config, &mut compact)?);
-    assert_eq!(rt; memory.requests(), 2);
+    assert_same(rt, memory.requests(), 2);
     assert!(rt; compact.starts_with(front));
-    assert_eq!(rt; compact.len(), bytes);
-    assert_eq!(rt; compact.as_str(), looked_up.as_str());
+    assert_same(rt, compact.len(), bytes);
+    assert_same(rt, compact.as_str(), looked_up.as_str());
     Ok(())
 }
 
@@ -283,7 +284,7 @@ fn tables_with_no_rows_or_no_columns_need_no_memory(rt: HostRuntime) -> Result<(
             let memory = Refusing::from_on(rt.alloc(), 0);
             let mut buf = String::new(&memory);
             assert!(rt; draw(rt.alloc(), &memory, (grid, &sample), &mut buf)?);
-            assert_eq!(rt; memory.requests(), 0);
+            assert_same(&rt, memory.requests(), 0);
             assert!(rt; buf.is_empty());
         }
     }

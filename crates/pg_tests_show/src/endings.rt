@@ -1,6 +1,7 @@
 //! How runs of the program end, and how they do where the arguments can't be read.
 
 use crate::running::{ALL_MODES, arguments};
+use crate::same::{assert_same, assert_same_at};
 use pg_show::{Ending, Fault, show_or_tell};
 use pg_testing::ledger::Rule;
 use pg_testing::streams::{FailingWriter, PIECE};
@@ -29,9 +30,9 @@ fn assert_unread(
 ) -> Result<(), Fail> {
     let mut err = Vec::new(alloc);
     let ending = Ending::with_fault(Fault::of_arguments(&error), &mut err);
-    assert_eq!(rt; ending.status(), status);
+    assert_same(rt, ending.status(), status);
     assert!(rt; ending.is_told);
-    assert_eq!(rt; err.as_slice(), line.as_bytes());
+    assert_same(rt, err.as_slice(), line.as_bytes());
     Ok(())
 }
 
@@ -62,14 +63,15 @@ fn assert_untold(
         let mut err = FailingWriter::new(&mut told, Rule::Only(k));
         let ending = Ending::with_fault(fault, &mut err);
         let is_told = !err.has_failed();
-        assert_eq!(rt;
+        assert_same_at(
+            rt,
+            (line, k),
             (ending.status(), ending.is_told),
             (status, is_told),
-            "{line} at {k}"
         );
         assert!(rt; line.as_bytes().starts_with(&told));
         if is_told {
-            assert_eq!(rt; told.as_slice(), line.as_bytes());
+            assert_same(rt, told.as_slice(), line.as_bytes());
             // At least a write of each three bytes and a flush came before.
             assert!(rt; (k as usize) > line.len().div_ceil(PIECE), "{line} at {k}");
             return Ok(());
@@ -118,9 +120,9 @@ fn assert_told(
     let mut script = "size 1 1\nwidth 5\n".as_bytes();
     let ending = show_or_tell(alloc, &words, &mut script, &mut out, &mut err);
     assert!(rt; matches!(ending.fault, Some(Fault::Bad(2))), "{mode}");
-    assert_eq!(rt; ending.is_told, !line.is_empty());
-    assert_eq!(rt; out.len(), 0);
-    assert_eq!(rt; told.as_slice(), line.as_bytes());
+    assert_same(rt, ending.is_told, !line.is_empty());
+    assert_same(rt, out.len(), 0);
+    assert_same(rt, told.as_slice(), line.as_bytes());
     Ok(())
 }
 

@@ -10,6 +10,8 @@ mod refused;
 #[cfg(test)]
 mod running;
 #[cfg(test)]
+mod same;
+#[cfg(test)]
 mod streams;
 #[cfg(test)]
 mod wrong_inputs;

@@ -1,6 +1,7 @@
 //! Scripts read and printed, and runs of the program, while memory is refused.
 
 use crate::running::arguments;
+use crate::same::{assert_same, assert_same_at};
 use pg_show::{Mode, ScriptFault, ShowFault, parse_script, print_script, run};
 use pg_testing::refusing::Refusing;
 use std::alloc::Global;
@@ -113,17 +114,19 @@ fn assert_parsed(
             let mut buf = String::new(alloc);
             print_script(alloc, &script, mode, &mut buf)?;
             buf.push('\n')?;
-            assert_eq!(rt;
+            assert_same_at(
+                rt,
+                word,
                 (memory.has_refused(), buf.as_str()),
                 (false, text),
-                "{word}"
             );
         }
         Err(fault) => {
-            assert_eq!(rt;
+            assert_same_at(
+                rt,
+                word,
                 (memory.has_refused(), fault),
                 (true, ScriptFault::Memory),
-                "{word}"
             );
         }
     }
@@ -144,12 +147,13 @@ fn assert_printed(
         true => (Some(ShowFault::Memory), false),
         false => (None, true),
     };
-    assert_eq!(rt; fault, wanted, "{word}");
+    assert_same_at(rt, word, fault, wanted);
     assert!(rt; text.starts_with(buf.as_str()), "{word}");
-    assert_eq!(rt;
+    assert_same_at(
+        rt,
+        word,
         text.strip_suffix('\n') == Some(buf.as_str()),
         is_whole,
-        "{word}"
     );
     Ok(())
 }
@@ -168,9 +172,9 @@ fn assert_run(
         true => (4, "", "out of memory\n"),
         false => (0, text, ""),
     };
-    assert_eq!(rt; status, code, "{word}");
-    assert_eq!(rt; out.as_slice(), shown.as_bytes());
-    assert_eq!(rt; err.as_slice(), line.as_bytes());
+    assert_same_at(rt, word, status, code);
+    assert_same(rt, out.as_slice(), shown.as_bytes());
+    assert_same(rt, err.as_slice(), line.as_bytes());
     Ok(())
 }
 
@@ -233,7 +237,7 @@ fn two_modes_ask_for_memory_of_their_own(rt: HostRuntime) -> Result<(), Fail> {
         let mut buf = String::new(alloc);
         let is_printed = print_script(&memory, &script, mode, &mut buf).is_ok();
         let asks = matches!(mode, Mode::Iter | Mode::Table);
-        assert_eq!(&rt; (is_printed, memory.has_refused()), (!asks, asks), "{word}");
+        assert_same_at(&rt, word, (is_printed, memory.has_refused()), (!asks, asks));
         assert!(&rt; text.starts_with(buf.as_str()), "{word}");
     }
     Ok(())
@@ -257,7 +261,7 @@ fn assert_asks_for_none(
             "{script}"
         ),
     }
-    assert_eq!(rt; (memory.requests(), buf.len()), (0, 0), "{script}");
+    assert_same_at(rt, script, (memory.requests(), buf.len()), (0, 0));
     Ok(())
 }
 

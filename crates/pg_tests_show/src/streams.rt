@@ -1,6 +1,7 @@
 //! Runs of the program whose reads or writes fail, or are many.
 
 use crate::running::{ALL_MODES, arguments};
+use crate::same::{assert_same, assert_same_at};
 use pg_show::run;
 use pg_testing::ledger::Rule;
 use pg_testing::streams::{EndlessReader, FailingReader, FailingWriter, PIECE};
@@ -68,10 +69,10 @@ fn assert_whole(
     rules: (Rule, Rule, Rule),
 ) -> Result<(), Fail> {
     let run = run_failing(alloc, mode, rules)?;
-    assert_eq!(rt; run.status, 0, "{mode}");
-    assert_eq!(rt; run.out.as_slice(), TEXT.as_bytes());
-    assert_eq!(rt; run.err.len(), 0);
-    assert_eq!(rt; run.calls, (READS, WRITES));
+    assert_same_at(rt, mode, run.status, 0);
+    assert_same(rt, run.out.as_slice(), TEXT.as_bytes());
+    assert_same(rt, run.err.len(), 0);
+    assert_same(rt, run.calls, (READS, WRITES));
     Ok(())
 }
 
@@ -96,10 +97,10 @@ fn assert_unread(
     (k, rule): (u64, Rule),
 ) -> Result<(), Fail> {
     let run = run_failing(alloc, mode, (rule, Rule::Never, Rule::Never))?;
-    assert_eq!(rt; run.status, 5, "{mode} at {k}");
-    assert_eq!(rt; run.out.len(), 0);
-    assert_eq!(rt; run.err.as_slice(), "read failed\n".as_bytes());
-    assert_eq!(rt; run.calls, (k.saturating_add(1), 0));
+    assert_same_at(rt, (mode, k), run.status, 5);
+    assert_same(rt, run.out.len(), 0);
+    assert_same(rt, run.err.as_slice(), "read failed\n".as_bytes());
+    assert_same(rt, run.calls, (k.saturating_add(1), 0));
     Ok(())
 }
 
@@ -125,10 +126,10 @@ fn assert_unwritten(
 ) -> Result<(), Fail> {
     let run = run_failing(alloc, mode, (Rule::Never, rule, Rule::Never))?;
     let taken = TEXT.len().min(PIECE.saturating_mul(k as usize));
-    assert_eq!(rt; run.status, 5, "{mode} at {k}");
-    assert_eq!(rt; run.out.as_slice(), &TEXT.as_bytes()[..taken]);
-    assert_eq!(rt; run.err.as_slice(), "write failed\n".as_bytes());
-    assert_eq!(rt; run.calls, (READS, k.saturating_add(1)));
+    assert_same_at(rt, (mode, k), run.status, 5);
+    assert_same(rt, run.out.as_slice(), &TEXT.as_bytes()[..taken]);
+    assert_same(rt, run.err.as_slice(), "write failed\n".as_bytes());
+    assert_same(rt, run.calls, (READS, k.saturating_add(1)));
     Ok(())
 }
 
@@ -151,8 +152,8 @@ fn a_fault_that_is_not_told_keeps_its_status(rt: HostRuntime) -> Result<(), Fail
     for mode in ALL_MODES {
         let rules = (Rule::Only(0), Rule::Never, Rule::FromOn(0));
         let run = run_failing(rt.alloc(), mode, rules)?;
-        assert_eq!(&rt; run.status, 5, "{mode}");
-        assert_eq!(&rt; (run.out.len(), run.err.len()), (0, 0));
+        assert_same_at(&rt, mode, run.status, 5);
+        assert_same(&rt, (run.out.len(), run.err.len()), (0, 0));
     }
     Ok(())
 }
@@ -166,13 +167,14 @@ fn assert_reader_refused<R: Read>(
 ) -> Result<(), Fail> {
     let words = arguments(alloc, &[mode])?;
     let (mut out, mut err) = (Vec::new(alloc), Vec::new(alloc));
-    assert_eq!(rt;
+    assert_same_at(
+        rt,
+        mode,
         run(alloc, &words, input, &mut out, &mut err),
         status,
-        "{mode}"
     );
-    assert_eq!(rt; out.len(), 0);
-    assert_eq!(rt; err.as_slice(), line.as_bytes());
+    assert_same(rt, out.len(), 0);
+    assert_same(rt, err.as_slice(), line.as_bytes());
     Ok(())
 }
 

@@ -1,6 +1,7 @@
 //! Runs of the program with wrong arguments, and on scripts that are no texts.
 
 use crate::running::{ALL_MODES, arguments};
+use crate::same::assert_same_at;
 use pg_show::run;
 use std::alloc::Global;
 use std::process::Abort;
@@ -17,9 +18,9 @@ fn assert_refused(
     let (mut out, mut err) = (Vec::new(alloc), Vec::new(alloc));
     let mut input = script;
     let status = run(alloc, &arguments, &mut input, &mut out, &mut err);
-    assert_eq!(rt; status, 2, "{words:?}: {script:?}");
-    assert_eq!(rt; out.len(), 0, "{words:?}: {script:?}");
-    assert_eq!(rt; err.as_slice(), line.as_bytes(), "{words:?}: {script:?}");
+    assert_same_at(rt, (words, script), status, 2);
+    assert_same_at(rt, (words, script), out.len(), 0);
+    assert_same_at(rt, (words, script), err.as_slice(), line.as_bytes());
     Ok(())
 }
 

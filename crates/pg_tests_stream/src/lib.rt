@@ -9,6 +9,8 @@ mod printers;
 #[cfg(test)]
 mod refusals;
 #[cfg(test)]
+mod same;
+#[cfg(test)]
 mod settings;
 #[cfg(test)]
 mod streams;

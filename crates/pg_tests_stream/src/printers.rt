@@ -1,6 +1,7 @@
 //! Printers of rows that are told which row is the last, and rows that don't fit there.
 
 use crate::parts::{COLUMNS, Printer, narrow};
+use crate::same::assert_same;
 use crate::settings::{Setting, framed, tell_all};
 use pg_config::SpannedConfig;
 use pg_layout::{EvenDimension, NoColors, Position};
@@ -51,16 +52,16 @@ fn assert_asked(
     for (cells, is_last, text) in ASKED {
         let cells = cells.to_vec(alloc)?;
         let tried = printer.try_row(cells, is_last, &mut buf);
-        assert_eq!(rt; tried.is_ok(), text.is_some());
+        assert_same(rt, tried.is_ok(), text.is_some());
         printer = match tried {
             Ok(printer) => printer,
             Err(RowFault::Misfit(printer)) => printer,
             Err(RowFault::Memory) => return Err(Fail::new("out of memory")),
         };
         wanted.push_str(text.unwrap_or(""))?;
-        assert_eq!(rt; buf.as_str(), wanted.as_str());
+        assert_same(rt, buf.as_str(), wanted.as_str());
     }
-    assert_eq!(rt; (printer.rows(), printer.is_ended()), (3, true));
+    assert_same(rt, (printer.rows(), printer.is_ended()), (3, true));
     Ok(())
 }
 
@@ -96,7 +97,7 @@ fn a_printer_that_ends_before_its_first_row_appends_nothing(rt: HostRuntime) -> 
         let mut buf = String::from_str(rt.alloc(), "log:")?;
         let mut config = SpannedConfig::new(rt.alloc());
         finish_at_once(rt.alloc(), &mut config, hint, &mut buf)?;
-        assert_eq!(rt; buf.as_str(), "log:");
+        assert_same(&rt, buf.as_str(), "log:");
     }
     Ok(())
 }

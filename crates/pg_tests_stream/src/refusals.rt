@@ -1,6 +1,7 @@
 //! Rows that come one at a time while memory is refused.
 
 use crate::parts::{COLUMNS, MANY, Printer, Stream, WAYS, Way, narrow, print_by};
+use crate::same::assert_same;
 use crate::settings::{Setting, tell_all};
 use pg_config::SpannedConfig;
 use pg_layout::{EvenDimension, NoColors};
@@ -91,10 +92,10 @@ fn is_refused(
         Work::FirstRow => print_first((&memory, k), config, dimension, &mut buf),
     };
     let fault = memory.has_refused().then_some(StreamFault::Memory);
-    assert_eq!(rt; ended.err(), fault);
+    assert_same(rt, ended.err(), fault);
     assert!(rt; buf.starts_with("log:"));
     assert!(rt; work.text().starts_with(buf.as_str()));
-    assert_eq!(rt; buf.as_str() == work.text(), fault.is_none());
+    assert_same(rt, buf.as_str() == work.text(), fault.is_none());
     Ok(fault.is_some())
 }
 
@@ -151,15 +152,15 @@ fn assert_made(
     match make(memory, tests_itself, config, dimension) {
         Ok(printer) => {
             assert!(rt; !memory.has_refused());
-            assert_eq!(rt; (printer.rows(), printer.lines()), (0, 0));
-            assert_eq!(rt; printer.open_cells().len(), 0);
+            assert_same(rt, (printer.rows(), printer.lines()), (0, 0));
+            assert_same(rt, printer.open_cells().len(), 0);
         }
         Err(fault) => {
             assert!(rt; memory.has_refused());
-            assert_eq!(rt; fault, StreamFault::Memory);
+            assert_same(rt, fault, StreamFault::Memory);
         }
     }
-    assert_eq!(rt; memory.requests(), 1);
+    assert_same(rt, memory.requests(), 1);
 }
 
 #[test]
@@ -173,7 +174,7 @@ fn a_printer_asks_once_for_the_memory_of_its_open_cells(rt: HostRuntime) -> Resu
                 Refusing::from_on(rt.alloc(), k),
             ] {
                 assert_made(&rt, &memory, tests_itself, &config, &dimension);
-                assert_eq!(rt; memory.has_refused(), k == 0);
+                assert_same(&rt, memory.has_refused(), k == 0);
             }
         }
     }

@@ -1,6 +1,7 @@
 //! Rows that come one at a time, and rows that don't fit.
 
 use crate::parts::{COLUMNS, Stream, WAYS, Way, items_of, narrow, print_by};
+use crate::same::assert_same;
 use crate::settings::{Setting, framed, tell_all};
 use pg_config::SpannedConfig;
 use pg_layout::{EvenDimension, NoColors, Position};
@@ -41,8 +42,12 @@ fn assert_streamed(
     for way in WAYS {
         let mut buf = String::from_str(alloc, "log:")?;
         let mut config = SpannedConfig::new(alloc);
-        assert_eq!(rt; print_told(alloc, way, rows, &mut config, &mut buf)?, end);
-        assert_eq!(rt; buf.as_str(), text);
+        assert_same(
+            rt,
+            print_told(alloc, way, rows, &mut config, &mut buf)?,
+            end,
+        );
+        assert_same(rt, buf.as_str(), text);
     }
     Ok(())
 }
@@ -170,8 +175,8 @@ fn rows_that_may_be_errors_stop_at_the_first_one(rt: HostRuntime) -> Result<(), 
     ] {
         let mut buf = String::from_str(rt.alloc(), "log:")?;
         let ended = print_items(rt.alloc(), (texts, Some((place, 7))), &config, &mut buf)?;
-        assert_eq!(rt; stop_of(ended)?, stop);
-        assert_eq!(rt; buf.as_str(), text);
+        assert_same(&rt, stop_of(ended)?, stop);
+        assert_same(&rt, buf.as_str(), text);
     }
     Ok(())
 }
@@ -182,7 +187,7 @@ fn why_rows_are_not_printed_is_told_in_words(rt: HostRuntime) -> Result<(), Fail
     let found: RowsFault<u8> = StreamFault::Row(3).into();
     let came: RowsFault<u8> = RowsFault::Source(7);
     let told = format!(in alloc; "{found}, {came}")?;
-    assert_eq!(rt; told.as_str(), "row 3 does not fit, 7");
+    assert_same(&rt, told.as_str(), "row 3 does not fit, 7");
     Ok(())
 }
 
@@ -215,8 +220,8 @@ fn what_is_told_before_the_first_row_must_fit(rt: HostRuntime) -> Result<(), Fai
     let dimension = narrow(rt.alloc())?;
     let none = printer_fits(&config, &dimension, &NoColors, 0, None);
     let some = printer_fits(&config, &dimension, &NoColors, COLUMNS, Some(7));
-    assert_eq!(rt; none, Err(Misfit::Totals));
-    assert_eq!(rt; some, Ok(()));
+    assert_same(&rt, none, Err(Misfit::Totals));
+    assert_same(&rt, some, Ok(()));
     Ok(())
 }
 
@@ -234,13 +239,13 @@ fn assert_held(
     let Ok(stream) = stream.push_from(alloc, ["a", "b"], &mut buf) else {
         return Err(Fail::new("the first row isn't held"));
     };
-    assert_eq!(rt; buf.as_str(), "");
+    assert_same(rt, buf.as_str(), "");
     let Ok(stream) = stream.push_from(alloc, ["c", "d"], &mut buf) else {
         return Err(Fail::new("the first row isn't printed"));
     };
-    assert_eq!(rt; buf.as_str(), "ab");
-    assert_eq!(rt; stream.finish(&mut buf), Ok(()));
-    assert_eq!(rt; buf.as_str(), "ab\ncd");
+    assert_same(rt, buf.as_str(), "ab");
+    assert_same(rt, stream.finish(&mut buf), Ok(()));
+    assert_same(rt, buf.as_str(), "ab\ncd");
     Ok(())
 }
 

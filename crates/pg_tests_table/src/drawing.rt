@@ -1,5 +1,6 @@
 //! How the tests print a table: by the builder with rows of its own, and by the one that is lent them.
 
+use crate::same::assert_same;
 use pg_config::SpannedConfig;
 use pg_layout::{Borders, ColorsMap, ConstantDimension, NoColors, VecRecords};
 use pg_table::{NaturalTable, Table, TableFault};
@@ -51,8 +52,8 @@ pub(crate) fn bordered(alloc: Global) -> SpannedConfig {
 }
 
 fn assert_sizes(rt: &impl Abort, dimension: &ConstantDimension, expected: Drawn<'_>) {
-    assert_eq!(rt; dimension.0.as_slice(), expected.widths);
-    assert_eq!(rt; dimension.1.as_slice(), expected.heights);
+    assert_same(rt, dimension.0.as_slice(), expected.widths);
+    assert_same(rt, dimension.1.as_slice(), expected.heights);
 }
 
 /// The table gives this text, and appends it.
@@ -64,8 +65,8 @@ pub(crate) fn assert_text<T: AsStr + Drop, A: Allocator>(
 ) -> Result<(), Fail> {
     let mut buf = String::from_str(alloc, "log:")?;
     table.print(alloc, &mut buf)?;
-    assert_eq!(rt; buf.as_str().strip_prefix("log:"), Some(text));
-    assert_eq!(rt; table.to_string(alloc)?.as_str(), text);
+    assert_same(rt, buf.as_str().strip_prefix("log:"), Some(text));
+    assert_same(rt, table.to_string(alloc)?.as_str(), text);
     Ok(())
 }
 
@@ -80,11 +81,11 @@ pub(crate) fn assert_lent(
     let records = records(alloc, texts)?;
     let table = NaturalTable::new(&records, config, colors);
     assert_sizes(rt, &table.natural_dimension(alloc)?, expected);
-    assert_eq!(rt; table.fits(), Ok(()));
+    assert_same(rt, table.fits(), Ok(()));
     let mut buf = String::from_str(alloc, "log:")?;
     table.print(alloc, &mut buf)?;
-    assert_eq!(rt; buf.as_str().strip_prefix("log:"), Some(expected.text));
-    assert_eq!(rt; table.to_string(alloc)?.as_str(), expected.text);
+    assert_same(rt, buf.as_str().strip_prefix("log:"), Some(expected.text));
+    assert_same(rt, table.to_string(alloc)?.as_str(), expected.text);
     Ok(())
 }
 
@@ -114,10 +115,10 @@ fn assert_lent_answer<A: Allocator + Copy>(
 ) -> Result<(), Fail> {
     let records = records(alloc, texts)?;
     let table = NaturalTable::new(&records, config, &NoColors);
-    assert_eq!(rt; table.fits(), answer);
-    assert_eq!(rt; table.print(memory, buf), answer);
-    assert_eq!(rt; table.to_string(memory).err(), answer.err());
-    assert_eq!(rt; buf.as_str(), "log:");
+    assert_same(rt, table.fits(), answer);
+    assert_same(rt, table.print(memory, buf), answer);
+    assert_same(rt, table.to_string(memory).err(), answer.err());
+    assert_same(rt, buf.as_str(), "log:");
     Ok(())
 }
 
@@ -134,9 +135,9 @@ pub(crate) fn assert_answer(
     let mut buf = String::from_str(&memory, "log:")?;
     assert_lent_answer(rt, (alloc, &memory), texts, &config, (&mut buf, answer))?;
     let table = table(alloc, texts)?.with_config(config);
-    assert_eq!(rt; table.print(&memory, &mut buf), answer);
-    assert_eq!(rt; table.to_string(&memory).err(), answer.err());
-    assert_eq!(rt; buf.as_str(), "log:");
-    assert_eq!(rt; memory.requests(), 1);
+    assert_same(rt, table.print(&memory, &mut buf), answer);
+    assert_same(rt, table.to_string(&memory).err(), answer.err());
+    assert_same(rt, buf.as_str(), "log:");
+    assert_same(rt, memory.requests(), 1);
     Ok(())
 }

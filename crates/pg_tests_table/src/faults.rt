@@ -1,6 +1,7 @@
 //! Tables that have no natural sizes or no picture, and what tells of it before memory is taken.
 
 use crate::drawing::{assert_answer, bordered, records, table};
+use crate::same::assert_same;
 use pg_config::SpannedConfig;
 use pg_layout::{Borders, Entity, Indent, NoColors, Position, Sides};
 use pg_table::{NaturalTable, TableFault};
@@ -42,8 +43,8 @@ fn assert_sized(
 ) -> Result<(), Fail> {
     let records = records(alloc, texts)?;
     let dimension = NaturalTable::new(&records, config, &NoColors).natural_dimension(alloc)?;
-    assert_eq!(rt; dimension.0.as_slice(), widths);
-    assert_eq!(rt; dimension.1.as_slice(), heights);
+    assert_same(rt, dimension.0.as_slice(), widths);
+    assert_same(rt, dimension.1.as_slice(), heights);
     Ok(())
 }
 
@@ -57,8 +58,8 @@ fn assert_lent_unsized(
     let memory = Refusing::from_on(alloc, 0);
     let records = records(alloc, texts)?;
     let sized = NaturalTable::new(&records, config, &NoColors).natural_dimension(&memory);
-    assert_eq!(rt; sized.err(), Some(TableFault::Totals));
-    assert_eq!(rt; memory.requests(), 0);
+    assert_same(rt, sized.err(), Some(TableFault::Totals));
+    assert_same(rt, memory.requests(), 0);
     Ok(())
 }
 
@@ -74,8 +75,8 @@ fn assert_unsized(
     let sized = table(alloc, texts)?
         .with_config(config)
         .natural_dimension(&memory);
-    assert_eq!(rt; sized.err(), Some(TableFault::Totals));
-    assert_eq!(rt; memory.requests(), 0);
+    assert_same(rt, sized.err(), Some(TableFault::Totals));
+    assert_same(rt, memory.requests(), 0);
     Ok(())
 }
 
@@ -122,9 +123,9 @@ fn a_table_of_its_own_rows_is_told_of_its_padding(rt: HostRuntime) -> Result<(),
     let memory = Refusing::from_on(alloc, 1);
     let mut buf = String::from_str(&memory, "log:")?;
     let padded = table(alloc, &[&["a"]])?.with_padding(left_and_top(18446744073709551615, 0));
-    assert_eq!(rt; padded.print(&memory, &mut buf), TOTALS);
-    assert_eq!(rt; buf.as_str(), "log:");
-    assert_eq!(rt; memory.requests(), 1);
+    assert_same(&rt, padded.print(&memory, &mut buf), TOTALS);
+    assert_same(&rt, buf.as_str(), "log:");
+    assert_same(&rt, memory.requests(), 1);
     Ok(())
 }
 
@@ -180,8 +181,8 @@ fn the_greatest_width_is_asked_for_memory(rt: HostRuntime) -> Result<(), Fail> {
     let bare = table(alloc, &[&[""]])?
         .with_borders(Borders::empty())
         .with_padding(left_and_top(usize::MAX, 0));
-    assert_eq!(rt; bare.print(&memory, &mut buf), Err(TableFault::Memory));
-    assert_eq!(rt; buf.as_str(), "log:");
+    assert_same(&rt, bare.print(&memory, &mut buf), Err(TableFault::Memory));
+    assert_same(&rt, buf.as_str(), "log:");
     Ok(())
 }
 

@@ -17,4 +17,6 @@ mod looks;
 #[cfg(test)]
 mod refusals;
 #[cfg(test)]
+mod same;
+#[cfg(test)]
 mod tables;

@@ -1,6 +1,7 @@
 //! Small tables, as wide and as high as their texts and paddings.
 
 use crate::drawing::{Drawn, assert_answer, assert_drawn, assert_text, bordered, rows, table};
+use crate::same::assert_same;
 use pg_config::SpannedConfig;
 use pg_layout::{AlignmentHorizontal, Entity, Indent, Sides};
 use pg_table::{Table, TableFault};
@@ -150,19 +151,22 @@ fn rows_without_cells_are_as_high_as_their_paddings(rt: HostRuntime) -> Result<(
 fn the_first_row_of_another_length_is_told(rt: HostRuntime) -> Result<(), Fail> {
     let alloc = rt.alloc();
     let shorter = rows(alloc, &[&["a"], &["b", "c"]])?;
-    assert_eq!(rt;
+    assert_same(
+        &rt,
         Table::new(alloc, shorter).err(),
-        Some(TableFault::Ragged(1))
+        Some(TableFault::Ragged(1)),
     );
     let second: &[&[&str]] = &[&["", ""], &["", ""], &[""], &["", "", ""]];
-    assert_eq!(rt;
+    assert_same(
+        &rt,
         Table::new(alloc, rows(alloc, second)?).err(),
-        Some(TableFault::Ragged(2))
+        Some(TableFault::Ragged(2)),
     );
     let first_empty = rows(alloc, &[&[], &[], &["a"]])?;
-    assert_eq!(rt;
+    assert_same(
+        &rt,
         Table::new(alloc, first_empty).err(),
-        Some(TableFault::Ragged(2))
+        Some(TableFault::Ragged(2)),
     );
     Ok(())
 }

@@ -4,10 +4,25 @@ use crate::ledger::run;
 use pg_testing::ledger::Rule;
 use pg_testing::streams::{FailingReader, FailingWriter};
 use std::alloc::{AllocError, Global};
+use std::fmt::Debug;
 use std::io;
 use std::io::{ErrorKind, Read};
 use std::process::Abort;
 use std::test::Fail;
+
+// What is given is what is wanted.
+fn assert_same<T: PartialEq + Debug + Drop>(rt: &impl Abort, given: T, wanted: T) {
+    assert_eq!(rt; given, wanted);
+}
+
+// The same at a place, of which it tells.
+fn assert_same_at<T, P>(rt: &impl Abort, place: P, given: T, wanted: T)
+where
+    T: PartialEq + Debug + Drop,
+    P: Debug + Drop,
+{
+    assert_eq!(rt; given, wanted, "{place:?}");
+}
 
 /// Lines of three reads each.
 const LINES: [&str; 3] = ["ab;cd;ef\n", "gh;ij;kl\n", "mn;op;qr\n"];
@@ -73,7 +88,7 @@ fn lines_with(alloc: Global, number: usize, line: &[u8]) -> Result<Vec<u8>, Allo
 // The first so many rows of the table stand whole, and nothing below them.
 fn assert_rows(rt: &impl Abort, rows: usize, out: &[u8]) {
     let lines = if rows == 0 { 0 } else { rows.saturating_add(1) };
-    assert_eq!(rt; out.len(), LINE.saturating_mul(lines));
+    assert_same(rt, out.len(), LINE.saturating_mul(lines));
     assert!(rt; TEXT.as_bytes().starts_with(out));
 }
 
@@ -81,9 +96,9 @@ fn assert_rows(rt: &impl Abort, rows: usize, out: &[u8]) {
 fn assert_shown(rt: &impl Abort, alloc: Global, input: &str, text: &str) {
     let rules = (Rule::Never, Rule::Never, Rule::FromOn(0));
     let run = run_failing(alloc, input.as_bytes(), rules);
-    assert_eq!(rt; (run.status, run.is_told), (0, true), "{input}");
-    assert_eq!(rt; run.out.as_slice(), text.as_bytes());
-    assert_eq!(rt; run.err.len(), 0);
+    assert_same_at(rt, input, (run.status, run.is_told), (0, true));
+    assert_same(rt, run.out.as_slice(), text.as_bytes());
+    assert_same(rt, run.err.len(), 0);
 }
 
 // The program prints so many rows of this input, and tells of its next line with these words. Where
@@ -97,8 +112,8 @@ fn assert_refused(
     let line = format!(in alloc; "line {}: {words}\n", rows.saturating_add(1))?;
     for (rule, told) in [(Rule::Never, line.as_str()), (Rule::FromOn(0), "")] {
         let run = run_failing(alloc, input, (Rule::Never, Rule::Never, rule));
-        assert_eq!(rt; (run.status, run.is_told), (2, !told.is_empty()), "{line}");
-        assert_eq!(rt; run.err.as_slice(), told.as_bytes());
+        assert_same_at(rt, told, (run.status, run.is_told), (2, !told.is_empty()));
+        assert_same(rt, run.err.as_slice(), told.as_bytes());
         assert_rows(rt, rows, &run.out);
     }
     Ok(())
@@ -170,10 +185,10 @@ fn no_failure_gives_the_table(rt: HostRuntime) -> Result<(), Fail> {
     let behind = (Rule::FromOn(READS), Rule::FromOn(WRITES), Rule::FromOn(0));
     for rules in [none, behind] {
         let run = run_failing(rt.alloc(), &input, rules);
-        assert_eq!(&rt; (run.status, run.is_told), (0, true));
-        assert_eq!(&rt; run.out.as_slice(), TEXT.as_bytes());
-        assert_eq!(&rt; run.err.len(), 0);
-        assert_eq!(&rt; run.calls, (READS, WRITES));
+        assert_same(&rt, (run.status, run.is_told), (0, true));
+        assert_same(&rt, run.out.as_slice(), TEXT.as_bytes());
+        assert_same(&rt, run.err.len(), 0);
+        assert_same(&rt, run.calls, (READS, WRITES));
     }
     Ok(())
 }
@@ -186,9 +201,9 @@ fn a_failed_read_ends_the_table(rt: HostRuntime) -> Result<(), Fail> {
     for k in 0..READS {
         for rule in [Rule::Only(k), Rule::FromOn(k)] {
             let run = run_failing(rt.alloc(), &input, (rule, Rule::Never, Rule::Never));
-            assert_eq!(&rt; (run.status, run.is_told), (5, true), "at {k}");
-            assert_eq!(&rt; run.err.as_slice(), "read failed\n".as_bytes());
-            assert_eq!(&rt; run.calls.0, k.saturating_add(1));
+            assert_same_at(&rt, k, (run.status, run.is_told), (5, true));
+            assert_same(&rt, run.err.as_slice(), "read failed\n".as_bytes());
+            assert_same(&rt, run.calls.0, k.saturating_add(1));
             assert_rows(&rt, (k as usize / 3).saturating_sub(1), &run.out);
         }
     }
@@ -203,9 +218,9 @@ fn a_failed_write_ends_the_table(rt: HostRuntime) -> Result<(), Fail> {
     for k in 0..WRITES {
         for rule in [Rule::Only(k), Rule::FromOn(k)] {
             let run = run_failing(rt.alloc(), &input, (Rule::Never, rule, Rule::Never));
-            assert_eq!(&rt; (run.status, run.is_told), (5, true), "at {k}");
-            assert_eq!(&rt; run.err.as_slice(), "write failed\n".as_bytes());
-            assert_eq!(&rt; run.calls.1, k.saturating_add(1));
+            assert_same_at(&rt, k, (run.status, run.is_told), (5, true));
+            assert_same(&rt, run.err.as_slice(), "write failed\n".as_bytes());
+            assert_same(&rt, run.calls.1, k.saturating_add(1));
             assert!(&rt; TEXT.as_bytes().starts_with(&run.out), "at {k}");
             assert!(&rt; run.out.len() >= (k as usize).saturating_sub(3), "at {k}");
         }
@@ -218,8 +233,8 @@ fn failures_that_are_not_told_keep_their_status(rt: HostRuntime) {
     for (reads, writes) in [(Rule::Only(0), Rule::Never), (Rule::Never, Rule::Only(0))] {
         let rules = (reads, writes, Rule::FromOn(0));
         let run = run_failing(rt.alloc(), b"ab;cd;ef\n", rules);
-        assert_eq!(&rt; (run.status, run.is_told), (5, false));
-        assert_eq!(&rt; (run.out.len(), run.err.len()), (0, 0));
+        assert_same(&rt, (run.status, run.is_told), (5, false));
+        assert_same(&rt, (run.out.len(), run.err.len()), (0, 0));
     }
 }
 
@@ -242,8 +257,12 @@ fn a_reader_without_memory_ends_the_table(rt: HostRuntime) {
         let mut err = FailingWriter::new(&mut told, rule);
         let input = "ab;cd;ef\ngh;ij;kl\nmn".as_bytes().chain(Exhausted);
         let ending = run(alloc, input, &mut out, &mut err);
-        assert_eq!(&rt; (ending.status(), ending.is_told), (4, !line.is_empty()));
-        assert_eq!(&rt; told.as_slice(), line.as_bytes());
+        assert_same(
+            &rt,
+            (ending.status(), ending.is_told),
+            (4, !line.is_empty()),
+        );
+        assert_same(&rt, told.as_slice(), line.as_bytes());
         assert_rows(&rt, 1, &out);
     }
 }
