@@ -5,28 +5,32 @@
 //! what each run answers.
 //!
 //! ```text
-//! # A comment.
-//! : texts stand right          a section of this name begins
-//! @ peek iter                  the modes: each of these words is the argument of a run
-//! > size 1 1                   a line of the script
+//! # The text is all that follows one space.
+//! : texts stand right
+//! @ peek iter
+//! > size 1 1
 //! > widths 3
 //! > halign all right
-//! -                            a case of the section begins
-//! > cell 0 0 a
-//! =   a                        a line that is shown: status 0, and no line is told
-//! + cell 0 0 ab                a case begins, with this line of its script
+//! + cell 0 0 ab
 //! =  ab
-//! + cell 0 0                   `=` and `>` alone are empty lines
-//! = ␣␣␣
-//! + cells 0 0                  the status and the line that is told: nothing is shown
-//! ! 2 line 4: bad
+//! + cell 0 0 a␣
+//! =  a␣
+//! -
+//! > cell 0 0
+//! > heights
+//! ! 2 line 5: bad
 //! ```
 //!
-//! - The lines of a section in front of its first case are common to its cases: those of the script
-//!   come before the case's own, and modes and answer hold for a case that has none. A section without
-//!   cases is a case.
-//! - A mark and what follows are parted by one space. No line ends with a space, and empty ones are
-//!   comments.
+//! - `:` begins a section and names it, and `-` begins a case of it. `+` begins one, too, with a line
+//!   of its script.
+//! - `>` has a line of the script, and `@` the modes: each word is the argument of a run.
+//! - `=` has a line that is shown, with status 0 and nothing told. `!` has the status and the line that
+//!   is told, with nothing shown.
+//! - What stands in front of a section's first case is common to its cases: lines of the script come
+//!   before the case's own, and modes and answer hold where a case has none. A section without cases is
+//!   a case.
+//! - A space follows the mark, unless the line is empty. No line ends with a space. Empty ones and those
+//!   with `#` are comments.
 //! - What can't be seen is written by pictures: `␣` is a space, `␍` a carriage return, `␉` a tab, `␛`
 //!   an escape, `⍽` a no-break space and `␂` a byte order mark. Behind a line with `␃` at its end
 //!   there is no line feed.
