@@ -157,6 +157,7 @@ impl<'a> Case<'a> {
             None => self.new_table()?,
         };
         let table = match step {
+            Step::Nothing => table,
             Step::Borders(borders) => table.with_borders(borders),
             Step::Padding(padding) => table.with_padding(padding),
             Step::Alignment(alignment) => table.with_alignment(alignment),

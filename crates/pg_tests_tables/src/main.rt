@@ -34,7 +34,7 @@
 //! - `table with_borders psql` is the next call of a builder. Its other calls are `with_padding 1 1 1:* 0`,
 //!   `with_alignment right`, `with_header_line` and `set_header_line` (`psql`, `sharp`, `markdown`, or the
 //!   one glyph of a line without crossings and ends); and `with_config` and `with_colors`, which take the
-//!   settings and the colours that were told since the last one.
+//!   settings and the colours that were told since the last one. `table` alone makes one, and calls nothing.
 //! - `or` begins another way to tell the same rows, with the same sizes and the same picture.
 //!
 //! At the end of each way the table is drawn. A way without a line `table` is drawn by a builder that is

@@ -9,6 +9,8 @@ use std::alloc::Global;
 /// A call of a builder.
 #[derive(Debug, Clone, Copy)]
 pub(crate) enum Step {
+    /// None: the table stays as it is.
+    Nothing,
     /// `with_borders`.
     Borders(Borders<char>),
     /// `with_padding`.
@@ -30,6 +32,7 @@ impl Step {
     pub(crate) fn of(alloc: Global, text: &str) -> Result<Step, Fault> {
         let (call, words) = text.split_once(' ').unwrap_or((text, ""));
         match call {
+            "" => Ok(Step::Nothing),
             "with_borders" => borders_of(alloc, words),
             "with_padding" => padding_of(alloc, words),
             "with_alignment" => alignment_of(alloc, words),
