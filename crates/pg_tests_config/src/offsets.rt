@@ -1,7 +1,6 @@
 //! Single glyphs of horizontals and verticals, counted from their start or their end.
 
 use crate::prefixes::{color, prefix};
-use crate::same::assert_same;
 use pg_config::SpannedConfig;
 use pg_layout::{Offset, Position};
 use std::alloc::Global;
@@ -41,11 +40,11 @@ fn count_glyphs_from_both_ends(
     config.set_vertical_char(FIRST, Offset::Start(0), 't')?;
     config.set_vertical_char(FIRST, Offset::End(1), 'b')?;
     let across = [Some('s'), Some('s'), Some('e'), None, None];
-    assert_same(rt, horizontal_glyphs(config), across);
+    assert_eq!(rt; horizontal_glyphs(config), across);
     let down = [Some('t'), Some('t'), Some('b'), None];
-    assert_same(rt, vertical_glyphs(config), down);
+    assert_eq!(rt; vertical_glyphs(config), down);
     config.set_horizontal_char(FIRST, Offset::Start(2), 'l')?;
-    assert_same(rt, config.lookup_horizontal_char(FIRST, 2, 3), Some('l'));
+    assert_eq!(rt; config.lookup_horizontal_char(FIRST, 2, 3), Some('l'));
     Ok(())
 }
 
@@ -81,16 +80,11 @@ fn count_colors_from_both_ends(
     config.set_horizontal_color(FIRST, Offset::Start(1), color(alloc, "<s>")?)?;
     config.set_vertical_color(FIRST, Offset::End(0), color(alloc, "<b>")?)?;
     config.set_vertical_color(FIRST, Offset::Start(0), color(alloc, "<t>")?)?;
-    assert_same(
-        rt,
+    assert_eq!(rt;
         horizontal_prefixes(config),
-        [Some("<s>"), Some("<e>"), None],
+        [Some("<s>"), Some("<e>"), None]
     );
-    assert_same(
-        rt,
-        vertical_prefixes(config),
-        [Some("<t>"), Some("<b>"), None],
-    );
+    assert_eq!(rt; vertical_prefixes(config), [Some("<t>"), Some("<b>"), None]);
     Ok(())
 }
 
