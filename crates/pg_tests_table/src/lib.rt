@@ -1,12 +1,20 @@
-//! Tables at their natural sizes that are refused memory, and ones whose rows own their texts. All other
-//! tables are told to the program `pg_tests_tables`.
+//! Worked tables at their natural sizes: what both table builders answer, against sizes and texts
+//! that were worked out by hand.
 #![tactic(auto)]
 
 #[cfg(test)]
+mod cells;
+#[cfg(test)]
+mod colors;
+#[cfg(test)]
 mod drawing;
 #[cfg(test)]
-mod refusals;
+mod faults;
 #[cfg(test)]
-mod same;
+mod headers;
+#[cfg(test)]
+mod looks;
+#[cfg(test)]
+mod refusals;
 #[cfg(test)]
 mod tables;

@@ -1,7 +1,6 @@
 //! Tables that are refused memory.
 
 use crate::drawing::{assert_text, records, rows, table};
-use crate::same::assert_same;
 use pg_config::SpannedConfig;
 use pg_layout::{Borders, HorizontalLine, NoColors};
 use pg_table::{NaturalTable, Table, TableFault};
@@ -24,7 +23,7 @@ fn assert_told<A: Allocator>(rt: &impl Abort, memory: &Refusing<A>, fault: Optio
     } else {
         None
     };
-    assert_same(rt, fault, expected);
+    assert_eq!(rt; fault, expected);
 }
 
 // The table prints the text behind `log:` while the request of this number is refused: the buffer then
@@ -44,7 +43,7 @@ fn is_printed<A: Allocator + Copy>(
     };
     assert!(rt; DRAWN.starts_with(drawn));
     if fault.is_none() {
-        assert_same(rt, drawn, DRAWN);
+        assert_eq!(rt; drawn, DRAWN);
     }
     Ok(fault.is_none())
 }
@@ -95,8 +94,8 @@ fn is_given<A: Allocator + Copy>(
     let given = NaturalTable::new(&records, config, &NoColors).to_string(memory);
     let is_whole = !memory.has_refused();
     match given {
-        Ok(text) => assert_same(rt, (is_whole, text.as_str()), (true, DRAWN)),
-        Err(fault) => assert_same(rt, (is_whole, fault), (false, TableFault::Memory)),
+        Ok(text) => assert_eq!(rt; (is_whole, text.as_str()), (true, DRAWN)),
+        Err(fault) => assert_eq!(rt; (is_whole, fault), (false, TableFault::Memory)),
     }
     Ok(is_whole)
 }
@@ -144,7 +143,7 @@ fn is_headed(rt: &impl Abort, alloc: Global, k: u64) -> Result<bool, Fail> {
     let memory = Refusing::only(alloc, k);
     let mut table = with_sides(&memory)?;
     let is_told = table.set_header_line(HorizontalLine::markdown()).is_ok();
-    assert_same(rt, is_told, !memory.has_refused());
+    assert_eq!(rt; is_told, !memory.has_refused());
     let text = if is_told { WITH_LINE } else { WITHOUT_LINE };
     assert_text(rt, alloc, &table, text)?;
     Ok(is_told)
@@ -168,7 +167,7 @@ fn a_table_by_value_is_let_go_where_its_line_is_refused(rt: HostRuntime) -> Resu
     let alloc = rt.alloc();
     let memory = Refusing::only(alloc, count_requests_of_rows(alloc)?);
     let headed = with_sides(&memory)?.with_header_line(HorizontalLine::markdown());
-    assert_same(&rt, headed.err(), Some(TableFault::Memory));
+    assert_eq!(rt; headed.err(), Some(TableFault::Memory));
     assert!(rt; memory.has_refused());
     Ok(())
 }
