@@ -5,6 +5,7 @@ pub mod ColumnLines
 pub mod OneStyle
 pub mod Lookups
 pub mod GlyphLaws
+pub mod Ranges
 mod FirstKeys
 mod TakenBack
 mod OverrideColumns

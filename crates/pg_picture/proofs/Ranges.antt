@@ -1,13 +1,9 @@
 -- Lists and sums over the numbers from a on: one number more, and a cut at one of them.
-use Rattle.std.proofs.Common.{◌≡◌, ℕ, zero, suc, ◌+◌, ◌-◌, ◌<◌, ◌≤◌, List, [], ◌∷◌, ◌++◌, flat_map, sum_by, ap, ap₂, ◌∙◌, append-nil, arith, add-zero, zero-add, suc-add, subst}
+use Rattle.std.proofs.Common.{◌≡◌, ℕ, suc, ◌+◌, ◌-◌, ◌<◌, ◌≤◌, List, [], ◌∷◌, ◌++◌, flat_map, sum_by, ap, ap₂, ◌∙◌, append-nil, arith, zero-add, subst}
 use Rattle.std.specs.List.{range_with_len}
 use Rattle.std.proofs.lemmas.List.Concat.{flat_map-append}
 use Rattle.std.proofs.lemmas.List.Sums.{sum_by-append}
-
--- the first i + j numbers from a on
-pub range-add : (a i j : ℕ) → range_with_len a (i + j) ≡ range_with_len a i ++ range_with_len (a + i) j
-range-add a zero j = rw (zero-add, add-zero)
-range-add a (suc i) j = rw suc-add (ap (λ l. a ∷ l) (range-add (a + 1) i j ∙ (let e : (a + 1) + i ≡ a + suc i = omega arith in rw e)))
+pub use Rattle.pg_config.proofs.Ranges.{range-add}
 
 -- the parts of k + 1 numbers from a on: those of k of them, and one more
 pub range-more : {A : Type 0} (f : ℕ → List A) (a k : ℕ) → flat_map f (range_with_len a (k + 1)) ≡ flat_map f (range_with_len a k) ++ f (a + k)

@@ -1,10 +1,11 @@
 -- Sums of sizes that may not fit.
-use Rattle.std.proofs.Common.{◌≡◌, ℕ, ◌+◌, ◌-◌, ◌^◌, ◌<◌, ◌≤◌, true, false, nat_lt, [], ◌∷◌, sum_by, refl, sym, ap, ◌∙◌, arith, Option, Some, None, IsSome, zero-add, subst, inl, inr}
+use Rattle.std.proofs.Common.{◌≡◌, ℕ, ◌+◌, ◌-◌, ◌^◌, ◌<◌, ◌≤◌, true, false, nat_lt, sum_by, refl, sym, ap, ◌∙◌, arith, Option, Some, None, IsSome, subst, inl, inr}
 use Rattle.std.specs.List.{range_with_len}
 use Rattle.std.proofs.lemmas.List.Sums.{sum_by-append}
 use Rattle.std.proofs.lemmas.Bool.{cases_lt}
 use Rattle.std.proofs.lemmas.Bool.Decides.{nat_tests}
 use Rattle.pg_picture.specs.Sizes.{if_fits}
+pub use Rattle.pg_config.proofs.Ranges.{sum_by-from_more}
 use Rattle.pg_picture.proofs.Ranges.{range-add}
 
 -- what is at least 2 ^ 64 doesn't fit
@@ -24,13 +25,6 @@ is_some_answer {answer} is = let P : Option ℕ → Type 0 = λ o. IsSome o in s
 -- what doesn't fit leaves nothing above it that does
 pub if_fits-above : (n m : ℕ) → (n < 2 ^ 64 → ⊥) → n ≤ m → if_fits m ≡ None
 if_fits-above n m h l = elim (cases_lt n (2 ^ 64)) [ inl y ↦ absurd (h y) | inr g ↦ if_fits-past m (omega (arith, g, l)) ]
-
--- the sum over one number more
-pub sum_by-from_more : (f : ℕ → ℕ) (a k : ℕ) → sum_by f (range_with_len a (k + 1)) ≡ sum_by f (range_with_len a k) + f (a + k)
-sum_by-from_more f a k =
-    ap (λ l. sum_by f l) (range-add a k 1)
-    ∙ sum_by-append f (range_with_len a k) ((a + k) ∷ [])
-    ∙ ap (λ n. sum_by f (range_with_len a k) + n) (zero-add (f (a + k)))
 
 -- a sum cut at a number
 pub sum_by-from_cut : (f : ℕ → ℕ) (a k n : ℕ) → k ≤ n → sum_by f (range_with_len a n) ≡ sum_by f (range_with_len a k) + sum_by f (range_with_len (a + k) (n - k))

@@ -1,6 +1,7 @@
 //! The border lines: which are there, and their glyphs and colours.
 
-ghost use Rattle.std.specs.Prelude.{◌≡◌, ◌<◌, ◌+◌, ◌^◌, true, option_map, OnOk, OnErr};
+ghost use Rattle.std.specs.Prelude.{◌≡◌, ◌<◌, ◌≤◌, ◌+◌, ◌^◌, true, count_by, option_map, OnOk, OnErr};
+ghost use Rattle.std.specs.List.{range_with_len};
 ghost use Rattle.pg_layout.specs.Borders.{has_side, ends, horizontal_glyph, vertical_glyph, crossing_glyph};
 ghost use Rattle.pg_config.specs.Overrides.{with_border, with_row_line};
 ghost use Rattle.pg_config.specs.Config.{missing_if, count_horizontal, count_vertical, has_horizontal, has_vertical, get_horizontal, get_vertical, get_intersection, get_horizontal_color, get_vertical_color, get_intersection_color, has_equal_row_lines, has_column_lines};
@@ -174,9 +175,7 @@ impl<A: Allocator> SpannedConfig<A> {
         requires { rows < usize.MAX }
         ensures { result ≡ count_horizontal self.now rows }
     {
-        (0..rows + 1)
-            .filter(|row| self.has_horizontal(*row, rows))
-            .count()
+        self.count_horizontals(0, rows + 1, rows)
     }
 
     /// How many column lines of a table of `columns` columns are there. The columns are fewer than
@@ -186,9 +185,33 @@ impl<A: Allocator> SpannedConfig<A> {
         requires { columns < usize.MAX }
         ensures { result ≡ count_vertical self.now columns }
     {
-        (0..columns + 1)
-            .filter(|column| self.has_vertical(*column, columns))
-            .count()
+        self.count_verticals(0, columns + 1, columns)
+    }
+
+    /// How many of so many row lines from a first one on are there in a table of `rows` rows. The
+    /// number of the line behind them is at most `usize::MAX`.
+    pub fn count_horizontals(&self, first: usize, count: usize, rows: usize) -> usize
+        requires { first + count ≤ usize.MAX }
+        ensures { result ≡ count_by (λ r. has_horizontal self.now r rows) (range_with_len first count) }
+    {
+        let mut found: usize = 0;
+        for step in 0..count {
+            found += usize::from(self.has_horizontal(first + step, rows));
+        }
+        found
+    }
+
+    /// How many of so many column lines from a first one on are there in a table of `columns` columns.
+    /// The number of the line behind them is at most `usize::MAX`.
+    pub fn count_verticals(&self, first: usize, count: usize, columns: usize) -> usize
+        requires { first + count ≤ usize.MAX }
+        ensures { result ≡ count_by (λ c. has_vertical self.now c columns) (range_with_len first count) }
+    {
+        let mut found: usize = 0;
+        for step in 0..count {
+            found += usize::from(self.has_vertical(first + step, columns));
+        }
+        found
     }
 
     // The missing glyph, where there is a line.

@@ -1,8 +1,6 @@
 //! The width and the height of a rectangle.
 
-ghost use Rattle.std.specs.Prelude.{◌≡◌, ℕ, ◌+◌, ◌^◌, ◌<◌, ◌≤◌, nat_lt, count_by, None, if◌then◌else◌};
-ghost use Rattle.std.specs.List.{range_with_len};
-ghost use Rattle.pg_config.specs.Config.{has_horizontal, has_vertical};
+ghost use Rattle.std.specs.Prelude.{◌≡◌, ℕ, ◌+◌, ◌^◌, ◌<◌, ◌≤◌, nat_lt, None, if◌then◌else◌};
 ghost use Rattle.pg_config.specs.Spans.{rect_rows, rect_columns};
 ghost use Rattle.pg_picture.specs.Table.{rect_width};
 ghost use Rattle.pg_picture.specs.Sizes.{if_fits, sized, height_of_rect};
@@ -52,7 +50,7 @@ pub fn width_of_columns<A: Allocator, D: Dimension>(
     }
     plus(
         sum_widths(dimension, pos.col, count),
-        count_verticals(config, pos.col + 1, count - 1, columns),
+        config.count_verticals(pos.col + 1, count - 1, columns),
     )
 }
 
@@ -92,36 +90,6 @@ pub fn height_of_rows<A: Allocator, D: Dimension>(
     }
     plus(
         sum_heights(dimension, pos.row, count),
-        count_horizontals(config, pos.row + 1, count - 1, end),
+        config.count_horizontals(pos.row + 1, count - 1, end),
     )
-}
-
-// How many of so many column lines from a first one on are there.
-fn count_verticals<A: Allocator>(
-    config: &SpannedConfig<A>,
-    first: usize,
-    count: usize,
-    columns: usize,
-) -> usize
-    requires { first + count ≤ usize.MAX }
-    ensures { result ≡ count_by (λ c. has_vertical config.now c columns) (range_with_len first count) }
-{
-    (first..first + count)
-        .filter(|column| config.has_vertical(*column, columns))
-        .count()
-}
-
-// How many of so many row lines from a first one on are there.
-fn count_horizontals<A: Allocator>(
-    config: &SpannedConfig<A>,
-    first: usize,
-    count: usize,
-    rows: usize,
-) -> usize
-    requires { first + count ≤ usize.MAX }
-    ensures { result ≡ count_by (λ r. has_horizontal config.now r rows) (range_with_len first count) }
-{
-    (first..first + count)
-        .filter(|row| config.has_horizontal(*row, rows))
-        .count()
 }

@@ -1,0 +1,9 @@
+use Rattle.std.proofs.Common.{ap, ◌∙◌}
+use Rattle.std.specs.Int.{from_bool}
+use Rattle.pg_config.specs.Config.{has_horizontal}
+use Rattle.pg_config.proofs.Ranges.{found-more}
+use Rattle.pg_config.proofs.spanned.SpannedConfig.count_horizontals.Goals as goal
+
+pub loop-step-preserved : goal.loop-step-preserved
+loop-step-preserved g c =
+    found-more (λ line. has_horizontal c.args.self.now line c.args.rows) c.args.first c.loop-step.step c.loop-step.invariant (c.from-found.ensures ∙ ap from_bool c.has_horizontal.ensures)
