@@ -1,6 +1,7 @@
 //! Colours of border lines and cells: which of several counts, and what counts as one that was set.
 
 use crate::prefixes::{color, prefix};
+use crate::same::assert_same;
 use pg_config::SpannedConfig;
 use pg_layout::{
     ANSIBuf, ANSIFmt, ANSIStr, Border, Borders, Colors, ColorsMap, Entity, NoColors, Offset,
@@ -122,12 +123,13 @@ fn the_latest_color_of_a_place_counts(rt: HostRuntime) -> Result<(), Fail> {
         colors.set(Position::new(1, 2), color(rt.alloc(), name)?)?;
     }
     assert!(rt; !(&colors).is_empty());
-    assert_eq!(rt;
+    assert_same(
+        &rt,
         prefix((&colors).get_color(Position::from((1, 2)))),
-        Some("<b>")
+        Some("<b>"),
     );
-    assert_eq!(rt; prefix(colors.get_color(Position::new(2, 1))), None);
-    assert_eq!(rt; prefix(NoColors.get_color(Position::new(1, 2))), None);
+    assert_same(&rt, prefix(colors.get_color(Position::new(2, 1))), None);
+    assert_same(&rt, prefix(NoColors.get_color(Position::new(1, 2))), None);
     Ok(())
 }
 
@@ -143,7 +145,7 @@ fn colors_are_equal_by_both_texts(rt: HostRuntime) -> Result<(), Fail> {
     let owned = ANSIBuf::new(rt.alloc(), "<r>", "</r>")?;
     assert!(rt; owned == ANSIBuf::new(rt.alloc(), "<r>", "</r>")?);
     assert!(rt; owned != ANSIBuf::new(rt.alloc(), "<b>", "</r>")? && !owned.is_empty());
-    assert_eq!(rt; (owned.prefix(), owned.suffix()), ("<r>", "</r>"));
+    assert_same(&rt, (owned.prefix(), owned.suffix()), ("<r>", "</r>"));
     Ok(())
 }
 
@@ -194,8 +196,8 @@ fn is_refused(rt: &impl Abort, alloc: Global, memory: &Refusing<Global>) -> Resu
     for (pos, name, after) in COLORED {
         let is_refused = set_color(&mut colors, memory, (pos, name)).is_err();
         let wanted = if is_refused { before } else { after };
-        assert_eq!(rt; cell_prefixes(alloc, &colors)?.as_str(), wanted);
-        assert_eq!(rt; memory.has_refused(), is_refused);
+        assert_same(rt, cell_prefixes(alloc, &colors)?.as_str(), wanted);
+        assert_same(rt, memory.has_refused(), is_refused);
         if is_refused {
             return Ok(true);
         }
@@ -235,8 +237,8 @@ fn a_color_needs_memory_for_both_texts(rt: HostRuntime) {
                 .ok()
                 .map(|color| (color.prefix(), color.suffix()));
             let wanted = if k < 2 { None } else { Some(("<r>", "</r>")) };
-            assert_eq!(rt; texts, wanted);
-            assert_eq!(rt; memory.has_refused(), k < 2);
+            assert_same(&rt, texts, wanted);
+            assert_same(&rt, memory.has_refused(), k < 2);
         }
     }
 }
@@ -255,8 +257,8 @@ fn a_color_is_made_of_any_two_texts(rt: HostRuntime) -> Result<(), Fail> {
         ("<r>", long, false),
     ] {
         let owned = ANSIBuf::new(rt.alloc(), prefix, suffix)?;
-        assert_eq!(rt; (owned.prefix(), owned.suffix()), (prefix, suffix));
-        assert_eq!(rt; owned.is_empty(), is_empty);
+        assert_same(&rt, (owned.prefix(), owned.suffix()), (prefix, suffix));
+        assert_same(&rt, owned.is_empty(), is_empty);
     }
     Ok(())
 }

@@ -2,6 +2,7 @@
 
 use crate::answers::answers_in_rows;
 use crate::refusals::{Call, EntitySetter, MANY, PlaceSetter, tell_entity, tell_place};
+use crate::same::assert_same;
 use pg_config::SpannedConfig;
 use pg_layout::{Entity, Offset};
 use pg_testing::refusing::Refusing;
@@ -112,7 +113,7 @@ fn refuse_each(rt: &impl Abort, alloc: Global, setter: Setter, order: Order) -> 
         memory.refuse_only(k);
         let is_refused = tell(&mut config, &memory, setter, &call_at(SIDE, SIDE)).is_err();
         let after = answers_in_rows(alloc, &config, &ROWS, REACH)?;
-        assert_eq!(rt; before.as_str() == after.as_str(), is_refused);
+        assert_same(rt, before.as_str() == after.as_str(), is_refused);
         if !is_refused {
             return Ok(());
         }

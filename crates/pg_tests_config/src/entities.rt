@@ -2,6 +2,7 @@
 //! is what their getters answer.
 
 use crate::prefixes::{color, prefix};
+use crate::same::{assert_same, assert_same_at};
 use pg_config::SpannedConfig;
 use pg_layout::{
     ANSIBuf, AlignmentHorizontal, AlignmentVertical, Entity, Formatting, Indent, Position, Sides,
@@ -151,7 +152,7 @@ fn tell_in_turn(
     let pos = Position::new(row, col);
     for told in [first(), second(), nothing(), first()] {
         tell(alloc, config, entity, told)?;
-        assert_eq!(rt; answered(config, pos), told, "{entity:?} at {pos:?}");
+        assert_same_at(rt, (entity, pos), answered(config, pos), told);
     }
     Ok(())
 }
@@ -174,9 +175,9 @@ fn tell_alone(
     (row, col): (usize, usize),
 ) -> Result<(), Fail> {
     let other = Position::new(row, col);
-    assert_eq!(rt; answered(config, other), nothing());
+    assert_same(rt, answered(config, other), nothing());
     tell_in_turn(rt, alloc, config, held)?;
-    assert_eq!(rt; answered(config, other), nothing(), "beside {held:?}");
+    assert_same_at(rt, held, answered(config, other), nothing());
     Ok(())
 }
 
@@ -211,7 +212,7 @@ fn tell_often(alloc: Global, config: &mut SpannedConfig<Global>) -> Result<(), F
 fn assert_crossing(rt: &impl Abort, config: &SpannedConfig<Global>, wanted: [Told<'_>; 4]) {
     for ((row, col), told) in [(1, 2), (1, 0), (0, 2), (0, 0)].into_iter().zip(wanted) {
         let pos = Position::new(row, col);
-        assert_eq!(rt; answered(config, pos), told, "at {pos:?}");
+        assert_same_at(rt, pos, answered(config, pos), told);
     }
 }
 

@@ -1,5 +1,6 @@
 //! What tests are helped by: memory that is refused, streams that fail, an iterator that tells little.
 
+use crate::same::assert_same;
 use pg_testing::ledger::Rule;
 use pg_testing::refusing::Refusing;
 use pg_testing::repeated::Repeated;
@@ -24,14 +25,14 @@ fn asked<A: Allocator>(memory: &Refusing<A>) -> [bool; 3] {
 #[test]
 fn memory_is_refused_where_it_is_told(rt: HostRuntime) {
     let later = Refusing::from_on(rt.alloc(), 1);
-    assert_eq!(rt; asked(&later), [true, false, false]);
-    assert_eq!(rt; (later.requests(), later.has_refused()), (3, true));
+    assert_same(&rt, asked(&later), [true, false, false]);
+    assert_same(&rt, (later.requests(), later.has_refused()), (3, true));
     let one = Refusing::only(rt.alloc(), 1);
-    assert_eq!(rt; asked(&one), [true, false, true]);
-    assert_eq!(rt; (one.requests(), one.has_refused()), (3, true));
+    assert_same(&rt, asked(&one), [true, false, true]);
+    assert_same(&rt, (one.requests(), one.has_refused()), (3, true));
     let fourth = Refusing::only(rt.alloc(), 3);
-    assert_eq!(rt; asked(&fourth), [true, true, true]);
-    assert_eq!(rt; (fourth.requests(), fourth.has_refused()), (3, false));
+    assert_same(&rt, asked(&fourth), [true, true, true]);
+    assert_same(&rt, (fourth.requests(), fourth.has_refused()), (3, false));
 }
 
 #[test]
@@ -39,10 +40,10 @@ fn a_reader_fails_where_it_is_told(rt: HostRuntime) {
     let mut reader = FailingReader::new(b"hello\n", Rule::Only(1));
     let mut bytes = Vec::new(rt.alloc());
     assert!(rt; reader.read_to_end(&mut bytes).is_err());
-    assert_eq!(rt; bytes.as_slice(), b"hel".as_slice());
-    assert_eq!(rt; (reader.reads(), reader.has_failed()), (2, true));
+    assert_same(&rt, bytes.as_slice(), b"hel".as_slice());
+    assert_same(&rt, (reader.reads(), reader.has_failed()), (2, true));
     assert!(rt; reader.read_to_end(&mut bytes).is_ok());
-    assert_eq!(rt; bytes.as_slice(), b"hello\n".as_slice());
+    assert_same(&rt, bytes.as_slice(), b"hello\n".as_slice());
 }
 
 #[test]
@@ -51,24 +52,25 @@ fn a_writer_fails_where_it_is_told(rt: HostRuntime) {
     let mut writer = FailingWriter::new(&mut held, Rule::FromOn(2));
     assert!(rt; writer.write_all(b"hello\n").is_ok());
     assert!(rt; writer.flush().is_err());
-    assert_eq!(rt; (writer.writes(), writer.has_failed()), (3, true));
-    assert_eq!(rt; held.as_slice(), b"hello\n".as_slice());
+    assert_same(&rt, (writer.writes(), writer.has_failed()), (3, true));
+    assert_same(&rt, held.as_slice(), b"hello\n".as_slice());
 }
 
 #[test]
 fn a_reader_without_an_end_gives_line_feeds(rt: HostRuntime) -> Result<(), Fail> {
     let mut block = [0u8; 2];
-    assert_eq!(rt; EndlessReader.read(&mut block)?, 1);
-    assert_eq!(rt; block, *b"\n\0");
+    assert_same(&rt, EndlessReader.read(&mut block)?, 1);
+    assert_same(&rt, block, *b"\n\0");
     Ok(())
 }
 
 #[test]
 fn an_item_is_repeated_without_a_hint(rt: HostRuntime) {
     let mut twice = Repeated::new('x', 2);
-    assert_eq!(rt; twice.size_hint(), (0, None));
-    assert_eq!(rt;
+    assert_same(&rt, twice.size_hint(), (0, None));
+    assert_same(
+        &rt,
         [twice.next(), twice.next(), twice.next()],
-        [Some('x'), Some('x'), None]
+        [Some('x'), Some('x'), None],
     );
 }

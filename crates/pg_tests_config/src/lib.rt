@@ -28,6 +28,8 @@ mod refusals;
 #[cfg(test)]
 mod row_lines;
 #[cfg(test)]
+mod same;
+#[cfg(test)]
 mod setters;
 #[cfg(test)]
 mod spans;

@@ -1,5 +1,6 @@
 //! Border lines: which are there, and which of several glyphs or colours counts.
 
+use crate::same::assert_same;
 use pg_config::SpannedConfig;
 use pg_layout::{Border, Borders, Position};
 use std::alloc::Global;
@@ -35,13 +36,14 @@ fn override_borders(rt: &impl Abort, config: &mut SpannedConfig<Global>) -> Resu
     borders.left = Some('|');
     borders.top_left = Some('+');
     config.set_borders(borders);
-    assert_eq!(rt; first_glyphs(config), [Some('+'), Some('-'), Some('|')]);
+    assert_same(rt, first_glyphs(config), [Some('+'), Some('-'), Some('|')]);
     let full = Border::full('t', 'b', 'l', 'r', '1', '2', '3', '4');
     config.set_border(FIRST, full)?;
-    assert_eq!(rt; first_glyphs(config), [Some('1'), Some('t'), Some('l')]);
-    assert_eq!(rt;
+    assert_same(rt, first_glyphs(config), [Some('1'), Some('t'), Some('l')]);
+    assert_same(
+        rt,
         other_glyphs(config),
-        [Some('b'), Some('r'), Some('2'), Some('3'), Some('4')]
+        [Some('b'), Some('r'), Some('2'), Some('3'), Some('4')],
     );
     Ok(())
 }
@@ -61,10 +63,10 @@ fn set_borders_again(rt: &impl Abort, config: &mut SpannedConfig<Global>) -> Res
     let mut borders = Borders::empty();
     borders.top = Some('=');
     config.set_borders(borders);
-    assert_eq!(rt; config.get_borders().top, Some('='));
-    assert_eq!(rt; config.get_horizontal(FIRST, 2), Some('*'));
-    assert_eq!(rt; config.get_horizontal(Position::new(0, 1), 2), Some('='));
-    assert_eq!(rt; config.get_horizontal(Position::new(1, 0), 2), Some('_'));
+    assert_same(rt, config.get_borders().top, Some('='));
+    assert_same(rt, config.get_horizontal(FIRST, 2), Some('*'));
+    assert_same(rt, config.get_horizontal(Position::new(0, 1), 2), Some('='));
+    assert_same(rt, config.get_horizontal(Position::new(1, 0), 2), Some('_'));
     Ok(())
 }
 
@@ -98,14 +100,18 @@ fn vary_the_missing_glyph(rt: &impl Abort, config: &mut SpannedConfig<Global>) {
     borders.top_left = Some('+');
     borders.intersection = Some('x');
     config.set_borders(borders);
-    assert_eq!(rt; config.get_borders_missing(), Some(' '));
-    assert_eq!(rt; missing_glyphs(config), [Some(' '), Some(' '), Some(' ')]);
+    assert_same(rt, config.get_borders_missing(), Some(' '));
+    assert_same(
+        rt,
+        missing_glyphs(config),
+        [Some(' '), Some(' '), Some(' ')],
+    );
     for glyph in [Some(' '), Some('.'), None] {
         config.set_borders_missing(glyph);
-        assert_eq!(rt; config.get_borders_missing(), glyph);
-        assert_eq!(rt; missing_glyphs(config), [glyph, glyph, glyph]);
-        assert_eq!(rt; glyphs_without_lines(config), [None, None, None]);
-        assert_eq!(rt; config.get_intersection(FIRST, (2, 2)), Some('+'));
+        assert_same(rt, config.get_borders_missing(), glyph);
+        assert_same(rt, missing_glyphs(config), [glyph, glyph, glyph]);
+        assert_same(rt, glyphs_without_lines(config), [None, None, None]);
+        assert_same(rt, config.get_intersection(FIRST, (2, 2)), Some('+'));
     }
 }
 
@@ -137,7 +143,7 @@ fn override_outside_rows(rt: &impl Abort, config: &mut SpannedConfig<Global>) ->
     config.set_border(Position::new(1, 9), border)?;
     config.set_border(Position::new(2, 0), border)?;
     let answered = ([false, true, true], (2, 0), [Some(' '), Some('*')]);
-    assert_eq!(rt; horizontals(config), answered);
+    assert_same(rt, horizontals(config), answered);
     Ok(())
 }
 
@@ -207,7 +213,7 @@ fn override_outside_columns(
     config.set_border(Position::new(8, 0), border)?;
     assert!(rt; config.has_horizontal(9, 9));
     let answered = ([false, true, false], (2, 1), [Some(' '), Some(' '), None]);
-    assert_eq!(rt; verticals(config), answered);
+    assert_same(rt, verticals(config), answered);
     Ok(())
 }
 

@@ -1,6 +1,7 @@
 //! Single glyphs of horizontals and verticals, counted from their start or their end.
 
 use crate::prefixes::{color, prefix};
+use crate::same::assert_same;
 use pg_config::SpannedConfig;
 use pg_layout::{Offset, Position};
 use std::alloc::Global;
@@ -40,11 +41,11 @@ fn count_glyphs_from_both_ends(
     config.set_vertical_char(FIRST, Offset::Start(0), 't')?;
     config.set_vertical_char(FIRST, Offset::End(1), 'b')?;
     let across = [Some('s'), Some('s'), Some('e'), None, None];
-    assert_eq!(rt; horizontal_glyphs(config), across);
+    assert_same(rt, horizontal_glyphs(config), across);
     let down = [Some('t'), Some('t'), Some('b'), None];
-    assert_eq!(rt; vertical_glyphs(config), down);
+    assert_same(rt, vertical_glyphs(config), down);
     config.set_horizontal_char(FIRST, Offset::Start(2), 'l')?;
-    assert_eq!(rt; config.lookup_horizontal_char(FIRST, 2, 3), Some('l'));
+    assert_same(rt, config.lookup_horizontal_char(FIRST, 2, 3), Some('l'));
     Ok(())
 }
 

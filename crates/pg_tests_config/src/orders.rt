@@ -1,6 +1,7 @@
 //! Getters whose rule has an order: which of several settings counts.
 
 use crate::prefixes::{color, prefix};
+use crate::same::{assert_same, assert_same_at};
 use pg_config::SpannedConfig;
 use pg_layout::{
     AlignmentHorizontal, AlignmentVertical, Entity, Formatting, Indent, Position, Sides,
@@ -24,7 +25,7 @@ fn fills(config: &SpannedConfig<Global>) -> [char; 3] {
 }
 
 fn fill_by_all_entities(rt: &impl Abort, config: &mut SpannedConfig<Global>) -> Result<(), Fail> {
-    assert_eq!(rt; fills(config), [' ', ' ', ' ']);
+    assert_same(rt, fills(config), [' ', ' ', ' ']);
     for (entity, fill, wanted) in [
         (Entity::Cell(1, 1), 'a', [' ', ' ', 'a']),
         (Entity::Column(1), 'b', ['b', ' ', 'b']),
@@ -44,7 +45,7 @@ fn fill_by_all_entities(rt: &impl Abort, config: &mut SpannedConfig<Global>) -> 
         (Entity::Row(1), 'p', ['n', 'p', 'p']),
     ] {
         config.set_justification(entity, fill)?;
-        assert_eq!(rt; fills(config), wanted, "after {fill:?} for {entity:?}");
+        assert_same_at(rt, (fill, entity), fills(config), wanted);
     }
     Ok(())
 }
@@ -63,18 +64,18 @@ fn assert_cell(
     paint: Option<&str>,
 ) {
     let padding = config.get_padding(INNER);
-    assert_eq!(rt; padding.left, Indent::spaced(size));
-    assert_eq!(rt; padding.bottom, Indent::new(size, '.'));
+    assert_same(rt, padding.left, Indent::spaced(size));
+    assert_same(rt, padding.bottom, Indent::new(size, '.'));
     let colors = config.get_padding_color(INNER);
-    assert_eq!(rt; prefix(colors.top.as_ref()), paint);
-    assert_eq!(rt; prefix(colors.left.as_ref()), None);
-    assert_eq!(rt; prefix(config.get_justification_color(INNER)), paint);
+    assert_same(rt, prefix(colors.top.as_ref()), paint);
+    assert_same(rt, prefix(colors.left.as_ref()), None);
+    assert_same(rt, prefix(config.get_justification_color(INNER)), paint);
     let formatting = Formatting {
         horizontal_trim: trims,
         vertical_trim: !trims,
         allow_lines_alignment: trims,
     };
-    assert_eq!(rt; config.get_formatting(INNER), formatting);
+    assert_same(rt, config.get_formatting(INNER), formatting);
 }
 
 // Sets what has a size, a colour or a switch for an entity.
@@ -110,7 +111,7 @@ fn set_a_row_after_a_cell(
     set_cells(alloc, config, Entity::Column(2), 3, true, "<c>")?;
     assert_cell(rt, config, 2, false, Some("<b>"));
     config.set_justification_color(Entity::Column(1), None)?;
-    assert_eq!(rt; prefix(config.get_justification_color(INNER)), None);
+    assert_same(rt, prefix(config.get_justification_color(INNER)), None);
     Ok(())
 }
 
@@ -125,23 +126,27 @@ fn align_a_column_after_a_cell(
 ) -> Result<(), Fail> {
     config.set_alignment_horizontal(Entity::from((1, 1)), AlignmentHorizontal::Right)?;
     config.set_alignment_horizontal(Entity::Column(1), AlignmentHorizontal::Center)?;
-    assert_eq!(rt;
+    assert_same(
+        rt,
         config.get_alignment_horizontal(INNER),
-        AlignmentHorizontal::Center
+        AlignmentHorizontal::Center,
     );
-    assert_eq!(rt;
+    assert_same(
+        rt,
         config.get_alignment_horizontal(FIRST),
-        AlignmentHorizontal::Left
+        AlignmentHorizontal::Left,
     );
     config.set_alignment_vertical(Entity::from(INNER), AlignmentVertical::Bottom)?;
     config.set_alignment_vertical(Entity::Column(1), AlignmentVertical::Center)?;
-    assert_eq!(rt;
+    assert_same(
+        rt,
         config.get_alignment_vertical(INNER),
-        AlignmentVertical::Center
+        AlignmentVertical::Center,
     );
-    assert_eq!(rt;
+    assert_same(
+        rt,
         config.get_alignment_vertical(FIRST),
-        AlignmentVertical::Top
+        AlignmentVertical::Top,
     );
     Ok(())
 }

@@ -1,5 +1,6 @@
 //! Values by key, which stand in the order of their keys.
 
+use crate::same::assert_same;
 use pg_layout::{Places, Position};
 use std::alloc::Global;
 use std::process::Abort;
@@ -25,33 +26,45 @@ fn set_values(alloc: Global) -> Result<Places<Position, u8>, Fail> {
 }
 
 fn assert_found(rt: &impl Abort, places: &Places<Position, u8>) {
-    assert_eq!(rt; places.iter().count(), 3);
-    assert_eq!(rt; places.get(TWICE).copied(), Some(4));
-    assert_eq!(rt; places.get(at(0, 6)).copied(), None);
-    assert_eq!(rt; places.last_up_to(at(0, 6)).map(|entry| *entry.1), None);
-    assert_eq!(rt; places.last_up_to(at(1, 4)).map(|entry| *entry.1), Some(3));
-    assert_eq!(rt; places.last_before(at(1, 1)).map(|entry| *entry.1), Some(4));
-    assert_eq!(rt; places.last_before(TWICE).map(|entry| *entry.1), None);
-    assert_eq!(rt; places.next_from(at(1, 1)).map(|entry| *entry.1), Some(3));
-    assert_eq!(rt; places.next_from(at(1, 6)).map(|entry| *entry.1), None);
-    assert_eq!(rt; places.first_key_from(at(1, 0)), Some(at(1, 1)));
-    assert_eq!(rt; places.first_key_from(at(2, 0)), None);
+    assert_same(rt, places.iter().count(), 3);
+    assert_same(rt, places.get(TWICE).copied(), Some(4));
+    assert_same(rt, places.get(at(0, 6)).copied(), None);
+    assert_same(rt, places.last_up_to(at(0, 6)).map(|entry| *entry.1), None);
+    assert_same(
+        rt,
+        places.last_up_to(at(1, 4)).map(|entry| *entry.1),
+        Some(3),
+    );
+    assert_same(
+        rt,
+        places.last_before(at(1, 1)).map(|entry| *entry.1),
+        Some(4),
+    );
+    assert_same(rt, places.last_before(TWICE).map(|entry| *entry.1), None);
+    assert_same(
+        rt,
+        places.next_from(at(1, 1)).map(|entry| *entry.1),
+        Some(3),
+    );
+    assert_same(rt, places.next_from(at(1, 6)).map(|entry| *entry.1), None);
+    assert_same(rt, places.first_key_from(at(1, 0)), Some(at(1, 1)));
+    assert_same(rt, places.first_key_from(at(2, 0)), None);
 }
 
 fn assert_exchanged(rt: &impl Abort, places: &mut Places<Position, u8>) -> Result<(), Fail> {
-    assert_eq!(rt; places.exchange(TWICE, Some(5))?, Some(4));
-    assert_eq!(rt; places.exchange(NEXT, Some(6))?, None);
-    assert_eq!(rt; places.exchange(TWICE, None)?, Some(5));
-    assert_eq!(rt; places.exchange(TWICE, None)?, None);
-    assert_eq!(rt; places.get(NEXT).copied(), Some(6));
-    assert_eq!(rt; places.iter().count(), 3);
+    assert_same(rt, places.exchange(TWICE, Some(5))?, Some(4));
+    assert_same(rt, places.exchange(NEXT, Some(6))?, None);
+    assert_same(rt, places.exchange(TWICE, None)?, Some(5));
+    assert_same(rt, places.exchange(TWICE, None)?, None);
+    assert_same(rt, places.get(NEXT).copied(), Some(6));
+    assert_same(rt, places.iter().count(), 3);
     Ok(())
 }
 
 fn assert_removed(rt: &impl Abort, places: &mut Places<Position, u8>) {
     places.remove(at(1, 1));
     places.remove(NEXT);
-    assert_eq!(rt; places.iter().count(), 1);
+    assert_same(rt, places.iter().count(), 1);
     places.clear();
     assert!(rt; places.is_empty());
 }

@@ -1,6 +1,7 @@
 //! Setters that are refused memory.
 
 use crate::answers::answers;
+use crate::same::assert_same;
 use pg_config::SpannedConfig;
 use pg_layout::{
     ANSIBuf, AlignmentHorizontal, AlignmentVertical, Border, Entity, HorizontalLine, Indent,
@@ -321,7 +322,7 @@ fn tell_refused<A: Allocator + Copy>(
     let before = answers(alloc, config)?;
     assert!(rt; tell(config, memory, number).is_err());
     let after = answers(alloc, config)?;
-    assert_eq!(rt; before.as_str(), after.as_str());
+    assert_same(rt, before.as_str(), after.as_str());
     Ok(())
 }
 

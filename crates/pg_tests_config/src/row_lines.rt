@@ -1,6 +1,7 @@
 //! One row line, set across a table.
 
 use crate::answers::answers;
+use crate::same::assert_same;
 use pg_config::SpannedConfig;
 use pg_layout::{HorizontalLine, Position};
 use std::alloc::Global;
@@ -38,20 +39,22 @@ fn crossings(config: &SpannedConfig<Global>, row: usize) -> [Option<char>; 4] {
 fn set_full_line(rt: &impl Abort, config: &mut SpannedConfig<Global>) -> Result<(), Fail> {
     config.set_borders_missing(None);
     config.set_row_line(1, 3, FULL)?;
-    assert_eq!(rt;
+    assert_same(
+        rt,
         horizontals(config, 1),
-        [Some('='), Some('='), Some('='), None]
+        [Some('='), Some('='), Some('='), None],
     );
-    assert_eq!(rt;
+    assert_same(
+        rt,
         crossings(config, 1),
-        [Some('<'), Some('+'), Some('+'), Some('>')]
+        [Some('<'), Some('+'), Some('+'), Some('>')],
     );
     for row in [0, 2] {
         assert!(rt; !config.has_horizontal(row, 2));
-        assert_eq!(rt; horizontals(config, row), [None, None, None, None]);
-        assert_eq!(rt; crossings(config, row), [None, None, None, None]);
+        assert_same(rt, horizontals(config, row), [None, None, None, None]);
+        assert_same(rt, crossings(config, row), [None, None, None, None]);
     }
-    assert_eq!(rt; config.get_vertical(Position::new(1, 1), 3), None);
+    assert_same(rt, config.get_vertical(Position::new(1, 1), 3), None);
     Ok(())
 }
 
@@ -64,23 +67,27 @@ fn set_part_of_a_line(rt: &impl Abort, config: &mut SpannedConfig<Global>) -> Re
     config.set_row_line(1, 3, FULL)?;
     let ends = HorizontalLine::new(None, None, Some('('), Some(')'));
     config.set_row_line(1, 2, ends)?;
-    assert_eq!(rt;
+    assert_same(
+        rt,
         horizontals(config, 1),
-        [Some('='), Some('='), Some('='), Some(' ')]
+        [Some('='), Some('='), Some('='), Some(' ')],
     );
-    assert_eq!(rt;
+    assert_same(
+        rt,
         crossings(config, 1),
-        [Some('('), Some('+'), Some(')'), Some('>')]
+        [Some('('), Some('+'), Some(')'), Some('>')],
     );
     let main = HorizontalLine::new(Some('-'), None, None, None);
     config.set_row_line(1, 1, main)?;
-    assert_eq!(rt;
+    assert_same(
+        rt,
         horizontals(config, 1),
-        [Some('-'), Some('='), Some('='), Some(' ')]
+        [Some('-'), Some('='), Some('='), Some(' ')],
     );
-    assert_eq!(rt;
+    assert_same(
+        rt,
         crossings(config, 1),
-        [Some('('), Some('+'), Some(')'), Some('>')]
+        [Some('('), Some('+'), Some(')'), Some('>')],
     );
     Ok(())
 }
@@ -100,7 +107,7 @@ fn set_line_of_no_columns(
     config.set_row_line(1, 0, FULL)?;
     assert!(rt; config.set_row_line(1, usize::MAX, FULL).is_err());
     let after = answers(alloc, config)?;
-    assert_eq!(rt; before.as_str(), after.as_str());
+    assert_same(rt, before.as_str(), after.as_str());
     Ok(())
 }
 
@@ -138,14 +145,14 @@ fn set_line_twice(
     [full, main]: [&str; 2],
 ) -> Result<(), Fail> {
     config.set_row_line(row, columns, FULL)?;
-    assert_eq!(rt; line_text(alloc, config, row, columns)?.as_str(), full);
+    assert_same(rt, line_text(alloc, config, row, columns)?.as_str(), full);
     assert!(rt; config.has_horizontal(row, ROWS));
     config.set_row_line(
         row,
         columns,
         HorizontalLine::new(Some('-'), None, None, None),
     )?;
-    assert_eq!(rt; line_text(alloc, config, row, columns)?.as_str(), main);
+    assert_same(rt, line_text(alloc, config, row, columns)?.as_str(), main);
     Ok(())
 }
 

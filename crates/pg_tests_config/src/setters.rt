@@ -4,6 +4,7 @@
 ghost use Rattle.std.specs.Prelude.{◌<◌};
 
 use crate::prefixes::{color, prefix};
+use crate::same::assert_same_at;
 use pg_config::SpannedConfig;
 use pg_layout::{ANSIBuf, Border, Offset, Position};
 use std::alloc::{AllocError, Global};
@@ -109,7 +110,7 @@ fn assert_round(
             Answer::Glyphs => glyphs_round(alloc, config, place)?,
             Answer::Colors => colors_round(alloc, config, place)?,
         };
-        assert_eq!(rt; answered.as_str(), wanted, "at {place:?}");
+        assert_same_at(rt, place, answered.as_str(), wanted);
     }
     Ok(())
 }
@@ -324,7 +325,7 @@ fn assert_answered(
     for asked in KINDS {
         let text = answers_at(alloc, config, (asked, pos))?;
         let answered = if asked == kind { wanted } else { "........" };
-        assert_eq!(rt; text.as_str(), answered, "{asked:?} at {pos:?}");
+        assert_same_at(rt, (asked, pos), text.as_str(), answered);
     }
     Ok(())
 }
@@ -387,8 +388,8 @@ fn assert_spans(
 ) {
     for place in PLACES {
         let pos = position(place);
-        assert_eq!(rt; config.get_column_span(pos), columns, "at {place:?}");
-        assert_eq!(rt; config.get_row_span(pos), rows, "at {place:?}");
+        assert_same_at(rt, place, config.get_column_span(pos), columns);
+        assert_same_at(rt, place, config.get_row_span(pos), rows);
     }
 }
 

@@ -1,5 +1,6 @@
 //! Cells that span rows or columns, and the places that they cover.
 
+use crate::same::{assert_same, assert_same_at};
 use pg_config::{Span, SpanSize, SpannedConfig};
 use pg_layout::{ColumnPlace, Position};
 use std::alloc::Global;
@@ -20,18 +21,22 @@ fn kept(
 fn span_and_take_away(rt: &impl Abort, config: &mut SpannedConfig<Global>) -> Result<(), Fail> {
     let pos = Position::new(2, 1);
     let none = (None, false);
-    assert_eq!(rt; kept(config, pos), (none, none));
-    assert_eq!(rt; (config.rect_columns(pos), config.rect_rows(pos)), (1, 1));
+    assert_same(rt, kept(config, pos), (none, none));
+    assert_same(
+        rt,
+        (config.rect_columns(pos), config.rect_rows(pos)),
+        (1, 1),
+    );
     config.set_column_span(pos, 3)?;
-    assert_eq!(rt; kept(config, pos), ((Some(3), true), none));
+    assert_same(rt, kept(config, pos), ((Some(3), true), none));
     config.set_row_span(pos, 0)?;
-    assert_eq!(rt; kept(config, pos), ((Some(3), true), (Some(0), true)));
+    assert_same(rt, kept(config, pos), ((Some(3), true), (Some(0), true)));
     config.set_column_span(pos, 1)?;
-    assert_eq!(rt; kept(config, pos), (none, (Some(0), true)));
+    assert_same(rt, kept(config, pos), (none, (Some(0), true)));
     config.set_row_span(pos, 1)?;
-    assert_eq!(rt; kept(config, pos), (none, none));
+    assert_same(rt, kept(config, pos), (none, none));
     assert!(rt; config.spans().is_empty());
-    assert_eq!(rt; config.get_column_span(Position::new(1, 2)), None);
+    assert_same(rt, config.get_column_span(Position::new(1, 2)), None);
     Ok(())
 }
 
@@ -63,9 +68,9 @@ fn cover_places(rt: &impl Abort, config: &mut SpannedConfig<Global>) -> Result<(
             config.is_cell_covered_by_row_span(pos),
             config.is_cell_covered_by_both_spans(pos),
         ];
-        assert_eq!(rt; answered, covered, "at {pos:?}");
+        assert_same_at(rt, pos, answered, covered);
         let hidden = covered != [false, false, false];
-        assert_eq!(rt; config.is_cell_visible(pos), !hidden, "at {pos:?}");
+        assert_same_at(rt, pos, config.is_cell_visible(pos), !hidden);
     }
     Ok(())
 }
@@ -93,15 +98,15 @@ fn read_in_order(rt: &impl Abort, config: &mut SpannedConfig<Global>) -> Result<
     let mut entries = spans.iter();
     for (row, col) in [(3, 0), (2, 2), (0, 4), (1, 4)] {
         let entry = entries.next().map(|(key, size)| (*key, *size));
-        assert_eq!(rt; entry, Some(two_rows_at(row, col)));
+        assert_same(rt, entry, Some(two_rows_at(row, col)));
     }
-    assert_eq!(rt; entries.next().is_none(), true);
+    assert_same(rt, entries.next().is_none(), true);
     let next = spans.next_from(Position::new(1, 2));
-    assert_eq!(rt; next, Some(two_rows_at(2, 2)));
-    assert_eq!(rt; spans.next_from(Position::new(2, 4)), None);
+    assert_same(rt, next, Some(two_rows_at(2, 2)));
+    assert_same(rt, spans.next_from(Position::new(2, 4)), None);
     let last = spans.last_before(Position::new(0, 4));
-    assert_eq!(rt; last, Some(two_rows_at(2, 2)));
-    assert_eq!(rt; spans.last_before(Position::new(3, 0)), None);
+    assert_same(rt, last, Some(two_rows_at(2, 2)));
+    assert_same(rt, spans.last_before(Position::new(3, 0)), None);
     Ok(())
 }
 

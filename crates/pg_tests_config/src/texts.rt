@@ -1,5 +1,6 @@
 //! Lines of texts and their widths.
 
+use crate::same::{assert_same, assert_same_at};
 use pg_layout::{
     LineCursor, count_lines, first_line, get_line_width, get_lines, get_text_width, is_blank,
     trim_line,
@@ -15,14 +16,14 @@ fn a_text_is_cut_at_each_line_feed(rt: HostRuntime) {
         ("a\r\nb", 2),
         ("\n\n\n\n", 5),
     ] {
-        assert_eq!(rt; count_lines(text), lines, "in {text:?}");
-        assert_eq!(rt; get_lines(text).count(), lines, "in {text:?}");
+        assert_same_at(&rt, text, count_lines(text), lines);
+        assert_same_at(&rt, text, get_lines(text).count(), lines);
     }
     let mut lines = get_lines("a\r\n\nb");
-    assert_eq!(rt; lines.next(), Some("a\r"));
-    assert_eq!(rt; lines.next(), Some(""));
-    assert_eq!(rt; lines.next(), Some("b"));
-    assert_eq!(rt; lines.next(), None);
+    assert_same(&rt, lines.next(), Some("a\r"));
+    assert_same(&rt, lines.next(), Some(""));
+    assert_same(&rt, lines.next(), Some("b"));
+    assert_same(&rt, lines.next(), None);
 }
 
 #[test]
@@ -38,8 +39,8 @@ fn a_line_takes_the_columns_of_a_terminal(rt: HostRuntime) {
         ("\u{1F469}\u{1F3FD}", 2),
         ("\u{1F3FD}", 2),
     ] {
-        assert_eq!(rt; get_line_width(line), width, "of {line:?}");
-        assert_eq!(rt; get_text_width(line), width, "of {line:?}");
+        assert_same_at(&rt, line, get_line_width(line), width);
+        assert_same_at(&rt, line, get_text_width(line), width);
     }
 }
 
@@ -53,7 +54,7 @@ fn a_text_is_as_wide_as_its_widest_line(rt: HostRuntime) {
         ("a\r\nb", 2),
         ("\n\ncafe\u{301}\n", 4),
     ] {
-        assert_eq!(rt; get_text_width(text), width, "of {text:?}");
+        assert_same_at(&rt, text, get_text_width(text), width);
     }
 }
 
@@ -66,7 +67,7 @@ fn a_line_of_white_space_is_blank(rt: HostRuntime) {
         ("\u{200B}", false),
         (" a ", false),
     ] {
-        assert_eq!(rt; is_blank(line), blank, "of {line:?}");
+        assert_same_at(&rt, line, is_blank(line), blank);
     }
 }
 
@@ -95,7 +96,7 @@ fn a_line_is_trimmed_of_white_space_at_its_ends(rt: HostRuntime) {
         (" a本", "a本"),
         ("本a ", "本a"),
     ] {
-        assert_eq!(rt; trim_line(line), trimmed, "of {line:?}");
+        assert_same_at(&rt, line, trim_line(line), trimmed);
     }
 }
 
@@ -110,7 +111,7 @@ fn the_first_line_loses_the_return_before_its_line_feed(rt: HostRuntime) {
         ("a\r\r\nb", "a\r"),
         ("a\rb\nc", "a\rb"),
     ] {
-        assert_eq!(rt; first_line(text), first, "of {text:?}");
+        assert_same_at(&rt, text, first_line(text), first);
     }
 }
 
@@ -119,11 +120,11 @@ fn a_cursor_gives_line_after_line(rt: HostRuntime) {
     let text = "a\n\nb";
     let mut cursor = LineCursor::new();
     assert!(rt; cursor.stands_in("") && cursor.stands_in("xyz"));
-    assert_eq!(rt; cursor.next_line(text), Some("a"));
+    assert_same(&rt, cursor.next_line(text), Some("a"));
     assert!(rt; cursor.stands_in(text) && cursor.stands_in("x"));
     assert!(rt; !cursor.stands_in("xyz") && !cursor.stands_in(""));
-    assert_eq!(rt; cursor.next_line(text), Some(""));
-    assert_eq!(rt; cursor.next_line(text), Some("b"));
-    assert_eq!(rt; cursor.next_line(text), None);
-    assert_eq!(rt; cursor.next_line(text), None);
+    assert_same(&rt, cursor.next_line(text), Some(""));
+    assert_same(&rt, cursor.next_line(text), Some("b"));
+    assert_same(&rt, cursor.next_line(text), None);
+    assert_same(&rt, cursor.next_line(text), None);
 }

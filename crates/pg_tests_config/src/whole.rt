@@ -1,6 +1,7 @@
 //! What a configuration answers that was told nothing, what stands round a table, and how a
 //! configuration grows.
 
+use crate::same::assert_same;
 use pg_config::SpannedConfig;
 use pg_layout::{
     ANSIBuf, ANSIFmt, AlignmentHorizontal, AlignmentVertical, Border, Borders, Entity, Formatting,
@@ -16,31 +17,40 @@ const FAR: Position = Position { row: 7, col: 9 };
 #[test]
 fn a_plain_table_has_no_lines_and_nothing_round_it(rt: HostRuntime) {
     let config = SpannedConfig::new(rt.alloc());
-    assert_eq!(rt; config.get_margin(), Sides::filled(Indent::zero()));
-    assert_eq!(rt; config.get_margin_offset(), Sides::filled(Offset::Start(0)));
+    assert_same(&rt, config.get_margin(), Sides::filled(Indent::zero()));
+    assert_same(
+        &rt,
+        config.get_margin_offset(),
+        Sides::filled(Offset::Start(0)),
+    );
     assert!(rt; *config.get_borders() == Borders::empty());
-    assert_eq!(rt; config.get_borders_missing(), Some(' '));
+    assert_same(&rt, config.get_borders_missing(), Some(' '));
     assert!(rt; !config.has_horizontal(0, 3) && !config.has_vertical(3, 3));
-    assert_eq!(rt;
+    assert_same(
+        &rt,
         (config.count_horizontal(3), config.count_vertical(3)),
-        (0, 0)
+        (0, 0),
     );
 }
 
 #[test]
 fn a_plain_cell_stands_left_and_top(rt: HostRuntime) {
     let config = SpannedConfig::new(rt.alloc());
-    assert_eq!(rt; config.get_padding(FAR), Sides::filled(Indent::zero()));
+    assert_same(&rt, config.get_padding(FAR), Sides::filled(Indent::zero()));
     let across = config.get_alignment_horizontal(FAR);
-    assert_eq!(rt; across, AlignmentHorizontal::Left);
-    assert_eq!(rt; config.get_alignment_vertical(FAR), AlignmentVertical::Top);
+    assert_same(&rt, across, AlignmentHorizontal::Left);
+    assert_same(
+        &rt,
+        config.get_alignment_vertical(FAR),
+        AlignmentVertical::Top,
+    );
     let plain = Formatting {
         horizontal_trim: false,
         vertical_trim: false,
         allow_lines_alignment: false,
     };
-    assert_eq!(rt; config.get_formatting(FAR), plain);
-    assert_eq!(rt; config.get_justification(FAR), ' ');
+    assert_same(&rt, config.get_formatting(FAR), plain);
+    assert_same(&rt, config.get_justification(FAR), ' ');
     assert!(rt; config.get_justification_color(FAR).is_none());
 }
 
@@ -57,15 +67,15 @@ fn set_margins(
         Indent::spaced(3),
     );
     config.set_margin(margin);
-    assert_eq!(rt; config.get_margin(), margin);
+    assert_same(rt, config.get_margin(), margin);
     let end = Offset::End(4);
     let offsets = Sides::new(end, Offset::Start(1), end, Offset::Start(0));
     config.set_margin_offset(offsets);
-    assert_eq!(rt; config.get_margin_offset(), offsets);
+    assert_same(rt, config.get_margin_offset(), offsets);
     let red = ANSIBuf::new(alloc, "<r>", "</r>")?;
     config.set_margin_color(Sides::new(None, None, Some(red), None));
     let colors = config.get_margin_color();
-    assert_eq!(rt; colors.top.map(|color| color.prefix()), Some("<r>"));
+    assert_same(rt, colors.top.map(|color| color.prefix()), Some("<r>"));
     assert!(rt; colors.left.is_none() && colors.right.is_none() && colors.bottom.is_none());
     Ok(())
 }
@@ -122,9 +132,9 @@ fn tell_often(
     for _ in 0..ROUNDS {
         tell(config, 'b')?;
     }
-    assert_eq!(rt; memory.requests(), requests);
-    assert_eq!(rt; config.get_justification(Position::new(1, 2)), 'b');
-    assert_eq!(rt; config.spans().iter().count(), 1);
+    assert_same(rt, memory.requests(), requests);
+    assert_same(rt, config.get_justification(Position::new(1, 2)), 'b');
+    assert_same(rt, config.spans().iter().count(), 1);
     Ok(())
 }
 
