@@ -1,0 +1,29 @@
+//! Lines that tell of the margin of a table.
+
+use crate::fault::ToldFault;
+use crate::words::Words;
+use pg_config::SpannedConfig;
+use std::alloc::Allocator;
+
+/// Tells of the margin, its offsets or its colours.
+pub(crate) fn tell_margin<A: Allocator + Copy>(
+    config: &mut SpannedConfig<A>,
+    alloc: A,
+    name: &str,
+    mut words: Words<'_>,
+) -> Result<(), ToldFault> {
+    match name {
+        "margin" => {
+            let margin = words.indents()?;
+            words.end()?;
+            config.set_margin(margin);
+        }
+        "margin_offset" => {
+            let offsets = words.offsets()?;
+            words.end()?;
+            config.set_margin_offset(offsets);
+        }
+        _ => config.set_margin_color(words.last_colors(alloc)?),
+    }
+    Ok(())
+}
