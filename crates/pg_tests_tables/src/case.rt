@@ -74,8 +74,8 @@ impl<'a> Case<'a> {
             self.begin_way(number);
             return drawn;
         }
-        if let Some(texts) = line.strip_prefix('|') {
-            return self.push_row(texts);
+        if let Some(row) = line.strip_prefix('|') {
+            return self.push_row(row);
         }
         self.push_word(line)
     }
@@ -99,18 +99,13 @@ impl<'a> Case<'a> {
         self.table = None;
     }
 
-    // Takes a row, whose texts have a bar behind each. None follows a call of a builder.
-    fn push_row(&mut self, texts: &'a str) -> Result<(), Fault> {
-        let mut row = Vec::new(self.alloc);
-        let mut rest = texts;
-        while let Some((text, behind)) = rest.split_once('|') {
-            row.push(text)?;
-            rest = behind;
-        }
-        if !rest.is_empty() || self.table.is_some() {
+    // Takes a row. None follows a call of a builder.
+    fn push_row(&mut self, row: &'a str) -> Result<(), Fault> {
+        if self.table.is_some() {
             return Err(Fault::Unknown);
         }
-        Ok(self.rows.push(row)?)
+        let texts = texts_of(self.alloc, row)?;
+        Ok(self.rows.push(texts)?)
     }
 
     // Follows a line that begins with a word.
@@ -198,6 +193,19 @@ impl<'a> Case<'a> {
         let rows = self.copied_rows()?;
         Ok(Table::new(self.alloc, rows)?)
     }
+}
+
+// The texts of a row, which has a bar behind each of them.
+fn texts_of(alloc: Global, row: &str) -> Result<Vec<&str>, Fault> {
+    let mut texts = Vec::new(alloc);
+    if row.is_empty() {
+        return Ok(texts);
+    }
+    let row = row.strip_suffix('|').ok_or(Fault::Unknown)?;
+    for text in row.split('|') {
+        texts.push(text)?;
+    }
+    Ok(texts)
 }
 
 // The number that a word writes.
