@@ -1,14 +1,14 @@
 //! Lines that tell of the borders of a table, of a cell and of a row line.
 
 use crate::fault::ToldFault;
-use crate::parts::{color_of, glyph_of, named, set_in_border, set_in_borders};
+use crate::named_places::{set_colors, set_glyphs};
 use crate::words::Words;
 use pg_config::SpannedConfig;
-use pg_layout::{ANSIBuf, Border, Borders, HorizontalLine};
-use std::alloc::Allocator;
+use pg_layout::{Border, Borders, HorizontalLine};
+use std::alloc::Global;
 
-/// The borders of a look, by its name.
-pub fn look_named(name: &str) -> Result<Borders<char>, ToldFault> {
+// The borders of a look, by its name.
+fn look_named(name: &str) -> Result<Borders<char>, ToldFault> {
     match name {
         "ascii" => Ok(Borders::ascii()),
         "modern" => Ok(Borders::modern()),
@@ -24,155 +24,74 @@ pub fn look_named(name: &str) -> Result<Borders<char>, ToldFault> {
     }
 }
 
-// The glyphs of borders whose places are named.
-fn glyphs_of_borders(parts: &str) -> Result<Borders<char>, ToldFault> {
-    let mut borders = Borders::empty();
-    for part in parts.split(' ') {
-        let (name, word) = named(part)?;
-        set_in_borders(&mut borders, name, glyph_of(word)?)?;
+/// The borders of a look, or those whose places are named.
+pub(crate) fn borders_told(words: Words<'_>) -> Result<Borders<char>, ToldFault> {
+    let parts = words.rest().ok_or(ToldFault::Unknown)?;
+    if !parts.contains('=') {
+        return look_named(parts);
     }
+    let mut borders = Borders::empty();
+    set_glyphs(&mut borders, words)?;
     Ok(borders)
 }
 
-// The borders of a look, or those whose places are named.
-fn borders_told(words: Words<'_>) -> Result<Borders<char>, ToldFault> {
-    let Some(parts) = words.rest() else {
-        return Err(ToldFault::Unknown);
-    };
-    if parts.contains('=') {
-        return glyphs_of_borders(parts);
-    }
-    look_named(parts)
-}
-
-// The glyphs round a cell.
-fn border_told(words: Words<'_>) -> Result<Border<char>, ToldFault> {
-    let mut border = Border::empty();
-    if let Some(parts) = words.rest() {
-        for part in parts.split(' ') {
-            let (name, word) = named(part)?;
-            set_in_border(&mut border, name, glyph_of(word)?)?;
-        }
-    }
-    Ok(border)
-}
-
-// Gives a part of a row line a glyph.
-fn set_in_line(
-    line: &mut HorizontalLine<char>,
+/// Tells of the glyphs of all borders, or of the one that stands for a missing glyph.
+pub(crate) fn tell_borders(
+    config: &mut SpannedConfig,
     name: &str,
-    glyph: Option<char>,
+    words: Words<'_>,
 ) -> Result<(), ToldFault> {
-    match name {
-        "main" => line.main = glyph,
-        "intersection" => line.intersection = glyph,
-        "left" => line.left = glyph,
-        "right" => line.right = glyph,
-        _ => return Err(ToldFault::Unknown),
+    if name == "borders" {
+        config.set_borders(words.last_borders()?);
+    } else {
+        config.set_borders_missing(words.last_glyph()?);
     }
     Ok(())
 }
 
-// The glyphs of a row line.
-fn line_told(words: Words<'_>) -> Result<HorizontalLine<char>, ToldFault> {
-    let mut line = HorizontalLine::new(None, None, None, None);
-    if let Some(parts) = words.rest() {
-        for part in parts.split(' ') {
-            let (name, word) = named(part)?;
-            set_in_line(&mut line, name, glyph_of(word)?)?;
-        }
-    }
-    Ok(line)
+/// Tells of the colours of all borders.
+pub(crate) fn tell_borders_color(
+    config: &mut SpannedConfig,
+    alloc: Global,
+    words: Words<'_>,
+) -> Result<(), ToldFault> {
+    let mut colors = Borders::empty();
+    set_colors(&mut colors, alloc, words)?;
+    config.set_borders_color(colors);
+    Ok(())
 }
 
-/// Tells of the glyphs of borders.
-pub(crate) fn tell_glyphs<A: Allocator + Copy>(
-    config: &mut SpannedConfig<A>,
-    name: &str,
+/// Tells of the glyphs round a cell.
+pub(crate) fn tell_border(
+    config: &mut SpannedConfig,
     mut words: Words<'_>,
 ) -> Result<(), ToldFault> {
-    match name {
-        "borders" => config.set_borders(borders_told(words)?),
-        "borders_missing" => {
-            let glyph = words.glyph()?;
-            words.end()?;
-            config.set_borders_missing(glyph);
-        }
-        "border" => {
-            let pos = words.place()?;
-            config.set_border(pos, border_told(words)?)?;
-        }
-        _ => {
-            let row = words.number()?;
-            let columns = words.number()?;
-            config.set_row_line(row, columns, line_told(words)?)?;
-        }
-    }
-    Ok(())
-}
-
-// The colours of borders.
-fn borders_colored<A: Allocator + Copy>(
-    alloc: A,
-    words: Words<'_>,
-) -> Result<Borders<ANSIBuf<A>>, ToldFault> {
-    let mut borders = Borders::empty();
-    color_borders(alloc, words, &mut borders)?;
-    Ok(borders)
-}
-
-// Gives borders their colours.
-fn color_borders<A: Allocator + Copy>(
-    alloc: A,
-    words: Words<'_>,
-    borders: &mut Borders<ANSIBuf<A>>,
-) -> Result<(), ToldFault> {
-    if let Some(parts) = words.rest() {
-        for part in parts.split(' ') {
-            let (name, word) = named(part)?;
-            set_in_borders(borders, name, color_of(alloc, word)?)?;
-        }
-    }
-    Ok(())
-}
-
-// Gives a border of a cell its colours.
-fn color_border<A: Allocator + Copy>(
-    alloc: A,
-    words: Words<'_>,
-    border: &mut Border<ANSIBuf<A>>,
-) -> Result<(), ToldFault> {
-    if let Some(parts) = words.rest() {
-        for part in parts.split(' ') {
-            let (name, word) = named(part)?;
-            set_in_border(border, name, color_of(alloc, word)?)?;
-        }
-    }
-    Ok(())
-}
-
-// The colours round a cell.
-fn border_colored<A: Allocator + Copy>(
-    alloc: A,
-    words: Words<'_>,
-) -> Result<Border<ANSIBuf<A>>, ToldFault> {
-    let mut border = Border::empty();
-    color_border(alloc, words, &mut border)?;
-    Ok(border)
-}
-
-/// Tells of the colours of borders.
-pub(crate) fn tell_colors<A: Allocator + Copy>(
-    config: &mut SpannedConfig<A>,
-    alloc: A,
-    name: &str,
-    mut words: Words<'_>,
-) -> Result<(), ToldFault> {
-    if name == "borders_color" {
-        config.set_borders_color(borders_colored(alloc, words)?);
-        return Ok(());
-    }
     let pos = words.place()?;
-    let colors = border_colored(alloc, words)?;
+    let mut border = Border::empty();
+    set_glyphs(&mut border, words)?;
+    Ok(config.set_border(pos, border)?)
+}
+
+/// Tells of the colours round a cell.
+pub(crate) fn tell_border_color(
+    config: &mut SpannedConfig,
+    alloc: Global,
+    mut words: Words<'_>,
+) -> Result<(), ToldFault> {
+    let pos = words.place()?;
+    let mut colors = Border::empty();
+    set_colors(&mut colors, alloc, words)?;
     Ok(config.set_border_color(pos, colors)?)
+}
+
+/// Tells of the glyphs of a row line, by its row and the number of columns.
+pub(crate) fn tell_row_line(
+    config: &mut SpannedConfig,
+    mut words: Words<'_>,
+) -> Result<(), ToldFault> {
+    let row = words.number()?;
+    let columns = words.number()?;
+    let mut line = HorizontalLine::new(None, None, None, None);
+    set_glyphs(&mut line, words)?;
+    Ok(config.set_row_line(row, columns, line)?)
 }

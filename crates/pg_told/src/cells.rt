@@ -3,55 +3,35 @@
 use crate::fault::ToldFault;
 use crate::words::Words;
 use pg_config::SpannedConfig;
-use std::alloc::Allocator;
+use std::alloc::Global;
 
 /// Tells of a padding, an alignment or a justification.
-pub(crate) fn tell_cell<A: Allocator + Copy>(
-    config: &mut SpannedConfig<A>,
+pub(crate) fn tell_cell(
+    config: &mut SpannedConfig,
     name: &str,
     mut words: Words<'_>,
 ) -> Result<(), ToldFault> {
+    let entity = words.entity()?;
     match name {
-        "padding" => {
-            let entity = words.entity()?;
-            let padding = words.indents()?;
-            words.end()?;
-            config.set_padding(entity, padding)?;
-        }
+        "padding" => config.set_padding(entity, words.last_indents()?)?,
         "alignment_horizontal" => {
-            let entity = words.entity()?;
-            let alignment = words.horizontal()?;
-            words.end()?;
-            config.set_alignment_horizontal(entity, alignment)?;
+            config.set_alignment_horizontal(entity, words.last_horizontal()?)?
         }
-        "alignment_vertical" => {
-            let entity = words.entity()?;
-            let alignment = words.vertical()?;
-            words.end()?;
-            config.set_alignment_vertical(entity, alignment)?;
-        }
-        "justification" => {
-            let entity = words.entity()?;
-            let Some(fill) = words.glyph()? else {
-                return Err(ToldFault::Unknown);
-            };
-            words.end()?;
-            config.set_justification(entity, fill)?;
-        }
+        "alignment_vertical" => config.set_alignment_vertical(entity, words.last_vertical()?)?,
+        "justification" => config.set_justification(entity, words.last_fill()?)?,
         _ => return Err(ToldFault::Unknown),
     }
     Ok(())
 }
 
 /// Tells what is trimmed, or whether lines are aligned one by one.
-pub(crate) fn tell_switch<A: Allocator + Copy>(
-    config: &mut SpannedConfig<A>,
+pub(crate) fn tell_switch(
+    config: &mut SpannedConfig,
     name: &str,
     mut words: Words<'_>,
 ) -> Result<(), ToldFault> {
     let entity = words.entity()?;
-    let is_on = words.switch()?;
-    words.end()?;
+    let is_on = words.last_switch()?;
     match name {
         "trim_horizontal" => config.set_trim_horizontal(entity, is_on)?,
         "trim_vertical" => config.set_trim_vertical(entity, is_on)?,
@@ -61,9 +41,9 @@ pub(crate) fn tell_switch<A: Allocator + Copy>(
 }
 
 /// Tells of the colours of paddings or of justifications.
-pub(crate) fn tell_color<A: Allocator + Copy>(
-    config: &mut SpannedConfig<A>,
-    alloc: A,
+pub(crate) fn tell_color(
+    config: &mut SpannedConfig,
+    alloc: Global,
     name: &str,
     mut words: Words<'_>,
 ) -> Result<(), ToldFault> {

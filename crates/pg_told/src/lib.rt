@@ -27,36 +27,32 @@ mod borders;
 mod cells;
 mod fault;
 mod margins;
+mod named_places;
 mod parts;
 mod places;
 mod words;
 
-pub use crate::borders::look_named;
 pub use crate::fault::ToldFault;
 pub use crate::words::Words;
 use pg_config::SpannedConfig;
-use std::alloc::Allocator;
+use std::alloc::Global;
 
 /// Tells a configuration what a line says, as `padding row 1 2 0 0 0`.
 ///
 /// An error is a line with too few, too many or unknown words, or want of memory: the configuration is
 /// then as it was.
-pub fn tell<A: Allocator + Copy>(
-    config: &mut SpannedConfig<A>,
-    alloc: A,
-    line: &str,
-) -> Result<(), ToldFault> {
+pub fn tell(config: &mut SpannedConfig, alloc: Global, line: &str) -> Result<(), ToldFault> {
     let mut words = Words::new(line);
     let name = words.word()?;
     match name {
-        "borders" | "borders_missing" | "border" | "row_line" => {
-            borders::tell_glyphs(config, name, words)
-        }
-        "borders_color" | "border_color" => borders::tell_colors(config, alloc, name, words),
-        "horizontal_char" | "vertical_char" | "column_span" | "row_span" => {
-            places::tell_place(config, name, words)
-        }
-        "horizontal_color" | "vertical_color" => { places::tell_color(config, alloc, name, words) }
+        "borders" | "borders_missing" => borders::tell_borders(config, name, words),
+        "borders_color" => borders::tell_borders_color(config, alloc, words),
+        "border" => borders::tell_border(config, words),
+        "border_color" => borders::tell_border_color(config, alloc, words),
+        "row_line" => borders::tell_row_line(config, words),
+        "column_span" | "row_span" => places::tell_span(config, name, words),
+        "horizontal_char" | "vertical_char" => places::tell_glyph(config, name, words),
+        "horizontal_color" | "vertical_color" => places::tell_color(config, alloc, name, words),
         "margin" | "margin_offset" | "margin_color" => {
             margins::tell_margin(config, alloc, name, words)
         }

@@ -3,26 +3,18 @@
 use crate::fault::ToldFault;
 use crate::words::Words;
 use pg_config::SpannedConfig;
-use std::alloc::Allocator;
+use std::alloc::Global;
 
 /// Tells of the margin, its offsets or its colours.
-pub(crate) fn tell_margin<A: Allocator + Copy>(
-    config: &mut SpannedConfig<A>,
-    alloc: A,
+pub(crate) fn tell_margin(
+    config: &mut SpannedConfig,
+    alloc: Global,
     name: &str,
-    mut words: Words<'_>,
+    words: Words<'_>,
 ) -> Result<(), ToldFault> {
     match name {
-        "margin" => {
-            let margin = words.indents()?;
-            words.end()?;
-            config.set_margin(margin);
-        }
-        "margin_offset" => {
-            let offsets = words.offsets()?;
-            words.end()?;
-            config.set_margin_offset(offsets);
-        }
+        "margin" => config.set_margin(words.last_indents()?),
+        "margin_offset" => config.set_margin_offset(words.last_offsets()?),
         _ => config.set_margin_color(words.last_colors(alloc)?),
     }
     Ok(())

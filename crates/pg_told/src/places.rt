@@ -3,67 +3,51 @@
 use crate::fault::ToldFault;
 use crate::words::Words;
 use pg_config::SpannedConfig;
-use pg_layout::{Offset, Position};
-use std::alloc::Allocator;
+use std::alloc::Global;
 
-// Where a single glyph stands, and the glyph.
-fn glyph_told(mut words: Words<'_>) -> Result<(Offset, char), ToldFault> {
-    let offset = words.offset()?;
-    let glyph = words.glyph()?;
-    words.end()?;
-    match glyph {
-        Some(glyph) => Ok((offset, glyph)),
-        None => Err(ToldFault::Unknown),
-    }
-}
-
-// How many columns or rows a cell spans.
-fn size_told(mut words: Words<'_>) -> Result<usize, ToldFault> {
-    let size = words.number()?;
-    words.end()?;
-    Ok(size)
-}
-
-/// Tells of a single glyph or of a span.
-pub(crate) fn tell_place<A: Allocator + Copy>(
-    config: &mut SpannedConfig<A>,
+/// Tells of a span.
+pub(crate) fn tell_span(
+    config: &mut SpannedConfig,
     name: &str,
     mut words: Words<'_>,
 ) -> Result<(), ToldFault> {
     let pos = words.place()?;
-    match name {
-        "column_span" => config.set_column_span(pos, size_told(words)?)?,
-        "row_span" => config.set_row_span(pos, size_told(words)?)?,
-        "horizontal_char" => {
-            let (offset, glyph) = glyph_told(words)?;
-            config.set_horizontal_char(pos, offset, glyph)?;
-        }
-        _ => {
-            let (offset, glyph) = glyph_told(words)?;
-            config.set_vertical_char(pos, offset, glyph)?;
-        }
+    let size = words.last_number()?;
+    if name == "column_span" {
+        config.set_column_span(pos, size)?;
+    } else {
+        config.set_row_span(pos, size)?;
     }
     Ok(())
 }
 
-// A horizontal or a vertical, and which of its glyphs is told of.
-fn glyph_named(words: &mut Words<'_>) -> Result<(Position, Offset), ToldFault> {
-    let pos = words.place()?;
-    let offset = words.offset()?;
-    Ok((pos, offset))
-}
-
-/// Tells of the colour of a single glyph.
-pub(crate) fn tell_color<A: Allocator + Copy>(
-    config: &mut SpannedConfig<A>,
-    alloc: A,
+/// Tells of a single glyph.
+pub(crate) fn tell_glyph(
+    config: &mut SpannedConfig,
     name: &str,
     mut words: Words<'_>,
 ) -> Result<(), ToldFault> {
-    let (pos, offset) = glyph_named(&mut words)?;
-    let Some(color) = words.last_color(alloc)? else {
-        return Err(ToldFault::Unknown);
-    };
+    let pos = words.place()?;
+    let offset = words.offset()?;
+    let glyph = words.last_fill()?;
+    if name == "horizontal_char" {
+        config.set_horizontal_char(pos, offset, glyph)?;
+    } else {
+        config.set_vertical_char(pos, offset, glyph)?;
+    }
+    Ok(())
+}
+
+/// Tells of the colour of a single glyph.
+pub(crate) fn tell_color(
+    config: &mut SpannedConfig,
+    alloc: Global,
+    name: &str,
+    mut words: Words<'_>,
+) -> Result<(), ToldFault> {
+    let pos = words.place()?;
+    let offset = words.offset()?;
+    let color = words.last_color(alloc)?.ok_or(ToldFault::Unknown)?;
     if name == "horizontal_color" {
         config.set_horizontal_color(pos, offset, color)?;
     } else {

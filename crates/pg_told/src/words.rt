@@ -2,14 +2,18 @@
 
 ghost use Rattle.std.specs.Prelude.{◌<◌, IfOk};
 
+use crate::borders::borders_told;
 use crate::fault::ToldFault;
 use crate::parts::{color_of, glyph_of, indent_of};
 use pg_layout::{
-    ANSIBuf, AlignmentHorizontal, AlignmentVertical, Entity, Indent, Offset, Position, Sides,
+    ANSIBuf, AlignmentHorizontal, AlignmentVertical, Borders, Entity, Indent, Offset, Position,
+    Sides,
 };
-use std::alloc::Allocator;
+use std::alloc::Global;
 
 /// What is left of a line that is read word by word. Words are parted by single spaces.
+///
+/// What ends a line is read by value: a word that is left behind it is an error.
 #[derive(Debug, Clone, Copy)]
 pub struct Words<'a> {
     // Nothing is left behind the last word.
@@ -39,23 +43,35 @@ impl<'a> Words<'a> {
         }
     }
 
-    /// No word is left.
-    pub fn end(self) -> Result<(), ToldFault> {
-        match self.rest {
-            Some(_) => Err(ToldFault::Unknown),
-            None => Ok(()),
-        }
-    }
-
     /// What is left of the line, if a word is.
     pub(crate) fn rest(self) -> Option<&'a str> {
         self.rest
     }
 
+    /// The last word.
+    pub fn last(self) -> Result<&'a str, ToldFault> {
+        match self.rest {
+            Some(word) if !word.contains(' ') => Ok(word),
+            _ => Err(ToldFault::Unknown),
+        }
+    }
+
+    // The last four words.
+    fn last_four(mut self) -> Result<Sides<&'a str>, ToldFault> {
+        let left = self.word()?;
+        let right = self.word()?;
+        let top = self.word()?;
+        Ok(Sides::new(left, right, top, self.last()?))
+    }
+
     /// The next word as a number.
     pub fn number(&mut self) -> Result<usize, ToldFault> {
-        let word = self.word()?;
-        word.parse::<usize>().map_err(|_| ToldFault::Unknown)
+        number_of(self.word()?)
+    }
+
+    /// The last word as a number.
+    pub fn last_number(self) -> Result<usize, ToldFault> {
+        number_of(self.last()?)
     }
 
     /// The next two words as a row and a column, neither of which is `usize::MAX`.
@@ -83,7 +99,7 @@ impl<'a> Words<'a> {
     }
 
     /// The next two words as a place that is counted from the start or from the end.
-    pub(crate) fn offset(&mut self) -> Result<Offset, ToldFault> {
+    pub fn offset(&mut self) -> Result<Offset, ToldFault> {
         match self.word()? {
             "start" => Ok(Offset::Start(self.number()?)),
             "end" => Ok(Offset::End(self.number()?)),
@@ -91,57 +107,59 @@ impl<'a> Words<'a> {
         }
     }
 
-    /// The next eight words as such places, one at each side.
-    pub(crate) fn offsets(&mut self) -> Result<Sides<Offset>, ToldFault> {
+    /// The last eight words as such places, one at each side.
+    pub fn last_offsets(mut self) -> Result<Sides<Offset>, ToldFault> {
         let left = self.offset()?;
         let right = self.offset()?;
         let top = self.offset()?;
         let bottom = self.offset()?;
-        Ok(Sides::new(left, right, top, bottom))
+        match self.rest {
+            None => Ok(Sides::new(left, right, top, bottom)),
+            Some(_) => Err(ToldFault::Unknown),
+        }
     }
 
-    /// The next word as a glyph, or `None` for none.
-    pub(crate) fn glyph(&mut self) -> Result<Option<char>, ToldFault> {
-        glyph_of(self.word()?)
+    /// The last word as a glyph, or `None` for none.
+    pub fn last_glyph(self) -> Result<Option<char>, ToldFault> {
+        glyph_of(self.last()?)
     }
 
-    /// The next four words as what stands at each side.
-    pub(crate) fn indents(&mut self) -> Result<Sides<Indent>, ToldFault> {
-        let left = indent_of(self.word()?)?;
-        let right = indent_of(self.word()?)?;
-        let top = indent_of(self.word()?)?;
-        let bottom = indent_of(self.word()?)?;
+    /// The last word as a glyph that is there.
+    pub fn last_fill(self) -> Result<char, ToldFault> {
+        self.last_glyph()?.ok_or(ToldFault::Unknown)
+    }
+
+    /// The last four words as what stands at each side.
+    pub fn last_indents(self) -> Result<Sides<Indent>, ToldFault> {
+        let words = self.last_four()?;
+        let (left, right) = (indent_of(words.left)?, indent_of(words.right)?);
+        let (top, bottom) = (indent_of(words.top)?, indent_of(words.bottom)?);
         Ok(Sides::new(left, right, top, bottom))
     }
 
     /// The last word as a colour, or `None` for none.
-    pub(crate) fn last_color<A: Allocator + Copy>(
-        mut self,
-        alloc: A,
-    ) -> Result<Option<ANSIBuf<A>>, ToldFault> {
-        let word = self.word()?;
-        self.end()?;
-        color_of(alloc, word)
+    pub fn last_color(self, alloc: Global) -> Result<Option<ANSIBuf>, ToldFault> {
+        color_of(alloc, self.last()?)
     }
 
     /// The last four words as the colours of the sides.
-    pub(crate) fn last_colors<A: Allocator + Copy>(
-        mut self,
-        alloc: A,
-    ) -> Result<Sides<Option<ANSIBuf<A>>>, ToldFault> {
-        let words = [self.word()?, self.word()?, self.word()?, self.word()?];
-        self.end()?;
-        let [left, right, top, bottom] = words;
-        let left = color_of(alloc, left)?;
-        let right = color_of(alloc, right)?;
-        let top = color_of(alloc, top)?;
-        let bottom = color_of(alloc, bottom)?;
+    pub fn last_colors(self, alloc: Global) -> Result<Sides<Option<ANSIBuf>>, ToldFault> {
+        let words = self.last_four()?;
+        let left = color_of(alloc, words.left)?;
+        let right = color_of(alloc, words.right)?;
+        let top = color_of(alloc, words.top)?;
+        let bottom = color_of(alloc, words.bottom)?;
         Ok(Sides::new(left, right, top, bottom))
     }
 
-    /// The next word as where a text stands between left and right.
-    pub(crate) fn horizontal(&mut self) -> Result<AlignmentHorizontal, ToldFault> {
-        match self.word()? {
+    /// All words that are left as the borders of a look, or as those whose places are named.
+    pub fn last_borders(self) -> Result<Borders<char>, ToldFault> {
+        borders_told(self)
+    }
+
+    /// The last word as where a text stands between left and right.
+    pub fn last_horizontal(self) -> Result<AlignmentHorizontal, ToldFault> {
+        match self.last()? {
             "left" => Ok(AlignmentHorizontal::Left),
             "center" => Ok(AlignmentHorizontal::Center),
             "right" => Ok(AlignmentHorizontal::Right),
@@ -149,9 +167,9 @@ impl<'a> Words<'a> {
         }
     }
 
-    /// The next word as where a text stands between top and bottom.
-    pub(crate) fn vertical(&mut self) -> Result<AlignmentVertical, ToldFault> {
-        match self.word()? {
+    /// The last word as where a text stands between top and bottom.
+    pub fn last_vertical(self) -> Result<AlignmentVertical, ToldFault> {
+        match self.last()? {
             "top" => Ok(AlignmentVertical::Top),
             "center" => Ok(AlignmentVertical::Center),
             "bottom" => Ok(AlignmentVertical::Bottom),
@@ -159,12 +177,17 @@ impl<'a> Words<'a> {
         }
     }
 
-    /// The next word as a switch.
-    pub(crate) fn switch(&mut self) -> Result<bool, ToldFault> {
-        match self.word()? {
+    /// The last word as a switch.
+    pub fn last_switch(self) -> Result<bool, ToldFault> {
+        match self.last()? {
             "on" => Ok(true),
             "off" => Ok(false),
             _ => Err(ToldFault::Unknown),
         }
     }
+}
+
+// The number that a word writes.
+fn number_of(word: &str) -> Result<usize, ToldFault> {
+    word.parse::<usize>().map_err(|_| ToldFault::Unknown)
 }
