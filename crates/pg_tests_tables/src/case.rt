@@ -4,9 +4,9 @@ use crate::fault::Fault;
 use crate::report::Report;
 use crate::step::Step;
 use pg_config::SpannedConfig;
-use pg_layout::{ANSIBuf, ColorsMap, Position};
+use pg_layout::ColorsMap;
 use pg_table::{Table, TableFault};
-use pg_told::tell;
+use pg_told::{Words, tell};
 use std::alloc::{AllocError, Global};
 use std::mem;
 
@@ -136,37 +136,39 @@ impl<'a> Case<'a> {
 
     // Gives a cell a colour.
     fn set_color(&mut self, text: &str) -> Result<(), Fault> {
-        let (row, rest) = text.split_once(' ').ok_or(Fault::Unknown)?;
-        let (column, rest) = rest.split_once(' ').ok_or(Fault::Unknown)?;
-        let (prefix, suffix) = rest.split_once('|').ok_or(Fault::Unknown)?;
-        let pos = Position::new(number_of(row)?, number_of(column)?);
-        let color = ANSIBuf::new(self.alloc, prefix, suffix)?;
+        let mut words = Words::new(text);
+        let pos = words.place()?;
+        let color = words.last_color(self.alloc)?.ok_or(Fault::Unknown)?;
         Ok(self.colors.set(pos, color)?)
     }
 
     // Calls a builder.
     fn call(&mut self, text: &str) -> Result<(), Fault> {
-        let step = Step::of(self.alloc, text)?;
+        let step = Step::of(text)?;
         let table = match self.table.take() {
             Some(table) => table,
             None => self.new_table()?,
         };
-        let table = match step {
-            Step::Nothing => table,
-            Step::Borders(borders) => table.with_borders(borders),
-            Step::Padding(padding) => table.with_padding(padding),
-            Step::Alignment(alignment) => table.with_alignment(alignment),
-            Step::HeaderLine(line) => table.with_header_line(line)?,
+        self.table = Some(self.called(table, step)?);
+        Ok(())
+    }
+
+    // What a builder gives when it is called so.
+    fn called(&mut self, table: Table<&'a str>, step: Step) -> Result<Table<&'a str>, Fault> {
+        match step {
+            Step::Nothing => Ok(table),
+            Step::Borders(borders) => Ok(table.with_borders(borders)),
+            Step::Padding(padding) => Ok(table.with_padding(padding)),
+            Step::Alignment(alignment) => Ok(table.with_alignment(alignment)),
+            Step::HeaderLine(line) => Ok(table.with_header_line(line)?),
             Step::SetHeaderLine(line) => {
                 let mut table = table;
                 table.set_header_line(line)?;
-                table
+                Ok(table)
             }
-            Step::Config => table.with_config(self.take_config()),
-            Step::Colors => table.with_colors(self.take_colors()),
-        };
-        self.table = Some(table);
-        Ok(())
+            Step::Config => Ok(table.with_config(self.take_config())),
+            Step::Colors => Ok(table.with_colors(self.take_colors())),
+        }
     }
 
     /// The settings that were told since the last call.
