@@ -1,20 +1,12 @@
-//! Worked tables at their natural sizes: what both table builders answer, against sizes and texts
-//! that were worked out by hand.
+//! Tables at their natural sizes that are refused memory, and ones whose rows own their texts. All other
+//! tables are told to the program `pg_tests_tables`.
 #![tactic(auto)]
 
 #[cfg(test)]
-mod cells;
-#[cfg(test)]
-mod colors;
-#[cfg(test)]
 mod drawing;
 #[cfg(test)]
-mod faults;
-#[cfg(test)]
-mod headers;
-#[cfg(test)]
-mod looks;
-#[cfg(test)]
 mod refusals;
+#[cfg(test)]
+mod same;
 #[cfg(test)]
 mod tables;

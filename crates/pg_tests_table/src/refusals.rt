@@ -1,6 +1,7 @@
 //! Tables that are refused memory.
 
 use crate::drawing::{assert_text, records, rows, table};
+use crate::same::assert_same;
 use pg_config::SpannedConfig;
 use pg_layout::{Borders, HorizontalLine, NoColors};
 use pg_table::{NaturalTable, Table, TableFault};
@@ -23,7 +24,7 @@ fn assert_told<A: Allocator>(rt: &impl Abort, memory: &Refusing<A>, fault: Optio
     } else {
         None
     };
-    assert_eq!(rt; fault, expected);
+    assert_same(rt, fault, expected);
 }
 
 // The table prints the text behind `log:` while the request of this number is refused: the buffer then
@@ -43,7 +44,7 @@ fn is_printed<A: Allocator + Copy>(
     };
     assert!(rt; DRAWN.starts_with(drawn));
     if fault.is_none() {
-        assert_eq!(rt; drawn, DRAWN);
+        assert_same(rt, drawn, DRAWN);
     }
     Ok(fault.is_none())
 }
@@ -94,8 +95,8 @@ fn is_given<A: Allocator + Copy>(
     let given = NaturalTable::new(&records, config, &NoColors).to_string(memory);
     let is_whole = !memory.has_refused();
     match given {
-        Ok(text) => assert_eq!(rt; (is_whole, text.as_str()), (true, DRAWN)),
-        Err(fault) => assert_eq!(rt; (is_whole, fault), (false, TableFault::Memory)),
+        Ok(text) => assert_same(rt, (is_whole, text.as_str()), (true, DRAWN)),
+        Err(fault) => assert_same(rt, (is_whole, fault), (false, TableFault::Memory)),
     }
     Ok(is_whole)
 }
@@ -143,7 +144,7 @@ fn is_headed(rt: &impl Abort, alloc: Global, k: u64) -> Result<bool, Fail> {
     let memory = Refusing::only(alloc, k);
     let mut table = with_sides(&memory)?;
     let is_told = table.set_header_line(HorizontalLine::markdown()).is_ok();
-    assert_eq!(rt; is_told, !memory.has_refused());
+    assert_same(rt, is_told, !memory.has_refused());
     let text = if is_told { WITH_LINE } else { WITHOUT_LINE };
     assert_text(rt, alloc, &table, text)?;
     Ok(is_told)
@@ -167,7 +168,7 @@ fn a_table_by_value_is_let_go_where_its_line_is_refused(rt: HostRuntime) -> Resu
     let alloc = rt.alloc();
     let memory = Refusing::only(alloc, count_requests_of_rows(alloc)?);
     let headed = with_sides(&memory)?.with_header_line(HorizontalLine::markdown());
-    assert_eq!(rt; headed.err(), Some(TableFault::Memory));
+    assert_same(&rt, headed.err(), Some(TableFault::Memory));
     assert!(rt; memory.has_refused());
     Ok(())
 }

@@ -1,0 +1,97 @@
+//! Lines that tell of the borders of a table, of a cell and of a row line.
+
+use crate::fault::ToldFault;
+use crate::named_places::{set_colors, set_glyphs};
+use crate::words::Words;
+use pg_config::SpannedConfig;
+use pg_layout::{Border, Borders, HorizontalLine};
+use std::alloc::Global;
+
+// The borders of a look, by its name.
+fn look_named(name: &str) -> Result<Borders<char>, ToldFault> {
+    match name {
+        "ascii" => Ok(Borders::ascii()),
+        "modern" => Ok(Borders::modern()),
+        "extended" => Ok(Borders::extended()),
+        "dots" => Ok(Borders::dots()),
+        "blank" => Ok(Borders::blank()),
+        "empty" => Ok(Borders::empty()),
+        "sharp" => Ok(Borders::sharp()),
+        "rounded" => Ok(Borders::rounded()),
+        "psql" => Ok(Borders::psql()),
+        "markdown" => Ok(Borders::markdown()),
+        _ => Err(ToldFault::Unknown),
+    }
+}
+
+/// The borders of a look, or those whose places are named.
+pub(crate) fn borders_told(words: Words<'_>) -> Result<Borders<char>, ToldFault> {
+    let parts = words.rest().ok_or(ToldFault::Unknown)?;
+    if !parts.contains('=') {
+        return look_named(parts);
+    }
+    let mut borders = Borders::empty();
+    set_glyphs(&mut borders, words)?;
+    Ok(borders)
+}
+
+/// Tells of the glyphs of all borders, or of the one that stands for a missing glyph.
+pub(crate) fn tell_borders(
+    config: &mut SpannedConfig,
+    name: &str,
+    words: Words<'_>,
+) -> Result<(), ToldFault> {
+    if name == "borders" {
+        config.set_borders(words.last_borders()?);
+    } else {
+        config.set_borders_missing(words.last_glyph()?);
+    }
+    Ok(())
+}
+
+/// Tells of the colours of all borders.
+pub(crate) fn tell_borders_color(
+    config: &mut SpannedConfig,
+    alloc: Global,
+    words: Words<'_>,
+) -> Result<(), ToldFault> {
+    let mut colors = Borders::empty();
+    set_colors(&mut colors, alloc, words)?;
+    config.set_borders_color(colors);
+    Ok(())
+}
+
+/// Tells of the glyphs round a cell.
+pub(crate) fn tell_border(
+    config: &mut SpannedConfig,
+    mut words: Words<'_>,
+) -> Result<(), ToldFault> {
+    let pos = words.place()?;
+    let mut border = Border::empty();
+    set_glyphs(&mut border, words)?;
+    Ok(config.set_border(pos, border)?)
+}
+
+/// Tells of the colours round a cell.
+pub(crate) fn tell_border_color(
+    config: &mut SpannedConfig,
+    alloc: Global,
+    mut words: Words<'_>,
+) -> Result<(), ToldFault> {
+    let pos = words.place()?;
+    let mut colors = Border::empty();
+    set_colors(&mut colors, alloc, words)?;
+    Ok(config.set_border_color(pos, colors)?)
+}
+
+/// Tells of the glyphs of a row line, by its row and the number of columns.
+pub(crate) fn tell_row_line(
+    config: &mut SpannedConfig,
+    mut words: Words<'_>,
+) -> Result<(), ToldFault> {
+    let row = words.number()?;
+    let columns = words.number()?;
+    let mut line = HorizontalLine::new(None, None, None, None);
+    set_glyphs(&mut line, words)?;
+    Ok(config.set_row_line(row, columns, line)?)
+}

@@ -1,0 +1,57 @@
+//! Lines that tell of all cells, of a row, of a column or of a cell.
+
+use crate::fault::ToldFault;
+use crate::words::Words;
+use pg_config::SpannedConfig;
+use std::alloc::Global;
+
+/// Tells of a padding, an alignment or a justification.
+pub(crate) fn tell_cell(
+    config: &mut SpannedConfig,
+    name: &str,
+    mut words: Words<'_>,
+) -> Result<(), ToldFault> {
+    let entity = words.entity()?;
+    match name {
+        "padding" => config.set_padding(entity, words.last_indents()?)?,
+        "alignment_horizontal" => {
+            config.set_alignment_horizontal(entity, words.last_horizontal()?)?
+        }
+        "alignment_vertical" => config.set_alignment_vertical(entity, words.last_vertical()?)?,
+        "justification" => config.set_justification(entity, words.last_fill()?)?,
+        _ => return Err(ToldFault::Unknown),
+    }
+    Ok(())
+}
+
+/// Tells what is trimmed, or whether lines are aligned one by one.
+pub(crate) fn tell_switch(
+    config: &mut SpannedConfig,
+    name: &str,
+    mut words: Words<'_>,
+) -> Result<(), ToldFault> {
+    let entity = words.entity()?;
+    let is_on = words.last_switch()?;
+    match name {
+        "trim_horizontal" => config.set_trim_horizontal(entity, is_on)?,
+        "trim_vertical" => config.set_trim_vertical(entity, is_on)?,
+        _ => config.set_line_alignment(entity, is_on)?,
+    }
+    Ok(())
+}
+
+/// Tells of the colours of paddings or of justifications.
+pub(crate) fn tell_color(
+    config: &mut SpannedConfig,
+    alloc: Global,
+    name: &str,
+    mut words: Words<'_>,
+) -> Result<(), ToldFault> {
+    let entity = words.entity()?;
+    if name == "padding_color" {
+        config.set_padding_color(entity, words.last_colors(alloc)?)?;
+    } else {
+        config.set_justification_color(entity, words.last_color(alloc)?)?;
+    }
+    Ok(())
+}

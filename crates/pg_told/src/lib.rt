@@ -1,0 +1,65 @@
+//! Configurations that are told by lines of words.
+//!
+//! ```text
+//! borders ascii
+//! padding row 1 1 1 0 0
+//! alignment_horizontal col 2 right
+//! border 0 1 top=* bottom_left=none
+//! border_color 0 1 top=<red>|</red>
+//! horizontal_char 0 1 start 2 space
+//! margin 1 1:. 0 0
+//! column_span 0 1 3
+//! ```
+//!
+//! A line has the name of a setter of [`SpannedConfig`] without `set_`, and what the setter takes. Words
+//! are parted by single spaces.
+//!
+//! - A place is its row and its column. `all`, `row 1`, `col 2` and `cell 1 2` are entities.
+//! - A glyph is a character, `space` a space, and `none` is no glyph.
+//! - A colour is its prefix, `|` and its suffix, of which either may be empty. `none` is no colour.
+//! - A side of a padding or a margin is a number of spaces, or a number, `:` and the glyph that fills it.
+//!   The sides are told in the order left, right, top, bottom.
+//! - `borders`, `border` and `row_line`, and those for colours, name the places that have a value, as
+//!   `left=|`. The others have none. `borders` may name a look instead.
+#![tactic(auto)]
+
+mod borders;
+mod cells;
+mod fault;
+mod margins;
+mod named_places;
+mod parts;
+mod places;
+mod words;
+
+pub use crate::fault::ToldFault;
+pub use crate::words::Words;
+use pg_config::SpannedConfig;
+use std::alloc::Global;
+
+/// Tells a configuration what a line says, as `padding row 1 2 0 0 0`.
+///
+/// An error is a line with too few, too many or unknown words, or want of memory: the configuration is
+/// then as it was.
+pub fn tell(config: &mut SpannedConfig, alloc: Global, line: &str) -> Result<(), ToldFault> {
+    let mut words = Words::new(line);
+    let name = words.word()?;
+    match name {
+        "borders" | "borders_missing" => borders::tell_borders(config, name, words),
+        "borders_color" => borders::tell_borders_color(config, alloc, words),
+        "border" => borders::tell_border(config, words),
+        "border_color" => borders::tell_border_color(config, alloc, words),
+        "row_line" => borders::tell_row_line(config, words),
+        "column_span" | "row_span" => places::tell_span(config, name, words),
+        "horizontal_char" | "vertical_char" => places::tell_glyph(config, name, words),
+        "horizontal_color" | "vertical_color" => places::tell_color(config, alloc, name, words),
+        "margin" | "margin_offset" | "margin_color" => {
+            margins::tell_margin(config, alloc, name, words)
+        }
+        "padding_color" | "justification_color" => cells::tell_color(config, alloc, name, words),
+        "trim_horizontal" | "trim_vertical" | "line_alignment" => {
+            cells::tell_switch(config, name, words)
+        }
+        _ => cells::tell_cell(config, name, words),
+    }
+}

@@ -1,0 +1,45 @@
+//! What single words stand for.
+
+use crate::fault::ToldFault;
+use pg_layout::{ANSIBuf, Indent};
+use std::alloc::Global;
+
+/// The glyph that a word stands for, or `None` for none.
+pub(crate) fn glyph_of(word: &str) -> Result<Option<char>, ToldFault> {
+    match word {
+        "none" => Ok(None),
+        "space" => Ok(Some(' ')),
+        _ => match word.parse::<char>() {
+            Ok(glyph) => Ok(Some(glyph)),
+            Err(_) => Err(ToldFault::Unknown),
+        },
+    }
+}
+
+/// The colour that a word stands for, or `None` for none.
+pub(crate) fn color_of(alloc: Global, word: &str) -> Result<Option<ANSIBuf>, ToldFault> {
+    if word == "none" {
+        return Ok(None);
+    }
+    match word.split_once('|') {
+        Some((prefix, suffix)) => Ok(Some(ANSIBuf::new(alloc, prefix, suffix)?)),
+        None => Err(ToldFault::Unknown),
+    }
+}
+
+/// What a word says of one side, as `3` or `3:.`.
+pub(crate) fn indent_of(word: &str) -> Result<Indent, ToldFault> {
+    let (size, fill) = word.split_once(':').unwrap_or((word, "space"));
+    match (size.parse::<usize>(), glyph_of(fill)?) {
+        (Ok(size), Some(fill)) => Ok(Indent::new(size, fill)),
+        _ => Err(ToldFault::Unknown),
+    }
+}
+
+/// The name of a place and what a word says of it, as `left` and `|` of `left=|`.
+pub(crate) fn named(word: &str) -> Result<(&str, &str), ToldFault> {
+    match word.split_once('=') {
+        Some(part) => Ok(part),
+        None => Err(ToldFault::Unknown),
+    }
+}

@@ -1,0 +1,193 @@
+//! The words of a line.
+
+ghost use Rattle.std.specs.Prelude.{◌<◌, IfOk};
+
+use crate::borders::borders_told;
+use crate::fault::ToldFault;
+use crate::parts::{color_of, glyph_of, indent_of};
+use pg_layout::{
+    ANSIBuf, AlignmentHorizontal, AlignmentVertical, Borders, Entity, Indent, Offset, Position,
+    Sides,
+};
+use std::alloc::Global;
+
+/// What is left of a line that is read word by word. Words are parted by single spaces.
+///
+/// What ends a line is read by value: a word that is left behind it is an error.
+#[derive(Debug, Clone, Copy)]
+pub struct Words<'a> {
+    // Nothing is left behind the last word.
+    rest: Option<&'a str>,
+}
+
+impl<'a> Words<'a> {
+    /// All words of a line.
+    pub fn new(line: &'a str) -> Words<'a> {
+        Words { rest: Some(line) }
+    }
+
+    /// The next word.
+    pub fn word(&mut self) -> Result<&'a str, ToldFault> {
+        let Some(line) = self.rest else {
+            return Err(ToldFault::Unknown);
+        };
+        match line.split_once(' ') {
+            Some((word, rest)) => {
+                self.rest = Some(rest);
+                Ok(word)
+            }
+            None => {
+                self.rest = None;
+                Ok(line)
+            }
+        }
+    }
+
+    /// What is left of the line, if a word is.
+    pub(crate) fn rest(self) -> Option<&'a str> {
+        self.rest
+    }
+
+    /// The last word.
+    pub fn last(self) -> Result<&'a str, ToldFault> {
+        match self.rest {
+            Some(word) if !word.contains(' ') => Ok(word),
+            _ => Err(ToldFault::Unknown),
+        }
+    }
+
+    // The last four words.
+    fn last_four(mut self) -> Result<Sides<&'a str>, ToldFault> {
+        let left = self.word()?;
+        let right = self.word()?;
+        let top = self.word()?;
+        Ok(Sides::new(left, right, top, self.last()?))
+    }
+
+    /// The next word as a number.
+    pub fn number(&mut self) -> Result<usize, ToldFault> {
+        number_of(self.word()?)
+    }
+
+    /// The last word as a number.
+    pub fn last_number(self) -> Result<usize, ToldFault> {
+        number_of(self.last()?)
+    }
+
+    /// The next two words as a row and a column, neither of which is `usize::MAX`.
+    pub fn place(&mut self) -> Result<Position, ToldFault>
+        ensures row { IfOk result (λ pos. pos.row < usize.MAX) }
+        ensures col { IfOk result (λ pos. pos.col < usize.MAX) }
+    {
+        let row = self.number()?;
+        let col = self.number()?;
+        if row == usize::MAX || col == usize::MAX {
+            return Err(ToldFault::Unknown);
+        }
+        Ok(Position::new(row, col))
+    }
+
+    /// The next words as all cells, a row, a column or a cell.
+    pub fn entity(&mut self) -> Result<Entity, ToldFault> {
+        match self.word()? {
+            "all" => Ok(Entity::Global),
+            "row" => Ok(Entity::Row(self.number()?)),
+            "col" => Ok(Entity::Column(self.number()?)),
+            "cell" => Ok(Entity::from(self.place()?)),
+            _ => Err(ToldFault::Unknown),
+        }
+    }
+
+    /// The next two words as a place that is counted from the start or from the end.
+    pub fn offset(&mut self) -> Result<Offset, ToldFault> {
+        match self.word()? {
+            "start" => Ok(Offset::Start(self.number()?)),
+            "end" => Ok(Offset::End(self.number()?)),
+            _ => Err(ToldFault::Unknown),
+        }
+    }
+
+    /// The last eight words as such places, one at each side.
+    pub fn last_offsets(mut self) -> Result<Sides<Offset>, ToldFault> {
+        let left = self.offset()?;
+        let right = self.offset()?;
+        let top = self.offset()?;
+        let bottom = self.offset()?;
+        match self.rest {
+            None => Ok(Sides::new(left, right, top, bottom)),
+            Some(_) => Err(ToldFault::Unknown),
+        }
+    }
+
+    /// The last word as a glyph, or `None` for none.
+    pub fn last_glyph(self) -> Result<Option<char>, ToldFault> {
+        glyph_of(self.last()?)
+    }
+
+    /// The last word as a glyph that is there.
+    pub fn last_fill(self) -> Result<char, ToldFault> {
+        self.last_glyph()?.ok_or(ToldFault::Unknown)
+    }
+
+    /// The last four words as what stands at each side.
+    pub fn last_indents(self) -> Result<Sides<Indent>, ToldFault> {
+        let words = self.last_four()?;
+        let (left, right) = (indent_of(words.left)?, indent_of(words.right)?);
+        let (top, bottom) = (indent_of(words.top)?, indent_of(words.bottom)?);
+        Ok(Sides::new(left, right, top, bottom))
+    }
+
+    /// The last word as a colour, or `None` for none.
+    pub fn last_color(self, alloc: Global) -> Result<Option<ANSIBuf>, ToldFault> {
+        color_of(alloc, self.last()?)
+    }
+
+    /// The last four words as the colours of the sides.
+    pub fn last_colors(self, alloc: Global) -> Result<Sides<Option<ANSIBuf>>, ToldFault> {
+        let words = self.last_four()?;
+        let left = color_of(alloc, words.left)?;
+        let right = color_of(alloc, words.right)?;
+        let top = color_of(alloc, words.top)?;
+        let bottom = color_of(alloc, words.bottom)?;
+        Ok(Sides::new(left, right, top, bottom))
+    }
+
+    /// All words that are left as the borders of a look, or as those whose places are named.
+    pub fn last_borders(self) -> Result<Borders<char>, ToldFault> {
+        borders_told(self)
+    }
+
+    /// The last word as where a text stands between left and right.
+    pub fn last_horizontal(self) -> Result<AlignmentHorizontal, ToldFault> {
+        match self.last()? {
+            "left" => Ok(AlignmentHorizontal::Left),
+            "center" => Ok(AlignmentHorizontal::Center),
+            "right" => Ok(AlignmentHorizontal::Right),
+            _ => Err(ToldFault::Unknown),
+        }
+    }
+
+    /// The last word as where a text stands between top and bottom.
+    pub fn last_vertical(self) -> Result<AlignmentVertical, ToldFault> {
+        match self.last()? {
+            "top" => Ok(AlignmentVertical::Top),
+            "center" => Ok(AlignmentVertical::Center),
+            "bottom" => Ok(AlignmentVertical::Bottom),
+            _ => Err(ToldFault::Unknown),
+        }
+    }
+
+    /// The last word as a switch.
+    pub fn last_switch(self) -> Result<bool, ToldFault> {
+        match self.last()? {
+            "on" => Ok(true),
+            "off" => Ok(false),
+            _ => Err(ToldFault::Unknown),
+        }
+    }
+}
+
+// The number that a word writes.
+fn number_of(word: &str) -> Result<usize, ToldFault> {
+    word.parse::<usize>().map_err(|_| ToldFault::Unknown)
+}
