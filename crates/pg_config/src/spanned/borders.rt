@@ -189,7 +189,7 @@ impl<A: Allocator> SpannedConfig<A> {
     }
 
     /// How many of so many row lines from a first one on are there in a table of `rows` rows. The
-    /// number of the line behind them is at most `usize::MAX`.
+    /// number of the line behind them is at most `usize::MAX`, as `checked_add` tells.
     pub fn count_horizontals(&self, first: usize, count: usize, rows: usize) -> usize
         requires { first + count ≤ usize.MAX }
         ensures { result ≡ count_by (λ r. has_horizontal self.now r rows) (range_with_len first count) }
@@ -202,7 +202,7 @@ impl<A: Allocator> SpannedConfig<A> {
     }
 
     /// How many of so many column lines from a first one on are there in a table of `columns` columns.
-    /// The number of the line behind them is at most `usize::MAX`.
+    /// The number of the line behind them is at most `usize::MAX`, as `checked_add` tells.
     pub fn count_verticals(&self, first: usize, count: usize, columns: usize) -> usize
         requires { first + count ≤ usize.MAX }
         ensures { result ≡ count_by (λ c. has_vertical self.now c columns) (range_with_len first count) }

@@ -32,7 +32,7 @@ pub fn rect_width<A: Allocator, D: Dimension>(
 
 /// What [`rect_width`] answers, for a rectangle of which it is known how many columns it has: `count`
 /// ([`SpannedConfig::rect_size`] tells columns and rows by one search). It has a column, and its
-/// columns end inside the table, as [`rect_width`] asks.
+/// columns end inside the table, as [`rect_width`] asks: [`crate::fits::spans_fit`] tells it.
 pub fn width_of_columns<A: Allocator, D: Dimension>(
     config: &SpannedConfig<A>,
     dimension: &D,
@@ -73,7 +73,8 @@ pub fn rect_height<A: Allocator, D: Dimension>(
 }
 
 /// What [`rect_height`] answers, for a rectangle of which it is known how many rows it has: `count`
-/// ([`SpannedConfig::rect_size`]). It has a row, as [`rect_height`] asks.
+/// ([`SpannedConfig::rect_size`]). It has a row, as [`rect_height`] asks: [`crate::fits::spans_fit`]
+/// tells it.
 pub fn height_of_rows<A: Allocator, D: Dimension>(
     config: &SpannedConfig<A>,
     dimension: &D,
