@@ -21,16 +21,33 @@ pub(crate) enum Grid {
     /// The looked-up grid by its checked call, which tests the table in each build, from texts in
     /// memory.
     Checked,
+    /// The test of that call alone, which prints nothing.
+    Tested,
     /// A stream of rows, each of which is made when it is pushed.
     Rows,
     /// The same stream, handed an iterator that makes the rows.
     Results,
+    /// Rows that are made as vectors in each build, and what becomes of them.
+    Vectors(Use),
     /// The looked-up grid at the table's natural sizes, which are worked out in each build, from
     /// texts in memory.
     Natural,
     /// The looked-up grid by its checked call, from texts in memory; in each build all settings and
     /// colours are told anew.
     Told,
+}
+
+/// What becomes of rows that are vectors.
+#[derive(Debug, Clone, Copy, PartialEq, Eq)]
+pub(crate) enum Use {
+    /// Nothing: they are let go.
+    Nothing,
+    /// A stream of rows prints them, each behind its test.
+    Streamed,
+    /// The streaming grid tests the table.
+    Tested,
+    /// The streaming grid tests the table and prints it.
+    Printed,
 }
 
 /// What a table consists of.
@@ -229,7 +246,7 @@ pub(crate) const CASES: [Case; 19] = [
 ];
 
 /// Tables that are printed by other calls, and tables of other sizes, some of which take long.
-pub(crate) const OTHER_SIZES: [Case; 9] = [
+pub(crate) const OTHER_SIZES: [Case; 18] = [
     Case("iter_tall10", Grid::IterMade, TALL10),
     Case("iter_tall1000000", Grid::IterMade, TALL1000000),
     Case("peek_cells100", Grid::Peekable, CELLS100),
@@ -239,6 +256,31 @@ pub(crate) const OTHER_SIZES: [Case; 9] = [
     Case("rows_tall1000000", Grid::Rows, TALL1000000),
     Case("results_tall", Grid::Results, TALL),
     Case("results_tall1000000", Grid::Results, TALL1000000),
+    Case("peek_tested", Grid::Tested, BASIC),
+    Case("vectors_tall", Grid::Vectors(Use::Nothing), TALL),
+    Case("vectors_tall_streamed", Grid::Vectors(Use::Streamed), TALL),
+    Case("vectors_tall_tested", Grid::Vectors(Use::Tested), TALL),
+    Case("vectors_tall_printed", Grid::Vectors(Use::Printed), TALL),
+    Case(
+        "vectors_tall1000000",
+        Grid::Vectors(Use::Nothing),
+        TALL1000000,
+    ),
+    Case(
+        "vectors_tall1000000_streamed",
+        Grid::Vectors(Use::Streamed),
+        TALL1000000,
+    ),
+    Case(
+        "vectors_tall1000000_tested",
+        Grid::Vectors(Use::Tested),
+        TALL1000000,
+    ),
+    Case(
+        "vectors_tall1000000_printed",
+        Grid::Vectors(Use::Printed),
+        TALL1000000,
+    ),
 ];
 
 /// All cases, as they are listed.

@@ -24,6 +24,7 @@ mod streamed;
 mod telling;
 mod texts;
 mod told;
+mod vectors;
 
 /// What the arguments ask for.
 #[derive(Debug, Clone, Copy)]

@@ -13,6 +13,7 @@ use crate::settings::{colors, compact_settings, set};
 use crate::streamed::{streamed, streamed_as_made};
 use crate::texts::records;
 use crate::told::told;
+use crate::vectors::text_of_vectors;
 use pg_config::{CompactConfig, SpannedConfig};
 use pg_grid::{CompactGrid, PeekableGrid};
 use pg_layout::{
@@ -60,6 +61,7 @@ fn spanned_text<A: Allocator + Copy>(
     match grid {
         Grid::IterMade => streamed_as_made(alloc, table, &config, times),
         Grid::Rows | Grid::Results => text_of_rows(alloc, grid, table, &config, times),
+        Grid::Vectors(rows) => text_of_vectors(alloc, rows, table, &config, times),
         _ => text_of_records(alloc, grid, table, &config, times),
     }
 }
@@ -79,6 +81,9 @@ fn text_of_records<A: Allocator + Copy>(
     let dimension = dimension(alloc, table)?;
     if grid == Grid::Checked {
         return checked(alloc, &records, &dimension, config, times);
+    }
+    if grid == Grid::Tested {
+        return tested(alloc, &records, &dimension, config, times);
     }
     if grid == Grid::Iter {
         return streamed(alloc, &records, &dimension, config, times);
@@ -140,6 +145,21 @@ fn checked<A: Allocator + Copy>(
         grid.print(&mut text)?;
     }
     Ok(text)
+}
+
+// Tests a table so many times, and answers the empty text.
+fn tested<A: Allocator + Copy>(
+    alloc: A,
+    records: &VecRecords<String<A>, A>,
+    dimension: &ConstantDimension<A>,
+    config: &SpannedConfig<A>,
+    times: usize,
+) -> Result<String<A>, Failure> {
+    let grid = PeekableGrid::new(records, config, dimension, NoColors);
+    for _ in 0..times {
+        grid.fits()?;
+    }
+    Ok(String::new(alloc))
 }
 
 // The text of a table at its natural sizes, built so many times.

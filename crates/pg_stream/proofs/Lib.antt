@@ -42,4 +42,5 @@ pub mod RowsInTurn
 pub mod MakingPrinters
 pub mod RowsOfCells
 pub mod StreamedRows
+pub mod StreamedRuns
 pub mod StreamedResults

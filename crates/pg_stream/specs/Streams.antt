@@ -1,5 +1,5 @@
 -- A stream of rows: it holds the latest row until the next one is there, and appends the others.
-use Rattle.std.specs.Prelude.{◌≡◌, ℕ, ◌++◌, true, false, nat_lt, List, [], ◌∷◌, Option, Some, None, option_map, unwrap_or, IfSome, Result, Ok, Err, String, string_bytes, ⊤, ◌⊎◌, if◌then◌else◌}
+use Rattle.std.specs.Prelude.{◌≡◌, ℕ, ◌++◌, true, false, nat_lt, List, [], ◌∷◌, Option, Some, None, option_map, unwrap_or, IfSome, Result, Ok, Err, IsErr, Bool, String, string_bytes, ⊤, ◌⊎◌, if◌then◌else◌}
 use Rattle.pg_layout.specs.declared.position.Position.{Position}
 use Rattle.pg_layout.specs.Colors.{Color}
 use Rattle.pg_layout.specs.Text.{Text}
@@ -155,3 +155,19 @@ abbrev pub PrintsResults : {Z U E : Type 0} → Streaming → List (Result (List
 PrintsResults s items old new (Ok value) = (first_error items ≡ None) × PrintsRows s.before (rows_left s (rows_before items)) old new (Ok value)
 PrintsResults {U} s items old new (Err (InStream fault)) = PrintsUntil {U = U} (first_error items) s.before (rows_left s (rows_before items)) old new (Err fault)
 PrintsResults s items old new (Err (Source error)) = (first_error items ≡ Some error) × PrintsButLatest {U = Unit {0}} s.before (rows_left s (rows_before items)) old new (Ok tt)
+
+-- ---- rows that a run of an iterator gave
+
+-- An iterator gave these rows, one after the other, and `whole` says that no other came behind them. Then a call prints all of
+-- them and the table's end. Else it stopped when the latest was there, for a fault of those before it.
+abbrev pub PrintsRun : {Z U : Type 0} → Bool → Printing → List (List Text) → String Z → String Z → Result U StreamFault → Type 0
+PrintsRun true s rows old new result = PrintsRows s rows old new result
+PrintsRun false s rows old new result = IsErr result × PrintsButLatest s rows old new result
+
+-- The same of items that may be errors: where others may come behind them, the call stopped at an error, which is the latest,
+-- or for a fault of the rows before the latest.
+abbrev pub PrintsResultsRun : {Z U E : Type 0} → Bool → Streaming → List (Result (List Text) E) → String Z → String Z → Result U (RowsFault E) → Type 0
+PrintsResultsRun true s items old new result = PrintsResults s items old new result
+PrintsResultsRun false s items old new (Ok value) = ⊥
+PrintsResultsRun {U} false s items old new (Err (InStream fault)) = (first_error items ≡ None) × PrintsButLatest {U = U} s.before (rows_left s (rows_before items)) old new (Err fault)
+PrintsResultsRun {U} false s items old new (Err (Source error)) = PrintsResults {U = U} s items old new (Err (Source error))

@@ -3,11 +3,14 @@
 ghost use Rattle.std.specs.Prelude.{◌≡◌, Some};
 ghost use Rattle.pg_stream.specs.declared.fault.RowsFault.{RowsFault};
 ghost use Rattle.pg_stream.specs.declared.fault.StreamFault.{StreamFault};
-ghost use Rattle.pg_stream.specs.Faults.{stream_fault_text, rows_fault_text};
+ghost use Rattle.pg_stream.specs.Faults.{stream_fault_text, row_fault_text, fault_of_row, rows_fault_text};
 
+use crate::row_printer::RowPrinter;
+use pg_layout::{Colors, Dimension};
 use pg_picture::PrintFault;
 use pg_picture::fits::Misfit;
-use std::alloc::{AllocError, AllocFailed};
+use std::alloc::{AllocError, AllocFailed, Allocator};
+use std::convert::AsStr;
 use std::error::Error;
 use std::fmt;
 
@@ -65,10 +68,43 @@ impl Error for StreamFault {}
 /// Why a row isn't printed.
 #[derive(Debug, Drop)]
 pub enum RowFault<P> {
-    /// The row doesn't fit. Here is the printer, as it was before the call.
+    /// The row doesn't fit. Here is the printer, as it was before the call. Where it isn't needed, `?`
+    /// makes a `StreamFault::Row` of it, with the number of the row.
     Misfit(P),
     /// No memory was found, and the printer is gone.
     Memory,
+}
+
+/// Writes that the row doesn't fit, or that memory was refused.
+impl<P> fmt::Display for RowFault<P> {
+    ghost output = { λ fault. Some (row_fault_text fault) };
+
+    fn fmt<W: fmt::Write>(&self, f: &mut fmt::Formatter<W>) -> fmt::Result {
+        match self {
+            RowFault::Misfit(_) => write!(f, "the row does not fit"),
+            RowFault::Memory => write!(f, "{}", PrintFault::Memory),
+        }
+    }
+}
+
+impl<'a, S, D, C, B, A> From<RowFault<RowPrinter<'a, S, D, C, B, A>>> for StreamFault
+where
+    S: AsStr + Drop,
+    D: Dimension,
+    C: Colors,
+    B: Allocator,
+    A: Allocator,
+{
+    ghost use Rattle.pg_stream.specs.Printers.{printing};
+
+    ghost from_gives = { λ refused fault. fault ≡ fault_of_row (λ p. (printing D.width D.height C.color p).rows) refused };
+
+    fn from(refused: RowFault<RowPrinter<'a, S, D, C, B, A>>) -> StreamFault {
+        match refused {
+            RowFault::Misfit(printer) => StreamFault::Row(printer.rows()),
+            RowFault::Memory => StreamFault::Memory,
+        }
+    }
 }
 
 /// Why rows that may be errors aren't printed to their end.

@@ -2,6 +2,7 @@
 
 ghost use Rattle.std.specs.Prelude.{◌≡◌, [], List, Result, map, IfSome, OnOk};
 ghost use Rattle.std.specs.Iterator.{IsFinite};
+ghost use Rattle.std.specs.Iterator.Runs.{SomeRun};
 ghost use Rattle.std.specs.Result.{result_map_both};
 ghost use Rattle.pg_layout.specs.Records.{AlwaysGives};
 ghost use Rattle.pg_layout.specs.Text.{Text};
@@ -9,7 +10,7 @@ ghost use Rattle.pg_stream.specs.Inside.Drawing.{IsSeparator};
 ghost use Rattle.pg_stream.specs.Inside.Held.{streamed, AreSoundAt};
 ghost use Rattle.pg_stream.specs.Inside.Told.{told_of};
 ghost use Rattle.pg_stream.specs.Printing.{frame_of};
-ghost use Rattle.pg_stream.specs.Streams.{held_text, HeldFits, after_push, rows_left, AppendsIf, PrintsRows, PrintsResults};
+ghost use Rattle.pg_stream.specs.Streams.{held_text, HeldFits, after_push, rows_left, AppendsIf, PrintsRows, PrintsResults, PrintsRun, PrintsResultsRun};
 
 use crate::drawing::Drawn;
 use crate::fault::{RowsFault, StreamFault};
@@ -104,7 +105,8 @@ impl<S: AsStr + Drop, A: Allocator, V: Allocator> HeldRows<S, A, V> {
         requires sound { AreSoundAt T.told frame.now self }
         requires can { I.can_next rows }
         requires ends { IsFinite (I.remaining rows) }
-        ensures { (texts : List (List Text)) → AlwaysGives (λ x y. map S.text x.items ≡ y) I.next_gives rows texts → PrintsRows (streamed S.text T.told self).before (rows_left (streamed S.text T.told self) texts) buf.old buf.new result }
+        ensures prints { (texts : List (List Text)) → AlwaysGives (λ x y. map S.text x.items ≡ y) I.next_gives rows texts → PrintsRows (streamed S.text T.told self).before (rows_left (streamed S.text T.told self) texts) buf.old buf.new result }
+        ensures runs { SomeRun I.next_gives rows (λ run. PrintsRun run.whole (streamed S.text T.told self).before (rows_left (streamed S.text T.told self) (map (λ row. map S.text row.items) run.items)) buf.old buf.new result) }
     {
         let mut room = [0; SEPARATOR_ROOM];
         let mut kept = SeparatorKeeper::new(&mut room);
@@ -134,7 +136,8 @@ impl<S: AsStr + Drop, A: Allocator, V: Allocator> HeldRows<S, A, V> {
         requires sound { AreSoundAt T.told frame.now self }
         requires can { I.can_next rows }
         requires ends { IsFinite (I.remaining rows) }
-        ensures { (items : List (Result (List Text) E)) → AlwaysGives (λ x y. result_map_both (λ row. map S.text row.items) (λ error. error) x ≡ y) I.next_gives rows items → PrintsResults (streamed S.text T.told self) items buf.old buf.new result }
+        ensures prints { (items : List (Result (List Text) E)) → AlwaysGives (λ x y. result_map_both (λ row. map S.text row.items) (λ error. error) x ≡ y) I.next_gives rows items → PrintsResults (streamed S.text T.told self) items buf.old buf.new result }
+        ensures runs { SomeRun I.next_gives rows (λ run. PrintsResultsRun run.whole (streamed S.text T.told self) (map (λ item. result_map_both (λ row. map S.text row.items) (λ error. error) item) run.items) buf.old buf.new result) }
     {
         let mut room = [0; SEPARATOR_ROOM];
         let mut kept = SeparatorKeeper::new(&mut room);

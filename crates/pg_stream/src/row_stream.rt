@@ -2,6 +2,7 @@
 
 ghost use Rattle.std.specs.Prelude.{◌≡◌, ◌≢◌, ◌++◌, ◌↔◌, ℕ, [], List, false, map, Some, None, IfOk, OnOk, Result, Err, string_bytes};
 ghost use Rattle.std.specs.Iterator.{IsFinite};
+ghost use Rattle.std.specs.Iterator.Runs.{SomeRun};
 ghost use Rattle.std.specs.Result.{result_map_both};
 ghost use Rattle.pg_layout.specs.Records.{AlwaysGives, Becomes};
 ghost use Rattle.pg_layout.specs.Text.{Text};
@@ -9,7 +10,7 @@ ghost use Rattle.pg_picture.specs.Appending.{AppendsOrNothing};
 ghost use Rattle.pg_picture.specs.declared.fits.Misfit.{Misfit};
 ghost use Rattle.pg_stream.specs.Conditions.{PrinterFits, printer_misfit};
 ghost use Rattle.pg_stream.specs.Printing.{printer, rows_text};
-ghost use Rattle.pg_stream.specs.Streams.{streaming, held_text, HeldFits, after_push, rows_left, AppendsIf, PrintsRows, PrintsResults};
+ghost use Rattle.pg_stream.specs.Streams.{streaming, held_text, HeldFits, after_push, rows_left, AppendsIf, PrintsRows, PrintsResults, PrintsRun, PrintsResultsRun};
 ghost use Rattle.pg_stream.specs.declared.fault.StreamFault.{StreamFault};
 
 use crate::fault::{RowsFault, StreamFault};
@@ -201,7 +202,8 @@ impl<
     ///
     /// It stops at the first row that doesn't fit: the rows above that one stand whole, and it is named
     /// by its number (`StreamFault::Row`). Where memory is refused, a beginning of their text stands, or
-    /// of that of all rows where all fit.
+    /// of that of all rows where all fit. So it is whatever the iterator gives, also where that isn't
+    /// known before.
     ///
     /// The iterator may be asked, and ends: those over arrays and vectors do. [`RowStream::print_vec`]
     /// asks nothing.
@@ -216,7 +218,8 @@ impl<
     ) -> Result<(), StreamFault>
         requires can { I.can_next rows }
         requires ends { IsFinite (I.remaining rows) }
-        ensures { (texts : List (List Text)) → AlwaysGives (λ x y. map S.text x.items ≡ y) I.next_gives rows texts → PrintsRows (streaming D.width D.height C.color self.entry).before (rows_left (streaming D.width D.height C.color self.entry) texts) buf.old buf.new result }
+        ensures prints { (texts : List (List Text)) → AlwaysGives (λ x y. map S.text x.items ≡ y) I.next_gives rows texts → PrintsRows (streaming D.width D.height C.color self.entry).before (rows_left (streaming D.width D.height C.color self.entry) texts) buf.old buf.new result }
+        ensures runs { SomeRun I.next_gives rows (λ run. PrintsRun run.whole (streaming D.width D.height C.color self.entry).before (rows_left (streaming D.width D.height C.color self.entry) (map (λ row. map S.text row.items) run.items)) buf.old buf.new result) }
     {
         let RowStream {
             frame,
@@ -243,8 +246,8 @@ impl<
     /// At an error it answers `RowsFault::Source`. The rows before it stand whole, but for the latest:
     /// it isn't known whether that is the last, so it is neither tested nor printed.
     ///
-    /// The iterator may be asked, and ends: those over arrays and vectors do. [`RowStream::print_vec`]
-    /// takes rows that are no errors, and asks nothing.
+    /// The iterator may be asked, and ends: those over arrays, vectors and the lines of a reader do.
+    /// [`RowStream::print_vec`] takes rows that are no errors, and asks nothing.
     ///
     /// ```rust
     /// stream.print_results(reader.lines(alloc).map(|line| cells_of(alloc, line)), &mut buf)?;
@@ -256,7 +259,8 @@ impl<
     ) -> Result<(), RowsFault<E>>
         requires can { I.can_next rows }
         requires ends { IsFinite (I.remaining rows) }
-        ensures { (items : List (Result (List Text) E)) → AlwaysGives (λ x y. result_map_both (λ row. map S.text row.items) (λ error. error) x ≡ y) I.next_gives rows items → PrintsResults (streaming D.width D.height C.color self.entry) items buf.old buf.new result }
+        ensures prints { (items : List (Result (List Text) E)) → AlwaysGives (λ x y. result_map_both (λ row. map S.text row.items) (λ error. error) x ≡ y) I.next_gives rows items → PrintsResults (streaming D.width D.height C.color self.entry) items buf.old buf.new result }
+        ensures runs { SomeRun I.next_gives rows (λ run. PrintsResultsRun run.whole (streaming D.width D.height C.color self.entry) (map (λ item. result_map_both (λ row. map S.text row.items) (λ error. error) item) run.items) buf.old buf.new result) }
     {
         let RowStream {
             frame,

@@ -5,7 +5,7 @@ use crate::same::assert_same;
 use crate::settings::{Setting, tell_all};
 use pg_config::SpannedConfig;
 use pg_layout::{EvenDimension, NoColors};
-use pg_stream::{RowFault, RowPrinter, RowStream, StreamFault, printer_fits};
+use pg_stream::{RowPrinter, RowStream, StreamFault, printer_fits};
 use pg_testing::refusing::Refusing;
 use std::alloc::{Allocator, Global};
 use std::process::Abort;
@@ -64,11 +64,8 @@ fn print_first<W: Allocator>(
     )?;
     let cells = vec![in memory; "a", "b"]?;
     memory.refuse_only(k);
-    match printer.try_row(cells, false, buf) {
-        Ok(_) => Ok(()),
-        Err(RowFault::Misfit(printer)) => Err(StreamFault::Row(printer.rows())),
-        Err(RowFault::Memory) => Err(StreamFault::Memory),
-    }
+    printer.try_row(cells, false, buf)?;
+    Ok(())
 }
 
 // Works behind `log:` where the request of this number is refused: the slots', a row's or the buffer's.

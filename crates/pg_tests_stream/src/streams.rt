@@ -6,7 +6,7 @@ use crate::settings::{Setting, framed, tell_all};
 use pg_config::SpannedConfig;
 use pg_layout::{EvenDimension, NoColors, Position};
 use pg_picture::fits::Misfit;
-use pg_stream::{RowStream, RowsFault, StreamFault, printer_fits};
+use pg_stream::{RowFault, RowStream, RowsFault, StreamFault, printer_fits};
 use std::alloc::Global;
 use std::process::Abort;
 use std::test::Fail;
@@ -186,8 +186,11 @@ fn why_rows_are_not_printed_is_told_in_words(rt: HostRuntime) -> Result<(), Fail
     let alloc = rt.alloc();
     let found: RowsFault<u8> = StreamFault::Row(3).into();
     let came: RowsFault<u8> = RowsFault::Source(7);
-    let told = format!(in alloc; "{found}, {came}")?;
-    assert_same(&rt, told.as_str(), "row 3 does not fit, 7");
+    let back: RowFault<u8> = RowFault::Misfit(0);
+    let refused: RowFault<u8> = RowFault::Memory;
+    let told = format!(in alloc; "{found}, {came}, {back}, {refused}")?;
+    let wanted = "row 3 does not fit, 7, the row does not fit, out of memory";
+    assert_same(&rt, told.as_str(), wanted);
     Ok(())
 }
 

@@ -3,6 +3,7 @@ use Rattle.std.proofs.lemmas.Result.{err_from_is_err_and}
 use Rattle.pg_stream.specs.Inside.Held.{streamed}
 use Rattle.pg_stream.specs.Streams.{Streaming}
 use Rattle.pg_stream.proofs.StreamedRows.{none-pushed, pushed-next, pushed-stops, pushed-ends}
+use Rattle.pg_stream.proofs.StreamedRuns.{none-behind, run-goes, run-stops, run-ends}
 use Rattle.pg_stream.proofs.held_rows.HeldRows.push_all.Goals as goal
 
 pub loop-row-init : goal.loop-row-init
@@ -13,6 +14,7 @@ loop-row-init g c =
       λ texts left. none-pushed (Unit {0}) (λ x. map g.S.AsStr.text x.items) g.I.Iterator.next_gives c.args.buf.now c.args.rows (streamed g.S.AsStr.text g.T.Drawn.told c.args.self) texts left,
       c.requires.sound,
       tt,
+      none-behind c.args.buf.now (streamed g.S.AsStr.text g.T.Drawn.told c.args.self),
     )
 
 pub loop-row-preserved : goal.loop-row-preserved
@@ -26,17 +28,31 @@ loop-row-preserved g c =
       λ texts left. pushed-next (Unit {0}) (λ x. map g.S.AsStr.text x.items) g.I.Iterator.next_gives now next began texts c.in-Some.row (c.loop-row.invariant.2 texts left) c.in-Some.ensures.steps c.in_ok-push.ensures.prints c.in_ok-push.ensures.after,
       c.in_ok-push.ensures.sound,
       c.in_ok-push.ensures.kept,
+      run-goes (Unit {0}) (λ x. map g.S.AsStr.text x.items) g.I.Iterator.next_gives c.loop-row.yielded now next began c.in-Some.row c.loop-row.invariant.5 c.in_ok-push.ensures.prints c.in_ok-push.ensures.after,
     )
 
-pub returns-in_err-push : goal.returns-in_err-push
-returns-in_err-push g c =
+pub returns-in_err-push-clause-prints : goal.returns-in_err-push-clause-prints
+returns-in_err-push-clause-prints g c =
     let p = err_from_is_err_and c.from_residual.result c.from_residual.ensures.1 in
     let now : Streaming = streamed g.S.AsStr.text g.T.Drawn.told c.loop-row.self in
     let began : Streaming = streamed g.S.AsStr.text g.T.Drawn.told c.args.self in
     rw (p.1, p.2) (λ texts left. pushed-stops (Unit {0}) (λ x. map g.S.AsStr.text x.items) g.I.Iterator.next_gives now began texts c.in_err-push.field-0.0 c.in-Some.row (c.loop-row.invariant.2 texts left) c.in-Some.ensures.steps c.in_err-push.ensures.prints)
 
-pub returns : goal.returns
-returns g c =
+pub returns-in_err-push-clause-runs : goal.returns-in_err-push-clause-runs
+returns-in_err-push-clause-runs g c =
+    let p = err_from_is_err_and c.from_residual.result c.from_residual.ensures.1 in
+    let now : Streaming = streamed g.S.AsStr.text g.T.Drawn.told c.loop-row.self in
+    let began : Streaming = streamed g.S.AsStr.text g.T.Drawn.told c.args.self in
+    rw (p.1, p.2) (run-stops (Unit {0}) (λ x. map g.S.AsStr.text x.items) g.I.Iterator.next_gives c.loop-row.yielded now began c.in_err-push.field-0.0 c.in-Some.row c.loop-row.yielded_by c.loop-row.invariant.5 c.in-Some.ensures.steps c.in_err-push.ensures.prints)
+
+pub returns-clause-prints : goal.returns-clause-prints
+returns-clause-prints g c =
     let now : Streaming = streamed g.S.AsStr.text g.T.Drawn.told c.loop-row.self in
     let began : Streaming = streamed g.S.AsStr.text g.T.Drawn.told c.args.self in
     λ texts left. pushed-ends (Unit {0}) (λ x. map g.S.AsStr.text x.items) g.I.Iterator.next_gives now began texts c.finish.result (c.loop-row.invariant.2 texts left) c.in-None.ensures.steps c.finish.ensures
+
+pub returns-clause-runs : goal.returns-clause-runs
+returns-clause-runs g c =
+    let now : Streaming = streamed g.S.AsStr.text g.T.Drawn.told c.loop-row.self in
+    let began : Streaming = streamed g.S.AsStr.text g.T.Drawn.told c.args.self in
+    run-ends (Unit {0}) (λ x. map g.S.AsStr.text x.items) g.I.Iterator.next_gives c.loop-row.yielded now began c.finish.result c.loop-row.yielded_by c.loop-row.invariant.5 c.in-None.ensures.steps c.finish.ensures

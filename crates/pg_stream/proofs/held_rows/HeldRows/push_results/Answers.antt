@@ -6,6 +6,7 @@ use Rattle.pg_stream.specs.Inside.Held.{streamed}
 use Rattle.pg_stream.specs.Streams.{Streaming}
 use Rattle.pg_stream.specs.declared.fault.RowsFault.{RowsFault}
 use Rattle.pg_stream.proofs.StreamedResults.{none-streamed, item-taken, streamed-next, streamed-stops, streamed-fails, streamed-ends}
+use Rattle.pg_stream.proofs.StreamedRuns.{no-items, results-go-on, results-stop, results-fail, results-end-ok, results-end-err}
 use Rattle.pg_stream.proofs.held_rows.HeldRows.push_results.Goals as goal
 
 pub loop-row-init : goal.loop-row-init
@@ -16,10 +17,11 @@ loop-row-init g c =
       λ items left. none-streamed (Unit {0}) (λ x. result_map_both (λ row. map g.S.AsStr.text row.items) (λ error. error) x) g.I.Iterator.next_gives c.args.buf.now c.args.rows (streamed g.S.AsStr.text g.T.Drawn.told c.args.self) items left,
       c.requires.sound,
       tt,
+      no-items c.args.buf.now (streamed g.S.AsStr.text g.T.Drawn.told c.args.self),
     )
 
-pub returns-in-Err : goal.returns-in-Err
-returns-in-Err g c =
+pub returns-in-Err-clause-prints : goal.returns-in-Err-clause-prints
+returns-in-Err-clause-prints g c =
     let now : Streaming = streamed g.S.AsStr.text g.T.Drawn.told c.loop-row.self in
     let began : Streaming = streamed g.S.AsStr.text g.T.Drawn.told c.args.self in
     let view : Result _ g.row.E.Denot → Result (List Text) g.row.E.Denot = λ x. result_map_both (λ row. map g.S.AsStr.text row.items) (λ error. error) x in
@@ -27,8 +29,15 @@ returns-in-Err g c =
     streamed-fails (Unit {0}) view g.I.Iterator.next_gives now began items c.in-Err.error
     (item-taken (Unit {0}) view g.I.Iterator.next_gives now began items c.in-Some.row (Err c.in-Err.error) (c.loop-row.invariant.2 items left) c.in-Some.ensures.steps (ap view c.in-Err.is))
 
-pub returns-in_err-push : goal.returns-in_err-push
-returns-in_err-push g c =
+pub returns-in-Err-clause-runs : goal.returns-in-Err-clause-runs
+returns-in-Err-clause-runs g c =
+    let now : Streaming = streamed g.S.AsStr.text g.T.Drawn.told c.loop-row.self in
+    let began : Streaming = streamed g.S.AsStr.text g.T.Drawn.told c.args.self in
+    let view : Result _ g.row.E.Denot → Result (List Text) g.row.E.Denot = λ x. result_map_both (λ row. map g.S.AsStr.text row.items) (λ error. error) x in
+    results-fail (Unit {0}) view g.I.Iterator.next_gives c.loop-row.yielded now began c.in-Err.error c.in-Some.row c.loop-row.yielded_by c.loop-row.invariant.5 c.in-Some.ensures.steps (ap view c.in-Err.is)
+
+pub returns-in_err-push-clause-prints : goal.returns-in_err-push-clause-prints
+returns-in_err-push-clause-prints g c =
     let p = err_from_is_err_and c.from_residual.result c.from_residual.ensures.1 in
     let now : Streaming = streamed g.S.AsStr.text g.T.Drawn.told c.loop-row.self in
     let began : Streaming = streamed g.S.AsStr.text g.T.Drawn.told c.args.self in
@@ -37,6 +46,15 @@ returns-in_err-push g c =
     rw (p.1, p.2) (λ items left.
     streamed-stops (Unit {0}) view g.I.Iterator.next_gives now began items c.in_err-push.field-0.0 cells
     (item-taken (Unit {0}) view g.I.Iterator.next_gives now began items c.in-Some.row (Ok cells) (c.loop-row.invariant.2 items left) c.in-Some.ensures.steps (ap view c.in-Ok.is)) c.in_err-push.ensures.prints)
+
+pub returns-in_err-push-clause-runs : goal.returns-in_err-push-clause-runs
+returns-in_err-push-clause-runs g c =
+    let p = err_from_is_err_and c.from_residual.result c.from_residual.ensures.1 in
+    let now : Streaming = streamed g.S.AsStr.text g.T.Drawn.told c.loop-row.self in
+    let began : Streaming = streamed g.S.AsStr.text g.T.Drawn.told c.args.self in
+    let view : Result _ g.row.E.Denot → Result (List Text) g.row.E.Denot = λ x. result_map_both (λ row. map g.S.AsStr.text row.items) (λ error. error) x in
+    let cells : List Text = map g.S.AsStr.text c.in-Ok.cells.items in
+    rw (p.1, p.2) (results-stop (Unit {0}) view g.I.Iterator.next_gives c.loop-row.yielded now began c.in_err-push.field-0.0 c.in-Some.row cells c.loop-row.yielded_by c.loop-row.invariant.5 c.in-Some.ensures.steps (ap view c.in-Ok.is) c.in_err-push.ensures.prints)
 
 pub loop-row-preserved : goal.loop-row-preserved
 loop-row-preserved g c =
@@ -53,10 +71,11 @@ loop-row-preserved g c =
           (item-taken (Unit {0}) view g.I.Iterator.next_gives now began items c.in-Some.row (Ok cells) (c.loop-row.invariant.2 items left) c.in-Some.ensures.steps (ap view c.in-Ok.is)) c.in_ok-push.ensures.prints c.in_ok-push.ensures.after,
       c.in_ok-push.ensures.sound,
       c.in_ok-push.ensures.kept,
+      results-go-on (Unit {0}) view g.I.Iterator.next_gives c.loop-row.yielded now next began c.in-Some.row cells c.loop-row.invariant.5 (ap view c.in-Ok.is) c.in_ok-push.ensures.prints c.in_ok-push.ensures.after,
     )
 
-pub returns-in_err-finish : goal.returns-in_err-finish
-returns-in_err-finish g c =
+pub returns-in_err-finish-clause-prints : goal.returns-in_err-finish-clause-prints
+returns-in_err-finish-clause-prints g c =
     let p = err_from_is_err_and c.from_residual-in_err-finish.result c.from_residual-in_err-finish.ensures.1 in
     let now : Streaming = streamed g.S.AsStr.text g.T.Drawn.told c.loop-row.self in
     let began : Streaming = streamed g.S.AsStr.text g.T.Drawn.told c.args.self in
@@ -64,9 +83,24 @@ returns-in_err-finish g c =
     rw (p.1, p.2) (λ items left.
     streamed-ends (Unit {0}) view g.I.Iterator.next_gives c.finish.new.buf now began items (Err (RowsFault.Stream c.in_err-finish.field-0.0)) (c.loop-row.invariant.2 items left) c.in-None.ensures.steps c.in_err-finish.ensures)
 
-pub returns : goal.returns
-returns g c =
+pub returns-in_err-finish-clause-runs : goal.returns-in_err-finish-clause-runs
+returns-in_err-finish-clause-runs g c =
+    let p = err_from_is_err_and c.from_residual-in_err-finish.result c.from_residual-in_err-finish.ensures.1 in
+    let now : Streaming = streamed g.S.AsStr.text g.T.Drawn.told c.loop-row.self in
+    let began : Streaming = streamed g.S.AsStr.text g.T.Drawn.told c.args.self in
+    let view : Result _ g.row.E.Denot → Result (List Text) g.row.E.Denot = λ x. result_map_both (λ row. map g.S.AsStr.text row.items) (λ error. error) x in
+    rw (p.1, p.2) (results-end-err (Unit {0}) view g.I.Iterator.next_gives c.loop-row.yielded now began c.in_err-finish.field-0.0 c.loop-row.yielded_by c.loop-row.invariant.5 c.in-None.ensures.steps c.in_err-finish.ensures)
+
+pub returns-clause-prints : goal.returns-clause-prints
+returns-clause-prints g c =
     let now : Streaming = streamed g.S.AsStr.text g.T.Drawn.told c.loop-row.self in
     let began : Streaming = streamed g.S.AsStr.text g.T.Drawn.told c.args.self in
     let view : Result _ g.row.E.Denot → Result (List Text) g.row.E.Denot = λ x. result_map_both (λ row. map g.S.AsStr.text row.items) (λ error. error) x in
     λ items left. streamed-ends (Unit {0}) view g.I.Iterator.next_gives c.finish.new.buf now began items (Ok tt) (c.loop-row.invariant.2 items left) c.in-None.ensures.steps (refl, c.in_ok-finish.ensures)
+
+pub returns-clause-runs : goal.returns-clause-runs
+returns-clause-runs g c =
+    let now : Streaming = streamed g.S.AsStr.text g.T.Drawn.told c.loop-row.self in
+    let began : Streaming = streamed g.S.AsStr.text g.T.Drawn.told c.args.self in
+    let view : Result _ g.row.E.Denot → Result (List Text) g.row.E.Denot = λ x. result_map_both (λ row. map g.S.AsStr.text row.items) (λ error. error) x in
+    results-end-ok (Unit {0}) view g.I.Iterator.next_gives c.loop-row.yielded now began tt c.loop-row.yielded_by c.loop-row.invariant.5 c.in-None.ensures.steps c.in_ok-finish.ensures

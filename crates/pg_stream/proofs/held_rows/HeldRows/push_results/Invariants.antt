@@ -7,6 +7,7 @@ use Rattle.pg_stream.specs.Inside.Held.{streamed, AreSoundAt}
 use Rattle.pg_stream.specs.Printing.{frame_of}
 use Rattle.pg_stream.specs.Streams.{Streaming}
 use Rattle.pg_stream.proofs.StreamedResults.{Streamed}
+use Rattle.pg_stream.proofs.StreamedRuns.{RowsBehind}
 use Rattle.pg_stream.proofs.held_rows.HeldRows.push_results.Given as goal
 
 -- what the rows that are left append is what all append; and the separator that is kept is the table's
@@ -20,4 +21,5 @@ invariant-loop-row g l =
     → AlwaysGives (λ x y. result_map_both (λ row. map g.S.AsStr.text row.items) (λ error. error) x ≡ y) g.I.Iterator.next_gives l.fn.rows items
     → Streamed (Unit {0}) (λ x. result_map_both (λ row. map g.S.AsStr.text row.items) (λ error. error) x) g.I.Iterator.next_gives l.fn.buf l.buf l.row-iterator now began items) ×
     AreSoundAt g.T.Drawn.told l.frame l.self ×
-    IfSome l.kept.text (IsSeparator (frame_of g.T.Drawn.told))
+    IfSome l.kept.text (IsSeparator (frame_of g.T.Drawn.told)) ×
+    RowsBehind l.fn.buf l.buf now began (map (λ x. result_map_both (λ row. map g.S.AsStr.text row.items) (λ error. error) x) l.yielded)

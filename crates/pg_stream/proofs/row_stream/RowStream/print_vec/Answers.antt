@@ -8,7 +8,7 @@ use Rattle.pg_stream.proofs.row_stream.RowStream.print_vec.Goals as goal
 pub returns-clause-prints : goal.returns-clause-prints
 returns-clause-prints g c =
     let len : into_iter_len c.into_iter.result ≡ length c.args.rows.items = omega (arith, c.into_iter.ensures.len, c.args.rows.ok) in
-    c.print_all.ensures (map (λ row. map g.S.AsStr.text row.items) c.args.rows.items)
+    c.print_all.ensures.prints (map (λ row. map g.S.AsStr.text row.items) c.args.rows.items)
     (given-items _ (λ row. map g.S.AsStr.text row.items) (λ x y. map g.S.AsStr.text x.items ≡ y) (λ x. refl) (YieldsList-from_vec c.args.rows.items c.into_iter.ensures.rest len))
 
 pub returns-clause-appends : goal.returns-clause-appends
