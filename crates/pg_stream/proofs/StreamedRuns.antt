@@ -1,4 +1,5 @@
 -- Rows that a run of an iterator gave, and how what a stream appends follows from them, whatever else the iterator may give.
+-- The calls answer no value.
 use Rattle.std.proofs.Common.{◌≡◌, Bool, true, false, true≢false, List, [], ◌∷◌, ◌++◌, map, Option, Some, None, is_none, refl, sym, ap, ◌∙◌, subst, append_assoc, append-nil}
 use Rattle.std.proofs.lemmas.List.{map-append}
 use Rattle.std.proofs.iter.runs.Made.{run, to_item, to_end}
@@ -17,8 +18,8 @@ use Rattle.pg_stream.proofs.StreamedRows.{push-goes, push-goes-but-latest, push-
 module _ {Z : Type 0} where
   -- What rows behind these append is what all append: `began` is the stream before them, and `s` the one that holds the latest.
   pub record AllBehind (old now : String Z) (s began : Streaming) (rows : List (List Text)) : Type 0 where
-    pub all : {U : Type 0} (more : List (List Text)) (new : String Z) (r : Result U StreamFault) → PrintsRows s.before (rows_left s more) now new r → PrintsRows began.before (rows_left began (rows ++ more)) old new r
-    pub but-latest : {U : Type 0} (more : List (List Text)) (new : String Z) (r : Result U StreamFault) → PrintsButLatest s.before (rows_left s more) now new r → PrintsButLatest began.before (rows_left began (rows ++ more)) old new r
+    pub all : (more : List (List Text)) (new : String Z) (r : Result (Unit {0}) StreamFault) → PrintsRows s.before (rows_left s more) now new r → PrintsRows began.before (rows_left began (rows ++ more)) old new r
+    pub but-latest : (more : List (List Text)) (new : String Z) (r : Result (Unit {0}) StreamFault) → PrintsButLatest s.before (rows_left s more) now new r → PrintsButLatest began.before (rows_left began (rows ++ more)) old new r
 
   pub none-behind : (old : String Z) (s : Streaming) → AllBehind old old s s []
   none-behind old s = record { all = λ more new r p. p; but-latest = λ more new r p. p }
@@ -26,50 +27,50 @@ module _ {Z : Type 0} where
   pub one-more : {V : Type 0} {old now after : String Z} {value : V} (s q began : Streaming) (rows : List (List Text)) (x : List Text) → AllBehind old now s began rows
       → AppendsIf (HeldFits s) s.before.rows (held_text s) now after (Ok value) → q ≡ after_push s x → AllBehind old after q began (rows ++ x ∷ [])
   one-more {old} {after} {value} s q began rows x p appends is = record {
-    all = λ {U} more new r done.
-        subst (λ (l : List (List Text)). PrintsRows {U = U} began.before (rows_left began l) old new r) (sym (append_assoc rows (x ∷ []) more))
-        (p.all (x ∷ more) new r (push-goes r value s.before s.held x more appends (subst (λ (t : Streaming). PrintsRows {U = U} t.before (rows_left t more) after new r) is done)));
-    but-latest = λ {U} more new r done.
-        subst (λ (l : List (List Text)). PrintsButLatest {U = U} began.before (rows_left began l) old new r) (sym (append_assoc rows (x ∷ []) more))
-        (p.but-latest (x ∷ more) new r (push-goes-but-latest r value s.before s.held x more appends (subst (λ (t : Streaming). PrintsButLatest {U = U} t.before (rows_left t more) after new r) is done)));
+    all = λ more new r done.
+        subst (λ (l : List (List Text)). PrintsRows {U = Unit {0}} began.before (rows_left began l) old new r) (sym (append_assoc rows (x ∷ []) more))
+        (p.all (x ∷ more) new r (push-goes r value s.before s.held x more appends (subst (λ (t : Streaming). PrintsRows {U = Unit {0}} t.before (rows_left t more) after new r) is done)));
+    but-latest = λ more new r done.
+        subst (λ (l : List (List Text)). PrintsButLatest {U = Unit {0}} began.before (rows_left began l) old new r) (sym (append_assoc rows (x ∷ []) more))
+        (p.but-latest (x ∷ more) new r (push-goes-but-latest r value s.before s.held x more appends (subst (λ (t : Streaming). PrintsButLatest {U = Unit {0}} t.before (rows_left t more) after new r) is done)));
   }
 
   -- the row before the latest wasn't printed
-  stopped-behind : {U V : Type 0} {old now new : String Z} (s began : Streaming) (rows : List (List Text)) (x : List Text) (fault : StreamFault) → AllBehind old now s began rows
-      → AppendsIf {U = V} (HeldFits s) s.before.rows (held_text s) now new (Err fault) → PrintsButLatest {U = U} began.before (rows_left began (rows ++ x ∷ [])) old new (Err fault)
+  stopped-behind : {V : Type 0} {old now new : String Z} (s began : Streaming) (rows : List (List Text)) (x : List Text) (fault : StreamFault) → AllBehind old now s began rows
+      → AppendsIf {U = V} (HeldFits s) s.before.rows (held_text s) now new (Err fault) → PrintsButLatest {U = Unit {0}} began.before (rows_left began (rows ++ x ∷ [])) old new (Err fault)
   stopped-behind {new} s began rows x fault p appends = p.but-latest (x ∷ []) new (Err fault) (push-stops-but-latest fault s.before s.held x [] appends)
 
   -- no row came behind the latest
-  ended-behind : {U : Type 0} {old now new : String Z} (s began : Streaming) (rows : List (List Text)) (r : Result U StreamFault) → AllBehind old now s began rows
+  ended-behind : {old now new : String Z} (s began : Streaming) (rows : List (List Text)) (r : Result (Unit {0}) StreamFault) → AllBehind old now s began rows
       → PrintsRows s.before (rows_left s []) now new r → PrintsRows began.before (rows_left began rows) old new r
-  ended-behind {U} {old} {new} s began rows r p done = subst (λ (l : List (List Text)). PrintsRows {U = U} began.before (rows_left began l) old new r) (append-nil rows) (p.all [] new r done)
+  ended-behind {old} {new} s began rows r p done = subst (λ (l : List (List Text)). PrintsRows {U = Unit {0}} began.before (rows_left began l) old new r) (append-nil rows) (p.all [] new r done)
 
 -- ---- a run of rows
 
-module _ {I A Z : Type 0} (U : Type 0) (view : A → List Text) (steps : I → Option A → I → Type 0) where
+module _ {I A Z : Type 0} (view : A → List Text) (steps : I → Option A → I → Type 0) where
   pub run-goes : {V : Type 0} {old now after : String Z} {value : V} (items : List A) (s q began : Streaming) (x : A) → AllBehind old now s began (map view items)
       → AppendsIf (HeldFits s) s.before.rows (held_text s) now after (Ok value) → q ≡ after_push s (view x) → AllBehind old after q began (map view (items ++ x ∷ []))
   run-goes items s q began x p appends is = rw (map-append view items (x ∷ [])) (one-more s q began (map view items) (view x) p appends is)
 
   pub run-stops : {V : Type 0} {old now new : String Z} {rows at later : I} (items : List A) (s began : Streaming) (fault : StreamFault) (x : A) → Yields steps rows items at → AllBehind old now s began (map view items)
       → steps at (Some x) later → AppendsIf {U = V} (HeldFits s) s.before.rows (held_text s) now new (Err fault)
-      → SomeRun steps rows (λ done. PrintsRun {U = U} done.whole began.before (rows_left began (map view done.items)) old new (Err fault))
+      → SomeRun steps rows (λ done. PrintsRun {U = Unit {0}} done.whole began.before (rows_left began (map view done.items)) old new (Err fault))
   run-stops {old} {new} {rows} {at} {later} items s began fault x ran p step appends = (
     run steps rows (items ++ x ∷ []) false (to_item steps rows later items x (at, ran, step)),
     refl,
-    (tt, subst (λ (l : List (List Text)). PrintsButLatest {U = U} began.before (rows_left began l) old new (Err fault)) (sym (map-append view items (x ∷ []))) (stopped-behind s began (map view items) (view x) fault p appends)),
+    (refl, subst (λ (l : List (List Text)). PrintsButLatest {U = Unit {0}} began.before (rows_left began l) old new (Err fault)) (sym (map-append view items (x ∷ []))) (stopped-behind s began (map view items) (view x) fault p appends)),
   )
 
-  pub run-ends : {old now new : String Z} {rows at later : I} (items : List A) (s began : Streaming) (r : Result U StreamFault) → Yields steps rows items at → AllBehind old now s began (map view items)
+  pub run-ends : {old now new : String Z} {rows at later : I} (items : List A) (s began : Streaming) (r : Result (Unit {0}) StreamFault) → Yields steps rows items at → AllBehind old now s began (map view items)
       → steps at None later → PrintsRows s.before (rows_left s []) now new r → SomeRun steps rows (λ done. PrintsRun done.whole began.before (rows_left began (map view done.items)) old new r)
   run-ends {rows} {at} {later} items s began r ran p step done = (run steps rows items true (to_end steps rows items (later, (at, ran, step))), refl, ended-behind s began (map view items) r p done)
 
 -- ---- items that may be errors, none of which is one yet
 
-module _ {A E : Type 0} where
-  some-error : {B : Type 0} (error : E) → Some error ≡ None → B
-  some-error error is = absurd (true≢false (sym (ap (λ (o : Option E). is_none o) is)))
+some-error : {E B : Type 0} (error : E) → Some error ≡ None → B
+some-error {E} error is = absurd (true≢false (sym (ap (λ (o : Option E). is_none o) is)))
 
+module _ {A E : Type 0} where
   none-more : (items : List (Result A E)) (next : A) → first_error items ≡ None → first_error (items ++ Ok next ∷ []) ≡ None
   none-more [] next none = refl
   none-more (Ok row ∷ items) next none = none-more items next none
@@ -100,10 +101,10 @@ no-items old s = record { none = refl; rows = none-behind old s }
 
 -- ---- a run of such items
 
-module _ {I A Z E : Type 0} (U : Type 0) (view : A → Result (List Text) E) (steps : I → Option A → I → Type 0) where
-  viewed : (items : List A) (x : A) (item : Result (List Text) E) → view x ≡ item → map view (items ++ x ∷ []) ≡ map view items ++ item ∷ []
-  viewed items x item is = map-append view items (x ∷ []) ∙ ap (λ (i : Result (List Text) E). map view items ++ i ∷ []) is
+viewed : {A B : Type 0} (view : A → B) (items : List A) (x : A) (item : B) → view x ≡ item → map view (items ++ x ∷ []) ≡ map view items ++ item ∷ []
+viewed {B} view items x item is = map-append view items (x ∷ []) ∙ ap (λ (i : B). map view items ++ i ∷ []) is
 
+module _ {I A Z E : Type 0} (view : A → Result (List Text) E) (steps : I → Option A → I → Type 0) where
   pub results-go-on : {V : Type 0} {old now after : String Z} {value : V} (items : List A) (s q began : Streaming) (x : A) (cells : List Text) → RowsBehind old now s began (map view items) → view x ≡ Ok cells
       → AppendsIf (HeldFits s) s.before.rows (held_text s) now after (Ok value) → q ≡ after_push s cells → RowsBehind old after q began (map view (items ++ x ∷ []))
   results-go-on {old} {after} items s q began x cells p is appends next =
@@ -111,52 +112,52 @@ module _ {I A Z E : Type 0} (U : Type 0) (view : A → Result (List Text) E) (st
         none = none-more (map view items) cells p.none;
         rows = rw (rows-more (map view items) cells p.none) (one-more s q began (rows_before (map view items)) cells p.rows appends next);
       } in
-      rw (viewed items x (Ok cells) is) told
+      rw (viewed view items x (Ok cells) is) told
 
   -- the row before the latest wasn't printed
   pub results-stop : {V : Type 0} {old now new : String Z} {rows at later : I} (items : List A) (s began : Streaming) (fault : StreamFault) (x : A) (cells : List Text) → Yields steps rows items at
       → RowsBehind old now s began (map view items) → steps at (Some x) later → view x ≡ Ok cells → AppendsIf {U = V} (HeldFits s) s.before.rows (held_text s) now new (Err fault)
-      → SomeRun steps rows (λ done. PrintsResultsRun {U = U} done.whole began (map view done.items) old new (Err (Stream fault)))
+      → SomeRun steps rows (λ done. PrintsResultsRun {U = Unit {0}} done.whole began (map view done.items) old new (Err (Stream fault)))
   results-stop {old} {new} {rows} {at} {later} items s began fault x cells ran p step is appends =
-      let told : PrintsResultsRun {U = U} false began (map view items ++ Ok cells ∷ []) old new (Err (Stream fault)) = (
+      let told : PrintsResultsRun {U = Unit {0}} false began (map view items ++ Ok cells ∷ []) old new (Err (Stream fault)) = (
         none-more (map view items) cells p.none,
         rw (rows-more (map view items) cells p.none) (stopped-behind s began (rows_before (map view items)) cells fault p.rows appends),
       ) in (
         run steps rows (items ++ x ∷ []) false (to_item steps rows later items x (at, ran, step)),
         refl,
-        subst (λ (l : List (Result (List Text) E)). PrintsResultsRun {U = U} false began l old new (Err (Stream fault))) (sym (viewed items x (Ok cells) is)) told,
+        subst (λ (l : List (Result (List Text) E)). PrintsResultsRun {U = Unit {0}} false began l old new (Err (Stream fault))) (sym (viewed view items x (Ok cells) is)) told,
       )
 
   -- the latest is an error
   pub results-fail : {old now : String Z} {rows at later : I} (items : List A) (s began : Streaming) (error : E) (x : A) → Yields steps rows items at
       → RowsBehind old now s began (map view items) → steps at (Some x) later → view x ≡ Err error
-      → SomeRun steps rows (λ done. PrintsResultsRun {U = U} done.whole began (map view done.items) old now (Err (Source error)))
+      → SomeRun steps rows (λ done. PrintsResultsRun {U = Unit {0}} done.whole began (map view done.items) old now (Err (Source error)))
   results-fail {old} {now} {rows} {at} {later} items s began error x ran p step is =
       let none : PrintsButLatest {U = Unit {0}} s.before (rows_left s []) now now (Ok tt) = none-left now s.before s.held tt in
       let printed : PrintsButLatest {U = Unit {0}} began.before (rows_left began (rows_before (map view items))) old now (Ok tt) =
       subst (λ (l : List (List Text)). PrintsButLatest {U = Unit {0}} began.before (rows_left began l) old now (Ok tt)) (append-nil (rows_before (map view items))) (p.rows.but-latest [] now (Ok tt) none) in
-      let told : PrintsResultsRun {U = U} false began (map view items ++ Err error ∷ []) old now (Err (Source error)) = (
+      let told : PrintsResultsRun {U = Unit {0}} false began (map view items ++ Err error ∷ []) old now (Err (Source error)) = (
         error-behind (map view items) error p.none,
         rw (rows-behind (map view items) error p.none) printed,
       ) in (
         run steps rows (items ++ x ∷ []) false (to_item steps rows later items x (at, ran, step)),
         refl,
-        subst (λ (l : List (Result (List Text) E)). PrintsResultsRun {U = U} false began l old now (Err (Source error))) (sym (viewed items x (Err error) is)) told,
+        subst (λ (l : List (Result (List Text) E)). PrintsResultsRun {U = Unit {0}} false began l old now (Err (Source error))) (sym (viewed view items x (Err error) is)) told,
       )
 
   -- no item came behind the latest
-  pub results-end-ok : {old now new : String Z} {rows at later : I} (items : List A) (s began : Streaming) (value : U) → Yields steps rows items at → RowsBehind old now s began (map view items)
-      → steps at None later → PrintsRows s.before (rows_left s []) now new (Ok value) → SomeRun steps rows (λ done. PrintsResultsRun done.whole began (map view done.items) old new (Ok value))
-  results-end-ok {rows} {at} {later} items s began value ran p step done = (
+  pub results-end-ok : {old now new : String Z} {rows at later : I} (items : List A) (s began : Streaming) → Yields steps rows items at → RowsBehind old now s began (map view items)
+      → steps at None later → PrintsRows {U = Unit {0}} s.before (rows_left s []) now new (Ok tt) → SomeRun steps rows (λ done. PrintsResultsRun {U = Unit {0}} done.whole began (map view done.items) old new (Ok tt))
+  results-end-ok {rows} {at} {later} items s began ran p step done = (
     run steps rows items true (to_end steps rows items (later, (at, ran, step))),
     refl,
-    (p.none, ended-behind s began (rows_before (map view items)) (Ok value) p.rows done),
+    (p.none, ended-behind s began (rows_before (map view items)) (Ok tt) p.rows done),
   )
 
   pub results-end-err : {old now new : String Z} {rows at later : I} (items : List A) (s began : Streaming) (fault : StreamFault) → Yields steps rows items at → RowsBehind old now s began (map view items)
-      → steps at None later → PrintsRows {U = U} s.before (rows_left s []) now new (Err fault) → SomeRun steps rows (λ done. PrintsResultsRun {U = U} done.whole began (map view done.items) old new (Err (Stream fault)))
+      → steps at None later → PrintsRows {U = Unit {0}} s.before (rows_left s []) now new (Err fault) → SomeRun steps rows (λ done. PrintsResultsRun {U = Unit {0}} done.whole began (map view done.items) old new (Err (Stream fault)))
   results-end-err {old} {new} {rows} {at} {later} items s began fault ran p step done = (
     run steps rows items true (to_end steps rows items (later, (at, ran, step))),
     refl,
-    subst (λ (e : Option E). PrintsUntil {U = U} e began.before (rows_left began (rows_before (map view items))) old new (Err fault)) (sym p.none) (ended-behind s began (rows_before (map view items)) (Err fault) p.rows done),
+    subst (λ (e : Option E). PrintsUntil {U = Unit {0}} e began.before (rows_left began (rows_before (map view items))) old new (Err fault)) (sym p.none) (ended-behind s began (rows_before (map view items)) (Err fault) p.rows done),
   )

@@ -28,7 +28,7 @@ loop-row-preserved g c =
       λ texts left. pushed-next (Unit {0}) (λ x. map g.S.AsStr.text x.items) g.I.Iterator.next_gives now next began texts c.in-Some.row (c.loop-row.invariant.2 texts left) c.in-Some.ensures.steps c.in_ok-push.ensures.prints c.in_ok-push.ensures.after,
       c.in_ok-push.ensures.sound,
       c.in_ok-push.ensures.kept,
-      run-goes (Unit {0}) (λ x. map g.S.AsStr.text x.items) g.I.Iterator.next_gives c.loop-row.yielded now next began c.in-Some.row c.loop-row.invariant.5 c.in_ok-push.ensures.prints c.in_ok-push.ensures.after,
+      run-goes (λ x. map g.S.AsStr.text x.items) g.I.Iterator.next_gives c.loop-row.yielded now next began c.in-Some.row c.loop-row.invariant.5 c.in_ok-push.ensures.prints c.in_ok-push.ensures.after,
     )
 
 pub returns-in_err-push-clause-prints : goal.returns-in_err-push-clause-prints
@@ -43,7 +43,7 @@ returns-in_err-push-clause-runs g c =
     let p = err_from_is_err_and c.from_residual.result c.from_residual.ensures.1 in
     let now : Streaming = streamed g.S.AsStr.text g.T.Drawn.told c.loop-row.self in
     let began : Streaming = streamed g.S.AsStr.text g.T.Drawn.told c.args.self in
-    rw (p.1, p.2) (run-stops (Unit {0}) (λ x. map g.S.AsStr.text x.items) g.I.Iterator.next_gives c.loop-row.yielded now began c.in_err-push.field-0.0 c.in-Some.row c.loop-row.yielded_by c.loop-row.invariant.5 c.in-Some.ensures.steps c.in_err-push.ensures.prints)
+    rw (p.1, p.2, ← c.into_iter-row-iterator.ensures.into_iter_gives) (run-stops (λ x. map g.S.AsStr.text x.items) g.I.Iterator.next_gives c.loop-row.yielded now began c.in_err-push.field-0.0 c.in-Some.row c.loop-row.yielded_by c.loop-row.invariant.5 c.in-Some.ensures.steps c.in_err-push.ensures.prints)
 
 pub returns-clause-prints : goal.returns-clause-prints
 returns-clause-prints g c =
@@ -55,4 +55,4 @@ pub returns-clause-runs : goal.returns-clause-runs
 returns-clause-runs g c =
     let now : Streaming = streamed g.S.AsStr.text g.T.Drawn.told c.loop-row.self in
     let began : Streaming = streamed g.S.AsStr.text g.T.Drawn.told c.args.self in
-    run-ends (Unit {0}) (λ x. map g.S.AsStr.text x.items) g.I.Iterator.next_gives c.loop-row.yielded now began c.finish.result c.loop-row.yielded_by c.loop-row.invariant.5 c.in-None.ensures.steps c.finish.ensures
+    rw (← c.into_iter-row-iterator.ensures.into_iter_gives) (run-ends (λ x. map g.S.AsStr.text x.items) g.I.Iterator.next_gives c.loop-row.yielded now began c.finish.result c.loop-row.yielded_by c.loop-row.invariant.5 c.in-None.ensures.steps c.finish.ensures)

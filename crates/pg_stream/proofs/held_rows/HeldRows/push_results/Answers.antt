@@ -34,7 +34,7 @@ returns-in-Err-clause-runs g c =
     let now : Streaming = streamed g.S.AsStr.text g.T.Drawn.told c.loop-row.self in
     let began : Streaming = streamed g.S.AsStr.text g.T.Drawn.told c.args.self in
     let view : Result _ g.row.E.Denot → Result (List Text) g.row.E.Denot = λ x. result_map_both (λ row. map g.S.AsStr.text row.items) (λ error. error) x in
-    results-fail (Unit {0}) view g.I.Iterator.next_gives c.loop-row.yielded now began c.in-Err.error c.in-Some.row c.loop-row.yielded_by c.loop-row.invariant.5 c.in-Some.ensures.steps (ap view c.in-Err.is)
+    rw (← c.into_iter-row-iterator.ensures.into_iter_gives) (results-fail view g.I.Iterator.next_gives c.loop-row.yielded now began c.in-Err.error c.in-Some.row c.loop-row.yielded_by c.loop-row.invariant.5 c.in-Some.ensures.steps (ap view c.in-Err.is))
 
 pub returns-in_err-push-clause-prints : goal.returns-in_err-push-clause-prints
 returns-in_err-push-clause-prints g c =
@@ -54,7 +54,7 @@ returns-in_err-push-clause-runs g c =
     let began : Streaming = streamed g.S.AsStr.text g.T.Drawn.told c.args.self in
     let view : Result _ g.row.E.Denot → Result (List Text) g.row.E.Denot = λ x. result_map_both (λ row. map g.S.AsStr.text row.items) (λ error. error) x in
     let cells : List Text = map g.S.AsStr.text c.in-Ok.cells.items in
-    rw (p.1, p.2) (results-stop (Unit {0}) view g.I.Iterator.next_gives c.loop-row.yielded now began c.in_err-push.field-0.0 c.in-Some.row cells c.loop-row.yielded_by c.loop-row.invariant.5 c.in-Some.ensures.steps (ap view c.in-Ok.is) c.in_err-push.ensures.prints)
+    rw (p.1, p.2, ← c.into_iter-row-iterator.ensures.into_iter_gives) (results-stop view g.I.Iterator.next_gives c.loop-row.yielded now began c.in_err-push.field-0.0 c.in-Some.row cells c.loop-row.yielded_by c.loop-row.invariant.5 c.in-Some.ensures.steps (ap view c.in-Ok.is) c.in_err-push.ensures.prints)
 
 pub loop-row-preserved : goal.loop-row-preserved
 loop-row-preserved g c =
@@ -71,7 +71,7 @@ loop-row-preserved g c =
           (item-taken (Unit {0}) view g.I.Iterator.next_gives now began items c.in-Some.row (Ok cells) (c.loop-row.invariant.2 items left) c.in-Some.ensures.steps (ap view c.in-Ok.is)) c.in_ok-push.ensures.prints c.in_ok-push.ensures.after,
       c.in_ok-push.ensures.sound,
       c.in_ok-push.ensures.kept,
-      results-go-on (Unit {0}) view g.I.Iterator.next_gives c.loop-row.yielded now next began c.in-Some.row cells c.loop-row.invariant.5 (ap view c.in-Ok.is) c.in_ok-push.ensures.prints c.in_ok-push.ensures.after,
+      results-go-on view g.I.Iterator.next_gives c.loop-row.yielded now next began c.in-Some.row cells c.loop-row.invariant.5 (ap view c.in-Ok.is) c.in_ok-push.ensures.prints c.in_ok-push.ensures.after,
     )
 
 pub returns-in_err-finish-clause-prints : goal.returns-in_err-finish-clause-prints
@@ -89,7 +89,7 @@ returns-in_err-finish-clause-runs g c =
     let now : Streaming = streamed g.S.AsStr.text g.T.Drawn.told c.loop-row.self in
     let began : Streaming = streamed g.S.AsStr.text g.T.Drawn.told c.args.self in
     let view : Result _ g.row.E.Denot → Result (List Text) g.row.E.Denot = λ x. result_map_both (λ row. map g.S.AsStr.text row.items) (λ error. error) x in
-    rw (p.1, p.2) (results-end-err (Unit {0}) view g.I.Iterator.next_gives c.loop-row.yielded now began c.in_err-finish.field-0.0 c.loop-row.yielded_by c.loop-row.invariant.5 c.in-None.ensures.steps c.in_err-finish.ensures)
+    rw (p.1, p.2, ← c.into_iter-row-iterator.ensures.into_iter_gives) (results-end-err view g.I.Iterator.next_gives c.loop-row.yielded now began c.in_err-finish.field-0.0 c.loop-row.yielded_by c.loop-row.invariant.5 c.in-None.ensures.steps c.in_err-finish.ensures)
 
 pub returns-clause-prints : goal.returns-clause-prints
 returns-clause-prints g c =
@@ -103,4 +103,4 @@ returns-clause-runs g c =
     let now : Streaming = streamed g.S.AsStr.text g.T.Drawn.told c.loop-row.self in
     let began : Streaming = streamed g.S.AsStr.text g.T.Drawn.told c.args.self in
     let view : Result _ g.row.E.Denot → Result (List Text) g.row.E.Denot = λ x. result_map_both (λ row. map g.S.AsStr.text row.items) (λ error. error) x in
-    results-end-ok (Unit {0}) view g.I.Iterator.next_gives c.loop-row.yielded now began tt c.loop-row.yielded_by c.loop-row.invariant.5 c.in-None.ensures.steps c.in_ok-finish.ensures
+    rw (← c.into_iter-row-iterator.ensures.into_iter_gives) (results-end-ok view g.I.Iterator.next_gives c.loop-row.yielded now began c.loop-row.yielded_by c.loop-row.invariant.5 c.in-None.ensures.steps c.in_ok-finish.ensures)
