@@ -1,8 +1,7 @@
 //! How the tests draw a table.
 
-ghost use Rattle.std.specs.Prelude.{◌≡◌};
-
 use crate::settings::{Setting, color, tell_all};
+use crate::unhinted::Unhinted;
 use pg_config::{CompactConfig, SpannedConfig};
 use pg_grid::{CompactGrid, IterGrid, PeekableGrid};
 use pg_layout::{
@@ -105,51 +104,6 @@ pub enum Grid {
     Hinted,
     /// The streaming grid, which isn't told.
     Unhinted,
-}
-
-/// Records that don't tell how many rows there are.
-#[derive(Debug, Clone, Copy, Drop)]
-pub struct Unhinted<R> {
-    records: R,
-}
-
-impl<R> Unhinted<R> {
-    /// These records, without the number of their rows.
-    pub fn new(records: R) -> Unhinted<R>
-        ensures { result.records ≡ records }
-    {
-        Unhinted { records }
-    }
-}
-
-impl<R: Records> Records for Unhinted<R> {
-    ghost use Rattle.std.specs.Prelude.{None};
-
-    type Cell = R::Cell;
-
-    type Columns = R::Columns;
-
-    type Rows = R::Rows;
-
-    ghost texts = { λ r. R.texts r.records };
-
-    ghost columns = { λ r. R.columns r.records };
-
-    ghost hint = { λ r. None };
-
-    ghost is_readable = { λ r. R.is_readable r.records };
-
-    fn iter_rows(self) -> R::Rows {
-        self.records.iter_rows()
-    }
-
-    fn count_columns(&self) -> usize {
-        self.records.count_columns()
-    }
-
-    fn hint_count_rows(&self) -> Option<usize> {
-        None
-    }
 }
 
 /// A table's parts in memory.
