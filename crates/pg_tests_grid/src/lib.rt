@@ -5,6 +5,8 @@
 #[cfg(test)]
 mod checked;
 #[cfg(test)]
+mod conditions;
+#[cfg(test)]
 mod counted;
 #[cfg(test)]
 mod given;
