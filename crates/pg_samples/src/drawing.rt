@@ -1,6 +1,6 @@
 //! How the tests draw a table.
 
-use crate::settings::{Setting, color, tell_all};
+use crate::settings::{Setting, tell_all};
 use crate::unhinted::Unhinted;
 use pg_config::{CompactConfig, SpannedConfig};
 use pg_grid::{CompactGrid, IterGrid, PeekableGrid};
@@ -106,7 +106,7 @@ pub enum Grid {
     Unhinted,
 }
 
-/// A table's parts in memory.
+/// A table's parts in memory. No cell has a colour.
 #[derive(Drop)]
 pub struct TableParts<'a> {
     pub records: VecRecords<&'a str>,
@@ -130,23 +130,12 @@ pub fn dimension(alloc: Global, sample: &Sample<'_>) -> Result<ConstantDimension
     Ok(ConstantDimension(widths, heights))
 }
 
-// The colours of the cells' texts.
-fn cell_colors(alloc: Global, settings: &[Setting]) -> Result<ColorsMap, AllocError> {
-    let mut colors = ColorsMap::new(alloc);
-    for setting in settings {
-        if let Setting::CellColor(pos, paint) = *setting {
-            colors.set(pos, color(alloc, paint)?)?;
-        }
-    }
-    Ok(colors)
-}
-
 /// The sample's parts.
 pub fn parts_of<'a>(alloc: Global, sample: &Sample<'a>) -> Result<TableParts<'a>, Fail> {
     Ok(TableParts {
         records: records(alloc, sample.texts)?,
         dimension: dimension(alloc, sample)?,
-        colors: cell_colors(alloc, sample.settings)?,
+        colors: ColorsMap::new(alloc),
     })
 }
 
