@@ -1,9 +1,12 @@
 //! What lines tell of a table.
 
+use crate::compact;
 use crate::fault::Fault;
 use crate::grid::Grid;
+use crate::misfit::misfit_told;
 use crate::report::Report;
 use pg_config::{CompactConfig, SpannedConfig};
+use pg_grid::Misfit;
 use pg_layout::{ColorsMap, ConstantDimension};
 use pg_told::{Words, tell};
 use std::alloc::{AllocError, Global};
@@ -32,6 +35,8 @@ pub(crate) struct Case<'a> {
     pub(crate) picture: Option<String>,
     /// The text with which it goes on, over and over.
     pub(crate) again: Option<&'a str>,
+    /// The misfit that stands in place of a picture.
+    pub(crate) misfit: Option<Misfit>,
 }
 
 impl<'a> Case<'a> {
@@ -49,6 +54,7 @@ impl<'a> Case<'a> {
             grids: Vec::new(alloc),
             picture: None,
             again: None,
+            misfit: None,
         }
     }
 
@@ -98,6 +104,7 @@ impl<'a> Case<'a> {
         self.grids = Vec::new(self.alloc);
         self.picture = None;
         self.again = None;
+        self.misfit = None;
     }
 
     // Takes a row.
@@ -106,17 +113,32 @@ impl<'a> Case<'a> {
         Ok(self.rows.push(texts)?)
     }
 
+    // Repeats the last row until it stands there so many times.
+    fn repeat_row(&mut self, count: &str) -> Result<(), Fault> {
+        let count = count.parse::<usize>().map_err(|_| Fault::Unknown)?;
+        for _ in 1..count {
+            let Some(row) = self.rows.last() else {
+                return Err(Fault::Unknown);
+            };
+            let texts = row.as_slice().to_vec(self.alloc)?;
+            self.rows.push(texts)?;
+        }
+        Ok(())
+    }
+
     // Follows a line that begins with a word.
     fn push_word(&mut self, line: &'a str) -> Result<(), Fault> {
         let (word, rest) = line.split_once(' ').unwrap_or((line, ""));
         match word {
+            "times" => self.repeat_row(rest)?,
             "widths" => self.dimension.0 = numbers_of(self.alloc, rest)?,
             "heights" => self.dimension.1 = numbers_of(self.alloc, rest)?,
             "=" => self.push_picture(rest)?,
             "~" => self.again = Some(rest),
+            "!" => self.misfit = Some(misfit_told(rest)?),
             "by" => self.push_grids(rest)?,
             "color" => self.set_color(rest)?,
-            "compact" => self.tell_compact(rest)?,
+            "compact" => self.compact = compact::told(self.compact, rest)?,
             _ => tell(&mut self.config, self.alloc, line)?,
         }
         Ok(())
@@ -152,16 +174,12 @@ impl<'a> Case<'a> {
         Ok(self.colors.set(pos, color)?)
     }
 
-    // Tells the configuration of the compact grid something.
-    fn tell_compact(&mut self, text: &str) -> Result<(), Fault> {
-        let mut words = Words::new(text);
-        self.compact = match words.word()? {
-            "borders" => self.compact.set_borders(words.last_borders()?),
-            "margin" => self.compact.set_margin(words.last_indents()?),
-            "padding" => self.compact.set_padding(words.last_indents()?),
-            _ => return Err(Fault::Unknown),
-        };
-        Ok(())
+    /// Whether there are rows and columns.
+    pub(crate) fn has_cells(&self) -> bool {
+        match self.rows.first() {
+            Some(row) => !row.is_empty(),
+            None => false,
+        }
     }
 
     /// A copy of the rows.

@@ -4,7 +4,7 @@ use crate::case::Case;
 use crate::fault::Fault;
 use crate::grid::{Grid, SPANNED};
 use crate::report::Report;
-use pg_grid::{CompactGrid, IterGrid, PeekableGrid, PrintFault};
+use pg_grid::{CompactGrid, IterGrid, Misfit, PeekableGrid, PrintFault};
 use pg_layout::VecRecords;
 use pg_samples::unhinted::Unhinted;
 use std::alloc::{AllocError, Allocator};
@@ -30,15 +30,22 @@ impl<'a> Case<'a> {
 
     // Draws the table by each grid.
     fn draw_by_grids(&self, report: &mut Report) -> Result<(), Fault> {
-        let Some(picture) = &self.picture else {
-            return Err(Fault::Untold);
-        };
         let records = VecRecords::new(self.copied_rows()?)?;
         for grid in self.told_grids() {
-            match self.again {
-                Some(again) => self.draw_beginnings((*grid, &records), (picture, again), report)?,
-                None => self.draw_whole((*grid, &records), picture, report)?,
+            self.draw_by((*grid, &records), report)?;
+        }
+        Ok(())
+    }
+
+    // Draws the table by a grid, as far as it is told what that gives.
+    fn draw_by(&self, drawn: Drawn<'_, 'a>, report: &mut Report) -> Result<(), Fault> {
+        match (&self.picture, self.again, self.misfit) {
+            (Some(picture), None, None) => self.draw_whole(drawn, picture, report)?,
+            (Some(picture), Some(again), None) => {
+                self.draw_beginnings(drawn, (picture, again), report)?
             }
+            (None, None, Some(misfit)) => self.draw_misfit(drawn, misfit, report)?,
+            _ => return Err(Fault::Untold),
         }
         Ok(())
     }
@@ -54,6 +61,20 @@ impl<'a> Case<'a> {
     /// The number of the line and the name of the section that lines on faults tell.
     pub(crate) fn place(&self) -> (usize, &'a str) {
         (self.line, self.section)
+    }
+
+    /// What the test of a grid answers.
+    pub(crate) fn fits(&self, (grid, records): Drawn<'_, 'a>) -> Result<(), Misfit> {
+        let (config, dimension, colors) = (&self.config, &self.dimension, &self.colors);
+        match grid {
+            Grid::Peekable => PeekableGrid::new(records, config, dimension, colors).fits(),
+            Grid::Hinted => IterGrid::new(records, config, dimension, colors).fits(),
+            Grid::Unhinted => {
+                let records = Unhinted::new(records);
+                IterGrid::new(records, config, dimension, colors).fits()
+            }
+            Grid::Compact => CompactGrid::new(records, &self.compact, dimension, colors).fits(),
+        }
     }
 
     /// Appends the table as a grid prints it, whose own memory is `memory`.
@@ -97,25 +118,23 @@ impl<'a> Case<'a> {
         }
     }
 
-    // Draws the table behind the text of a buffer, and as a text of its own.
+    // Draws the table, which fits, behind the text of a buffer, as a text of its own, and while memory is
+    // refused.
     fn draw_whole(
         &self,
         drawn: Drawn<'_, 'a>,
         picture: &str,
         report: &mut Report,
     ) -> Result<(), AllocError> {
-        let (grid, _) = drawn;
+        let (place, grid) = (self.place(), drawn.0);
+        report.compare(place, grid.fits_call(), self.fits(drawn), Ok(()))?;
         let mut buf = String::from_str(self.alloc, OLD)?;
         let printed = self.print(self.alloc, drawn, &mut buf);
-        report.compare(self.place(), grid.print_call(), printed, Ok(()))?;
+        report.compare(place, grid.print_call(), printed, Ok(()))?;
         let gained = buf.as_str().strip_prefix(OLD);
-        report.compare(self.place(), grid.print_call(), gained, Some(picture))?;
+        report.compare(place, grid.print_call(), gained, Some(picture))?;
         let given = self.text(self.alloc, drawn).ok();
-        report.compare(
-            self.place(),
-            grid.text_call(),
-            given.as_deref(),
-            Some(picture),
-        )
+        report.compare(place, grid.text_call(), given.as_deref(), Some(picture))?;
+        self.draw_refused(drawn, picture, report)
     }
 }

@@ -30,6 +30,16 @@ impl Grid {
         }
     }
 
+    /// The name of its call that tests the table.
+    pub(crate) fn fits_call(self) -> &'static str {
+        match self {
+            Grid::Peekable => "fits of peekable",
+            Grid::Hinted => "fits of hinted",
+            Grid::Unhinted => "fits of unhinted",
+            Grid::Compact => "fits of compact",
+        }
+    }
+
     /// The name of its call that prints behind the text of a buffer.
     pub(crate) fn print_call(self) -> &'static str {
         match self {
