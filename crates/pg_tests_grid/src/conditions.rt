@@ -1,9 +1,11 @@
 //! Conditions of tables and records, indents and blank lines, at single values.
 
 use crate::same::assert_same;
-use pg_config::SpannedConfig;
-use pg_layout::{AlignmentVertical, Entity, Indent, Position, RecordsFault, Sides, VecRecords};
-use pg_picture::fits::cell_fits;
+use pg_config::{CompactConfig, SpannedConfig};
+use pg_layout::{
+    AlignmentVertical, ConstantDimension, Entity, Indent, Position, RecordsFault, Sides, VecRecords,
+};
+use pg_picture::fits::{Misfit, cell_fits, compact_fits};
 use pg_picture::{count_empty_lines, indent_from_top};
 use std::process::Abort;
 use std::test::Fail;
@@ -37,6 +39,16 @@ fn a_cell_has_room_for_its_text_and_paddings(rt: HostRuntime) -> Result<(), Fail
     padding.left = Indent::spaced(1);
     config.set_padding(Entity::Global, padding)?;
     assert_room(&rt, &config);
+    Ok(())
+}
+
+#[test]
+fn compact_columns_are_too_many_to_count(rt: HostRuntime) -> Result<(), Fail> {
+    let alloc = rt.alloc();
+    let widths = [usize::MAX, 0].as_slice().to_vec(alloc)?;
+    let dimension = ConstantDimension(widths, Vec::new(alloc));
+    let answer = compact_fits(&CompactConfig::new(), &dimension, usize::MAX);
+    assert_same(&rt, answer, Err(Misfit::Totals));
     Ok(())
 }
 

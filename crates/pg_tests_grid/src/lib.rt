@@ -1,9 +1,6 @@
-//! Calls of the spanned grids: rows that come by an iterator, checked calls, conditions, refused
-//! memory.
+//! Calls of the grids: rows that come by an iterator, tables that are printed row by row, conditions.
 #![tactic(auto)]
 
-#[cfg(test)]
-mod checked;
 #[cfg(test)]
 mod conditions;
 #[cfg(test)]
@@ -12,8 +9,6 @@ mod counted;
 mod given;
 #[cfg(test)]
 mod printing;
-#[cfg(test)]
-mod refusals;
 #[cfg(test)]
 mod same;
 #[cfg(test)]
