@@ -16,7 +16,7 @@ mod told;
 use crate::fault::Fault;
 use pg_config::{CompactConfig, SpannedConfig};
 use pg_grid::{Misfit, PrintFault};
-use pg_layout::{Borders, NoColors};
+use pg_layout::{Borders, ConstantDimension, NoColors};
 use std::alloc::Global;
 
 fn main(rt: HostRuntime) -> Result<(), Fault> {
@@ -25,7 +25,7 @@ fn main(rt: HostRuntime) -> Result<(), Fault> {
     config.set_borders(Borders::ascii());
     let compact = CompactConfig::new().set_borders(Borders::ascii());
     println!(rt; "checked:\n{}", checked_tables(alloc, &config, &compact)?)?;
-    println!(rt; "tested:\n{}", tested_tables(alloc, &config)?)?;
+    println!(rt; "tested:\n{}", tested_tables(alloc, &config, &compact)?)?;
     println!(rt; "built:\n{}", built_tables(alloc, &config, &compact)?)?;
     println!(rt; "stated:\n{}", stated_table(alloc, &config)?)?;
     println!(rt; "told:\n{}", told::titled_text(alloc)?)?;
@@ -55,15 +55,36 @@ fn checked_tables(
 }
 
 // Texts of tables behind a test.
-fn tested_tables(alloc: Global, config: &SpannedConfig) -> Result<String, Fault> {
+fn tested_tables(
+    alloc: Global,
+    config: &SpannedConfig,
+    compact: &CompactConfig,
+) -> Result<String, Fault> {
     let records = parts::records(alloc)?;
     let (wide, narrow) = (parts::sizes(alloc, 9)?, parts::sizes(alloc, 6)?);
     let mut text = tested::text(alloc, &records, config, &wide)?;
+    push_texts(alloc, (config, compact), &wide, &mut text)?;
     if let Some(found) = tested::text_of_first_fit(alloc, &records, config, &[narrow, wide])? {
         text.push('\n')?;
         text.push_str(found.as_str())?;
     }
     Ok(text)
+}
+
+// Appends the texts of the streaming and the compact grid, each behind a line feed.
+fn push_texts(
+    alloc: Global,
+    (config, compact): (&SpannedConfig, &CompactConfig),
+    sizes: &ConstantDimension,
+    text: &mut String,
+) -> Result<(), Fault> {
+    text.push('\n')?;
+    let streamed = tested::streamed_text(alloc, parts::records(alloc)?, config, sizes)?;
+    text.push_str(streamed.as_str())?;
+    text.push('\n')?;
+    let records = parts::records(alloc)?;
+    text.push_str(tested::compact_text(alloc, &records, compact, sizes)?.as_str())?;
+    Ok(())
 }
 
 // Tables that are built behind a test, and what stands in the place of one that is too narrow.

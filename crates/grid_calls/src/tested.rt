@@ -18,6 +18,30 @@ pub(crate) fn text(
     Ok(grid.to_string(alloc)?)
 }
 
+/// The text of the table, as the streaming grid gives it.
+pub(crate) fn streamed_text(
+    alloc: Global,
+    records: VecRecords<String>,
+    config: &SpannedConfig,
+    dimension: &ConstantDimension,
+) -> Result<String, Fault> {
+    let grid = IterGrid::new(records, config, dimension, &NoColors);
+    grid.fits()?;
+    Ok(grid.to_string(alloc)?)
+}
+
+/// The text of the table, as the compact grid gives it.
+pub(crate) fn compact_text(
+    alloc: Global,
+    records: &VecRecords<String>,
+    config: &CompactConfig,
+    dimension: &ConstantDimension,
+) -> Result<String, Fault> {
+    let grid = CompactGrid::new(records, config, dimension, &NoColors);
+    grid.fits()?;
+    Ok(grid.to_string(alloc)?)
+}
+
 /// The text of the table in the first of these sizes that it fits in, if there is one.
 pub(crate) fn text_of_first_fit(
     alloc: Global,

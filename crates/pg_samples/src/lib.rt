@@ -1,5 +1,5 @@
-//! What tests of both spanned grids share: tables, what they are told, and how they are drawn.
+//! What tests of the grids share: sample tables, and records that don't tell their rows.
 #![tactic(auto)]
 
-pub mod drawing;
-pub mod settings;
+pub mod sample;
+pub mod unhinted;

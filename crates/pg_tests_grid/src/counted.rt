@@ -7,7 +7,7 @@ use pg_config::SpannedConfig;
 use pg_grid::IterGrid;
 use pg_layout::{ConstantDimension, NoColors, Records, VecRecords};
 use pg_picture::fits::table_fits;
-use pg_samples::drawing::{Sample, dimension, records};
+use pg_samples::sample::{Sample, dimension, records};
 use pg_testing::refusing::Refusing;
 use std::alloc::Global;
 use std::cell::Cell;

@@ -2,19 +2,42 @@
 
 ghost use Rattle.std.specs.Prelude.{◌≡◌, [], ◌∷◌, map, replicate, IfOk, IfSome};
 
-use crate::refusals::{LONG, ROWS, long_text};
 use crate::same::assert_same;
-use pg_config::SpannedConfig;
-use pg_grid::IterGrid;
-use pg_layout::{ConstantDimension, Indent, IterRecords, NoColors, Position, Sides, VecRecords};
+use pg_config::{CompactConfig, SpannedConfig};
+use pg_grid::{CompactGrid, IterGrid};
+use pg_layout::{Borders, ConstantDimension, Indent, IterRecords, NoColors, Sides, VecRecords};
 use pg_picture::fits::table_fits;
-use pg_samples::drawing::{Sample, dimension};
-use pg_samples::settings::{Setting, tell_all};
+use pg_samples::sample::{Sample, dimension};
 use pg_testing::refusing::Refusing;
 use pg_testing::repeated::Repeated;
-use std::alloc::{Allocator, Global};
+use pg_told::tell_all;
+use std::alloc::{AllocError, Allocator, Global};
 use std::process::Abort;
 use std::test::Fail;
+
+/// How many rows a long table has.
+const ROWS: usize = 1000;
+
+/// The texts of a row.
+const ROW: &[&str] = &["abc", "abc", "abc"];
+
+/// A table of so many rows.
+const LONG: Sample<'static> = Sample {
+    texts: &[ROW; ROWS],
+    widths: &[3, 3, 3],
+    heights: &[1; ROWS],
+    settings: &[],
+};
+
+// The text of the long table, whose second line is this.
+fn long_text(alloc: Global, second: &str) -> Result<String, AllocError> {
+    let mut text = String::from_str(alloc, "abcabcabc\n")?;
+    text.push_str(second)?;
+    for _ in 2..ROWS {
+        text.push_str("\nabcabcabc")?;
+    }
+    Ok(text)
+}
 
 /// So many rows of the same cell three times, and how many rows are told.
 #[derive(Debug, Clone, Copy)]
@@ -66,7 +89,7 @@ fn assert_given_by(
     alloc: Global,
     config: &mut SpannedConfig,
     is_hinted: bool,
-    (second, settings): (&str, &[Setting]),
+    (second, settings): (&str, &[&str]),
 ) -> Result<(), Fail> {
     tell_all(config, alloc, settings)?;
     let dimension = dimension(alloc, &Sample { settings, ..LONG })?;
@@ -90,7 +113,7 @@ fn assert_given(
     rt: &impl Abort,
     alloc: Global,
     second: &str,
-    settings: &[Setting],
+    settings: &[&str],
 ) -> Result<(), Fail> {
     for is_hinted in [true, false] {
         let mut config = SpannedConfig::new(alloc);
@@ -106,8 +129,7 @@ fn rows_are_drawn_as_they_are_given(rt: HostRuntime) -> Result<(), Fail> {
 
 #[test]
 fn a_cell_goes_on_in_a_row_that_is_given(rt: HostRuntime) -> Result<(), Fail> {
-    let spans = [Setting::RowSpan(Position::new(0, 0), 2)];
-    assert_given(&rt, rt.alloc(), "   abcabc", &spans)
+    assert_given(&rt, rt.alloc(), "   abcabc", &["row_span 0 0 2"])
 }
 
 // Draws what an iterator gives that gives no rows, and tells whether there was memory for it.
@@ -125,14 +147,39 @@ fn draw_no_rows<A: Allocator, B: Allocator>(
 #[test]
 fn rows_that_never_come_have_no_margins(rt: HostRuntime) -> Result<(), Fail> {
     let alloc = rt.alloc();
-    let margin = Setting::Margin(Sides::filled(Indent::new(1, '#')));
+    let settings = ["borders ascii", "margin 1:# 1:# 1:# 1:#"];
     let dimension = ConstantDimension(Vec::new(alloc), Vec::new(alloc));
     let memory = Refusing::from_on(alloc, 1);
     let mut buf = String::from_str(&memory, "log:")?;
     let mut config = SpannedConfig::new(alloc);
-    tell_all(&mut config, alloc, &[Setting::Ascii, margin])?;
+    tell_all(&mut config, alloc, &settings)?;
     let is_whole = draw_no_rows(&memory, &config, &dimension, &mut buf);
     assert!(rt; is_whole && memory.requests() == 1);
+    assert_same(&rt, buf.as_str(), "log:");
+    Ok(())
+}
+
+// The same by the compact grid.
+fn draw_no_compact_rows<A: Allocator>(
+    config: &CompactConfig,
+    dimension: &ConstantDimension,
+    buf: &mut String<A>,
+) -> bool {
+    let records = IterRecords::new(Repeated::new(["", ""], 0), 2, None);
+    let grid = CompactGrid::new(records, config, dimension, NoColors);
+    grid.build(buf).is_ok()
+}
+
+#[test]
+fn rows_that_never_come_have_no_compact_picture(rt: HostRuntime) -> Result<(), Fail> {
+    let alloc = rt.alloc();
+    let margin = Sides::filled(Indent::new(1, '#'));
+    let config = CompactConfig::new()
+        .set_borders(Borders::ascii())
+        .set_margin(margin);
+    let dimension = ConstantDimension(Vec::new(alloc), Vec::new(alloc));
+    let mut buf = String::from_str(alloc, "log:")?;
+    assert!(rt; draw_no_compact_rows(&config, &dimension, &mut buf));
     assert_same(&rt, buf.as_str(), "log:");
     Ok(())
 }

@@ -1,17 +1,14 @@
-//! Calls of the spanned grids: rows that come by an iterator, checked calls, conditions, refused
-//! memory.
+//! Calls of the grids: rows that come by an iterator, tables that are printed row by row, conditions.
 #![tactic(auto)]
 
 #[cfg(test)]
-mod checked;
+mod conditions;
 #[cfg(test)]
 mod counted;
 #[cfg(test)]
 mod given;
 #[cfg(test)]
 mod printing;
-#[cfg(test)]
-mod refusals;
 #[cfg(test)]
 mod same;
 #[cfg(test)]

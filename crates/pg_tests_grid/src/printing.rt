@@ -12,19 +12,18 @@ ghost use Rattle.pg_stream.specs.Conditions.{AreRowsFrom};
 
 use crate::same::assert_same;
 use pg_config::SpannedConfig;
-use pg_layout::{Colors, ConstantDimension, Dimension, NoColors, Position, Records, VecRecords};
+use pg_layout::{Colors, ConstantDimension, Dimension, NoColors, Records, VecRecords};
 use pg_picture::fits::{full_width, spans_fit_columns, table_fits};
-use pg_samples::drawing::{Sample, TALL, TALL_TEXT, Unhinted, dimension, records};
-use pg_samples::settings::{Setting, tell_all};
+use pg_samples::sample::{Sample, TALL, TALL_TEXT, dimension, records};
+use pg_samples::unhinted::Unhinted;
 use pg_stream::RowPrinter;
 use pg_testing::refusing::Refusing;
 use pg_testing::repeated::Repeated;
+use pg_told::tell_all;
 use std::alloc::{AllocError, Allocator, Global};
 use std::convert::AsStr;
 use std::process::Abort;
 use std::test::Fail;
-
-const FIRST: Position = Position { row: 0, col: 0 };
 
 /// What a printer tells of itself after a row: its rows and lines, whether it is ended, how many cells
 /// are open, where those of the columns 0 and 1 begin, and how many lines of the one of column 0 are
@@ -222,7 +221,7 @@ fn a_cell_is_open_before_its_first_line(rt: HostRuntime) -> Result<(), Fail> {
         texts: &[&["x", "a"], &["", "b"]],
         widths: &[1, 1],
         heights: &[0, 1],
-        settings: &[Setting::RowSpan(FIRST, 2)],
+        settings: &["row_span 0 0 2"],
     };
     let first = Note {
         rows: 1,

@@ -33,6 +33,7 @@ mod places;
 mod words;
 
 pub use crate::fault::ToldFault;
+pub use crate::named_places::NamedPlaces;
 pub use crate::words::Words;
 use pg_config::SpannedConfig;
 use std::alloc::Global;
@@ -62,4 +63,16 @@ pub fn tell(config: &mut SpannedConfig, alloc: Global, line: &str) -> Result<(),
         }
         _ => cells::tell_cell(config, name, words),
     }
+}
+
+/// Tells a configuration what these lines say, one after the other, up to the first that is an error.
+pub fn tell_all(
+    config: &mut SpannedConfig,
+    alloc: Global,
+    lines: &[&str],
+) -> Result<(), ToldFault> {
+    for line in lines {
+        tell(config, alloc, line)?;
+    }
+    Ok(())
 }

@@ -7,7 +7,7 @@ use pg_layout::{ANSIBuf, Border, Borders, HorizontalLine};
 use std::alloc::Global;
 
 /// What has places with names.
-pub(crate) trait NamedPlaces<T> {
+pub trait NamedPlaces<T> {
     /// Gives the place of this name a value.
     fn set(&mut self, name: &str, value: Option<T>) -> Result<(), ToldFault>;
 }

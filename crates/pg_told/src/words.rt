@@ -44,7 +44,7 @@ impl<'a> Words<'a> {
     }
 
     /// What is left of the line, if a word is.
-    pub(crate) fn rest(self) -> Option<&'a str> {
+    pub fn rest(self) -> Option<&'a str> {
         self.rest
     }
 

@@ -1,5 +1,5 @@
 use Rattle.std.proofs.Common.{map, replicate}
-use Rattle.pg_tests_compact.proofs.given.draw_no_rows.Given as goal
+use Rattle.pg_tests_grid.proofs.given.draw_no_compact_rows.Given as goal
 
 -- the texts of the rows that the iterator gives
 abbrev pub ghost-new : goal.ghost-new

@@ -1,11 +1,12 @@
-//! Conditions of tables and records, and indents, at single values.
+//! Conditions of tables and records, indents and blank lines, at single values.
 
 use crate::same::assert_same;
-use pg_config::SpannedConfig;
-use pg_layout::{AlignmentVertical, Entity, Position, RecordsFault, VecRecords};
-use pg_picture::fits::cell_fits;
-use pg_picture::indent_from_top;
-use pg_samples::settings::{Setting, tell_all};
+use pg_config::{CompactConfig, SpannedConfig};
+use pg_layout::{
+    AlignmentVertical, ConstantDimension, Entity, Indent, Position, RecordsFault, Sides, VecRecords,
+};
+use pg_picture::fits::{Misfit, cell_fits, compact_fits};
+use pg_picture::{count_empty_lines, indent_from_top};
 use std::process::Abort;
 use std::test::Fail;
 
@@ -34,12 +35,20 @@ fn assert_room(rt: &impl Abort, config: &SpannedConfig) {
 #[test]
 fn a_cell_has_room_for_its_text_and_paddings(rt: HostRuntime) -> Result<(), Fail> {
     let mut config = SpannedConfig::new(rt.alloc());
-    tell_all(
-        &mut config,
-        rt.alloc(),
-        &[Setting::Padding(Entity::Global, [1, 0, 0, 0])],
-    )?;
+    let mut padding = Sides::filled(Indent::spaced(0));
+    padding.left = Indent::spaced(1);
+    config.set_padding(Entity::Global, padding)?;
     assert_room(&rt, &config);
+    Ok(())
+}
+
+#[test]
+fn compact_columns_are_too_many_to_count(rt: HostRuntime) -> Result<(), Fail> {
+    let alloc = rt.alloc();
+    let widths = [usize::MAX, 0].as_slice().to_vec(alloc)?;
+    let dimension = ConstantDimension(widths, Vec::new(alloc));
+    let answer = compact_fits(&CompactConfig::new(), &dimension, usize::MAX);
+    assert_same(&rt, answer, Err(Misfit::Totals));
     Ok(())
 }
 
@@ -52,4 +61,12 @@ fn lines_stand_by_the_vertical_alignment(rt: HostRuntime) {
     assert_same(&rt, indent_from_top(AlignmentVertical::Top, 3, 1), 0);
     assert_same(&rt, indent_from_top(AlignmentVertical::Center, 3, 1), 1);
     assert_same(&rt, indent_from_top(AlignmentVertical::Center, 4, 1), 1);
+}
+
+#[test]
+fn blank_lines_are_counted_before_and_behind_the_others(rt: HostRuntime) {
+    assert_same(&rt, count_empty_lines(" \n\na\n \nb\n"), (3, 2, 1));
+    assert_same(&rt, count_empty_lines("a"), (1, 0, 0));
+    assert_same(&rt, count_empty_lines("\n \n"), (0, 3, 0));
+    assert_same(&rt, count_empty_lines(""), (0, 1, 0));
 }

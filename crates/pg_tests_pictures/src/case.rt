@@ -1,0 +1,215 @@
+//! What lines tell of a table.
+
+use crate::compact;
+use crate::fault::Fault;
+use crate::grid::Grid;
+use crate::misfit::misfit_told;
+use crate::report::Report;
+use pg_config::{CompactConfig, SpannedConfig};
+use pg_grid::Misfit;
+use pg_layout::{ColorsMap, ConstantDimension};
+use pg_told::{Words, tell};
+use std::alloc::{AllocError, Global};
+
+/// A table as it is told, and how it is to be drawn.
+#[derive(Drop)]
+pub(crate) struct Case<'a> {
+    pub(crate) alloc: Global,
+    /// The name of the section, or the empty text before the first one.
+    pub(crate) section: &'a str,
+    /// The number of the line at which this way to draw the table begins.
+    pub(crate) line: usize,
+    /// The texts, row by row.
+    pub(crate) rows: Vec<Vec<&'a str>>,
+    /// The sizes of columns and rows.
+    pub(crate) dimension: ConstantDimension,
+    /// What the looked-up and the streaming grid are told.
+    pub(crate) config: SpannedConfig,
+    /// What the compact grid is told.
+    pub(crate) compact: CompactConfig,
+    /// The colours of cells.
+    pub(crate) colors: ColorsMap,
+    /// The grids that draw it, where a line told which.
+    pub(crate) grids: Vec<Grid>,
+    /// The picture, or its first lines where it goes on and on.
+    pub(crate) picture: Option<String>,
+    /// The text with which it goes on, over and over.
+    pub(crate) again: Option<&'a str>,
+    /// The misfit that stands in place of a picture.
+    pub(crate) misfit: Option<Misfit>,
+}
+
+impl<'a> Case<'a> {
+    /// No section.
+    pub(crate) fn new(alloc: Global) -> Case<'a> {
+        Case {
+            alloc,
+            section: "",
+            line: 0,
+            rows: Vec::new(alloc),
+            dimension: ConstantDimension(Vec::new(alloc), Vec::new(alloc)),
+            config: SpannedConfig::new(alloc),
+            compact: CompactConfig::new(),
+            colors: ColorsMap::new(alloc),
+            grids: Vec::new(alloc),
+            picture: None,
+            again: None,
+            misfit: None,
+        }
+    }
+
+    /// Follows a line. Where a way to draw a table ends with it, the table is drawn.
+    pub(crate) fn follow(
+        &mut self,
+        number: usize,
+        line: &'a str,
+        report: &mut Report,
+    ) -> Result<(), Fault> {
+        if line.is_empty() || line.starts_with('#') {
+            return Ok(());
+        }
+        if let Some(section) = line.strip_prefix(": ") {
+            self.draw(report)?;
+            self.begin(number, section);
+            return Ok(());
+        }
+        if self.section.is_empty() {
+            return Err(Fault::Unknown);
+        }
+        if line == "or" {
+            self.draw(report)?;
+            self.begin_way(number);
+            return Ok(());
+        }
+        if let Some(row) = line.strip_prefix('|') {
+            return self.push_row(row);
+        }
+        self.push_word(line)
+    }
+
+    // Begins a section.
+    fn begin(&mut self, number: usize, section: &'a str) {
+        self.section = section;
+        self.rows = Vec::new(self.alloc);
+        self.dimension = ConstantDimension(Vec::new(self.alloc), Vec::new(self.alloc));
+        self.begin_way(number);
+    }
+
+    // Begins another way to draw the same texts.
+    fn begin_way(&mut self, number: usize) {
+        self.line = number;
+        self.config = SpannedConfig::new(self.alloc);
+        self.compact = CompactConfig::new();
+        self.colors = ColorsMap::new(self.alloc);
+        self.grids = Vec::new(self.alloc);
+        self.picture = None;
+        self.again = None;
+        self.misfit = None;
+    }
+
+    // Takes a row.
+    fn push_row(&mut self, row: &'a str) -> Result<(), Fault> {
+        let texts = texts_of(self.alloc, row)?;
+        Ok(self.rows.push(texts)?)
+    }
+
+    // Repeats the last row until it stands there so many times.
+    fn repeat_row(&mut self, count: &str) -> Result<(), Fault> {
+        let count = count.parse::<usize>().map_err(|_| Fault::Unknown)?;
+        for _ in 1..count {
+            let Some(row) = self.rows.last() else {
+                return Err(Fault::Unknown);
+            };
+            let texts = row.as_slice().to_vec(self.alloc)?;
+            self.rows.push(texts)?;
+        }
+        Ok(())
+    }
+
+    // Follows a line that begins with a word.
+    fn push_word(&mut self, line: &'a str) -> Result<(), Fault> {
+        let (word, rest) = line.split_once(' ').unwrap_or((line, ""));
+        match word {
+            "times" => self.repeat_row(rest)?,
+            "widths" => self.dimension.0 = numbers_of(self.alloc, rest)?,
+            "heights" => self.dimension.1 = numbers_of(self.alloc, rest)?,
+            "=" => self.push_picture(rest)?,
+            "~" => self.again = Some(rest),
+            "!" => self.misfit = Some(misfit_told(rest)?),
+            "by" => self.push_grids(rest)?,
+            "color" => self.set_color(rest)?,
+            "compact" => self.compact = compact::told(self.compact, rest)?,
+            _ => tell(&mut self.config, self.alloc, line)?,
+        }
+        Ok(())
+    }
+
+    // Takes the next line of the picture.
+    fn push_picture(&mut self, line: &str) -> Result<(), AllocError> {
+        match &mut self.picture {
+            Some(picture) => {
+                picture.push('\n')?;
+                picture.push_str(line)
+            }
+            None => {
+                self.picture = Some(String::from_str(self.alloc, line)?);
+                Ok(())
+            }
+        }
+    }
+
+    // Takes grids that draw the table.
+    fn push_grids(&mut self, text: &str) -> Result<(), Fault> {
+        for name in text.split(' ') {
+            self.grids.push(Grid::named(name)?)?;
+        }
+        Ok(())
+    }
+
+    // Gives a cell a colour.
+    fn set_color(&mut self, text: &str) -> Result<(), Fault> {
+        let mut words = Words::new(text);
+        let pos = words.place()?;
+        let color = words.last_color(self.alloc)?.ok_or(Fault::Unknown)?;
+        Ok(self.colors.set(pos, color)?)
+    }
+
+    /// Whether there are rows and columns.
+    pub(crate) fn has_cells(&self) -> bool {
+        match self.rows.first() {
+            Some(row) => !row.is_empty(),
+            None => false,
+        }
+    }
+
+    /// A copy of the rows.
+    pub(crate) fn copied_rows(&self) -> Result<Vec<Vec<&'a str>>, AllocError> {
+        let mut rows = Vec::new(self.alloc);
+        for row in &self.rows {
+            rows.push(row.as_slice().to_vec(self.alloc)?)?;
+        }
+        Ok(rows)
+    }
+}
+
+// The texts of a row, which has a bar behind each of them.
+fn texts_of(alloc: Global, row: &str) -> Result<Vec<&str>, Fault> {
+    let mut texts = Vec::new(alloc);
+    if row.is_empty() {
+        return Ok(texts);
+    }
+    let row = row.strip_suffix('|').ok_or(Fault::Unknown)?;
+    for text in row.split('|') {
+        texts.push(text)?;
+    }
+    Ok(texts)
+}
+
+// The numbers that words write.
+fn numbers_of(alloc: Global, words: &str) -> Result<Vec<usize>, Fault> {
+    let mut numbers = Vec::new(alloc);
+    for word in words.split(' ') {
+        numbers.push(word.parse::<usize>().map_err(|_| Fault::Unknown)?)?;
+    }
+    Ok(numbers)
+}

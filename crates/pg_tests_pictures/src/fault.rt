@@ -1,0 +1,54 @@
+//! Why a line or a way to draw a table isn't followed.
+
+use pg_layout::RecordsFault;
+use pg_told::ToldFault;
+use std::alloc::{AllocError, AllocFailed};
+use std::io;
+
+/// Why a line or a way to draw a table isn't followed.
+#[derive(Debug, Clone, Copy, PartialEq, Eq)]
+pub(crate) enum Fault {
+    /// The line isn't understood.
+    Unknown,
+    /// No picture is told.
+    Untold,
+    /// The rows have several lengths.
+    Records(RecordsFault),
+    /// Memory was refused.
+    Memory,
+    /// A read or a write failed.
+    Stream,
+}
+
+impl From<AllocError> for Fault {
+    fn from(_error: AllocError) -> Fault {
+        Fault::Memory
+    }
+}
+
+impl<T: Drop> From<AllocFailed<T>> for Fault {
+    fn from(_error: AllocFailed<T>) -> Fault {
+        Fault::Memory
+    }
+}
+
+impl From<RecordsFault> for Fault {
+    fn from(fault: RecordsFault) -> Fault {
+        Fault::Records(fault)
+    }
+}
+
+impl From<ToldFault> for Fault {
+    fn from(fault: ToldFault) -> Fault {
+        match fault {
+            ToldFault::Unknown => Fault::Unknown,
+            ToldFault::Memory => Fault::Memory,
+        }
+    }
+}
+
+impl From<io::Error> for Fault {
+    fn from(_error: io::Error) -> Fault {
+        Fault::Stream
+    }
+}
