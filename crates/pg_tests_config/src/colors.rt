@@ -1,12 +1,7 @@
-//! Colours of border lines and cells: which of several counts, and what counts as one that was set.
+//! Colours, and those of cells: which of several counts, which are the same, and what they need memory for.
 
-use crate::prefixes::{color, prefix};
 use crate::same::assert_same;
-use pg_config::SpannedConfig;
-use pg_layout::{
-    ANSIBuf, ANSIFmt, ANSIStr, Border, Borders, Colors, ColorsMap, Entity, NoColors, Offset,
-    Position, Sides, same_color,
-};
+use pg_layout::{ANSIBuf, ANSIFmt, ANSIStr, Colors, ColorsMap, NoColors, Position, same_color};
 use pg_testing::refusing::Refusing;
 use std::alloc::{AllocError, Allocator, Global};
 use std::process::Abort;
@@ -14,105 +9,14 @@ use std::test::Fail;
 
 const FIRST: Position = Position { row: 0, col: 0 };
 
-// Colours of the line above the table, of the inner verticals and of the inner crossings on the right.
-fn line_colors(alloc: Global) -> Result<Borders<ANSIBuf>, Fail> {
-    let top = color(alloc, "<t>")?;
-    let vertical = color(alloc, "<v>")?;
-    let crossing = color(alloc, "<x>")?;
-    Ok(Borders {
-        top: Some(top),
-        vertical: Some(vertical),
-        right_intersection: Some(crossing),
-        ..Borders::empty()
-    })
+// A colour with this prefix.
+fn color(alloc: Global, prefix: &str) -> Result<ANSIBuf, Fail> {
+    Ok(ANSIBuf::new(alloc, prefix, "</>")?)
 }
 
-// Colours above a cell, right of it, and of the corner below and right of it.
-fn cell_colors(alloc: Global) -> Result<Border<ANSIBuf>, Fail> {
-    let top = color(alloc, "<o>")?;
-    let right = color(alloc, "<p>")?;
-    let corner = color(alloc, "<q>")?;
-    Ok(Border {
-        top: Some(top),
-        right: Some(right),
-        bottom_right: Some(corner),
-        ..Border::empty()
-    })
-}
-
-// The prefixes above the first two cells, right of the first one and of the one below it, and of the
-// crossings at the right end of the separators between three rows of one column.
-fn line_prefixes(config: &SpannedConfig<Global>) -> [Option<&str>; 6] {
-    let (second, below) = (Position::new(0, 1), Position::new(1, 1));
-    let last = Position::new(2, 1);
-    [
-        prefix(config.get_horizontal_color(FIRST, 3)),
-        prefix(config.get_horizontal_color(second, 3)),
-        prefix(config.get_vertical_color(second, 3)),
-        prefix(config.get_vertical_color(below, 3)),
-        prefix(config.get_intersection_color(below, (3, 1))),
-        prefix(config.get_intersection_color(last, (3, 1))),
-    ]
-}
-
-fn override_border_colors(
-    rt: &impl Abort,
-    alloc: Global,
-    config: &mut SpannedConfig<Global>,
-) -> Result<(), Fail> {
-    config.set_borders_color(line_colors(alloc)?);
-    config.set_border_color(FIRST, cell_colors(alloc)?)?;
-    let (o, p, q) = (Some("<o>"), Some("<p>"), Some("<q>"));
-    assert_eq!(rt;
-        line_prefixes(config),
-        [o, Some("<t>"), p, Some("<v>"), q, Some("<x>")]
-    );
-    config.set_borders_color(Borders::empty());
-    assert_eq!(rt; line_prefixes(config), [o, None, p, None, q, None]);
-    Ok(())
-}
-
-#[test]
-fn an_override_comes_before_the_color_of_the_borders(rt: HostRuntime) -> Result<(), Fail> {
-    override_border_colors(&rt, rt.alloc(), &mut SpannedConfig::new(rt.alloc()))
-}
-
-fn set_empty_colors(
-    rt: &impl Abort,
-    alloc: Global,
-    config: &mut SpannedConfig<Global>,
-) -> Result<(), Fail> {
-    assert!(rt; !config.has_border_colors() && !config.has_padding_color());
-    assert!(rt; !config.has_justification() && !config.has_offset_chars());
-    config.set_borders_color(Borders::empty());
-    assert!(rt; config.has_border_colors() && !config.has_padding_color());
-    config.set_padding_color(Entity::Cell(7, 7), Sides::new(None, None, None, None))?;
-    assert!(rt; config.has_padding_color() && !config.has_justification());
-    config.set_justification_color(Entity::Row(7), None)?;
-    assert!(rt; config.has_justification() && !config.has_offset_chars());
-    config.set_vertical_color(FIRST, Offset::End(9), color(alloc, "")?)?;
-    assert!(rt; config.has_offset_chars());
-    Ok(())
-}
-
-fn set_plain_glyphs(rt: &impl Abort, config: &mut SpannedConfig<Global>) -> Result<(), Fail> {
-    config.set_border_color(FIRST, Border::empty())?;
-    assert!(rt; config.has_border_colors() && !config.has_padding_color());
-    config.set_justification(Entity::Global, ' ')?;
-    assert!(rt; config.has_justification() && !config.has_offset_chars());
-    config.set_horizontal_char(FIRST, Offset::Start(0), ' ')?;
-    assert!(rt; config.has_offset_chars());
-    Ok(())
-}
-
-#[test]
-fn an_empty_color_counts_as_one_that_was_set(rt: HostRuntime) -> Result<(), Fail> {
-    set_empty_colors(&rt, rt.alloc(), &mut SpannedConfig::new(rt.alloc()))
-}
-
-#[test]
-fn a_space_counts_as_a_glyph_that_was_set(rt: HostRuntime) -> Result<(), Fail> {
-    set_plain_glyphs(&rt, &mut SpannedConfig::new(rt.alloc()))
+// The prefix of a colour, if there is one.
+fn prefix(color: Option<&ANSIBuf>) -> Option<&str> {
+    Some(color?.prefix())
 }
 
 #[test]

@@ -55,7 +55,7 @@ fn call_at(row: u8, col: u8) -> Call {
     Call {
         row,
         col,
-        entity: Entity::Cell(usize::from(row), usize::from(col)),
+        entity: Entity::from((usize::from(row), usize::from(col))),
         offset: Offset::Start(1),
         size: 2,
         glyph: if row < col { 'a' } else { 'b' },

@@ -1,4 +1,6 @@
-//! Tests of texts, values, records and configurations, against values that were found by hand.
+//! Tests of texts, values, records and colours, against values that were found by hand, and of
+//! configurations that are refused memory, that grow, or that have many values. All other configurations
+//! are told to the program `pg_tests_settings`.
 #![tactic(auto)]
 
 #[cfg(test)]
@@ -8,21 +10,13 @@ mod colors;
 #[cfg(test)]
 mod crowds;
 #[cfg(test)]
-mod entities;
-#[cfg(test)]
 mod given;
+#[cfg(test)]
+mod growth;
 #[cfg(test)]
 mod helpers;
 #[cfg(test)]
-mod lines;
-#[cfg(test)]
-mod offsets;
-#[cfg(test)]
-mod orders;
-#[cfg(test)]
 mod places;
-#[cfg(test)]
-mod prefixes;
 #[cfg(test)]
 mod refusals;
 #[cfg(test)]
@@ -30,10 +24,4 @@ mod row_lines;
 #[cfg(test)]
 mod same;
 #[cfg(test)]
-mod setters;
-#[cfg(test)]
-mod spans;
-#[cfg(test)]
 mod texts;
-#[cfg(test)]
-mod whole;

@@ -1,11 +1,11 @@
 //! What lines tell of a table.
 
 use crate::fault::Fault;
-use crate::report::Report;
 use crate::step::Step;
 use pg_config::SpannedConfig;
 use pg_layout::ColorsMap;
 use pg_table::{Table, TableFault};
+use pg_told::report::Report;
 use pg_told::{Words, tell};
 use std::alloc::{AllocError, Global};
 use std::mem;

@@ -2,10 +2,10 @@
 
 use crate::case::Case;
 use crate::fault::Fault;
-use crate::report::Report;
 use pg_layout::{ConstantDimension, VecRecords};
 use pg_table::{NaturalTable, Table, TableFault};
 use pg_testing::refusing::Refusing;
+use pg_told::report::Report;
 use std::alloc::{AllocError, Allocator, Global};
 
 /// What a line `sizes` says where there are none.
@@ -17,7 +17,7 @@ impl<'a> Case<'a> {
         if self.section.is_empty() {
             return Ok(());
         }
-        report.count_table();
+        report.count_case();
         let Some(answer) = self.answer else {
             return Ok(report.refuse(self.line, self.section, Fault::Untold)?);
         };

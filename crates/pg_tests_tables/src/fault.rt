@@ -4,7 +4,6 @@ use pg_layout::RecordsFault;
 use pg_table::TableFault;
 use pg_told::ToldFault;
 use std::alloc::{AllocError, AllocFailed};
-use std::io;
 
 /// Why a line or a way to tell a table isn't followed.
 #[derive(Debug, Clone, Copy, PartialEq, Eq)]
@@ -17,8 +16,6 @@ pub(crate) enum Fault {
     Table(TableFault),
     /// Memory was refused.
     Memory,
-    /// A read or a write failed.
-    Stream,
 }
 
 impl From<AllocError> for Fault {
@@ -51,11 +48,5 @@ impl From<ToldFault> for Fault {
             ToldFault::Unknown => Fault::Unknown,
             ToldFault::Memory => Fault::Memory,
         }
-    }
-}
-
-impl From<io::Error> for Fault {
-    fn from(_error: io::Error) -> Fault {
-        Fault::Stream
     }
 }

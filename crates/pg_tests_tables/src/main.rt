@@ -48,7 +48,6 @@ mod case;
 mod drawing;
 mod fault;
 mod reading;
-mod report;
 mod step;
 
 use std::process::ExitCode;

@@ -1,42 +1,13 @@
 //! Lines of standard input, one after the other.
 
 use crate::case::Case;
-use crate::fault::Fault;
-use crate::report::Report;
+use pg_told::lines::read_lines;
+use pg_told::report::Report;
 use std::alloc::{AllocError, Global};
-use std::io::{BufRead, BufReader, Read, Write};
-
-// What a character of a line stands for.
-fn meant(c: char) -> char {
-    match c {
-        '␊' => '\n',
-        '␍' => '\r',
-        '␛' => '\u{1b}',
-        '␣' => ' ',
-        _ => c,
-    }
-}
-
-// What a line stands for.
-fn meaning(alloc: Global, line: &str) -> Result<String, AllocError> {
-    let mut text = String::new(alloc);
-    for c in line.chars() {
-        text.push(meant(c))?;
-    }
-    Ok(text)
-}
-
-// The lines of the input.
-fn read_lines<R: Read + Drop>(alloc: Global, input: R) -> Result<Vec<String>, Fault> {
-    let mut lines = Vec::new(alloc);
-    for line in BufReader::new(alloc, input)?.lines(alloc) {
-        lines.push(meaning(alloc, &line?)?)?;
-    }
-    Ok(lines)
-}
+use std::io::{self, Read, Write};
 
 // Draws all that these lines tell.
-fn follow(alloc: Global, lines: &[String], report: &mut Report) -> Result<(), Fault> {
+fn follow(alloc: Global, lines: &[String], report: &mut Report) -> Result<(), AllocError> {
     let mut case = Case::new(alloc);
     for (i, line) in lines.iter().enumerate() {
         follow_line(&mut case, (i, line), report)?;
@@ -49,19 +20,19 @@ fn follow_line<'a>(
     case: &mut Case<'a>,
     (i, line): (usize, &'a str),
     report: &mut Report,
-) -> Result<(), Fault> {
+) -> Result<(), AllocError> {
     let number = i.saturating_add(1);
     match case.follow(number, line, report) {
         Ok(()) => Ok(()),
-        Err(fault) => Ok(report.refuse(number, line, fault)?),
+        Err(fault) => report.refuse(number, line, fault),
     }
 }
 
 // Draws the last way.
-fn finish(case: &mut Case<'_>, report: &mut Report) -> Result<(), Fault> {
+fn finish(case: &mut Case<'_>, report: &mut Report) -> Result<(), AllocError> {
     match case.draw(report) {
         Ok(()) => Ok(()),
-        Err(fault) => Ok(report.refuse(case.line, case.section, fault)?),
+        Err(fault) => report.refuse(case.line, case.section, fault),
     }
 }
 
@@ -71,9 +42,9 @@ pub(crate) fn run<R: Read + Drop, W: Write>(
     alloc: Global,
     input: R,
     out: &mut W,
-) -> Result<bool, Fault> {
+) -> io::Result<bool> {
     let lines = read_lines(alloc, input)?;
     let mut report = Report::new(alloc);
     follow(alloc, &lines, &mut report)?;
-    report.write(out)
+    report.write(out, ("tables", "drawn"))
 }

@@ -1,6 +1,6 @@
 //! Why a line tells nothing.
 
-use std::alloc::AllocError;
+use std::alloc::{AllocError, AllocFailed};
 
 /// Why a line tells nothing.
 #[derive(Debug, Clone, Copy, PartialEq, Eq)]
@@ -13,6 +13,12 @@ pub enum ToldFault {
 
 impl From<AllocError> for ToldFault {
     fn from(_error: AllocError) -> ToldFault {
+        ToldFault::Memory
+    }
+}
+
+impl<T: Drop> From<AllocFailed<T>> for ToldFault {
+    fn from(_error: AllocFailed<T>) -> ToldFault {
         ToldFault::Memory
     }
 }

@@ -1,4 +1,5 @@
-//! Configurations that are told by lines of words.
+//! Configurations that are told by lines of words, and what programs need that compare such lines with
+//! what is answered: the lines of an input ([`lines`]), and a report on all that is wrong ([`report`]).
 //!
 //! ```text
 //! borders ascii
@@ -26,10 +27,12 @@
 mod borders;
 mod cells;
 mod fault;
+pub mod lines;
 mod margins;
 mod named_places;
 mod parts;
 mod places;
+pub mod report;
 mod words;
 
 pub use crate::fault::ToldFault;

@@ -1,15 +1,14 @@
 //! What is counted, and what is told of answers that are otherwise than was worked out.
 
-use crate::fault::Fault;
 use std::alloc::{AllocError, Global};
 use std::fmt::Debug;
-use std::io::Write;
+use std::io::{self, Write};
 
 /// What is counted, and the lines on all that is wrong.
 #[derive(Debug, Drop)]
-pub(crate) struct Report {
-    // How many ways to tell a table were drawn.
-    tables: u64,
+pub struct Report {
+    // How many cases there were.
+    cases: u64,
     // How many answers were compared.
     answers: u64,
     // How many lines there are in `lines`.
@@ -19,22 +18,23 @@ pub(crate) struct Report {
 
 impl Report {
     /// Nothing was compared.
-    pub(crate) fn new(alloc: Global) -> Report {
+    pub fn new(alloc: Global) -> Report {
         Report {
-            tables: 0,
+            cases: 0,
             answers: 0,
             faults: 0,
             lines: String::new(alloc),
         }
     }
 
-    /// Counts a way to tell a table.
-    pub(crate) fn count_table(&mut self) {
-        self.tables = self.tables.saturating_add(1);
+    /// Counts a case.
+    pub fn count_case(&mut self) {
+        self.cases = self.cases.saturating_add(1);
     }
 
-    /// Compares an answer to this call, of the table at this place, with the one that was worked out.
-    pub(crate) fn compare<T: PartialEq + Debug>(
+    /// Compares an answer to this call, of the case at this line in this section, with the one that was
+    /// worked out.
+    pub fn compare<T: PartialEq + Debug>(
         &mut self,
         (line, section): (usize, &str),
         call: &str,
@@ -55,30 +55,31 @@ impl Report {
         )
     }
 
-    /// Tells of a line, or of a way that is told at it, which isn't followed.
-    pub(crate) fn refuse(
+    /// Tells of a line, or of a case that is told at it, which isn't followed.
+    pub fn refuse<F: Debug + Drop>(
         &mut self,
         line: usize,
         text: &str,
-        fault: Fault,
+        fault: F,
     ) -> Result<(), AllocError> {
         self.faults = self.faults.saturating_add(1);
         writeln!(self.lines, "line {line}, {text}: {fault:?}")
     }
 
-    /// Writes what was wrong, and the counts. Tells whether nothing was.
-    pub(crate) fn write<W: Write>(&self, out: &mut W) -> Result<bool, Fault> {
+    /// Writes what was wrong, and the counts: of so many cases, which are `tables`, say, that were
+    /// `drawn`. Tells whether nothing was wrong.
+    pub fn write<W: Write>(&self, out: &mut W, (tables, drawn): (&str, &str)) -> io::Result<bool> {
         out.write_all(self.lines.as_bytes())?;
-        let (tables, answers, faults) = (self.tables, self.answers, self.faults);
+        let (cases, answers, faults) = (self.cases, self.answers, self.faults);
         if faults == 0 {
             writeln!(
                 out,
-                "{tables} tables are drawn as told, by {answers} answers"
+                "{cases} {tables} are {drawn} as told, by {answers} answers"
             )?;
         } else {
             writeln!(
                 out,
-                "{faults} faults in {tables} tables, among {answers} answers"
+                "{faults} faults in {cases} {tables}, among {answers} answers"
             )?;
         }
         out.flush()?;
