@@ -2,9 +2,9 @@
 
 use crate::case::Case;
 use crate::drawing::{Drawn, OLD};
-use crate::report::Report;
 use pg_grid::PrintFault;
 use pg_testing::refusing::Refusing;
+use pg_told::report::Report;
 use std::alloc::AllocError;
 
 /// How many requests for memory are granted at most.

@@ -4,10 +4,10 @@ use crate::compact;
 use crate::fault::Fault;
 use crate::grid::Grid;
 use crate::misfit::misfit_told;
-use crate::report::Report;
 use pg_config::{CompactConfig, SpannedConfig};
 use pg_grid::Misfit;
 use pg_layout::{ColorsMap, ConstantDimension};
+use pg_told::report::Report;
 use pg_told::{Words, tell};
 use std::alloc::{AllocError, Global};
 

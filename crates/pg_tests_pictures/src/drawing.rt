@@ -3,10 +3,10 @@
 use crate::case::Case;
 use crate::fault::Fault;
 use crate::grid::{Grid, SPANNED};
-use crate::report::Report;
 use pg_grid::{CompactGrid, IterGrid, Misfit, PeekableGrid, PrintFault};
 use pg_layout::VecRecords;
 use pg_samples::unhinted::Unhinted;
+use pg_told::report::Report;
 use std::alloc::{AllocError, Allocator};
 
 /// What a buffer holds before.
@@ -21,7 +21,7 @@ impl<'a> Case<'a> {
         if self.section.is_empty() {
             return Ok(());
         }
-        report.count_table();
+        report.count_case();
         match self.draw_by_grids(report) {
             Ok(()) => Ok(()),
             Err(fault) => report.refuse(self.line, self.section, fault),

@@ -3,7 +3,6 @@
 use pg_layout::RecordsFault;
 use pg_told::ToldFault;
 use std::alloc::{AllocError, AllocFailed};
-use std::io;
 
 /// Why a line or a way to draw a table isn't followed.
 #[derive(Debug, Clone, Copy, PartialEq, Eq)]
@@ -16,8 +15,6 @@ pub(crate) enum Fault {
     Records(RecordsFault),
     /// Memory was refused.
     Memory,
-    /// A read or a write failed.
-    Stream,
 }
 
 impl From<AllocError> for Fault {
@@ -44,11 +41,5 @@ impl From<ToldFault> for Fault {
             ToldFault::Unknown => Fault::Unknown,
             ToldFault::Memory => Fault::Memory,
         }
-    }
-}
-
-impl From<io::Error> for Fault {
-    fn from(_error: io::Error) -> Fault {
-        Fault::Stream
     }
 }

@@ -70,7 +70,6 @@ mod grid;
 mod misfit;
 mod reading;
 mod refused;
-mod report;
 
 use std::process::ExitCode;
 

@@ -3,10 +3,10 @@
 use crate::case::Case;
 use crate::drawing::Drawn;
 use crate::fault::Fault;
-use crate::report::Report;
 use pg_grid::{Misfit, PrintFault};
 use pg_testing::refusing::Refusing;
 use pg_told::Words;
+use pg_told::report::Report;
 use std::alloc::AllocError;
 
 /// What a buffer holds before, which is compared byte by byte.

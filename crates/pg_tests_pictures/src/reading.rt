@@ -1,29 +1,10 @@
 //! Lines of standard input, one after the other.
 
 use crate::case::Case;
-use crate::fault::Fault;
-use crate::report::Report;
+use pg_told::lines::read_lines;
+use pg_told::report::Report;
 use std::alloc::{AllocError, Global};
-use std::io::{BufRead, BufReader, Read, Write};
-
-// What a character of a line stands for.
-fn meant(c: char) -> char {
-    match c {
-        '␊' => '\n',
-        '␍' => '\r',
-        '␛' => '\u{1b}',
-        '␣' => ' ',
-        _ => c,
-    }
-}
-
-// Appends what characters stand for.
-fn push_meant(text: &mut String, characters: &str) -> Result<(), AllocError> {
-    for c in characters.chars() {
-        text.push(meant(c))?;
-    }
-    Ok(())
-}
+use std::io::{self, Read, Write};
 
 // The text before a bracket, the text behind that bracket, and how often it stands there.
 fn repeated(part: &str) -> Option<(&str, &str, usize)> {
@@ -35,17 +16,17 @@ fn repeated(part: &str) -> Option<(&str, &str, usize)> {
 // Appends a part of a line, which ends where a bracket is closed or with the line.
 fn push_part(text: &mut String, part: &str) -> Result<(), AllocError> {
     let Some((front, again, count)) = repeated(part) else {
-        return push_meant(text, part);
+        return text.push_str(part);
     };
-    push_meant(text, front)?;
+    text.push_str(front)?;
     for _ in 0..count {
-        push_meant(text, again)?;
+        text.push_str(again)?;
     }
     Ok(())
 }
 
-// What a line stands for.
-fn meaning(alloc: Global, line: &str) -> Result<String, AllocError> {
+// A line, with the texts in its brackets as often as they stand there.
+fn written_out(alloc: Global, line: &str) -> Result<String, AllocError> {
     let mut text = String::new(alloc);
     for part in line.split('⟩') {
         push_part(&mut text, part)?;
@@ -53,22 +34,22 @@ fn meaning(alloc: Global, line: &str) -> Result<String, AllocError> {
     Ok(text)
 }
 
-// The lines of the input.
-fn read_lines<R: Read + Drop>(alloc: Global, input: R) -> Result<Vec<String>, Fault> {
-    let mut lines = Vec::new(alloc);
-    for line in BufReader::new(alloc, input)?.lines(alloc) {
-        lines.push(meaning(alloc, &line?)?)?;
+// All lines, likewise.
+fn all_written_out(alloc: Global, lines: &[String]) -> Result<Vec<String>, AllocError> {
+    let mut all = Vec::new(alloc);
+    for line in lines {
+        all.push(written_out(alloc, line)?)?;
     }
-    Ok(lines)
+    Ok(all)
 }
 
 // Draws all that these lines tell.
-fn follow(alloc: Global, lines: &[String], report: &mut Report) -> Result<(), Fault> {
+fn follow(alloc: Global, lines: &[String], report: &mut Report) -> Result<(), AllocError> {
     let mut case = Case::new(alloc);
     for (i, line) in lines.iter().enumerate() {
         follow_line(&mut case, (i, line), report)?;
     }
-    Ok(case.draw(report)?)
+    case.draw(report)
 }
 
 // Follows the line of this number, counted from 0.
@@ -76,11 +57,11 @@ fn follow_line<'a>(
     case: &mut Case<'a>,
     (i, line): (usize, &'a str),
     report: &mut Report,
-) -> Result<(), Fault> {
+) -> Result<(), AllocError> {
     let number = i.saturating_add(1);
     match case.follow(number, line, report) {
         Ok(()) => Ok(()),
-        Err(fault) => Ok(report.refuse(number, line, fault)?),
+        Err(fault) => report.refuse(number, line, fault),
     }
 }
 
@@ -90,9 +71,9 @@ pub(crate) fn run<R: Read + Drop, W: Write>(
     alloc: Global,
     input: R,
     out: &mut W,
-) -> Result<bool, Fault> {
-    let lines = read_lines(alloc, input)?;
+) -> io::Result<bool> {
+    let lines = all_written_out(alloc, &read_lines(alloc, input)?)?;
     let mut report = Report::new(alloc);
     follow(alloc, &lines, &mut report)?;
-    report.write(out)
+    report.write(out, ("tables", "drawn"))
 }

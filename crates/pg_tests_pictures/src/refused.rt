@@ -3,9 +3,9 @@
 use crate::case::Case;
 use crate::drawing::{Drawn, OLD};
 use crate::grid::Grid;
-use crate::report::Report;
 use pg_grid::PrintFault;
 use pg_testing::refusing::Refusing;
+use pg_told::report::Report;
 use std::alloc::{AllocError, Global};
 
 /// More requests for memory than a call here makes.
