@@ -182,14 +182,23 @@ impl<'a> Case<'a> {
         }
     }
 
-    /// A copy of the rows.
-    pub(crate) fn copied_rows(&self) -> Result<Vec<Vec<&'a str>>, AllocError> {
+    /// A copy of the rows, which own their texts.
+    pub(crate) fn copied_rows(&self) -> Result<Vec<Vec<String>>, AllocError> {
         let mut rows = Vec::new(self.alloc);
         for row in &self.rows {
-            rows.push(row.as_slice().to_vec(self.alloc)?)?;
+            rows.push(copied_row(self.alloc, row)?)?;
         }
         Ok(rows)
     }
+}
+
+// A copy of a row, which owns its texts.
+fn copied_row(alloc: Global, row: &[&str]) -> Result<Vec<String>, AllocError> {
+    let mut texts = Vec::new(alloc);
+    for text in row {
+        texts.push(String::from_str(alloc, text)?)?;
+    }
+    Ok(texts)
 }
 
 // The texts of a row, which has a bar behind each of them.

@@ -13,7 +13,7 @@ use std::alloc::{AllocError, Allocator};
 pub(crate) const OLD: &str = "log:";
 
 /// A grid and the rows that it draws.
-pub(crate) type Drawn<'r, 'a> = (Grid, &'r VecRecords<&'a str>);
+pub(crate) type Drawn<'r> = (Grid, &'r VecRecords<String>);
 
 impl<'a> Case<'a> {
     /// Draws the table as it was told. Before the first section there is none.
@@ -38,7 +38,7 @@ impl<'a> Case<'a> {
     }
 
     // Draws the table by a grid, as far as it is told what that gives.
-    fn draw_by(&self, drawn: Drawn<'_, 'a>, report: &mut Report) -> Result<(), Fault> {
+    fn draw_by(&self, drawn: Drawn<'_>, report: &mut Report) -> Result<(), Fault> {
         match (&self.picture, self.again, self.misfit) {
             (Some(picture), None, None) => self.draw_whole(drawn, picture, report)?,
             (Some(picture), Some(again), None) => {
@@ -64,7 +64,7 @@ impl<'a> Case<'a> {
     }
 
     /// What the test of a grid answers.
-    pub(crate) fn fits(&self, (grid, records): Drawn<'_, 'a>) -> Result<(), Misfit> {
+    pub(crate) fn fits(&self, (grid, records): Drawn<'_>) -> Result<(), Misfit> {
         let (config, dimension, colors) = (&self.config, &self.dimension, &self.colors);
         match grid {
             Grid::Peekable => PeekableGrid::new(records, config, dimension, colors).fits(),
@@ -81,7 +81,7 @@ impl<'a> Case<'a> {
     pub(crate) fn print<A: Allocator, B: Allocator>(
         &self,
         memory: A,
-        (grid, records): Drawn<'_, 'a>,
+        (grid, records): Drawn<'_>,
         buf: &mut String<B>,
     ) -> Result<(), PrintFault> {
         let (config, dimension, colors) = (&self.config, &self.dimension, &self.colors);
@@ -102,7 +102,7 @@ impl<'a> Case<'a> {
     pub(crate) fn text<A: Allocator + Copy>(
         &self,
         memory: A,
-        (grid, records): Drawn<'_, 'a>,
+        (grid, records): Drawn<'_>,
     ) -> Result<String<A>, PrintFault> {
         let (config, dimension, colors) = (&self.config, &self.dimension, &self.colors);
         match grid {
@@ -122,7 +122,7 @@ impl<'a> Case<'a> {
     // refused.
     fn draw_whole(
         &self,
-        drawn: Drawn<'_, 'a>,
+        drawn: Drawn<'_>,
         picture: &str,
         report: &mut Report,
     ) -> Result<(), AllocError> {

@@ -23,12 +23,12 @@ pub(crate) fn misfit_told(line: &str) -> Result<Misfit, Fault> {
     }
 }
 
-impl<'a> Case<'a> {
+impl Case<'_> {
     /// The table has this misfit: each call answers it, asks for no memory and leaves the buffer as it
     /// was. One request is granted, that for the buffer's old text.
     pub(crate) fn draw_misfit(
         &self,
-        drawn: Drawn<'_, 'a>,
+        drawn: Drawn<'_>,
         misfit: Misfit,
         report: &mut Report,
     ) -> Result<(), AllocError> {

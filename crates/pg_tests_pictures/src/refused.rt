@@ -54,16 +54,16 @@ enum Slip {
 #[derive(Clone, Copy)]
 struct Refusals<'c, 'a> {
     case: &'c Case<'a>,
-    drawn: Drawn<'c, 'a>,
+    drawn: Drawn<'c>,
     picture: &'c str,
 }
 
-impl<'a> Case<'a> {
+impl Case<'_> {
     /// Draws the table again and again while memory is refused, and tells of each kind of these tries
     /// the first thing that is wrong.
     pub(crate) fn draw_refused(
         &self,
-        drawn: Drawn<'_, 'a>,
+        drawn: Drawn<'_>,
         picture: &str,
         report: &mut Report,
     ) -> Result<(), AllocError> {
