@@ -10,9 +10,18 @@ use std::iter::IntoIterator;
 use std::marker::Model;
 
 /// The rows of records that an iterator gives.
-#[derive(Debug, Drop)]
+#[derive(Debug)]
 pub struct IterRows<I> {
     pub(crate) iter: I,
+}
+
+// Written out, so that it is proved here, once for all iterators. A derived drop is proved by each
+// program that lets such rows go.
+impl<I: Drop> Drop for IterRows<I> {
+    fn drop(self) {
+        let IterRows { iter } = self;
+        drop(iter);
+    }
 }
 
 impl<I: Iterator> Iterator for IterRows<I>

@@ -2,3 +2,4 @@
 pub mod Drawn
 pub mod DrawnProps
 pub mod Kept
+pub mod Lines

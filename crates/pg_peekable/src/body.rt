@@ -1,6 +1,6 @@
 //! The lines of the body, one below the other.
 
-ghost use Rattle.std.specs.Prelude.{◌≡◌, ◌≤◌, ◌<◌, ◌+◌, ◌==◌, ◌++◌, [], ◌∷◌, true, length, map, IfOk, Some};
+ghost use Rattle.std.specs.Prelude.{◌≡◌, ◌≤◌, ◌<◌, ◌+◌, ◌==◌, ◌++◌, [], ◌∷◌, length, map, IfOk, Some};
 ghost use Rattle.std.specs.List.{range_with_len};
 ghost use Rattle.pg_config.specs.Config.{has_horizontal};
 ghost use Rattle.pg_picture.specs.Appending.{Appends};
@@ -9,6 +9,7 @@ ghost use Rattle.pg_picture.specs.Marks.{sep, line, only_if, marks_of_row, marks
 ghost use Rattle.pg_picture.specs.Pieces.{written};
 ghost use Rattle.pg_picture.specs.Table.{Known, table_body, side_margin_at};
 ghost use Rattle.pg_picture.specs.Picture.{body_text};
+ghost use Rattle.pg_peekable.specs.Inside.Lines.{IsLine, IsSeparatorLine};
 
 use crate::drawing::{Drawing, Drawn};
 use crate::kept::KeptCells;
@@ -125,8 +126,7 @@ where
         index: usize,
         is_first: bool,
     ) -> Result<(), AllocError>
-        requires row { row < T.table.rows }
-        requires number { number < T.table.height row }
+        requires { IsLine T.table row number }
         ensures { Appends buf.old buf.new result (body_text Known T.table (lines_before is_first) index (line row number ∷ [])) }
     {
         self.push_line_start(buf, index, is_first)?;
@@ -143,8 +143,7 @@ where
         index: usize,
         is_first: bool,
     ) -> Result<(), AllocError>
-        requires row { row ≤ T.table.rows }
-        requires there { has_horizontal T.table.config row T.table.rows ≡ true }
+        requires { IsSeparatorLine T.table row }
         ensures { Appends buf.old buf.new result (body_text Known T.table (lines_before is_first) index (sep row ∷ [])) }
     {
         self.push_line_start(buf, index, is_first)?;

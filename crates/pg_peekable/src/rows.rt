@@ -2,18 +2,18 @@
 
 ghost use Rattle.std.specs.Prelude.{◌≡◌, ◌<◌, ◌++◌, true, flat_map};
 ghost use Rattle.std.specs.List.{range_with_len};
-ghost use Rattle.pg_layout.specs.Colors.{lent_color};
 ghost use Rattle.pg_picture.specs.Appending.{Appends};
-ghost use Rattle.pg_picture.specs.Pieces.{written, style_at, block_line};
-ghost use Rattle.pg_picture.specs.Inside.Cells.{style_of, facts_of, place_of};
+ghost use Rattle.pg_picture.specs.Pieces.{written, style_at};
+ghost use Rattle.pg_picture.specs.Inside.Cells.{style_of};
 ghost use Rattle.pg_picture.specs.Table.{row_part, row_line, vertical_at};
 ghost use Rattle.pg_picture.specs.Fits.{cell_fits};
-ghost use Rattle.pg_peekable.specs.Inside.Kept.{Reads};
+ghost use Rattle.pg_peekable.specs.Inside.Kept.{IsReading};
 ghost use Rattle.pg_peekable.specs.Inside.Drawn.{HasNoSpans};
+ghost use Rattle.pg_peekable.specs.Inside.Lines.{IsLine, IsCellLine, line_of_cell};
 
 use crate::drawing::{Drawing, Drawn};
 use crate::kept::{KeptCells, Reading};
-use pg_layout::{ANSIFmt, Colors, Dimension, PeekableRecords, Position};
+use pg_layout::{Colors, Dimension, PeekableRecords, Position};
 use pg_picture::{
     CellPlace, CellStyle, TextFacts, push_block_line_of, push_single_line, push_vertical,
     push_vertical_at,
@@ -36,8 +36,7 @@ where
         row: usize,
         line: usize,
     ) -> Result<(), AllocError>
-        requires row { row < T.table.rows }
-        requires line { line < T.table.height row }
+        requires { IsLine T.table row line }
         ensures { Appends buf.old buf.new result (written (row_line T.table row line)) }
     {
         self.push_parts(buf, kept, row, line)?;
@@ -52,8 +51,7 @@ where
         row: usize,
         line: usize,
     ) -> Result<(), AllocError>
-        requires row { row < T.table.rows }
-        requires line { line < T.table.height row }
+        requires { IsLine T.table row line }
         ensures { Appends buf.old buf.new result (written (flat_map (row_part T.table row line) (range_with_len 0 T.table.columns))) }
     {
         if self.is_spanned() {
@@ -71,8 +69,7 @@ where
         line: usize,
     ) -> Result<(), AllocError>
         requires plain { HasNoSpans T.table }
-        requires row { row < T.table.rows }
-        requires line { line < T.table.height row }
+        requires line { IsLine T.table row line }
         ensures { Appends buf.old buf.new result (written (flat_map (row_part T.table row line) (range_with_len 0 T.table.columns))) }
     {
         for column in 0..self.columns {
@@ -90,11 +87,10 @@ where
         pos: Position,
         line: usize,
     ) -> Result<(), AllocError>
-        requires row { pos.row < T.table.rows }
+        requires line { IsLine T.table pos.row line }
         requires column { pos.col < T.table.columns }
-        requires line { line < T.table.height pos.row }
         requires room { cell_fits (style_at T.table.config pos) (T.table.text pos) (T.table.width pos.col) (T.table.height pos.row) ≡ true }
-        ensures { Appends buf.old buf.new result (written (vertical_at T.table.config T.table.columns (T.table.height pos.row) pos line) ++ written (block_line (style_at T.table.config pos) (T.table.color pos) (T.table.text pos) (T.table.width pos.col) (T.table.height pos.row) line)) }
+        ensures { Appends buf.old buf.new result (written (vertical_at T.table.config T.table.columns (T.table.height pos.row) pos line) ++ written (line_of_cell T.table pos (T.table.width pos.col) (T.table.height pos.row) line)) }
     {
         let height = self.height_of(pos.row);
         let width = self.width_of(pos.col);
@@ -147,11 +143,8 @@ where
         height: usize,
         line: usize,
     ) -> Result<(), AllocError>
-        requires row { pos.row < T.table.rows }
-        requires column { pos.col < T.table.columns }
-        requires room { cell_fits (style_at T.table.config pos) (T.table.text pos) width height ≡ true }
-        requires line { line < height }
-        ensures { Appends buf.old buf.new result (written (block_line (style_at T.table.config pos) (T.table.color pos) (T.table.text pos) width height line)) }
+        requires { IsCellLine T.table pos width height line }
+        ensures { Appends buf.old buf.new result (written (line_of_cell T.table pos width height line)) }
     {
         match &self.all {
             Some(style) => self.push_cell_in_style(buf, kept, style, pos, width, height, line),
@@ -171,11 +164,8 @@ where
         height: usize,
         line: usize,
     ) -> Result<(), AllocError>
-        requires row { pos.row < T.table.rows }
-        requires column { pos.col < T.table.columns }
-        requires room { cell_fits (style_at T.table.config pos) (T.table.text pos) width height ≡ true }
-        requires line { line < height }
-        ensures { Appends buf.old buf.new result (written (block_line (style_at T.table.config pos) (T.table.color pos) (T.table.text pos) width height line)) }
+        requires { IsCellLine T.table pos width height line }
+        ensures { Appends buf.old buf.new result (written (line_of_cell T.table pos width height line)) }
     {
         let style = self.style_of(pos);
         self.push_cell_in_style(buf, kept, &style, pos, width, height, line)
@@ -194,11 +184,8 @@ where
         line: usize,
     ) -> Result<(), AllocError>
         requires style { style_of style.now ≡ style_at T.table.config pos }
-        requires row { pos.row < T.table.rows }
-        requires column { pos.col < T.table.columns }
-        requires room { cell_fits (style_at T.table.config pos) (T.table.text pos) width height ≡ true }
-        requires line { line < height }
-        ensures { Appends buf.old buf.new result (written (block_line (style_at T.table.config pos) (T.table.color pos) (T.table.text pos) width height line)) }
+        requires cell { IsCellLine T.table pos width height line }
+        ensures { Appends buf.old buf.new result (written (line_of_cell T.table pos width height line)) }
     {
         if height == 1 {
             return self.push_low_cell(buf, style, pos, width);
@@ -216,10 +203,8 @@ where
         width: usize,
     ) -> Result<(), AllocError>
         requires style { style_of style.now ≡ style_at T.table.config pos }
-        requires row { pos.row < T.table.rows }
-        requires column { pos.col < T.table.columns }
-        requires room { cell_fits (style_at T.table.config pos) (T.table.text pos) width 1 ≡ true }
-        ensures { Appends buf.old buf.new result (written (block_line (style_at T.table.config pos) (T.table.color pos) (T.table.text pos) width 1 0)) }
+        requires cell { IsCellLine T.table pos width 1 0 }
+        ensures { Appends buf.old buf.new result (written (line_of_cell T.table pos width 1 0)) }
     {
         let text = self.text_of(pos);
         push_single_line(buf, style, self.color_of(pos), text, false, width)
@@ -237,60 +222,36 @@ where
         line: usize,
     ) -> Result<(), AllocError>
         requires style { style_of style.now ≡ style_at T.table.config pos }
-        requires row { pos.row < T.table.rows }
-        requires column { pos.col < T.table.columns }
-        requires room { cell_fits (style_at T.table.config pos) (T.table.text pos) width height ≡ true }
-        requires line { line < height }
-        ensures { Appends buf.old buf.new result (written (block_line (style_at T.table.config pos) (T.table.color pos) (T.table.text pos) width height line)) }
+        requires cell { IsCellLine T.table pos width height line }
+        ensures { Appends buf.old buf.new result (written (line_of_cell T.table pos width height line)) }
     {
         let text = self.text_of(pos);
-        let color = self.color_of(pos);
-        let mut reading = match kept.reading(pos, width, height) {
-            Some(reading) => reading,
-            None => begin_reading(style, text, width, height),
-        };
-        let done = push_read_line(buf, style, color, text, &mut reading, width, height, line);
+        let mut reading = self.reading_of(kept, style, pos, width, height);
+        let place = reading.place;
+        let shown = reading.line_if(text, place.text_line_at(line));
         kept.keep_reading(pos, width, height, reading);
-        done
+        push_block_line_of(buf, style, self.color_of(pos), shown, place, width, line)
     }
-}
 
-// Where the text of a cell of so many columns and lines stands, of which nothing was read yet.
-fn begin_reading<B: Allocator>(
-    style: &CellStyle<'_, B>,
-    text: &str,
-    width: usize,
-    height: usize,
-) -> Reading
-    requires room { cell_fits (style_of style.now) text.now width height ≡ true }
-    requires some { 0 < height }
-    ensures reads { Reads result text.now }
-    ensures place { result.place ≡ place_of (facts_of style.now.formatting text.now) (style_of style.now) width height }
-{
-    let facts = TextFacts::of_text(text, style.formatting);
-    Reading::new(CellPlace::of(facts, style, width, height))
-}
-
-// Line `line` of a cell of so many columns and lines, which has room for its text.
-fn push_read_line<C: ANSIFmt, B: Allocator, A: Allocator>(
-    buf: &mut String<A>,
-    style: &CellStyle<'_, B>,
-    color: Option<&C>,
-    text: &str,
-    reading: &mut Reading,
-    width: usize,
-    height: usize,
-    line: usize,
-) -> Result<(), AllocError>
-    requires room { cell_fits (style_of style.now) text.now width height ≡ true }
-    requires line { line < height }
-    requires reads { Reads reading.old text.now }
-    requires place { reading.old.place ≡ place_of (facts_of style.now.formatting text.now) (style_of style.now) width height }
-    ensures appends { Appends buf.old buf.new result (written (block_line (style_of style.now) (lent_color C.color_of color.entry) text.now width height line)) }
-    ensures reads { Reads reading.new text.now }
-    ensures place { reading.new.place ≡ reading.old.place }
-{
-    let place = reading.place;
-    let shown = reading.line_if(text, place.text_line_at(line));
-    push_block_line_of(buf, style, color, shown, place, width, line)
+    // How far the text of a cell in its style was read: as far as is kept, or not at all.
+    fn reading_of(
+        &self,
+        kept: &KeptCells<'_, T>,
+        style: &CellStyle<'_, B>,
+        pos: Position,
+        width: usize,
+        height: usize,
+    ) -> Reading
+        requires style { style_of style.now ≡ style_at T.table.config pos }
+        requires cell { IsCellLine T.table pos width height 0 }
+        ensures { IsReading T.table pos width height result }
+    {
+        match kept.reading(pos, width, height) {
+            Some(reading) => reading,
+            None => {
+                let facts = TextFacts::of_text(self.text_of(pos), style.formatting);
+                Reading::new(CellPlace::of(facts, style, width, height))
+            }
+        }
+    }
 }

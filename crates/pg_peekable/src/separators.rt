@@ -1,13 +1,13 @@
 //! Separators.
 
-ghost use Rattle.std.specs.Prelude.{◌≡◌, ◌≤◌, ◌<◌, ◌++◌, true, IfOk, flat_map};
+ghost use Rattle.std.specs.Prelude.{◌≡◌, ◌<◌, ◌++◌, true, IfOk, flat_map};
 ghost use Rattle.std.specs.List.{range_with_len};
 ghost use Rattle.pg_config.specs.Config.{has_horizontal, get_horizontal};
 ghost use Rattle.pg_picture.specs.Appending.{Appends};
 ghost use Rattle.pg_picture.specs.Pieces.{separator_text};
 ghost use Rattle.pg_picture.specs.Inside.Following.{items_after, last_color};
 ghost use Rattle.pg_picture.specs.Table.{separator_items, separator_part, crossing_at, border_items};
-ghost use Rattle.pg_peekable.specs.Inside.Drawn.{HasNoSpans};
+ghost use Rattle.pg_peekable.specs.Inside.Lines.{IsSeparatorLine};
 
 use crate::drawing::{Drawing, Drawn};
 use crate::kept::KeptCells;
@@ -30,8 +30,7 @@ where
         kept: &mut KeptCells<'_, T>,
         row: usize,
     ) -> Result<(), AllocError>
-        requires row { row ≤ T.table.rows }
-        requires there { has_horizontal T.table.config row T.table.rows ≡ true }
+        requires { IsSeparatorLine T.table row }
         ensures { Appends buf.old buf.new result (separator_text (separator_items T.table row)) }
     {
         if 0 < row && row < self.rows {
@@ -71,8 +70,7 @@ where
         kept: &mut KeptCells<'_, T>,
         row: usize,
     ) -> Result<(), AllocError>
-        requires row { row ≤ T.table.rows }
-        requires there { has_horizontal T.table.config row T.table.rows ≡ true }
+        requires { IsSeparatorLine T.table row }
         ensures { Appends buf.old buf.new result (separator_text (separator_items T.table row)) }
     {
         let run = self.push_columns(Run::new(), buf, kept, row)?;
@@ -80,10 +78,10 @@ where
         run.close(buf)
     }
 
-    // What all columns add to a separator, by the path that the table takes.
+    // What all columns add to a separator: from rectangle to rectangle where cells span others.
     fn push_columns<A: Allocator>(
         &self,
-        run: Run<'g, ANSIBuf<B>>,
+        mut run: Run<'g, ANSIBuf<B>>,
         buf: &mut String<A>,
         kept: &mut KeptCells<'_, T>,
         row: usize,
@@ -95,20 +93,6 @@ where
         if self.is_spanned() {
             return self.push_spanned_columns(run, buf, kept, row);
         }
-        self.push_plain_columns(run, buf, row)
-    }
-
-    // The same where no cell spans rows or columns.
-    fn push_plain_columns<A: Allocator>(
-        &self,
-        mut run: Run<'g, ANSIBuf<B>>,
-        buf: &mut String<A>,
-        row: usize,
-    ) -> Result<Run<'g, ANSIBuf<B>>, AllocError>
-        requires plain { HasNoSpans T.table }
-        ensures appends { Appends buf.old buf.new result (items_after run.entry (flat_map (separator_part T.table row) (range_with_len 0 T.table.columns))) }
-        ensures color { IfOk result (λ after. after ≡ last_color run.entry (flat_map (separator_part T.table row) (range_with_len 0 T.table.columns))) }
-    {
         for column in 0..self.columns {
             run = self.push_column(run, buf, Position::new(row, column))?;
         }

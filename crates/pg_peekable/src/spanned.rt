@@ -5,13 +5,14 @@ ghost use Rattle.std.specs.List.{range_with_len};
 ghost use Rattle.pg_config.specs.Config.{has_horizontal};
 ghost use Rattle.pg_config.specs.Spans.{corner, is_left, left_span, span_above};
 ghost use Rattle.pg_picture.specs.Appending.{Appends};
-ghost use Rattle.pg_picture.specs.Pieces.{written, style_at, block_line, block};
+ghost use Rattle.pg_picture.specs.Pieces.{written, block};
 ghost use Rattle.pg_picture.specs.Inside.Following.{items_after, last_color};
 ghost use Rattle.pg_picture.specs.Marks.{sep, line};
 ghost use Rattle.pg_picture.specs.Table.{row_part, separator_part, vertical_at, block_at, rect_width, rect_height, crossing_at};
 ghost use Rattle.pg_picture.specs.Rectangles.{IsOwner, rows_height};
 ghost use Rattle.pg_peekable.specs.Inside.Kept.{IsRectangle};
 ghost use Rattle.pg_peekable.specs.Inside.Drawn.{starts};
+ghost use Rattle.pg_peekable.specs.Inside.Lines.{IsLine, line_of_cell};
 
 use crate::drawing::{Drawing, Drawn};
 use crate::kept::{KeptCells, KeptRectangle};
@@ -37,8 +38,7 @@ where
         row: usize,
         number: usize,
     ) -> Result<(), AllocError>
-        requires row { row < T.table.rows }
-        requires number { number < T.table.height row }
+        requires { IsLine T.table row number }
         ensures { Appends buf.old buf.new result (written (flat_map (row_part T.table row number) (range_with_len 0 T.table.columns))) }
     {
         let mut column = 0;
@@ -60,9 +60,8 @@ where
         span: Option<Span>,
         number: usize,
     ) -> Result<(), AllocError>
-        requires row { pos.row < T.table.rows }
+        requires line { IsLine T.table pos.row number }
         requires column { pos.col < T.table.columns }
-        requires number { number < T.table.height pos.row }
         requires left { is_left T.table.config.spans pos.row pos.col ≡ true }
         requires span { span ≡ left_span T.table.config.spans pos.row pos.col }
         ensures { Appends buf.old buf.new result (written (row_part T.table pos.row number pos.col)) }
@@ -82,8 +81,7 @@ where
         span: Span,
         number: usize,
     ) -> Result<(), AllocError>
-        requires row { pos.row < T.table.rows }
-        requires number { number < T.table.height pos.row }
+        requires line { IsLine T.table pos.row number }
         requires span { left_span T.table.config.spans pos.row pos.col ≡ Some span }
         ensures { Appends buf.old buf.new result (written (vertical_at T.table.config T.table.columns (T.table.height pos.row) pos number) ++ written (block_at T.table (corner span) (line pos.row number))) }
     {
@@ -243,7 +241,7 @@ where
         requires owner { IsOwner T.table rectangle.corner }
         requires is { IsRectangle T.table rectangle }
         requires number { number < rect_height T.table rectangle.corner }
-        ensures { Appends buf.old buf.new result (written (block_line (style_at T.table.config rectangle.corner) (T.table.color rectangle.corner) (T.table.text rectangle.corner) (rect_width T.table rectangle.corner) (rect_height T.table rectangle.corner) number)) }
+        ensures { Appends buf.old buf.new result (written (line_of_cell T.table rectangle.corner (rect_width T.table rectangle.corner) (rect_height T.table rectangle.corner) number)) }
     {
         let KeptRectangle {
             corner,

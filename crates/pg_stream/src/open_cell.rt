@@ -12,7 +12,6 @@ use std::convert::AsStr;
 use std::marker::Model;
 
 /// A cell that was begun in a row and is drawn line by line.
-#[derive(Drop)]
 pub(crate) struct OpenCell<S: AsStr> {
     value: S,
     begun: usize,
@@ -21,6 +20,22 @@ pub(crate) struct OpenCell<S: AsStr> {
     place: CellPlace,
     // Stands at the line of the text that is shown next, if there is one.
     cursor: LineCursor,
+}
+
+// Written out, so that it is proved here, once for all texts, and not by each program that lets open
+// cells go.
+impl<S: AsStr + Drop> Drop for OpenCell<S> {
+    fn drop(self) {
+        let OpenCell {
+            value,
+            begun: _,
+            drawn: _,
+            width: _,
+            place: _,
+            cursor: _,
+        } = self;
+        drop(value);
+    }
 }
 
 impl<S: AsStr> Model for OpenCell<S> {

@@ -8,12 +8,12 @@ pub push_single_line-requires-clause-width : goal.push_single_line-requires-clau
 push_single_line-requires-clause-width g c =
     let style = style_of c.args.style.now in
     let text = c.text_of-text.result.now in
-    let fits : cell_fits style text c.args.width 1 ≡ true = ap₂ (λ s x. cell_fits s x c.args.width 1) c.requires.style c.text_of-text.ensures ∙ c.requires.room in
+    let fits : cell_fits style text c.args.width 1 ≡ true = ap₂ (λ s x. cell_fits s x c.args.width 1) c.requires.style c.text_of-text.ensures ∙ c.requires.cell.room in
     (cell_fits-room style text c.args.width 1 fits (omega arith)).0
 
 pub push_single_line-requires-clause-height : goal.push_single_line-requires-clause-height
 push_single_line-requires-clause-height g c =
     let style = style_of c.args.style.now in
     let text = c.text_of-text.result.now in
-    let fits : cell_fits style text c.args.width 1 ≡ true = ap₂ (λ s x. cell_fits s x c.args.width 1) c.requires.style c.text_of-text.ensures ∙ c.requires.room in
+    let fits : cell_fits style text c.args.width 1 ≡ true = ap₂ (λ s x. cell_fits s x c.args.width 1) c.requires.style c.text_of-text.ensures ∙ c.requires.cell.room in
     (cell_fits-room style text c.args.width 1 fits (omega arith)).1

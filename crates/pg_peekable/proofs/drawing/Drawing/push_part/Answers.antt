@@ -4,10 +4,9 @@ use Rattle.pg_picture.specs.Table.{vertical_at}
 use Rattle.pg_picture.proofs.Appending.{Appends-text, ◌then◌, stopped}
 use Rattle.pg_peekable.proofs.drawing.Drawing.push_part.Goals as goal
 
-pub push_cell-requires-clause-room : goal.push_cell-requires-clause-room
-push_cell-requires-clause-room g c =
-    let t = g.T.Drawn.table in
-    rw (c.width_of-width.ensures, c.height_of-height.ensures) c.requires.room
+pub push_cell-requires : goal.push_cell-requires
+push_cell-requires g c =
+    rw (c.width_of-width.ensures, c.height_of-height.ensures) record { row = c.requires.line.row; column = c.requires.column; room = c.requires.room; line = c.requires.line.line }
 
 pub returns-in_err-push_vertical : goal.returns-in_err-push_vertical
 returns-in_err-push_vertical g c =

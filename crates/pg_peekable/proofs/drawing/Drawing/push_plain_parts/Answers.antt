@@ -19,14 +19,14 @@ push_part-requires-clause-room g c =
     let t = g.T.Drawn.table in
     let here : c.loop-column.column < t.columns = omega (arith, c.args.self.now.shape.columns) in
     let Fits : Position → Type 0 = λ p. cell_fits (style_at t.config p) (t.text p) (t.width p.col) (t.height p.row) ≡ true in
-    subst Fits (sym c.new.ensures) (plain_room t c.args.self.now.can c.requires.plain (at c.args.row c.loop-column.column) c.requires.row here)
+    subst Fits (sym c.new.ensures) (plain_room t c.args.self.now.can c.requires.plain (at c.args.row c.loop-column.column) c.requires.line.row here)
 
 pub loop-column-preserved : goal.loop-column-preserved
 loop-column-preserved g c =
     let t = g.T.Drawn.table in
     let here : c.loop-column.column < t.columns = omega (arith, c.args.self.now.shape.columns) in
     let place = ap (λ (p : Position). written (vertical_at t.config t.columns (t.height p.row) p c.args.line) ++ written (block_line (style_at t.config p) (t.color p) (t.text p) (t.width p.col) (t.height p.row) c.args.line)) c.new.ensures in
-    let text = part-text t c.requires.plain (at c.args.row c.loop-column.column) c.args.line c.requires.row here c.requires.line in
+    let text = part-text t c.requires.plain (at c.args.row c.loop-column.column) c.args.line c.requires.line.row here c.requires.line.line in
     Gained-text (sym (written-columns (row_part t c.args.row c.args.line) c.loop-column.column)) (Gained-more c.loop-column.invariant (Appends-text (place ∙ text) c.in_ok-push_part.ensures))
 
 pub returns-in_err-push_part : goal.returns-in_err-push_part
@@ -34,7 +34,7 @@ returns-in_err-push_part g c =
     let t = g.T.Drawn.table in
     let here : c.loop-column.column < t.columns = omega (arith, c.args.self.now.shape.columns) in
     let place = ap (λ (p : Position). written (vertical_at t.config t.columns (t.height p.row) p c.args.line) ++ written (block_line (style_at t.config p) (t.color p) (t.text p) (t.width p.col) (t.height p.row) c.args.line)) c.new.ensures in
-    let text = part-text t c.requires.plain (at c.args.row c.loop-column.column) c.args.line c.requires.row here c.requires.line in
+    let text = part-text t c.requires.plain (at c.args.row c.loop-column.column) c.args.line c.requires.line.row here c.requires.line.line in
     refused _ (written-columns_cut (row_part t c.args.row c.args.line) c.loop-column.column t.columns here) c.from_residual.ensures.0 c.loop-column.invariant (Appends-text (place ∙ text) c.in_err-push_part.ensures)
 
 pub returns : goal.returns

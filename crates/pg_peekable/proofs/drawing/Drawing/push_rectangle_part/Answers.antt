@@ -16,7 +16,7 @@ overflow_add-rectangle g c =
     let t = g.T.Drawn.table in
     let rectangle = c.rectangle_at-rectangle.result in
     let above = above-row t rectangle c.args.pos.row c.rectangle_at-rectangle.ensures.is c.rectangle_at-rectangle.ensures.row in
-    omega (arith, found_fits t c.args.self.now.can c.args.pos.row c.args.pos.col c.args.span c.requires.span rectangle.corner (c.rectangle_at-rectangle.ensures.corner ∙ c.corner_of.ensures) rectangle.above above c.args.number c.requires.number)
+    omega (arith, found_fits t c.args.self.now.can c.args.pos.row c.args.pos.col c.args.span c.requires.span rectangle.corner (c.rectangle_at-rectangle.ensures.corner ∙ c.corner_of.ensures) rectangle.above above c.args.number c.requires.line.line)
 
 pub push_rectangle-requires-clause-owner : goal.push_rectangle-requires-clause-owner
 push_rectangle-requires-clause-owner g c = found_owner g.T.Drawn.table c.args.self.now.can c.args.pos.row c.args.pos.col c.args.span c.requires.span c.rectangle_at-rectangle.result.corner (c.rectangle_at-rectangle.ensures.corner ∙ c.corner_of.ensures)
@@ -26,7 +26,7 @@ push_rectangle-requires-clause-number g c =
     let t = g.T.Drawn.table in
     let rectangle = c.rectangle_at-rectangle.result in
     let above = above-row t rectangle c.args.pos.row c.rectangle_at-rectangle.ensures.is c.rectangle_at-rectangle.ensures.row in
-    found_inside t c.args.self.now.can c.args.pos.row c.args.pos.col c.args.span c.requires.span rectangle.corner (c.rectangle_at-rectangle.ensures.corner ∙ c.corner_of.ensures) rectangle.above above c.args.number c.requires.number
+    found_inside t c.args.self.now.can c.args.pos.row c.args.pos.col c.args.span c.requires.span rectangle.corner (c.rectangle_at-rectangle.ensures.corner ∙ c.corner_of.ensures) rectangle.above above c.args.number c.requires.line.line
 
 pub returns : goal.returns
 returns g c =
@@ -35,5 +35,5 @@ returns g c =
     let above = above-row t rectangle c.args.pos.row c.rectangle_at-rectangle.ensures.is c.rectangle_at-rectangle.ensures.row in
     Appends-text
     (ap (λ l. written (vertical_at t.config t.columns (t.height c.args.pos.row) c.args.pos c.args.number) ++ l)
-    (found_line t c.args.self.now.can c.args.pos.row c.args.pos.col c.args.span c.requires.span rectangle.corner (c.rectangle_at-rectangle.ensures.corner ∙ c.corner_of.ensures) rectangle.above above c.args.number c.requires.number))
+    (found_line t c.args.self.now.can c.args.pos.row c.args.pos.col c.args.span c.requires.span rectangle.corner (c.rectangle_at-rectangle.ensures.corner ∙ c.corner_of.ensures) rectangle.above above c.args.number c.requires.line.line))
     (c.in_ok-push_vertical.ensures then c.push_rectangle.ensures)

@@ -1,5 +1,4 @@
-use Rattle.std.proofs.Common.{ap, length, arith, subst, String}
-use Rattle.pg_picture.specs.Printed.{Prints}
+use Rattle.std.proofs.Common.{ap, length, arith}
 use Rattle.pg_picture.specs.Table.{Known}
 use Rattle.pg_picture.proofs.FittingGrids.{misfit-empty}
 use Rattle.pg_picture.proofs.Pictures.{picture-none}

@@ -3,7 +3,7 @@ use Rattle.std.specs.List.{range_with_len}
 use Rattle.pg_picture.specs.Appending.{Gained}
 use Rattle.pg_picture.specs.Inside.Following.{items_after, last_color}
 use Rattle.pg_picture.specs.Table.{separator_part}
-use Rattle.pg_peekable.proofs.drawing.Drawing.push_plain_columns.Given as goal
+use Rattle.pg_peekable.proofs.drawing.Drawing.push_columns.Given as goal
 
 abbrev pub invariant-loop-column : goal.invariant-loop-column
 invariant-loop-column g l =
