@@ -11,7 +11,8 @@ use Rattle.pg_layout.specs.Places.{before, last_before, between, Each, IsAscendi
 use Rattle.pg_layout.specs.Position.{at}
 use Rattle.pg_layout.proofs.KeyOrders.{columns-laws}
 use Rattle.pg_layout.proofs.PlacesSearches.{last-is, none-before}
-use Rattle.pg_config.specs.Spans.{Span, in_span, begins_within, is_covered_from, is_covered_from_left}
+use Rattle.pg_config.specs.Spans.{Span, in_span}
+use Rattle.pg_config.specs.Inside.Covered.{begins_within, is_covered_from, is_covered_from_left}
 
 any_same : (p q : Span → Bool) (ss : List Span) → ((s : Span) → p s ≡ q s) → list_any p ss ≡ list_any q ss
 any_same p q [] all = refl

@@ -2,3 +2,4 @@
 pub mod NotedPlaces
 pub mod Lines
 pub mod Extents
+pub mod Covered

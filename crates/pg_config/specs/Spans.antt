@@ -110,15 +110,5 @@ is_covered_by_row spans p = list_any (λ s. ((s.0.col == p.col) && nat_lt s.0.ro
 unfoldable pub is_covered_by_both : List Span → Position → Bool
 is_covered_by_both spans p = list_any (λ s. (nat_lt s.0.row p.row && nat_lt s.0.col p.col) && in_span p.row p.col s) spans
 
--- a rectangle that begins in one of these rows, in column c or in any column left of p, covers p
-abbrev pub begins_within : ℕ → ℕ → Span → Bool
-begins_within first last s = nat_le first s.0.row && nat_le s.0.row last
-
-abbrev pub is_covered_from : List Span → Position → ℕ → ℕ → ℕ → Bool
-is_covered_from spans p c first last = list_any (λ s. (s.0.col == c) && (begins_within first last s && in_span p.row p.col s)) spans
-
-abbrev pub is_covered_from_left : List Span → Position → ℕ → ℕ → Bool
-is_covered_from_left spans p first last = list_any (λ s. nat_lt s.0.col p.col && (begins_within first last s && in_span p.row p.col s)) spans
-
 unfoldable pub is_visible : List Span → Position → Bool
 is_visible spans p = not (is_covered_by_column spans p || (is_covered_by_row spans p || is_covered_by_both spans p))

@@ -7,7 +7,8 @@ ghost use Rattle.pg_layout.specs.declared.position.ColumnPlace.{ColumnPlace};
 ghost use Rattle.pg_layout.specs.Keys.{by_columns, column_place};
 ghost use Rattle.pg_layout.specs.Places.{IsAscending, value_at, before, between, last_before, next_from};
 ghost use Rattle.pg_config.specs.declared.spans.SpanSize.{SpanSize};
-ghost use Rattle.pg_config.specs.Spans.{Span, span_size, size_of, with_size, with_column_span, with_row_span, has_column_spans, has_row_spans, in_span, if_left, left_span, is_covered_by_column, is_covered_by_row, is_covered_by_both, is_covered_from, is_covered_from_left};
+ghost use Rattle.pg_config.specs.Spans.{Span, span_size, size_of, with_size, with_column_span, with_row_span, has_column_spans, has_row_spans, in_span, if_left, left_span, is_covered_by_column, is_covered_by_row, is_covered_by_both};
+ghost use Rattle.pg_config.specs.Inside.Covered.{is_covered_from, is_covered_from_left};
 
 use crate::extent::Extent;
 use pg_layout::{ColumnPlace, Places, Position};

@@ -15,6 +15,7 @@ mod FullCells
 mod DrawnCells
 mod FirstMisfits
 pub mod Computing
+mod RowsText
 mod RowsConfig
 mod RowsFits
 mod RowsPieces
@@ -23,3 +24,4 @@ mod RowsSpans
 mod RowsColors
 mod RowsMargins
 mod RowsCompact
+mod RowsPrinting

@@ -16,4 +16,3 @@ pub mod Given
 pub mod GivenArrays
 mod GivenVectors
 pub mod Computing
-mod RowsText

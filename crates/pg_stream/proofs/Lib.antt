@@ -1,6 +1,4 @@
 -- Lemmas of this crate.
-pub mod Computing
-pub mod RowsPrinting
 pub mod DrawnLines
 pub mod Steps
 pub mod TextsOfRows

@@ -4,7 +4,8 @@ use Rattle.std.specs.List.{fold}
 use Rattle.pg_stream.specs.Open.{Slot}
 use Rattle.std.proofs.lemmas.List.{take_more, take_more_set, drop-set-lt, map-append}
 use Rattle.std.proofs.Math.Seq.{drop-cons}
-use Rattle.pg_stream.specs.Placed.{Placed, slot_of, slots_of, draw_cell, AllOpen, IsPlaced, IsTall, AreDrawn}
+use Rattle.pg_stream.specs.Placed.{Placed, slot_of, slots_of, AllOpen, IsPlaced}
+use Rattle.pg_stream.specs.Inside.OpenCells.{draw_cell, IsTall, AreDrawn}
 use Rattle.std.proofs.lemmas.List.{length-map}
 use Rattle.pg_config.specs.Spans.{rect_columns}
 use Rattle.pg_layout.specs.Position.{at}

@@ -14,7 +14,8 @@ use Rattle.pg_picture.specs.Table.{Table, is_inside}
 use Rattle.pg_picture.proofs.MarksOfRectangles.{rows_from, marks_above-add}
 use Rattle.pg_picture.proofs.Owners.{HasOwners}
 use Rattle.pg_stream.specs.Open.{Slot, drawn_before, open_at_row, open_before}
-use Rattle.pg_stream.specs.Placed.{Placed, slot_of, slots_of, draw_cell}
+use Rattle.pg_stream.specs.Placed.{Placed, slot_of, slots_of}
+use Rattle.pg_stream.specs.Inside.OpenCells.{draw_cell}
 use Rattle.pg_stream.specs.Inside.Turns.{IsOwnerAbove}
 use Rattle.pg_stream.proofs.OpenLists.{slots-at}
 use Rattle.pg_stream.proofs.Steps.{open_value}

@@ -22,7 +22,8 @@ use Rattle.pg_picture.proofs.Pictures.{length-top}
 use Rattle.pg_stream.specs.Conditions.{HaveRoom}
 use Rattle.pg_stream.specs.Inside.Drawing.{open_lines, open_line, open_separator, above_text, top_text}
 use Rattle.pg_stream.specs.Open.{Slot, open_before}
-use Rattle.pg_stream.specs.Placed.{Placed, slots_of, draw_cell, AllOpen, IsPlaced}
+use Rattle.pg_stream.specs.Placed.{Placed, slots_of, AllOpen, IsPlaced}
+use Rattle.pg_stream.specs.Inside.OpenCells.{draw_cell}
 use Rattle.pg_stream.specs.Printers.{IsSound}
 use Rattle.pg_stream.specs.Printing.{Printing, hint_of, frame_of, rows_known, rows_reached, text_known, table_known, lines_at, lines_printed, row_lines, row_text, after_row}
 use Rattle.pg_stream.specs.Inside.Slots.{separator_height, slot_line, slot_separator}

@@ -15,7 +15,8 @@ use Rattle.pg_picture.specs.Table.{Table}
 use Rattle.pg_picture.proofs.Owners.{Apart, HasOwners, apart_from, owners_of}
 use Rattle.pg_stream.specs.Conditions.{HaveRoom}
 use Rattle.pg_stream.specs.Open.{drawn_before, open_before}
-use Rattle.pg_stream.specs.Placed.{Placed, slots_of, draw_cell, AllOpen, IsPlaced, IsTall, AreDrawn}
+use Rattle.pg_stream.specs.Placed.{Placed, slots_of, AllOpen, IsPlaced}
+use Rattle.pg_stream.specs.Inside.OpenCells.{draw_cell, IsTall, AreDrawn}
 use Rattle.pg_stream.specs.Printers.{IsSound}
 use Rattle.pg_stream.specs.Printing.{Printing, frame_of, table_known}
 use Rattle.pg_stream.specs.Inside.Slots.{separator_height}

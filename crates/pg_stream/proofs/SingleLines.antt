@@ -13,7 +13,8 @@ use Rattle.pg_picture.specs.Table.{Table, vertical}
 use Rattle.pg_picture.proofs.PlainTables.{owner_plain, rect_rows_plain, rect_width_plain}
 use Rattle.pg_stream.specs.Inside.Drawing.{open_part, open_line, line_at, open_lines, open_line_at}
 use Rattle.pg_stream.specs.Open.{Slot, open_at_row, open_before}
-use Rattle.pg_stream.specs.Placed.{Placed, slot_of, slots_of, draw_cell}
+use Rattle.pg_stream.specs.Placed.{Placed, slot_of, slots_of}
+use Rattle.pg_stream.specs.Inside.OpenCells.{draw_cell}
 use Rattle.pg_stream.specs.Inside.SingleRows.{single_part, single_line}
 use Rattle.pg_stream.specs.Inside.Slots.{slot_block}
 use Rattle.pg_stream.specs.Inside.Turns.{new_cell, begin_cell, close_cell, mapped, cells_begun, cells_closed}

@@ -10,7 +10,8 @@ use Rattle.pg_config.specs.Spans.{owner, rect_rows}
 use Rattle.pg_picture.specs.Table.{Table}
 use Rattle.pg_picture.proofs.Owners.{HasOwners}
 use Rattle.pg_stream.specs.Open.{Slot, open_at_row, open_before}
-use Rattle.pg_stream.specs.Placed.{Placed, slot_of, slots_of, draw_cell}
+use Rattle.pg_stream.specs.Placed.{Placed, slot_of, slots_of}
+use Rattle.pg_stream.specs.Inside.OpenCells.{draw_cell}
 use Rattle.pg_stream.specs.Inside.Slots.{draw_more, begin_at, close_at, separator_height, next_slot, slot_in_row}
 use Rattle.pg_stream.specs.Inside.Turns.{begin_cell, close_cell, mapped, cells_begun, cells_closed}
 use Rattle.pg_stream.proofs.Beginning.{begun-is}

@@ -7,3 +7,4 @@ pub mod Styles
 pub mod Told
 pub mod Frames
 pub mod Held
+pub mod OpenCells

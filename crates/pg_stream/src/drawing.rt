@@ -10,7 +10,8 @@ ghost use Rattle.pg_picture.specs.Inside.Following.{feed_before, lines_before, i
 ghost use Rattle.pg_picture.specs.Pieces.{written, style_at};
 ghost use Rattle.pg_picture.specs.Table.{vertical, margin_line, side_margin_at, crossing_at};
 ghost use Rattle.pg_stream.specs.Inside.Drawing.{cell_items, top_text};
-ghost use Rattle.pg_stream.specs.Placed.{slot_of, IsPlaced, IsTall};
+ghost use Rattle.pg_stream.specs.Placed.{slot_of, IsPlaced};
+ghost use Rattle.pg_stream.specs.Inside.OpenCells.{IsTall};
 ghost use Rattle.pg_stream.specs.Printing.{Printing, frame_of};
 ghost use Rattle.pg_stream.specs.Inside.Slots.{slot_block};
 ghost use Rattle.pg_stream.specs.Inside.Styles.{DrawsAs};

@@ -39,7 +39,8 @@ impl<S: AsStr + Drop> Drop for OpenCell<S> {
 }
 
 impl<S: AsStr> Model for OpenCell<S> {
-    ghost use Rattle.pg_stream.specs.Placed.{Placed, StandsAtNext};
+    ghost use Rattle.pg_stream.specs.Placed.{Placed};
+    ghost use Rattle.pg_stream.specs.Inside.OpenCells.{StandsAtNext};
 
     ghost Value = { Placed };
 

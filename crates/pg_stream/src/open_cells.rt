@@ -1,7 +1,8 @@
 //! The open cells of a table that is printed row by row.
 
 ghost use Rattle.std.specs.Prelude.{◌≡◌, ◌+◌, ◌<◌, ◌≤◌, ◌^◌, length, map, count_by, is_some, IfSome, replicate, slice_index_or, slice_set, option_map, IfOk, Some, None};
-ghost use Rattle.pg_stream.specs.Placed.{slots_of, draw_cell, AllOpen};
+ghost use Rattle.pg_stream.specs.Placed.{slots_of, AllOpen};
+ghost use Rattle.pg_stream.specs.Inside.OpenCells.{draw_cell};
 
 use crate::open_cell::OpenCell;
 use std::alloc::{AllocError, Allocator, Global};

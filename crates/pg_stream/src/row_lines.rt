@@ -4,7 +4,8 @@ ghost use Rattle.std.specs.Prelude.{◌≡◌, ◌+◌, ◌<◌, ◌^◌, map, O
 ghost use Rattle.pg_picture.specs.Appending.{Appends};
 ghost use Rattle.pg_picture.specs.Pieces.{written};
 ghost use Rattle.pg_stream.specs.Inside.Drawing.{open_part, open_line, line_at, open_lines};
-ghost use Rattle.pg_stream.specs.Placed.{draw_cell, AllOpen, AreDrawn};
+ghost use Rattle.pg_stream.specs.Placed.{AllOpen};
+ghost use Rattle.pg_stream.specs.Inside.OpenCells.{draw_cell, AreDrawn};
 ghost use Rattle.pg_stream.specs.Printing.{frame_of};
 
 use crate::drawing::{Drawing, Drawn};

@@ -8,7 +8,8 @@ ghost use Rattle.pg_picture.specs.Appending.{Appends};
 ghost use Rattle.pg_picture.specs.Pieces.{separator_text};
 ghost use Rattle.pg_picture.specs.Inside.Following.{items_after, last_color};
 ghost use Rattle.pg_stream.specs.Inside.Drawing.{column_end, reach, cell_items, open_separator_part, open_separator, above_text, below_text, IsSeparator};
-ghost use Rattle.pg_stream.specs.Placed.{draw_cell, AllOpen, AreDrawn};
+ghost use Rattle.pg_stream.specs.Placed.{AllOpen};
+ghost use Rattle.pg_stream.specs.Inside.OpenCells.{draw_cell, AreDrawn};
 ghost use Rattle.pg_stream.specs.Printing.{frame_of};
 ghost use Rattle.pg_stream.specs.Inside.Slots.{separator_height};
 

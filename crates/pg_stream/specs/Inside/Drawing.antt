@@ -9,7 +9,8 @@ use Rattle.pg_picture.specs.Joined.{continued}
 use Rattle.pg_picture.specs.Inside.Following.{feed_before}
 use Rattle.pg_picture.specs.Pieces.{Piece, Item, block, written, separator_text}
 use Rattle.pg_picture.specs.Table.{Table, vertical, crossing_at, border_items, side_margin_at, margin_line}
-use Rattle.pg_stream.specs.Placed.{Placed, slot_of, draw_cell}
+use Rattle.pg_stream.specs.Placed.{Placed, slot_of}
+use Rattle.pg_stream.specs.Inside.OpenCells.{draw_cell}
 use Rattle.pg_stream.specs.Inside.Slots.{slot_block}
 
 -- ---- a line of a row

@@ -1,7 +1,8 @@
 use Rattle.std.proofs.Common.{ℕ, ◌+◌, ◌<◌, ◌^◌, sym, ap, ◌∙◌, subst, map, arith}
 use Rattle.pg_picture.proofs.Appending.{Gained-none, Gained-all, ◌then◌, stopped, refused-as, appended-as, Appends-text}
 use Rattle.pg_stream.specs.Printing.{frame_of}
-use Rattle.pg_stream.specs.Placed.{draw_cell, AllOpen}
+use Rattle.pg_stream.specs.Placed.{AllOpen}
+use Rattle.pg_stream.specs.Inside.OpenCells.{draw_cell}
 use Rattle.pg_stream.proofs.PartsOfLines.{drawn-none}
 use Rattle.pg_stream.proofs.SeparatorsOfRows.{above-absent, above-parts, height-absent, height-there}
 use Rattle.pg_stream.proofs.drawing.Drawing.push_above.Goals as goal

@@ -1,7 +1,8 @@
 use Rattle.std.proofs.Common.{◌+◌, ◌<◌, ◌^◌, map, sym, ap, ◌∙◌, subst, arith}
 use Rattle.pg_picture.proofs.Appending.{Gained-none, Gained-text, Gained-more, refused, Appends-text}
 use Rattle.pg_stream.specs.Printing.{frame_of}
-use Rattle.pg_stream.specs.Placed.{draw_cell, AllOpen, AreDrawn}
+use Rattle.pg_stream.specs.Placed.{AllOpen}
+use Rattle.pg_stream.specs.Inside.OpenCells.{draw_cell, AreDrawn}
 use Rattle.pg_stream.proofs.OpenLists.{drawn-all, drawn-still}
 use Rattle.pg_stream.proofs.PartsOfLines.{drawn-none, drawn-more, lines-none, lines-more, lines-cut, line-now}
 use Rattle.pg_stream.proofs.drawing.Drawing.push_lines.Goals as goal

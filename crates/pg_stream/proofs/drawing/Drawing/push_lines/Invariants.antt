@@ -2,7 +2,7 @@ use Rattle.std.proofs.Common.{◌≡◌, map}
 use Rattle.pg_picture.specs.Appending.{Gained}
 use Rattle.pg_stream.specs.Inside.Drawing.{open_lines}
 use Rattle.pg_stream.specs.Printing.{frame_of}
-use Rattle.pg_stream.specs.Placed.{draw_cell}
+use Rattle.pg_stream.specs.Inside.OpenCells.{draw_cell}
 use Rattle.pg_stream.proofs.drawing.Drawing.push_lines.Given as goal
 
 abbrev pub invariant-loop-line : goal.invariant-loop-line

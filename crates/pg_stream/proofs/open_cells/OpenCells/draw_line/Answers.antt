@@ -1,7 +1,8 @@
 use Rattle.std.proofs.Common.{◌≡◌, ◌∙◌, ap, sym, length, map, take, arith, subst, Option, IfSome, ◌+◌, ◌<◌, ◌^◌}
 use Rattle.std.proofs.lemmas.List.{with_items_is}
 use Rattle.std.proofs.Math.Seq.{take-length}
-use Rattle.pg_stream.specs.Placed.{Placed, draw_cell, AllOpen}
+use Rattle.pg_stream.specs.Placed.{Placed, AllOpen}
+use Rattle.pg_stream.specs.Inside.OpenCells.{draw_cell}
 use Rattle.pg_stream.proofs.OpenLists.{drawn-step, room-at}
 use Rattle.pg_stream.proofs.open_cells.OpenCells.draw_line.Goals as goal
 

@@ -5,7 +5,7 @@ use Rattle.pg_picture.specs.Joined.{continued}
 use Rattle.pg_picture.specs.Inside.Following.{lines_before}
 use Rattle.pg_picture.specs.Pieces.{written}
 use Rattle.pg_picture.specs.Table.{margin_line}
-use Rattle.pg_stream.specs.Placed.{IsTall}
+use Rattle.pg_stream.specs.Inside.OpenCells.{IsTall}
 use Rattle.pg_stream.specs.Printers.{now_of}
 use Rattle.pg_stream.specs.Printing.{Printing, frame_of}
 use Rattle.pg_stream.proofs.Ending.{finish-none, no_cells, finish_text-is, ended_of}

@@ -1,7 +1,8 @@
 use Rattle.std.proofs.Common.{◌≡◌, ℕ, ◌+◌, ◌<◌, ◌≤◌, ◌^◌, List, Option, refl, sym, ap, ap₂, ◌∙◌, subst, arith, map, length, get_or, None}
 use Rattle.std.proofs.lemmas.List.{length-map}
 use Rattle.pg_picture.proofs.Appending.{◌then◌, stopped, refused-as, appended-as, Appends-text}
-use Rattle.pg_stream.specs.Placed.{Placed, slots_of, draw_cell, AllOpen, AreDrawn}
+use Rattle.pg_stream.specs.Placed.{Placed, slots_of, AllOpen}
+use Rattle.pg_stream.specs.Inside.OpenCells.{draw_cell, AreDrawn}
 use Rattle.pg_stream.specs.Printers.{now_of, IsSound, IsSoundAt}
 use Rattle.pg_stream.specs.Printing.{Printing, frame_of}
 use Rattle.pg_stream.specs.Inside.Slots.{separator_height}

@@ -10,7 +10,7 @@ use Rattle.pg_config.specs.Spans.{with_row_span}
 use Rattle.pg_picture.specs.Table.{Table}
 use Rattle.pg_picture.specs.Samples.{table, plain, bordered, indent, for_cell}
 use Rattle.pg_stream.specs.Printing.{Printing, lines_printed, row_lines, finish_lines, printer, after_row, lines_of_rows, rows_text}
-use Rattle.pg_stream.proofs.Computing.{printing_words}
+use Rattle.pg_laws.proofs.Computing.{printing_words}
 
 -- a printer of the table before its first row
 abbrev pub start : Table → Option ℕ → Printing
