@@ -8,7 +8,7 @@ use pg_config::{CompactConfig, SpannedConfig};
 use pg_grid::Misfit;
 use pg_layout::{ColorsMap, ConstantDimension};
 use pg_told::report::Report;
-use pg_told::{Words, tell};
+use pg_told::{Line, tell, tell_color_of_cell, texts_of_row};
 use std::alloc::{AllocError, Global};
 
 /// A table as it is told, and how it is to be drawn.
@@ -65,26 +65,21 @@ impl<'a> Case<'a> {
         line: &'a str,
         report: &mut Report,
     ) -> Result<(), Fault> {
-        if line.is_empty() || line.starts_with('#') {
-            return Ok(());
+        match Line::of(line) {
+            Line::Comment => {}
+            Line::Section(section) => {
+                self.draw(report)?;
+                self.begin(number, section);
+            }
+            _ if self.section.is_empty() => return Err(Fault::Unknown),
+            Line::Way => {
+                self.draw(report)?;
+                self.begin_way(number);
+            }
+            Line::Row(row) => self.rows.push(texts_of_row(self.alloc, row)?)?,
+            Line::Words(line) => self.push_word(line)?,
         }
-        if let Some(section) = line.strip_prefix(": ") {
-            self.draw(report)?;
-            self.begin(number, section);
-            return Ok(());
-        }
-        if self.section.is_empty() {
-            return Err(Fault::Unknown);
-        }
-        if line == "or" {
-            self.draw(report)?;
-            self.begin_way(number);
-            return Ok(());
-        }
-        if let Some(row) = line.strip_prefix('|') {
-            return self.push_row(row);
-        }
-        self.push_word(line)
+        Ok(())
     }
 
     // Begins a section.
@@ -105,12 +100,6 @@ impl<'a> Case<'a> {
         self.picture = None;
         self.again = None;
         self.misfit = None;
-    }
-
-    // Takes a row.
-    fn push_row(&mut self, row: &'a str) -> Result<(), Fault> {
-        let texts = texts_of(self.alloc, row)?;
-        Ok(self.rows.push(texts)?)
     }
 
     // Repeats the last row until it stands there so many times.
@@ -137,7 +126,7 @@ impl<'a> Case<'a> {
             "~" => self.again = Some(rest),
             "!" => self.misfit = Some(misfit_told(rest)?),
             "by" => self.push_grids(rest)?,
-            "color" => self.set_color(rest)?,
+            "color" => tell_color_of_cell(&mut self.colors, self.alloc, rest)?,
             "compact" => self.compact = compact::told(self.compact, rest)?,
             _ => tell(&mut self.config, self.alloc, line)?,
         }
@@ -166,14 +155,6 @@ impl<'a> Case<'a> {
         Ok(())
     }
 
-    // Gives a cell a colour.
-    fn set_color(&mut self, text: &str) -> Result<(), Fault> {
-        let mut words = Words::new(text);
-        let pos = words.place()?;
-        let color = words.last_color(self.alloc)?.ok_or(Fault::Unknown)?;
-        Ok(self.colors.set(pos, color)?)
-    }
-
     /// Whether there are rows and columns.
     pub(crate) fn has_cells(&self) -> bool {
         match self.rows.first() {
@@ -197,19 +178,6 @@ fn copied_row(alloc: Global, row: &[&str]) -> Result<Vec<String>, AllocError> {
     let mut texts = Vec::new(alloc);
     for text in row {
         texts.push(String::from_str(alloc, text)?)?;
-    }
-    Ok(texts)
-}
-
-// The texts of a row, which has a bar behind each of them.
-fn texts_of(alloc: Global, row: &str) -> Result<Vec<&str>, Fault> {
-    let mut texts = Vec::new(alloc);
-    if row.is_empty() {
-        return Ok(texts);
-    }
-    let row = row.strip_suffix('|').ok_or(Fault::Unknown)?;
-    for text in row.split('|') {
-        texts.push(text)?;
     }
     Ok(texts)
 }

@@ -47,22 +47,11 @@ fn all_written_out(alloc: Global, lines: &[String]) -> Result<Vec<String>, Alloc
 fn follow(alloc: Global, lines: &[String], report: &mut Report) -> Result<(), AllocError> {
     let mut case = Case::new(alloc);
     for (i, line) in lines.iter().enumerate() {
-        follow_line(&mut case, (i, line), report)?;
+        let number = i.saturating_add(1);
+        let followed = case.follow(number, line, report);
+        report.take(number, line, followed)?;
     }
     case.draw(report)
-}
-
-// Follows the line of this number, counted from 0.
-fn follow_line<'a>(
-    case: &mut Case<'a>,
-    (i, line): (usize, &'a str),
-    report: &mut Report,
-) -> Result<(), AllocError> {
-    let number = i.saturating_add(1);
-    match case.follow(number, line, report) {
-        Ok(()) => Ok(()),
-        Err(fault) => report.refuse(number, line, fault),
-    }
 }
 
 /// Draws all tables of the input, and writes what is otherwise than told, and how much was compared.

@@ -4,7 +4,7 @@ use crate::answer::Answer;
 use crate::question::write_answers;
 use pg_config::SpannedConfig;
 use pg_told::report::Report;
-use pg_told::{ToldFault, tell};
+use pg_told::{Line, ToldFault, tell};
 use std::alloc::Global;
 
 /// A configuration as it is told.
@@ -33,18 +33,28 @@ impl<'a> Case<'a> {
         line: &'a str,
         report: &mut Report,
     ) -> Result<(), ToldFault> {
-        if line.is_empty() || line.starts_with('#') {
-            return Ok(());
+        match Line::of(line) {
+            Line::Comment => Ok(()),
+            Line::Section(section) => {
+                report.count_case();
+                self.section = section;
+                self.config = SpannedConfig::new(self.alloc);
+                Ok(())
+            }
+            Line::Words(line) if !self.section.is_empty() => self.follow_words(
+                number, line, report,
+            ),
+            _ => Err(ToldFault::Unknown),
         }
-        if let Some(section) = line.strip_prefix(": ") {
-            report.count_case();
-            self.section = section;
-            self.config = SpannedConfig::new(self.alloc);
-            return Ok(());
-        }
-        if self.section.is_empty() {
-            return Err(ToldFault::Unknown);
-        }
+    }
+
+    // Follows a line that asks or tells something.
+    fn follow_words(
+        &mut self,
+        number: usize,
+        line: &str,
+        report: &mut Report,
+    ) -> Result<(), ToldFault> {
         match line.strip_prefix("? ") {
             Some(question) => self.ask(number, question, report),
             None => tell(&mut self.config, self.alloc, line),

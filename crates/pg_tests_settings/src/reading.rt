@@ -11,21 +11,10 @@ use std::io::{self, Read, Write};
 fn follow(alloc: Global, lines: &[Line], report: &mut Report) -> Result<(), AllocError> {
     let mut case = Case::new(alloc);
     for (number, line) in lines {
-        follow_line(&mut case, (*number, line), report)?;
+        let followed = case.follow(*number, line, report);
+        report.take(*number, line, followed)?;
     }
     Ok(())
-}
-
-// Follows the line of this number.
-fn follow_line<'a>(
-    case: &mut Case<'a>,
-    (number, line): (usize, &'a str),
-    report: &mut Report,
-) -> Result<(), AllocError> {
-    match case.follow(number, line, report) {
-        Ok(()) => Ok(()),
-        Err(fault) => report.refuse(number, line, fault),
-    }
 }
 
 /// Follows all lines of the input, and writes what is answered otherwise than told, and how much was

@@ -6,7 +6,7 @@ use pg_config::SpannedConfig;
 use pg_layout::ColorsMap;
 use pg_table::{Table, TableFault};
 use pg_told::report::Report;
-use pg_told::{Words, tell};
+use pg_told::{Line, tell, tell_color_of_cell, texts_of_row};
 use std::alloc::{AllocError, Global};
 use std::mem;
 
@@ -58,26 +58,22 @@ impl<'a> Case<'a> {
         line: &'a str,
         report: &mut Report,
     ) -> Result<(), Fault> {
-        if line.is_empty() || line.starts_with('#') {
-            return Ok(());
+        match Line::of(line) {
+            Line::Comment => Ok(()),
+            Line::Section(section) => {
+                let drawn = self.draw(report);
+                self.begin(number, section);
+                drawn
+            }
+            _ if self.section.is_empty() => Err(Fault::Unknown),
+            Line::Way => {
+                let drawn = self.draw(report);
+                self.begin_way(number);
+                drawn
+            }
+            Line::Row(row) => self.push_row(row),
+            Line::Words(line) => self.push_word(line),
         }
-        if let Some(section) = line.strip_prefix(": ") {
-            let drawn = self.draw(report);
-            self.begin(number, section);
-            return drawn;
-        }
-        if self.section.is_empty() {
-            return Err(Fault::Unknown);
-        }
-        if line == "or" {
-            let drawn = self.draw(report);
-            self.begin_way(number);
-            return drawn;
-        }
-        if let Some(row) = line.strip_prefix('|') {
-            return self.push_row(row);
-        }
-        self.push_word(line)
     }
 
     // Begins a section.
@@ -104,8 +100,7 @@ impl<'a> Case<'a> {
         if self.table.is_some() {
             return Err(Fault::Unknown);
         }
-        let texts = texts_of(self.alloc, row)?;
-        Ok(self.rows.push(texts)?)
+        Ok(self.rows.push(texts_of_row(self.alloc, row)?)?)
     }
 
     // Follows a line that begins with a word.
@@ -118,7 +113,7 @@ impl<'a> Case<'a> {
                 self.answer = Some(answer_of(rest)?);
                 self.is_refused = true;
             }
-            "color" => self.set_color(rest)?,
+            "color" => tell_color_of_cell(&mut self.colors, self.alloc, rest)?,
             "table" => self.call(rest)?,
             _ => tell(&mut self.config, self.alloc, line)?,
         }
@@ -132,14 +127,6 @@ impl<'a> Case<'a> {
         }
         self.answer = Some(Ok(()));
         self.picture.push_str(line)
-    }
-
-    // Gives a cell a colour.
-    fn set_color(&mut self, text: &str) -> Result<(), Fault> {
-        let mut words = Words::new(text);
-        let pos = words.place()?;
-        let color = words.last_color(self.alloc)?.ok_or(Fault::Unknown)?;
-        Ok(self.colors.set(pos, color)?)
     }
 
     // Calls a builder.
@@ -195,19 +182,6 @@ impl<'a> Case<'a> {
         let rows = self.copied_rows()?;
         Ok(Table::new(self.alloc, rows)?)
     }
-}
-
-// The texts of a row, which has a bar behind each of them.
-fn texts_of(alloc: Global, row: &str) -> Result<Vec<&str>, Fault> {
-    let mut texts = Vec::new(alloc);
-    if row.is_empty() {
-        return Ok(texts);
-    }
-    let row = row.strip_suffix('|').ok_or(Fault::Unknown)?;
-    for text in row.split('|') {
-        texts.push(text)?;
-    }
-    Ok(texts)
 }
 
 // The number that a word writes.

@@ -3,6 +3,7 @@
 use crate::fault::ToldFault;
 use crate::words::Words;
 use pg_config::SpannedConfig;
+use pg_layout::ColorsMap;
 use std::alloc::Global;
 
 /// Tells of a padding, an alignment or a justification.
@@ -54,4 +55,17 @@ pub(crate) fn tell_color(
         config.set_justification_color(entity, words.last_color(alloc)?)?;
     }
     Ok(())
+}
+
+/// Tells the colour of a cell: its place and what stands before and after its text, as `0 1 <red>|</red>`.
+/// A colour has to be there.
+pub fn tell_color_of_cell(
+    colors: &mut ColorsMap,
+    alloc: Global,
+    text: &str,
+) -> Result<(), ToldFault> {
+    let mut words = Words::new(text);
+    let pos = words.place()?;
+    let color = words.last_color(alloc)?.ok_or(ToldFault::Unknown)?;
+    Ok(colors.set(pos, color)?)
 }

@@ -1,5 +1,6 @@
 //! Configurations that are told by lines of words, and what programs need that compare such lines with
-//! what is answered: the lines of an input ([`lines`]), and a report on all that is wrong ([`report`]).
+//! what is answered: the lines of an input ([`lines`]), what a line of a file of sections is ([`Line`]),
+//! and a report on all that is wrong ([`report`]).
 //!
 //! ```text
 //! borders ascii
@@ -27,6 +28,7 @@
 mod borders;
 mod cells;
 mod fault;
+mod line;
 pub mod lines;
 mod margins;
 mod named_places;
@@ -35,7 +37,9 @@ mod places;
 pub mod report;
 mod words;
 
+pub use crate::cells::tell_color_of_cell;
 pub use crate::fault::ToldFault;
+pub use crate::line::{Line, texts_of_row};
 pub use crate::named_places::NamedPlaces;
 pub use crate::words::Words;
 use pg_config::SpannedConfig;

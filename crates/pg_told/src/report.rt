@@ -66,6 +66,19 @@ impl Report {
         writeln!(self.lines, "line {line}, {text}: {fault:?}")
     }
 
+    /// Tells of a line, or of a case that is told at it, if it wasn't followed.
+    pub fn take<F: Debug + Drop>(
+        &mut self,
+        line: usize,
+        text: &str,
+        followed: Result<(), F>,
+    ) -> Result<(), AllocError> {
+        match followed {
+            Ok(()) => Ok(()),
+            Err(fault) => self.refuse(line, text, fault),
+        }
+    }
+
     /// Writes what was wrong, and the counts: of so many cases, which are `tables`, say, that were
     /// `drawn`. Tells whether nothing was wrong.
     pub fn write<W: Write>(&self, out: &mut W, (tables, drawn): (&str, &str)) -> io::Result<bool> {

@@ -1,0 +1,51 @@
+//! The lines of a file of sections, each of which tells of a table or of a configuration.
+
+use crate::fault::ToldFault;
+use std::alloc::Global;
+
+/// A line of a file of sections, without its mark.
+#[derive(Debug, Clone, Copy)]
+pub enum Line<'a> {
+    /// It is empty, or begins with `#`.
+    Comment,
+    /// A section of this name begins, as `: name` says.
+    Section(&'a str),
+    /// Another way to do what the section is about begins, as `or` says.
+    Way,
+    /// A row of texts, as `|a|b|`, here without its first bar.
+    Row(&'a str),
+    /// Any other line.
+    Words(&'a str),
+}
+
+impl<'a> Line<'a> {
+    /// What a line says.
+    pub fn of(line: &'a str) -> Line<'a> {
+        if line.is_empty() || line.starts_with('#') {
+            return Line::Comment;
+        }
+        if line == "or" {
+            return Line::Way;
+        }
+        if let Some(name) = line.strip_prefix(": ") {
+            return Line::Section(name);
+        }
+        match line.strip_prefix('|') {
+            Some(row) => Line::Row(row),
+            None => Line::Words(line),
+        }
+    }
+}
+
+/// The texts of a row, which has a bar behind each of them.
+pub fn texts_of_row(alloc: Global, row: &str) -> Result<Vec<&str>, ToldFault> {
+    let mut texts = Vec::new(alloc);
+    if row.is_empty() {
+        return Ok(texts);
+    }
+    let row = row.strip_suffix('|').ok_or(ToldFault::Unknown)?;
+    for text in row.split('|') {
+        texts.push(text)?;
+    }
+    Ok(texts)
+}
