@@ -14,8 +14,6 @@ mod given;
 #[cfg(test)]
 mod growth;
 #[cfg(test)]
-mod helpers;
-#[cfg(test)]
 mod places;
 #[cfg(test)]
 mod refusals;
@@ -23,5 +21,7 @@ mod refusals;
 mod row_lines;
 #[cfg(test)]
 mod same;
+#[cfg(test)]
+mod testing;
 #[cfg(test)]
 mod texts;

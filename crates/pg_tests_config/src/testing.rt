@@ -1,4 +1,4 @@
-//! What tests are helped by: memory that is refused, streams that fail, an iterator that tells little.
+//! What tests are made with (`pg_testing`): memory that is refused, streams that fail, an iterator that tells little.
 
 use crate::same::assert_same;
 use pg_testing::ledger::Rule;
