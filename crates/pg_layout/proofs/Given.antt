@@ -45,6 +45,13 @@ module _ {S A B : Type 0} (steps : S → Option A → S → Type 0) (view : A �
       → (s : S) → AlwaysGives (λ x y. view x ≡ y) steps s (map view (rest s))
   given-rest rest none some s = given-left rest none some s (rest s) refl
 
+module _ {S W A B : Type 0} (inner : W → S) (P : A → B → Type 0) (steps : S → Option A → S → Type 0) where
+  -- a call is one of the inner iterator
+  pub given-inside : (w : W) (ys : List B) → AlwaysGives P steps (inner w) ys → AlwaysGives P (λ s r t. steps (inner s) r (inner t)) w ys
+  given-inside w [] none = λ x t step. none x (inner t) step
+  given-inside w (y ∷ ys) (some, more) =
+      (λ t step. some (inner t) step, λ x t step. let (is, others) = more x (inner t) step in (is, given-inside t ys others))
+
 module _ {S W U C B : Type 0} (inner : W → S) (steps : S → Option U → S → Type 0) (becomes : U → C → Type 0) (Q : C → B → Type 0) where
   -- a call makes its answer of the inner iterator's answer
   abbrev pub Makes : W → Option C → W → Type 0

@@ -7,12 +7,12 @@ use Rattle.std.proofs.lemmas.Iterator.Adapters.{YieldsList-from_vec}
 use Rattle.std.proofs.lemmas.Simd.{map-map}
 use Rattle.pg_layout.specs.Text.{Text}
 use Rattle.pg_layout.specs.Records.{AlwaysGives, Gives, Becomes}
-use Rattle.pg_layout.proofs.Given.{given-items}
+use Rattle.pg_layout.proofs.Given.{given-items, given-inside}
 
-module _ {T Z : Type 0} (text : T → Text) (becomes : Vec T Z → IntoIter T Z → Type 0)
-    (shows : (row : Vec T Z) (s : IntoIter T Z) → becomes row s → (into_iter_items s ≡ row.items) × (into_iter_len s ≡ vec_len row)) where
-  abbrev Cells : IntoIter T Z → List Text → Type 0
-  Cells = Gives (λ x y. text x ≡ y) (λ _. Unit {0}) into_iter_steps (λ s. at_most (into_iter_len s))
+module _ {T Z C : Type 0} (text : T → Text) (inner : C → IntoIter T Z) (becomes : Vec T Z → C → Type 0)
+    (shows : (row : Vec T Z) (s : C) → becomes row s → (into_iter_items (inner s) ≡ row.items) × (into_iter_len (inner s) ≡ vec_len row)) where
+  abbrev Cells : C → List Text → Type 0
+  Cells = Gives (λ x y. text x ≡ y) (λ _. Unit {0}) (λ s r t. into_iter_steps (inner s) r (inner t)) (λ s. at_most (into_iter_len (inner s)))
 
   row-stands : (row : Vec T Z) → Becomes becomes Cells row (map text row.items)
   row-stands row s is =
@@ -20,7 +20,8 @@ module _ {T Z : Type 0} (text : T → Text) (becomes : Vec T Z → IntoIter T Z 
       record {
         can_next = tt;
         ends = tt;
-        gives = given-items into_iter_steps text (λ x y. text x ≡ y) (λ x. refl) (YieldsList-from_vec row.items items (omega (arith, len, row.ok)));
+        gives = given-inside inner (λ x y. text x ≡ y) into_iter_steps s (map text row.items)
+            (given-items into_iter_steps text (λ x y. text x ≡ y) (λ x. refl) (YieldsList-from_vec row.items items (omega (arith, len, row.ok))));
       }
 
   pub vectors-given : (s : IntoIter (Vec T Z) Z) (rows : Vec (Vec T Z) Z) (seen : List (List T)) → into_iter_items s ≡ rows.items → into_iter_len s ≡ vec_len rows → map (λ row. row.items) rows.items ≡ seen

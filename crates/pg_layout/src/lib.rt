@@ -33,4 +33,6 @@ pub use crate::text::{
     Lines, count_lines, first_line, get_line, get_line_width, get_lines, get_text_width, is_blank,
     is_plain, trim_line,
 };
-pub use crate::vec_records::{RecordsFault, VecColumns, VecRecords, VecRows};
+pub use crate::vec_records::{
+    OwnedColumns, OwnedRows, RecordsFault, VecColumns, VecRecords, VecRows,
+};

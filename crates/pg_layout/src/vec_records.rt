@@ -1,13 +1,14 @@
 //! Rows of cells in memory.
 
-ghost use Rattle.std.specs.Prelude.{◌≡◌, ◌==◌, ◌<◌, ℕ, not, [], List, slice_index_or, map, length, position, Some, IfOk, option_map};
+ghost use Rattle.std.specs.Prelude.{◌≡◌, ◌==◌, ◌<◌, ℕ, not, [], List, slice_index_or, map, length, position, Some, None, MatchOption, IfOk, option_map};
 ghost use Rattle.std.specs.Result.{result_err};
-ghost use Rattle.std.specs.Iterator.{YieldsFirstBy, item_count};
+ghost use Rattle.std.specs.Iterator.{YieldsFirstBy, item_count, at_most};
+ghost use Rattle.std.specs.Vec.{vec_len};
+ghost use Rattle.std.specs.Vec.Iter.{into_iter_items, into_iter_len, into_iter_steps};
 ghost use Rattle.pg_layout.specs.Records.{columns_of, ragged_row, records_fault_text, text_at};
 ghost use Rattle.pg_layout.specs.Text.{lines_of};
 ghost use Rattle.pg_layout.specs.declared.vec_records.RecordsFault.TheVariants.{Ragged};
 
-use crate::iter_records::IterRows;
 use crate::position::Position;
 use crate::records::{ExactRecords, PeekableRecords, Records};
 use crate::text::{count_lines, get_line, get_line_width, get_text_width};
@@ -57,6 +58,63 @@ impl<'a, T: AsStr, A: Allocator> Iterator for VecRows<'a, T, A> {
         Some(VecColumns {
             cells: first.as_slice(),
         })
+    }
+}
+
+/// The cells of a row in memory, given themselves.
+#[derive(Debug)]
+pub struct OwnedColumns<T, A: Allocator = Global> {
+    cells: IntoIter<T, A>,
+}
+
+// Written out, as that of the rows is, so that it is proved here, once for all cells, and not by each
+// program that lets cells go.
+impl<T: Drop, A: Allocator> Drop for OwnedColumns<T, A> {
+    fn drop(self) {
+        let OwnedColumns { cells } = self;
+        drop(cells);
+    }
+}
+
+impl<T: Drop, A: Allocator> Iterator for OwnedColumns<T, A> {
+    type Item = T;
+
+    ghost next_gives = { λ s r t. into_iter_steps s.cells r t.cells };
+
+    ghost remaining = { λ s. at_most (into_iter_len s.cells) };
+
+    fn next(&mut self) -> Option<T> {
+        self.cells.next()
+    }
+}
+
+/// The rows of records in memory, given themselves.
+#[derive(Debug)]
+pub struct OwnedRows<T, A: Allocator = Global> {
+    rows: IntoIter<Vec<T, A>, A>,
+}
+
+impl<T: Drop, A: Allocator> Drop for OwnedRows<T, A> {
+    fn drop(self) {
+        let OwnedRows { rows } = self;
+        drop(rows);
+    }
+}
+
+impl<T: Drop, A: Allocator> Iterator for OwnedRows<T, A> {
+    type Item = OwnedColumns<T, A>;
+
+    ghost next_gives = { λ s r t. MatchOption r (into_iter_steps s.rows None t.rows) (λ row. (cells : _) × into_iter_steps s.rows (Some cells) t.rows × ((into_iter_items row.cells ≡ cells.items) × (into_iter_len row.cells ≡ vec_len cells))) };
+
+    ghost remaining = { λ s. at_most (into_iter_len s.rows) };
+
+    fn next(&mut self) -> Option<OwnedColumns<T, A>> {
+        match self.rows.next() {
+            Some(row) => Some(OwnedColumns {
+                cells: row.into_iter(),
+            }),
+            None => None,
+        }
     }
 }
 
@@ -219,9 +277,9 @@ impl<T: AsStr, A: Allocator> PeekableRecords for &VecRecords<T, A> {
 impl<T: AsStr + Drop, A: Allocator> Records for VecRecords<T, A> {
     type Cell = T;
 
-    type Columns = IntoIter<T, A>;
+    type Columns = OwnedColumns<T, A>;
 
-    type Rows = IterRows<IntoIter<Vec<T, A>, A>>;
+    type Rows = OwnedRows<T, A>;
 
     ghost texts = { λ r. map (λ row. map T.text row) r };
 
@@ -229,10 +287,10 @@ impl<T: AsStr + Drop, A: Allocator> Records for VecRecords<T, A> {
 
     ghost hint = { λ r. Some (length r) };
 
-    fn iter_rows(self) -> IterRows<IntoIter<Vec<T, A>, A>> {
+    fn iter_rows(self) -> OwnedRows<T, A> {
         let VecRecords { rows } = self;
-        IterRows {
-            iter: rows.into_iter(),
+        OwnedRows {
+            rows: rows.into_iter(),
         }
     }
 
