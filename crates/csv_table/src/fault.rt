@@ -84,7 +84,8 @@ impl From<io::Error> for Fault {
 }
 
 impl Fault {
-    /// The exit status that tells of it.
+    /// The exit status that tells of it: 2 for a bad row, 3 for a table whose sizes are too large, 4
+    /// for want of memory, 5 for a read or a write that fails.
     pub(crate) fn status(self) -> u8
         ensures some { result ≢ 0 }
         ensures write { self ≡ Fault.Write → result ≡ 5 }

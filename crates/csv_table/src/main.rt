@@ -29,9 +29,11 @@ mod table;
 #[cfg(test)]
 mod tests;
 
+use crate::program::{exit_status, run};
 use std::process::ExitCode;
 
 fn main(rt: HostRuntime) -> ExitCode {
     let (mut out, mut err) = (rt.stdout(), rt.stderr());
-    ExitCode::from(program::run(rt.alloc(), rt.stdin(), &mut out, &mut err))
+    let printed = run(rt.alloc(), rt.stdin(), &mut out, &mut err);
+    ExitCode::from(exit_status(printed))
 }

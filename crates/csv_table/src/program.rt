@@ -1,6 +1,6 @@
 //! The program: comma-separated rows in, a table out.
 
-ghost use Rattle.std.specs.Prelude.{◌≡◌, ◌≢◌, Err, OnOk};
+ghost use Rattle.std.specs.Prelude.{◌≡◌, ◌≢◌, ◌↔◌, Err, IsOk, OnOk};
 ghost use Rattle.std.specs.Io.KnownBytes.{Appends, Keeps};
 
 use crate::fault::{Fault, RowFault};
@@ -49,27 +49,34 @@ fn print<A: Allocator + Copy, R: Read + Drop, W: Write>(
     write_text(&text, out)
 }
 
-/// Runs the program, and answers its exit status.
+/// Runs the program, and answers the fault that it met, if any.
 ///
 /// Comma-separated rows are read from `input`, and the text of their table is written to `out`, with
-/// a line feed behind it; of an empty input nothing is. Status 0 once it is written. Each fault is
-/// one line on `err`, and nothing is written to `out` save by a write that fails: status 2 for a bad
-/// row, which the line names on which it begins, 3 for a table whose sizes are too large, 4 for want
-/// of memory, 5 for a read or a write that fails. A failed write to `err` changes no status.
+/// a line feed behind it; of an empty input nothing is. Each fault is one line on `err`, that of a
+/// bad row with the line on which the row begins, and nothing is written to `out` save by a write
+/// that fails. A failed write to `err` changes no answer.
 pub(crate) fn run<A: Allocator + Copy, R: Read + Drop, W1: Write, W2: Write>(
     alloc: A,
     input: R,
     out: &mut W1,
     err: &mut W2,
-) -> u8
-    ensures unwritten { result ≢ 0 → result ≢ 5 → Keeps (W1.contents out.old) (W1.contents out.new) }
-    ensures silent { result ≡ 0 → Keeps (W2.contents err.old) (W2.contents err.new) }
+) -> Result<(), Fault>
+    ensures unwritten { (fault : _) → result ≡ Err fault → fault ≢ Fault.Write → Keeps (W1.contents out.old) (W1.contents out.new) }
+    ensures silent { IsOk result → Keeps (W2.contents err.old) (W2.contents err.new) }
 {
-    match print(alloc, input, out) {
+    let printed = print(alloc, input, out);
+    if let Err(fault) = printed {
+        let _ = fault.tell(err);
+    }
+    printed
+}
+
+/// The exit status of a run that ended so: 0 where it met no fault.
+pub(crate) fn exit_status(printed: Result<(), Fault>) -> u8
+    ensures { (result ≡ 0) ↔ IsOk printed }
+{
+    match printed {
         Ok(()) => 0,
-        Err(fault) => {
-            let _ = fault.tell(err);
-            fault.status()
-        }
+        Err(fault) => fault.status(),
     }
 }

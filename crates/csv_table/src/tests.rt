@@ -1,7 +1,7 @@
 //! Runs of the program.
 
 use crate::number::is_number;
-use crate::program::run;
+use crate::program::{exit_status, run};
 use pg_testing::ledger::Rule;
 use pg_testing::refusing::Refusing;
 use pg_testing::streams::{FailingReader, FailingWriter};
@@ -26,7 +26,7 @@ struct Run {
 // The program prints this text of this input.
 fn assert_shown(rt: &impl Abort, alloc: Global, input: &str, text: &str) {
     let (mut out, mut err) = (Vec::new(alloc), Vec::new(alloc));
-    let status = run(alloc, input.as_bytes(), &mut out, &mut err);
+    let status = exit_status(run(alloc, input.as_bytes(), &mut out, &mut err));
     assert_same(rt, status, 0);
     assert_same(rt, out.as_slice(), text.as_bytes());
     assert_same(rt, err.len(), 0);
@@ -35,7 +35,7 @@ fn assert_shown(rt: &impl Abort, alloc: Global, input: &str, text: &str) {
 // The program refuses this input as bad, in this line.
 fn assert_refused(rt: &impl Abort, alloc: Global, input: &[u8], line: &str) {
     let (mut out, mut err) = (Vec::new(alloc), Vec::new(alloc));
-    let status = run(alloc, input, &mut out, &mut err);
+    let status = exit_status(run(alloc, input, &mut out, &mut err));
     assert_same(rt, status, 2);
     assert_same(rt, out.len(), 0);
     assert_same(rt, err.as_slice(), line.as_bytes());
@@ -170,13 +170,17 @@ const TEXT: &str = "\
 // rules.
 fn run_failing(alloc: Global, (reads, writes, tellings): (Rule, Rule, Rule)) -> Run {
     let (mut out, mut err) = (Vec::new(alloc), Vec::new(alloc));
-    let status = run(
+    let printed = run(
         alloc,
         FailingReader::new(INPUT.as_bytes(), reads),
         &mut FailingWriter::new(&mut out, writes),
         &mut FailingWriter::new(&mut err, tellings),
     );
-    Run { status, out, err }
+    Run {
+        status: exit_status(printed),
+        out,
+        err,
+    }
 }
 
 // Whichever read fails: a status and a line of its own, and no table.
@@ -208,7 +212,7 @@ fn a_failed_write_ends_the_run(rt: HostRuntime) {
 fn is_run(rt: &impl Abort, alloc: Global, k: u64) -> bool {
     let (mut out, mut err) = (Vec::new(alloc), Vec::new(alloc));
     let memory = Refusing::only(alloc, k);
-    let status = run(&memory, INPUT.as_bytes(), &mut out, &mut err);
+    let status = exit_status(run(&memory, INPUT.as_bytes(), &mut out, &mut err));
     let (code, text, line) = match memory.has_refused() {
         true => (4, "", "out of memory\n"),
         false => (0, TEXT, ""),

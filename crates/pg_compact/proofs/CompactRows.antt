@@ -1,5 +1,6 @@
 -- The lines of a compact table's rows: what stands round the cells, one column after the other, and the cell that an iterator gives for a column.
 use Rattle.std.proofs.Common.{◌≡◌, ℕ, suc, ◌+◌, ◌-◌, ◌<◌, List, [], ◌∷◌, ◌++◌, flat_map, length, drop, slice_index_or, get_or, Option, Some, None, refl, ap, ◌∙◌, subst, append_assoc, zero-add, arith, zero, ◌≤◌, inl, inr}
+use Rattle.std.specs.Iterator.{Count, MakesProgress}
 use Rattle.std.specs.List.{range_with_len}
 use Rattle.std.proofs.Math.Seq.{drop-cons}
 use Rattle.std.proofs.lemmas.Bool.{cases_lt}
@@ -107,23 +108,24 @@ module _ {S A B : Type 0} (P : A → B → Type 0) (steps : S → Option A → S
         | inr past ↦ past
       ]
 
-module _ {S A : Type 0} (is_row : A → List Text → Type 0) (steps : S → Option A → S → Type 0) (columns : ℕ) where
-  -- a row that was taken, and the rows behind it
-  pub record RowTaken (row : A) (rows : S) (r : ℕ) (texts : List (List Text)) : Type 0 where
-    pub stands : is_row row (slice_index_or texts r [])
-    pub even : length (slice_index_or texts r []) ≡ columns
-    pub rest : AreRows is_row steps columns (r + 1) texts rows
+-- a row that was taken, and the rows behind it
+pub record RowTaken {S A : Type 0} (is_row : A → List Text → Type 0) (can : S → Type 0) (steps : S → Option A → S → Type 0) (left : S → Count) (columns r : ℕ) (texts : List (List Text)) (row : A) (rows : S) : Type 0 where
+  pub stands : is_row row (slice_index_or texts r [])
+  pub even : length (slice_index_or texts r []) ≡ columns
+  pub rest : AreRows is_row can steps left columns (r + 1) texts rows
 
-  pub row-taken : (s : S) (row : A) (t : S) (r : ℕ) (texts : List (List Text)) → AreRows is_row steps columns r texts s → steps s (Some row) t → RowTaken row t r texts
-  row-taken s row t r texts are step =
-      let here : r < length texts = some-left is_row steps s row t r texts are.gives step in
-      let taken = next-taken is_row steps s row t r texts [] are.gives here step in
+module _ {S A : Type 0} {is_row : A → List Text → Type 0} {can : S → Type 0} {steps : S → Option A → S → Type 0} {left : S → Count} {columns r : ℕ} {texts : List (List Text)} {s t : S} where
+  pub row-taken : {row : A} → AreRows is_row can steps left columns r texts s → steps s (Some row) t → MakesProgress can left s (Some row) t → RowTaken is_row can steps left columns r texts row t
+  row-taken {row} are step progress =
+      let here : r < length texts = some-left is_row steps s row t r texts are.given.gives step in
+      let taken = next-taken is_row steps s row t r texts [] are.given.gives here step in
+      let goes = progress.on are.given.ends in
       record {
         stands = taken.stands;
         even = are.even r [] here;
-        rest = record { gives = taken.rest; even = are.even; begun = omega (arith, here); count = are.count };
+        rest = record { given = record { can_next = goes.0; ends = goes.1; gives = taken.rest }; even = are.even; begun = omega (arith, here); count = are.count };
       }
 
   -- at the end all rows were taken
-  pub rows-ended : (s t : S) (r : ℕ) (texts : List (List Text)) → AreRows is_row steps columns r texts s → steps s None t → length texts ≡ r
-  rows-ended s t r texts are step = omega (arith, none-left is_row steps s t r texts [] are.gives step, are.begun)
+  pub rows-ended : AreRows is_row can steps left columns r texts s → steps s None t → length texts ≡ r
+  rows-ended are step = omega (arith, none-left is_row steps s t r texts [] are.given.gives step, are.begun)

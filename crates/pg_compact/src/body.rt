@@ -1,6 +1,6 @@
 //! The lines of a compact table, one below the other.
 
-ghost use Rattle.std.specs.Prelude.{◌≡◌, ◌<◌, ◌==◌, ◌-◌, ◌++◌, [], ℕ, List, IfSome, false, length, flat_map, replicate};
+ghost use Rattle.std.specs.Prelude.{◌≡◌, ◌==◌, ◌-◌, ◌++◌, [], ℕ, List, IfSome, false, length, flat_map, replicate};
 ghost use Rattle.std.specs.Iterator.{IsFinite};
 ghost use Rattle.std.specs.List.{range_with_len};
 ghost use Rattle.pg_layout.specs.Colors.{str_color};
@@ -33,9 +33,8 @@ impl<D: Dimension, C: Colors> CompactPrinter<'_, D, C> {
         Cells: Iterator<Item = T>,
         Rows: Iterator<Item = Cells>,
         A: Allocator,
-        requires rows { Rows.can_next rows × IsFinite (Rows.remaining rows) }
-        requires given { (texts : List (List (List ℕ))) × AreRows (Gives (λ x y. T.text x ≡ y) Cells.can_next Cells.next_gives Cells.remaining) Rows.next_gives self.now.columns 0 texts rows × CompactFits (printed_table D.width C.color self.now texts) }
-        ensures { (texts : List (List (List ℕ))) → AreRows (Gives (λ x y. T.text x ≡ y) Cells.can_next Cells.next_gives Cells.remaining) Rows.next_gives self.now.columns 0 texts rows → Appends buf.old buf.new result (compact_picture (printed_table D.width C.color self.now texts)) }
+        requires { (texts : List (List (List ℕ))) × AreRows (Gives (λ x y. T.text x ≡ y) Cells.can_next Cells.next_gives Cells.remaining) Rows.can_next Rows.next_gives Rows.remaining self.now.columns 0 texts rows × CompactFits (printed_table D.width C.color self.now texts) }
+        ensures { (texts : List (List (List ℕ))) → AreRows (Gives (λ x y. T.text x ≡ y) Cells.can_next Cells.next_gives Cells.remaining) Rows.can_next Rows.next_gives Rows.remaining self.now.columns 0 texts rows → Appends buf.old buf.new result (compact_picture (printed_table D.width C.color self.now texts)) }
     {
         if self.columns == 0 {
             return Ok(());
@@ -92,7 +91,7 @@ impl<D: Dimension, C: Colors> CompactPrinter<'_, D, C> {
         push_compact_margin(buf, margin.bottom, color.bottom, width, false)
     }
 
-    // The rows after the first one.
+    // The lines of the rows after the first one, each below its separator.
     fn push_next_rows<T, Cells, Rows, A>(
         &self,
         buf: &mut String<A>,
@@ -103,40 +102,18 @@ impl<D: Dimension, C: Colors> CompactPrinter<'_, D, C> {
         Cells: Iterator<Item = T>,
         Rows: Iterator<Item = Cells>,
         A: Allocator,
-        requires rows { Rows.can_next rows × IsFinite (Rows.remaining rows) }
-        requires given { (texts : List (List (List ℕ))) × AreRows (Gives (λ x y. T.text x ≡ y) Cells.can_next Cells.next_gives Cells.remaining) Rows.next_gives self.now.columns 1 texts rows }
-        ensures { (texts : List (List (List ℕ))) → AreRows (Gives (λ x y. T.text x ≡ y) Cells.can_next Cells.next_gives Cells.remaining) Rows.next_gives self.now.columns 1 texts rows → Appends buf.old buf.new result (fed (flat_map (row_lines (printed_table D.width C.color self.now texts)) (range_with_len 1 (length texts - 1)))) }
+        requires { (texts : List (List (List ℕ))) × AreRows (Gives (λ x y. T.text x ≡ y) Cells.can_next Cells.next_gives Cells.remaining) Rows.can_next Rows.next_gives Rows.remaining self.now.columns 1 texts rows }
+        ensures { (texts : List (List (List ℕ))) → AreRows (Gives (λ x y. T.text x ≡ y) Cells.can_next Cells.next_gives Cells.remaining) Rows.can_next Rows.next_gives Rows.remaining self.now.columns 1 texts rows → Appends buf.old buf.new result (fed (flat_map (row_lines (printed_table D.width C.color self.now texts)) (range_with_len 1 (length texts - 1)))) }
     {
         let mut room = [0; SEPARATOR_ROOM];
         let mut kept = SeparatorKeeper::new(&mut room);
         let mut row = 0;
         for cells in rows {
             row += 1;
-            self.push_next_row(buf, &mut kept, row, cells)?;
+            self.push_inner_separator(buf, &mut kept)?;
+            self.push_row(buf, row, cells, false)?;
         }
         Ok(())
-    }
-
-    // The lines of a row after the first one, and the separator above them.
-    fn push_next_row<T, Cells, A>(
-        &self,
-        buf: &mut String<A>,
-        kept: &mut SeparatorKeeper<'_>,
-        row: usize,
-        cells: Cells,
-    ) -> Result<(), AllocError>
-    where
-        T: AsStr + Drop,
-        Cells: Iterator<Item = T>,
-        A: Allocator,
-        requires next { 0 < row }
-        requires cells { Cells.can_next cells × IsFinite (Cells.remaining cells) }
-        requires kept { IfSome kept.old.text (IsInnerSeparator (printed_table D.width C.color self.now [])) }
-        ensures appends { (texts : List (List (List ℕ))) → IsRow T.text Cells.next_gives self.now.columns texts row cells → Appends buf.old buf.new result (fed (row_lines (printed_table D.width C.color self.now texts) row)) }
-        ensures kept { IfSome kept.new.text (IsInnerSeparator (printed_table D.width C.color self.now [])) }
-    {
-        self.push_inner_separator(buf, kept)?;
-        self.push_row(buf, row, cells, false)
     }
 
     // The lines of a row; `is_first` tells whether no line stands before them.

@@ -7,14 +7,15 @@ use Rattle.pg_picture.specs.Marks.{Mark, sep, line, place_of}
 use Rattle.pg_picture.specs.Pieces.{written, style_at, block_line}
 use Rattle.pg_picture.specs.Table.{Table, rect_marks, rect_width, rect_height, block_at}
 use Rattle.pg_picture.specs.Sizes.{if_fits, sized, height_of_rect}
-use Rattle.pg_picture.specs.Rectangles.{IsOwner, rows_height}
+use Rattle.pg_picture.specs.Rectangles.{IsOwner}
+use Rattle.pg_picture.specs.Inside.Rectangles.{rows_height}
 use Rattle.pg_picture.proofs.SumsOfSizes.{sum_by-from_more}
 use Rattle.pg_picture.proofs.FittingTables.{RectInside, rect_width-sized, rect_height_fits, width_answer, height_answer}
 use Rattle.pg_picture.proofs.OwnersOfPlaces.{InOrder}
 use Rattle.pg_picture.proofs.DrawnRectangles.{rect_of, rows_height-fits, line_place, line_inside, sep_place, sep_inside, corner_owns, corner_from, corner_to, corner_inside}
-use Rattle.pg_peekable.specs.declared.kept.KeptRectangle.{KeptRectangle}
 use Rattle.pg_peekable.specs.Inside.Drawn.{ArePartsOf, CanDraw}
 use Rattle.pg_peekable.specs.Inside.Kept.{IsRectangle}
+use Rattle.pg_peekable.specs.Inside.Walks.{OwnsRow}
 use Rattle.pg_peekable.proofs.CanDraw.{in_order}
 
 module _ (t : Table) (can : CanDraw t) where
@@ -62,9 +63,9 @@ module _ (t : Table) (can : CanDraw t) where
   pub lines-fit : (first above : ℕ) → first ≤ above → above ≤ t.rows → rows_height t first (above - first) < 2 ^ 64
   lines-fit first above h k = rows_height-fits t can.fits.totals first (above - first) (omega (arith, h, k))
 
--- the lines of a kept rectangle above its row
-pub above-row : (t : Table) (kept : KeptRectangle) (row : ℕ) → IsRectangle t kept → kept.row ≡ row → kept.above ≡ rows_height t kept.corner.row (row - kept.corner.row)
-above-row t kept row is here = is.above ∙ ap (λ (r : ℕ). rows_height t kept.corner.row (r - kept.corner.row)) here
+-- the lines of a rectangle above its row
+pub above-row : (t : Table) {p : Position} {w h r above : ℕ} (row : ℕ) → IsRectangle t p w h r above → r ≡ row → above ≡ rows_height t p.row (row - p.row)
+above-row t {p} row is here = is.above ∙ ap (λ (r : ℕ). rows_height t p.row (r - p.row)) here
 
 -- a line of a block, by its number
 block-line : (t : Table) (p : Position) (mark : Mark) (number : ℕ) → number ≡ place_of mark (rect_marks t p)
@@ -78,11 +79,12 @@ module _ (t : Table) (can : CanDraw t) (r x : ℕ) (s : Span) (found : left_span
   order : InOrder t.config.spans t.rows t.columns
   order = in_order t can
 
-  pub found_owner : IsOwner t q
-  found_owner = subst (λ (p : Position). IsOwner t p) (sym is) (corner_owns t order r x s found)
-
-  pub found_from : q.row ≤ r
-  found_from = subst (λ (p : Position). p.row ≤ r) (sym is) (corner_from t order r x s found)
+  pub found_owns : OwnsRow t q r
+  found_owns =
+      let from = corner_from t order r x s found in
+      let to = corner_to t order r x s found in
+      let inside = corner_inside t order r x s found in
+      subst (λ (p : Position). OwnsRow t p r) (sym is) (record { owner = corner_owns t order r x s found; first = from; row = omega (arith, to, inside) })
 
   -- where `above` lines of the rectangle stand above row r
   module _ (above : ℕ) (sum : above ≡ rows_height t q.row (r - q.row)) where

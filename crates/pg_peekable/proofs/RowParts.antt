@@ -9,7 +9,7 @@ use Rattle.pg_picture.specs.Pieces.{Piece, written, style_at, block_line}
 use Rattle.pg_picture.specs.Table.{Table, vertical, vertical_at, block_at, row_part}
 use Rattle.pg_picture.specs.Fits.{cell_fits}
 use Rattle.pg_picture.specs.Fitting.{TableFits}
-use Rattle.pg_picture.specs.Rectangles.{columns_or_one}
+use Rattle.pg_picture.specs.Inside.Rectangles.{columns_or_one}
 use Rattle.pg_picture.proofs.PiecesOfLines.{written-append}
 use Rattle.pg_picture.proofs.Ranges.{range-more, range-cut}
 use Rattle.pg_picture.specs.Plain.{cell_line}

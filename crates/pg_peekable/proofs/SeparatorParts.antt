@@ -9,7 +9,7 @@ use Rattle.pg_picture.specs.Marks.{sep}
 use Rattle.pg_picture.specs.Pieces.{Piece, Item, block, cut, written}
 use Rattle.pg_picture.specs.Inside.Following.{items_after, last_color}
 use Rattle.pg_picture.specs.Table.{Table, block_at, crossing_at, border_items, separator_part}
-use Rattle.pg_picture.specs.Rectangles.{columns_or_one}
+use Rattle.pg_picture.specs.Inside.Rectangles.{columns_or_one}
 use Rattle.pg_picture.proofs.CutsOfItems.{items_after-append, items_after-one, last_color-append, last_color-one}
 use Rattle.pg_picture.proofs.OwnersOfPlaces.{InOrder}
 use Rattle.pg_picture.proofs.WalksOfRows.{walk_step, width_above-positive, width_above-inside, next_start, separator_part_inner, separator_part_border, separator_part_block, above_some}

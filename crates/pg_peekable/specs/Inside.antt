@@ -3,3 +3,4 @@ pub mod Drawn
 pub mod DrawnProps
 pub mod Kept
 pub mod Lines
+pub mod Walks

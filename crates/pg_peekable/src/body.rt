@@ -1,21 +1,22 @@
 //! The lines of the body, one below the other.
 
-ghost use Rattle.std.specs.Prelude.{◌≡◌, ◌≤◌, ◌<◌, ◌+◌, ◌==◌, ◌++◌, [], ◌∷◌, length, map, IfOk, Some};
+ghost use Rattle.std.specs.Prelude.{◌≡◌, ◌≤◌, ◌+◌, ◌==◌, ◌++◌, [], ◌∷◌, length, map, IfOk, Some};
 ghost use Rattle.std.specs.List.{range_with_len};
 ghost use Rattle.pg_config.specs.Config.{has_horizontal};
 ghost use Rattle.pg_picture.specs.Appending.{Appends};
-ghost use Rattle.pg_picture.specs.Inside.Following.{lines_before, feed_before};
-ghost use Rattle.pg_picture.specs.Marks.{sep, line, only_if, marks_of_row, marks_above};
+ghost use Rattle.pg_picture.specs.Inside.Following.{lines_before, feed_before, body_text};
+ghost use Rattle.pg_picture.specs.Marks.{sep, line as line_mark, only_if, marks_of_row, marks_above};
 ghost use Rattle.pg_picture.specs.Pieces.{written};
 ghost use Rattle.pg_picture.specs.Table.{Known, table_body, side_margin_at};
-ghost use Rattle.pg_picture.specs.Picture.{body_text};
-ghost use Rattle.pg_peekable.specs.Inside.Lines.{IsLine, IsSeparatorLine};
+ghost use Rattle.pg_peekable.specs.Inside.Lines.{HasRow, HasRoom};
 
 use crate::drawing::{Drawing, Drawn};
 use crate::kept::KeptCells;
+use crate::lines::{RowLine, Separator};
 use pg_layout::{Colors, Dimension, PeekableRecords};
 use pg_picture::{push_feed, push_left_margin, push_right_margin};
 use std::alloc::{AllocError, Allocator};
+use std::marker::PhantomData;
 
 impl<'g, T, R, D, C, B> Drawing<'g, T, R, D, C, B>
 where
@@ -50,8 +51,7 @@ where
         index: usize,
         is_first: bool,
     ) -> Result<usize, AllocError>
-        requires row { row < T.table.rows }
-        requires room { index + length (marks_of_row T.table.config T.table.height row) ≤ length (table_body T.table) }
+        requires row { HasRow T.table row index }
         ensures lines { Appends buf.old buf.new result (body_text Known T.table (lines_before is_first) index (marks_of_row T.table.config T.table.height row)) }
         ensures index { IfOk result (λ next. next ≡ index + length (marks_of_row T.table.config T.table.height row)) }
     {
@@ -68,7 +68,6 @@ where
         index: usize,
         is_first: bool,
     ) -> Result<usize, AllocError>
-        requires row { row ≤ T.table.rows }
         requires room { index + length (only_if (has_horizontal T.table.config row T.table.rows) (sep row)) ≤ length (table_body T.table) }
         ensures lines { Appends buf.old buf.new result (body_text Known T.table (lines_before is_first) index (only_if (has_horizontal T.table.config row T.table.rows) (sep row))) }
         ensures index { IfOk result (λ next. next ≡ index + length (only_if (has_horizontal T.table.config row T.table.rows) (sep row))) }
@@ -76,7 +75,11 @@ where
         if !self.has_horizontal(row) {
             return Ok(index);
         }
-        self.push_separator_line(buf, kept, row, index, is_first)?;
+        let separator = Separator {
+            row,
+            of: PhantomData,
+        };
+        self.push_separator_line(buf, kept, &separator, index, is_first)?;
         Ok(index + 1)
     }
 
@@ -104,14 +107,18 @@ where
         index: usize,
         is_first: bool,
     ) -> Result<usize, AllocError>
-        requires row { row < T.table.rows }
-        requires room { index + T.table.height row ≤ length (table_body T.table) }
-        ensures lines { Appends buf.old buf.new result (body_text Known T.table (lines_before is_first) index (map (line row) (range_with_len 0 (T.table.height row)))) }
+        requires { HasRoom T.table row index (T.table.height row) }
+        ensures lines { Appends buf.old buf.new result (body_text Known T.table (lines_before is_first) index (map (line_mark row) (range_with_len 0 (T.table.height row)))) }
         ensures index { IfOk result (λ next. next ≡ index + T.table.height row) }
     {
         let height = self.height_of(row);
         for number in 0..height {
-            self.push_line(buf, kept, row, number, index + number, is_first)?;
+            let line = RowLine {
+                row,
+                number,
+                of: PhantomData,
+            };
+            self.push_line(buf, kept, &line, index + number, is_first)?;
         }
         Ok(index + height)
     }
@@ -121,16 +128,14 @@ where
         &self,
         buf: &mut String<A>,
         kept: &mut KeptCells<'_, T>,
-        row: usize,
-        number: usize,
+        line: &RowLine<T>,
         index: usize,
         is_first: bool,
     ) -> Result<(), AllocError>
-        requires { IsLine T.table row number }
-        ensures { Appends buf.old buf.new result (body_text Known T.table (lines_before is_first) index (line row number ∷ [])) }
+        ensures { Appends buf.old buf.new result (body_text Known T.table (lines_before is_first) index (line_mark line.now.row line.now.number ∷ [])) }
     {
         self.push_line_start(buf, index, is_first)?;
-        self.push_row_line(buf, kept, row, number)?;
+        self.push_row_line(buf, kept, line)?;
         self.push_line_end(buf, index)
     }
 
@@ -139,15 +144,14 @@ where
         &self,
         buf: &mut String<A>,
         kept: &mut KeptCells<'_, T>,
-        row: usize,
+        separator: &Separator<T>,
         index: usize,
         is_first: bool,
     ) -> Result<(), AllocError>
-        requires { IsSeparatorLine T.table row }
-        ensures { Appends buf.old buf.new result (body_text Known T.table (lines_before is_first) index (sep row ∷ [])) }
+        ensures { Appends buf.old buf.new result (body_text Known T.table (lines_before is_first) index (sep separator.now.row ∷ [])) }
     {
         self.push_line_start(buf, index, is_first)?;
-        self.push_separator(buf, kept, row)?;
+        self.push_separator(buf, kept, separator)?;
         self.push_line_end(buf, index)
     }
 

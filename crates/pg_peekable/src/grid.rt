@@ -46,18 +46,18 @@ where
     C: Colors,
     B: Allocator,
 {
-    ghost use Rattle.std.specs.Prelude.{◌≡◌, ◌++◌, ◌↔◌, true, false, Some, None, Err, IsOk, IfOk, OnOk, string_bytes};
+    ghost use Rattle.std.specs.Prelude.{◌≡◌, ◌++◌, ◌↔◌, true, Some, None, Err, IsOk, IfOk, OnOk, string_bytes};
     ghost use Rattle.pg_picture.specs.Appending.{Appends};
     ghost use Rattle.pg_picture.specs.Fits.{misfit_of};
-    ghost use Rattle.pg_picture.specs.Inside.Following.{lines_before};
+    ghost use Rattle.pg_picture.specs.Inside.Following.{lines_before, body_text};
     ghost use Rattle.pg_picture.specs.Joined.{joined};
-    ghost use Rattle.pg_picture.specs.Picture.{body_text, picture, picture_lines};
+    ghost use Rattle.pg_picture.specs.Picture.{picture, picture_lines};
     ghost use Rattle.pg_picture.specs.Printed.{Prints};
     ghost use Rattle.pg_picture.specs.Sizes.{unless_misfit};
     ghost use Rattle.pg_picture.specs.Straight.{IsStraight};
     ghost use Rattle.pg_picture.specs.Table.{Known, is_empty, table_body};
     ghost use Rattle.pg_peekable.specs.Grids.{drawn};
-    ghost use Rattle.pg_peekable.specs.Inside.Drawn.{CanDraw, IsShapeOf};
+    ghost use Rattle.pg_peekable.specs.Inside.Drawn.{CanDraw, IsFull, IsShapeOf};
 
     /// Whether everything fits in the table: the condition of `build` and `to_string`, as a test. It
     /// answers the first thing that doesn't (`pg_picture::fits::Misfit`), and takes no memory.
@@ -139,10 +139,7 @@ where
         rows: usize,
         columns: usize,
     ) -> Result<(), AllocError>
-        requires fits { misfit_of (drawn R.Records D.Dimension C.Colors self.now) ≡ None }
-        requires some { is_empty (drawn R.Records D.Dimension C.Colors self.now) ≡ false }
-        requires rows { rows ≡ (drawn R.Records D.Dimension C.Colors self.now).rows }
-        requires columns { columns ≡ (drawn R.Records D.Dimension C.Colors self.now).columns }
+        requires { IsFull (drawn R.Records D.Dimension C.Colors self.now) rows columns }
         ensures { Appends buf.old buf.new result (joined (picture_lines Known (drawn R.Records D.Dimension C.Colors self.now))) }
     {
         let path = self.path(!self.config.spans().is_empty());

@@ -1,6 +1,6 @@
 //! What is kept of cells from one of their lines to the next, so that it isn't worked out again.
 
-ghost use Rattle.std.specs.Prelude.{◌≡◌, ◌≤◌, ◌<◌, ℕ, List, IfSome, IsTrue, drop, length, slice_index_or, string_bytes, [], None};
+ghost use Rattle.std.specs.Prelude.{◌≡◌, ⊤, ◌≤◌, ◌<◌, ℕ, List, IfSome, IsTrue, drop, length, slice_index_or, string_bytes, [], None};
 ghost use Rattle.pg_layout.specs.LineCursor.{StandsIn, line_number};
 ghost use Rattle.pg_layout.specs.Text.{lines_of};
 ghost use Rattle.pg_picture.specs.Inside.Cells.{line_if};
@@ -10,7 +10,7 @@ ghost use Rattle.std.proofs.Props.{props};
 use crate::drawing::Drawn;
 use pg_layout::{LineCursor, Position};
 use pg_picture::{CellPlace, SeparatorKeeper};
-use std::alloc::Allocator;
+use std::alloc::{AllocError, Allocator};
 use std::marker::PhantomData;
 
 /// Where the lines of a text stand in their cell, and how far the text was read.
@@ -116,16 +116,29 @@ impl KeptCell {
 
 /// The rectangle of a cell: how many columns and lines it has, and how many of these stand above a
 /// row.
-#[derive(Debug, Clone, Copy)]
-pub(super) struct KeptRectangle {
+pub(super) struct KeptRectangle<T: Drawn> {
     pub(super) corner: Position,
     pub(super) width: usize,
     pub(super) height: usize,
     pub(super) row: usize,
     pub(super) above: usize,
+    pub(super) of: PhantomData<T>,
+    ghost is: { IsRectangle T.table corner width height row above } by { Prim.hlevel props },
 }
 
-impl KeptRectangle {
+impl<T: Drawn> Clone for KeptRectangle<T> {
+    ghost is_clone = { λ rectangle clone. clone ≡ rectangle };
+
+    ghost is_infallible = { λ _. ⊤ };
+
+    fn clone(&self) -> Result<Self, AllocError> {
+        Ok(*self)
+    }
+}
+
+impl<T: Drawn> Copy for KeptRectangle<T> {}
+
+impl<T: Drawn> KeptRectangle<T> {
     // Whether it is the rectangle of this place, and its row isn't below this one.
     fn is_for(&self, corner: Position, row: usize) -> bool
         ensures { IsTrue result → (self.now.corner ≡ corner) × (self.now.row ≤ row) }
@@ -146,11 +159,10 @@ pub(super) fn no_slots<T: Copy, const COLUMNS: usize>() -> [Option<T>; COLUMNS]
 #[derive(Drop)]
 pub(super) struct KeptCells<'k, T: Drawn> {
     cells: &'k mut [Option<KeptCell>],
-    rectangles: &'k mut [Option<KeptRectangle>],
+    rectangles: &'k mut [Option<KeptRectangle<T>>],
     separator: SeparatorKeeper<'k>,
     of: PhantomData<T>,
     ghost are_cells: { AllSlots (IsKept T.table) cells.now } by { Prim.hlevel props },
-    ghost are_rectangles: { AllSlots (IsRectangle T.table) rectangles.now } by { Prim.hlevel props },
     ghost is_separator: { IfSome separator.text (IsSeparator T.table) } by { Prim.hlevel props },
 }
 
@@ -160,11 +172,10 @@ impl<'k, T: Drawn> KeptCells<'k, T> {
     #[inline(always)]
     pub(super) fn new(
         cells: &'k mut [Option<KeptCell>],
-        rectangles: &'k mut [Option<KeptRectangle>],
+        rectangles: &'k mut [Option<KeptRectangle<T>>],
         separator: &'k mut [u8],
     ) -> KeptCells<'k, T>
         requires cells { (column : ℕ) → slice_index_or cells.old column None ≡ None }
-        requires rectangles { (column : ℕ) → slice_index_or rectangles.old column None ≡ None }
     {
         KeptCells {
             cells,
@@ -210,9 +221,8 @@ impl<'k, T: Drawn> KeptCells<'k, T> {
     }
 
     // The rectangle of a place and its lines above this row or an earlier one, if that is kept.
-    pub(super) fn rectangle(&self, corner: Position, row: usize) -> Option<KeptRectangle>
+    pub(super) fn rectangle(&self, corner: Position, row: usize) -> Option<KeptRectangle<T>>
         ensures of { IfSome result (λ kept. (kept.corner ≡ corner) × (kept.row ≤ row)) }
-        ensures is { IfSome result (IsRectangle T.table) }
     {
         if corner.col >= self.rectangles.len() {
             return None;
@@ -226,9 +236,7 @@ impl<'k, T: Drawn> KeptCells<'k, T> {
     }
 
     // Keeps a rectangle.
-    pub(super) fn keep_rectangle(&mut self, rectangle: KeptRectangle)
-        requires { IsRectangle T.table rectangle }
-    {
+    pub(super) fn keep_rectangle(&mut self, rectangle: KeptRectangle<T>) {
         if rectangle.corner.col < self.rectangles.len() {
             self.rectangles[rectangle.corner.col] = Some(rectangle);
         }

@@ -5,6 +5,7 @@ mod body;
 mod drawing;
 mod grid;
 mod kept;
+mod lines;
 mod path;
 mod rows;
 mod separators;

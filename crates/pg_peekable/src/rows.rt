@@ -1,24 +1,41 @@
 //! The lines of rows.
 
-ghost use Rattle.std.specs.Prelude.{◌≡◌, ◌<◌, ◌++◌, true, flat_map};
+ghost use Rattle.std.specs.Prelude.{◌≡◌, ◌++◌, flat_map};
 ghost use Rattle.std.specs.List.{range_with_len};
+ghost use Rattle.pg_layout.specs.Position.{at};
 ghost use Rattle.pg_picture.specs.Appending.{Appends};
 ghost use Rattle.pg_picture.specs.Pieces.{written, style_at};
+ghost use Rattle.pg_picture.specs.Plain.{cell_line};
 ghost use Rattle.pg_picture.specs.Inside.Cells.{style_of};
-ghost use Rattle.pg_picture.specs.Table.{row_part, row_line, vertical_at};
-ghost use Rattle.pg_picture.specs.Fits.{cell_fits};
+ghost use Rattle.pg_picture.specs.Table.{row_part, row_line, vertical, line_of_cell};
 ghost use Rattle.pg_peekable.specs.Inside.Kept.{IsReading};
-ghost use Rattle.pg_peekable.specs.Inside.Drawn.{HasNoSpans};
-ghost use Rattle.pg_peekable.specs.Inside.Lines.{IsLine, IsCellLine, line_of_cell};
+ghost use Rattle.pg_peekable.specs.Inside.Lines.{IsCellLine};
+ghost use Rattle.std.proofs.Props.{props};
 
 use crate::drawing::{Drawing, Drawn};
 use crate::kept::{KeptCells, Reading};
+use crate::lines::RowLine;
 use pg_layout::{Colors, Dimension, PeekableRecords, Position};
 use pg_picture::{
     CellPlace, CellStyle, TextFacts, push_block_line_of, push_single_line, push_vertical,
     push_vertical_at,
 };
 use std::alloc::{AllocError, Allocator};
+use std::marker::PhantomData;
+
+/// A line of a cell, which has room for its text: the cell's place, its columns, its lines and its
+/// style, and the number of the line.
+#[derive(Drop)]
+struct CellLine<'c, T: Drawn, B: Allocator> {
+    pos: Position,
+    width: usize,
+    height: usize,
+    number: usize,
+    style: &'c CellStyle<'c, B>,
+    of: PhantomData<T>,
+    ghost is: { IsCellLine T.table pos width height number } by { Prim.hlevel props },
+    ghost is_styled: { style_of style.now ≡ style_at T.table.config pos } by { Prim.hlevel props },
+}
 
 impl<'g, T, R, D, C, B> Drawing<'g, T, R, D, C, B>
 where
@@ -33,47 +50,28 @@ where
         &self,
         buf: &mut String<A>,
         kept: &mut KeptCells<'_, T>,
-        row: usize,
-        line: usize,
+        line: &RowLine<T>,
     ) -> Result<(), AllocError>
-        requires { IsLine T.table row line }
-        ensures { Appends buf.old buf.new result (written (row_line T.table row line)) }
+        ensures { Appends buf.old buf.new result (written (row_line T.table line.now.row line.now.number)) }
     {
-        self.push_parts(buf, kept, row, line)?;
-        self.push_end(buf, row, line)
+        self.push_parts(buf, kept, line)?;
+        self.push_end(buf, line)
     }
 
-    // What all columns add to a line of a row, by the path that the table takes.
+    // What all columns add to a line of a row: from rectangle to rectangle where cells span others.
     fn push_parts<A: Allocator>(
         &self,
         buf: &mut String<A>,
         kept: &mut KeptCells<'_, T>,
-        row: usize,
-        line: usize,
+        line: &RowLine<T>,
     ) -> Result<(), AllocError>
-        requires { IsLine T.table row line }
-        ensures { Appends buf.old buf.new result (written (flat_map (row_part T.table row line) (range_with_len 0 T.table.columns))) }
+        ensures { Appends buf.old buf.new result (written (flat_map (row_part T.table line.now.row line.now.number) (range_with_len 0 T.table.columns))) }
     {
         if self.is_spanned() {
-            return self.push_spanned_parts(buf, kept, row, line);
+            return self.push_spanned_parts(buf, kept, line);
         }
-        self.push_plain_parts(buf, kept, row, line)
-    }
-
-    // The same where no cell spans rows or columns.
-    fn push_plain_parts<A: Allocator>(
-        &self,
-        buf: &mut String<A>,
-        kept: &mut KeptCells<'_, T>,
-        row: usize,
-        line: usize,
-    ) -> Result<(), AllocError>
-        requires plain { HasNoSpans T.table }
-        requires line { IsLine T.table row line }
-        ensures { Appends buf.old buf.new result (written (flat_map (row_part T.table row line) (range_with_len 0 T.table.columns))) }
-    {
         for column in 0..self.columns {
-            self.push_part(buf, kept, Position::new(row, column), line)?;
+            self.push_part(buf, kept, line, column)?;
         }
         Ok(())
     }
@@ -84,31 +82,28 @@ where
         &self,
         buf: &mut String<A>,
         kept: &mut KeptCells<'_, T>,
-        pos: Position,
-        line: usize,
+        line: &RowLine<T>,
+        column: usize,
     ) -> Result<(), AllocError>
-        requires line { IsLine T.table pos.row line }
-        requires column { pos.col < T.table.columns }
-        requires room { cell_fits (style_at T.table.config pos) (T.table.text pos) (T.table.width pos.col) (T.table.height pos.row) ≡ true }
-        ensures { Appends buf.old buf.new result (written (vertical_at T.table.config T.table.columns (T.table.height pos.row) pos line) ++ written (line_of_cell T.table pos (T.table.width pos.col) (T.table.height pos.row) line)) }
+        requires { IsCellLine T.table (at line.now.row column) (T.table.width column) (T.table.height line.now.row) line.now.number }
+        ensures { Appends buf.old buf.new result (written (vertical T.table line.now.row line.now.number column) ++ written (cell_line T.table line.now.row column line.now.number)) }
     {
-        let height = self.height_of(pos.row);
-        let width = self.width_of(pos.col);
-        self.push_vertical(buf, pos, line)?;
-        self.push_cell(buf, kept, pos, width, height, line)
+        let height = self.height_of(line.row);
+        let width = self.width_of(column);
+        let pos = Position::new(line.row, column);
+        self.push_vertical(buf, line, column)?;
+        self.push_cell(buf, kept, pos, width, height, line.number)
     }
 
     // The vertical behind the last column.
     fn push_end<A: Allocator>(
         &self,
         buf: &mut String<A>,
-        row: usize,
-        line: usize,
+        line: &RowLine<T>,
     ) -> Result<(), AllocError>
-        requires line { line < T.table.height row }
-        ensures { Appends buf.old buf.new result (written (row_part T.table row line T.table.columns)) }
+        ensures { Appends buf.old buf.new result (written (row_part T.table line.now.row line.now.number T.table.columns)) }
     {
-        self.push_vertical(buf, Position::new(row, self.columns), line)
+        self.push_vertical(buf, line, self.columns)
     }
 
     // A vertical, on a line of its row. Tables of the basic path have no glyphs and colours of single
@@ -117,22 +112,22 @@ where
     pub(super) fn push_vertical<A: Allocator>(
         &self,
         buf: &mut String<A>,
-        pos: Position,
-        line: usize,
+        line: &RowLine<T>,
+        column: usize,
     ) -> Result<(), AllocError>
-        requires line { line < T.table.height pos.row }
-        ensures { Appends buf.old buf.new result (written (vertical_at T.table.config T.table.columns (T.table.height pos.row) pos line)) }
+        ensures { Appends buf.old buf.new result (written (vertical T.table line.now.row line.now.number column)) }
     {
+        let pos = Position::new(line.row, column);
         if self.is_basic() {
             let glyph = self.config.get_vertical(pos, self.columns);
             let color = self.config.get_vertical_color(pos, self.columns);
             return push_vertical(buf, glyph, color);
         }
-        let height = self.height_of(pos.row);
-        push_vertical_at(buf, self.config, self.columns, height, pos, line)
+        let height = self.height_of(line.row);
+        push_vertical_at(buf, self.config, self.columns, height, pos, line.number)
     }
 
-    // Line `line` of a cell of so many columns and lines, which has room for its text.
+    // A line of a cell of so many columns and lines, which has room for its text.
     #[inline(always)]
     pub(super) fn push_cell<A: Allocator>(
         &self,
@@ -141,14 +136,24 @@ where
         pos: Position,
         width: usize,
         height: usize,
-        line: usize,
+        number: usize,
     ) -> Result<(), AllocError>
-        requires { IsCellLine T.table pos width height line }
-        ensures { Appends buf.old buf.new result (written (line_of_cell T.table pos width height line)) }
+        requires { IsCellLine T.table pos width height number }
+        ensures { Appends buf.old buf.new result (written (line_of_cell T.table pos width height number)) }
     {
         match &self.all {
-            Some(style) => self.push_cell_in_style(buf, kept, style, pos, width, height, line),
-            None => self.push_cell_in_own_style(buf, kept, pos, width, height, line),
+            Some(style) => {
+                let line = CellLine {
+                    pos,
+                    width,
+                    height,
+                    number,
+                    style,
+                    of: PhantomData,
+                };
+                self.push_cell_in_style(buf, kept, line)
+            }
+            None => self.push_cell_in_own_style(buf, kept, pos, width, height, number),
         }
     }
 
@@ -162,13 +167,21 @@ where
         pos: Position,
         width: usize,
         height: usize,
-        line: usize,
+        number: usize,
     ) -> Result<(), AllocError>
-        requires { IsCellLine T.table pos width height line }
-        ensures { Appends buf.old buf.new result (written (line_of_cell T.table pos width height line)) }
+        requires { IsCellLine T.table pos width height number }
+        ensures { Appends buf.old buf.new result (written (line_of_cell T.table pos width height number)) }
     {
         let style = self.style_of(pos);
-        self.push_cell_in_style(buf, kept, &style, pos, width, height, line)
+        let line = CellLine {
+            pos,
+            width,
+            height,
+            number,
+            style: &style,
+            of: PhantomData,
+        };
+        self.push_cell_in_style(buf, kept, line)
     }
 
     // The same in the cell's style.
@@ -177,20 +190,14 @@ where
         &self,
         buf: &mut String<A>,
         kept: &mut KeptCells<'_, T>,
-        style: &CellStyle<'_, B>,
-        pos: Position,
-        width: usize,
-        height: usize,
-        line: usize,
+        line: CellLine<'_, T, B>,
     ) -> Result<(), AllocError>
-        requires style { style_of style.now ≡ style_at T.table.config pos }
-        requires cell { IsCellLine T.table pos width height line }
-        ensures { Appends buf.old buf.new result (written (line_of_cell T.table pos width height line)) }
+        ensures { Appends buf.old buf.new result (written (line_of_cell T.table line.entry.pos line.entry.width line.entry.height line.entry.number)) }
     {
-        if height == 1 {
-            return self.push_low_cell(buf, style, pos, width);
+        if line.height == 1 {
+            return self.push_low_cell(buf, line);
         }
-        self.push_tall_cell(buf, kept, style, pos, width, height, line)
+        self.push_tall_cell(buf, kept, line)
     }
 
     // The line of a cell of one line.
@@ -198,59 +205,51 @@ where
     fn push_low_cell<A: Allocator>(
         &self,
         buf: &mut String<A>,
-        style: &CellStyle<'_, B>,
-        pos: Position,
-        width: usize,
+        line: CellLine<'_, T, B>,
     ) -> Result<(), AllocError>
-        requires style { style_of style.now ≡ style_at T.table.config pos }
-        requires cell { IsCellLine T.table pos width 1 0 }
-        ensures { Appends buf.old buf.new result (written (line_of_cell T.table pos width 1 0)) }
+        requires { line.height ≡ 1 }
+        ensures { Appends buf.old buf.new result (written (line_of_cell T.table line.entry.pos line.entry.width line.entry.height line.entry.number)) }
     {
-        let text = self.text_of(pos);
-        push_single_line(buf, style, self.color_of(pos), text, false, width)
+        let text = self.text_of(line.pos);
+        let color = self.color_of(line.pos);
+        push_single_line(buf, line.style, color, text, false, line.width)
     }
 
-    // Line `line` of a cell, whose text is read on from its last line where that is kept.
+    // A line of a cell, whose text is read on from its last line where that is kept.
     fn push_tall_cell<A: Allocator>(
         &self,
         buf: &mut String<A>,
         kept: &mut KeptCells<'_, T>,
-        style: &CellStyle<'_, B>,
-        pos: Position,
-        width: usize,
-        height: usize,
-        line: usize,
+        line: CellLine<'_, T, B>,
     ) -> Result<(), AllocError>
-        requires style { style_of style.now ≡ style_at T.table.config pos }
-        requires cell { IsCellLine T.table pos width height line }
-        ensures { Appends buf.old buf.new result (written (line_of_cell T.table pos width height line)) }
+        ensures { Appends buf.old buf.new result (written (line_of_cell T.table line.entry.pos line.entry.width line.entry.height line.entry.number)) }
     {
-        let text = self.text_of(pos);
-        let mut reading = self.reading_of(kept, style, pos, width, height);
+        let text = self.text_of(line.pos);
+        let mut reading = self.reading_of(kept, &line);
         let place = reading.place;
-        let shown = reading.line_if(text, place.text_line_at(line));
-        kept.keep_reading(pos, width, height, reading);
-        push_block_line_of(buf, style, self.color_of(pos), shown, place, width, line)
+        let shown = reading.line_if(text, place.text_line_at(line.number));
+        kept.keep_reading(line.pos, line.width, line.height, reading);
+        let color = self.color_of(line.pos);
+        push_block_line_of(
+            buf,
+            line.style,
+            color,
+            shown,
+            place,
+            line.width,
+            line.number,
+        )
     }
 
-    // How far the text of a cell in its style was read: as far as is kept, or not at all.
-    fn reading_of(
-        &self,
-        kept: &KeptCells<'_, T>,
-        style: &CellStyle<'_, B>,
-        pos: Position,
-        width: usize,
-        height: usize,
-    ) -> Reading
-        requires style { style_of style.now ≡ style_at T.table.config pos }
-        requires cell { IsCellLine T.table pos width height 0 }
-        ensures { IsReading T.table pos width height result }
+    // How far the text of a line's cell was read: as far as is kept, or not at all.
+    fn reading_of(&self, kept: &KeptCells<'_, T>, line: &CellLine<'_, T, B>) -> Reading
+        ensures { IsReading T.table line.now.pos line.now.width line.now.height result }
     {
-        match kept.reading(pos, width, height) {
+        match kept.reading(line.pos, line.width, line.height) {
             Some(reading) => reading,
             None => {
-                let facts = TextFacts::of_text(self.text_of(pos), style.formatting);
-                Reading::new(CellPlace::of(facts, style, width, height))
+                let facts = TextFacts::of_text(self.text_of(line.pos), line.style.formatting);
+                Reading::new(CellPlace::of(facts, line.style, line.width, line.height))
             }
         }
     }

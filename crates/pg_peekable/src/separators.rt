@@ -1,16 +1,17 @@
 //! Separators.
 
-ghost use Rattle.std.specs.Prelude.{◌≡◌, ◌<◌, ◌++◌, true, IfOk, flat_map};
+ghost use Rattle.std.specs.Prelude.{◌≡◌, ◌++◌, IfOk, flat_map};
 ghost use Rattle.std.specs.List.{range_with_len};
-ghost use Rattle.pg_config.specs.Config.{has_horizontal, get_horizontal};
+ghost use Rattle.pg_config.specs.Config.{get_horizontal};
 ghost use Rattle.pg_picture.specs.Appending.{Appends};
 ghost use Rattle.pg_picture.specs.Pieces.{separator_text};
 ghost use Rattle.pg_picture.specs.Inside.Following.{items_after, last_color};
 ghost use Rattle.pg_picture.specs.Table.{separator_items, separator_part, crossing_at, border_items};
-ghost use Rattle.pg_peekable.specs.Inside.Lines.{IsSeparatorLine};
+ghost use Rattle.pg_peekable.specs.Inside.Lines.{IsInner};
 
 use crate::drawing::{Drawing, Drawn};
 use crate::kept::KeptCells;
+use crate::lines::Separator;
 use pg_layout::{ANSIBuf, Colors, Dimension, PeekableRecords, Position};
 use pg_picture::{Run, push_text};
 use std::alloc::{AllocError, Allocator};
@@ -28,15 +29,15 @@ where
         &self,
         buf: &mut String<A>,
         kept: &mut KeptCells<'_, T>,
-        row: usize,
+        separator: &Separator<T>,
     ) -> Result<(), AllocError>
-        requires { IsSeparatorLine T.table row }
-        ensures { Appends buf.old buf.new result (separator_text (separator_items T.table row)) }
+        ensures { Appends buf.old buf.new result (separator_text (separator_items T.table separator.now.row)) }
     {
+        let row = separator.row;
         if 0 < row && row < self.rows {
-            return self.push_inner_separator(buf, kept, row);
+            return self.push_inner_separator(buf, kept, separator);
         }
-        self.push_new_separator(buf, kept, row)
+        self.push_new_separator(buf, kept, separator)
     }
 
     // The separator between two rows: the one that is kept, or a new one, which is kept where all of
@@ -45,18 +46,16 @@ where
         &self,
         buf: &mut String<A>,
         kept: &mut KeptCells<'_, T>,
-        row: usize,
+        separator: &Separator<T>,
     ) -> Result<(), AllocError>
-        requires some { 0 < row }
-        requires row { row < T.table.rows }
-        requires there { has_horizontal T.table.config row T.table.rows ≡ true }
-        ensures { Appends buf.old buf.new result (separator_text (separator_items T.table row)) }
+        requires { IsInner T.table separator.now.row }
+        ensures { Appends buf.old buf.new result (separator_text (separator_items T.table separator.now.row)) }
     {
         if let Some(text) = kept.separator() {
             return push_text(buf, text);
         }
         let from = buf.len();
-        self.push_new_separator(buf, kept, row)?;
+        self.push_new_separator(buf, kept, separator)?;
         if !self.is_spanned() && self.config.has_equal_row_lines() {
             kept.keep_separator(buf, from);
         }
@@ -68,13 +67,12 @@ where
         &self,
         buf: &mut String<A>,
         kept: &mut KeptCells<'_, T>,
-        row: usize,
+        separator: &Separator<T>,
     ) -> Result<(), AllocError>
-        requires { IsSeparatorLine T.table row }
-        ensures { Appends buf.old buf.new result (separator_text (separator_items T.table row)) }
+        ensures { Appends buf.old buf.new result (separator_text (separator_items T.table separator.now.row)) }
     {
-        let run = self.push_columns(Run::new(), buf, kept, row)?;
-        let run = self.push_last_crossing(run, buf, row)?;
+        let run = self.push_columns(Run::new(), buf, kept, separator)?;
+        let run = self.push_last_crossing(run, buf, separator.row)?;
         run.close(buf)
     }
 
@@ -84,17 +82,16 @@ where
         mut run: Run<'g, ANSIBuf<B>>,
         buf: &mut String<A>,
         kept: &mut KeptCells<'_, T>,
-        row: usize,
+        separator: &Separator<T>,
     ) -> Result<Run<'g, ANSIBuf<B>>, AllocError>
-        requires there { has_horizontal T.table.config row T.table.rows ≡ true }
-        ensures appends { Appends buf.old buf.new result (items_after run.entry (flat_map (separator_part T.table row) (range_with_len 0 T.table.columns))) }
-        ensures color { IfOk result (λ after. after ≡ last_color run.entry (flat_map (separator_part T.table row) (range_with_len 0 T.table.columns))) }
+        ensures appends { Appends buf.old buf.new result (items_after run.entry (flat_map (separator_part T.table separator.now.row) (range_with_len 0 T.table.columns))) }
+        ensures color { IfOk result (λ after. after ≡ last_color run.entry (flat_map (separator_part T.table separator.now.row) (range_with_len 0 T.table.columns))) }
     {
         if self.is_spanned() {
-            return self.push_spanned_columns(run, buf, kept, row);
+            return self.push_spanned_columns(run, buf, kept, separator);
         }
         for column in 0..self.columns {
-            run = self.push_column(run, buf, Position::new(row, column))?;
+            run = self.push_column(run, buf, Position::new(separator.row, column))?;
         }
         Ok(run)
     }

@@ -2,8 +2,7 @@
 
 ghost use Rattle.std.specs.Prelude.{◌≡◌};
 ghost use Rattle.pg_picture.specs.Appending.{Appends};
-ghost use Rattle.pg_picture.specs.Inside.Following.{lines_before};
-ghost use Rattle.pg_picture.specs.Picture.{body_text};
+ghost use Rattle.pg_picture.specs.Inside.Following.{lines_before, body_text};
 ghost use Rattle.pg_picture.specs.Table.{Known, table_body};
 
 use crate::drawing::{Drawing, Drawn};
@@ -41,7 +40,7 @@ where
         let mut separator = [0; SEPARATOR_ROOM];
         if self.columns <= FEW || !self.may_have_tall_cells() {
             let mut cells: [Option<KeptCell>; FEW] = no_slots();
-            let mut rectangles: [Option<KeptRectangle>; FEW] = no_slots();
+            let mut rectangles: [Option<KeptRectangle<T>>; FEW] = no_slots();
             let mut kept: KeptCells<'_, T> = KeptCells::new(
                 &mut cells,
                 &mut rectangles,
@@ -51,7 +50,7 @@ where
         }
         if self.columns <= SOME {
             let mut cells: [Option<KeptCell>; SOME] = no_slots();
-            let mut rectangles: [Option<KeptRectangle>; SOME] = no_slots();
+            let mut rectangles: [Option<KeptRectangle<T>>; SOME] = no_slots();
             let mut kept: KeptCells<'_, T> = KeptCells::new(
                 &mut cells,
                 &mut rectangles,
@@ -60,7 +59,7 @@ where
             return self.push_body(buf, &mut kept, is_first);
         }
         let mut cells: [Option<KeptCell>; MANY] = no_slots();
-        let mut rectangles: [Option<KeptRectangle>; MANY] = no_slots();
+        let mut rectangles: [Option<KeptRectangle<T>>; MANY] = no_slots();
         let mut kept: KeptCells<'_, T> = KeptCells::new(
             &mut cells,
             &mut rectangles,

@@ -1,26 +1,28 @@
 //! Rows and separators of tables in which cells span rows or columns.
 
-ghost use Rattle.std.specs.Prelude.{◌≡◌, ◌≤◌, ◌<◌, ◌+◌, ◌-◌, ◌++◌, [], ◌∷◌, true, Some, IfOk, flat_map, cond};
+ghost use Rattle.std.specs.Prelude.{◌≡◌, ◌<◌, ◌-◌, ◌++◌, [], ◌∷◌, Some, IfOk, flat_map, cond};
 ghost use Rattle.std.specs.List.{range_with_len};
 ghost use Rattle.pg_config.specs.Config.{has_horizontal};
-ghost use Rattle.pg_config.specs.Spans.{corner, is_left, left_span, span_above};
+ghost use Rattle.pg_config.specs.Spans.{corner, left_span, span_above};
+ghost use Rattle.pg_layout.specs.Position.{at};
 ghost use Rattle.pg_picture.specs.Appending.{Appends};
 ghost use Rattle.pg_picture.specs.Pieces.{written, block};
 ghost use Rattle.pg_picture.specs.Inside.Following.{items_after, last_color};
-ghost use Rattle.pg_picture.specs.Marks.{sep, line};
-ghost use Rattle.pg_picture.specs.Table.{row_part, separator_part, vertical_at, block_at, rect_width, rect_height, crossing_at};
-ghost use Rattle.pg_picture.specs.Rectangles.{IsOwner, rows_height};
-ghost use Rattle.pg_peekable.specs.Inside.Kept.{IsRectangle};
-ghost use Rattle.pg_peekable.specs.Inside.Drawn.{starts};
-ghost use Rattle.pg_peekable.specs.Inside.Lines.{IsLine, line_of_cell};
+ghost use Rattle.pg_picture.specs.Marks.{sep, line as line_mark};
+ghost use Rattle.pg_picture.specs.Table.{row_part, separator_part, vertical, block_at, rect_width, rect_height, crossing_at, line_of_cell};
+ghost use Rattle.pg_picture.specs.Rectangles.{IsOwner};
+ghost use Rattle.pg_picture.specs.Inside.Rectangles.{rows_height};
+ghost use Rattle.pg_peekable.specs.Inside.Walks.{BeginsHere, BeginsAbove, OwnsRow, IsRowFrom};
 
 use crate::drawing::{Drawing, Drawn};
 use crate::kept::{KeptCells, KeptRectangle};
+use crate::lines::{RowLine, Separator};
 use pg_config::Span;
 use pg_layout::{ANSIBuf, Colors, Dimension, PeekableRecords, Position};
 use pg_picture::Run;
 use pg_picture::fits::{columns_of, height_of_rows, width_of_columns};
 use std::alloc::{AllocError, Allocator};
+use std::marker::PhantomData;
 
 impl<'g, T, R, D, C, B> Drawing<'g, T, R, D, C, B>
 where
@@ -35,17 +37,14 @@ where
         &self,
         buf: &mut String<A>,
         kept: &mut KeptCells<'_, T>,
-        row: usize,
-        number: usize,
+        line: &RowLine<T>,
     ) -> Result<(), AllocError>
-        requires { IsLine T.table row number }
-        ensures { Appends buf.old buf.new result (written (flat_map (row_part T.table row number) (range_with_len 0 T.table.columns))) }
+        ensures { Appends buf.old buf.new result (written (flat_map (row_part T.table line.now.row line.now.number) (range_with_len 0 T.table.columns))) }
     {
         let mut column = 0;
         while column < self.columns {
-            let pos = Position::new(row, column);
-            let span = self.left_span(pos);
-            self.push_spanned_part(buf, kept, pos, span, number)?;
+            let span = self.left_span(Position::new(line.row, column));
+            self.push_spanned_part(buf, kept, line, column, span)?;
             column += columns_of(span);
         }
         Ok(())
@@ -56,19 +55,16 @@ where
         &self,
         buf: &mut String<A>,
         kept: &mut KeptCells<'_, T>,
-        pos: Position,
+        line: &RowLine<T>,
+        column: usize,
         span: Option<Span>,
-        number: usize,
     ) -> Result<(), AllocError>
-        requires line { IsLine T.table pos.row number }
-        requires column { pos.col < T.table.columns }
-        requires left { is_left T.table.config.spans pos.row pos.col ≡ true }
-        requires span { span ≡ left_span T.table.config.spans pos.row pos.col }
-        ensures { Appends buf.old buf.new result (written (row_part T.table pos.row number pos.col)) }
+        requires begins { BeginsHere T.table line.now.row column span }
+        ensures { Appends buf.old buf.new result (written (row_part T.table line.now.row line.now.number column)) }
     {
         match span {
-            None => self.push_part(buf, kept, pos, number),
-            Some(span) => self.push_rectangle_part(buf, kept, pos, span, number),
+            None => self.push_part(buf, kept, line, column),
+            Some(span) => self.push_rectangle_part(buf, kept, line, column, span),
         }
     }
 
@@ -77,17 +73,16 @@ where
         &self,
         buf: &mut String<A>,
         kept: &mut KeptCells<'_, T>,
-        pos: Position,
+        line: &RowLine<T>,
+        column: usize,
         span: Span,
-        number: usize,
     ) -> Result<(), AllocError>
-        requires line { IsLine T.table pos.row number }
-        requires span { left_span T.table.config.spans pos.row pos.col ≡ Some span }
-        ensures { Appends buf.old buf.new result (written (vertical_at T.table.config T.table.columns (T.table.height pos.row) pos number) ++ written (block_at T.table (corner span) (line pos.row number))) }
+        requires span { left_span T.table.config.spans line.now.row column ≡ Some span }
+        ensures { Appends buf.old buf.new result (written (vertical T.table line.now.row line.now.number column) ++ written (block_at T.table (corner span) (line_mark line.now.row line.now.number))) }
     {
-        self.push_vertical(buf, pos, number)?;
-        let rectangle = self.rectangle_at(kept, corner_of(span), pos.row);
-        self.push_rectangle(buf, kept, rectangle, rectangle.above + number)
+        self.push_vertical(buf, line, column)?;
+        let rectangle = self.rectangle_at(kept, corner_of(span), line.row);
+        self.push_rectangle(buf, kept, rectangle, rectangle.above + line.number)
     }
 
     // What all columns add to a separator, from rectangle to rectangle from above.
@@ -96,17 +91,15 @@ where
         mut run: Run<'g, ANSIBuf<B>>,
         buf: &mut String<A>,
         kept: &mut KeptCells<'_, T>,
-        row: usize,
+        separator: &Separator<T>,
     ) -> Result<Run<'g, ANSIBuf<B>>, AllocError>
-        requires there { has_horizontal T.table.config row T.table.rows ≡ true }
-        ensures appends { Appends buf.old buf.new result (items_after run.entry (flat_map (separator_part T.table row) (range_with_len 0 T.table.columns))) }
-        ensures color { IfOk result (λ after. after ≡ last_color run.entry (flat_map (separator_part T.table row) (range_with_len 0 T.table.columns))) }
+        ensures appends { Appends buf.old buf.new result (items_after run.entry (flat_map (separator_part T.table separator.now.row) (range_with_len 0 T.table.columns))) }
+        ensures color { IfOk result (λ after. after ≡ last_color run.entry (flat_map (separator_part T.table separator.now.row) (range_with_len 0 T.table.columns))) }
     {
         let mut column = 0;
         while column < self.columns {
-            let pos = Position::new(row, column);
-            let span = self.span_above(pos);
-            run = self.push_spanned_column(run, buf, kept, pos, span)?;
+            let span = self.span_above(Position::new(separator.row, column));
+            run = self.push_spanned_column(run, buf, kept, separator, column, span)?;
             column += columns_of(span);
         }
         Ok(run)
@@ -118,19 +111,17 @@ where
         run: Run<'g, ANSIBuf<B>>,
         buf: &mut String<A>,
         kept: &mut KeptCells<'_, T>,
-        pos: Position,
+        separator: &Separator<T>,
+        column: usize,
         span: Option<Span>,
     ) -> Result<Run<'g, ANSIBuf<B>>, AllocError>
-        requires column { pos.col < T.table.columns }
-        requires there { has_horizontal T.table.config pos.row T.table.rows ≡ true }
-        requires starts { starts T.table.config.spans pos.row pos.col ≡ true }
-        requires span { span ≡ span_above T.table.config.spans pos.row pos.col }
-        ensures appends { Appends buf.old buf.new result (items_after run.entry (separator_part T.table pos.row pos.col)) }
-        ensures color { IfOk result (λ after. after ≡ last_color run.entry (separator_part T.table pos.row pos.col)) }
+        requires begins { BeginsAbove T.table separator.now.row column span }
+        ensures appends { Appends buf.old buf.new result (items_after run.entry (separator_part T.table separator.now.row column)) }
+        ensures color { IfOk result (λ after. after ≡ last_color run.entry (separator_part T.table separator.now.row column)) }
     {
         match span {
-            None => self.push_column(run, buf, pos),
-            Some(span) => self.push_block(run, buf, kept, pos, span),
+            None => self.push_column(run, buf, Position::new(separator.row, column)),
+            Some(span) => self.push_block(run, buf, kept, separator, column, span),
         }
     }
 
@@ -140,17 +131,18 @@ where
         run: Run<'g, ANSIBuf<B>>,
         buf: &mut String<A>,
         kept: &mut KeptCells<'_, T>,
-        pos: Position,
+        separator: &Separator<T>,
+        column: usize,
         span: Span,
     ) -> Result<Run<'g, ANSIBuf<B>>, AllocError>
-        requires there { has_horizontal T.table.config pos.row T.table.rows ≡ true }
-        requires span { span_above T.table.config.spans pos.row pos.col ≡ Some span }
-        ensures appends { Appends buf.old buf.new result (items_after run.entry (crossing_at T.table.config T.table.rows T.table.columns pos ++ block (block_at T.table (corner span) (sep pos.row)) ∷ [])) }
-        ensures color { IfOk result (λ after. after ≡ last_color run.entry (crossing_at T.table.config T.table.rows T.table.columns pos ++ block (block_at T.table (corner span) (sep pos.row)) ∷ [])) }
+        requires span { span_above T.table.config.spans separator.now.row column ≡ Some span }
+        ensures appends { Appends buf.old buf.new result (items_after run.entry (crossing_at T.table.config T.table.rows T.table.columns (at separator.now.row column) ++ block (block_at T.table (corner span) (sep separator.now.row)) ∷ [])) }
+        ensures color { IfOk result (λ after. after ≡ last_color run.entry (crossing_at T.table.config T.table.rows T.table.columns (at separator.now.row column) ++ block (block_at T.table (corner span) (sep separator.now.row)) ∷ [])) }
     {
+        let pos = Position::new(separator.row, column);
         let run = self.push_crossing(run, buf, pos)?;
         let run = run.close_for_block(buf)?;
-        let rectangle = self.rectangle_at(kept, corner_of(span), pos.row);
+        let rectangle = self.rectangle_at(kept, corner_of(span), separator.row);
         self.push_rectangle(buf, kept, rectangle, rectangle.above - 1)?;
         Ok(run)
     }
@@ -161,13 +153,10 @@ where
         kept: &mut KeptCells<'_, T>,
         corner: Position,
         row: usize,
-    ) -> KeptRectangle
-        requires owner { IsOwner T.table corner }
-        requires first { corner.row ≤ row }
-        requires row { row < T.table.rows }
+    ) -> KeptRectangle<T>
+        requires { OwnsRow T.table corner row }
         ensures corner { result.corner ≡ corner }
         ensures row { result.row ≡ row }
-        ensures is { IsRectangle T.table result }
     {
         let before = match kept.rectangle(corner, row) {
             Some(before) => before,
@@ -175,20 +164,22 @@ where
         };
         let above = self.lines_above(before, row);
         let rectangle = KeptRectangle {
+            corner,
+            width: before.width,
+            height: before.height,
             row,
             above,
-            ..before
+            of: PhantomData,
         };
         kept.keep_rectangle(rectangle);
         rectangle
     }
 
     // The rectangle of an owner, above whose first row stands none of its lines.
-    fn rectangle_of(&self, corner: Position) -> KeptRectangle
+    fn rectangle_of(&self, corner: Position) -> KeptRectangle<T>
         requires owner { IsOwner T.table corner }
         ensures corner { result.corner ≡ corner }
         ensures row { result.row ≡ corner.row }
-        ensures is { IsRectangle T.table result }
     {
         let (rows, columns) = self.config.rect_size(corner);
         let width = width_of_columns(
@@ -205,15 +196,14 @@ where
             height,
             row: corner.row,
             above: 0,
+            of: PhantomData,
         }
     }
 
     // How many lines of a rectangle stand above a row, where it is known how many stand above an
     // earlier one. With each row comes the separator below it.
-    fn lines_above(&self, known: KeptRectangle, row: usize) -> usize
-        requires known { IsRectangle T.table known }
-        requires first { known.row ≤ row }
-        requires row { row < T.table.rows }
+    fn lines_above(&self, known: KeptRectangle<T>, row: usize) -> usize
+        requires { IsRowFrom T.table known.row row }
         ensures { result ≡ rows_height T.table known.corner.row (row - known.corner.row) }
     {
         let mut lines = known.above;
@@ -235,11 +225,9 @@ where
         &self,
         buf: &mut String<A>,
         kept: &mut KeptCells<'_, T>,
-        rectangle: KeptRectangle,
+        rectangle: KeptRectangle<T>,
         number: usize,
     ) -> Result<(), AllocError>
-        requires owner { IsOwner T.table rectangle.corner }
-        requires is { IsRectangle T.table rectangle }
         requires number { number < rect_height T.table rectangle.corner }
         ensures { Appends buf.old buf.new result (written (line_of_cell T.table rectangle.corner (rect_width T.table rectangle.corner) (rect_height T.table rectangle.corner) number)) }
     {

@@ -1,9 +1,16 @@
 -- How appends add up, and how a text is cut where a loop stands.
-use Rattle.std.proofs.Common.{◌≡◌, ℕ, suc, ◌+◌, ◌-◌, ◌<◌, ◌≤◌, List, [], ◌∷◌, ◌++◌, length, length-take, take, drop, Result, Ok, Err, IsErr, string_bytes, String, append_assoc, append-nil, length-append, arith, sym, ◌∙◌, ap, subst, flat_map, replicate, get_or}
+use Rattle.std.proofs.Common.{◌≡◌, ℕ, suc, ◌+◌, ◌-◌, ◌<◌, ◌≤◌, List, [], ◌∷◌, ◌++◌, length, length-take, take, drop, Result, Ok, Err, IsErr, string_bytes, string_capacity, String, append_assoc, append-nil, length-append, arith, sym, ◌∙◌, ap, subst, flat_map, replicate, get_or}
 use Rattle.std.proofs.lemmas.List.{replicate-append-replicate, take-append-le, take-append-drop}
 use Rattle.std.proofs.lemmas.List.Concat.{flat_map-append}
 use Rattle.std.proofs.Math.Seq.{drop-cons, take-append-add}
-use Rattle.pg_picture.specs.Appending.{Appends, Gained, GainedBeginning}
+use Rattle.pg_picture.specs.Appending.{Appends, GainedBeginning}
+
+-- the buffer has gained the text, with no refusal so far
+pub record Gained {Z : Type 0} (old new : String Z) (text : List ℕ) : Type 0 where
+  -- the old bytes, and then the text
+  pub bytes : string_bytes new ≡ string_bytes old ++ text
+  -- no room is lost
+  pub capacity : string_capacity old ≤ string_capacity new
 
 -- a beginning of a text is one of each longer text
 begins-longer : (x s t : List ℕ) → x ≡ take (length x) s → x ≡ take (length x) (s ++ t)

@@ -12,9 +12,9 @@ use Rattle.pg_picture.specs.Table.{Table, Hint, Known, body_line, table_body}
 use Rattle.pg_picture.proofs.Ranges.{range-add}
 use Rattle.pg_picture.proofs.MarksOfRectangles.{rows_from, marks_above-add}
 use Rattle.pg_picture.specs.Joined.{continued}
-use Rattle.pg_picture.specs.Inside.Following.{feed_before}
+use Rattle.pg_picture.specs.Inside.Following.{feed_before, body_text}
 use Rattle.pg_picture.proofs.JoinedLines.{continued-append, continued-nil, continued-line}
-use Rattle.pg_picture.specs.Picture.{body_lines, body_text}
+use Rattle.pg_picture.specs.Picture.{body_lines}
 
 enumerate_from-append : {X : Type 0} (n : ℕ) (xs ys : List X) → enumerate_from n (xs ++ ys) ≡ enumerate_from n xs ++ enumerate_from (n + length xs) ys
 enumerate_from-append n [] ys = ap (λ k. enumerate_from k ys) (sym (add-zero n))

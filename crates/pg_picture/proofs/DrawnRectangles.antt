@@ -13,7 +13,8 @@ use Rattle.pg_picture.specs.Pieces.{style_at, block_line}
 use Rattle.pg_picture.specs.Table.{Table, rect_marks, rect_height, rect_width, block_at}
 use Rattle.pg_picture.specs.Fits.{body_height, totals_fit, cell_fits}
 use Rattle.pg_picture.specs.Fitting.{TableFits}
-use Rattle.pg_picture.specs.Rectangles.{IsOwner, rows_height}
+use Rattle.pg_picture.specs.Rectangles.{IsOwner}
+use Rattle.pg_picture.specs.Inside.Rectangles.{rows_height}
 use Rattle.pg_picture.proofs.MarksOfRectangles.{marks_within-run, run_of, row_lines, rows_from}
 use Rattle.pg_picture.proofs.FittingTables.{RectInside, rect_inside, totals_facts, owner_fits-own}
 use Rattle.pg_picture.proofs.SumsOfSizes.{sum_by-part_le}

@@ -4,8 +4,7 @@ use Rattle.pg_layout.specs.Text.{Text}
 use Rattle.pg_picture.specs.Marks.{Mark}
 use Rattle.pg_picture.specs.Pieces.{written}
 use Rattle.pg_picture.specs.Table.{Table, Known, side_margin_at, mark_text, body_line, table_body}
-use Rattle.pg_picture.specs.Inside.Following.{lines_before, feed_before}
-use Rattle.pg_picture.specs.Picture.{body_text}
+use Rattle.pg_picture.specs.Inside.Following.{lines_before, feed_before, body_text}
 use Rattle.pg_picture.proofs.BodyLines.{body_text-one}
 
 module _ (t : Table) (height : ℕ) where

@@ -5,7 +5,7 @@ use Rattle.std.proofs.lemmas.Bool.Decides.{nat_tests}
 use Rattle.pg_layout.specs.Position.{at, is_at}
 use Rattle.pg_config.specs.Spans.{Span, owner, is_left, left_span, if_above}
 use Rattle.pg_picture.specs.Fits.{owner_fits}
-use Rattle.pg_picture.specs.Rectangles.{columns_or_one}
+use Rattle.pg_picture.specs.Inside.Rectangles.{columns_or_one}
 use Rattle.pg_picture.specs.Inside.Walks.{first_misfit, row_places}
 use Rattle.pg_picture.specs.Table.{Table}
 use Rattle.pg_picture.proofs.OwnersOfPlaces.{InOrder, option_cases, left_sound, owner_found, owner_alone, step_positive, step_inside, next_left, inner}

@@ -7,7 +7,8 @@ use Rattle.pg_layout.specs.declared.sides.Offset.{Offset}
 use Rattle.pg_layout.specs.declared.sides.Offset.TheVariants.{Start, End}
 use Rattle.pg_layout.specs.Colors.{Color}
 use Rattle.pg_picture.specs.Pieces.{fill, written, repeated}
-use Rattle.pg_picture.specs.Table.{Unknown, margin_line, is_blank_at, is_blank_in, side_margin, side_margin_at}
+use Rattle.pg_picture.specs.Table.{Unknown, margin_line, is_blank_at, side_margin, side_margin_at}
+use Rattle.pg_picture.specs.Inside.Margins.{is_blank_in}
 use Rattle.pg_picture.proofs.PiecesOfLines.{written-append, written-fill_plain}
 
 -- blanks, and then the fill

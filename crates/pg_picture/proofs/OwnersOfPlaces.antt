@@ -12,7 +12,7 @@ use Rattle.pg_layout.specs.Position.{at}
 use Rattle.pg_layout.specs.Places.{same, before, comes, value_at, last_up_to, Each, IsAscending}
 use Rattle.pg_layout.proofs.PlacesOrder.{before-comes}
 use Rattle.pg_config.specs.Spans.{Span, corner, in_span, owner, is_left, begins_above, same_owner, left_span, size_of, span_size}
-use Rattle.pg_picture.specs.Rectangles.{columns_or_one}
+use Rattle.pg_picture.specs.Inside.Rectangles.{columns_or_one}
 use Rattle.pg_picture.specs.Fits.{are_apart, all_apart, span_fits, spans_fit}
 
 -- a span is among these

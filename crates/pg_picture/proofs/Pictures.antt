@@ -4,11 +4,11 @@ use Rattle.std.proofs.lemmas.List.{length-replicate}
 use Rattle.std.proofs.lemmas.Bool.Decides.{nat_tests}
 use Rattle.pg_layout.specs.Text.{Text}
 use Rattle.pg_picture.specs.Joined.{joined, continued}
-use Rattle.pg_picture.specs.Inside.Following.{lines_before}
+use Rattle.pg_picture.specs.Inside.Following.{lines_before, body_text}
 use Rattle.pg_picture.specs.Table.{Table, Hint, margin_line, margin_lines, full_width, table_body}
 use Rattle.pg_picture.specs.Pieces.{written}
 use Rattle.pg_picture.proofs.JoinedLines.{continued-append}
-use Rattle.pg_picture.specs.Picture.{top_lines, bottom_lines, body_lines, body_text, picture_lines, picture}
+use Rattle.pg_picture.specs.Picture.{top_lines, bottom_lines, body_lines, picture_lines, picture}
 use Rattle.pg_picture.proofs.BodyLines.{length-body_lines}
 
 -- of the lines that stand already it counts only whether there are any

@@ -19,13 +19,6 @@ pub record Appends {Z U E : Type 0} (old new : String Z) (result : Result U E) (
 abbrev pub AppendsOrNothing : {Z U E : Type 0} → String Z → String Z → Result U E → List ℕ → Type 0
 AppendsOrNothing old new result text = Appends old new result text ⊎ (IsErr result × (new ≡ old))
 
--- the buffer has gained the text, with no refusal so far
-pub record Gained {Z : Type 0} (old new : String Z) (text : List ℕ) : Type 0 where
-  -- the old bytes, and then the text
-  pub bytes : string_bytes new ≡ string_bytes old ++ text
-  -- no room is lost
-  pub capacity : string_capacity old ≤ string_capacity new
-
 -- a text begins so: the rest follows
 pub record IsBeginning (beginning text : List ℕ) : Type 0 where
   pub rest : List ℕ

@@ -1,5 +1,5 @@
 -- The pictures of a table and of a compact table: their lines, joined by one line feed.
-use Rattle.std.specs.Prelude.{ℕ, ◌+◌, ◌||◌, ◌==◌, List, [], ◌++◌, map, length, if◌then◌else◌}
+use Rattle.std.specs.Prelude.{ℕ, ◌||◌, ◌==◌, List, [], ◌++◌, map, length, if◌then◌else◌}
 use Rattle.std.specs.List.{enumerate_from}
 use Rattle.pg_layout.specs.Text.{Text}
 use Rattle.pg_picture.specs.Marks.{Mark}
@@ -16,10 +16,6 @@ bottom_lines t = let c = t.config in margin_lines t c.margin.bottom c.margin_off
 -- the lines of these marks, the first of which has index i in the body
 unfoldable pub body_lines : Hint → Table → ℕ → List Mark → List Text
 body_lines hint t i marks = map (body_line hint t (length (table_body t))) (enumerate_from i marks)
-
--- these lines as a text, where n lines stand before the body
-unfoldable pub body_text : Hint → Table → ℕ → ℕ → List Mark → Text
-body_text hint t n i marks = continued (n + i) (body_lines hint t i marks)
 
 unfoldable pub picture_lines : Hint → Table → List Text
 picture_lines hint t = top_lines t ++ (body_lines hint t 0 (table_body t) ++ bottom_lines t)

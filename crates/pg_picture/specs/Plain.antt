@@ -3,12 +3,12 @@ use Rattle.std.specs.Prelude.{ℕ, List}
 use Rattle.pg_layout.specs.declared.sides.Offset.{Offset}
 use Rattle.pg_layout.specs.declared.sides.Offset.TheVariants.{Start, End}
 use Rattle.pg_layout.specs.Position.{at}
-use Rattle.pg_picture.specs.Pieces.{Piece, style_at, block_line}
-use Rattle.pg_picture.specs.Table.{Table}
+use Rattle.pg_picture.specs.Pieces.{Piece}
+use Rattle.pg_picture.specs.Table.{Table, line_of_cell}
 
 -- line i of a cell that is as wide as its column and as high as its row
 abbrev pub cell_line : Table → ℕ → ℕ → ℕ → List Piece
-cell_line t r x i = block_line (style_at t.config (at r x)) (t.color (at r x)) (t.text (at r x)) (t.width x) (t.height r) i
+cell_line t r x i = line_of_cell t (at r x) (t.width x) (t.height r) i
 
 -- an offset from the start
 abbrev pub IsFromStart : Offset → Type 0

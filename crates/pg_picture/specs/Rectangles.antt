@@ -1,11 +1,8 @@
--- Rectangles as they are drawn: the places that own one, how far it is to the next one of a row, and how many of its lines
--- stand above a row.
-use Rattle.std.specs.Prelude.{◌≡◌, ℕ, ◌+◌, ◌<◌, true, sum_by, count_by, Option, Some, None}
-use Rattle.std.specs.List.{range_with_len}
+-- The places of a table that own a rectangle.
+use Rattle.std.specs.Prelude.{◌≡◌, ◌<◌, true}
 use Rattle.pg_layout.specs.declared.position.Position.{Position}
 use Rattle.pg_layout.specs.Position.{is_at}
-use Rattle.pg_config.specs.Config.{has_horizontal}
-use Rattle.pg_config.specs.Spans.{Span, owner}
+use Rattle.pg_config.specs.Spans.{owner}
 use Rattle.pg_picture.specs.Table.{Table}
 
 -- a place of the table that owns itself
@@ -13,12 +10,3 @@ pub record IsOwner (t : Table) (p : Position) : Type 0 where
   pub row : p.row < t.rows
   pub column : p.col < t.columns
   pub own : is_at (owner t.config.spans p.row p.col) p.row p.col ≡ true
-
--- how many columns a rectangle takes that a search found, and a cell where it found none
-abbrev pub columns_or_one : Option Span → ℕ
-columns_or_one None = 1
-columns_or_one (Some s) = s.1.columns
-
--- how many lines k rows from row a on have, with the separator below each of them
-abbrev pub rows_height : Table → ℕ → ℕ → ℕ
-rows_height t a k = sum_by t.height (range_with_len a k) + count_by (λ r. has_horizontal t.config r t.rows) (range_with_len (a + 1) k)

@@ -44,10 +44,13 @@ rect_width t p =
     sum_by t.width (range_with_len p.col k)
     + count_by (λ c. has_vertical t.config c t.columns) (range_with_len (p.col + 1) (k - 1))
 
+-- line i of the cell p where it is w columns wide and has h lines
+abbrev pub line_of_cell : Table → Position → ℕ → ℕ → ℕ → List Piece
+line_of_cell t p w h i = block_line (style_at t.config p) (t.color p) (t.text p) w h i
+
 -- the line of the block of p at a mark
 unfoldable pub block_at : Table → Position → Mark → List Piece
-block_at t p mark =
-    block_line (style_at t.config p) (t.color p) (t.text p) (rect_width t p) (rect_height t p) (place_of mark (rect_marks t p))
+block_at t p mark = line_of_cell t p (rect_width t p) (rect_height t p) (place_of mark (rect_marks t p))
 
 -- ---- a line of a row
 
@@ -154,11 +157,6 @@ is_blank_at Unknown (End e) i h = false
 unfoldable pub side_margin : Hint → Indent → Offset → Option Color → ℕ → ℕ → List Piece
 side_margin hint indent offset color i h =
     if is_blank_at hint offset i h then fill 32 indent.size None else fill indent.fill indent.size color
-
--- whether it is blank there in a body of this height, or in all that have line i
-abbrev pub is_blank_in : Option ℕ → Offset → ℕ → Bool
-is_blank_in (Some h) offset i = is_blank_at Known offset i h
-is_blank_in None offset i = is_blank_at Unknown offset i (i + 1)
 
 -- a side margin at line i of a body of this height; of one that isn't known, as of all that have line i
 abbrev pub side_margin_at : Option ℕ → Indent → Offset → Option Color → ℕ → List Piece

@@ -7,8 +7,7 @@ use crate::made_records::MadeRecords;
 use crate::texts::SAME;
 use pg_config::SpannedConfig;
 use pg_grid::IterGrid;
-use pg_layout::{Dimension, ExactRecords, NoColors, PeekableRecords};
-use pg_picture::fits::table_fits;
+use pg_layout::{ConstantDimension, NoColors, VecRecords};
 use std::alloc::Allocator;
 
 /// The text of a table whose texts are made as the streaming grid asks for them, built so many times.
@@ -23,28 +22,31 @@ pub(crate) fn streamed_as_made<A: Allocator + Copy>(
         rows: table.rows,
         columns: table.columns,
     };
-    streamed(alloc, records, &EvenDimension::of(table), config, times)
-}
-
-/// The text of a table as the streaming grid prints it, built so many times.
-pub(crate) fn streamed<R, D, A>(
-    alloc: A,
-    records: R,
-    dimension: &D,
-    config: &SpannedConfig<A>,
-    times: usize,
-) -> Result<String<A>, Failure>
-where
-    R: PeekableRecords + ExactRecords + Copy,
-    D: Dimension,
-    A: Allocator + Copy,
-    requires { R.is_readable records }
-{
-    table_fits(&records, config, dimension)?;
+    let dimension = EvenDimension::of(table);
+    let grid = IterGrid::new(records, config, &dimension, NoColors);
+    grid.fits()?;
     let mut text = String::new(alloc);
     for _ in 0..times {
         text.clear();
-        IterGrid::new(records, config, dimension, NoColors).build(alloc, &mut text)?;
+        grid.build(alloc, &mut text)?;
+    }
+    Ok(text)
+}
+
+/// The text of a table as the streaming grid prints it, built so many times.
+pub(crate) fn streamed<A: Allocator + Copy>(
+    alloc: A,
+    records: &VecRecords<String<A>, A>,
+    dimension: &ConstantDimension<A>,
+    config: &SpannedConfig<A>,
+    times: usize,
+) -> Result<String<A>, Failure> {
+    let grid = IterGrid::new(records, config, dimension, NoColors);
+    grid.fits()?;
+    let mut text = String::new(alloc);
+    for _ in 0..times {
+        text.clear();
+        grid.build(alloc, &mut text)?;
     }
     Ok(text)
 }

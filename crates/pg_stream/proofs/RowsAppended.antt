@@ -237,7 +237,6 @@ module _ (s : Printing) (w : ℕ) (height : Option ℕ) (cells : List (Option Pl
       ended = last;
     }
 
--- the same lines, of cells, an index and a number that are equal
-pub open_lines-same : (t : Table) (height : Option ℕ) (is_first : Bool) (k : ℕ) {a b : List (Option Placed)} {i j m n : ℕ} → a ≡ b → i ≡ j → m ≡ n → open_lines t height is_first a k i m ≡ open_lines t height is_first b k j n
-open_lines-same t height is_first k {a} {b} {i} {j} {m} {n} e f g =
-    ap (λ x. open_lines t height is_first x k i m) e ∙ ap₂ (λ (x y : ℕ). open_lines t height is_first b k x y) f g
+-- the same lines, of cells and an index that are equal
+pub open_lines-same : (t : Table) (height : Option ℕ) (is_first : Bool) (k n : ℕ) {a b : List (Option Placed)} {i j : ℕ} → a ≡ b → i ≡ j → open_lines t height is_first a k i n ≡ open_lines t height is_first b k j n
+open_lines-same t height is_first k n e f = ap₂ (λ (x : List (Option Placed)) (i : ℕ). open_lines t height is_first x k i n) e f

@@ -1,14 +1,13 @@
 -- Rows that a run of an iterator gave, and how what a stream appends follows from them, whatever else the iterator may give.
 -- The calls answer no value.
-use Rattle.std.proofs.Common.{◌≡◌, Bool, true, false, true≢false, List, [], ◌∷◌, ◌++◌, map, Option, Some, None, is_none, refl, sym, ap, ◌∙◌, subst, append_assoc, append-nil}
+use Rattle.std.proofs.Common.{◌≡◌, true, false, true≢false, List, [], ◌∷◌, ◌++◌, map, Option, Some, None, is_none, refl, sym, ap, ◌∙◌, subst, append_assoc, append-nil}
 use Rattle.std.proofs.lemmas.List.{map-append}
 use Rattle.std.proofs.iter.runs.Made.{run, to_item, to_end}
 use Rattle.std.specs.Prelude.{String, Result, Ok, Err}
 use Rattle.std.specs.Iterator.{Yields}
 use Rattle.std.specs.Iterator.Runs.{SomeRun}
 use Rattle.pg_layout.specs.Text.{Text}
-use Rattle.pg_stream.specs.Streams.{Streaming, held_text, HeldFits, after_push, rows_left, rows_before, first_error, AppendsIf, PrintsRows, PrintsButLatest, PrintsUntil, PrintsResults, PrintsRun, PrintsResultsRun}
-use Rattle.pg_stream.specs.declared.fault.RowsFault.{RowsFault}
+use Rattle.pg_stream.specs.Streams.{Streaming, held_text, HeldFits, after_push, rows_left, rows_before, first_error, AppendsIf, PrintsRows, PrintsButLatest, PrintsUntil, PrintsRun, PrintsResultsRun}
 use Rattle.pg_stream.specs.declared.fault.RowsFault.TheVariants.{Stream, Source}
 use Rattle.pg_stream.specs.declared.fault.StreamFault.{StreamFault}
 use Rattle.pg_stream.proofs.StreamedRows.{push-goes, push-goes-but-latest, push-stops-but-latest, none-left}

@@ -9,7 +9,7 @@ use Rattle.pg_picture.specs.Table.{Table, full_width, table_body}
 use Rattle.pg_stream.specs.Conditions.{PrinterFits}
 use Rattle.pg_stream.specs.Open.{open_before}
 use Rattle.pg_stream.specs.Placed.{Placed, slots_of, AllOpen, IsPlaced}
-use Rattle.pg_stream.specs.Printing.{Printing, frame_of, table_known}
+use Rattle.pg_stream.specs.Printing.{Printing, table_known}
 use Rattle.pg_stream.specs.declared.frame.Frame.{Frame}
 use Rattle.pg_stream.specs.declared.progress.Progress.{Progress}
 
@@ -72,6 +72,3 @@ pub record IsSound (s : Printing) (t : Table) (width : ℕ) (height : Option ℕ
 -- what a printer stands for that was told this, and has printed so much
 abbrev pub now_of : {S A : Type 0} → Printing → Progress S A → Printing
 now_of told progress = record told { rows = progress.rows; lines = progress.lines; is_ended = progress.is_ended; slots = slots_of progress.cells }
-
-abbrev pub IsSoundAt : {D C B S A : Type 0} → Printing → Frame D C B → Progress S A → Type 0
-IsSoundAt told frame progress = IsSound (now_of told progress) (frame_of told) frame.width frame.height progress.cells

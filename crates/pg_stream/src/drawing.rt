@@ -4,17 +4,12 @@ ghost use Rattle.std.specs.Prelude.{◌≡◌, ◌<◌, ◌++◌, ◌&&◌, ◌=
 ghost use Rattle.pg_config.specs.Config.{has_equal_row_lines, has_horizontal};
 ghost use Rattle.pg_config.specs.Spans.{rect_rows, rect_columns};
 ghost use Rattle.pg_picture.specs.Appending.{Appends};
-ghost use Rattle.pg_picture.specs.Inside.Cells.{style_of};
 ghost use Rattle.pg_picture.specs.Joined.{continued};
 ghost use Rattle.pg_picture.specs.Inside.Following.{feed_before, lines_before, items_after, last_color};
-ghost use Rattle.pg_picture.specs.Pieces.{written, style_at};
+ghost use Rattle.pg_picture.specs.Pieces.{written};
 ghost use Rattle.pg_picture.specs.Table.{vertical, margin_line, side_margin_at, crossing_at};
 ghost use Rattle.pg_stream.specs.Inside.Drawing.{cell_items, top_text};
-ghost use Rattle.pg_stream.specs.Placed.{slot_of, IsPlaced};
-ghost use Rattle.pg_stream.specs.Inside.OpenCells.{IsTall};
 ghost use Rattle.pg_stream.specs.Printing.{Printing, frame_of};
-ghost use Rattle.pg_stream.specs.Inside.Slots.{slot_block};
-ghost use Rattle.pg_stream.specs.Inside.Styles.{DrawsAs};
 ghost use Rattle.pg_stream.specs.Inside.Told.{nothing_told, told_of};
 ghost use Rattle.pg_stream.specs.Inside.Turns.{MayBegin, new_cell};
 ghost use Rattle.std.proofs.Props.{props};
@@ -24,8 +19,8 @@ use crate::open_cell::OpenCell;
 use pg_layout::{ANSIBuf, Colors, Dimension, Position};
 use pg_picture::fits::{height_of_rows, width_of_columns};
 use pg_picture::{
-    CellStyle, Run, push_block_line_of, push_bottom_margin, push_feed, push_left_margin,
-    push_right_margin, push_top_margin, push_vertical_at,
+    Run, push_bottom_margin, push_feed, push_left_margin, push_right_margin, push_top_margin,
+    push_vertical_at,
 };
 use std::alloc::{AllocError, Allocator};
 use std::convert::AsStr;
@@ -238,53 +233,6 @@ where
     {
         let width = self.frame.dimension.get_width(pos.col);
         run.border(buf, self.frame.config, pos, width, rows)
-    }
-
-    // The next line of an open cell.
-    pub(crate) fn push_cell_line<S: AsStr, W: Allocator>(
-        self,
-        buf: &mut String<W>,
-        cell: &OpenCell<S>,
-        column: usize,
-    ) -> Result<(), AllocError>
-        requires placed { IsPlaced (frame_of T.told) column cell.now }
-        requires tall { IsTall (frame_of T.told) column cell.now }
-        ensures { Appends buf.old buf.new result (written (slot_block (frame_of T.told) (slot_of (Some cell.now)) column)) }
-    {
-        let pos = Position::new(cell.begun(), column);
-        match &self.frame.all {
-            Some(style) => self.push_line_in_style(buf, style, cell, pos),
-            None => {
-                let style = self.frame.style_of_lines(cell.place().left, pos);
-                self.push_line_in_style(buf, &style, cell, pos)
-            }
-        }
-    }
-
-    // The next line of an open cell that begins at this place, in a style that draws its lines.
-    #[inline(always)]
-    fn push_line_in_style<S: AsStr, W: Allocator>(
-        self,
-        buf: &mut String<W>,
-        style: &CellStyle<'_, B>,
-        cell: &OpenCell<S>,
-        pos: Position,
-    ) -> Result<(), AllocError>
-        requires style { DrawsAs cell.now.place.left (style_of style.now) (style_at T.told.config pos) }
-        requires begun { pos.row ≡ cell.now.begun }
-        requires placed { IsPlaced (frame_of T.told) pos.col cell.now }
-        requires tall { IsTall (frame_of T.told) pos.col cell.now }
-        ensures { Appends buf.old buf.new result (written (slot_block (frame_of T.told) (slot_of (Some cell.now)) pos.col)) }
-    {
-        push_block_line_of(
-            buf,
-            style,
-            self.frame.colors.get_color(pos),
-            cell.line(),
-            cell.place(),
-            cell.width(),
-            cell.drawn(),
-        )
     }
 
     // A cell that begins at a place, where it has so many rows and columns and room for its text.

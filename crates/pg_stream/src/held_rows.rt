@@ -1,15 +1,13 @@
 //! The rows of a stream: how far they are printed, and the latest one, which is held.
 
-ghost use Rattle.std.specs.Prelude.{◌≡◌, [], List, Result, map, IfSome, OnOk};
+ghost use Rattle.std.specs.Prelude.{◌≡◌, [], List, None, Result, length, map, OnOk};
 ghost use Rattle.std.specs.Iterator.{IsFinite};
 ghost use Rattle.std.specs.Iterator.Runs.{SomeRun};
 ghost use Rattle.std.specs.Result.{result_map_both};
 ghost use Rattle.pg_layout.specs.Records.{AlwaysGives};
 ghost use Rattle.pg_layout.specs.Text.{Text};
-ghost use Rattle.pg_stream.specs.Inside.Drawing.{IsSeparator};
 ghost use Rattle.pg_stream.specs.Inside.Held.{streamed, AreSoundAt};
 ghost use Rattle.pg_stream.specs.Inside.Told.{told_of};
-ghost use Rattle.pg_stream.specs.Printing.{frame_of};
 ghost use Rattle.pg_stream.specs.Streams.{held_text, HeldFits, after_push, rows_left, AppendsIf, PrintsRows, PrintsResults, PrintsRun, PrintsResultsRun};
 
 use crate::drawing::Drawn;
@@ -24,19 +22,17 @@ use std::convert::AsStr;
 /// What a row changes of a stream: how far it is printed, and the row that is held until the next one is
 /// there.
 #[derive(Drop)]
-pub(crate) struct HeldRows<S: AsStr, A: Allocator = Global, V: Allocator = Global> {
-    pub(crate) progress: Progress<S, A>,
+pub(crate) struct HeldRows<'k, S: AsStr, A: Allocator = Global, V: Allocator = Global> {
+    pub(crate) progress: Progress<'k, S, A>,
     pub(crate) held: Option<Vec<S, V>>,
 }
 
-impl<S: AsStr + Drop, A: Allocator, V: Allocator> HeldRows<S, A, V> {
-    // Holds a row, and prints the one that was held until now, as `RowStream::push` does; `kept` is
-    // handed on from row to row.
+impl<S: AsStr + Drop, A: Allocator, V: Allocator> HeldRows<'_, S, A, V> {
+    // Holds a row, and prints the one that was held until now, as `RowStream::push` does.
     #[inline(always)]
     pub(crate) fn push<'f, T, D, C, B, W>(
         &mut self,
         frame: &'f Frame<'f, D, C, B>,
-        kept: &mut SeparatorKeeper<'_>,
         cells: Vec<S, V>,
         buf: &mut String<W>,
     ) -> Result<(), StreamFault>
@@ -48,24 +44,21 @@ impl<S: AsStr + Drop, A: Allocator, V: Allocator> HeldRows<S, A, V> {
         W: Allocator,
         requires is { told_of D.width D.height C.color frame.now ≡ T.told }
         requires sound { AreSoundAt T.told frame.now self.old }
-        requires kept { IfSome kept.old.text (IsSeparator (frame_of T.told)) }
         ensures sound { OnOk result (AreSoundAt T.told frame.now self.new) }
         ensures prints { AppendsIf (HeldFits (streamed S.text T.told self.old)) (streamed S.text T.told self.old).before.rows (held_text (streamed S.text T.told self.old)) buf.old buf.new result }
         ensures after { OnOk result (streamed S.text T.told self.new ≡ after_push (streamed S.text T.told self.old) (map S.text cells.items)) }
-        ensures kept { IfSome kept.new.text (IsSeparator (frame_of T.told)) }
     {
         let Some(row) = self.held.replace(cells) else {
             return Ok(());
         };
         self.progress
-            .try_row::<T, D, C, B, V, W>(frame, kept, row, false, buf)
+            .try_row::<T, D, C, B, V, W>(frame, row, false, buf)
     }
 
     // Prints the row that is held as the last one, and ends the table, as `RowStream::finish` does.
     pub(crate) fn finish<'f, T, D, C, B, W>(
         self,
         frame: &'f Frame<'f, D, C, B>,
-        kept: &mut SeparatorKeeper<'_>,
         buf: &mut String<W>,
     ) -> Result<(), StreamFault>
     where
@@ -76,20 +69,29 @@ impl<S: AsStr + Drop, A: Allocator, V: Allocator> HeldRows<S, A, V> {
         W: Allocator,
         requires is { told_of D.width D.height C.color frame.now ≡ T.told }
         requires sound { AreSoundAt T.told frame.now self }
-        requires kept { IfSome kept.old.text (IsSeparator (frame_of T.told)) }
-        ensures { PrintsRows (streamed S.text T.told self).before (rows_left (streamed S.text T.told self) []) buf.old buf.new result }
+        ensures { PrintsRows (streamed S.text T.told self.entry).before (rows_left (streamed S.text T.told self.entry) []) buf.old buf.new result }
     {
         let HeldRows { mut progress, held } = self;
         let Some(row) = held else {
             return Ok(());
         };
-        progress.try_row::<T, D, C, B, V, W>(frame, kept, row, true, buf)?;
+        progress.try_row::<T, D, C, B, V, W>(frame, row, true, buf)?;
         Ok(progress.push_end::<T, D, C, B, W>(frame, buf)?)
+    }
+
+    // The same, with this room for a separator, and none that is kept.
+    fn with_room<'r>(self, room: &'r mut [u8]) -> HeldRows<'r, S, A, V>
+        ensures { result ≡ record self.entry { progress = record self.entry.progress { kept = record { text = None; room = length room.old } } } }
+    {
+        HeldRows {
+            progress: self.progress.with_room(room),
+            held: self.held,
+        }
     }
 
     // Pushes all rows that an iterator gives, and ends the table, as `RowStream::print_all` does.
     pub(crate) fn push_all<'f, T, D, C, B, I, W>(
-        mut self,
+        self,
         frame: &'f Frame<'f, D, C, B>,
         rows: I,
         buf: &mut String<W>,
@@ -105,21 +107,21 @@ impl<S: AsStr + Drop, A: Allocator, V: Allocator> HeldRows<S, A, V> {
         requires sound { AreSoundAt T.told frame.now self }
         requires can { I.can_next rows }
         requires ends { IsFinite (I.remaining rows) }
-        ensures prints { (texts : List (List Text)) → AlwaysGives (λ x y. map S.text x.items ≡ y) I.next_gives rows texts → PrintsRows (streamed S.text T.told self).before (rows_left (streamed S.text T.told self) texts) buf.old buf.new result }
-        ensures runs { SomeRun I.next_gives rows (λ run. PrintsRun run.whole (streamed S.text T.told self).before (rows_left (streamed S.text T.told self) (map (λ row. map S.text row.items) run.items)) buf.old buf.new result) }
+        ensures prints { (texts : List (List Text)) → AlwaysGives (λ x y. map S.text x.items ≡ y) I.next_gives rows texts → PrintsRows (streamed S.text T.told self.entry).before (rows_left (streamed S.text T.told self.entry) texts) buf.old buf.new result }
+        ensures runs { SomeRun I.next_gives rows (λ run. PrintsRun run.whole (streamed S.text T.told self.entry).before (rows_left (streamed S.text T.told self.entry) (map (λ row. map S.text row.items) run.items)) buf.old buf.new result) }
     {
         let mut room = [0; SEPARATOR_ROOM];
-        let mut kept = SeparatorKeeper::new(&mut room);
+        let mut pushed = self.with_room(&mut room);
         for row in rows {
-            self.push::<T, D, C, B, W>(frame, &mut kept, row, buf)?;
+            pushed.push::<T, D, C, B, W>(frame, row, buf)?;
         }
-        self.finish::<T, D, C, B, W>(frame, &mut kept, buf)
+        pushed.finish::<T, D, C, B, W>(frame, buf)
     }
 
     // Pushes the rows before the first error that an iterator gives, and ends the table if there is
     // none, as `RowStream::print_results` does.
     pub(crate) fn push_results<'f, T, D, C, B, E, I, W>(
-        mut self,
+        self,
         frame: &'f Frame<'f, D, C, B>,
         rows: I,
         buf: &mut String<W>,
@@ -136,18 +138,18 @@ impl<S: AsStr + Drop, A: Allocator, V: Allocator> HeldRows<S, A, V> {
         requires sound { AreSoundAt T.told frame.now self }
         requires can { I.can_next rows }
         requires ends { IsFinite (I.remaining rows) }
-        ensures prints { (items : List (Result (List Text) E)) → AlwaysGives (λ x y. result_map_both (λ row. map S.text row.items) (λ error. error) x ≡ y) I.next_gives rows items → PrintsResults (streamed S.text T.told self) items buf.old buf.new result }
-        ensures runs { SomeRun I.next_gives rows (λ run. PrintsResultsRun run.whole (streamed S.text T.told self) (map (λ item. result_map_both (λ row. map S.text row.items) (λ error. error) item) run.items) buf.old buf.new result) }
+        ensures prints { (items : List (Result (List Text) E)) → AlwaysGives (λ x y. result_map_both (λ row. map S.text row.items) (λ error. error) x ≡ y) I.next_gives rows items → PrintsResults (streamed S.text T.told self.entry) items buf.old buf.new result }
+        ensures runs { SomeRun I.next_gives rows (λ run. PrintsResultsRun run.whole (streamed S.text T.told self.entry) (map (λ item. result_map_both (λ row. map S.text row.items) (λ error. error) item) run.items) buf.old buf.new result) }
     {
         let mut room = [0; SEPARATOR_ROOM];
-        let mut kept = SeparatorKeeper::new(&mut room);
+        let mut pushed = self.with_room(&mut room);
         for row in rows {
             let cells = match row {
                 Ok(cells) => cells,
                 Err(error) => return Err(RowsFault::Source(error)),
             };
-            self.push::<T, D, C, B, W>(frame, &mut kept, cells, buf)?;
+            pushed.push::<T, D, C, B, W>(frame, cells, buf)?;
         }
-        Ok(self.finish::<T, D, C, B, W>(frame, &mut kept, buf)?)
+        Ok(pushed.finish::<T, D, C, B, W>(frame, buf)?)
     }
 }

@@ -12,6 +12,7 @@ mod held_rows;
 mod laws;
 mod open_cell;
 mod open_cells;
+mod open_line;
 mod progress;
 mod row_fits;
 mod row_lines;

@@ -1,15 +1,15 @@
 //! How far a table is printed, and what its next rows and its end append.
 
-ghost use Rattle.std.specs.Prelude.{◌≡◌, ◌⊎◌, ◌+◌, ◌<◌, ◌^◌, ◌∷◌, ◌&&◌, ◌==◌, not, List, true, map, IfSome, OnOk};
+ghost use Rattle.std.specs.Prelude.{◌≡◌, ◌⊎◌, ◌+◌, ◌<◌, ◌^◌, ◌∷◌, ◌&&◌, ◌==◌, not, List, None, true, length, map, OnOk};
 ghost use Rattle.std.specs.Iterator.{IsFinite};
 ghost use Rattle.pg_layout.specs.Records.{AlwaysGives, Gives};
 ghost use Rattle.pg_layout.specs.Text.{Text};
 ghost use Rattle.pg_picture.specs.Appending.{Appends};
 ghost use Rattle.pg_stream.specs.Conditions.{AreRowsFrom, RowFits, RowsFit};
-ghost use Rattle.pg_stream.specs.Inside.Drawing.{IsSeparator};
+ghost use Rattle.pg_stream.specs.Inside.Held.{IsSoundAt};
 ghost use Rattle.pg_stream.specs.Inside.SingleRows.{ArePlain};
-ghost use Rattle.pg_stream.specs.Printers.{now_of, IsSoundAt};
-ghost use Rattle.pg_stream.specs.Printing.{frame_of, row_text, rows_text, finish_text, after_row};
+ghost use Rattle.pg_stream.specs.Printers.{now_of};
+ghost use Rattle.pg_stream.specs.Printing.{row_text, rows_text, finish_text, after_row};
 ghost use Rattle.pg_stream.specs.Inside.Told.{told_of};
 ghost use Rattle.pg_stream.specs.Streams.{AppendsIf};
 
@@ -17,6 +17,7 @@ use crate::drawing::{Drawing, Drawn};
 use crate::fault::StreamFault;
 use crate::frame::Frame;
 use crate::open_cells::OpenCells;
+use crate::open_line::OpenLine;
 use pg_layout::{Colors, Dimension};
 use pg_picture::{SEPARATOR_ROOM, SeparatorKeeper};
 use std::alloc::{AllocError, Allocator, Global};
@@ -24,26 +25,25 @@ use std::convert::AsStr;
 use std::marker::PhantomData;
 use std::vec::IntoIter;
 
-/// What a row changes of a printer: the cells that go on below, how many rows and lines of the body are
-/// printed, and whether the last row is among them.
+/// What a row changes of a printer: the cells that go on below, the text of the separators above all rows
+/// but the first, where that is kept, how many rows and lines of the body are printed, and whether the last
+/// row is among them.
 #[derive(Drop)]
-pub(crate) struct Progress<S: AsStr, A: Allocator = Global> {
+pub(crate) struct Progress<'k, S: AsStr, A: Allocator = Global> {
     pub(crate) cells: OpenCells<S, A>,
+    pub(crate) kept: SeparatorKeeper<'k>,
     pub(crate) rows: usize,
     pub(crate) lines: usize,
     pub(crate) is_ended: bool,
 }
 
-impl<S: AsStr + Drop, A: Allocator> Progress<S, A> {
+impl<S: AsStr + Drop, A: Allocator> Progress<'_, S, A> {
     // Prints the next row of the table of a frame, as `RowPrinter::row` does, and copies the separator
-    // above it where it is kept: `kept` is handed on from row to row, and keeps the text of the separators
-    // above all rows but the first, if these are equal and it is short. `are_plain` where each text is known
-    // to be plain.
+    // above it where it is kept. `are_plain` where each text is known to be plain.
     #[inline(always)]
     pub(crate) fn push_row<'f, T, D, C, B, I, W>(
         &mut self,
         frame: &'f Frame<'f, D, C, B>,
-        kept: &mut SeparatorKeeper<'_>,
         cells: I,
         are_plain: bool,
         is_last: bool,
@@ -60,11 +60,9 @@ impl<S: AsStr + Drop, A: Allocator> Progress<S, A> {
         requires can { I.can_next cells × IsFinite (I.remaining cells) }
         requires sound { IsSoundAt T.told frame.now self.old }
         requires fits { (texts : List Text) × AlwaysGives (λ x y. S.text x ≡ y) I.next_gives cells texts × RowFits (now_of T.told self.old) texts is_last × (are_plain ≡ true → ArePlain T.told.columns texts) }
-        requires kept { IfSome kept.old.text (IsSeparator (frame_of T.told)) }
         ensures sound { OnOk result (IsSoundAt T.told frame.now self.new) }
         ensures appends { (texts : List Text) → AlwaysGives (λ x y. S.text x ≡ y) I.next_gives cells texts → Appends buf.old buf.new result (row_text (now_of T.told self.old) texts is_last) }
         ensures after { (texts : List Text) → AlwaysGives (λ x y. S.text x ≡ y) I.next_gives cells texts → OnOk result (now_of T.told self.new ≡ after_row (now_of T.told self.old) texts is_last) }
-        ensures kept { IfSome kept.new.text (IsSeparator (frame_of T.told)) }
     {
         let drawing: Drawing<'_, T, D, C, B> = Drawing {
             frame,
@@ -72,7 +70,14 @@ impl<S: AsStr + Drop, A: Allocator> Progress<S, A> {
         };
         let is_first = drawing.begins_with_body();
         drawing.push_top(buf, self.rows)?;
-        let next = drawing.push_above(&mut self.cells, kept, buf, is_first, self.lines, self.rows)?;
+        let next = drawing.push_above(
+            &mut self.cells,
+            &mut self.kept,
+            buf,
+            is_first,
+            self.lines,
+            self.rows,
+        )?;
         let height = drawing.height_of(self.rows);
         let below = next + height;
         if drawing.draws_at_once(height) {
@@ -81,7 +86,7 @@ impl<S: AsStr + Drop, A: Allocator> Progress<S, A> {
             return Ok(());
         }
         drawing.begin(&mut self.cells, cells, self.rows);
-        drawing.push_lines(&mut self.cells, buf, is_first, next, self.rows, height)?;
+        drawing.push_lines(&mut self.cells, buf, is_first, next, self.rows)?;
         drawing.close(&mut self.cells, self.rows);
         self.end_row(below, is_last);
         Ok(())
@@ -93,7 +98,6 @@ impl<S: AsStr + Drop, A: Allocator> Progress<S, A> {
     pub(crate) fn try_row<'f, T, D, C, B, V, W>(
         &mut self,
         frame: &'f Frame<'f, D, C, B>,
-        kept: &mut SeparatorKeeper<'_>,
         cells: Vec<S, V>,
         is_last: bool,
         buf: &mut String<W>,
@@ -107,20 +111,36 @@ impl<S: AsStr + Drop, A: Allocator> Progress<S, A> {
         W: Allocator,
         requires is { told_of D.width D.height C.color frame.now ≡ T.told }
         requires sound { IsSoundAt T.told frame.now self.old }
-        requires kept { IfSome kept.old.text (IsSeparator (frame_of T.told)) }
         ensures sound { OnOk result (IsSoundAt T.told frame.now self.new) }
         ensures prints { AppendsIf (RowFits (now_of T.told self.old) (map S.text cells.items) is_last) self.old.rows (row_text (now_of T.told self.old) (map S.text cells.items) is_last) buf.old buf.new result }
         ensures after { OnOk result (now_of T.told self.new ≡ after_row (now_of T.told self.old) (map S.text cells.items) is_last) }
-        ensures kept { IfSome kept.new.text (IsSeparator (frame_of T.told)) }
     {
         let Some(are_plain) = self.plainness(frame, &cells, is_last) else {
             return Err(StreamFault::Row(self.rows));
         };
         let cells = cells.into_iter();
-        self.push_row::<T, D, C, B, IntoIter<S, V>, W>(
-            frame, kept, cells, are_plain, is_last, buf,
-        )?;
+        self.push_row::<T, D, C, B, IntoIter<S, V>, W>(frame, cells, are_plain, is_last, buf)?;
         Ok(())
+    }
+
+    // The same, with this room for a separator, and none that is kept.
+    pub(crate) fn with_room<'r>(self, room: &'r mut [u8]) -> Progress<'r, S, A>
+        ensures { result ≡ record self.entry { kept = record { text = None; room = length room.old } } }
+    {
+        let Progress {
+            cells,
+            kept: _,
+            rows,
+            lines,
+            is_ended,
+        } = self;
+        Progress {
+            cells,
+            kept: SeparatorKeeper::new(room),
+            rows,
+            lines,
+            is_ended,
+        }
     }
 
     // One more row is printed, with which so many lines are.
@@ -159,14 +179,18 @@ impl<S: AsStr + Drop, A: Allocator> Progress<S, A> {
             of: PhantomData,
         };
         let is_first = drawing.begins_with_body();
-        drawing.push_below(&self.cells, buf, is_first, self.lines, self.rows)?;
+        let line = OpenLine {
+            table: drawing,
+            opened: &self.cells,
+        };
+        line.push_below(buf, is_first, self.lines, self.rows)?;
         let has_last = drawing.has_horizontal(self.rows, self.rows);
         drawing.push_bottom(buf, is_bare(is_first, self.lines, has_last))
     }
 
     // Prints all rows of the table of a frame and ends it, as `RowPrinter::print_rows` does.
     pub(crate) fn push_rows<'f, T, D, C, B, Cells, Rows, W>(
-        &mut self,
+        self,
         frame: &'f Frame<'f, D, C, B>,
         first: Cells,
         rows: Rows,
@@ -182,19 +206,19 @@ impl<S: AsStr + Drop, A: Allocator> Progress<S, A> {
         W: Allocator,
         requires is { told_of D.width D.height C.color frame.now ≡ T.told }
         requires rows { Rows.can_next rows × IsFinite (Rows.remaining rows) }
-        requires sound { IsSoundAt T.told frame.now self.old }
-        requires given { (cells : List Text) × (texts : List (List Text)) × AreRowsFrom (Gives (λ x y. S.text x ≡ y) Cells.can_next Cells.next_gives Cells.remaining) Rows.next_gives first rows cells texts × RowsFit (now_of T.told self.old) (cells ∷ texts) }
-        ensures { (cells : List Text) (texts : List (List Text)) → AreRowsFrom (Gives (λ x y. S.text x ≡ y) Cells.can_next Cells.next_gives Cells.remaining) Rows.next_gives first rows cells texts → Appends buf.old buf.new result (rows_text (now_of T.told self.old) (cells ∷ texts)) }
+        requires sound { IsSoundAt T.told frame.now self }
+        requires given { (cells : List Text) × (texts : List (List Text)) × AreRowsFrom (Gives (λ x y. S.text x ≡ y) Cells.can_next Cells.next_gives Cells.remaining) Rows.next_gives first rows cells texts × RowsFit (now_of T.told self) (cells ∷ texts) }
+        ensures { (cells : List Text) (texts : List (List Text)) → AreRowsFrom (Gives (λ x y. S.text x ≡ y) Cells.can_next Cells.next_gives Cells.remaining) Rows.next_gives first rows cells texts → Appends buf.old buf.new result (rows_text (now_of T.told self.entry) (cells ∷ texts)) }
     {
         let mut room = [0; SEPARATOR_ROOM];
-        let mut kept = SeparatorKeeper::new(&mut room);
+        let mut progress = self.with_room(&mut room);
         let mut row = first;
         for next in rows {
-            self.push_row::<T, D, C, B, Cells, W>(frame, &mut kept, row, false, false, buf)?;
+            progress.push_row::<T, D, C, B, Cells, W>(frame, row, false, false, buf)?;
             row = next;
         }
-        self.push_row::<T, D, C, B, Cells, W>(frame, &mut kept, row, false, true, buf)?;
-        self.push_end::<T, D, C, B, W>(frame, buf)
+        progress.push_row::<T, D, C, B, Cells, W>(frame, row, false, true, buf)?;
+        progress.push_end::<T, D, C, B, W>(frame, buf)
     }
 }
 

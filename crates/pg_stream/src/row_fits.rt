@@ -9,7 +9,8 @@ ghost use Rattle.pg_picture.specs.Fits.{cell_fits, spans_fit, spans_fit_columns}
 ghost use Rattle.pg_picture.specs.Marks.{marks_of_row};
 ghost use Rattle.pg_picture.specs.Pieces.{style_at};
 ghost use Rattle.pg_stream.specs.Conditions.{HasRoom, HaveRoom, RowFits};
-ghost use Rattle.pg_stream.specs.Printers.{printing, now_of, IsSoundAt};
+ghost use Rattle.pg_stream.specs.Printers.{printing, now_of};
+ghost use Rattle.pg_stream.specs.Inside.Held.{IsSoundAt};
 ghost use Rattle.pg_stream.specs.Inside.SingleRows.{ArePlain};
 ghost use Rattle.pg_stream.specs.Inside.Slots.{separator_height};
 ghost use Rattle.pg_stream.specs.Inside.Told.{told_of};
@@ -48,7 +49,7 @@ impl<'a, S: AsStr, D: Dimension, C: Colors, B: Allocator, A: Allocator> RowPrint
     }
 }
 
-impl<S: AsStr, A: Allocator> Progress<S, A> {
+impl<S: AsStr, A: Allocator> Progress<'_, S, A> {
     // Whether these cells may be printed as the next row of the table of a frame, as `RowPrinter::fits`
     // tells, and then whether each text is known to be plain: such a row is read but once.
     #[inline(always)]

@@ -49,12 +49,13 @@ pub struct RowPrinter<
     A: Allocator = Global,
 > {
     pub(crate) frame: Frame<'a, D, C, B>,
-    pub(crate) progress: Progress<S, A>,
+    pub(crate) progress: Progress<'a, S, A>,
 }
 
 impl<'a, S: AsStr, D: Dimension, C: Colors, B: Allocator, A: Allocator> Model
     for RowPrinter<'a, S, D, C, B, A> {
-    ghost use Rattle.pg_stream.specs.Printers.{Printer, printer_of, IsSoundAt};
+    ghost use Rattle.pg_stream.specs.Inside.Held.{IsSoundAt};
+    ghost use Rattle.pg_stream.specs.Printers.{Printer, printer_of};
     ghost use Rattle.pg_stream.specs.Inside.Told.{told_of};
 
     ghost Value = { Printer D C };
@@ -109,6 +110,7 @@ impl<'a, S: AsStr + Drop, D: Dimension, C: Colors, B: Allocator, A: Allocator> R
             },
             progress: Progress {
                 cells,
+                kept: SeparatorKeeper::new(&mut []),
                 rows: 0,
                 lines: 0,
                 is_ended: false,
@@ -177,8 +179,7 @@ impl<'a, S: AsStr + Drop, D: Dimension, C: Colors, B: Allocator, A: Allocator> R
             frame,
             mut progress,
         } = self;
-        let mut kept = SeparatorKeeper::new(&mut []);
-        progress.push_row::<Brand, D, C, B, I, W>(&frame, &mut kept, cells, false, is_last, buf)?;
+        progress.push_row::<Brand, D, C, B, I, W>(&frame, cells, false, is_last, buf)?;
         Ok(RowPrinter { frame, progress })
     }
 

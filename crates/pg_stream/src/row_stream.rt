@@ -19,7 +19,6 @@ use crate::held_rows::HeldRows;
 use crate::row_printer::RowPrinter;
 use pg_config::SpannedConfig;
 use pg_layout::{Colors, Dimension};
-use pg_picture::SeparatorKeeper;
 use std::alloc::{AllocError, Allocator, Global};
 use std::convert::AsStr;
 use std::iter::IntoIterator;
@@ -52,7 +51,7 @@ pub struct RowStream<
     V: Allocator = Global,
 > {
     frame: Frame<'a, D, C, B>,
-    rows: HeldRows<S, A, V>,
+    rows: HeldRows<'a, S, A, V>,
 }
 
 impl<'a, S: AsStr, D: Dimension, C: Colors, B: Allocator, A: Allocator, V: Allocator> Model
@@ -146,8 +145,7 @@ impl<
         ensures prints { AppendsIf (HeldFits (streaming D.width D.height C.color self.entry)) (streaming D.width D.height C.color self.entry).before.rows (held_text (streaming D.width D.height C.color self.entry)) buf.old buf.new result }
     {
         let RowStream { frame, mut rows } = self;
-        let mut kept = SeparatorKeeper::new(&mut []);
-        rows.push::<Brand, D, C, B, W>(&frame, &mut kept, cells, buf)?;
+        rows.push::<Brand, D, C, B, W>(&frame, cells, buf)?;
         Ok(RowStream { frame, rows })
     }
 
@@ -194,8 +192,7 @@ impl<
         ensures prints { PrintsRows (streaming D.width D.height C.color self.entry).before (rows_left (streaming D.width D.height C.color self.entry) []) buf.old buf.new result }
     {
         let RowStream { frame, rows } = self;
-        let mut kept = SeparatorKeeper::new(&mut []);
-        rows.finish::<Brand, D, C, B, W>(&frame, &mut kept, buf)
+        rows.finish::<Brand, D, C, B, W>(&frame, buf)
     }
 
     /// Pushes all rows that an iterator gives, and ends the table.

@@ -2,23 +2,36 @@
 
 ghost use Rattle.std.specs.Prelude.{◌≡◌, ◌&&◌, ◌==◌, true, List, length};
 ghost use Rattle.std.specs.List.{list_all};
-ghost use Rattle.std.specs.Iterator.{IsFinite};
-ghost use Rattle.pg_layout.specs.Position.{at};
-ghost use Rattle.pg_layout.specs.Records.{AlwaysGives};
+ghost use Rattle.pg_layout.specs.Records.{AlwaysGives, Gives};
 ghost use Rattle.pg_layout.specs.Text.{Text, is_plain_byte};
 ghost use Rattle.pg_picture.specs.Appending.{Appends};
 ghost use Rattle.pg_picture.specs.Inside.Cells.{style_of};
 ghost use Rattle.pg_picture.specs.Pieces.{written, style_at, block_line};
-ghost use Rattle.pg_stream.specs.Conditions.{HasRoom, HaveRoom};
+ghost use Rattle.pg_stream.specs.Conditions.{HasRoom};
 ghost use Rattle.pg_stream.specs.Inside.Drawing.{line_at};
 ghost use Rattle.pg_stream.specs.Printing.{frame_of};
-ghost use Rattle.pg_stream.specs.Inside.SingleRows.{IsSingle, ArePlain, single_part, single_line};
+ghost use Rattle.pg_stream.specs.Inside.SingleRows.{IsSingle, IsSingleRow, single_part, single_line};
+ghost use Rattle.std.proofs.Props.{props};
 
 use crate::drawing::{Drawing, Drawn};
 use pg_layout::{Colors, Dimension, Position};
 use pg_picture::{CellStyle, push_single_line};
 use std::alloc::{AllocError, Allocator};
 use std::convert::AsStr;
+use std::marker::PhantomData;
+
+/// A cell of a row of one line, in a table without spans: its place, its text, and whether that is known
+/// to be plain.
+#[derive(Drop)]
+struct SingleCell<'t, T: Drawn> {
+    pos: Position,
+    text: &'t str,
+    is_plain: bool,
+    of: PhantomData<T>,
+    ghost is_single: { IsSingle T.told pos.row } by { Prim.hlevel props },
+    ghost is_known: { is_plain ≡ true → list_all is_plain_byte text.now ≡ true } by { Prim.hlevel props },
+    ghost has_room: { HasRoom (frame_of T.told) pos text.now } by { Prim.hlevel props },
+}
 
 impl<'f, T, D, C, B> Drawing<'f, T, D, C, B>
 where
@@ -45,9 +58,7 @@ where
         cells: I,
         are_plain: bool,
     ) -> Result<(), AllocError>
-        requires single { IsSingle T.told row }
-        requires can { I.can_next cells × IsFinite (I.remaining cells) }
-        requires given { (texts : List Text) × AlwaysGives (λ x y. S.text x ≡ y) I.next_gives cells texts × length texts ≡ T.told.columns × HaveRoom (frame_of T.told) row texts × (are_plain ≡ true → ArePlain T.told.columns texts) }
+        requires { (texts : List Text) × Gives (λ x y. S.text x ≡ y) I.can_next I.next_gives I.remaining cells texts × IsSingleRow T.told row are_plain texts }
         ensures { (texts : List Text) → AlwaysGives (λ x y. S.text x ≡ y) I.next_gives cells texts → Appends buf.old buf.new result (line_at T.told.config self.entry.frame.now.height is_first index (written (single_line (frame_of T.told) row texts))) }
     {
         self.push_start(buf, is_first, index)?;
@@ -63,16 +74,20 @@ where
         mut cells: I,
         are_plain: bool,
     ) -> Result<(), AllocError>
-        requires single { IsSingle T.told row }
-        requires can { I.can_next cells × IsFinite (I.remaining cells) }
-        requires given { (texts : List Text) × AlwaysGives (λ x y. S.text x ≡ y) I.next_gives cells texts × length texts ≡ T.told.columns × HaveRoom (frame_of T.told) row texts × (are_plain ≡ true → ArePlain T.told.columns texts) }
+        requires { (texts : List Text) × Gives (λ x y. S.text x ≡ y) I.can_next I.next_gives I.remaining cells texts × IsSingleRow T.told row are_plain texts }
         ensures { (texts : List Text) → AlwaysGives (λ x y. S.text x ≡ y) I.next_gives cells texts → Appends buf.old buf.new result (written (single_line (frame_of T.told) row texts)) }
     {
         for column in 0..self.columns() {
             let Some(value) = cells.next() else {
                 return Ok(());
             };
-            self.push_single_cell(buf, value.as_str(), are_plain, row, column)?;
+            let cell = SingleCell {
+                pos: Position::new(row, column),
+                text: value.as_str(),
+                is_plain: are_plain,
+                of: PhantomData,
+            };
+            self.push_single_cell(buf, &cell)?;
         }
         self.push_vertical(buf, Position::new(row, self.columns()), 0)
     }
@@ -81,45 +96,33 @@ where
     fn push_single_cell<W: Allocator>(
         self,
         buf: &mut String<W>,
-        text: &str,
-        is_plain: bool,
-        row: usize,
-        column: usize,
+        cell: &SingleCell<'_, T>,
     ) -> Result<(), AllocError>
-        requires single { IsSingle T.told row }
-        requires plain { is_plain ≡ true → list_all is_plain_byte text.now ≡ true }
-        requires room { HasRoom (frame_of T.told) (at row column) text.now }
-        ensures { Appends buf.old buf.new result (written (single_part (frame_of T.told) row text.now column)) }
+        ensures { Appends buf.old buf.new result (written (single_part (frame_of T.told) cell.now.pos.row cell.now.text.now cell.now.pos.col)) }
     {
-        let pos = Position::new(row, column);
-        self.push_vertical(buf, pos, 0)?;
+        self.push_vertical(buf, cell.pos, 0)?;
         match &self.frame.all {
-            Some(style) => self.push_single_text(buf, style, text, is_plain, pos),
+            Some(style) => self.push_single_text(buf, style, cell),
             None => {
-                let style = CellStyle::of(self.frame.config, pos);
-                self.push_single_text(buf, &style, text, is_plain, pos)
+                let style = CellStyle::of(self.frame.config, cell.pos);
+                self.push_single_text(buf, &style, cell)
             }
         }
     }
 
-    // The one line of a cell at this place, which has this style.
+    // The one line of a cell, which has this style.
     #[inline(always)]
     fn push_single_text<W: Allocator>(
         self,
         buf: &mut String<W>,
         style: &CellStyle<'_, B>,
-        text: &str,
-        is_plain: bool,
-        pos: Position,
+        cell: &SingleCell<'_, T>,
     ) -> Result<(), AllocError>
-        requires style { style_of style.now ≡ style_at T.told.config pos }
-        requires plain { is_plain ≡ true → list_all is_plain_byte text.now ≡ true }
-        requires single { IsSingle T.told pos.row }
-        requires room { HasRoom (frame_of T.told) pos text.now }
-        ensures { Appends buf.old buf.new result (written (block_line (style_at T.told.config pos) (T.told.color pos) text.now (T.told.width pos.col) 1 0)) }
+        requires { style_of style.now ≡ style_at T.told.config cell.now.pos }
+        ensures { Appends buf.old buf.new result (written (block_line (style_at T.told.config cell.now.pos) (T.told.color cell.now.pos) cell.now.text.now (T.told.width cell.now.pos.col) 1 0)) }
     {
-        let width = self.frame.dimension.get_width(pos.col);
-        let color = self.frame.colors.get_color(pos);
-        push_single_line(buf, style, color, text, is_plain, width)
+        let width = self.frame.dimension.get_width(cell.pos.col);
+        let color = self.frame.colors.get_color(cell.pos);
+        push_single_line(buf, style, color, cell.text, cell.is_plain, width)
     }
 }

@@ -1,15 +1,17 @@
 -- What the printer of a compact grid draws: the rows that it is given, and the parts of its lines.
 use Rattle.std.specs.Prelude.{◌≡◌, ℕ, ◌^◌, ◌≤◌, ◌<◌, ◌==◌, All, drop, slice_index_or, List, [], ◌∷◌, ◌++◌, length, replicate, Option, if◌then◌else◌}
+use Rattle.std.specs.Iterator.{Count}
 use Rattle.std.specs.Option.{option_map}
 use Rattle.pg_layout.specs.declared.borders.HorizontalLine.{HorizontalLine}
 use Rattle.pg_layout.specs.declared.colors.ANSIStr.{ANSIStr}
 use Rattle.pg_layout.specs.declared.position.Position.{Position}
 use Rattle.pg_layout.specs.Colors.{Color, str_color}
 use Rattle.pg_layout.specs.Borders.{has_top, has_bottom, has_inner_horizontal}
-use Rattle.pg_layout.specs.Records.{text_at, AlwaysGives}
+use Rattle.pg_layout.specs.Records.{text_at, AlwaysGives, Gives}
 use Rattle.pg_layout.specs.Text.{Text}
 use Rattle.pg_config.specs.CompactConfig.{settings_of}
-use Rattle.pg_picture.specs.CompactLines.{CompactTable, compact_indent, colored_glyph, compact_cell, Part, part_if, main_part, padding_row, text_row, compact_margin, line_if, separator_row, top_line, bottom_line, inner_line}
+use Rattle.pg_picture.specs.CompactLines.{CompactTable, compact_indent, compact_cell, Part, part_if, main_part, padding_row, text_row, compact_margin, line_if, separator_row, top_line, bottom_line, inner_line}
+use Rattle.pg_picture.specs.Inside.KeptSeparators.{IsSeparatorOf}
 use Rattle.pg_compact.specs.Inside.RowEdges.{between_cells}
 use Rattle.pg_compact.specs.declared.printer.CompactPrinter.{CompactPrinter}
 
@@ -29,9 +31,9 @@ pub record IsRow {S A : Type 0} (text : A → Text) (steps : S → Option A → 
   pub gives : AlwaysGives (λ x y. text x ≡ y) steps cells (slice_index_or texts r [])
   pub even : length (slice_index_or texts r []) ≡ columns
 
--- the rows that an iterator gives are these texts from a first row on; each has a cell for each column, and all can be counted
-pub record AreRows {S A : Type 0} (is_row : A → List Text → Type 0) (steps : S → Option A → S → Type 0) (columns : ℕ) (first : ℕ) (texts : List (List Text)) (rows : S) : Type 0 where
-  pub gives : AlwaysGives is_row steps rows (drop first texts)
+-- an iterator may be run to its end, and gives the rows of these texts from a first one on; each has a cell for each column, and all can be counted
+pub record AreRows {S A : Type 0} (is_row : A → List Text → Type 0) (can : S → Type 0) (steps : S → Option A → S → Type 0) (left : S → Count) (columns : ℕ) (first : ℕ) (texts : List (List Text)) (rows : S) : Type 0 where
+  pub given : Gives is_row can steps left rows (drop first texts)
   pub even : All (λ row. length row ≡ columns) texts
   pub begun : first ≤ length texts
   pub count : length texts < 2 ^ 64
@@ -65,9 +67,9 @@ inner_separator t = separator_row t (inner_line t.config.borders) (inner_line t.
 abbrev pub lines_between : CompactTable → List Text
 lines_between t = line_if (has_inner_horizontal t.config.borders) (inner_separator t)
 
--- the text is that of each separator between two rows
+-- a text is that of the separator above each row after the first one
 abbrev pub IsInnerSeparator : CompactTable → Text → Type 0
-IsInnerSeparator t text = text ≡ inner_separator t
+IsInnerSeparator t = IsSeparatorOf (λ (r : ℕ). 0 < r) (λ r. inner_separator t)
 
 -- the lines of a row, without the separator above it
 unfoldable pub lines_of_row : CompactTable → ℕ → List Text

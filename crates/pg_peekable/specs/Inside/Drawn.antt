@@ -5,7 +5,8 @@ use Rattle.pg_layout.specs.declared.position.Position.{Position}
 use Rattle.pg_layout.specs.Places.{IsAscending}
 use Rattle.pg_config.specs.Config.{Config, default_config, has_padding_color, has_justification, has_offset_chars}
 use Rattle.pg_config.specs.Spans.{Span, begins_above, is_left}
-use Rattle.pg_picture.specs.Table.{Table, table_body}
+use Rattle.pg_picture.specs.Fits.{misfit_of}
+use Rattle.pg_picture.specs.Table.{Table, table_body, is_empty}
 use Rattle.pg_picture.specs.Fitting.{TableFits}
 use Rattle.pg_peekable.specs.declared.path.Path.{Path}
 use Rattle.pg_peekable.specs.declared.path.Path.TheVariants.{Basic, NotSpanned, Spanned}
@@ -75,6 +76,13 @@ pub record IsShapeOf (t : Table) (n m h : ℕ) (p : Path) : Type 0 where
 pub record CanDraw (t : Table) : Type 0 where
   pub ascending : IsAscending by_columns t.config.spans
   pub fits : TableFits t
+
+-- a table of n rows and m columns, each of them some, in which everything fits
+pub record IsFull (t : Table) (n m : ℕ) : Type 0 where
+  pub fits : misfit_of t ≡ None
+  pub some : is_empty t ≡ false
+  pub rows : n ≡ t.rows
+  pub columns : m ≡ t.columns
 
 -- a column of the separator above row r that isn't inside a rectangle from above
 abbrev pub starts : List Span → ℕ → ℕ → Bool

@@ -1,16 +1,18 @@
 -- What is kept of cells from one of their lines to the next, and that it is right.
-use Rattle.std.specs.Prelude.{◌≡◌, ℕ, ◌-◌, ◌≤◌, ◌<◌, List, Option, IfSome, slice_index_or, None}
+use Rattle.std.specs.Prelude.{◌≡◌, ℕ, ◌-◌, ◌≤◌, List, Option, IfSome, slice_index_or, None}
 use Rattle.pg_layout.specs.declared.position.Position.{Position}
 use Rattle.pg_layout.specs.LineCursor.{StandsIn, line_number}
 use Rattle.pg_layout.specs.Text.{Text}
 use Rattle.pg_picture.specs.Inside.Cells.{facts_of, place_of}
+use Rattle.pg_picture.specs.Inside.KeptSeparators.{IsSeparatorOf}
 use Rattle.pg_picture.specs.Pieces.{style_at, separator_text}
-use Rattle.pg_picture.specs.Rectangles.{rows_height}
+use Rattle.pg_picture.specs.Rectangles.{IsOwner}
+use Rattle.pg_picture.specs.Inside.Rectangles.{rows_height}
 use Rattle.pg_picture.specs.Table.{Table, rect_width, rect_height, separator_items}
 use Rattle.pg_picture.specs.declared.place.CellPlace.{CellPlace}
 use Rattle.pg_peekable.specs.declared.kept.Reading.{Reading}
 use Rattle.pg_peekable.specs.declared.kept.KeptCell.{KeptCell}
-use Rattle.pg_peekable.specs.declared.kept.KeptRectangle.{KeptRectangle}
+use Rattle.pg_peekable.specs.Inside.Lines.{IsInner}
 
 -- the text is read up to the line of this number
 pub record Reads (reading : Reading) (text : Text) : Type 0 where
@@ -26,19 +28,20 @@ pub record IsReading (t : Table) (p : Position) (w h : ℕ) (reading : Reading) 
   pub reads : Reads reading (t.text p)
   pub place : reading.place ≡ place_in t p w h
 
--- a rectangle has its cell's width and height, and so many of its lines stand above its row
-pub record IsRectangle (t : Table) (kept : KeptRectangle) : Type 0 where
-  pub width : kept.width ≡ rect_width t kept.corner
-  pub height : kept.height ≡ rect_height t kept.corner
-  pub begun : kept.corner.row ≤ kept.row
-  pub above : kept.above ≡ rows_height t kept.corner.row (kept.row - kept.corner.row)
+-- the place p owns a rectangle of w columns and h lines, of which n stand above row r
+pub record IsRectangle (t : Table) (p : Position) (w h r n : ℕ) : Type 0 where
+  pub owner : IsOwner t p
+  pub width : w ≡ rect_width t p
+  pub height : h ≡ rect_height t p
+  pub begun : p.row ≤ r
+  pub above : n ≡ rows_height t p.row (r - p.row)
 
 abbrev pub IsKept : Table → KeptCell → Type 0
 IsKept t cell = IsReading t cell.corner cell.width cell.height cell.reading
 
 -- the text is that of each separator between two rows
 abbrev pub IsSeparator : Table → Text → Type 0
-IsSeparator t text = (r : ℕ) → 0 < r → r < t.rows → text ≡ separator_text (separator_items t r)
+IsSeparator t = IsSeparatorOf (IsInner t) (λ r. separator_text (separator_items t r))
 
 -- all that slots hold is right
 abbrev pub AllSlots : {X : Type 0} → (X → Type 0) → List (Option X) → Type 0

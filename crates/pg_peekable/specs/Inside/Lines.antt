@@ -1,10 +1,11 @@
--- Which lines there are: of a row, of a cell, and those of separators.
-use Rattle.std.specs.Prelude.{◌≡◌, ℕ, ◌<◌, ◌≤◌, true, List}
+-- Which lines there are: of a row, of a cell, of the body, and those of separators.
+use Rattle.std.specs.Prelude.{◌≡◌, ℕ, ◌+◌, ◌<◌, ◌≤◌, length, true}
 use Rattle.pg_layout.specs.declared.position.Position.{Position}
 use Rattle.pg_config.specs.Config.{has_horizontal}
 use Rattle.pg_picture.specs.Fits.{cell_fits}
-use Rattle.pg_picture.specs.Pieces.{Piece, style_at, block_line}
-use Rattle.pg_picture.specs.Table.{Table}
+use Rattle.pg_picture.specs.Marks.{marks_of_row}
+use Rattle.pg_picture.specs.Pieces.{style_at}
+use Rattle.pg_picture.specs.Table.{Table, table_body}
 
 -- row r has a line i
 pub record IsLine (t : Table) (r i : ℕ) : Type 0 where
@@ -12,9 +13,22 @@ pub record IsLine (t : Table) (r i : ℕ) : Type 0 where
   pub line : i < t.height r
 
 -- there is a separator above row r, or below the last row
-pub record IsSeparatorLine (t : Table) (r : ℕ) : Type 0 where
-  pub row : r ≤ t.rows
-  pub there : has_horizontal t.config r t.rows ≡ true
+abbrev pub IsSeparatorLine : Table → ℕ → Type 0
+IsSeparatorLine t r = has_horizontal t.config r t.rows ≡ true
+
+-- row r stands below another one
+pub record IsInner (t : Table) (r : ℕ) : Type 0 where
+  pub some : 0 < r
+  pub row : r < t.rows
+
+-- row r is there, and so are n lines of the body from line i on
+pub record HasRoom (t : Table) (r i n : ℕ) : Type 0 where
+  pub row : r < t.rows
+  pub room : i + n ≤ length (table_body t)
+
+-- and there is room for its separator and its lines
+abbrev pub HasRow : Table → ℕ → ℕ → Type 0
+HasRow t r i = HasRoom t r i (length (marks_of_row t.config t.height r))
 
 -- the cell p, of w columns and h lines, has room for its text and a line i
 pub record IsCellLine (t : Table) (p : Position) (w h i : ℕ) : Type 0 where
@@ -22,7 +36,3 @@ pub record IsCellLine (t : Table) (p : Position) (w h i : ℕ) : Type 0 where
   pub column : p.col < t.columns
   pub room : cell_fits (style_at t.config p) (t.text p) w h ≡ true
   pub line : i < h
-
--- line i of a cell p of w columns and h lines
-abbrev pub line_of_cell : Table → Position → ℕ → ℕ → ℕ → List Piece
-line_of_cell t p w h i = block_line (style_at t.config p) (t.color p) (t.text p) w h i

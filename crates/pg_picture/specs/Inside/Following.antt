@@ -1,8 +1,12 @@
 -- What stands between an item, a part or a line and the one before it.
-use Rattle.std.specs.Prelude.{ℕ, Bool, List, [], ◌∷◌, ◌++◌, Option, if◌then◌else◌}
+use Rattle.std.specs.Prelude.{ℕ, ◌+◌, Bool, List, [], ◌∷◌, ◌++◌, Option, if◌then◌else◌}
 use Rattle.pg_layout.specs.Text.{Text}
 use Rattle.pg_layout.specs.Colors.{Color}
 use Rattle.pg_picture.specs.CompactLines.{Part, own_or}
+use Rattle.pg_picture.specs.Joined.{continued}
+use Rattle.pg_picture.specs.Marks.{Mark}
+use Rattle.pg_picture.specs.Picture.{body_lines}
+use Rattle.pg_picture.specs.Table.{Table, Hint}
 use Rattle.pg_picture.specs.Pieces.{Item, cut, color_after, item_text, repeated}
 
 -- ---- items of a separator
@@ -46,3 +50,7 @@ lines_before is_first = if is_first then 0 else 1
 -- what stands between a line and the one before it
 abbrev pub feed_before : Bool → Text
 feed_before is_first = if is_first then [] else 10 ∷ []
+
+-- the lines of these marks as a text, the first of which has index i in the body, before which n lines stand
+unfoldable pub body_text : Hint → Table → ℕ → ℕ → List Mark → Text
+body_text hint t n i marks = continued (n + i) (body_lines hint t i marks)

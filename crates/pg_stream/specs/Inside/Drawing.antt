@@ -1,5 +1,5 @@
 -- What is drawn of open cells: lines of a row, and separators.
-use Rattle.std.specs.Prelude.{◌≡◌, ℕ, ◌+◌, ◌<◌, Bool, ◌&&◌, ◌==◌, nat_lt, List, [], ◌∷◌, ◌++◌, map, flat_map, replicate, slice_index_or, Option, Some, None, if◌then◌else◌}
+use Rattle.std.specs.Prelude.{◌≡◌, ℕ, ◌+◌, ◌<◌, ◌^◌, Bool, ◌&&◌, ◌==◌, nat_lt, List, [], ◌∷◌, ◌++◌, map, flat_map, replicate, slice_index_or, Option, Some, None, IfSome, if◌then◌else◌}
 use Rattle.std.specs.List.{range_with_len}
 use Rattle.pg_layout.specs.Position.{at}
 use Rattle.pg_layout.specs.Text.{Text, greatest}
@@ -7,11 +7,12 @@ use Rattle.pg_config.specs.Config.{Config, has_horizontal, get_horizontal}
 use Rattle.pg_config.specs.Spans.{Span, rect_columns}
 use Rattle.pg_picture.specs.Joined.{continued}
 use Rattle.pg_picture.specs.Inside.Following.{feed_before}
+use Rattle.pg_picture.specs.Inside.KeptSeparators.{Keeping, IsSeparatorOf}
 use Rattle.pg_picture.specs.Pieces.{Piece, Item, block, written, separator_text}
 use Rattle.pg_picture.specs.Table.{Table, vertical, crossing_at, border_items, side_margin_at, margin_line}
 use Rattle.pg_stream.specs.Placed.{Placed, slot_of}
-use Rattle.pg_stream.specs.Inside.OpenCells.{draw_cell}
-use Rattle.pg_stream.specs.Inside.Slots.{slot_block}
+use Rattle.pg_stream.specs.Inside.OpenCells.{draw_cell, MayDraw}
+use Rattle.pg_stream.specs.Inside.Slots.{slot_block, separator_height}
 
 -- ---- a line of a row
 
@@ -55,7 +56,18 @@ open_separator t rows cells r = flat_map (open_separator_part t rows cells r) (r
 
 -- no cell spans others, and this is the text of the separator above each row but the first
 abbrev pub IsSeparator : Table → Text → Type 0
-IsSeparator t text = (t.config.spans ≡ []) × ((r : ℕ) → 0 < r → text ≡ separator_text (open_separator t (r + 1) (replicate t.columns None) r))
+IsSeparator t text = (t.config.spans ≡ []) × IsSeparatorOf (λ r. 0 < r) (λ r. separator_text (open_separator t (r + 1) (replicate t.columns None) r)) text
+
+-- These cells are open above row r: none where no cell spans others; and what is kept is a separator of the table.
+pub record IsBetween (t : Table) (r : ℕ) (cells : List (Option Placed)) (kept : Keeping) : Type 0 where
+  pub row : r + 1 < 2 ^ 64
+  pub alone : t.config.spans ≡ [] → cells ≡ replicate t.columns None
+  pub separator : IfSome kept.text (IsSeparator t)
+
+-- and the separator above the row, where it is there, may be drawn as line `index` of the body
+pub record MaySeparate (t : Table) (r index : ℕ) (cells : List (Option Placed)) (kept : Keeping) : Type 0 where
+  pub between : IsBetween t r cells kept
+  pub line : MayDraw t cells index (separator_height t.config r)
 
 -- ---- lines of the body
 

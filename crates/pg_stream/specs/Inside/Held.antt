@@ -1,11 +1,19 @@
--- What a stream's rows stand for, beside what was told to it, and what is true of them between its calls.
-use Rattle.std.specs.Prelude.{◌≡◌, map, None, option_map}
+-- What a stream's rows stand for, beside what was told to it, and what is true between the calls of a printer and of a
+-- stream.
+use Rattle.std.specs.Prelude.{◌≡◌, map, None, IfSome, option_map}
 use Rattle.pg_layout.specs.Text.{Text}
-use Rattle.pg_stream.specs.Printers.{now_of, IsSoundAt}
-use Rattle.pg_stream.specs.Printing.{Printing}
+use Rattle.pg_stream.specs.Inside.Drawing.{IsSeparator}
+use Rattle.pg_stream.specs.Printers.{now_of, IsSound}
+use Rattle.pg_stream.specs.Printing.{Printing, frame_of}
 use Rattle.pg_stream.specs.Streams.{Streaming}
 use Rattle.pg_stream.specs.declared.frame.Frame.{Frame}
 use Rattle.pg_stream.specs.declared.held_rows.HeldRows.{HeldRows}
+use Rattle.pg_stream.specs.declared.progress.Progress.{Progress}
+
+-- a printer that was told this is sound, and what it keeps is a separator of its table
+pub record IsSoundAt {D C B S A : Type 0} (told : Printing) (frame : Frame D C B) (progress : Progress S A) : Type 0 where
+  pub printer : IsSound (now_of told progress) (frame_of told) frame.width frame.height progress.cells
+  pub kept : IfSome progress.kept.text (IsSeparator (frame_of told))
 
 -- a stream that was told this, where each cell has this text
 abbrev pub streamed : {S A V : Type 0} → (S → Text) → Printing → HeldRows S A V → Streaming

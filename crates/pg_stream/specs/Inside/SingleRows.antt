@@ -1,11 +1,12 @@
 -- A row of one line in a table without spans, off the texts of its cells.
-use Rattle.std.specs.Prelude.{◌≡◌, ℕ, ◌<◌, true, List, [], ◌++◌, flat_map, slice_index_or}
+use Rattle.std.specs.Prelude.{◌≡◌, ℕ, ◌<◌, Bool, true, List, [], ◌++◌, flat_map, length, slice_index_or}
 use Rattle.std.specs.List.{range_with_len, list_all}
 use Rattle.pg_layout.specs.Position.{at}
 use Rattle.pg_layout.specs.Text.{Text, is_plain_byte}
 use Rattle.pg_picture.specs.Pieces.{Piece, style_at, block_line}
 use Rattle.pg_picture.specs.Table.{Table, vertical}
-use Rattle.pg_stream.specs.Printing.{Printing}
+use Rattle.pg_stream.specs.Conditions.{HaveRoom}
+use Rattle.pg_stream.specs.Printing.{Printing, frame_of}
 
 -- row k has one line, and no cell spans others
 pub record IsSingle (s : Printing) (k : ℕ) : Type 0 where
@@ -23,3 +24,10 @@ single_line t k texts = flat_map (λ x. single_part t k (slice_index_or texts x 
 -- the texts of the first n columns are ASCII without line feeds
 abbrev pub ArePlain : ℕ → List Text → Type 0
 ArePlain n texts = (x : ℕ) → x < n → list_all is_plain_byte (slice_index_or texts x []) ≡ true
+
+-- Row k is such a row, and these are the texts of its cells: each has room, and is plain where that is known.
+pub record IsSingleRow (s : Printing) (k : ℕ) (are_plain : Bool) (texts : List Text) : Type 0 where
+  pub single : IsSingle s k
+  pub whole : length texts ≡ s.columns
+  pub rooms : HaveRoom (frame_of s) k texts
+  pub plain : are_plain ≡ true → ArePlain s.columns texts

@@ -1,5 +1,5 @@
 use Rattle.std.proofs.Common.{◌*◌}
-use Rattle.pg_picture.specs.Appending.{Gained}
+use Rattle.pg_picture.proofs.Appending.{Gained}
 use Rattle.pg_picture.specs.Pieces.{repeated}
 use Rattle.pg_picture.proofs.fill.push_blocks.Given as goal
 

@@ -1,6 +1,6 @@
 use Rattle.std.proofs.Common.{replicate}
 use Rattle.pg_layout.specs.Colors.{lent_color}
-use Rattle.pg_picture.specs.Appending.{Gained}
+use Rattle.pg_picture.proofs.Appending.{Gained}
 use Rattle.pg_picture.specs.Joined.{continued}
 use Rattle.pg_picture.specs.Inside.Following.{lines_before}
 use Rattle.pg_picture.specs.Pieces.{written}

@@ -1,6 +1,6 @@
 use Rattle.std.proofs.Common.{[], replicate}
 use Rattle.pg_layout.specs.Colors.{str_color}
-use Rattle.pg_picture.specs.Appending.{Gained}
+use Rattle.pg_picture.proofs.Appending.{Gained}
 use Rattle.pg_picture.specs.CompactLines.{padding_row}
 use Rattle.pg_picture.specs.Joined.{continued}
 use Rattle.pg_picture.specs.Inside.Following.{lines_before}

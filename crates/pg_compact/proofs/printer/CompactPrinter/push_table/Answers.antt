@@ -1,6 +1,5 @@
-use Rattle.std.proofs.Common.{◌≡◌, ◌<◌, ◌-◌, ◌++◌, [], length, flat_map, sym, ◌∙◌, arith}
+use Rattle.std.proofs.Common.{◌<◌, ◌-◌, ◌++◌, [], length, flat_map, sym, ◌∙◌, arith}
 use Rattle.std.specs.List.{range_with_len}
-use Rattle.pg_layout.specs.Records.{Gives}
 use Rattle.pg_picture.specs.CompactLines.{row_lines}
 use Rattle.pg_picture.specs.Joined.{continued, fed}
 use Rattle.pg_picture.specs.Inside.Following.{lines_before}
@@ -19,67 +18,54 @@ returns-then-self-eq0 g c = λ texts all.
 
 pub returns-in_default : goal.returns-in_default
 returns-in_default g c = λ texts all.
-    let is_row = Gives (λ x y. g.T.AsStr.text x ≡ y) g.Cells.Iterator.can_next g.Cells.Iterator.next_gives g.Cells.Iterator.remaining in
-    let ended = rows-ended is_row g.Rows.Iterator.next_gives c.args.self.now.columns _ _ 0 texts all c.in_default.ensures.steps in
+    let ended = rows-ended all c.in_default.ensures.steps in
     Appends-text (no_rows-text (printed_table g.D.Dimension.width g.C.Colors.color c.args.self.now texts) ended) (Gained-all (Gained-none c.args.buf.now))
 
 pub compact_full_width-requires : goal.compact_full_width-requires
 compact_full_width-requires g c =
-    let is_row = Gives (λ x y. g.T.AsStr.text x ≡ y) g.Cells.Iterator.can_next g.Cells.Iterator.next_gives g.Cells.Iterator.remaining in
-    let (texts, all, fits) = c.requires.given in
-    let taken = row-taken is_row g.Rows.Iterator.next_gives c.args.self.now.columns _ _ _ 0 texts all c.in-Some.ensures.steps in
+    let (texts, all, fits) = c.requires in
+    let taken = row-taken all c.in-Some.ensures.steps c.in-Some.ensures.goes in
     let columns : 0 < c.args.self.now.columns = omega arith in
     (totals-fit g.D.Dimension.width g.C.Colors.color c.args.self.now texts fits taken.rest.begun columns).columns
 
 pub unwrap-width-requires : goal.unwrap-width-requires
 unwrap-width-requires g c =
-    let is_row = Gives (λ x y. g.T.AsStr.text x ≡ y) g.Cells.Iterator.can_next g.Cells.Iterator.next_gives g.Cells.Iterator.remaining in
-    let (texts, all, fits) = c.requires.given in
-    let taken = row-taken is_row g.Rows.Iterator.next_gives c.args.self.now.columns _ _ _ 0 texts all c.in-Some.ensures.steps in
+    let (texts, all, fits) = c.requires in
+    let taken = row-taken all c.in-Some.ensures.steps c.in-Some.ensures.goes in
     let columns : 0 < c.args.self.now.columns = omega arith in
     let totals = totals-fit g.D.Dimension.width g.C.Colors.color c.args.self.now texts fits taken.rest.begun columns in
     is_some_answer (width-answer g.D.Dimension.width g.C.Colors.color c.args.self.now texts totals c.compact_full_width.ensures)
 
 pub push_head-requires : goal.push_head-requires
 push_head-requires g c =
-    let is_row = Gives (λ x y. g.T.AsStr.text x ≡ y) g.Cells.Iterator.can_next g.Cells.Iterator.next_gives g.Cells.Iterator.remaining in
-    let (texts, all, fits) = c.requires.given in
-    let taken = row-taken is_row g.Rows.Iterator.next_gives c.args.self.now.columns _ _ _ 0 texts all c.in-Some.ensures.steps in
+    let (texts, all, fits) = c.requires in
+    let taken = row-taken all c.in-Some.ensures.steps c.in-Some.ensures.goes in
     let columns : 0 < c.args.self.now.columns = omega arith in
     let totals = totals-fit g.D.Dimension.width g.C.Colors.color c.args.self.now texts fits taken.rest.begun columns in
     some_is c.unwrap-width.result _ (sym c.unwrap-width.ensures ∙ width-answer g.D.Dimension.width g.C.Colors.color c.args.self.now texts totals c.compact_full_width.ensures)
 
 pub push_foot-requires : goal.push_foot-requires
 push_foot-requires g c =
-    let is_row = Gives (λ x y. g.T.AsStr.text x ≡ y) g.Cells.Iterator.can_next g.Cells.Iterator.next_gives g.Cells.Iterator.remaining in
-    let (texts, all, fits) = c.requires.given in
-    let taken = row-taken is_row g.Rows.Iterator.next_gives c.args.self.now.columns _ _ _ 0 texts all c.in-Some.ensures.steps in
+    let (texts, all, fits) = c.requires in
+    let taken = row-taken all c.in-Some.ensures.steps c.in-Some.ensures.goes in
     let columns : 0 < c.args.self.now.columns = omega arith in
     let totals = totals-fit g.D.Dimension.width g.C.Colors.color c.args.self.now texts fits taken.rest.begun columns in
     some_is c.unwrap-width.result _ (sym c.unwrap-width.ensures ∙ width-answer g.D.Dimension.width g.C.Colors.color c.args.self.now texts totals c.compact_full_width.ensures)
 
 pub push_row-requires : goal.push_row-requires
 push_row-requires g c =
-    let is_row = Gives (λ x y. g.T.AsStr.text x ≡ y) g.Cells.Iterator.can_next g.Cells.Iterator.next_gives g.Cells.Iterator.remaining in
-    let (texts, all, fits) = c.requires.given in
-    let taken = row-taken is_row g.Rows.Iterator.next_gives c.args.self.now.columns _ _ _ 0 texts all c.in-Some.ensures.steps in
+    let (texts, all, fits) = c.requires in
+    let taken = row-taken all c.in-Some.ensures.steps c.in-Some.ensures.goes in
     record { cells = (taken.stands.can_next, taken.stands.ends) }
 
-pub push_next_rows-requires-clause-rows : goal.push_next_rows-requires-clause-rows
-push_next_rows-requires-clause-rows g c =
-    let goes = c.in-Some.ensures.goes.on c.requires.rows.1 in
-    (goes.0, goes.1)
-
-pub push_next_rows-requires-clause-given : goal.push_next_rows-requires-clause-given
-push_next_rows-requires-clause-given g c =
-    let is_row = Gives (λ x y. g.T.AsStr.text x ≡ y) g.Cells.Iterator.can_next g.Cells.Iterator.next_gives g.Cells.Iterator.remaining in
-    let (texts, all, fits) = c.requires.given in
-    (texts, (row-taken is_row g.Rows.Iterator.next_gives c.args.self.now.columns _ _ _ 0 texts all c.in-Some.ensures.steps).rest)
+pub push_next_rows-requires : goal.push_next_rows-requires
+push_next_rows-requires g c =
+    let (texts, all, fits) = c.requires in
+    (texts, (row-taken all c.in-Some.ensures.steps c.in-Some.ensures.goes).rest)
 
 pub returns-in_err-push_head : goal.returns-in_err-push_head
 returns-in_err-push_head g c = λ texts all.
-    let is_row = Gives (λ x y. g.T.AsStr.text x ≡ y) g.Cells.Iterator.can_next g.Cells.Iterator.next_gives g.Cells.Iterator.remaining in
-    let taken = row-taken is_row g.Rows.Iterator.next_gives c.args.self.now.columns _ _ _ 0 texts all c.in-Some.ensures.steps in
+    let taken = row-taken all c.in-Some.ensures.steps c.in-Some.ensures.goes in
     let columns : 0 < c.args.self.now.columns = omega arith in
     let t = printed_table g.D.Dimension.width g.C.Colors.color c.args.self.now texts in
     let foot = foot_lines (printed_table g.D.Dimension.width g.C.Colors.color c.args.self.now []) in
@@ -88,8 +74,7 @@ returns-in_err-push_head g c = λ texts all.
 
 pub returns-in_err-push_row : goal.returns-in_err-push_row
 returns-in_err-push_row g c = λ texts all.
-    let is_row = Gives (λ x y. g.T.AsStr.text x ≡ y) g.Cells.Iterator.can_next g.Cells.Iterator.next_gives g.Cells.Iterator.remaining in
-    let taken = row-taken is_row g.Rows.Iterator.next_gives c.args.self.now.columns _ _ _ 0 texts all c.in-Some.ensures.steps in
+    let taken = row-taken all c.in-Some.ensures.steps c.in-Some.ensures.goes in
     let columns : 0 < c.args.self.now.columns = omega arith in
     let t = printed_table g.D.Dimension.width g.C.Colors.color c.args.self.now texts in
     let foot = foot_lines (printed_table g.D.Dimension.width g.C.Colors.color c.args.self.now []) in
@@ -98,8 +83,7 @@ returns-in_err-push_row g c = λ texts all.
 
 pub returns-in_err-push_next_rows : goal.returns-in_err-push_next_rows
 returns-in_err-push_next_rows g c = λ texts all.
-    let is_row = Gives (λ x y. g.T.AsStr.text x ≡ y) g.Cells.Iterator.can_next g.Cells.Iterator.next_gives g.Cells.Iterator.remaining in
-    let taken = row-taken is_row g.Rows.Iterator.next_gives c.args.self.now.columns _ _ _ 0 texts all c.in-Some.ensures.steps in
+    let taken = row-taken all c.in-Some.ensures.steps c.in-Some.ensures.goes in
     let columns : 0 < c.args.self.now.columns = omega arith in
     let foot = foot_lines (printed_table g.D.Dimension.width g.C.Colors.color c.args.self.now []) in
     Appends-text (table-text g.D.Dimension.width g.C.Colors.color c.args.self.now texts taken.rest.begun columns c.has_no_head-is_first.ensures)
@@ -107,8 +91,7 @@ returns-in_err-push_next_rows g c = λ texts all.
 
 pub returns : goal.returns
 returns g c = λ texts all.
-    let is_row = Gives (λ x y. g.T.AsStr.text x ≡ y) g.Cells.Iterator.can_next g.Cells.Iterator.next_gives g.Cells.Iterator.remaining in
-    let taken = row-taken is_row g.Rows.Iterator.next_gives c.args.self.now.columns _ _ _ 0 texts all c.in-Some.ensures.steps in
+    let taken = row-taken all c.in-Some.ensures.steps c.in-Some.ensures.goes in
     let columns : 0 < c.args.self.now.columns = omega arith in
     Appends-text (table-text g.D.Dimension.width g.C.Colors.color c.args.self.now texts taken.rest.begun columns c.has_no_head-is_first.ensures)
     (c.in_ok-push_head.ensures then (c.in_ok-push_row.ensures texts (record { gives = taken.stands.gives; even = taken.even }) then (c.in_ok-push_next_rows.ensures texts taken.rest then c.push_foot.ensures)))

@@ -11,12 +11,12 @@ loop-row-init g c =
     let n = lines_before c.args.is_first in
     record { gained = Gained-text (above-none-text t n) (Gained-none c.args.buf.now); index = above-none t n }
 
-pub push_row-requires-clause-room : goal.push_row-requires-clause-room
-push_row-requires-clause-room g c =
+pub push_row-requires : goal.push_row-requires
+push_row-requires g c =
     let t = g.T.Drawn.table in
     let n = lines_before c.args.is_first in
     let here : c.loop-row.row < t.rows = omega (arith, c.args.self.now.shape.rows) in
-    row-room t n c.loop-row.index c.loop-row.row (length (table_body t)) c.loop-row.invariant.index refl here
+    record { row = record { row = here; room = row-room t n c.loop-row.index c.loop-row.row (length (table_body t)) c.loop-row.invariant.index refl here } }
 
 pub returns-in_err-index : goal.returns-in_err-index
 returns-in_err-index g c =

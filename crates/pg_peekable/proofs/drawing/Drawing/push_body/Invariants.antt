@@ -1,9 +1,8 @@
 use Rattle.std.proofs.Common.{◌≡◌, length}
-use Rattle.pg_picture.specs.Appending.{Gained}
+use Rattle.pg_picture.proofs.Appending.{Gained}
 use Rattle.pg_picture.specs.Marks.{marks_above}
 use Rattle.pg_picture.specs.Table.{Known}
-use Rattle.pg_picture.specs.Inside.Following.{lines_before}
-use Rattle.pg_picture.specs.Picture.{body_text}
+use Rattle.pg_picture.specs.Inside.Following.{lines_before, body_text}
 use Rattle.pg_peekable.proofs.drawing.Drawing.push_body.Given as goal
 
 abbrev pub invariant-loop-row : goal.invariant-loop-row

@@ -16,7 +16,7 @@ pub returns-in_err-run-clause-appends : goal.returns-in_err-run-clause-appends
 returns-in_err-run-clause-appends g c =
     let t = g.T.Drawn.table in
     let here : c.loop-column.column < t.columns = omega (arith, c.args.self.now.shape.columns) in
-    let row = c.args.row in
+    let row = c.args.separator.now.row in
     let col = c.loop-column.column in
     let place = ap (λ (p : Position). crossing_at t.config t.rows t.columns p ++ border_items t.config p t.rows (t.width p.col) (get_horizontal t.config p t.rows)) c.new.ensures in
     let items = sym (column-items t (c.is_spanned.ensures c.if-is_spanned.false) t.rows t.columns (t.width col) (at row col) refl refl refl here) in
@@ -27,7 +27,7 @@ pub loop-column-preserved : goal.loop-column-preserved
 loop-column-preserved g c =
     let t = g.T.Drawn.table in
     let here : c.loop-column.column < t.columns = omega (arith, c.args.self.now.shape.columns) in
-    let row = c.args.row in
+    let row = c.args.separator.now.row in
     let col = c.loop-column.column in
     let place = ap (λ (p : Position). crossing_at t.config t.rows t.columns p ++ border_items t.config p t.rows (t.width p.col) (get_horizontal t.config p t.rows)) c.new.ensures in
     let items = sym (column-items t (c.is_spanned.ensures c.if-is_spanned.false) t.rows t.columns (t.width col) (at row col) refl refl refl here) in

@@ -1,10 +1,9 @@
 use Rattle.std.proofs.Common.{map}
 use Rattle.std.specs.List.{range_with_len}
-use Rattle.pg_picture.specs.Appending.{Gained}
+use Rattle.pg_picture.proofs.Appending.{Gained}
 use Rattle.pg_picture.specs.Marks.{line}
 use Rattle.pg_picture.specs.Table.{Known}
-use Rattle.pg_picture.specs.Inside.Following.{lines_before}
-use Rattle.pg_picture.specs.Picture.{body_text}
+use Rattle.pg_picture.specs.Inside.Following.{lines_before, body_text}
 use Rattle.pg_peekable.proofs.drawing.Drawing.push_lines.Given as goal
 
 abbrev pub invariant-loop-number : goal.invariant-loop-number

@@ -9,13 +9,13 @@ pub returns-in_err-push_parts : goal.returns-in_err-push_parts
 unfolding row_line
 returns-in_err-push_parts g c =
     let t = g.T.Drawn.table in
-    Appends-text (sym (written-columns (row_part t c.args.row c.args.line) t.columns))
-    (stopped (written (row_part t c.args.row c.args.line t.columns)) c.from_residual.ensures.0 c.in_err-push_parts.ensures)
+    Appends-text (sym (written-columns (row_part t c.args.line.now.row c.args.line.now.number) t.columns))
+    (stopped (written (row_part t c.args.line.now.row c.args.line.now.number t.columns)) c.from_residual.ensures.0 c.in_err-push_parts.ensures)
 
 pub returns : goal.returns
 unfolding row_line
 returns g c =
     let t = g.T.Drawn.table in
-    let part = row_part t c.args.row c.args.line in
+    let part = row_part t c.args.line.now.row c.args.line.now.number in
     Appends-text (sym (written-columns part t.columns))
     (c.in_ok-push_parts.ensures then c.push_end.ensures)

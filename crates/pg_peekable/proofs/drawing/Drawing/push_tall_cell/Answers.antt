@@ -10,49 +10,45 @@ use Rattle.pg_picture.proofs.Room.{cell_fits-room}
 use Rattle.pg_peekable.specs.Inside.Kept.{Reads}
 use Rattle.pg_peekable.proofs.drawing.Drawing.push_tall_cell.Goals as goal
 
-pub reading_of-reading-requires-clause-cell : goal.reading_of-reading-requires-clause-cell
-reading_of-reading-requires-clause-cell g c =
-    record { row = c.requires.cell.row; column = c.requires.cell.column; room = c.requires.cell.room; line = omega (arith, c.requires.cell.line) }
-
 pub text_line_at-requires : goal.text_line_at-requires
 text_line_at-requires g c =
-    let style = style_of c.args.style.now in
+    let style = style_of c.args.line.style.now in
     let text = c.text_of-text.result.now in
     let reading = c.reading_of-reading.result in
-    let is : reading.place ≡ place_of (facts_of style.formatting text) style c.args.width c.args.height = c.reading_of-reading.ensures.place ∙ sym (ap₂ (λ (s : Style) (x : List ℕ). place_of (facts_of s.formatting x) s c.args.width c.args.height) c.requires.style c.text_of-text.ensures) in
-    omega (arith, place-lines style text c.args.width c.args.height reading.place is, length-lines_of text, count_by-le-length is_feed text)
+    let is : reading.place ≡ place_of (facts_of style.formatting text) style c.args.line.width c.args.line.height = c.reading_of-reading.ensures.place ∙ sym (ap₂ (λ (s : Style) (x : List ℕ). place_of (facts_of s.formatting x) s c.args.line.width c.args.line.height) c.args.line.is_styled c.text_of-text.ensures) in
+    omega (arith, place-lines style text c.args.line.width c.args.line.height reading.place is, length-lines_of text, count_by-le-length is_feed text)
 
 pub line_if-shown-requires-clause-reads : goal.line_if-shown-requires-clause-reads
 line_if-shown-requires-clause-reads g c = subst (Reads c.reading_of-reading.result) (sym c.text_of-text.ensures) c.reading_of-reading.ensures.reads
 
 pub line_if-shown-requires-clause-there : goal.line_if-shown-requires-clause-there
 line_if-shown-requires-clause-there g c =
-    let style = style_of c.args.style.now in
+    let style = style_of c.args.line.style.now in
     let text = c.text_of-text.result.now in
     let reading = c.reading_of-reading.result in
-    let is : reading.place ≡ place_of (facts_of style.formatting text) style c.args.width c.args.height = c.reading_of-reading.ensures.place ∙ sym (ap₂ (λ (s : Style) (x : List ℕ). place_of (facts_of s.formatting x) s c.args.width c.args.height) c.requires.style c.text_of-text.ensures) in
-    rw c.text_line_at.ensures (text_line_at-within reading.place c.args.line _ (place-lines style text c.args.width c.args.height reading.place is))
+    let is : reading.place ≡ place_of (facts_of style.formatting text) style c.args.line.width c.args.line.height = c.reading_of-reading.ensures.place ∙ sym (ap₂ (λ (s : Style) (x : List ℕ). place_of (facts_of s.formatting x) s c.args.line.width c.args.line.height) c.args.line.is_styled c.text_of-text.ensures) in
+    rw c.text_line_at.ensures (text_line_at-within reading.place c.args.line.number _ (place-lines style text c.args.line.width c.args.line.height reading.place is))
 
 pub push_block_line_of-requires : goal.push_block_line_of-requires
 push_block_line_of-requires g c = λ below above.
-    let style = style_of c.args.style.now in
+    let style = style_of c.args.line.style.now in
     let text = c.text_of-text.result.now in
     let reading = c.reading_of-reading.result in
-    let is : reading.place ≡ place_of (facts_of style.formatting text) style c.args.width c.args.height = c.reading_of-reading.ensures.place ∙ sym (ap₂ (λ (s : Style) (x : List ℕ). place_of (facts_of s.formatting x) s c.args.width c.args.height) c.requires.style c.text_of-text.ensures) in
-    let some : 0 < c.args.height = omega (arith, c.requires.cell.line) in
-    let fits : cell_fits style text c.args.width c.args.height ≡ true = ap₂ (λ s x. cell_fits s x c.args.width c.args.height) c.requires.style c.text_of-text.ensures ∙ c.requires.cell.room in
+    let is : reading.place ≡ place_of (facts_of style.formatting text) style c.args.line.width c.args.line.height = c.reading_of-reading.ensures.place ∙ sym (ap₂ (λ (s : Style) (x : List ℕ). place_of (facts_of s.formatting x) s c.args.line.width c.args.line.height) c.args.line.is_styled c.text_of-text.ensures) in
+    let some : 0 < c.args.line.height = omega (arith, c.args.line.is.line) in
+    let fits : cell_fits style text c.args.line.width c.args.line.height ≡ true = ap₂ (λ s x. cell_fits s x c.args.line.width c.args.line.height) c.args.line.is_styled c.text_of-text.ensures ∙ c.args.line.is.room in
     let shown = c.line_if-shown.ensures.line ∙ ap (line_if text) c.text_line_at.ensures in
-    room-of-line style text c.args.width c.args.height c.args.line reading.place c.line_if-shown.result.now is shown (cell_fits-room style text c.args.width c.args.height fits some).0 below above
+    room-of-line style text c.args.line.width c.args.line.height c.args.line.number reading.place c.line_if-shown.result.now is shown (cell_fits-room style text c.args.line.width c.args.line.height fits some).0 below above
 
 pub returns : goal.returns
 returns g c =
-    let style = style_of c.args.style.now in
+    let style = style_of c.args.line.style.now in
     let text = c.text_of-text.result.now in
     let reading = c.reading_of-reading.result in
-    let is : reading.place ≡ place_of (facts_of style.formatting text) style c.args.width c.args.height = c.reading_of-reading.ensures.place ∙ sym (ap₂ (λ (s : Style) (x : List ℕ). place_of (facts_of s.formatting x) s c.args.width c.args.height) c.requires.style c.text_of-text.ensures) in
+    let is : reading.place ≡ place_of (facts_of style.formatting text) style c.args.line.width c.args.line.height = c.reading_of-reading.ensures.place ∙ sym (ap₂ (λ (s : Style) (x : List ℕ). place_of (facts_of s.formatting x) s c.args.line.width c.args.line.height) c.args.line.is_styled c.text_of-text.ensures) in
     let shown = c.line_if-shown.ensures.line ∙ ap (line_if text) c.text_line_at.ensures in
-    let color = g.T.Drawn.table.color c.args.pos in
+    let color = g.T.Drawn.table.color c.args.line.pos in
     Appends-text
-    (ap (λ k. written (block_line style k text c.args.width c.args.height c.args.line)) c.color_of.ensures
-    ∙ ap₂ (λ s x. written (block_line s color x c.args.width c.args.height c.args.line)) c.requires.style c.text_of-text.ensures)
-    (Appends-text (ap written (block_line-at style _ text c.args.width c.args.height c.args.line reading.place c.line_if-shown.result.now is shown)) c.push_block_line_of.ensures)
+    (ap (λ k. written (block_line style k text c.args.line.width c.args.line.height c.args.line.number)) c.color_of-color.ensures
+    ∙ ap₂ (λ s x. written (block_line s color x c.args.line.width c.args.line.height c.args.line.number)) c.args.line.is_styled c.text_of-text.ensures)
+    (Appends-text (ap written (block_line-at style _ text c.args.line.width c.args.line.height c.args.line.number reading.place c.line_if-shown.result.now is shown)) c.push_block_line_of.ensures)

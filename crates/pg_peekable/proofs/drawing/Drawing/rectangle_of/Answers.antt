@@ -20,13 +20,16 @@ height_of_rows-requires-clause-some g c = rw c.args.self.now.is.config (owner_in
 pub unwrap-height-requires : goal.unwrap-height-requires
 unwrap-height-requires g c = is_some_answer (height-answer g.T.Drawn.table c.args.self.now.can _ c.args.self.now.is c.args.corner c.requires.owner c.height_of_rows.result c.height_of_rows.ensures)
 
-pub returns-clause-is : goal.returns-clause-is
-returns-clause-is g c =
+pub invariant_of-result : goal.invariant_of-result
+invariant_of-result g c =
     let t = g.T.Drawn.table in
     let self = c.args.self.now in
     record {
-      width = some_is c.unwrap-width.result (rect_width t c.args.corner) (sym c.unwrap-width.ensures ∙ width-answer t self.can _ self.is c.args.corner c.requires.owner self.columns self.shape.columns c.width_of_columns.result c.width_of_columns.ensures);
-      height = some_is c.unwrap-height.result (rect_height t c.args.corner) (sym c.unwrap-height.ensures ∙ height-answer t self.can _ self.is c.args.corner c.requires.owner c.height_of_rows.result c.height_of_rows.ensures);
-      begun = omega arith;
-      above = lines-none t self.can c.args.corner.row;
+      is = record {
+        owner = c.requires.owner;
+        width = some_is c.unwrap-width.result (rect_width t c.args.corner) (sym c.unwrap-width.ensures ∙ width-answer t self.can _ self.is c.args.corner c.requires.owner self.columns self.shape.columns c.width_of_columns.result c.width_of_columns.ensures);
+        height = some_is c.unwrap-height.result (rect_height t c.args.corner) (sym c.unwrap-height.ensures ∙ height-answer t self.can _ self.is c.args.corner c.requires.owner c.height_of_rows.result c.height_of_rows.ensures);
+        begun = omega arith;
+        above = lines-none t self.can c.args.corner.row;
+      };
     }

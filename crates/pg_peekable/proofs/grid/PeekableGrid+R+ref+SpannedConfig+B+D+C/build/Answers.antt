@@ -17,12 +17,13 @@ returns-then-rows-eq0-clause-appends g c =
     ] in
     Appends-text (sym (picture-none Known t none)) (Gained-all (Gained-none c.args.buf.now))
 
-pub push_picture-requires-clause-some : goal.push_picture-requires-clause-some
-push_picture-requires-clause-some g c =
+pub push_picture-requires : goal.push_picture-requires
+push_picture-requires g c =
     let t = drawn g.R.Records g.D.Dimension g.C.Colors c.args.self.now in
     let rows = c.count_rows-rows.ensures in
     let columns = c.count_columns-columns.ensures.value in
-    grind (arith, nat_tests, rows, columns)
+    let some : ((t.rows == 0) || (t.columns == 0)) ≡ false = grind (arith, nat_tests, rows, columns) in
+    record { fits = c.requires.fits; some = some; rows = rows; columns = columns }
 
 pub returns-clause-appends : goal.returns-clause-appends
 returns-clause-appends g c =

@@ -3,7 +3,7 @@ use Rattle.std.proofs.lemmas.Bool.Decides.{nat_tests}
 use Rattle.pg_layout.specs.declared.sides.Sides.{Sides}
 use Rattle.pg_layout.specs.declared.sides.Indent.{Indent}
 use Rattle.pg_picture.specs.Joined.{continued}
-use Rattle.pg_picture.specs.Inside.Following.{lines_before}
+use Rattle.pg_picture.specs.Inside.Following.{lines_before, body_text}
 use Rattle.pg_picture.specs.Pieces.{written}
 use Rattle.pg_picture.specs.Table.{Known, margin_line, table_body, full_width}
 use Rattle.pg_picture.specs.Fits.{body_height}
@@ -11,7 +11,6 @@ use Rattle.pg_picture.proofs.Appending.{Appends-text, ◌then◌, stopped}
 use Rattle.pg_picture.proofs.FittingTables.{some_is, totals_facts}
 use Rattle.pg_picture.proofs.HeightsOfRectangles.{length-table_body}
 use Rattle.pg_peekable.specs.Grids.{drawn}
-use Rattle.pg_picture.specs.Picture.{body_text}
 use Rattle.pg_picture.proofs.SumsOfSizes.{is_some_answer}
 use Rattle.pg_peekable.proofs.CanDraw.{can_draw, width-answer, height-answer}
 use Rattle.pg_picture.proofs.Pictures.{picture-parts}

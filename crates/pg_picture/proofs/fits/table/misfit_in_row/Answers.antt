@@ -3,7 +3,7 @@ use Rattle.pg_layout.specs.declared.position.Position.{Position}
 use Rattle.pg_layout.specs.Position.{at}
 use Rattle.pg_config.specs.Spans.{is_left, left_span}
 use Rattle.pg_picture.specs.Fits.{owner_fits}
-use Rattle.pg_picture.specs.Rectangles.{columns_or_one}
+use Rattle.pg_picture.specs.Inside.Rectangles.{columns_or_one}
 use Rattle.pg_picture.specs.Sizes.{table_of}
 use Rattle.pg_picture.specs.Inside.Walks.{first_misfit}
 use Rattle.pg_picture.proofs.FittingTables.{totals_facts}

@@ -1,4 +1,4 @@
-use Rattle.std.proofs.Common.{◌≡◌, ◌∙◌, sym, ap, subst, get_or, length, max, arith, ◌<◌, ◌+◌, slice_index_or, [], Option, None}
+use Rattle.std.proofs.Common.{◌≡◌, ◌∙◌, sym, ap, subst, get_or, length, max, arith, ◌<◌, slice_index_or, [], Option, None}
 use Rattle.pg_layout.specs.Position.{at}
 use Rattle.pg_config.specs.Spans.{rect_columns}
 use Rattle.pg_picture.proofs.Owners.{apart_from, owners_of, owner-columns}

@@ -1,8 +1,6 @@
-use Rattle.std.proofs.Common.{◌≡◌, ◌+◌, ◌∙◌, sym, ap, arith, max, set, Some, None, slice_index_or}
+use Rattle.std.proofs.Common.{◌∙◌, sym, ap, arith, set, Some}
 use Rattle.pg_config.specs.Spans.{rect_columns}
 use Rattle.pg_layout.specs.declared.position.Position.{Position}
-use Rattle.pg_layout.specs.Position.{at}
-use Rattle.pg_stream.specs.Inside.Drawing.{column_end}
 use Rattle.pg_stream.specs.Printing.{Printing, frame_of}
 use Rattle.pg_stream.specs.Inside.Turns.{new_cell}
 use Rattle.pg_stream.proofs.Beginning.{begins, keeps}

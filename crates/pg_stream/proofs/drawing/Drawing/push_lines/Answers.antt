@@ -10,21 +10,21 @@ use Rattle.pg_stream.proofs.drawing.Drawing.push_lines.Goals as goal
 pub loop-line-init : goal.loop-line-init
 loop-line-init g c = (drawn-none c.args.opened.now, Gained-text (lines-none (frame_of g.T.Drawn.told) c.args.self.frame.now.height c.args.is_first c.args.opened.now c.args.row c.args.index) (Gained-none c.args.buf.now))
 
-pub push_body_line-requires-clause-opened : goal.push_body_line-requires-clause-opened
-push_body_line-requires-clause-opened g c =
+pub invariant_of-shown : goal.invariant_of-shown
+invariant_of-shown g c =
     let t = frame_of g.T.Drawn.told in
-    subst (AreDrawn t) (sym c.loop-line.invariant.0) (drawn-still t c.loop-line.line c.args.opened.now (c.requires.opened (omega arith)))
+    record { are_drawn = subst (AreDrawn t) (sym c.loop-line.invariant.0) (drawn-still t c.loop-line.line c.args.opened.now (c.requires.opened (omega (arith, c.height_of-line-end.ensures)))) }
 
 pub returns-in_err-push_body_line-clause-appends : goal.returns-in_err-push_body_line-clause-appends
 returns-in_err-push_body_line-clause-appends g c =
     let t = frame_of g.T.Drawn.told in
-    refused _ (lines-cut t c.args.self.frame.now.height c.args.is_first c.args.opened.now c.args.row c.args.index c.loop-line.line c.args.height c.loop-line-test.true) c.from_residual.ensures.0 c.loop-line.invariant.1
+    refused _ (lines-cut t c.args.self.frame.now.height c.args.is_first c.args.opened.now c.args.row c.args.index c.loop-line.line (t.height c.args.row) (omega (arith, c.height_of-line-end.ensures))) c.from_residual.ensures.0 c.loop-line.invariant.1
     (Appends-text (line-now t c.args.self.frame.now.height c.args.is_first c.args.opened.now c.args.row c.args.index c.loop-line.line c.loop-line.opened c.loop-line.invariant.0) c.in_err-push_body_line.ensures)
 
 pub draw_line-requires : goal.draw_line-requires
 draw_line-requires g c =
     subst (AllOpen (λ x cell. cell.drawn + 1 < 2 ^ 64)) (sym c.loop-line.invariant.0)
-    (drawn-all (λ x cell. cell.drawn + c.args.height < 2 ^ 64) (λ x cell. cell.drawn + 1 < 2 ^ 64) c.loop-line.line c.args.opened.now (λ x cell h. omega (arith, h, c.loop-line-test.true)) c.requires.room)
+    (drawn-all (λ x cell. cell.drawn + g.T.Drawn.told.height c.args.row < 2 ^ 64) (λ x cell. cell.drawn + 1 < 2 ^ 64) c.loop-line.line c.args.opened.now (λ x cell h. omega (arith, h, c.loop-line-test.true, c.height_of-line-end.ensures)) c.requires.room)
 
 pub loop-line-preserved : goal.loop-line-preserved
 loop-line-preserved g c =

@@ -1,5 +1,5 @@
 use Rattle.std.proofs.Common.{◌≡◌, map}
-use Rattle.pg_picture.specs.Appending.{Gained}
+use Rattle.pg_picture.proofs.Appending.{Gained}
 use Rattle.pg_stream.specs.Inside.Drawing.{open_lines}
 use Rattle.pg_stream.specs.Printing.{frame_of}
 use Rattle.pg_stream.specs.Inside.OpenCells.{draw_cell}

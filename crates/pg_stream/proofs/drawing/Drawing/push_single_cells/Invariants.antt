@@ -2,7 +2,7 @@ use Rattle.std.proofs.Common.{◌≡◌, [], List, drop, flat_map, slice_index_o
 use Rattle.std.specs.List.{range_with_len}
 use Rattle.pg_layout.specs.Records.{AlwaysGives}
 use Rattle.pg_layout.specs.Text.{Text}
-use Rattle.pg_picture.specs.Appending.{Gained}
+use Rattle.pg_picture.proofs.Appending.{Gained}
 use Rattle.pg_picture.specs.Pieces.{written}
 use Rattle.pg_stream.specs.Printing.{frame_of}
 use Rattle.pg_stream.specs.Inside.SingleRows.{single_part}

@@ -3,7 +3,7 @@ use Rattle.std.proofs.lemmas.List.{get_or-map}
 use Rattle.pg_layout.specs.declared.position.Position.{Position}
 use Rattle.pg_layout.specs.Position.{at, is_at}
 use Rattle.pg_config.specs.Spans.{is_left, left_span, owner}
-use Rattle.pg_picture.specs.Rectangles.{columns_or_one}
+use Rattle.pg_picture.specs.Inside.Rectangles.{columns_or_one}
 use Rattle.pg_stream.specs.Conditions.{HasRoom}
 use Rattle.pg_stream.specs.Inside.Frames.{frame_table}
 use Rattle.pg_picture.proofs.LeftColumns.{step-some, step-inside, step-left, step-all}

@@ -1,4 +1,4 @@
-use Rattle.std.proofs.Common.{◌≡◌, ◌&&◌, true, [], map, refl, sym, ap, ◌∙◌, subst, arith, slice_index_or, Some, is_some, Option}
+use Rattle.std.proofs.Common.{◌≡◌, ◌&&◌, true, [], map, refl, sym, ap, ◌∙◌, subst, arith, slice_index_or, Some, is_some}
 use Rattle.std.specs.List.{list_all}
 use Rattle.std.proofs.lemmas.Bool.{false≢true, and_parts}
 use Rattle.std.proofs.lemmas.List.{get_or-map}

@@ -11,18 +11,17 @@ use Rattle.pg_stream.proofs.held_rows.HeldRows.push_results.Goals as goal
 
 pub loop-row-init : goal.loop-row-init
 loop-row-init g c =
-    rw (c.into_iter-row-iterator.ensures.into_iter_gives, c.new-kept.ensures.text) (
+    rw (c.into_iter-row-iterator.ensures.into_iter_gives, c.with_room-pushed.ensures) (
       c.requires.can,
       c.requires.ends,
       λ items left. none-streamed (Unit {0}) (λ x. result_map_both (λ row. map g.S.AsStr.text row.items) (λ error. error) x) g.I.Iterator.next_gives c.args.buf.now c.args.rows (streamed g.S.AsStr.text g.T.Drawn.told c.args.self) items left,
-      c.requires.sound,
-      tt,
+      (record { printer = c.requires.sound.0.printer; kept = tt }, c.requires.sound.1),
       no-items c.args.buf.now (streamed g.S.AsStr.text g.T.Drawn.told c.args.self),
     )
 
 pub returns-in-Err-clause-prints : goal.returns-in-Err-clause-prints
 returns-in-Err-clause-prints g c =
-    let now : Streaming = streamed g.S.AsStr.text g.T.Drawn.told c.loop-row.self in
+    let now : Streaming = streamed g.S.AsStr.text g.T.Drawn.told c.loop-row.pushed in
     let began : Streaming = streamed g.S.AsStr.text g.T.Drawn.told c.args.self in
     let view : Result _ g.row.E.Denot → Result (List Text) g.row.E.Denot = λ x. result_map_both (λ row. map g.S.AsStr.text row.items) (λ error. error) x in
     λ items left.
@@ -31,15 +30,15 @@ returns-in-Err-clause-prints g c =
 
 pub returns-in-Err-clause-runs : goal.returns-in-Err-clause-runs
 returns-in-Err-clause-runs g c =
-    let now : Streaming = streamed g.S.AsStr.text g.T.Drawn.told c.loop-row.self in
+    let now : Streaming = streamed g.S.AsStr.text g.T.Drawn.told c.loop-row.pushed in
     let began : Streaming = streamed g.S.AsStr.text g.T.Drawn.told c.args.self in
     let view : Result _ g.row.E.Denot → Result (List Text) g.row.E.Denot = λ x. result_map_both (λ row. map g.S.AsStr.text row.items) (λ error. error) x in
-    rw (← c.into_iter-row-iterator.ensures.into_iter_gives) (results-fail view g.I.Iterator.next_gives c.loop-row.yielded now began c.in-Err.error c.in-Some.row c.loop-row.yielded_by c.loop-row.invariant.5 c.in-Some.ensures.steps (ap view c.in-Err.is))
+    rw (← c.into_iter-row-iterator.ensures.into_iter_gives) (results-fail view g.I.Iterator.next_gives c.loop-row.yielded now began c.in-Err.error c.in-Some.row c.loop-row.yielded_by c.loop-row.invariant.4 c.in-Some.ensures.steps (ap view c.in-Err.is))
 
 pub returns-in_err-push-clause-prints : goal.returns-in_err-push-clause-prints
 returns-in_err-push-clause-prints g c =
     let p = err_from_is_err_and c.from_residual.result c.from_residual.ensures.1 in
-    let now : Streaming = streamed g.S.AsStr.text g.T.Drawn.told c.loop-row.self in
+    let now : Streaming = streamed g.S.AsStr.text g.T.Drawn.told c.loop-row.pushed in
     let began : Streaming = streamed g.S.AsStr.text g.T.Drawn.told c.args.self in
     let view : Result _ g.row.E.Denot → Result (List Text) g.row.E.Denot = λ x. result_map_both (λ row. map g.S.AsStr.text row.items) (λ error. error) x in
     let cells : List Text = map g.S.AsStr.text c.in-Ok.cells.items in
@@ -50,16 +49,16 @@ returns-in_err-push-clause-prints g c =
 pub returns-in_err-push-clause-runs : goal.returns-in_err-push-clause-runs
 returns-in_err-push-clause-runs g c =
     let p = err_from_is_err_and c.from_residual.result c.from_residual.ensures.1 in
-    let now : Streaming = streamed g.S.AsStr.text g.T.Drawn.told c.loop-row.self in
+    let now : Streaming = streamed g.S.AsStr.text g.T.Drawn.told c.loop-row.pushed in
     let began : Streaming = streamed g.S.AsStr.text g.T.Drawn.told c.args.self in
     let view : Result _ g.row.E.Denot → Result (List Text) g.row.E.Denot = λ x. result_map_both (λ row. map g.S.AsStr.text row.items) (λ error. error) x in
     let cells : List Text = map g.S.AsStr.text c.in-Ok.cells.items in
-    rw (p.1, p.2, ← c.into_iter-row-iterator.ensures.into_iter_gives) (results-stop view g.I.Iterator.next_gives c.loop-row.yielded now began c.in_err-push.field-0.0 c.in-Some.row cells c.loop-row.yielded_by c.loop-row.invariant.5 c.in-Some.ensures.steps (ap view c.in-Ok.is) c.in_err-push.ensures.prints)
+    rw (p.1, p.2, ← c.into_iter-row-iterator.ensures.into_iter_gives) (results-stop view g.I.Iterator.next_gives c.loop-row.yielded now began c.in_err-push.field-0.0 c.in-Some.row cells c.loop-row.yielded_by c.loop-row.invariant.4 c.in-Some.ensures.steps (ap view c.in-Ok.is) c.in_err-push.ensures.prints)
 
 pub loop-row-preserved : goal.loop-row-preserved
 loop-row-preserved g c =
     let goes = c.in-Some.ensures.goes.on c.loop-row.invariant.1 in
-    let now : Streaming = streamed g.S.AsStr.text g.T.Drawn.told c.loop-row.self in
+    let now : Streaming = streamed g.S.AsStr.text g.T.Drawn.told c.loop-row.pushed in
     let next : Streaming = streamed g.S.AsStr.text g.T.Drawn.told c.push.new.self in
     let began : Streaming = streamed g.S.AsStr.text g.T.Drawn.told c.args.self in
     let view : Result _ g.row.E.Denot → Result (List Text) g.row.E.Denot = λ x. result_map_both (λ row. map g.S.AsStr.text row.items) (λ error. error) x in
@@ -70,14 +69,13 @@ loop-row-preserved g c =
           streamed-next (Unit {0}) view g.I.Iterator.next_gives now next began items cells
           (item-taken (Unit {0}) view g.I.Iterator.next_gives now began items c.in-Some.row (Ok cells) (c.loop-row.invariant.2 items left) c.in-Some.ensures.steps (ap view c.in-Ok.is)) c.in_ok-push.ensures.prints c.in_ok-push.ensures.after,
       c.in_ok-push.ensures.sound,
-      c.in_ok-push.ensures.kept,
-      results-go-on view g.I.Iterator.next_gives c.loop-row.yielded now next began c.in-Some.row cells c.loop-row.invariant.5 (ap view c.in-Ok.is) c.in_ok-push.ensures.prints c.in_ok-push.ensures.after,
+      results-go-on view g.I.Iterator.next_gives c.loop-row.yielded now next began c.in-Some.row cells c.loop-row.invariant.4 (ap view c.in-Ok.is) c.in_ok-push.ensures.prints c.in_ok-push.ensures.after,
     )
 
 pub returns-in_err-finish-clause-prints : goal.returns-in_err-finish-clause-prints
 returns-in_err-finish-clause-prints g c =
     let p = err_from_is_err_and c.from_residual-in_err-finish.result c.from_residual-in_err-finish.ensures.1 in
-    let now : Streaming = streamed g.S.AsStr.text g.T.Drawn.told c.loop-row.self in
+    let now : Streaming = streamed g.S.AsStr.text g.T.Drawn.told c.loop-row.pushed in
     let began : Streaming = streamed g.S.AsStr.text g.T.Drawn.told c.args.self in
     let view : Result _ g.row.E.Denot → Result (List Text) g.row.E.Denot = λ x. result_map_both (λ row. map g.S.AsStr.text row.items) (λ error. error) x in
     rw (p.1, p.2) (λ items left.
@@ -86,21 +84,21 @@ returns-in_err-finish-clause-prints g c =
 pub returns-in_err-finish-clause-runs : goal.returns-in_err-finish-clause-runs
 returns-in_err-finish-clause-runs g c =
     let p = err_from_is_err_and c.from_residual-in_err-finish.result c.from_residual-in_err-finish.ensures.1 in
-    let now : Streaming = streamed g.S.AsStr.text g.T.Drawn.told c.loop-row.self in
+    let now : Streaming = streamed g.S.AsStr.text g.T.Drawn.told c.loop-row.pushed in
     let began : Streaming = streamed g.S.AsStr.text g.T.Drawn.told c.args.self in
     let view : Result _ g.row.E.Denot → Result (List Text) g.row.E.Denot = λ x. result_map_both (λ row. map g.S.AsStr.text row.items) (λ error. error) x in
-    rw (p.1, p.2, ← c.into_iter-row-iterator.ensures.into_iter_gives) (results-end-err view g.I.Iterator.next_gives c.loop-row.yielded now began c.in_err-finish.field-0.0 c.loop-row.yielded_by c.loop-row.invariant.5 c.in-None.ensures.steps c.in_err-finish.ensures)
+    rw (p.1, p.2, ← c.into_iter-row-iterator.ensures.into_iter_gives) (results-end-err view g.I.Iterator.next_gives c.loop-row.yielded now began c.in_err-finish.field-0.0 c.loop-row.yielded_by c.loop-row.invariant.4 c.in-None.ensures.steps c.in_err-finish.ensures)
 
 pub returns-clause-prints : goal.returns-clause-prints
 returns-clause-prints g c =
-    let now : Streaming = streamed g.S.AsStr.text g.T.Drawn.told c.loop-row.self in
+    let now : Streaming = streamed g.S.AsStr.text g.T.Drawn.told c.loop-row.pushed in
     let began : Streaming = streamed g.S.AsStr.text g.T.Drawn.told c.args.self in
     let view : Result _ g.row.E.Denot → Result (List Text) g.row.E.Denot = λ x. result_map_both (λ row. map g.S.AsStr.text row.items) (λ error. error) x in
     λ items left. streamed-ends (Unit {0}) view g.I.Iterator.next_gives c.finish.new.buf now began items (Ok tt) (c.loop-row.invariant.2 items left) c.in-None.ensures.steps (refl, c.in_ok-finish.ensures)
 
 pub returns-clause-runs : goal.returns-clause-runs
 returns-clause-runs g c =
-    let now : Streaming = streamed g.S.AsStr.text g.T.Drawn.told c.loop-row.self in
+    let now : Streaming = streamed g.S.AsStr.text g.T.Drawn.told c.loop-row.pushed in
     let began : Streaming = streamed g.S.AsStr.text g.T.Drawn.told c.args.self in
     let view : Result _ g.row.E.Denot → Result (List Text) g.row.E.Denot = λ x. result_map_both (λ row. map g.S.AsStr.text row.items) (λ error. error) x in
-    rw (← c.into_iter-row-iterator.ensures.into_iter_gives) (results-end-ok view g.I.Iterator.next_gives c.loop-row.yielded now began c.loop-row.yielded_by c.loop-row.invariant.5 c.in-None.ensures.steps c.in_ok-finish.ensures)
+    rw (← c.into_iter-row-iterator.ensures.into_iter_gives) (results-end-ok view g.I.Iterator.next_gives c.loop-row.yielded now began c.loop-row.yielded_by c.loop-row.invariant.4 c.in-None.ensures.steps c.in_ok-finish.ensures)

@@ -3,7 +3,8 @@ use Rattle.std.proofs.lemmas.List.{length-map}
 use Rattle.pg_picture.proofs.Appending.{◌then◌, stopped, refused-as, appended-as, Appends-text}
 use Rattle.pg_stream.specs.Placed.{Placed, slots_of, AllOpen}
 use Rattle.pg_stream.specs.Inside.OpenCells.{draw_cell, AreDrawn}
-use Rattle.pg_stream.specs.Printers.{now_of, IsSound, IsSoundAt}
+use Rattle.pg_stream.specs.Inside.Held.{IsSoundAt}
+use Rattle.pg_stream.specs.Printers.{now_of, IsSound}
 use Rattle.pg_stream.specs.Printing.{Printing, frame_of}
 use Rattle.pg_stream.specs.Inside.Slots.{separator_height}
 use Rattle.pg_stream.specs.Inside.Turns.{IsOwnerAbove, cells_begun, cells_closed}
@@ -20,45 +21,27 @@ returns-in_err-push_top-clause-appends g c = λ texts gives.
     let w = c.args.frame.now.width in
     let h = c.args.frame.now.height in
     let cells = c.args.self.now.cells in
-    let sound = c.requires.sound in
+    let sound = c.requires.sound.printer in
     let fits = c.requires.fits.2 in
     Appends-text (row_text-is s w h cells refl sound c.args.is_last fits.hint fits.spans texts c.begins_with_body-is_first.result c.begins_with_body-is_first.ensures) (stopped _ c.from_residual.ensures.0 c.in_err-push_top.ensures)
 
-pub push_above-requires-clause-index : goal.push_above-requires-clause-index
-push_above-requires-clause-index g c =
+pub push_above-requires : goal.push_above-requires
+push_above-requires g c =
     let s : Printing = now_of g.T.Drawn.told c.args.self.now in
+    let w = c.args.frame.now.width in
+    let h = c.args.frame.now.height in
+    let cells = c.args.self.now.cells in
+    let sound = c.requires.sound.printer in
     let fits = c.requires.fits.2 in
     let both = length_of_row s.config s.height s.rows in
-    omega (arith, fits.lines, both)
-
-pub push_above-requires-clause-opened : goal.push_above-requires-clause-opened
-push_above-requires-clause-opened g c =
-    let s : Printing = now_of g.T.Drawn.told c.args.self.now in
-    let w = c.args.frame.now.width in
-    let h = c.args.frame.now.height in
-    let cells = c.args.self.now.cells in
-    let sound = c.requires.sound in
-    drawn-above s w h cells refl sound
-
-pub push_above-requires-clause-alone : goal.push_above-requires-clause-alone
-push_above-requires-clause-alone g c =
-    let s : Printing = now_of g.T.Drawn.told c.args.self.now in
-    let w = c.args.frame.now.width in
-    let h = c.args.frame.now.height in
-    let cells = c.args.self.now.cells in
-    let sound = c.requires.sound in
-    none-open s w h cells refl sound
-
-pub push_above-requires-clause-room : goal.push_above-requires-clause-room
-push_above-requires-clause-room g c =
-    let s : Printing = now_of g.T.Drawn.told c.args.self.now in
-    let w = c.args.frame.now.width in
-    let h = c.args.frame.now.height in
-    let cells = c.args.self.now.cells in
-    let sound = c.requires.sound in
-    let fits = c.requires.fits.2 in
-    let both = length_of_row s.config s.height s.rows in
-    room-above s w h cells refl sound (separator_height s.config s.rows) (omega (arith, fits.lines, both))
+    record {
+      between = record { row = omega (arith, fits.rows); alone = none-open s w h cells refl sound; separator = c.requires.sound.kept };
+      line = record {
+        lines = omega (arith, fits.lines, both);
+        room = room-above s w h cells refl sound (separator_height s.config s.rows) (omega (arith, fits.lines, both));
+        opened = drawn-above s w h cells refl sound;
+      };
+    }
 
 pub returns-in_err-next-clause-appends : goal.returns-in_err-next-clause-appends
 returns-in_err-next-clause-appends g c = λ texts gives.
@@ -66,21 +49,20 @@ returns-in_err-next-clause-appends g c = λ texts gives.
     let w = c.args.frame.now.width in
     let h = c.args.frame.now.height in
     let cells = c.args.self.now.cells in
-    let sound = c.requires.sound in
+    let sound = c.requires.sound.printer in
     let fits = c.requires.fits.2 in
     Appends-text (row_text-is s w h cells refl sound c.args.is_last fits.hint fits.spans texts c.begins_with_body-is_first.result c.begins_with_body-is_first.ensures) (c.in_ok-push_top.ensures then stopped _ c.from_residual-in_err-next.ensures.0 c.in_err-next.ensures.appends)
 
-pub push_single_row-requires-clause-single : goal.push_single_row-requires-clause-single
-push_single_row-requires-clause-single g c =
+pub push_single_row-requires : goal.push_single_row-requires
+push_single_row-requires g c =
     let s : Printing = now_of g.T.Drawn.told c.args.self.now in
-    let once = at-once c.height_of-height.result s.config.spans c.draws_at_once.result c.draws_at_once.ensures c.if-draws_at_once.true in
-    let one : s.height s.rows ≡ 1 = sym c.height_of-height.ensures ∙ once.0 in
-    record { alone = once.1; height = one }
-
-pub push_single_row-requires-clause-given : goal.push_single_row-requires-clause-given
-push_single_row-requires-clause-given g c =
     let fits = c.requires.fits.2 in
-    (c.requires.fits.0, c.requires.fits.1, fits.whole, fits.rooms, c.requires.fits.3)
+    let once = at-once c.height_of-height.result s.config.spans c.draws_at_once.result c.draws_at_once.ensures c.if-draws_at_once.true in
+    let one : s.height s.rows ≡ 1 = sym c.height_of-height.ensures ∙ once.0 in (
+      c.requires.fits.0,
+      record { can_next = c.requires.can.0; ends = c.requires.can.1; gives = c.requires.fits.1 },
+      record { single = record { alone = once.1; height = one }; whole = fits.whole; rooms = fits.rooms; plain = c.requires.fits.3 },
+    )
 
 pub returns-in_err-push_single_row-clause-appends : goal.returns-in_err-push_single_row-clause-appends
 returns-in_err-push_single_row-clause-appends g c = λ texts gives.
@@ -88,7 +70,7 @@ returns-in_err-push_single_row-clause-appends g c = λ texts gives.
     let w = c.args.frame.now.width in
     let h = c.args.frame.now.height in
     let cells = c.args.self.now.cells in
-    let sound = c.requires.sound in
+    let sound = c.requires.sound.printer in
     let fits = c.requires.fits.2 in
     let once = at-once c.height_of-height.result s.config.spans c.draws_at_once.result c.draws_at_once.ensures c.if-draws_at_once.true in
     let one : s.height s.rows ≡ 1 = sym c.height_of-height.ensures ∙ once.0 in
@@ -102,16 +84,19 @@ returns-then-draws_at_once-clause-sound g c =
     let w = c.args.frame.now.width in
     let h = c.args.frame.now.height in
     let cells = c.args.self.now.cells in
-    let sound = c.requires.sound in
+    let sound = c.requires.sound.printer in
     let fits = c.requires.fits.2 in
     let once = at-once c.height_of-height.result s.config.spans c.draws_at_once.result c.draws_at_once.ensures c.if-draws_at_once.true in
     let one : s.height s.rows ≡ 1 = sym c.height_of-height.ensures ∙ once.0 in
     let left = c.in_ok-next.ensures.drawn ∙ single-left s w h cells refl sound c.args.is_last fits.hint fits.spans once.1 one c.requires.fits.0 in
     let lines = ap₂ (λ (a b : ℕ). a + b) c.in_ok-next.ensures.index c.height_of-height.ensures in
-    subst (IsSoundAt g.T.Drawn.told c.args.frame.now) (sym c.end_row.ensures)
-    (subst (λ n. IsSound (record s { rows = s.rows + 1; lines = n; is_ended = c.args.is_last; slots = slots_of c.push_above.new.opened }) t w h c.push_above.new.opened) (sym lines)
-    (subst (λ l. IsSound (record s { rows = s.rows + 1; lines = (s.lines + separator_height s.config s.rows) + s.height s.rows; is_ended = c.args.is_last; slots = slots_of l }) t w h l) (sym left)
-    (sound-next s w h cells refl sound c.args.is_last fits.hint fits.spans c.requires.fits.0 fits.rooms fits.rows)))
+    subst (IsSoundAt g.T.Drawn.told c.args.frame.now) (sym c.end_row.ensures) (record {
+      printer =
+          subst (λ n. IsSound (record s { rows = s.rows + 1; lines = n; is_ended = c.args.is_last; slots = slots_of c.push_above.new.opened }) t w h c.push_above.new.opened) (sym lines)
+          (subst (λ l. IsSound (record s { rows = s.rows + 1; lines = (s.lines + separator_height s.config s.rows) + s.height s.rows; is_ended = c.args.is_last; slots = slots_of l }) t w h l) (sym left)
+          (sound-next s w h cells refl sound c.args.is_last fits.hint fits.spans c.requires.fits.0 fits.rooms fits.rows));
+      kept = c.in_ok-next.ensures.kept;
+    })
 
 pub returns-then-draws_at_once-clause-appends : goal.returns-then-draws_at_once-clause-appends
 returns-then-draws_at_once-clause-appends g c = λ texts gives.
@@ -119,7 +104,7 @@ returns-then-draws_at_once-clause-appends g c = λ texts gives.
     let w = c.args.frame.now.width in
     let h = c.args.frame.now.height in
     let cells = c.args.self.now.cells in
-    let sound = c.requires.sound in
+    let sound = c.requires.sound.printer in
     let fits = c.requires.fits.2 in
     let once = at-once c.height_of-height.result s.config.spans c.draws_at_once.result c.draws_at_once.ensures c.if-draws_at_once.true in
     let one : s.height s.rows ≡ 1 = sym c.height_of-height.ensures ∙ once.0 in
@@ -132,7 +117,7 @@ returns-then-draws_at_once-clause-after g c = λ texts gives.
     let w = c.args.frame.now.width in
     let h = c.args.frame.now.height in
     let cells = c.args.self.now.cells in
-    let sound = c.requires.sound in
+    let sound = c.requires.sound.printer in
     let fits = c.requires.fits.2 in
     let once = at-once c.height_of-height.result s.config.spans c.draws_at_once.result c.draws_at_once.ensures c.if-draws_at_once.true in
     let one : s.height s.rows ≡ 1 = sym c.height_of-height.ensures ∙ once.0 in
@@ -148,7 +133,7 @@ begin-requires-clause-above g c =
     let w = c.args.frame.now.width in
     let h = c.args.frame.now.height in
     let cells = c.args.self.now.cells in
-    let sound = c.requires.sound in
+    let sound = c.requires.sound.printer in
     subst (λ l. (x : ℕ) → x < s.columns → IsOwnerAbove s.config.spans s.rows x (get_or l x None)) (sym c.in_ok-next.ensures.drawn) (owner-begins s w h cells refl sound)
 
 pub begin-requires-clause-given : goal.begin-requires-clause-given
@@ -156,38 +141,22 @@ begin-requires-clause-given g c =
     let fits = c.requires.fits.2 in
     (c.requires.fits.0, c.requires.fits.1, fits.whole, fits.rooms)
 
-pub push_lines-requires-clause-lines : goal.push_lines-requires-clause-lines
-push_lines-requires-clause-lines g c =
-    let s : Printing = now_of g.T.Drawn.told c.args.self.now in
-    let fits = c.requires.fits.2 in
-    let both = length_of_row s.config s.height s.rows in
-    omega (arith, fits.lines, both, c.in_ok-next.ensures.index, c.height_of-height.ensures)
-
-pub push_lines-requires-clause-room : goal.push_lines-requires-clause-room
-push_lines-requires-clause-room g c =
+pub push_lines-requires : goal.push_lines-requires
+push_lines-requires g c =
     let s : Printing = now_of g.T.Drawn.told c.args.self.now in
     let t = frame_of g.T.Drawn.told in
     let w = c.args.frame.now.width in
     let h = c.args.frame.now.height in
     let cells = c.args.self.now.cells in
-    let sound = c.requires.sound in
+    let sound = c.requires.sound.printer in
     let fits = c.requires.fits.2 in
     let now = c.begin.ensures c.requires.fits.0 c.requires.fits.1 ∙ ap (λ l. cells_begun t s.rows c.requires.fits.0 l) c.in_ok-next.ensures.drawn in
     let both = length_of_row s.config s.height s.rows in
-    let room = room-now s w h cells refl sound c.requires.fits.0 (omega (arith, fits.lines, both)) in
-    subst (λ n. AllOpen (λ x cell. cell.drawn + n < 2 ^ 64) c.begin.new.opened) (sym c.height_of-height.ensures) (subst (AllOpen (λ x cell. cell.drawn + s.height s.rows < 2 ^ 64)) (sym now) room)
-
-pub push_lines-requires-clause-opened : goal.push_lines-requires-clause-opened
-push_lines-requires-clause-opened g c = λ some.
-    let s : Printing = now_of g.T.Drawn.told c.args.self.now in
-    let t = frame_of g.T.Drawn.told in
-    let w = c.args.frame.now.width in
-    let h = c.args.frame.now.height in
-    let cells = c.args.self.now.cells in
-    let sound = c.requires.sound in
-    let fits = c.requires.fits.2 in
-    let now = c.begin.ensures c.requires.fits.0 c.requires.fits.1 ∙ ap (λ l. cells_begun t s.rows c.requires.fits.0 l) c.in_ok-next.ensures.drawn in
-    subst (AreDrawn t) (sym now) (drawn-now s w h cells refl sound c.requires.fits.0 fits.rooms (omega (arith, some, c.height_of-height.ensures)))
+    record {
+      lines = omega (arith, fits.lines, both, c.in_ok-next.ensures.index);
+      room = subst (AllOpen (λ x cell. cell.drawn + s.height s.rows < 2 ^ 64)) (sym now) (room-now s w h cells refl sound c.requires.fits.0 (omega (arith, fits.lines, both)));
+      opened = λ some. subst (AreDrawn t) (sym now) (drawn-now s w h cells refl sound c.requires.fits.0 fits.rooms some);
+    }
 
 pub returns-in_err-push_lines-clause-appends : goal.returns-in_err-push_lines-clause-appends
 returns-in_err-push_lines-clause-appends g c = λ texts gives.
@@ -196,10 +165,10 @@ returns-in_err-push_lines-clause-appends g c = λ texts gives.
     let w = c.args.frame.now.width in
     let h = c.args.frame.now.height in
     let cells = c.args.self.now.cells in
-    let sound = c.requires.sound in
+    let sound = c.requires.sound.printer in
     let fits = c.requires.fits.2 in
     let now = c.begin.ensures texts gives ∙ ap (λ l. cells_begun t s.rows texts l) c.in_ok-next.ensures.drawn in
-    let lines = open_lines-same t h c.begins_with_body-is_first.result s.rows now c.in_ok-next.ensures.index c.height_of-height.ensures in
+    let lines = open_lines-same t h c.begins_with_body-is_first.result s.rows (s.height s.rows) now c.in_ok-next.ensures.index in
     Appends-text (row_text-is s w h cells refl sound c.args.is_last fits.hint fits.spans texts c.begins_with_body-is_first.result c.begins_with_body-is_first.ensures)
     (c.in_ok-push_top.ensures then (c.in_ok-next.ensures.appends then Appends-text lines (refused-as c.from_residual-in_err-push_lines.ensures.0 c.in_err-push_lines.ensures.appends)))
 
@@ -210,9 +179,9 @@ close-requires-clause-columns g c =
     let w = c.args.frame.now.width in
     let h = c.args.frame.now.height in
     let cells = c.args.self.now.cells in
-    let sound = c.requires.sound in
+    let sound = c.requires.sound.printer in
     let now = c.begin.ensures c.requires.fits.0 c.requires.fits.1 ∙ ap (λ l. cells_begun t s.rows c.requires.fits.0 l) c.in_ok-next.ensures.drawn in
-    let drawn = c.in_ok-push_lines.ensures.drawn ∙ ap₂ (λ n l. map (draw_cell n) l) c.height_of-height.ensures now in
+    let drawn = c.in_ok-push_lines.ensures.drawn ∙ ap (map (draw_cell (s.height s.rows))) now in
     whole-now s w h cells refl sound c.requires.fits.0 ∙ sym (length-map (cells_now s w h cells refl sound c.requires.fits.0) (draw_cell (s.height s.rows))) ∙ sym (ap length drawn)
 
 pub close-requires-clause-begun : goal.close-requires-clause-begun
@@ -222,9 +191,9 @@ close-requires-clause-begun g c =
     let w = c.args.frame.now.width in
     let h = c.args.frame.now.height in
     let cells = c.args.self.now.cells in
-    let sound = c.requires.sound in
+    let sound = c.requires.sound.printer in
     let now = c.begin.ensures c.requires.fits.0 c.requires.fits.1 ∙ ap (λ l. cells_begun t s.rows c.requires.fits.0 l) c.in_ok-next.ensures.drawn in
-    let drawn = c.in_ok-push_lines.ensures.drawn ∙ ap₂ (λ n l. map (draw_cell n) l) c.height_of-height.ensures now in
+    let drawn = c.in_ok-push_lines.ensures.drawn ∙ ap (map (draw_cell (s.height s.rows))) now in
     subst (AllOpen (λ x cell. cell.begun ≤ s.rows)) (sym drawn) (begun-now s w h cells refl sound c.requires.fits.0)
 
 pub overflow_add-below : goal.overflow_add-below
@@ -241,16 +210,19 @@ returns-clause-sound g c =
     let w = c.args.frame.now.width in
     let h = c.args.frame.now.height in
     let cells = c.args.self.now.cells in
-    let sound = c.requires.sound in
+    let sound = c.requires.sound.printer in
     let fits = c.requires.fits.2 in
     let now = c.begin.ensures c.requires.fits.0 c.requires.fits.1 ∙ ap (λ l. cells_begun t s.rows c.requires.fits.0 l) c.in_ok-next.ensures.drawn in
-    let drawn = c.in_ok-push_lines.ensures.drawn ∙ ap₂ (λ n l. map (draw_cell n) l) c.height_of-height.ensures now in
+    let drawn = c.in_ok-push_lines.ensures.drawn ∙ ap (map (draw_cell (s.height s.rows))) now in
     let left = c.close.ensures ∙ ap (λ l. cells_closed s.config.spans s.rows l) drawn in
     let lines = ap₂ (λ (a b : ℕ). a + b) c.in_ok-next.ensures.index c.height_of-height.ensures in
-    subst (IsSoundAt g.T.Drawn.told c.args.frame.now) (sym c.end_row-2.ensures)
-    (subst (λ n. IsSound (record s { rows = s.rows + 1; lines = n; is_ended = c.args.is_last; slots = slots_of c.close.new.opened }) t w h c.close.new.opened) (sym lines)
-    (subst (λ l. IsSound (record s { rows = s.rows + 1; lines = (s.lines + separator_height s.config s.rows) + s.height s.rows; is_ended = c.args.is_last; slots = slots_of l }) t w h l) (sym left)
-    (sound-next s w h cells refl sound c.args.is_last fits.hint fits.spans c.requires.fits.0 fits.rooms fits.rows)))
+    subst (IsSoundAt g.T.Drawn.told c.args.frame.now) (sym c.end_row-2.ensures) (record {
+      printer =
+          subst (λ n. IsSound (record s { rows = s.rows + 1; lines = n; is_ended = c.args.is_last; slots = slots_of c.close.new.opened }) t w h c.close.new.opened) (sym lines)
+          (subst (λ l. IsSound (record s { rows = s.rows + 1; lines = (s.lines + separator_height s.config s.rows) + s.height s.rows; is_ended = c.args.is_last; slots = slots_of l }) t w h l) (sym left)
+          (sound-next s w h cells refl sound c.args.is_last fits.hint fits.spans c.requires.fits.0 fits.rooms fits.rows));
+      kept = c.in_ok-next.ensures.kept;
+    })
 
 pub returns-clause-appends : goal.returns-clause-appends
 returns-clause-appends g c = λ texts gives.
@@ -259,10 +231,10 @@ returns-clause-appends g c = λ texts gives.
     let w = c.args.frame.now.width in
     let h = c.args.frame.now.height in
     let cells = c.args.self.now.cells in
-    let sound = c.requires.sound in
+    let sound = c.requires.sound.printer in
     let fits = c.requires.fits.2 in
     let now = c.begin.ensures texts gives ∙ ap (λ l. cells_begun t s.rows texts l) c.in_ok-next.ensures.drawn in
-    let lines = open_lines-same t h c.begins_with_body-is_first.result s.rows now c.in_ok-next.ensures.index c.height_of-height.ensures in
+    let lines = open_lines-same t h c.begins_with_body-is_first.result s.rows (s.height s.rows) now c.in_ok-next.ensures.index in
     Appends-text (row_text-is s w h cells refl sound c.args.is_last fits.hint fits.spans texts c.begins_with_body-is_first.result c.begins_with_body-is_first.ensures)
     (c.in_ok-push_top.ensures then (c.in_ok-next.ensures.appends then Appends-text lines (appended-as c.in_ok-push_lines.ensures.appends)))
 
@@ -273,10 +245,10 @@ returns-clause-after g c = λ texts gives.
     let w = c.args.frame.now.width in
     let h = c.args.frame.now.height in
     let cells = c.args.self.now.cells in
-    let sound = c.requires.sound in
+    let sound = c.requires.sound.printer in
     let fits = c.requires.fits.2 in
     let now = c.begin.ensures texts gives ∙ ap (λ l. cells_begun t s.rows texts l) c.in_ok-next.ensures.drawn in
-    let drawn = c.in_ok-push_lines.ensures.drawn ∙ ap₂ (λ n l. map (draw_cell n) l) c.height_of-height.ensures now in
+    let drawn = c.in_ok-push_lines.ensures.drawn ∙ ap (map (draw_cell (s.height s.rows))) now in
     let left = c.close.ensures ∙ ap (λ l. cells_closed s.config.spans s.rows l) drawn in
     let lines = ap₂ (λ (a b : ℕ). a + b) c.in_ok-next.ensures.index c.height_of-height.ensures in
     ap (now_of g.T.Drawn.told) c.end_row-2.ensures

@@ -5,7 +5,8 @@ use Rattle.std.proofs.lemmas.Iterator.Adapters.{YieldsList-from_vec}
 use Rattle.std.proofs.lemmas.Result.{err_from_is_err_and}
 use Rattle.pg_layout.proofs.Given.{given-items}
 use Rattle.pg_stream.specs.Conditions.{RowFits}
-use Rattle.pg_stream.specs.Printers.{now_of, IsSoundAt}
+use Rattle.pg_stream.specs.Inside.Held.{IsSoundAt}
+use Rattle.pg_stream.specs.Printers.{now_of}
 use Rattle.pg_stream.specs.Printing.{Printing}
 use Rattle.pg_stream.specs.Inside.SingleRows.{ArePlain}
 use Rattle.pg_stream.proofs.StreamedRows.{row-misfits, row-refused, row-printed}

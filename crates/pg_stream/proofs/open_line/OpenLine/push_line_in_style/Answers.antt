@@ -7,7 +7,7 @@ use Rattle.pg_picture.proofs.Appending.{Appends-text}
 use Rattle.pg_stream.specs.Printing.{Printing, frame_of}
 use Rattle.pg_stream.proofs.CellLines.{next-room, next-line}
 use Rattle.pg_stream.proofs.LineStyles.{draws, room}
-use Rattle.pg_stream.proofs.drawing.Drawing.push_line_in_style.Goals as goal
+use Rattle.pg_stream.proofs.open_line.OpenLine.push_line_in_style.Goals as goal
 
 pub push_block_line_of-requires : goal.push_block_line_of-requires
 push_block_line_of-requires g c =
@@ -15,7 +15,7 @@ push_block_line_of-requires g c =
     let here : c.args.pos ≡ at c.args.cell.now.begun c.args.pos.col = ap (λ r. at r c.args.pos.col) c.requires.begun in
     let own = style_at t.config c.args.pos in
     rw (c.place.ensures, c.width.ensures, c.drawn.ensures)
-    (λ below above. room (style_of c.args.style.now) own c.args.cell.now.place.left c.requires.style c.args.cell.now.width c.line.result.now (next-room t c.args.pos.col c.args.cell.now c.requires.placed c.requires.tall c.line.result.now c.line.ensures own (ap (style_at t.config) here) below above))
+    (λ below above. room (style_of c.args.style.now) own c.args.cell.now.place.left c.requires.draws c.args.cell.now.width c.line.result.now (next-room t c.args.pos.col c.args.cell.now c.requires.placed c.requires.tall c.line.result.now c.line.ensures own (ap (style_at t.config) here) below above))
 
 pub returns : goal.returns
 returns g c =
@@ -23,6 +23,6 @@ returns g c =
     let here : c.args.pos ≡ at c.args.cell.now.begun c.args.pos.col = ap (λ r. at r c.args.pos.col) c.requires.begun in
     let own = style_at t.config c.args.pos in
     Appends-text
-    (ap written (draws (style_of c.args.style.now) own c.args.cell.now.place.left c.requires.style _ c.place.result c.width.result c.drawn.result c.line.result.now (ap (λ (p : CellPlace). p.left) c.place.ensures)
-    ∙ next-line t c.args.pos.col c.args.cell.now c.requires.placed c.requires.tall c.line.result.now c.line.ensures c.args.pos own _ c.place.result c.width.result c.drawn.result here refl (c.get_color.ensures ∙ ap (λ (s : Printing). s.color c.args.pos) c.args.self.is) c.place.ensures c.width.ensures c.drawn.ensures))
+    (ap written (draws (style_of c.args.style.now) own c.args.cell.now.place.left c.requires.draws _ c.place.result c.width.result c.drawn.result c.line.result.now (ap (λ (p : CellPlace). p.left) c.place.ensures)
+    ∙ next-line t c.args.pos.col c.args.cell.now c.requires.placed c.requires.tall c.line.result.now c.line.ensures c.args.pos own _ c.place.result c.width.result c.drawn.result here refl (c.get_color.ensures ∙ ap (λ (s : Printing). s.color c.args.pos) c.args.self.now.table.is) c.place.ensures c.width.ensures c.drawn.ensures))
     c.push_block_line_of.ensures

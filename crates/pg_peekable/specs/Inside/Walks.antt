@@ -1,0 +1,30 @@
+-- What a walk from rectangle to rectangle knows where it stands, and of the rectangles that it finds.
+use Rattle.std.specs.Prelude.{◌≡◌, ℕ, ◌<◌, ◌≤◌, true, Option}
+use Rattle.pg_layout.specs.declared.position.Position.{Position}
+use Rattle.pg_config.specs.Spans.{Span, is_left, left_span, span_above}
+use Rattle.pg_picture.specs.Rectangles.{IsOwner}
+use Rattle.pg_picture.specs.Table.{Table}
+use Rattle.pg_peekable.specs.Inside.Drawn.{starts}
+
+-- in row r a cell begins at column x, or the rectangle of this span
+pub record BeginsHere (t : Table) (r x : ℕ) (s : Option Span) : Type 0 where
+  pub column : x < t.columns
+  pub left : is_left t.config.spans r x ≡ true
+  pub span : s ≡ left_span t.config.spans r x
+
+-- in the separator above row r a horizontal begins at column x, or the rectangle of this span
+pub record BeginsAbove (t : Table) (r x : ℕ) (s : Option Span) : Type 0 where
+  pub column : x < t.columns
+  pub starts : starts t.config.spans r x ≡ true
+  pub span : s ≡ span_above t.config.spans r x
+
+-- the place p owns a rectangle, which row r isn't above
+pub record OwnsRow (t : Table) (p : Position) (r : ℕ) : Type 0 where
+  pub owner : IsOwner t p
+  pub first : p.row ≤ r
+  pub row : r < t.rows
+
+-- row r is there, and row a isn't below it
+pub record IsRowFrom (t : Table) (a r : ℕ) : Type 0 where
+  pub first : a ≤ r
+  pub row : r < t.rows

@@ -1,0 +1,24 @@
+//! The lines that are drawn: those of rows, and separators.
+
+ghost use Rattle.pg_peekable.specs.Inside.Lines.{IsLine, IsSeparatorLine};
+ghost use Rattle.std.proofs.Props.{props};
+
+use crate::drawing::Drawn;
+use std::marker::PhantomData;
+
+/// A line of a row: the row, and the line's number in it.
+#[derive(Drop)]
+pub(crate) struct RowLine<T: Drawn> {
+    pub(crate) row: usize,
+    pub(crate) number: usize,
+    pub(crate) of: PhantomData<T>,
+    ghost is: { IsLine T.table row number } by { Prim.hlevel props },
+}
+
+/// A separator that is there: the row below it, or how many rows there are for the last one.
+#[derive(Drop)]
+pub(crate) struct Separator<T: Drawn> {
+    pub(crate) row: usize,
+    pub(crate) of: PhantomData<T>,
+    ghost is: { IsSeparatorLine T.table row } by { Prim.hlevel props },
+}
