@@ -71,9 +71,10 @@ pub(crate) fn run<A: Allocator + Copy, R: Read + Drop, W1: Write, W2: Write>(
     printed
 }
 
-/// The exit status of a run that ended so: 0 where it met no fault.
+/// The exit status of a run that ended so: 0 where it met no fault, and 5 where a write failed.
 pub(crate) fn exit_status(printed: Result<(), Fault>) -> u8
-    ensures { (result ≡ 0) ↔ IsOk printed }
+    ensures success { (result ≡ 0) ↔ IsOk printed }
+    ensures write { printed ≡ Err Fault.Write → result ≡ 5 }
 {
     match printed {
         Ok(()) => 0,
