@@ -1,0 +1,87 @@
+-- Texts in which control characters are seen.
+use Rattle.std.proofs.Common.{◌≡◌, ◌⊎◌, ⊎_elim, ℕ, zero, suc, ◌+◌, ◌-◌, ◌<◌, ◌≤◌, ◌==◌, ◌&&◌, nat_lt, not, Bool, true, false, cond, List, [], ◌∷◌, map, chars, eq-zero-or-pos, refl, ap, subst, ◌∙◌, arith}
+use Rattle.std.specs.List.{list_all, range_with_len}
+use Rattle.std.specs.Str.{encode_utf8_all}
+use Rattle.std.proofs.lemmas.Bool.{and_parts}
+use Rattle.std.proofs.lemmas.Bool.Decides.{nat_tests}
+use Rattle.std.proofs.lemmas.Str.{encodes-chars, scalars-chars, chars-encodes}
+use Rattle.std.proofs.Math.Utf8.{scalars, scalar}
+use Rattle.unicode_width.specs.Width.{str_width}
+use Rattle.unicode_width.proofs.Computing.{unicode_width}
+use Rattle.pg_fit.specs.Controls.{is_control, sign_of, visible_text}
+use Rattle.pg_fit.specs.Laws.{NoControlsAreLeft, VisibleTextsStay, SignsTakeOneColumn}
+
+-- ---- texts without control characters stay
+
+sign_of-other : (c : ℕ) → not (is_control c) ≡ true → sign_of c ≡ c
+sign_of-other c h = ap (λ v. cond v c (cond (nat_lt c 0x20) (0x2400 + c) (cond (c == 0x7F) 0x2421 0xFFFD))) h
+
+signs-others : (cs : List ℕ) → list_all (λ c. not (is_control c)) cs ≡ true → map sign_of cs ≡ cs
+signs-others [] h = refl
+signs-others (c ∷ cs) h =
+    let parts = and_parts (not (is_control c)) (list_all (λ d. not (is_control d)) cs) h in
+    ap (λ z. z ∷ map sign_of cs) (sign_of-other c parts.0) ∙ ap (λ z. c ∷ z) (signs-others cs parts.1)
+
+pub visible_texts_stay : VisibleTextsStay
+unfolding visible_text
+visible_texts_stay text utf8 h = ap encode_utf8_all (signs-others (chars text) h) ∙ encodes-chars text utf8
+
+-- ---- no control character is left
+
+-- what stands for a character is one, and no control character
+sign_of-scalar : (c : ℕ) → scalar c ≡ true → scalar (sign_of c) ≡ true
+sign_of-scalar c h = grind (arith, nat_tests)
+
+sign_of-seen : (c : ℕ) → not (is_control (sign_of c)) ≡ true
+sign_of-seen c = grind (arith, nat_tests)
+
+signs-scalars : (cs : List ℕ) → scalars cs ≡ true → scalars (map sign_of cs) ≡ true
+signs-scalars [] h = refl
+signs-scalars (c ∷ cs) h =
+    let parts = and_parts (scalar c) (scalars cs) h in
+    ap (λ v. v && scalars (map sign_of cs)) (sign_of-scalar c parts.0) ∙ signs-scalars cs parts.1
+
+signs-seen : (cs : List ℕ) → list_all (λ c. not (is_control c)) (map sign_of cs) ≡ true
+signs-seen [] = refl
+signs-seen (c ∷ cs) = ap (λ v. v && list_all (λ d. not (is_control d)) (map sign_of cs)) (sign_of-seen c) ∙ signs-seen cs
+
+pub no_controls_are_left : NoControlsAreLeft
+unfolding visible_text
+no_controls_are_left text utf8 =
+    ap (list_all (λ c. not (is_control c))) (chars-encodes (map sign_of (chars text)) (signs-scalars (chars text) (scalars-chars text utf8))) ∙ signs-seen (chars text)
+
+-- ---- one column
+
+abbrev takes_one : ℕ → Bool
+takes_one c = str_width false (sign_of c ∷ []) == 1
+
+low-one : list_all takes_one (range_with_len 0 10) ≡ true
+unfolding unicode_width
+low-one = refl
+
+low-rest-one : list_all takes_one (range_with_len 11 21) ≡ true
+unfolding unicode_width
+low-rest-one = refl
+
+high-one : list_all takes_one (range_with_len 127 33) ≡ true
+unfolding unicode_width
+high-one = refl
+
+in-range : (p : ℕ → Bool) (from n c : ℕ) → list_all p (range_with_len from n) ≡ true → from ≤ c → c < from + n → p c ≡ true
+in-range p from zero c h low high = absurd (omega arith)
+in-range p from (suc n) c h low high =
+    let parts = and_parts (p from) (list_all p (range_with_len (from + 1) n)) h in
+    ⊎_elim (λ (none : c - from ≡ 0). let is : from ≡ c = omega arith in subst (λ k. p k ≡ true) is parts.0)
+    (λ (some : 0 < c - from). in-range p (from + 1) n c parts.1 (omega arith) (omega arith))
+    (eq-zero-or-pos (c - from))
+
+-- a control character is of C0 before a line feed or behind one, or DEL or of C1
+control-where : (c : ℕ) → is_control c ≡ true → (c < 10) ⊎ (((10 < c) × (c < 32)) ⊎ ((126 < c) × (c < 160)))
+control-where c h = grind (arith, nat_tests)
+
+pub signs_take_one_column : SignsTakeOneColumn
+signs_take_one_column c h =
+    let one : takes_one c ≡ true = ⊎_elim (λ low. in-range takes_one 0 10 c low-one (omega arith) (omega arith))
+    (λ rest. ⊎_elim (λ low. in-range takes_one 11 21 c low-rest-one (omega (arith, low.0)) (omega (arith, low.1))) (λ high. in-range takes_one 127 33 c high-one (omega (arith, high.0)) (omega (arith, high.1))) rest)
+    (control-where c h) in
+    grind (arith, nat_tests)

@@ -1,0 +1,324 @@
+-- The lines of wrapped texts.
+use Rattle.std.proofs.Common.{◌≡◌, ℕ, suc, ◌<◌, ◌≤◌, ◌==◌, true, false, cond, List, [], ◌∷◌, ◌++◌, map, length, get_or, append-nil, lit<, length-append, refl, sym, ap, subst, ◌∙◌, arith}
+use Rattle.std.specs.List.{All, concat, flat_map, slice_split, onto_first}
+use Rattle.std.specs.Str.{IsUtf8, encode_utf8_all}
+use Rattle.std.proofs.lemmas.Bool.{and_parts}
+use Rattle.std.proofs.lemmas.Bool.Decides.{nat_tests}
+use Rattle.std.proofs.lemmas.List.Concat.{flat_map-cons}
+use Rattle.std.proofs.lemmas.List.Elements.{All-nil, All-cons}
+use Rattle.std.proofs.lemmas.List.Splits.{slice_split_at, slice_split_none, length-slice_split}
+use Rattle.std.proofs.lemmas.Str.{IsUtf8-nil, IsUtf8-append, IsUtf8-encode, inside_one, encode_ascii, len_utf8_bounds, length-encode}
+use Rattle.std.proofs.Math.Utf8.{encode, scalars, scalar}
+use Rattle.unicode_segmentation.specs.Grapheme.{graphemes, is_grapheme_break}
+use Rattle.unicode_segmentation.proofs.SegmentsLemmas.{concat-segments}
+use Rattle.pg_layout.specs.Text.{Text, lines_of, width_of, text_width_of, greatest}
+use Rattle.pg_fit.specs.declared.wrapping.Breaking.{Breaking}
+use Rattle.pg_fit.specs.declared.wrapping.Breaking.TheVariants.{Anywhere, BetweenWords}
+use Rattle.std.specs.List.{join_with_byte}
+use Rattle.pg_fit.specs.Wrapping.{Piece, fits, takes, filled, characters, before_words, words, indented, parted, pieces, wrapped_line, wrapped, least_line_width, least_width}
+use Rattle.pg_fit.specs.Laws.{EachFits, LinesStand, WrappedTextsFit}
+use Rattle.pg_fit.proofs.LawsOfLines.{lines_fit}
+use Rattle.pg_fit.proofs.WrappedLines.{wrapped_line-some}
+
+-- ---- texts without line feeds
+
+abbrev pub NoFeeds : Text → Type 0
+NoFeeds [] = Unit {0}
+NoFeeds (b ∷ bs) = ((b == 10) ≡ false) × NoFeeds bs
+
+pub NoFeeds-append : (xs ys : Text) → NoFeeds xs → NoFeeds ys → NoFeeds (xs ++ ys)
+NoFeeds-append [] ys p q = q
+NoFeeds-append (x ∷ xs) ys p q = (p.0, NoFeeds-append xs ys p.1 q)
+
+pub NoFeeds-first : (xs ys : Text) → NoFeeds (xs ++ ys) → NoFeeds xs
+NoFeeds-first [] ys p = tt
+NoFeeds-first (x ∷ xs) ys p = (p.0, NoFeeds-first xs ys p.1)
+
+pub NoFeeds-rest : (xs ys : Text) → NoFeeds (xs ++ ys) → NoFeeds ys
+NoFeeds-rest [] ys p = p
+NoFeeds-rest (x ∷ xs) ys p = NoFeeds-rest xs ys p.1
+
+NoFeeds-all : (xs : Text) → NoFeeds xs → All (λ b. (b == 10) ≡ false) xs
+NoFeeds-all [] p = All-nil (λ b. (b == 10) ≡ false)
+NoFeeds-all (x ∷ xs) p = All-cons (λ b. (b == 10) ≡ false) x xs p.0 (NoFeeds-all xs p.1)
+
+-- a line: a UTF-8 text without line feeds
+abbrev pub IsLine : Text → Type 0
+IsLine line = IsUtf8 line × NoFeeds line
+
+abbrev pub EachNoFeeds : List Text → Type 0
+EachNoFeeds [] = Unit {0}
+EachNoFeeds (l ∷ ls) = NoFeeds l × EachNoFeeds ls
+
+abbrev pub EachLine : List Text → Type 0
+EachLine [] = Unit {0}
+EachLine (l ∷ ls) = IsLine l × EachLine ls
+
+abbrev EachPiece : List Piece → Type 0
+EachPiece [] = Unit {0}
+EachPiece (p ∷ ps) = IsLine p.gap × IsLine p.text × EachPiece ps
+
+abbrev PlainPieces : List Piece → Type 0
+PlainPieces [] = Unit {0}
+PlainPieces (p ∷ ps) = NoFeeds p.gap × NoFeeds p.text × PlainPieces ps
+
+-- ---- the bytes of a character
+
+abbrev pub Lacks : ℕ → Text → Type 0
+Lacks n [] = Unit {0}
+Lacks n (b ∷ bs) = ((b == n) ≡ false) × Lacks n bs
+
+lacks_each : (n : ℕ) (bs : Text) → ((k : ℕ) → k < length bs → (get_or bs k 0 == n) ≡ false) → Lacks n bs
+lacks_each n [] each = tt
+lacks_each n (b ∷ bs) each = (each 0 (omega arith), lacks_each n bs (λ k l. each (suc k) (omega arith)))
+
+-- an ASCII byte stands in no other character
+pub encode-lacks : (n c : ℕ) → n < 128 → (c == n) ≡ false → Lacks n (encode c)
+encode-lacks n c low other =
+    lacks_each n (encode c) (λ k within.
+    elim (get_or (encode c) k 0 == n) as (λ v. (get_or (encode c) k 0 == n) ≡ v → v ≡ false) [
+      | true ↦ λ h. let byte : get_or (encode c) k 0 ≡ n = grind (arith, nat_tests) in let same = inside_one c [] (encode c) k (sym (append-nil (encode c))) within (omega arith) in absurd (let is : c ≡ n = omega arith in let yes : (c == n) ≡ true = grind (arith, nat_tests) in cc)
+      | false ↦ λ h. refl
+    ] refl)
+
+pub lacks-feeds : (bs : Text) → Lacks 10 bs → NoFeeds bs
+lacks-feeds [] p = tt
+lacks-feeds (b ∷ bs) p = (p.0, lacks-feeds bs p.1)
+
+-- ---- lines of UTF-8 texts
+
+abbrev onto_line : Text → List Text → List Text
+onto_line xs [] = xs ∷ []
+onto_line xs (l ∷ ls) = (xs ++ l) ∷ ls
+
+onto_line-cons : (x : ℕ) (xs : Text) (ls : List Text) → onto_first x (onto_line xs ls) ≡ onto_line (x ∷ xs) ls
+onto_line-cons x xs [] = refl
+onto_line-cons x xs (l ∷ ls) = refl
+
+onto_line-nil : (ls : List Text) → 0 < length ls → onto_line [] ls ≡ ls
+onto_line-nil [] some = absurd (omega arith)
+onto_line-nil (l ∷ ls) some = refl
+
+abbrev pub split : Text → List Text
+split text = slice_split (λ b. b == 10) text
+
+split_some : (bs : Text) → 0 < length (split bs)
+split_some bs = omega (arith, length-slice_split (λ (b : ℕ). b == 10) bs)
+
+split-front : (xs ys : Text) → NoFeeds xs → split (xs ++ ys) ≡ onto_line xs (split ys)
+split-front [] ys none = sym (onto_line-nil (split ys) (split_some ys))
+split-front (x ∷ xs) ys none =
+    ap (λ v. cond v ([] ∷ split (xs ++ ys)) (onto_first x (split (xs ++ ys)))) none.0 ∙ ap (onto_first x) (split-front xs ys none.1) ∙ onto_line-cons x xs (split ys)
+
+EachLine-onto : (xs : Text) (ls : List Text) → IsLine xs → EachLine ls → EachLine (onto_line xs ls)
+EachLine-onto xs [] is each = (is, tt)
+EachLine-onto xs (l ∷ ls) is each = ((IsUtf8-append xs l is.0 each.0.0, NoFeeds-append xs l is.1 each.0.1), each.1)
+
+split-lines : (cs : List ℕ) → scalars cs ≡ true → EachLine (split (encode_utf8_all cs))
+split-lines [] h = ((IsUtf8-nil, tt), tt)
+split-lines (c ∷ cs) h =
+    let parts = and_parts (scalar c) (scalars cs) h in
+    let rest = split-lines cs parts.1 in
+    elim (c == 10) as (λ v. (c == 10) ≡ v → EachLine (split (encode c ++ encode_utf8_all cs))) [
+      | true ↦ λ k. let is : 10 ≡ c = grind (arith, nat_tests) in subst (λ n. EachLine (split (encode n ++ encode_utf8_all cs))) is (subst (λ (z : Text). EachLine (split (z ++ encode_utf8_all cs))) (sym (encode_ascii 10 (lit< tt))) ((IsUtf8-nil, tt), rest))
+      | false ↦ λ k.
+          let none = lacks-feeds (encode c) (encode-lacks 10 c (lit< tt) k) in
+          subst EachLine (sym (split-front (encode c) (encode_utf8_all cs) none)) (EachLine-onto (encode c) (split (encode_utf8_all cs)) (IsUtf8-encode c parts.0, none) rest)
+    ] refl
+
+pub lines_of-some : (text : Text) → 0 < length (lines_of text)
+unfolding lines_of
+lines_of-some text = split_some text
+
+pub lines_of-lines : (text : Text) → IsUtf8 text → EachLine (lines_of text)
+unfolding lines_of
+lines_of-lines text utf8 = subst (λ (z : Text). EachLine (split z)) utf8.1.1 (split-lines utf8.0 utf8.1.0)
+
+-- ---- words of UTF-8 texts
+
+-- bytes that are no spaces before words
+abbrev joined_word : Text → List Piece → List Piece
+joined_word xs [] = record { gap = []; text = xs } ∷ []
+joined_word xs (p ∷ ps) = cond (length p.gap == 0) (record { gap = []; text = xs ++ p.text } ∷ ps) (record { gap = []; text = xs } ∷ p ∷ ps)
+
+before-joined : (x : ℕ) (xs : Text) (ps : List Piece) → (x == 32) ≡ false → before_words x (joined_word xs ps) ≡ joined_word (x ∷ xs) ps
+before-joined x xs [] other = ap (λ v. cond v (record { gap = x ∷ []; text = xs } ∷ []) (record { gap = []; text = x ∷ xs } ∷ [])) other
+before-joined x xs (p ∷ ps) other =
+    elim (length p.gap == 0) as (λ w. before_words x (cond w (record { gap = []; text = xs ++ p.text } ∷ ps) (record { gap = []; text = xs } ∷ p ∷ ps)) ≡ cond w (record { gap = []; text = x ∷ (xs ++ p.text) } ∷ ps) (record { gap = []; text = x ∷ xs } ∷ p ∷ ps)) [
+      | true ↦ ap (λ v. cond v (record { gap = x ∷ []; text = xs ++ p.text } ∷ ps) (record { gap = []; text = x ∷ (xs ++ p.text) } ∷ ps)) other
+      | false ↦ ap (λ v. cond v (record { gap = x ∷ []; text = xs } ∷ p ∷ ps) (record { gap = []; text = x ∷ xs } ∷ p ∷ ps)) other
+    ]
+
+before-first : (x : ℕ) (ps : List Piece) → (x == 32) ≡ false → before_words x ps ≡ joined_word (x ∷ []) ps
+before-first x [] other = ap (λ v. cond v [] (record { gap = []; text = x ∷ [] } ∷ [])) other
+before-first x (p ∷ ps) other = ap (λ v. cond v (record { gap = x ∷ p.gap; text = p.text } ∷ ps) (cond (length p.gap == 0) (record { gap = []; text = x ∷ p.text } ∷ ps) (record { gap = []; text = x ∷ [] } ∷ p ∷ ps))) other
+
+words-front : (xs ys : Text) → Lacks 32 xs → 0 < length xs → words (xs ++ ys) ≡ joined_word xs (words ys)
+words-front [] ys none some = absurd (omega arith)
+words-front (x ∷ []) ys none some = before-first x (words ys) none.0
+words-front (x ∷ z ∷ xs) ys none some = ap (before_words x) (words-front (z ∷ xs) ys none.1 (omega arith)) ∙ before-joined x (z ∷ xs) (words ys) none.0
+
+EachPiece-joined : (xs : Text) (ps : List Piece) → IsLine xs → EachPiece ps → EachPiece (joined_word xs ps)
+EachPiece-joined xs [] is each = ((IsUtf8-nil, tt), is, tt)
+EachPiece-joined xs (p ∷ ps) is each =
+    elim (length p.gap == 0) as (λ v. EachPiece (cond v (record { gap = []; text = xs ++ p.text } ∷ ps) (record { gap = []; text = xs } ∷ p ∷ ps))) [
+      | true ↦ ((IsUtf8-nil, tt), (IsUtf8-append xs p.text is.0 each.1.0, NoFeeds-append xs p.text is.1 each.1.1), each.2)
+      | false ↦ ((IsUtf8-nil, tt), is, each)
+    ]
+
+EachPiece-spaced : (ps : List Piece) → IsUtf8 (32 ∷ []) → EachPiece ps → EachPiece (before_words 32 ps)
+EachPiece-spaced [] space each = tt
+EachPiece-spaced (p ∷ ps) space each = ((IsUtf8-append (32 ∷ []) p.gap space each.0.0, (refl, each.0.1)), each.1, each.2)
+
+words-pieces : (cs : List ℕ) → scalars cs ≡ true → NoFeeds (encode_utf8_all cs) → EachPiece (words (encode_utf8_all cs))
+words-pieces [] h none = tt
+words-pieces (c ∷ cs) h none =
+    let parts = and_parts (scalar c) (scalars cs) h in
+    let rest = words-pieces cs parts.1 (NoFeeds-rest (encode c) (encode_utf8_all cs) none) in
+    elim (c == 32) as (λ v. (c == 32) ≡ v → EachPiece (words (encode c ++ encode_utf8_all cs))) [
+      | true ↦ λ k.
+          let is : c ≡ 32 = grind (arith, nat_tests) in
+          let byte : encode c ≡ 32 ∷ [] = ap encode is ∙ encode_ascii 32 (lit< tt) in
+          subst (λ (z : Text). EachPiece (words (z ++ encode_utf8_all cs))) (sym byte) (EachPiece-spaced (words (encode_utf8_all cs)) (subst IsUtf8 byte (IsUtf8-encode c parts.0)) rest)
+      | false ↦ λ k.
+          let bounds = len_utf8_bounds c in
+          subst EachPiece (sym (words-front (encode c) (encode_utf8_all cs) (encode-lacks 32 c (lit< tt) k) (omega (arith, length-encode c))))
+          (EachPiece-joined (encode c) (words (encode_utf8_all cs)) (IsUtf8-encode c parts.0, NoFeeds-first (encode c) (encode_utf8_all cs) none) rest)
+    ] refl
+
+words-of-line : (line : Text) → IsLine line → EachPiece (words line)
+words-of-line line is = subst (λ (z : Text). EachPiece (words z)) is.0.1.1 (words-pieces is.0.0 is.0.1.0 (subst NoFeeds (sym is.0.1.1) is.1))
+
+indented-pieces : (ps : List Piece) → EachPiece ps → EachPiece (indented ps)
+indented-pieces [] each = tt
+indented-pieces (p ∷ ps) each = ((IsUtf8-nil, tt), (IsUtf8-append p.gap p.text each.0.0 each.1.0, NoFeeds-append p.gap p.text each.0.1 each.1.1), each.2)
+
+-- ---- pieces and lines without line feeds
+
+PlainPieces-append : (ps qs : List Piece) → PlainPieces ps → PlainPieces qs → PlainPieces (ps ++ qs)
+PlainPieces-append [] qs p q = q
+PlainPieces-append (x ∷ ps) qs p q = (p.0, p.1, PlainPieces-append ps qs p.2 q)
+
+characters-plain : (gap : Text) (cs : List Text) → NoFeeds gap → NoFeeds (concat cs) → PlainPieces (characters gap cs)
+characters-plain gap [] g none = tt
+characters-plain gap (c ∷ cs) g none = (g, NoFeeds-first c (concat cs) none, characters-plain [] cs tt (NoFeeds-rest c (concat cs) none))
+
+graphemes-plain : (gap line : Text) → NoFeeds gap → IsLine line → PlainPieces (characters gap (graphemes true line))
+graphemes-plain gap line g is = characters-plain gap (graphemes true line) g (subst NoFeeds (sym (concat-segments (is_grapheme_break true) line is.0)) is.1)
+
+parted-plain : (width : ℕ) (ps : List Piece) → EachPiece ps → PlainPieces (flat_map (parted width) ps)
+parted-plain width [] each = tt
+parted-plain width (p ∷ ps) each =
+    subst PlainPieces (sym (flat_map-cons (parted width) p ps))
+    (PlainPieces-append (parted width p) (flat_map (parted width) ps)
+    (elim (fits width p.text) as (λ v. PlainPieces (cond v (p ∷ []) (characters p.gap (graphemes true p.text)))) [
+      | true ↦ (each.0.1, each.1.1, tt)
+      | false ↦ graphemes-plain p.gap p.text each.0.1 each.1
+    ]) (parted-plain width ps each.2))
+
+pieces-plain : (breaking : Breaking) (width : ℕ) (line : Text) → IsLine line → PlainPieces (pieces breaking width line)
+pieces-plain Anywhere width line is = graphemes-plain [] line tt is
+pieces-plain BetweenWords width line is = parted-plain width (indented (words line)) (indented-pieces (words line) (words-of-line line is))
+
+filled-plain : (width : ℕ) (line : Text) (ps : List Piece) → NoFeeds line → PlainPieces ps → EachNoFeeds (filled width line ps)
+filled-plain width line [] none each = (none, tt)
+filled-plain width line (p ∷ ps) none each =
+    elim (takes width line p) as (λ v. EachNoFeeds (cond v (filled width (line ++ (p.gap ++ p.text)) ps) (line ∷ filled width p.text ps))) [
+      | true ↦ filled-plain width (line ++ (p.gap ++ p.text)) ps (NoFeeds-append line (p.gap ++ p.text) none (NoFeeds-append p.gap p.text each.0 each.1)) each.2
+      | false ↦ (none, filled-plain width p.text ps each.1 each.2)
+    ]
+
+wrapped_line-plain : (breaking : Breaking) (width : ℕ) (line : Text) → IsLine line → EachNoFeeds (wrapped_line breaking width line)
+unfolding wrapped_line
+wrapped_line-plain breaking width line is =
+    elim (fits width line) as (λ v. EachNoFeeds (cond v (line ∷ []) (filled width [] (pieces breaking width line)))) [
+      | true ↦ (is.1, tt)
+      | false ↦ filled-plain width [] (pieces breaking width line) tt (pieces-plain breaking width line is)
+    ]
+
+EachNoFeeds-append : (ls ms : List Text) → EachNoFeeds ls → EachNoFeeds ms → EachNoFeeds (ls ++ ms)
+EachNoFeeds-append [] ms p q = q
+EachNoFeeds-append (l ∷ ls) ms p q = (p.0, EachNoFeeds-append ls ms p.1 q)
+
+module _ (breaking : Breaking) (width : ℕ) where
+  all-plain : (ls : List Text) → EachLine ls → EachNoFeeds (flat_map (wrapped_line breaking width) ls)
+  all-plain [] each = tt
+  all-plain (l ∷ ls) each =
+      subst EachNoFeeds (sym (flat_map-cons (wrapped_line breaking width) l ls)) (EachNoFeeds-append (wrapped_line breaking width l) (flat_map (wrapped_line breaking width) ls) (wrapped_line-plain breaking width l each.0) (all-plain ls each.1))
+
+  all-some : (ls : List Text) → 0 < length ls → 0 < length (flat_map (wrapped_line breaking width) ls)
+  all-some [] some = absurd (omega arith)
+  all-some (l ∷ ls) some =
+      omega (arith, ap length (flat_map-cons (wrapped_line breaking width) l ls), length-append (wrapped_line breaking width l) (flat_map (wrapped_line breaking width) ls), wrapped_line-some breaking width l)
+
+-- lines without line feeds, join_with_byte 10 and cut again
+pub split-joined : (ls : List Text) → 0 < length ls → EachNoFeeds ls → split (join_with_byte 10 ls) ≡ ls
+split-joined [] some each = absurd (omega arith)
+split-joined (l ∷ []) some each = slice_split_none (λ b. b == 10) l (NoFeeds-all l each.0)
+split-joined (l ∷ m ∷ ls) some each =
+    slice_split_at (λ b. b == 10) l 10 (join_with_byte 10 (m ∷ ls)) (NoFeeds-all l each.0) refl ∙ ap (λ z. l ∷ z) (split-joined (m ∷ ls) (omega arith) each.1)
+
+pub lines_stand : LinesStand
+unfolding wrapped lines_of
+lines_stand breaking width text utf8 =
+    split-joined (flat_map (wrapped_line breaking width) (split text)) (all-some breaking width (split text) (split_some text)) (all-plain breaking width (split text) (lines_of-lines text utf8))
+
+EachFits-append : (width : ℕ) (ls ms : List Text) → EachFits width ls → EachFits width ms → EachFits width (ls ++ ms)
+EachFits-append width [] ms p q = q
+EachFits-append width (l ∷ ls) ms p q = (p.0, EachFits-append width ls ms p.1 q)
+
+all-fit : (breaking : Breaking) (width : ℕ) (ls : List Text) → greatest (map (least_line_width breaking) ls) ≤ width → EachFits width (flat_map (wrapped_line breaking width) ls)
+all-fit breaking width [] low = tt
+all-fit breaking width (l ∷ ls) low =
+    subst (EachFits width) (sym (flat_map-cons (wrapped_line breaking width) l ls)) (EachFits-append width (wrapped_line breaking width l) (flat_map (wrapped_line breaking width) ls) (lines_fit breaking width l (omega arith)) (all-fit breaking width ls (omega arith)))
+
+greatest-fits : (width : ℕ) (ls : List Text) → EachFits width ls → greatest (map width_of ls) ≤ width
+greatest-fits width [] each = omega arith
+greatest-fits width (l ∷ ls) each = omega (arith, each.0, greatest-fits width ls each.1)
+
+pub wrapped_texts_fit : WrappedTextsFit
+unfolding text_width_of least_width
+wrapped_texts_fit breaking width text utf8 low =
+    let is = lines_stand breaking width text utf8 in
+    omega (arith, ap (λ (ls : List Text). greatest (map width_of ls)) is, greatest-fits width (flat_map (wrapped_line breaking width) (lines_of text)) (all-fit breaking width (lines_of text) low))
+
+-- ---- words are UTF-8, also of texts of several lines
+
+abbrev pub EachTexts : List Piece → Type 0
+EachTexts [] = Unit {0}
+EachTexts (p ∷ ps) = IsUtf8 p.gap × IsUtf8 p.text × EachTexts ps
+
+EachTexts-joined : (xs : Text) (ps : List Piece) → IsUtf8 xs → EachTexts ps → EachTexts (joined_word xs ps)
+EachTexts-joined xs [] is each = (IsUtf8-nil, is, tt)
+EachTexts-joined xs (p ∷ ps) is each =
+    elim (length p.gap == 0) as (λ v. EachTexts (cond v (record { gap = []; text = xs ++ p.text } ∷ ps) (record { gap = []; text = xs } ∷ p ∷ ps))) [
+      | true ↦ (IsUtf8-nil, IsUtf8-append xs p.text is each.1, each.2)
+      | false ↦ (IsUtf8-nil, is, each)
+    ]
+
+EachTexts-spaced : (ps : List Piece) → IsUtf8 (32 ∷ []) → EachTexts ps → EachTexts (before_words 32 ps)
+EachTexts-spaced [] space each = tt
+EachTexts-spaced (p ∷ ps) space each = (IsUtf8-append (32 ∷ []) p.gap space each.0, each.1, each.2)
+
+encoded-texts : (cs : List ℕ) → scalars cs ≡ true → EachTexts (words (encode_utf8_all cs))
+encoded-texts [] h = tt
+encoded-texts (c ∷ cs) h =
+    let parts = and_parts (scalar c) (scalars cs) h in
+    let rest = encoded-texts cs parts.1 in
+    elim (c == 32) as (λ v. (c == 32) ≡ v → EachTexts (words (encode c ++ encode_utf8_all cs))) [
+      | true ↦ λ k.
+          let is : c ≡ 32 = grind (arith, nat_tests) in
+          let byte : encode c ≡ 32 ∷ [] = ap encode is ∙ encode_ascii 32 (lit< tt) in
+          subst (λ (z : Text). EachTexts (words (z ++ encode_utf8_all cs))) (sym byte) (EachTexts-spaced (words (encode_utf8_all cs)) (subst IsUtf8 byte (IsUtf8-encode c parts.0)) rest)
+      | false ↦ λ k.
+          let bounds = len_utf8_bounds c in
+          subst EachTexts (sym (words-front (encode c) (encode_utf8_all cs) (encode-lacks 32 c (lit< tt) k) (omega (arith, length-encode c))))
+          (EachTexts-joined (encode c) (words (encode_utf8_all cs)) (IsUtf8-encode c parts.0) rest)
+    ] refl
+
+pub words-texts : (line : Text) → IsUtf8 line → EachTexts (words line)
+words-texts line utf8 = subst (λ (z : Text). EachTexts (words z)) utf8.1.1 (encoded-texts utf8.0 utf8.1.0)
+
+pub indented-texts : (ps : List Piece) → EachTexts ps → EachTexts (indented ps)
+indented-texts [] each = tt
+indented-texts (p ∷ ps) each = (IsUtf8-nil, IsUtf8-append p.gap p.text each.0 each.1, each.2)

@@ -1,0 +1,19 @@
+-- Lemmas of this crate.
+pub mod JoinedLines
+pub mod FilledLines
+pub mod CharactersOfParts
+pub mod WordsOfTexts
+pub mod WrappedLines
+pub mod LeastWidths
+pub mod LawsOfLines
+pub mod CutLines
+pub mod LawsOfCuts
+pub mod LawsOfTexts
+pub mod LawsOfSpaces
+pub mod LawsOfCutTexts
+pub mod LawsOfControls
+pub mod CutRows
+pub mod Levels
+pub mod HandedOut
+pub mod NarrowedWidths
+pub mod OverlaidTexts

@@ -1,0 +1,158 @@
+-- Laws of narrowed widths.
+use Rattle.std.proofs.Common.{◌≡◌, ◌⊎◌, inl, inr, not, nat_lt, true, false, zero-add, eq-zero-or-pos, ℕ, zero, suc, ◌+◌, ◌-◌, ◌<◌, ◌≤◌, max, List, [], ◌∷◌, map, length, get_or, sum, ⊎_elim, refl, sym, ap, ◌∙◌, arith}
+use Rattle.std.specs.List.{range_with_len, position_or_len}
+use Rattle.std.proofs.lemmas.Bool.Decides.{nat_tests}
+use Rattle.std.proofs.lemmas.List.{length-map}
+use Rattle.std.proofs.lemmas.List.Sums.{sum-map, sum_by-cons, prefix_len-le-length, fails_before_first, passes_at_first}
+use Rattle.std.proofs.lemmas.List.FromFn.{length-range_with_len, get_or-range_with_len}
+use Rattle.pg_fit.specs.declared.narrowing.ColumnRange.{ColumnRange}
+use Rattle.pg_fit.specs.Narrowing.{share, gain, total, widest, level, handed_out, narrowed, least_total, natural_total, none, FillsTheRoom, WithinRanges, IsEvenHanded, LimitsHold, StayNatural, EndAtLeast}
+use Rattle.pg_fit.proofs.Levels.{share-next, total-mono, total-past_widest, IsLevel}
+use Rattle.pg_fit.proofs.HandedOut.{sum-handed_out}
+
+last_or_before : (n m : ℕ) → n ≤ m → (n ≡ m) ⊎ (n < m)
+last_or_before n m h = ⊎_elim (λ e. inl (omega arith)) (λ e. inr (omega arith)) (eq-zero-or-pos (m - n))
+
+below_fits : (room : ℕ) (cs : List ColumnRange) (n : ℕ) → ((k : ℕ) → k < n → total (k + 1) cs ≤ room) → (n ≡ 0) ⊎ (total n cs ≤ room)
+below_fits room cs zero each = inl refl
+below_fits room cs (suc n) each = inr (let same : n + 1 ≡ suc n = omega arith in rw same at (each n (omega arith)))
+
+-- the level is one
+pub IsLevel-level : (room : ℕ) (cs : List ColumnRange) → IsLevel room cs (level room cs)
+unfolding level
+IsLevel-level room cs =
+    let p = λ (l : ℕ). nat_lt room (total (l + 1) cs) in
+    let xs = range_with_len 0 (widest cs) in
+    let long = length-range_with_len 0 (widest cs) in
+    let short = prefix_len-le-length (λ (l : ℕ). not (p l)) xs in
+    let reads : (k : ℕ) → k < widest cs → get_or xs k 0 ≡ k = λ k below. get_or-range_with_len 0 (widest cs) k 0 below ∙ zero-add k in
+    record {
+      within = omega arith;
+      fits = below_fits room cs (position_or_len p xs) (λ k below. let passed : p k ≡ false = ap p (sym (reads k (omega arith))) ∙ fails_before_first p xs k 0 below in grind (arith, nat_tests));
+      next = ⊎_elim (λ last. inl last) (λ before. inr (let passed : p (position_or_len p xs) ≡ true = ap p (sym (reads (position_or_len p xs) before)) ∙ passes_at_first p xs 0 (omega arith) in grind (arith, nat_tests))) (last_or_before (position_or_len p xs) (widest cs) (omega arith));
+    }
+
+-- no level takes more than the natural widths
+total-below : (l : ℕ) (cs : List ColumnRange) → total l cs ≤ natural_total cs
+total-below l [] = omega arith
+total-below l (c ∷ cs) = omega (arith, sum_by-cons (share l) c cs, sum_by-cons (λ (x : ColumnRange). max x.least x.natural) c cs, total-below l cs)
+
+total-least : (cs : List ColumnRange) → total 0 cs ≡ least_total cs
+total-least [] = refl
+total-least (c ∷ cs) = omega (arith, sum_by-cons (share 0) c cs, sum_by-cons (λ (x : ColumnRange). x.least) c cs, total-least cs)
+
+total-natural : (l : ℕ) (cs : List ColumnRange) → widest cs ≤ l → total l cs ≡ natural_total cs
+total-natural l [] h = refl
+total-natural l (c ∷ cs) h = omega (arith, sum_by-cons (share l) c cs, sum_by-cons (λ (x : ColumnRange). max x.least x.natural) c cs, total-natural l cs (omega arith))
+
+pub fills : FillsTheRoom
+unfolding narrowed
+fills room cs =
+    let n = level room cs in
+    let is = IsLevel-level room cs in
+    let total-n = total n cs in
+    let below = total-mono 0 n cs (omega arith) in
+    let above = total-mono n (widest cs) cs is.within in
+    let next = total-mono n (n + 1) cs (omega arith) in
+    let all = total-natural (widest cs) cs (omega arith) in
+    let least = total-least cs in
+    let given = sum-handed_out (room - total n cs) n cs in
+    ⊎_elim
+    (λ (last : n ≡ widest cs).
+    let same = total-past_widest (n + 1) n cs (omega arith) (omega arith) in
+    let here : total n cs ≡ total (widest cs) cs = ap (λ k. total k cs) last in
+    ⊎_elim (λ (bottom : n ≡ 0). let low : total n cs ≡ total 0 cs = ap (λ k. total k cs) bottom in omega arith) (λ (fits : total n cs ≤ room). omega arith) is.fits)
+    (λ (wide : room < total (n + 1) cs).
+    let further : total (n + 1) cs ≤ natural_total cs = total-below (n + 1) cs in
+    ⊎_elim (λ (bottom : n ≡ 0). let low : total n cs ≡ total 0 cs = ap (λ k. total k cs) bottom in omega arith) (λ (fits : total n cs ≤ room). omega arith) is.fits)
+    is.next
+
+-- ---- column by column
+
+pub length-handed_out : (left l : ℕ) (cs : List ColumnRange) → length (handed_out left l cs) ≡ length cs
+length-handed_out left l [] = refl
+length-handed_out left l (c ∷ cs) = ap suc (length-handed_out (left - gain left l c) l cs)
+
+-- each width is that of the level or of the next one
+pub record IsAt (l : ℕ) (c : ColumnRange) (width : ℕ) : Type 0 where
+  pub low : share l c ≤ width
+  pub high : width ≤ share (l + 1) c
+
+pub IsAt-handed_out : (left l : ℕ) (cs : List ColumnRange) (i : ℕ) → i < length cs → IsAt l (get_or cs i none) (get_or (handed_out left l cs) i 0)
+IsAt-handed_out left l [] i within = absurd (omega arith)
+IsAt-handed_out left l (c ∷ cs) zero within = let next = share-next l c in record { low = omega arith; high = omega arith }
+IsAt-handed_out left l (c ∷ cs) (suc i) within = IsAt-handed_out (left - gain left l c) l cs i (omega arith)
+
+pub within_ranges : WithinRanges
+unfolding narrowed
+within_ranges room cs =
+    let n = level room cs in
+    let left = room - total n cs in (
+      length-handed_out left n cs,
+      λ i within.
+          let is = IsAt-handed_out left n cs i within in
+          (omega (arith, is.low), omega (arith, is.high)),
+    )
+
+pub even_handed : IsEvenHanded
+unfolding narrowed
+even_handed room cs i j i-within j-within narrower wider =
+    let n = level room cs in
+    let left = room - total n cs in
+    let is-i = IsAt-handed_out left n cs i i-within in
+    let is-j = IsAt-handed_out left n cs j j-within in
+    omega (arith, is-i.low, is-i.high, is-j.low, is-j.high)
+
+pub limits_hold : LimitsHold
+limits_hold room cs i limit c within is = omega (arith, (within_ranges room cs).1 i within, ap (λ (x : ColumnRange). x.least) is, ap (λ (x : ColumnRange). x.natural) is)
+
+-- ---- widths at the ends of their ranges
+
+-- no width of one list is greater than the one of the other
+abbrev AreBelow : List ℕ → List ℕ → Type 0
+AreBelow [] ys = Unit {0}
+AreBelow (x ∷ xs) [] = Unit {0}
+AreBelow (x ∷ xs) (y ∷ ys) = (x ≤ y) × AreBelow xs ys
+
+sum-below : (xs ys : List ℕ) → length xs ≡ length ys → AreBelow xs ys → sum xs ≤ sum ys
+sum-below [] [] long low = omega arith
+sum-below [] (y ∷ ys) long low = absurd (omega arith)
+sum-below (x ∷ xs) [] long low = absurd (omega arith)
+sum-below (x ∷ xs) (y ∷ ys) long low = omega (arith, sum_by-cons (λ (n : ℕ). n) x xs, sum_by-cons (λ (n : ℕ). n) y ys, low.0, sum-below xs ys (omega arith) low.1)
+
+-- so they are equal where they add up to the same
+same-sum : (xs ys : List ℕ) → length xs ≡ length ys → AreBelow xs ys → sum ys ≤ sum xs → xs ≡ ys
+same-sum [] [] long low h = refl
+same-sum [] (y ∷ ys) long low h = absurd (omega arith)
+same-sum (x ∷ xs) [] long low h = absurd (omega arith)
+same-sum (x ∷ xs) (y ∷ ys) long low h =
+    let below = sum-below xs ys (omega arith) low.1 in
+    let first : x ≡ y = omega (arith, sum_by-cons (λ (n : ℕ). n) x xs, sum_by-cons (λ (n : ℕ). n) y ys, low.0) in
+    ap (λ n. n ∷ xs) first ∙ ap (λ ns. y ∷ ns) (same-sum xs ys (omega arith) low.1 (omega (arith, sum_by-cons (λ (n : ℕ). n) x xs, sum_by-cons (λ (n : ℕ). n) y ys, low.0)))
+
+handed_out-below : (left l : ℕ) (cs : List ColumnRange) → AreBelow (handed_out left l cs) (map (λ (c : ColumnRange). max c.least c.natural) cs)
+handed_out-below left l [] = tt
+handed_out-below left l (c ∷ cs) = let next = share-next l c in (omega arith, handed_out-below (left - gain left l c) l cs)
+
+handed_out-above : (left l : ℕ) (cs : List ColumnRange) → AreBelow (map (λ (c : ColumnRange). c.least) cs) (handed_out left l cs)
+handed_out-above left l [] = tt
+handed_out-above left l (c ∷ cs) = (omega arith, handed_out-above (left - gain left l c) l cs)
+
+least-below-natural : (cs : List ColumnRange) → least_total cs ≤ natural_total cs
+least-below-natural cs = omega (arith, total-least cs, total-below 0 cs)
+
+pub stay_natural : StayNatural
+unfolding narrowed
+stay_natural room cs fits =
+    let n = level room cs in
+    let left = room - total n cs in
+    same-sum (handed_out left n cs) (map (λ (c : ColumnRange). max c.least c.natural) cs) (omega (arith, length-handed_out left n cs, length-map cs (λ (c : ColumnRange). max c.least c.natural))) (handed_out-below left n cs)
+    (omega (arith, fills room cs, sum-map (λ (c : ColumnRange). max c.least c.natural) cs, least-below-natural cs))
+
+pub end_at_least : EndAtLeast
+unfolding narrowed
+end_at_least room cs few =
+    let n = level room cs in
+    let left = room - total n cs in
+    sym (same-sum (map (λ (c : ColumnRange). c.least) cs) (handed_out left n cs) (omega (arith, length-handed_out left n cs, length-map cs (λ (c : ColumnRange). c.least))) (handed_out-above left n cs)
+    (omega (arith, fills room cs, sum-map (λ (c : ColumnRange). c.least) cs, least-below-natural cs)))

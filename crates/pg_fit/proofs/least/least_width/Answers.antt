@@ -1,0 +1,11 @@
+use Rattle.std.proofs.Common.{max, ◌∙◌, rules, tests}
+use Rattle.std.proofs.lemmas.Iterator.Consumers.{YieldsList-from_first, fold_from_yields_List}
+use Rattle.pg_layout.specs.Text.{lines_of}
+use Rattle.pg_fit.specs.Wrapping.{least_line_width}
+use Rattle.pg_fit.proofs.LeastWidths.{least_width-fold}
+use Rattle.pg_fit.proofs.least.least_width.Goals as goal
+
+pub returns : goal.returns
+returns c =
+    fold_from_yields_List _ (λ width line. max (least_line_width c.args.breaking line) width) 0 c.fold.result c.fold.ensures.ran (YieldsList-from_first (λ x. x.now) (λ lines. lines) (lines_of c.args.text.now) c.get_lines.ensures) (λ a x b q k. search (rules, tests))
+    ∙ least_width-fold c.args.breaking c.args.text.now

@@ -1,0 +1,25 @@
+//! Texts within widths: lines that are too wide are wrapped or cut, columns are narrowed to a total, and
+//! records take other texts at some places.
+#![tactic(auto)]
+
+mod controls;
+mod cutting;
+mod filling;
+mod laws;
+mod least;
+mod narrowing;
+mod overlaid;
+mod row;
+mod wrapping;
+
+pub use crate::controls::{is_visible, visible};
+pub use crate::cutting::cut;
+pub use crate::laws::{
+    cut_texts_fit, narrowed_widths_fill_the_room, visible_texts_are_seen, wrapped_lines_fit,
+    wrapped_texts_fit,
+};
+pub use crate::least::least_width;
+pub use crate::narrowing::{ColumnRange, narrow};
+pub use crate::overlaid::{OverlaidColumns, OverlaidRecords, OverlaidRows};
+pub use crate::row::{Fitted, fit_row};
+pub use crate::wrapping::{Breaking, wrap};

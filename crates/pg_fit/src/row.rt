@@ -1,0 +1,99 @@
+//! A row whose texts are cut to the widths of their columns.
+
+ghost use Rattle.std.specs.Prelude.{◌≡◌, ◌&&◌, ◌++◌, IfOk, List, map, length, slice_index_or, string_bytes};
+ghost use Rattle.std.specs.Vec.Iter.{into_iter_items};
+ghost use Rattle.pg_layout.specs.Text.{width_of, first_line_of, lines_of};
+ghost use Rattle.pg_fit.specs.Rows.{fitted_text, is_fitting, cut_cell, cut_row};
+
+use crate::cutting::push_cut;
+use pg_layout::{count_lines, first_line, get_line_width};
+use std::alloc::{AllocError, Allocator, Global};
+use std::convert::AsStr;
+
+/// A cell of a row that was cut: its text as it was, or the one that was made in its place.
+#[derive(Debug)]
+pub enum Fitted<S, A: Allocator = Global> {
+    /// It has one line, which is narrow enough.
+    Kept(S),
+    /// Its first line was cut, or has further ones behind it, which are left out.
+    Made(String<A>),
+}
+
+// Written out, so that a caller's proof has one call where it lets cells go.
+impl<S: Drop, A: Allocator> Drop for Fitted<S, A> {
+    fn drop(self) {
+        match self {
+            Fitted::Kept(cell) => drop(cell),
+            Fitted::Made(text) => drop(text),
+        }
+    }
+}
+
+impl<S: AsStr, A: Allocator> AsStr for Fitted<S, A> {
+    ghost text = { λ cell. fitted_text S.text cell };
+
+    fn as_str(&self) -> &str {
+        match self {
+            Fitted::Kept(cell) => cell.as_str(),
+            Fitted::Made(text) => text.as_str(),
+        }
+    }
+}
+
+// Whether a text is one line that takes at most so many columns.
+fn is_fitting(text: &str, width: usize) -> bool
+    ensures { result ≡ is_fitting width text.now }
+{
+    count_lines(text) == 1 && get_line_width(text) <= width
+}
+
+// The width of a column, or 0 where it has none.
+fn width_of_column(widths: &[usize], column: usize) -> usize
+    ensures { result ≡ slice_index_or widths.now column 0 }
+{
+    widths.get(column).copied().unwrap_or(0)
+}
+
+// A cell, cut to so many columns.
+fn fit_cell<S: AsStr + Drop, A: Allocator>(
+    alloc: A,
+    cell: S,
+    width: usize,
+    tail: &str,
+) -> Result<Fitted<S, A>, AllocError>
+    ensures { IfOk result (λ fitted. fitted_text S.text fitted ≡ cut_cell tail.now width (S.text cell)) }
+{
+    if is_fitting(cell.as_str(), width) {
+        return Ok(Fitted::Kept(cell));
+    }
+    let mut made = String::new(alloc);
+    push_cut(first_line(cell.as_str()), width, tail, &mut made)?;
+    Ok(Fitted::Made(made))
+}
+
+/// The cells of a row, each cut to one line of at most so many columns, with a tail behind what is
+/// left of a line that is too wide. A cell with no width gets none.
+///
+/// Such a row has room in a table whose rows have one line and whose columns have these widths and
+/// their paddings, so a long text ends no stream of rows. Only cells that are cut take memory, besides
+/// the row itself.
+///
+/// ```text
+/// fit_row(alloc, vec![in alloc; "tea", "dried leaves\nof a plant"]?, &[5, 8], "…")? // tea | dried l…
+/// ```
+pub fn fit_row<S: AsStr + Drop, B: Allocator, A: Allocator + Copy>(
+    alloc: A,
+    cells: Vec<S, B>,
+    widths: &[usize],
+    tail: &str,
+) -> Result<Vec<Fitted<S, A>, A>, AllocError>
+    ensures { IfOk result (λ row. map (fitted_text S.text) row.items ≡ cut_row tail.now widths.now (map S.text cells.items)) }
+{
+    let mut row = Vec::with_capacity(alloc, cells.len())?;
+    for cell in cells {
+        let width = width_of_column(widths, row.len());
+        let fitted = fit_cell(alloc, cell, width, tail)?;
+        row.push(fitted)?;
+    }
+    Ok(row)
+}
