@@ -9,6 +9,8 @@ pub mod Ranges
 mod FirstKeys
 mod TakenBack
 mod OverrideColumns
+mod BorderLines
+mod RowLines
 mod KeptSpans
 mod Extents
 pub mod SettingsForAll

@@ -1,5 +1,5 @@
 -- What was set for single glyphs of a horizontal or a vertical, counted from its start or from its end.
-use Rattle.std.specs.Prelude.{ℕ, ◌-◌, Bool, ◌&&◌, ◌||◌, ◌==◌, nat_lt, List, [], Option}
+use Rattle.std.specs.Prelude.{ℕ, ◌-◌, Bool, ◌&&◌, ◌||◌, ◌==◌, nat_lt, List, [], Option, Some, None, if◌then◌else◌}
 use Rattle.std.specs.Option.{option_or}
 use Rattle.pg_layout.specs.declared.position.Position.{Position}
 use Rattle.pg_layout.specs.declared.sides.Offset.{Offset}
@@ -39,9 +39,14 @@ module _ {V : Type 0} where
   offset_at p (Start i) o = value_at by_glyph (glyph_at p i) o.from_start
   offset_at p (End i) o = value_at by_glyph (glyph_at p i) o.from_end
 
-  -- what is set for glyph i of w, counted from the start, else from the end
+  -- the value, if there is one and the test is true
+  abbrev pub only_if : Bool → Option V → Option V
+  only_if test None = None
+  only_if test (Some v) = if test then Some v else None
+
+  -- What is set for glyph i of w, counted from the start, else from the end. For a glyph that isn't there it is nothing.
   unfoldable pub lookup_offset : Offsets V → Position → ℕ → ℕ → Option V
-  lookup_offset o p i w = option_or (value_at by_glyph (glyph_at p i) o.from_start) (value_at by_glyph (glyph_at p (w - i - 1)) o.from_end)
+  lookup_offset o p i w = only_if (nat_lt i w) (option_or (value_at by_glyph (glyph_at p i) o.from_start) (value_at by_glyph (glyph_at p (w - i - 1)) o.from_end))
 
   -- a glyph of the place is set
   unfoldable pub is_offset_at : Offsets V → Position → Bool

@@ -1,5 +1,5 @@
 -- What was set for single places of the border lines.
-use Rattle.std.specs.Prelude.{◌≡◌, ℕ, zero, suc, ◌+◌, Bool, ◌||◌, ◌==◌, List, [], Option, is_some, if◌then◌else◌}
+use Rattle.std.specs.Prelude.{◌≡◌, ℕ, zero, suc, ◌+◌, ◌-◌, ◌^◌, Bool, ◌&&◌, ◌||◌, ◌==◌, nat_lt, List, [], Option, None, is_some, if◌then◌else◌}
 use Rattle.pg_layout.specs.declared.borders.Border.{Border}
 use Rattle.pg_layout.specs.declared.borders.HorizontalLine.{HorizontalLine}
 use Rattle.pg_layout.specs.declared.position.Position.{Position}
@@ -24,13 +24,31 @@ module _ {G : Type 0} where
   abbrev pub no_overrides : Overrides G
   no_overrides = record { horizontals = []; verticals = []; crossings = [] }
 
-  -- The border of the cell at p overrides the eight places round it. A value that it lacks leaves its place as it was.
-  unfoldable pub with_border : Position → Border G → Overrides G → Overrides G
-  with_border p b o = record {
-    horizontals = with_some by_place (at (p.row + 1) p.col) b.bottom (with_some by_place p b.top o.horizontals);
-    verticals = with_some by_columns (column_place (at p.row (p.col + 1))) b.right (with_some by_columns (column_place p) b.left o.verticals);
-    crossings = with_some by_place (at (p.row + 1) (p.col + 1)) b.bottom_right (with_some by_place (at (p.row + 1) p.col) b.bottom_left (with_some by_place (at p.row (p.col + 1)) b.top_right (with_some by_place p b.top_left o.crossings)));
+  -- What a border has for places on the line behind line i. There is none behind the greatest number, which no table reaches.
+  abbrev pub behind : ℕ → Option G → Option G
+  behind i part = if nat_lt i (2 ^ 64 - 1) then part else None
+
+  -- what the border of the cell at p has for places on lines that there are
+  abbrev pub on_lines : Position → Border G → Border G
+  on_lines p b = record b {
+    bottom = behind p.row b.bottom;
+    right = behind p.col b.right;
+    top_right = behind p.col b.top_right;
+    bottom_left = behind p.row b.bottom_left;
+    bottom_right = behind p.row (behind p.col b.bottom_right);
   }
+
+  -- The eight places round the cell at p, with the lines below it and right of it, get what a border has for them. A value that it lacks leaves its place as it was.
+  abbrev pub with_round : Position → ℕ → ℕ → Border G → Overrides G → Overrides G
+  with_round p below right b o = record {
+    horizontals = with_some by_place (at below p.col) b.bottom (with_some by_place p b.top o.horizontals);
+    verticals = with_some by_columns (column_place (at p.row right)) b.right (with_some by_columns (column_place p) b.left o.verticals);
+    crossings = with_some by_place (at below right) b.bottom_right (with_some by_place (at below p.col) b.bottom_left (with_some by_place (at p.row right) b.top_right (with_some by_place p b.top_left o.crossings)));
+  }
+
+  -- The border of the cell at p overrides the places round it, as far as they stand on lines that there are.
+  unfoldable pub with_border : Position → Border G → Overrides G → Overrides G
+  with_border p b o = with_round p (p.row + 1) (p.col + 1) (on_lines p b) o
 
   -- The first n places of row r get these values, by column. A value that is missing leaves its place as it was.
   abbrev pub with_row : ℕ → ℕ → (ℕ → Option G) → List (Position × G) → List (Position × G)
@@ -40,6 +58,10 @@ module _ {G : Type 0} where
   -- what a line of so many columns has at its crossing c: an end, or what stands between two columns
   abbrev pub line_crossing : HorizontalLine G → ℕ → ℕ → Option G
   line_crossing line columns c = ends line.left line.intersection line.right c columns
+
+  -- a glyph of a line of so many columns has a place there
+  abbrev pub has_glyph : ℕ → HorizontalLine G → Bool
+  has_glyph columns line = nat_lt 0 columns && ((is_some line.main || (is_some line.left || is_some line.right)) || (nat_lt 1 columns && is_some line.intersection))
 
   -- Row line r of so many columns is this line: its horizontals, and its crossings, which are one more. Of no columns it is none.
   unfoldable pub with_row_line : ℕ → ℕ → HorizontalLine G → Overrides G → Overrides G

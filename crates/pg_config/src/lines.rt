@@ -1,10 +1,11 @@
 //! The values of border lines, which change together or not at all.
 
-ghost use Rattle.std.specs.Prelude.{◌≡◌, ◌+◌, ◌^◌, ◌<◌, [], Bool, OnOk};
+ghost use Rattle.std.specs.Prelude.{◌≡◌, ◌+◌, ◌^◌, ◌<◌, [], Bool, None, OnOk, IsOk};
+ghost use Rattle.pg_layout.specs.Borders.{no_border};
 ghost use Rattle.pg_layout.specs.Keys.{by_place};
 ghost use Rattle.pg_layout.specs.Places.{with_some};
 ghost use Rattle.pg_config.specs.Inside.NotedPlaces.{settled, settled_at};
-ghost use Rattle.pg_config.specs.Overrides.{HasColumns, no_lines, with_border, with_row, line_crossing, with_row_line};
+ghost use Rattle.pg_config.specs.Overrides.{HasColumns, no_lines, behind, on_lines, with_round, with_border, with_row, line_crossing, with_row_line};
 
 use crate::noted_places::NotedPlaces;
 use pg_layout::{Border, ColumnPlace, HorizontalLine, Position};
@@ -56,34 +57,79 @@ impl<G: Drop, A: Allocator + Clone> Lines<G, A> {
         self.columns.settle(stays);
     }
 
-    /// Gives the eight places round a cell the values of this border, or some of them where memory
-    /// is refused.
+    /// Gives the places round a cell the values that this border has for them, or some of them where
+    /// memory is refused.
     ///
-    /// The row and the column of the place are below `usize::MAX`, which a comparison tells. Each
-    /// column of a crossing is listed, as in all `Overrides`.
-    #[tactic(auto, unfolding(crate::specs::Overrides::with_border))]
+    /// Each column of a crossing is listed, as in all `Overrides`.
+    #[tactic(auto, unfolding(crate::specs::Overrides::with_border), using(crate::proofs::BorderLines::lines_behind))]
     pub fn put_border(&mut self, pos: Position, border: Border<G>) -> Result<(), AllocError>
-        requires row { pos.row < usize.MAX }
-        requires col { pos.col < usize.MAX }
         requires has_columns { HasColumns self.old.now.columns self.old.now.overrides.crossings }
         ensures ok { OnOk result (self.new.now.overrides ≡ with_border pos border self.old.now.overrides) }
         ensures has_columns { OnOk result (HasColumns self.new.now.columns self.new.now.overrides.crossings) }
         ensures before { self.new.before ≡ self.old.before }
+        ensures nothing { on_lines pos border ≡ no_border → IsOk result }
     {
-        let (row, col) = (pos.row + 1, pos.col + 1);
-        let below = Position { row, col: pos.col };
-        let right = Position { row: pos.row, col };
-        let across = Position { row, col };
+        // Where a line is the last one, the border has nothing for the line behind it.
+        let (below, right) = (pos.row.saturating_add(1), pos.col.saturating_add(1));
+        self.put_round(pos, below, right, on_lines(pos, border))
+    }
+
+    // The same, with the lines below the cell and right of it.
+    fn put_round(
+        &mut self,
+        pos: Position,
+        below: usize,
+        right: usize,
+        border: Border<G>,
+    ) -> Result<(), AllocError>
+        requires has_columns { HasColumns self.old.now.columns self.old.now.overrides.crossings }
+        ensures ok { OnOk result (self.new.now.overrides ≡ with_round pos below right border self.old.now.overrides) }
+        ensures has_columns { OnOk result (HasColumns self.new.now.columns self.new.now.overrides.crossings) }
+        ensures before { self.new.before ≡ self.old.before }
+        ensures nothing { border ≡ no_border → IsOk result }
+    {
+        let row = pos.row;
+        let at_bottom_left = Position {
+            row: below,
+            col: pos.col,
+        };
+        let at_top_right = Position { row, col: right };
+        let at_bottom_right = Position {
+            row: below,
+            col: right,
+        };
         self.horizontals.put(pos, border.top)?;
-        self.horizontals.put(below, border.bottom)?;
+        self.horizontals.put(at_bottom_left, border.bottom)?;
         self.verticals.put(ColumnPlace::of(pos), border.left)?;
-        self.verticals.put(ColumnPlace::of(right), border.right)?;
+        self.verticals
+            .put(ColumnPlace::of(at_top_right), border.right)?;
         let (crossings, columns) = (&mut self.crossings, &mut self.columns);
         put_crossing(crossings, columns, pos, border.top_left)?;
-        put_crossing(crossings, columns, right, border.top_right)?;
-        put_crossing(crossings, columns, below, border.bottom_left)?;
-        put_crossing(crossings, columns, across, border.bottom_right)
+        put_crossing(crossings, columns, at_top_right, border.top_right)?;
+        put_crossing(crossings, columns, at_bottom_left, border.bottom_left)?;
+        put_crossing(crossings, columns, at_bottom_right, border.bottom_right)
     }
+}
+
+// What the border of a cell has for places on lines that there are.
+fn on_lines<G: Drop>(pos: Position, border: Border<G>) -> Border<G>
+    ensures { result ≡ on_lines pos border }
+{
+    Border {
+        bottom: behind(pos.row, border.bottom),
+        right: behind(pos.col, border.right),
+        top_right: behind(pos.col, border.top_right),
+        bottom_left: behind(pos.row, border.bottom_left),
+        bottom_right: behind(pos.row, behind(pos.col, border.bottom_right)),
+        ..border
+    }
+}
+
+// What a border has for a place on the line behind this one: nothing, where this is the last line.
+fn behind<G: Drop>(line: usize, part: Option<G>) -> Option<G>
+    ensures { result ≡ behind line part }
+{
+    if line < usize::MAX { part } else { None }
 }
 
 impl<A: Allocator + Clone> Lines<char, A> {
@@ -182,6 +228,7 @@ fn put_crossing<G: Drop, A: Allocator + Clone>(
     ensures has_columns { OnOk result (HasColumns columns.new.now crossings.new.now) }
     ensures before { crossings.new.before ≡ crossings.old.before }
     ensures before_columns { columns.new.before ≡ columns.old.before }
+    ensures nothing { value ≡ None → IsOk result }
 {
     let Some(value) = value else {
         return Ok(());

@@ -1,6 +1,6 @@
 //! Values by key whose latest changes can be taken back.
 
-ghost use Rattle.std.specs.Prelude.{◌≡◌, [], OnOk, OnErr};
+ghost use Rattle.std.specs.Prelude.{◌≡◌, [], None, OnOk, OnErr, IsOk};
 ghost use Rattle.pg_layout.specs.Places.{with_some};
 ghost use Rattle.pg_config.specs.Inside.NotedPlaces.{settled, settled_at};
 
@@ -71,6 +71,7 @@ impl<K: Key, V: Drop, A: Allocator + Clone> NotedPlaces<K, V, A> {
         ensures ok { OnOk result (self.new.now ≡ with_some K.order key value self.old.now) }
         ensures err { OnErr result (self.new ≡ self.old) }
         ensures before { self.new.before ≡ self.old.before }
+        ensures nothing { value ≡ None → IsOk result }
     {
         let Some(value) = value else {
             return Ok(());

@@ -61,14 +61,16 @@ impl<V, A: Allocator + Copy> Offsets<V, A> {
 }
 
 impl<V, A: Allocator> Offsets<V, A> {
-    /// The value of glyph `i` of `w`: counted from the start, else from the end. `i` is below `w`,
-    /// which a comparison tells.
-    #[tactic(auto, unfolding(crate::specs::Offsets::lookup_offset))]
+    /// The value of glyph `i` of `w`: counted from the start, else from the end. Nothing where there
+    /// is no such glyph.
+    #[tactic(auto, unfolding(crate::specs::Offsets::lookup_offset), using(crate::proofs::GlyphLaws::only_if_is))]
     #[inline(always)]
     pub fn lookup(&self, pos: Position, i: usize, w: usize) -> Option<&V>
-        requires { i < w }
         ensures { option_map (λ x. x.now) result ≡ lookup_offset self.now pos i w }
     {
+        if w <= i {
+            return None;
+        }
         if let Some(value) = self.from_start.get(GlyphPlace::new(pos, i)) {
             return Some(value);
         }

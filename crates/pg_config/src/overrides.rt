@@ -1,9 +1,10 @@
 //! What was set for single places of the border lines.
 
-ghost use Rattle.std.specs.Prelude.{◌≡◌, ◌^◌, ◌<◌, option_map, OnOk, OnErr};
+ghost use Rattle.std.specs.Prelude.{◌≡◌, false, option_map, OnOk, OnErr, IsOk};
+ghost use Rattle.pg_layout.specs.Borders.{no_border};
 ghost use Rattle.pg_layout.specs.Keys.{in_row, in_column};
 ghost use Rattle.pg_layout.specs.Places.{has_key};
-ghost use Rattle.pg_config.specs.Overrides.{no_overrides, with_border, with_row_line, horizontal_override, vertical_override, crossing_override, overrides_row, overrides_column, sets_rows, sets_columns};
+ghost use Rattle.pg_config.specs.Overrides.{no_overrides, on_lines, with_border, has_glyph, with_row_line, horizontal_override, vertical_override, crossing_override, overrides_row, overrides_column, sets_rows, sets_columns};
 
 use crate::lines::Lines;
 use pg_layout::{Border, ColumnPlace, HorizontalLine, Places, Position};
@@ -100,16 +101,14 @@ impl<G, A: Allocator> Overrides<G, A> {
 }
 
 impl<G: Drop, A: Allocator + Clone> Overrides<G, A> {
-    /// Gives the eight places round a cell the values of this border. A value that it lacks leaves
-    /// its place as it was.
+    /// Gives the places round a cell the values that this border has for them. A value that it lacks
+    /// leaves its place as it was, and one for a place behind line `usize::MAX` is left out.
     ///
-    /// Where memory is refused, nothing changes. The row and the column of the place are below
-    /// `usize::MAX`, which a comparison tells.
+    /// Where memory is refused, nothing changes.
     pub fn set_border(&mut self, pos: Position, border: Border<G>) -> Result<(), AllocError>
-        requires row { pos.row < usize.MAX }
-        requires col { pos.col < usize.MAX }
         ensures ok { OnOk result (self.new ≡ with_border pos border self.old) }
         ensures err { OnErr result (self.new ≡ self.old) }
+        ensures nothing { on_lines pos border ≡ no_border → IsOk result }
     {
         let done = self.lines.put_border(pos, border);
         self.lines.settle(done.is_ok());
@@ -121,8 +120,8 @@ impl<A: Allocator + Clone> Overrides<char, A> {
     /// Gives the horizontals and the crossings of a row line of so many columns the glyphs of this
     /// line. A glyph that it lacks leaves its places as they were. With no columns nothing changes.
     ///
-    /// Where memory is refused, nothing changes.
-    #[tactic(auto, unfolding(crate::specs::Overrides::with_row_line))]
+    /// Where memory is refused, nothing changes. None is asked for where no glyph has a place.
+    #[tactic(auto, unfolding(crate::specs::Overrides::with_row_line), using(crate::proofs::RowLines::without_glyphs))]
     pub fn set_row_line(
         &mut self,
         row: usize,
@@ -131,14 +130,24 @@ impl<A: Allocator + Clone> Overrides<char, A> {
     ) -> Result<(), AllocError>
         ensures ok { OnOk result (self.new ≡ with_row_line row columns line self.old) }
         ensures err { OnErr result (self.new ≡ self.old) }
+        ensures nothing { has_glyph columns line ≡ false → IsOk result }
     {
-        if columns == 0 {
+        if !has_glyph(columns, line) {
             return Ok(());
         }
         let done = self.lines.put_row_line(row, columns, line);
         self.lines.settle(done.is_ok());
         done
     }
+}
+
+// Whether a glyph of a line of so many columns has a place there.
+fn has_glyph(columns: usize, line: HorizontalLine<char>) -> bool
+    ensures { result ≡ has_glyph columns line }
+{
+    let is_crossed = 1 < columns && line.intersection.is_some();
+    let has_others = line.main.is_some() || line.left.is_some() || line.right.is_some();
+    0 < columns && (has_others || is_crossed)
 }
 
 // Whether a place of this row has a value.

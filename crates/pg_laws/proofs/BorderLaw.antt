@@ -1,5 +1,5 @@
 -- What places are overridden with, and what they answer, after the border of a cell is set.
-use Rattle.std.proofs.Common.{◌≡◌, ℕ, ◌+◌, Bool, true, false, ◌&&◌, ◌||◌, ◌==◌, List, refl, sym, ap, ◌∙◌, arith, Option, Some, None, if◌then◌else◌, inl, inr}
+use Rattle.std.proofs.Common.{◌≡◌, ℕ, ◌+◌, ◌-◌, ◌^◌, nat_lt, Bool, true, false, ◌&&◌, ◌||◌, ◌==◌, List, refl, sym, ap, ◌∙◌, arith, Option, Some, None, if◌then◌else◌, inl, inr}
 use Rattle.std.specs.Prelude.{is_some}
 use Rattle.std.specs.Option.{option_or}
 use Rattle.std.proofs.lemmas.Bool.{cases_Bool, and_parts}
@@ -12,10 +12,10 @@ use Rattle.pg_layout.specs.Borders.{horizontal_glyph, vertical_glyph, crossing_g
 use Rattle.pg_layout.specs.Keys.{Order, by_columns, by_place, column_place, in_row, in_column}
 use Rattle.pg_layout.specs.Places.{same, value_at, with_some, has_key}
 use Rattle.pg_layout.specs.Position.{is_at, at}
-use Rattle.pg_config.specs.Overrides.{Overrides, with_border, has_crossing, horizontal_override, vertical_override, crossing_override, overrides_row, overrides_column}
+use Rattle.pg_config.specs.Overrides.{Overrides, on_lines, with_round, with_border, has_crossing, horizontal_override, vertical_override, crossing_override, overrides_row, overrides_column}
 use Rattle.pg_config.specs.Config.{Config, missing_if, has_horizontal, has_vertical, get_horizontal, get_vertical, get_intersection, get_horizontal_color, get_vertical_color, get_intersection_color}
 use Rattle.pg_config.proofs.Lookups.{or_swap, value_at-with_some, any-with_some}
-use Rattle.pg_laws.specs.SettingLaws.{border_horizontal, border_vertical, border_crossing, border_row, border_column, ABorderOverridesItsPlaces, ABorderIsAnswered, ABorderOfColorsIsAnswered}
+use Rattle.pg_laws.specs.SettingLaws.{border_horizontal, border_vertical, border_crossing, border_row, border_column, ABorderHasItsParts, ABorderOverridesItsPlaces, ABorderIsAnswered, ABorderOfColorsIsAnswered}
 
 -- ---- overrides
 
@@ -45,23 +45,27 @@ module _ {V : Type 0} (old : Option V) where
   four false false true d x y z w ab ac ad bc bd cd = rw cd refl
   four false false false d x y z w ab ac ad bc bd cd = refl
 
+-- the places round the cell at p have these values
+abbrev round : {G : Type 0} → Position → Border G → Overrides G → Overrides G
+round p b o = with_round p (p.row + 1) (p.col + 1) b o
+
 module _ {G : Type 0} (p : Position) (b : Border G) (o : Overrides G) (q : Position) where
-  border_overrides-horizontal : horizontal_override (with_border p b o) q ≡ option_or (border_horizontal p b q) (horizontal_override o q)
-  unfolding horizontal_override with_border
+  border_overrides-horizontal : horizontal_override (round p b o) q ≡ option_or (border_horizontal p b q) (horizontal_override o q)
+  unfolding horizontal_override
   border_overrides-horizontal =
       with_some-is place-laws _ _ _ b.bottom _ (at-key q (p.row + 1) p.col)
       ∙ ap (λ old. option_or (if is_at q (p.row + 1) p.col then b.bottom else None) old) (with_some-is place-laws _ _ _ b.top o.horizontals (at-key q p.row p.col))
       ∙ two _ (is_at q p.row p.col) (is_at q (p.row + 1) p.col) b.top b.bottom (grind (arith, nat_tests))
 
-  border_overrides-vertical : vertical_override (with_border p b o) q ≡ option_or (border_vertical p b q) (vertical_override o q)
-  unfolding vertical_override with_border
+  border_overrides-vertical : vertical_override (round p b o) q ≡ option_or (border_vertical p b q) (vertical_override o q)
+  unfolding vertical_override
   border_overrides-vertical =
       with_some-is columns-laws _ _ _ b.right _ (at-turned q p.row (p.col + 1))
       ∙ ap (λ old. option_or (if is_at q p.row (p.col + 1) then b.right else None) old) (with_some-is columns-laws _ _ _ b.left o.verticals (at-turned q p.row p.col))
       ∙ two _ (is_at q p.row p.col) (is_at q p.row (p.col + 1)) b.left b.right (grind (arith, nat_tests))
 
-  border_overrides-crossing : crossing_override (with_border p b o) q ≡ option_or (border_crossing p b q) (crossing_override o q)
-  unfolding crossing_override with_border
+  border_overrides-crossing : crossing_override (round p b o) q ≡ option_or (border_crossing p b q) (crossing_override o q)
+  unfolding crossing_override
   border_overrides-crossing =
       with_some-is place-laws _ _ _ b.bottom_right _ (at-key q (p.row + 1) (p.col + 1))
       ∙ ap (λ old. option_or (if is_at q (p.row + 1) (p.col + 1) then b.bottom_right else None) old)
@@ -73,10 +77,11 @@ module _ {G : Type 0} (p : Position) (b : Border G) (o : Overrides G) (q : Posit
       ∙ four _ (is_at q p.row p.col) (is_at q p.row (p.col + 1)) (is_at q (p.row + 1) p.col) (is_at q (p.row + 1) (p.col + 1)) b.top_left b.top_right b.bottom_left b.bottom_right (grind (arith, nat_tests)) (grind (arith, nat_tests)) (grind (arith, nat_tests)) (grind (arith, nat_tests)) (grind (arith, nat_tests)) (grind (arith, nat_tests))
 
 pub border_overrides : {G : Type 0} → ABorderOverridesItsPlaces G
+unfolding with_border
 border_overrides p b old q = record {
-  horizontal = border_overrides-horizontal p b old q;
-  vertical = border_overrides-vertical p b old q;
-  crossing = border_overrides-crossing p b old q;
+  horizontal = border_overrides-horizontal p (on_lines p b) old q;
+  vertical = border_overrides-vertical p (on_lines p b) old q;
+  crossing = border_overrides-crossing p (on_lines p b) old q;
 }
 
 -- ---- lines
@@ -95,8 +100,8 @@ column-shuffle false true l r tl tr bl br lines crossings apart = grind arith
 column-shuffle false false l r tl tr bl br lines crossings apart = refl
 
 module _ {G : Type 0} (p : Position) (b : Border G) (o : Overrides G) where
-  row-said : (r : ℕ) → overrides_row (with_border p b o) r ≡ (border_row p b r || overrides_row o r)
-  unfolding overrides_row with_border
+  row-said : (r : ℕ) → overrides_row (round p b o) r ≡ (border_row p b r || overrides_row o r)
+  unfolding overrides_row
   row-said r =
       rw (row-some (p.row + 1) p.col b.bottom (with_some by_place p b.top o.horizontals), row-some p.row p.col b.top o.horizontals, row-some (p.row + 1) (p.col + 1) b.bottom_right (with_some by_place (at (p.row + 1) p.col) b.bottom_left (with_some by_place (at p.row (p.col + 1)) b.top_right (with_some by_place p b.top_left o.crossings))), row-some (p.row + 1) p.col b.bottom_left (with_some by_place (at p.row (p.col + 1)) b.top_right (with_some by_place p b.top_left o.crossings)), row-some p.row (p.col + 1) b.top_right (with_some by_place p b.top_left o.crossings), row-some p.row p.col b.top_left o.crossings)
       (row-shuffle (p.row == r) (p.row + 1 == r) (is_some b.top) (is_some b.bottom) (is_some b.top_left) (is_some b.top_right) (is_some b.bottom_left) (is_some b.bottom_right) (has_key (in_row r) o.horizontals) (has_key (in_row r) o.crossings) (grind (arith, nat_tests)))
@@ -104,8 +109,8 @@ module _ {G : Type 0} (p : Position) (b : Border G) (o : Overrides G) where
       row-some : (a c : ℕ) (v : Option G) (es : List (Position × G)) → has_key (in_row r) (with_some by_place (at a c) v es) ≡ (((a == r) && is_some v) || has_key (in_row r) es)
       row-some a c v es = any-with_some place-laws (in_row r) (at a c) v es
 
-  column-said : (c : ℕ) → overrides_column (with_border p b o) c ≡ (border_column p b c || overrides_column o c)
-  unfolding overrides_column with_border
+  column-said : (c : ℕ) → overrides_column (round p b o) c ≡ (border_column p b c || overrides_column o c)
+  unfolding overrides_column
   column-said c =
       rw (first-some (p.col + 1) p.row b.right (with_some by_columns (column_place p) b.left o.verticals), first-some p.col p.row b.left o.verticals, second-some (p.row + 1) (p.col + 1) b.bottom_right (with_some by_place (at (p.row + 1) p.col) b.bottom_left (with_some by_place (at p.row (p.col + 1)) b.top_right (with_some by_place p b.top_left o.crossings))), second-some (p.row + 1) p.col b.bottom_left (with_some by_place (at p.row (p.col + 1)) b.top_right (with_some by_place p b.top_left o.crossings)), second-some p.row (p.col + 1) b.top_right (with_some by_place p b.top_left o.crossings), second-some p.row p.col b.top_left o.crossings)
       (column-shuffle (p.col == c) (p.col + 1 == c) (is_some b.left) (is_some b.right) (is_some b.top_left) (is_some b.top_right) (is_some b.bottom_left) (is_some b.bottom_right) (has_key (in_column c) o.verticals) (has_crossing c o.crossings) (grind (arith, nat_tests)))
@@ -140,7 +145,7 @@ in_order None None None was is more = sym more
 
 module _ (p : Position) (b : Border ℕ) (config : Config) (q : Position) (rows columns : ℕ) where
   abbrev new : Config
-  new = record config { overrides = with_border p b config.overrides }
+  new = record config { overrides = round p b config.overrides }
 
   border_lines-row : (r : ℕ) → has_horizontal new r rows ≡ (border_row p b r || has_horizontal config r rows)
   unfolding has_horizontal
@@ -178,12 +183,13 @@ module _ (p : Position) (b : Border ℕ) (config : Config) (q : Position) (rows 
       ∙ in_order (border_crossing p b q) _ _ _ _ (missing-more config _ _ both-stay)
 
 pub border_glyphs : ABorderIsAnswered
+unfolding with_border
 border_glyphs p b config q rows columns = record {
-  row_line = border_lines-row p b config q rows columns q.row;
-  column_line = border_lines-column p b config q rows columns q.col;
-  horizontal = glyph-horizontal p b config q rows columns;
-  vertical = glyph-vertical p b config q rows columns;
-  crossing = glyph-crossing p b config q rows columns;
+  row_line = border_lines-row p (on_lines p b) config q rows columns q.row;
+  column_line = border_lines-column p (on_lines p b) config q rows columns q.col;
+  horizontal = glyph-horizontal p (on_lines p b) config q rows columns;
+  vertical = glyph-vertical p (on_lines p b) config q rows columns;
+  crossing = glyph-crossing p (on_lines p b) config q rows columns;
 }
 
 -- ---- colours
@@ -193,9 +199,20 @@ or-assoc (Some v) b c = refl
 or-assoc None b c = refl
 
 pub border_colors : ABorderOfColorsIsAnswered
-unfolding get_horizontal_color get_vertical_color get_intersection_color
-border_colors p b config q rows columns = record {
-  horizontal = rw (border_overrides-horizontal p b config.color_overrides q) (or-assoc (border_horizontal p b q) _ _);
-  vertical = rw (border_overrides-vertical p b config.color_overrides q) (or-assoc (border_vertical p b q) _ _);
-  crossing = rw (border_overrides-crossing p b config.color_overrides q) (or-assoc (border_crossing p b q) _ _);
-}
+unfolding get_horizontal_color get_vertical_color get_intersection_color with_border
+border_colors p b config q rows columns =
+    let parts = on_lines p b in
+    record {
+      horizontal = rw (border_overrides-horizontal p parts config.color_overrides q) (or-assoc (border_horizontal p parts q) _ _);
+      vertical = rw (border_overrides-vertical p parts config.color_overrides q) (or-assoc (border_vertical p parts q) _ _);
+      crossing = rw (border_overrides-crossing p parts config.color_overrides q) (or-assoc (border_crossing p parts q) _ _);
+    }
+
+-- ---- parts
+
+-- round a cell that has a line below it and one right of it, a border has all its parts
+pub border_parts : {G : Type 0} → ABorderHasItsParts G
+border_parts p b row col =
+    let below : nat_lt p.row (2 ^ 64 - 1) ≡ true = grind (arith, nat_tests, row) in
+    let right : nat_lt p.col (2 ^ 64 - 1) ≡ true = grind (arith, nat_tests, col) in
+    rw (below, right) refl

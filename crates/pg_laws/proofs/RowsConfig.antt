@@ -1,5 +1,5 @@
 -- What a configuration answers after some settings, each worked out by hand.
-use Rattle.std.proofs.Common.{◌≡◌, ℕ, List, [], ◌∷◌, refl, Some, None, true, false, Bool}
+use Rattle.std.proofs.Common.{◌≡◌, ℕ, ◌-◌, ◌^◌, List, [], ◌∷◌, refl, Some, None, true, false, Bool}
 use Rattle.pg_layout.specs.declared.position.Entity.TheVariants.{Global, Row, Column, Cell}
 use Rattle.pg_layout.specs.declared.position.Position.{Position}
 use Rattle.pg_layout.specs.declared.sides.Offset.TheVariants.{Start, End}
@@ -7,6 +7,7 @@ use Rattle.pg_layout.specs.declared.alignment.AlignmentHorizontal.TheVariants as
 use Rattle.pg_layout.specs.declared.alignment.AlignmentVertical.TheVariants as down
 use Rattle.pg_layout.specs.declared.borders.Borders.{Borders}
 use Rattle.pg_layout.specs.Borders.{no_borders, no_border, has_top, has_bottom, has_left, has_right, has_inner_horizontal, has_inner_vertical}
+use Rattle.pg_layout.specs.Keys.{column_place}
 use Rattle.pg_layout.specs.Position.{at}
 use Rattle.pg_config.specs.Settings.{Settings, no_settings, setting_of, with_setting, is_set}
 use Rattle.pg_config.specs.Overrides.{Overrides, no_overrides, with_border, horizontal_override, vertical_override, crossing_override}
@@ -370,6 +371,25 @@ a_border_without_a_glyph_leaves_its_place : horizontal_override (with_border (at
 unfolding config_words
 a_border_without_a_glyph_leaves_its_place = refl
 
+-- no line stands behind the greatest number, so of the border of a cell there only the parts above it and left of it have places
+abbrev last_place : Position
+last_place = at (2 ^ 64 - 1) (2 ^ 64 - 1)
+
+abbrev last_border : Overrides ℕ
+last_border = with_border last_place (record { top = Some 1; bottom = Some 2; left = Some 3; right = Some 4; top_left = Some 5; top_right = Some 6; bottom_left = Some 7; bottom_right = Some 8 }) no_overrides
+
+a_border_at_the_greatest_numbers : last_border ≡ record { horizontals = (last_place, 1) ∷ []; verticals = (column_place last_place, 3) ∷ []; crossings = (last_place, 5) ∷ [] }
+unfolding config_words
+a_border_at_the_greatest_numbers = refl
+
+-- in the row before it has its parts below
+abbrev border_before_the_last : Overrides ℕ
+border_before_the_last = with_border (at (2 ^ 64 - 2) 0) (record no_border { bottom = Some 2; bottom_right = Some 8 }) no_overrides
+
+a_border_before_the_greatest_row : border_before_the_last ≡ record { horizontals = (at (2 ^ 64 - 1) 0, 2) ∷ []; verticals = []; crossings = (at (2 ^ 64 - 1) 1, 8) ∷ [] }
+unfolding config_words
+a_border_before_the_greatest_row = refl
+
 -- ---- which lines are there
 
 abbrev overridden : Position → Config
@@ -439,6 +459,10 @@ the_start_comes_first_also_where_the_end_is_later = refl
 no_offset_between : lookup_offset two_offsets (at 0 1) 3 5 ≡ None
 unfolding config_words
 no_offset_between = refl
+
+no_offset_behind_the_last_glyph : lookup_offset two_offsets (at 0 1) 2 2 ∷ lookup_offset two_offsets (at 0 1) 0 0 ∷ [] ≡ None ∷ None ∷ []
+unfolding config_words
+no_offset_behind_the_last_glyph = refl
 
 no_offset_at_another_place : lookup_offset two_offsets (at 1 0) 2 5 ≡ None
 unfolding config_words

@@ -1,5 +1,5 @@
 -- Laws of what is answered, in words of their own.
-use Rattle.std.specs.Prelude.{◌≡◌, ℕ, ◌+◌, ◌<◌, Bool, true, false, not, ◌&&◌, ◌||◌, ◌==◌, nat_lt, List, Option, Some, None, is_some, if◌then◌else◌}
+use Rattle.std.specs.Prelude.{◌≡◌, ℕ, ◌+◌, ◌-◌, ◌^◌, ◌<◌, Bool, true, false, not, ◌&&◌, ◌||◌, ◌==◌, nat_lt, List, Option, Some, None, is_some, if◌then◌else◌}
 use Rattle.std.specs.List.{fold, list_any}
 use Rattle.std.specs.Option.{option_or}
 use Rattle.pg_layout.specs.Keys.{by_columns, column_place}
@@ -14,7 +14,7 @@ use Rattle.pg_layout.specs.Colors.{Color}
 use Rattle.pg_layout.specs.Places.{IsAscending, before, without_place}
 use Rattle.pg_layout.specs.Position.{holds, is_at}
 use Rattle.pg_config.specs.Settings.{Settings, setting_of, with_setting}
-use Rattle.pg_config.specs.Overrides.{Overrides, with_border, with_row_line, horizontal_override, vertical_override, crossing_override}
+use Rattle.pg_config.specs.Overrides.{Overrides, on_lines, with_border, with_row_line, horizontal_override, vertical_override, crossing_override}
 use Rattle.pg_config.specs.Offsets.{Offsets, offset_at, with_offset, lookup_offset, is_offset_at}
 use Rattle.pg_config.specs.Spans.{Span, span_size, rect_rows, rect_columns, with_column_span, with_row_span, unless_one, get_column_span, get_row_span, in_span, owner, is_visible}
 use Rattle.pg_config.specs.Config.{Config, missing_if, has_horizontal, has_vertical, get_horizontal, get_vertical, get_intersection, get_horizontal_color, get_vertical_color, get_intersection_color, has_padding_color, has_justification, has_offset_chars, default_config}
@@ -65,31 +65,35 @@ module _ {G : Type 0} (p : Position) (b : Border G) where
       ((p.col == c) && (is_some b.left || (is_some b.top_left || is_some b.bottom_left)))
       || ((p.col + 1 == c) && (is_some b.right || (is_some b.top_right || is_some b.bottom_right)))
 
--- The border of the cell at p is set: the places round the cell are overridden with what it has for them. All others, and those that it lacks, have what they had.
+-- It has all its parts where there is a line below the cell and one right of it, as for each cell of a table.
+abbrev pub ABorderHasItsParts : Type 0 → Type 0
+ABorderHasItsParts G = (p : Position) (b : Border G) → p.row < 2 ^ 64 - 1 → p.col < 2 ^ 64 - 1 → on_lines p b ≡ b
+
+-- The border of the cell at p is set: the places round the cell are overridden with what it has for them, as far as they stand on lines that there are. All others, and those that it lacks, have what they had.
 pub record BorderOverrides {G : Type 0} (p : Position) (b : Border G) (old : Overrides G) (q : Position) : Type 0 where
-  pub horizontal : horizontal_override (with_border p b old) q ≡ option_or (border_horizontal p b q) (horizontal_override old q)
-  pub vertical : vertical_override (with_border p b old) q ≡ option_or (border_vertical p b q) (vertical_override old q)
-  pub crossing : crossing_override (with_border p b old) q ≡ option_or (border_crossing p b q) (crossing_override old q)
+  pub horizontal : horizontal_override (with_border p b old) q ≡ option_or (border_horizontal p (on_lines p b) q) (horizontal_override old q)
+  pub vertical : vertical_override (with_border p b old) q ≡ option_or (border_vertical p (on_lines p b) q) (vertical_override old q)
+  pub crossing : crossing_override (with_border p b old) q ≡ option_or (border_crossing p (on_lines p b) q) (crossing_override old q)
 
 abbrev pub ABorderOverridesItsPlaces : Type 0 → Type 0
 ABorderOverridesItsPlaces G = (p : Position) (b : Border G) (old : Overrides G) (q : Position) → BorderOverrides p b old q
 
 -- So a line is there if it was, or if the border has a glyph for it. The glyph of a place is what the border has for it, else what it was, else the missing glyph if its line is there now.
 pub record BorderGlyphs (p : Position) (b : Border ℕ) (old new : Config) (q : Position) (rows columns : ℕ) : Type 0 where
-  pub row_line : has_horizontal new q.row rows ≡ (border_row p b q.row || has_horizontal old q.row rows)
-  pub column_line : has_vertical new q.col columns ≡ (border_column p b q.col || has_vertical old q.col columns)
-  pub horizontal : get_horizontal new q rows ≡ option_or (border_horizontal p b q) (option_or (get_horizontal old q rows) (missing_if old (has_horizontal new q.row rows)))
-  pub vertical : get_vertical new q columns ≡ option_or (border_vertical p b q) (option_or (get_vertical old q columns) (missing_if old (has_vertical new q.col columns)))
-  pub crossing : get_intersection new q rows columns ≡ option_or (border_crossing p b q) (option_or (get_intersection old q rows columns) (missing_if old (has_horizontal new q.row rows && has_vertical new q.col columns)))
+  pub row_line : has_horizontal new q.row rows ≡ (border_row p (on_lines p b) q.row || has_horizontal old q.row rows)
+  pub column_line : has_vertical new q.col columns ≡ (border_column p (on_lines p b) q.col || has_vertical old q.col columns)
+  pub horizontal : get_horizontal new q rows ≡ option_or (border_horizontal p (on_lines p b) q) (option_or (get_horizontal old q rows) (missing_if old (has_horizontal new q.row rows)))
+  pub vertical : get_vertical new q columns ≡ option_or (border_vertical p (on_lines p b) q) (option_or (get_vertical old q columns) (missing_if old (has_vertical new q.col columns)))
+  pub crossing : get_intersection new q rows columns ≡ option_or (border_crossing p (on_lines p b) q) (option_or (get_intersection old q rows columns) (missing_if old (has_horizontal new q.row rows && has_vertical new q.col columns)))
 
 abbrev pub ABorderIsAnswered : Type 0
 ABorderIsAnswered = (p : Position) (b : Border ℕ) (config : Config) (q : Position) (rows columns : ℕ) → BorderGlyphs p b config (record config { overrides = with_border p b config.overrides }) q rows columns
 
 -- The colour of a place is what the border of colours has for it, else what it was.
 pub record BorderColors (p : Position) (b : Border Color) (old new : Config) (q : Position) (rows columns : ℕ) : Type 0 where
-  pub horizontal : get_horizontal_color new q rows ≡ option_or (border_horizontal p b q) (get_horizontal_color old q rows)
-  pub vertical : get_vertical_color new q columns ≡ option_or (border_vertical p b q) (get_vertical_color old q columns)
-  pub crossing : get_intersection_color new q rows columns ≡ option_or (border_crossing p b q) (get_intersection_color old q rows columns)
+  pub horizontal : get_horizontal_color new q rows ≡ option_or (border_horizontal p (on_lines p b) q) (get_horizontal_color old q rows)
+  pub vertical : get_vertical_color new q columns ≡ option_or (border_vertical p (on_lines p b) q) (get_vertical_color old q columns)
+  pub crossing : get_intersection_color new q rows columns ≡ option_or (border_crossing p (on_lines p b) q) (get_intersection_color old q rows columns)
 
 abbrev pub ABorderOfColorsIsAnswered : Type 0
 ABorderOfColorsIsAnswered = (p : Position) (b : Border Color) (config : Config) (q : Position) (rows columns : ℕ) → BorderColors p b config (record config { color_overrides = with_border p b config.color_overrides; border_colored = true }) q rows columns
@@ -104,13 +108,13 @@ ColumnLinesStay = (config : Config) (p : Position) (rows m n : ℕ) → p.col < 
 
 -- ---- offsets
 
--- A value set at `Start k` is that of glyph k. All other glyphs have what they had.
+-- A value set at `Start k` is that of glyph k, if there is one. All other glyphs have what they had.
 abbrev pub AStartIsAnswered : Type 0 → Type 0
-AStartIsAnswered V = (p : Position) (k : ℕ) (v : V) (old : Offsets V) (q : Position) (i w : ℕ) → lookup_offset (with_offset p (Start k) v old) q i w ≡ (if is_at q p.row p.col && (i == k) then Some v else lookup_offset old q i w)
+AStartIsAnswered V = (p : Position) (k : ℕ) (v : V) (old : Offsets V) (q : Position) (i w : ℕ) → lookup_offset (with_offset p (Start k) v old) q i w ≡ (if nat_lt i w && (is_at q p.row p.col && (i == k)) then Some v else lookup_offset old q i w)
 
 -- A value set at `End k` is that of the glyph with k behind it, unless one was set for it from the start. All other glyphs have what they had.
 abbrev pub AnEndIsAnswered : Type 0 → Type 0
-AnEndIsAnswered V = (p : Position) (k : ℕ) (v : V) (old : Offsets V) (q : Position) (i w : ℕ) → i < w → lookup_offset (with_offset p (End k) v old) q i w ≡ (if is_at q p.row p.col && (i + 1 + k == w) then option_or (offset_at q (Start i) old) (Some v) else lookup_offset old q i w)
+AnEndIsAnswered V = (p : Position) (k : ℕ) (v : V) (old : Offsets V) (q : Position) (i w : ℕ) → lookup_offset (with_offset p (End k) v old) q i w ≡ (if is_at q p.row p.col && (i + 1 + k == w) then option_or (offset_at q (Start i) old) (Some v) else lookup_offset old q i w)
 
 -- Its place is one with an offset from then on. All other places are what they were.
 abbrev pub AnOffsetMarksItsPlace : Type 0 → Type 0

@@ -1,6 +1,6 @@
 //! Laws of what a configuration answers. The functions do nothing: their contracts are the laws.
 
-ghost use Rattle.pg_laws.specs.SettingLaws.{TheLatestCounts, ABorderOverridesItsPlaces, ABorderIsAnswered, ABorderOfColorsIsAnswered, RowLineHorizontals, RowLineCrossings, RowLineVerticals, RowLinesStay, ColumnLinesStay, AStartIsAnswered, AnEndIsAnswered, AnOffsetMarksItsPlace, AColumnSpanIsAnswered, ARowSpanIsAnswered, WhatWasSetIsTold, NothingWasSetAtFirst};
+ghost use Rattle.pg_laws.specs.SettingLaws.{TheLatestCounts, ABorderHasItsParts, ABorderOverridesItsPlaces, ABorderIsAnswered, ABorderOfColorsIsAnswered, RowLineHorizontals, RowLineCrossings, RowLineVerticals, RowLinesStay, ColumnLinesStay, AStartIsAnswered, AnEndIsAnswered, AnOffsetMarksItsPlace, AColumnSpanIsAnswered, ARowSpanIsAnswered, WhatWasSetIsTold, NothingWasSetAtFirst};
 
 /// After a setter, the places that its entity holds have the new value, and all others what they
 /// had before.
@@ -9,9 +9,11 @@ pub fn the_latest_setting_counts<V>()
 {}
 
 /// After the border of a cell is set, the eight places round the cell have the values that the
-/// border has for them. All other places, and those that it lacks, have what they had before.
+/// border has for them: all its parts, where the cell has a line below it and one right of it. All
+/// other places, and those that the border lacks, have what they had before.
 pub fn a_border_overrides_its_places<G>()
-    ensures { ABorderOverridesItsPlaces G }
+    ensures places { ABorderOverridesItsPlaces G }
+    ensures parts { ABorderHasItsParts G }
 {}
 
 /// So the lines and crossings round the cell answer the glyphs and colours of its border, and a

@@ -56,7 +56,7 @@ unfolding is_offset_at lookup_offset
 lookup_offset-none o p i w none =
     let both = or_parts (has_key (of_place p) o.from_start) (has_key (of_place p) o.from_end) none in
     let its : is_at p p.row p.col ≡ true = grind (arith, nat_tests) in
-    rw (value_at-no_key glyph-laws (of_place p) (glyph_at p i) o.from_start its both.0) (value_at-no_key glyph-laws (of_place p) (glyph_at p (w - i - 1)) o.from_end its both.1)
+    rw (value_at-no_key glyph-laws (of_place p) (glyph_at p i) o.from_start its both.0, value_at-no_key glyph-laws (of_place p) (glyph_at p (w - i - 1)) o.from_end its both.1) refl
 
 border_glyph-plain : (config : Config) (p : Position) (w g : ℕ) (color : Option Color) (i : ℕ) → is_overridden_horizontal config p ≡ false → border_glyph config p w g color i ≡ glyph g color None
 unfolding is_overridden_horizontal

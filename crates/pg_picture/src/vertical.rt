@@ -1,6 +1,5 @@
 //! A glyph between two cells.
 
-ghost use Rattle.std.specs.Prelude.{◌<◌};
 ghost use Rattle.pg_layout.specs.Colors.{lent_color};
 ghost use Rattle.pg_picture.specs.Appending.{Appends};
 ghost use Rattle.pg_picture.specs.Pieces.{glyph_piece, written};
@@ -32,8 +31,7 @@ pub fn push_vertical<C: ANSIFmt, A: Allocator>(
 /// of the `height` lines of its row: the glyph set for that line, else the border's glyph, in the
 /// border's colour, else in the colour set for that line; nothing where no glyph stands.
 ///
-/// The line is below the height, which a comparison tells. An error comes only where the buffer's
-/// room is too small; the buffer then holds a beginning.
+/// An error comes only where the buffer's room is too small; the buffer then holds a beginning.
 #[inline(always)]
 pub fn push_vertical_at<B: Allocator, A: Allocator>(
     buf: &mut String<A>,
@@ -43,7 +41,6 @@ pub fn push_vertical_at<B: Allocator, A: Allocator>(
     pos: Position,
     line: usize,
 ) -> Result<(), AllocError>
-    requires { line < height }
     ensures { Appends buf.old buf.new result (written (vertical_at config.now columns height pos line)) }
 {
     let Some(border) = config.get_vertical(pos, columns) else {

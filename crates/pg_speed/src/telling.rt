@@ -1,7 +1,5 @@
 //! What a table is told of single cells and rows.
 
-ghost use Rattle.std.specs.Prelude.{◌<◌};
-
 use crate::case::{Order, Table, Telling};
 use crate::settings::color_cell;
 use pg_config::SpannedConfig;
@@ -107,9 +105,7 @@ fn tell_borders_of_row<A: Allocator + Copy>(
     config: &mut SpannedConfig<A>,
     row: usize,
     columns: usize,
-) -> Result<(), AllocError>
-    requires { row < usize.MAX }
-{
+) -> Result<(), AllocError> {
     for column in 0..columns {
         let glyph = ['#', '*', '%'][(row % 3 + column % 3) % 3];
         config.set_border(Position::new(row, column), border(glyph))?;

@@ -1,7 +1,5 @@
 //! The words of a line.
 
-ghost use Rattle.std.specs.Prelude.{◌<◌, IfOk};
-
 use crate::borders::borders_told;
 use crate::fault::ToldFault;
 use crate::parts::{color_of, glyph_of, indent_of};
@@ -74,16 +72,10 @@ impl<'a> Words<'a> {
         number_of(self.last()?)
     }
 
-    /// The next two words as a row and a column, neither of which is `usize::MAX`.
-    pub fn place(&mut self) -> Result<Position, ToldFault>
-        ensures row { IfOk result (λ pos. pos.row < usize.MAX) }
-        ensures col { IfOk result (λ pos. pos.col < usize.MAX) }
-    {
+    /// The next two words as a row and a column.
+    pub fn place(&mut self) -> Result<Position, ToldFault> {
         let row = self.number()?;
         let col = self.number()?;
-        if row == usize::MAX || col == usize::MAX {
-            return Err(ToldFault::Unknown);
-        }
         Ok(Position::new(row, col))
     }
 

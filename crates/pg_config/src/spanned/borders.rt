@@ -1,9 +1,9 @@
 //! The border lines: which are there, and their glyphs and colours.
 
-ghost use Rattle.std.specs.Prelude.{◌≡◌, ◌<◌, ◌≤◌, ◌+◌, ◌^◌, true, count_by, option_map, OnOk, OnErr};
+ghost use Rattle.std.specs.Prelude.{◌≡◌, ◌<◌, ◌≤◌, ◌+◌, ◌^◌, true, false, count_by, option_map, OnOk, OnErr, IsOk};
 ghost use Rattle.std.specs.List.{range_with_len};
-ghost use Rattle.pg_layout.specs.Borders.{has_side, ends, horizontal_glyph, vertical_glyph, crossing_glyph};
-ghost use Rattle.pg_config.specs.Overrides.{with_border, with_row_line};
+ghost use Rattle.pg_layout.specs.Borders.{no_border, has_side, ends, horizontal_glyph, vertical_glyph, crossing_glyph};
+ghost use Rattle.pg_config.specs.Overrides.{on_lines, with_border, has_glyph, with_row_line};
 ghost use Rattle.pg_config.specs.Config.{missing_if, count_horizontal, count_vertical, has_horizontal, has_vertical, get_horizontal, get_vertical, get_intersection, get_horizontal_color, get_vertical_color, get_intersection_color, has_equal_row_lines, has_column_lines};
 
 use crate::spanned::SpannedConfig;
@@ -39,17 +39,16 @@ impl<A: Allocator> SpannedConfig<A> {
         self.missing
     }
 
-    /// Overrides the glyphs of the eight places round a cell by those that this border has.
+    /// Overrides the glyphs of the eight places round a cell by those that this border has. One for a
+    /// place behind line `usize::MAX`, which no table has, is left out.
     ///
-    /// The row and the column of the place are below `usize::MAX`: a comparison tells it, and numbers
-    /// that are written out are.
+    /// Where it has no glyph for these places, no memory is asked for.
     pub fn set_border(&mut self, pos: Position, border: Border<char>) -> Result<(), AllocError>
     where
         A: Clone,
-        requires row { pos.row < usize.MAX }
-        requires col { pos.col < usize.MAX }
         ensures ok { OnOk result (self.new ≡ record self.old { overrides = with_border pos border self.old.overrides }) }
         ensures err { OnErr result (self.new ≡ self.old) }
+        ensures nothing { on_lines pos border ≡ no_border → IsOk result }
     {
         self.overrides.set_border(pos, border)
     }
@@ -70,6 +69,7 @@ impl<A: Allocator> SpannedConfig<A> {
         A: Clone,
         ensures ok { OnOk result (self.new ≡ record self.old { overrides = with_row_line row columns line self.old.overrides }) }
         ensures err { OnErr result (self.new ≡ self.old) }
+        ensures nothing { has_glyph columns line ≡ false → IsOk result }
     {
         self.overrides.set_row_line(row, columns, line)
     }
@@ -230,10 +230,10 @@ impl<A: Allocator> SpannedConfig<A> {
         self.border_colored = true;
     }
 
-    /// Overrides the colours of the eight places round a cell by those that this border has.
+    /// Overrides the colours of the eight places round a cell by those that this border has. One for
+    /// a place behind line `usize::MAX`, which no table has, is left out.
     ///
-    /// The row and the column of the place are below `usize::MAX`: a comparison tells it, and numbers
-    /// that are written out are.
+    /// Where it has no colour for these places, no memory is asked for.
     pub fn set_border_color(
         &mut self,
         pos: Position,
@@ -241,10 +241,9 @@ impl<A: Allocator> SpannedConfig<A> {
     ) -> Result<(), AllocError>
     where
         A: Clone,
-        requires row { pos.row < usize.MAX }
-        requires col { pos.col < usize.MAX }
         ensures ok { OnOk result (self.new ≡ record self.old { color_overrides = with_border pos border self.old.color_overrides; border_colored = true }) }
         ensures err { OnErr result (self.new ≡ self.old) }
+        ensures nothing { on_lines pos border ≡ no_border → IsOk result }
     {
         self.color_overrides.set_border(pos, border)?;
         self.border_colored = true;

@@ -1,6 +1,6 @@
 //! Single glyphs of horizontals and verticals, and their colours.
 
-ghost use Rattle.std.specs.Prelude.{◌≡◌, ◌<◌, option_map, OnOk, OnErr, IsOk, IsSome};
+ghost use Rattle.std.specs.Prelude.{◌≡◌, option_map, OnOk, OnErr, IsOk, IsSome};
 ghost use Rattle.pg_config.specs.Offsets.{offset_at, with_offset, lookup_offset};
 ghost use Rattle.pg_config.specs.Config.{is_overridden_horizontal, has_offset_chars};
 
@@ -26,9 +26,8 @@ impl<A: Allocator> SpannedConfig<A> {
     }
 
     /// The glyph that was set for glyph `i` of the `w` columns of a horizontal: counted from its
-    /// start, else from its end. `i` is below `w`, which a comparison tells.
+    /// start, else from its end. None where there is no such glyph.
     pub fn lookup_horizontal_char(&self, pos: Position, i: usize, w: usize) -> Option<char>
-        requires { i < w }
         ensures { result ≡ lookup_offset self.now.horizontal_chars pos i w }
     {
         self.horizontal_chars.lookup(pos, i, w).copied()
@@ -51,9 +50,8 @@ impl<A: Allocator> SpannedConfig<A> {
     }
 
     /// The colour that was set for glyph `i` of the `w` columns of a horizontal: counted from its
-    /// start, else from its end. `i` is below `w`, which a comparison tells.
+    /// start, else from its end. None where there is no such glyph.
     pub fn lookup_horizontal_color(&self, pos: Position, i: usize, w: usize) -> Option<&ANSIBuf<A>>
-        requires { i < w }
         ensures { option_map (λ x. x.now) result ≡ lookup_offset self.now.horizontal_colors pos i w }
     {
         self.horizontal_colors.lookup(pos, i, w)
@@ -76,10 +74,9 @@ impl<A: Allocator> SpannedConfig<A> {
     }
 
     /// The glyph that was set for glyph `i` of the `w` lines of a vertical: counted from its start,
-    /// else from its end. `i` is below `w`, which a comparison tells.
+    /// else from its end. None where there is no such glyph.
     #[inline(always)]
     pub fn lookup_vertical_char(&self, pos: Position, i: usize, w: usize) -> Option<char>
-        requires { i < w }
         ensures { result ≡ lookup_offset self.now.vertical_chars pos i w }
     {
         self.vertical_chars.lookup(pos, i, w).copied()
@@ -102,10 +99,9 @@ impl<A: Allocator> SpannedConfig<A> {
     }
 
     /// The colour that was set for glyph `i` of the `w` lines of a vertical: counted from its start,
-    /// else from its end. `i` is below `w`, which a comparison tells.
+    /// else from its end. None where there is no such glyph.
     #[inline(always)]
     pub fn lookup_vertical_color(&self, pos: Position, i: usize, w: usize) -> Option<&ANSIBuf<A>>
-        requires { i < w }
         ensures { option_map (λ x. x.now) result ≡ lookup_offset self.now.vertical_colors pos i w }
     {
         self.vertical_colors.lookup(pos, i, w)
