@@ -52,9 +52,9 @@ where
     ghost use Rattle.pg_picture.specs.Table.{is_empty};
     ghost use Rattle.pg_grid.specs.IterGrids.{MayBeRead, streamed, told};
 
-    /// Appends the picture of the table, whose records may be read (all records in memory may), and in
-    /// which everything fits: of records in memory [`IterGrid::fits`] is the test, and
-    /// [`IterGrid::print`] the call that makes it first. A table with no rows or no columns appends
+    /// Appends the picture of the table, which fits and whose records may be read (all records in memory
+    /// may): of records in memory [`IterGrid::fits`] is the test, and [`IterGrid::print`] the call that
+    /// makes it first. A table with no rows or no columns appends
     /// nothing, and asks for no memory.
     ///
     /// Where each glyph and each fill takes one column, and no glyph of a column line is missing, all
@@ -128,9 +128,11 @@ where
     ghost use Rattle.pg_grid.specs.IterGrids.{MayBeRead, streamed, told};
     ghost use Rattle.pg_picture.specs.Printed.{PrintsOrNothing};
 
-    /// Whether everything fits in the table: the condition of `build` and `to_string` on its sizes, as
-    /// a test. It answers the first thing that doesn't (`pg_picture::fits::Misfit`), and takes no
-    /// memory. The records stay unread.
+    /// Whether the table fits: its spans, its totals, and in each cell the text's widest line, the side
+    /// paddings and the padding above the text. Lines that a row isn't high enough for are no misfit:
+    /// they are left out. It is the condition of `build` and `to_string` on the table's sizes as a test,
+    /// which answers the first thing that doesn't fit (`pg_picture::fits::Misfit`), and takes no memory.
+    /// The rows stay unread.
     pub fn fits(&self) -> Result<(), Misfit>
         ensures exact { result ≡ unless_misfit (misfit_of (streamed R.Records D.Dimension C.Colors self.now)) }
         ensures fits { IsOk result → misfit_of (streamed R.Records D.Dimension C.Colors self.now) ≡ None }
@@ -138,8 +140,8 @@ where
         table_fits(&self.records, self.config, &self.dimension)
     }
 
-    /// Appends the picture of the table, whose records may be read (all records in memory may), if
-    /// everything fits in it: `fits`, and then `build`.
+    /// Appends the picture of the table, whose records may be read (all records in memory may), if it
+    /// fits: `fits`, and then `build`.
     ///
     /// A table that doesn't fit is refused with what `fits` answers, and the buffer stays as it was.
     /// Where memory is refused, the buffer holds a beginning of the picture behind what it held

@@ -59,8 +59,10 @@ where
     ghost use Rattle.pg_peekable.specs.Grids.{drawn};
     ghost use Rattle.pg_peekable.specs.Inside.Drawn.{CanDraw, IsFull, IsShapeOf};
 
-    /// Whether everything fits in the table: the condition of `build` and `to_string`, as a test. It
-    /// answers the first thing that doesn't (`pg_picture::fits::Misfit`), and takes no memory.
+    /// Whether the table fits: its spans, its totals, and in each cell the text's widest line, the side
+    /// paddings and the padding above the text. Lines that a row isn't high enough for are no misfit:
+    /// they are left out. It is the condition of `build` and `to_string` as a test, which answers the
+    /// first thing that doesn't fit (`pg_picture::fits::Misfit`), and takes no memory.
     pub fn fits(&self) -> Result<(), Misfit>
         ensures exact { result ≡ unless_misfit (misfit_of (drawn R.Records D.Dimension C.Colors self.now)) }
         ensures fits { IsOk result → misfit_of (drawn R.Records D.Dimension C.Colors self.now) ≡ None }
@@ -68,7 +70,7 @@ where
         table_fits(&self.records, self.config, &self.dimension)
     }
 
-    /// Appends the picture of the table, if everything fits in it: `fits`, and then `build`.
+    /// Appends the picture of the table, if it fits: `fits`, and then `build`.
     ///
     /// A table that doesn't fit is refused with what `fits` answers, and the buffer stays as it was.
     /// Where memory is refused, the buffer holds a beginning of the picture behind what it held
@@ -83,8 +85,8 @@ where
         Ok(())
     }
 
-    /// The picture of the table as a text of its own, if everything fits in it, as `print` appends it.
-    /// A table with no rows or no columns asks for no memory.
+    /// The picture of the table as a text of its own, if the table fits, as `print` appends it. A table
+    /// with no rows or no columns asks for no memory.
     pub fn text<A: Allocator>(&self, alloc: A) -> Result<String<A>, PrintFault>
         ensures misfit { (m : _) → (result ≡ Err (PrintFault.Misfit m)) ↔ (misfit_of (drawn R.Records D.Dimension C.Colors self.now) ≡ Some m) }
         ensures text { IfOk result (λ text. string_bytes text ≡ picture Known (drawn R.Records D.Dimension C.Colors self.now)) }
@@ -95,9 +97,9 @@ where
         Ok(text)
     }
 
-    /// Appends the picture of the table, in which everything fits: [`PeekableGrid::fits`] is the test,
-    /// and [`PeekableGrid::print`] the call that makes it first. A table with no rows or no columns
-    /// appends nothing.
+    /// Appends the picture of the table, which fits: [`PeekableGrid::fits`] is the test, and
+    /// [`PeekableGrid::print`] the call that makes it first. A table with no rows or no columns appends
+    /// nothing.
     ///
     /// Where each glyph and each fill takes one column, and no glyph of a column line is missing, all
     /// lines of the body are as wide as the table.
