@@ -81,6 +81,19 @@ default_config = record {
   spans = [];
 }
 
+-- The same configuration, as if no colour had been told. That a glyph was set stays known.
+abbrev pub without_colors : Config → Config
+without_colors c = record c {
+  border_colors = no_borders;
+  color_overrides = no_overrides;
+  border_colored = false;
+  horizontal_colors = no_offsets;
+  vertical_colors = no_offsets;
+  margin_color = filled None;
+  padding_color = no_settings;
+  justification_color = no_settings;
+}
+
 -- ---- settings by entity
 
 unfoldable pub get_padding : Config → Position → Sides Indent

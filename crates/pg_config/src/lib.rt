@@ -2,6 +2,7 @@
 #![tactic(auto)]
 
 mod compact;
+mod entity_colors;
 mod extent;
 mod lines;
 mod noted_places;
@@ -12,5 +13,6 @@ mod spanned;
 mod spans;
 
 pub use crate::compact::CompactConfig;
+pub use crate::entity_colors::EntityColors;
 pub use crate::spanned::SpannedConfig;
 pub use crate::spans::{Span, SpanSize, Spans};

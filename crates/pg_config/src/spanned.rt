@@ -16,6 +16,7 @@ use std::alloc::{AllocError, Allocator, Global};
 use std::marker::Model;
 
 mod borders;
+mod colors;
 mod margins;
 mod offsets;
 mod spans;
@@ -108,7 +109,7 @@ impl<A: Allocator> Model for SpannedConfig<A> {
 }
 
 // No colour at any side.
-fn no_colors<A: Allocator>() -> Sides<Option<ANSIBuf<A>>>
+pub(crate) fn no_colors<A: Allocator>() -> Sides<Option<ANSIBuf<A>>>
     ensures { result ≡ filled None }
 {
     Sides::new(None, None, None, None)

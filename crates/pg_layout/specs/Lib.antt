@@ -7,5 +7,7 @@ pub mod Colors
 pub mod Keys
 pub mod KeyOrders
 pub mod Places
+pub mod Sides
 pub mod Records
 pub mod ColorsMap
+pub mod Terminal

@@ -14,6 +14,7 @@ mod places;
 mod position;
 mod records;
 mod sides;
+mod terminal;
 mod text;
 mod vec_records;
 
@@ -29,6 +30,7 @@ pub use crate::places::Places;
 pub use crate::position::{ColumnPlace, Entity, Position};
 pub use crate::records::{ExactRecords, PeekableRecords, Records};
 pub use crate::sides::{Indent, Offset, Sides};
+pub use crate::terminal::{Color, Hue, Tint};
 pub use crate::text::{
     Lines, count_lines, first_line, get_line, get_line_width, get_lines, get_text_width, is_blank,
     is_plain, trim_line,

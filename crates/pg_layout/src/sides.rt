@@ -1,6 +1,7 @@
 //! The four sides of a cell or a table, and what stands there.
 
 ghost use Rattle.std.specs.Prelude.{◌≡◌, ℕ};
+ghost use Rattle.pg_layout.specs.Sides.{spaces};
 
 /// A run of equal characters: of a padding or a margin.
 #[derive(Debug, Clone, Copy, PartialEq, Eq)]
@@ -68,6 +69,30 @@ impl<T: Copy> Sides<T> {
             top: value,
             bottom: value,
         }
+    }
+}
+
+impl Sides<Indent> {
+    /// Spaces at the left and the right: so many columns at each, and nothing above and below.
+    pub fn horizontal(columns: usize) -> Sides<Indent>
+        ensures { result ≡ spaces columns 0 }
+    {
+        Sides::spaces(columns, 0)
+    }
+
+    /// Spaces above and below: so many lines of them at each, and nothing at the left and the right.
+    pub fn vertical(lines: usize) -> Sides<Indent>
+        ensures { result ≡ spaces 0 lines }
+    {
+        Sides::spaces(0, lines)
+    }
+
+    /// Spaces all round: so many columns at the left and at the right, so many lines above and below.
+    pub fn spaces(columns: usize, lines: usize) -> Sides<Indent>
+        ensures { result ≡ spaces columns lines }
+    {
+        let (aside, above) = (Indent::spaced(columns), Indent::spaced(lines));
+        Sides::new(aside, aside, above, above)
     }
 }
 
