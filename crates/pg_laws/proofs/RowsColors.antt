@@ -1,11 +1,15 @@
--- Pictures with colours and with glyphs by offset, each worked out by hand.
-use Rattle.std.proofs.Common.{◌≡◌, List, [], ◌∷◌, ◌++◌, refl, Some, None, true}
+-- Colours of terminals, and pictures with colours and with glyphs by offset, each worked out by hand.
+use Rattle.std.proofs.Common.{◌≡◌, ℕ, List, [], ◌∷◌, ◌++◌, refl, Some, None, true}
 use Rattle.std.specs.Prelude.{codes}
+use Rattle.std.specs.Fmt.{digits}
 use Rattle.pg_layout.specs.declared.sides.Offset.TheVariants.{Start, End}
 use Rattle.pg_layout.specs.declared.alignment.AlignmentHorizontal.TheVariants as across
 use Rattle.pg_layout.specs.declared.borders.Borders.{Borders}
 use Rattle.pg_layout.specs.Borders.{no_borders, no_border}
 use Rattle.pg_layout.specs.Colors.{Color}
+use Rattle.pg_layout.specs.Terminal.{plain as untold, color_texts}
+use Rattle.pg_layout.specs.declared.terminal.Hue.TheVariants.{Normal, Bright, Palette, Rgb}
+use Rattle.pg_layout.specs.declared.terminal.Tint.TheVariants.{Red, White}
 use Rattle.pg_layout.specs.Position.{at}
 use Rattle.pg_layout.specs.Text.{Text}
 use Rattle.pg_config.specs.Config.{Config}
@@ -18,6 +22,31 @@ use Rattle.pg_picture.specs.Picture.{picture}
 use Rattle.pg_picture.specs.Samples.{table, plain, bordered, indent}
 use Rattle.pg_picture.proofs.Computing.{grid_words}
 use Rattle.pg_laws.specs.Samples.{one, in_colors, color_r, color_b, color_g, for_all}
+
+-- ---- colours of terminals
+
+-- commands, each behind an escape
+abbrev commands : List (List ℕ) → Text
+commands [] = []
+commands (c ∷ cs) = 27 ∷ (c ++ commands cs)
+
+a_red_text_in_bold : color_texts (record untold { text = Some (Normal Red); is_bold = true })
+    ≡ record { prefix = commands (codes "[1m" ∷ codes "[31m" ∷ []); suffix = commands (codes "[39m" ∷ codes "[22m" ∷ []) }
+unfolding digits
+a_red_text_in_bold = refl
+
+a_bright_ground_and_lines_below : color_texts (record untold { behind = Some (Bright White); is_italic = true; is_underlined = true })
+    ≡ record { prefix = commands (codes "[3m" ∷ codes "[4m" ∷ codes "[107m" ∷ []); suffix = commands (codes "[49m" ∷ codes "[24m" ∷ codes "[23m" ∷ []) }
+unfolding digits
+a_bright_ground_and_lines_below = refl
+
+hues_by_number : color_texts (record untold { text = Some (Palette 208); behind = Some (Rgb 0 16 255) })
+    ≡ record { prefix = commands (codes "[38;5;208m" ∷ codes "[48;2;0;16;255m" ∷ []); suffix = commands (codes "[49m" ∷ codes "[39m" ∷ []) }
+unfolding digits
+hues_by_number = refl
+
+nothing_told_writes_nothing : color_texts untold ≡ record { prefix = []; suffix = [] }
+nothing_told_writes_nothing = refl
 
 -- ---- cells
 
