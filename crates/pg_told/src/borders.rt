@@ -5,7 +5,7 @@ use crate::named_places::{set_colors, set_glyphs};
 use crate::words::Words;
 use pg_config::SpannedConfig;
 use pg_layout::{Border, Borders, HorizontalLine};
-use std::alloc::Global;
+use std::alloc::Allocator;
 
 // The borders of a look, by its name.
 fn look_named(name: &str) -> Result<Borders<char>, ToldFault> {
@@ -36,8 +36,8 @@ pub(crate) fn borders_told(words: Words<'_>) -> Result<Borders<char>, ToldFault>
 }
 
 /// Tells of the glyphs of all borders, or of the one that stands for a missing glyph.
-pub(crate) fn tell_borders(
-    config: &mut SpannedConfig,
+pub(crate) fn tell_borders<A: Allocator>(
+    config: &mut SpannedConfig<A>,
     name: &str,
     words: Words<'_>,
 ) -> Result<(), ToldFault> {
@@ -50,9 +50,9 @@ pub(crate) fn tell_borders(
 }
 
 /// Tells of the colours of all borders.
-pub(crate) fn tell_borders_color(
-    config: &mut SpannedConfig,
-    alloc: Global,
+pub(crate) fn tell_borders_color<A: Allocator + Copy>(
+    config: &mut SpannedConfig<A>,
+    alloc: A,
     words: Words<'_>,
 ) -> Result<(), ToldFault> {
     let mut colors = Borders::empty();
@@ -62,8 +62,8 @@ pub(crate) fn tell_borders_color(
 }
 
 /// Tells of the glyphs round a cell.
-pub(crate) fn tell_border(
-    config: &mut SpannedConfig,
+pub(crate) fn tell_border<A: Allocator + Copy>(
+    config: &mut SpannedConfig<A>,
     mut words: Words<'_>,
 ) -> Result<(), ToldFault> {
     let pos = words.place()?;
@@ -73,9 +73,9 @@ pub(crate) fn tell_border(
 }
 
 /// Tells of the colours round a cell.
-pub(crate) fn tell_border_color(
-    config: &mut SpannedConfig,
-    alloc: Global,
+pub(crate) fn tell_border_color<A: Allocator + Copy>(
+    config: &mut SpannedConfig<A>,
+    alloc: A,
     mut words: Words<'_>,
 ) -> Result<(), ToldFault> {
     let pos = words.place()?;
@@ -85,8 +85,8 @@ pub(crate) fn tell_border_color(
 }
 
 /// Tells of the glyphs of a row line, by its row and the number of columns.
-pub(crate) fn tell_row_line(
-    config: &mut SpannedConfig,
+pub(crate) fn tell_row_line<A: Allocator + Copy>(
+    config: &mut SpannedConfig<A>,
     mut words: Words<'_>,
 ) -> Result<(), ToldFault> {
     let row = words.number()?;

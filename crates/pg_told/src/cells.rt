@@ -4,11 +4,11 @@ use crate::fault::ToldFault;
 use crate::words::Words;
 use pg_config::SpannedConfig;
 use pg_layout::ColorsMap;
-use std::alloc::Global;
+use std::alloc::Allocator;
 
 /// Tells of a padding, an alignment or a justification.
-pub(crate) fn tell_cell(
-    config: &mut SpannedConfig,
+pub(crate) fn tell_cell<A: Allocator + Copy>(
+    config: &mut SpannedConfig<A>,
     name: &str,
     mut words: Words<'_>,
 ) -> Result<(), ToldFault> {
@@ -26,8 +26,8 @@ pub(crate) fn tell_cell(
 }
 
 /// Tells what is trimmed, or whether lines are aligned one by one.
-pub(crate) fn tell_switch(
-    config: &mut SpannedConfig,
+pub(crate) fn tell_switch<A: Allocator + Copy>(
+    config: &mut SpannedConfig<A>,
     name: &str,
     mut words: Words<'_>,
 ) -> Result<(), ToldFault> {
@@ -42,9 +42,9 @@ pub(crate) fn tell_switch(
 }
 
 /// Tells of the colours of paddings or of justifications.
-pub(crate) fn tell_color(
-    config: &mut SpannedConfig,
-    alloc: Global,
+pub(crate) fn tell_color<A: Allocator + Copy>(
+    config: &mut SpannedConfig<A>,
+    alloc: A,
     name: &str,
     mut words: Words<'_>,
 ) -> Result<(), ToldFault> {
@@ -59,9 +59,9 @@ pub(crate) fn tell_color(
 
 /// Tells the colour of a cell: its place and what stands before and after its text, as `0 1 <red>|</red>`.
 /// A colour has to be there.
-pub fn tell_color_of_cell(
-    colors: &mut ColorsMap,
-    alloc: Global,
+pub fn tell_color_of_cell<A: Allocator + Copy>(
+    colors: &mut ColorsMap<A>,
+    alloc: A,
     text: &str,
 ) -> Result<(), ToldFault> {
     let mut words = Words::new(text);

@@ -1,6 +1,6 @@
 //! Configurations that are told by lines of words, and what programs need that compare such lines with
 //! what is answered: the lines of an input ([`lines`]), what a line of a file of sections is ([`Line`]),
-//! and a report on all that is wrong ([`report`]).
+//! a report on all that is wrong ([`report`]), and records that don't tell their rows ([`unhinted`]).
 //!
 //! ```text
 //! borders ascii
@@ -35,6 +35,7 @@ mod named_places;
 mod parts;
 mod places;
 pub mod report;
+pub mod unhinted;
 mod words;
 
 pub use crate::cells::tell_color_of_cell;
@@ -43,13 +44,17 @@ pub use crate::line::{Line, texts_of_row};
 pub use crate::named_places::NamedPlaces;
 pub use crate::words::Words;
 use pg_config::SpannedConfig;
-use std::alloc::Global;
+use std::alloc::Allocator;
 
 /// Tells a configuration what a line says, as `padding row 1 2 0 0 0`.
 ///
 /// An error is a line with too few, too many or unknown words, or want of memory: the configuration is
 /// then as it was.
-pub fn tell(config: &mut SpannedConfig, alloc: Global, line: &str) -> Result<(), ToldFault> {
+pub fn tell<A: Allocator + Copy>(
+    config: &mut SpannedConfig<A>,
+    alloc: A,
+    line: &str,
+) -> Result<(), ToldFault> {
     let mut words = Words::new(line);
     let name = words.word()?;
     match name {
@@ -73,9 +78,9 @@ pub fn tell(config: &mut SpannedConfig, alloc: Global, line: &str) -> Result<(),
 }
 
 /// Tells a configuration what these lines say, one after the other, up to the first that is an error.
-pub fn tell_all(
-    config: &mut SpannedConfig,
-    alloc: Global,
+pub fn tell_all<A: Allocator + Copy>(
+    config: &mut SpannedConfig<A>,
+    alloc: A,
     lines: &[&str],
 ) -> Result<(), ToldFault> {
     for line in lines {

@@ -3,12 +3,12 @@
 use crate::fault::ToldFault;
 use crate::words::Words;
 use pg_config::SpannedConfig;
-use std::alloc::Global;
+use std::alloc::Allocator;
 
 /// Tells of the margin, its offsets or its colours.
-pub(crate) fn tell_margin(
-    config: &mut SpannedConfig,
-    alloc: Global,
+pub(crate) fn tell_margin<A: Allocator + Copy>(
+    config: &mut SpannedConfig<A>,
+    alloc: A,
     name: &str,
     words: Words<'_>,
 ) -> Result<(), ToldFault> {

@@ -4,7 +4,7 @@ use crate::fault::ToldFault;
 use crate::parts::{color_of, glyph_of, named};
 use crate::words::Words;
 use pg_layout::{ANSIBuf, Border, Borders, HorizontalLine};
-use std::alloc::Global;
+use std::alloc::Allocator;
 
 /// What has places with names.
 pub trait NamedPlaces<T> {
@@ -82,9 +82,9 @@ pub(crate) fn set_glyphs<P: NamedPlaces<char>>(
 }
 
 /// Gives the places that these words name their colours.
-pub(crate) fn set_colors<P: NamedPlaces<ANSIBuf>>(
+pub(crate) fn set_colors<A: Allocator + Copy, P: NamedPlaces<ANSIBuf<A>>>(
     places: &mut P,
-    alloc: Global,
+    alloc: A,
     words: Words<'_>,
 ) -> Result<(), ToldFault> {
     let Some(parts) = words.rest() else {

@@ -2,7 +2,7 @@
 
 use crate::fault::ToldFault;
 use pg_layout::{ANSIBuf, Indent};
-use std::alloc::Global;
+use std::alloc::Allocator;
 
 /// The glyph that a word stands for, or `None` for none.
 pub(crate) fn glyph_of(word: &str) -> Result<Option<char>, ToldFault> {
@@ -17,7 +17,10 @@ pub(crate) fn glyph_of(word: &str) -> Result<Option<char>, ToldFault> {
 }
 
 /// The colour that a word stands for, or `None` for none.
-pub(crate) fn color_of(alloc: Global, word: &str) -> Result<Option<ANSIBuf>, ToldFault> {
+pub(crate) fn color_of<A: Allocator + Copy>(
+    alloc: A,
+    word: &str,
+) -> Result<Option<ANSIBuf<A>>, ToldFault> {
     if word == "none" {
         return Ok(None);
     }

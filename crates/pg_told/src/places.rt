@@ -3,11 +3,11 @@
 use crate::fault::ToldFault;
 use crate::words::Words;
 use pg_config::SpannedConfig;
-use std::alloc::Global;
+use std::alloc::Allocator;
 
 /// Tells of a span.
-pub(crate) fn tell_span(
-    config: &mut SpannedConfig,
+pub(crate) fn tell_span<A: Allocator + Copy>(
+    config: &mut SpannedConfig<A>,
     name: &str,
     mut words: Words<'_>,
 ) -> Result<(), ToldFault> {
@@ -22,8 +22,8 @@ pub(crate) fn tell_span(
 }
 
 /// Tells of a single glyph.
-pub(crate) fn tell_glyph(
-    config: &mut SpannedConfig,
+pub(crate) fn tell_glyph<A: Allocator + Copy>(
+    config: &mut SpannedConfig<A>,
     name: &str,
     mut words: Words<'_>,
 ) -> Result<(), ToldFault> {
@@ -39,9 +39,9 @@ pub(crate) fn tell_glyph(
 }
 
 /// Tells of the colour of a single glyph.
-pub(crate) fn tell_color(
-    config: &mut SpannedConfig,
-    alloc: Global,
+pub(crate) fn tell_color<A: Allocator + Copy>(
+    config: &mut SpannedConfig<A>,
+    alloc: A,
     name: &str,
     mut words: Words<'_>,
 ) -> Result<(), ToldFault> {

@@ -7,7 +7,7 @@ use pg_layout::{
     ANSIBuf, AlignmentHorizontal, AlignmentVertical, Borders, Entity, Indent, Offset, Position,
     Sides,
 };
-use std::alloc::Global;
+use std::alloc::Allocator;
 
 /// What is left of a line that is read word by word. Words are parted by single spaces.
 ///
@@ -130,12 +130,18 @@ impl<'a> Words<'a> {
     }
 
     /// The last word as a colour, or `None` for none.
-    pub fn last_color(self, alloc: Global) -> Result<Option<ANSIBuf>, ToldFault> {
+    pub fn last_color<A: Allocator + Copy>(
+        self,
+        alloc: A,
+    ) -> Result<Option<ANSIBuf<A>>, ToldFault> {
         color_of(alloc, self.last()?)
     }
 
     /// The last four words as the colours of the sides.
-    pub fn last_colors(self, alloc: Global) -> Result<Sides<Option<ANSIBuf>>, ToldFault> {
+    pub fn last_colors<A: Allocator + Copy>(
+        self,
+        alloc: A,
+    ) -> Result<Sides<Option<ANSIBuf<A>>>, ToldFault> {
         let words = self.last_four()?;
         let left = color_of(alloc, words.left)?;
         let right = color_of(alloc, words.right)?;

@@ -1,0 +1,191 @@
+//! What draws a table, and its calls.
+
+use crate::case::Case;
+use crate::grid::Grid;
+use crate::refusal::Refusal;
+use pg_grid::{CompactGrid, IterGrid, PeekableGrid, PrintFault};
+use pg_layout::{ConstantDimension, VecRecords};
+use pg_table::{NaturalTable, Table};
+use pg_told::unhinted::Unhinted;
+use std::alloc::{Allocator, Global};
+
+/// What draws a table, with its rows.
+#[derive(Clone, Copy)]
+pub(crate) enum Drawn<'r> {
+    /// A grid, at the sizes that are told.
+    Grid(Grid, &'r VecRecords<String>),
+    /// The builder that is lent the rows, at their natural sizes.
+    Lent(&'r VecRecords<String>),
+    /// The builder with rows and settings of its own.
+    Owned(&'r Table<String>),
+}
+
+impl Drawn<'_> {
+    /// The name of its call that tests the table.
+    pub(crate) fn fits_call(self) -> &'static str {
+        match self {
+            Drawn::Grid(Grid::Peekable, _) => "fits of peekable",
+            Drawn::Grid(Grid::Hinted, _) => "fits of hinted",
+            Drawn::Grid(Grid::Unhinted, _) => "fits of unhinted",
+            Drawn::Grid(Grid::Compact, _) => "fits of compact",
+            Drawn::Lent(_) => "fits of lent",
+            Drawn::Owned(_) => "fits of owned",
+        }
+    }
+
+    /// The name of its call that prints behind the text of a buffer.
+    pub(crate) fn print_call(self) -> &'static str {
+        match self {
+            Drawn::Grid(Grid::Peekable, _) => "print of peekable",
+            Drawn::Grid(Grid::Hinted, _) => "print of hinted",
+            Drawn::Grid(Grid::Unhinted, _) => "print of unhinted",
+            Drawn::Grid(Grid::Compact, _) => "print of compact",
+            Drawn::Lent(_) => "print of lent",
+            Drawn::Owned(_) => "print of owned",
+        }
+    }
+
+    /// The name of its call that gives a text.
+    pub(crate) fn text_call(self) -> &'static str {
+        match self {
+            Drawn::Grid(Grid::Peekable, _) => "text of peekable",
+            Drawn::Grid(Grid::Hinted, _) => "text of hinted",
+            Drawn::Grid(Grid::Unhinted, _) => "text of unhinted",
+            Drawn::Grid(Grid::Compact, _) => "text of compact",
+            Drawn::Lent(_) => "text of lent",
+            Drawn::Owned(_) => "text of owned",
+        }
+    }
+}
+
+impl Case<'_> {
+    /// What the test of the table answers. A builder with rows of its own has none.
+    pub(crate) fn fits(&self, drawn: Drawn<'_>) -> Option<Result<(), Refusal>> {
+        let (config, dimension, colors) = (&self.config, &self.dimension, &self.colors);
+        let tested = match drawn {
+            Drawn::Grid(Grid::Peekable, records) => {
+                PeekableGrid::new(records, config, dimension, colors).fits()
+            }
+            Drawn::Grid(Grid::Hinted, records) => {
+                IterGrid::new(records, config, dimension, colors).fits()
+            }
+            Drawn::Grid(Grid::Unhinted, records) => {
+                let records = Unhinted::new(records);
+                IterGrid::new(records, config, dimension, colors).fits()
+            }
+            Drawn::Grid(Grid::Compact, records) => {
+                CompactGrid::new(records, &self.compact, dimension, colors).fits()
+            }
+            Drawn::Lent(records) => {
+                let tested = NaturalTable::new(records, config, colors).fits();
+                return Some(tested.map_err(Refusal::from));
+            }
+            Drawn::Owned(_) => return None,
+        };
+        Some(tested.map_err(Refusal::from))
+    }
+
+    /// Appends the table, with `memory` for all but the buffer.
+    pub(crate) fn print<A: Allocator + Copy, B: Allocator>(
+        &self,
+        memory: A,
+        drawn: Drawn<'_>,
+        buf: &mut String<B>,
+    ) -> Result<(), Refusal> {
+        match drawn {
+            Drawn::Grid(grid, records) => { Ok(self.print_by_grid(memory, grid, records, buf)?) }
+            Drawn::Lent(records) => {
+                let table = NaturalTable::new(records, &self.config, &self.colors);
+                Ok(table.print(memory, buf)?)
+            }
+            Drawn::Owned(table) => Ok(table.print(memory, buf)?),
+        }
+    }
+
+    // Appends the table as a grid prints it.
+    fn print_by_grid<A: Allocator, B: Allocator>(
+        &self,
+        memory: A,
+        grid: Grid,
+        records: &VecRecords<String>,
+        buf: &mut String<B>,
+    ) -> Result<(), PrintFault> {
+        let (config, dimension, colors) = (&self.config, &self.dimension, &self.colors);
+        match grid {
+            Grid::Peekable => PeekableGrid::new(records, config, dimension, colors).print(buf),
+            Grid::Hinted => IterGrid::new(records, config, dimension, colors).print(memory, buf),
+            Grid::Unhinted => {
+                let records = Unhinted::new(records);
+                IterGrid::new(records, config, dimension, colors).print(memory, buf)
+            }
+            Grid::Compact => {
+                CompactGrid::new(records, &self.compact, dimension, colors).print(buf)
+            }
+        }
+    }
+
+    /// The text of the table, whose memory, and all other, is `memory`.
+    pub(crate) fn text<A: Allocator + Copy>(
+        &self,
+        memory: A,
+        drawn: Drawn<'_>,
+    ) -> Result<String<A>, Refusal> {
+        match drawn {
+            Drawn::Grid(grid, records) => Ok(self.text_by_grid(memory, grid, records)?),
+            Drawn::Lent(records) => {
+                let table = NaturalTable::new(records, &self.config, &self.colors);
+                Ok(table.to_string(memory)?)
+            }
+            Drawn::Owned(table) => Ok(table.to_string(memory)?),
+        }
+    }
+
+    // The text of the table as a grid gives it.
+    fn text_by_grid<A: Allocator + Copy>(
+        &self,
+        memory: A,
+        grid: Grid,
+        records: &VecRecords<String>,
+    ) -> Result<String<A>, PrintFault> {
+        let (config, dimension, colors) = (&self.config, &self.dimension, &self.colors);
+        match grid {
+            Grid::Peekable => PeekableGrid::new(records, config, dimension, colors).text(memory),
+            Grid::Hinted => IterGrid::new(records, config, dimension, colors).text(memory),
+            Grid::Unhinted => {
+                let records = Unhinted::new(records);
+                IterGrid::new(records, config, dimension, colors).text(memory)
+            }
+            Grid::Compact => {
+                CompactGrid::new(records, &self.compact, dimension, colors).text(memory)
+            }
+        }
+    }
+
+    /// The natural sizes of the table, if it is drawn at them.
+    pub(crate) fn sizes<A: Allocator + Copy>(
+        &self,
+        memory: A,
+        drawn: Drawn<'_>,
+    ) -> Option<Result<ConstantDimension<A>, Refusal>> {
+        let listed = match drawn {
+            Drawn::Grid(_, _) => return None,
+            Drawn::Lent(records) => {
+                NaturalTable::new(records, &self.config, &self.colors).natural_dimension(memory)
+            }
+            Drawn::Owned(table) => table.natural_dimension(memory),
+        };
+        Some(listed.map_err(Refusal::from))
+    }
+
+    /// How many requests for memory printing makes beside those of the buffer: the streaming grid makes
+    /// one for its open cells, and a table at its natural sizes one for each list of them. Where there
+    /// are no rows or no columns nothing is asked for.
+    pub(crate) fn own_requests(&self, drawn: Drawn<'_>) -> u64 {
+        match drawn {
+            _ if !self.has_cells() => 0,
+            Drawn::Grid(Grid::Peekable | Grid::Compact, _) => 0,
+            Drawn::Grid(Grid::Hinted | Grid::Unhinted, _) => 1,
+            Drawn::Lent(_) | Drawn::Owned(_) => 2,
+        }
+    }
+}

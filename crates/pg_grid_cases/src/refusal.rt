@@ -1,0 +1,97 @@
+//! Tables that aren't drawn.
+
+use crate::case::Case;
+use crate::drawn::Drawn;
+use crate::fault::Fault;
+use pg_grid::{Misfit, PrintFault};
+use pg_table::TableFault;
+use pg_testing::refusing::Refusing;
+use pg_told::Words;
+use pg_told::report::Report;
+use std::alloc::AllocError;
+
+/// What a buffer holds before, which is compared byte by byte.
+const KEPT: &str = "log:\u{e9}\n";
+
+/// Why a table isn't drawn.
+#[derive(Debug, Clone, Copy, PartialEq, Eq)]
+pub(crate) enum Refusal {
+    /// This row is the first one of another length than row 0.
+    Ragged(usize),
+    /// The cell in this row and this column has no room.
+    Room(usize, usize),
+    /// A span doesn't fit, or there is one in a table at its natural sizes.
+    Spans,
+    /// A total is no number of 64 bits.
+    Totals,
+    /// Memory was refused.
+    Memory,
+}
+
+impl Refusal {
+    /// The refusal that a line tells of, as `room 0 1`.
+    pub(crate) fn told(line: &str) -> Result<Refusal, Fault> {
+        let mut words = Words::new(line);
+        match (words.word()?, words.rest()) {
+            ("spans", None) => Ok(Refusal::Spans),
+            ("totals", None) => Ok(Refusal::Totals),
+            ("ragged", Some(_)) => Ok(Refusal::Ragged(words.last_number()?)),
+            ("room", Some(_)) => Ok(Refusal::Room(words.number()?, words.last_number()?)),
+            _ => Err(Fault::Unknown),
+        }
+    }
+}
+
+impl From<Misfit> for Refusal {
+    fn from(misfit: Misfit) -> Refusal {
+        match misfit {
+            Misfit::Spans => Refusal::Spans,
+            Misfit::Totals => Refusal::Totals,
+            Misfit::Room(row, col) => Refusal::Room(row, col),
+        }
+    }
+}
+
+impl From<PrintFault> for Refusal {
+    fn from(fault: PrintFault) -> Refusal {
+        match fault {
+            PrintFault::Misfit(misfit) => Refusal::from(misfit),
+            PrintFault::Memory => Refusal::Memory,
+        }
+    }
+}
+
+impl From<TableFault> for Refusal {
+    fn from(fault: TableFault) -> Refusal {
+        match fault {
+            TableFault::Ragged(row) => Refusal::Ragged(row),
+            TableFault::Spans => Refusal::Spans,
+            TableFault::Totals => Refusal::Totals,
+            TableFault::Memory => Refusal::Memory,
+        }
+    }
+}
+
+impl Case<'_> {
+    /// The table is refused so: each call answers it, asks for no memory and leaves the buffer as it was.
+    /// One request is granted, that for the buffer's old text.
+    pub(crate) fn draw_refusal(
+        &self,
+        drawn: Drawn<'_>,
+        refusal: Refusal,
+        report: &mut Report,
+    ) -> Result<(), AllocError> {
+        let place = self.place();
+        if let Some(fits) = self.fits(drawn) {
+            report.compare(place, drawn.fits_call(), fits, Err(refusal))?;
+        }
+        let memory = Refusing::from_on(self.alloc, 1);
+        let mut buf = String::from_str(&memory, KEPT)?;
+        let printed = self.print(&memory, drawn, &mut buf);
+        report.compare(place, drawn.print_call(), printed, Err(refusal))?;
+        report.compare(place, drawn.print_call(), buf.as_bytes(), KEPT.as_bytes())?;
+        let given = self.text(&memory, drawn).err();
+        report.compare(place, drawn.text_call(), given, Some(refusal))?;
+        report.compare(place, drawn.text_call(), memory.requests(), 1)
+    }
+}

@@ -1,0 +1,71 @@
+//! Natural sizes.
+
+use crate::case::Case;
+use crate::drawn::Drawn;
+use crate::refusal::Refusal;
+use crate::refused::Slip;
+use pg_layout::ConstantDimension;
+use pg_testing::refusing::Refusing;
+use pg_told::report::Report;
+use std::alloc::{AllocError, Allocator, Global};
+
+/// What a line `natural` says where there are no sizes.
+const NONE: &str = "none";
+
+impl Case<'_> {
+    /// Lists the natural sizes, where they are told, with no more requests for memory than there are
+    /// lists: one for each that isn't empty, and none where there are no sizes. Then refuses each.
+    pub(crate) fn list_sizes(
+        &self,
+        drawn: Drawn<'_>,
+        report: &mut Report,
+    ) -> Result<(), AllocError> {
+        let sizes = self.natural.unwrap_or("");
+        if sizes.is_empty() {
+            return Ok(());
+        }
+        let memory = Refusing::from_on(self.alloc, self.lists());
+        let Some(listed) = self.sizes(&memory, drawn) else {
+            return Ok(());
+        };
+        let text = sizes_text(self.alloc, &listed)?;
+        report.compare(self.place(), "natural_dimension", text.as_str(), sizes)?;
+        let slip = self.slip_of_sizes(drawn);
+        report.compare(self.place(), "natural_dimension", slip, None)
+    }
+
+    // How many lists of natural sizes there are that aren't empty.
+    fn lists(&self) -> u64 {
+        match self.natural {
+            Some(NONE) => 0,
+            _ => u64::from(!self.rows.is_empty()).saturating_add(u64::from(self.has_cells())),
+        }
+    }
+
+    // Refuses each request for the memory of sizes in turn, alone.
+    fn slip_of_sizes(&self, drawn: Drawn<'_>) -> Option<Slip> {
+        for number in 0..self.lists() {
+            let memory = Refusing::only(self.alloc, number);
+            let listed = self.sizes(&memory, drawn)?;
+            if listed.err() != Some(Refusal::Memory) {
+                return Some(Slip::Request(number));
+            }
+        }
+        None
+    }
+}
+
+// What a line `natural` says of these sizes.
+fn sizes_text<A: Allocator>(
+    alloc: Global,
+    listed: &Result<ConstantDimension<A>, Refusal>,
+) -> Result<String, AllocError> {
+    match listed {
+        Ok(ConstantDimension(widths, heights)) => {
+            let (widths, heights) = (widths.as_slice(), heights.as_slice());
+            Ok(format!(in alloc; "{widths:?} {heights:?}")?)
+        }
+        Err(Refusal::Totals) => String::from_str(alloc, NONE),
+        Err(refusal) => Ok(format!(in alloc; "{refusal:?}")?),
+    }
+}
