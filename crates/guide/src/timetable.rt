@@ -1,24 +1,16 @@
-//! The program `timetable`: a table with spans and colours, whose sizes are told.
-#![tactic(auto)]
+//! A timetable: spans and colours, and sizes that are told.
 
 use pg_config::SpannedConfig;
-use pg_grid::{PeekableGrid, PrintFault};
 use pg_layout::{
     ANSIBuf, AlignmentHorizontal, AlignmentVertical, Border, Borders, ColorsMap, ConstantDimension,
     Entity, Indent, Position, Sides, VecRecords,
 };
+use pg_peekable::PeekableGrid;
+use pg_picture::PrintFault;
 use std::alloc::{AllocError, Global};
-use std::io;
 
-fn main(rt: HostRuntime) -> io::Result<()> {
-    match week(rt.alloc()) {
-        Ok(text) => println!(rt; "{text}"),
-        Err(fault) => println!(rt; "{fault}"),
-    }
-}
-
-// The lessons of two days, as a table.
-fn week(alloc: Global) -> Result<String, PrintFault> {
+/// The lessons of two days, as a table.
+pub(crate) fn week(alloc: Global) -> Result<String, PrintFault> {
     let records = lessons(alloc)?;
     let dimension = sizes(alloc)?;
     let colors = colors(alloc)?;

@@ -1,7 +1,10 @@
 //! Why the program ends early.
 
-use pg_grid::{Misfit, PrintFault};
 use pg_layout::RecordsFault;
+use pg_picture::PrintFault;
+use pg_picture::fits::Misfit;
+use pg_stream::StreamFault;
+use pg_table::TableFault;
 use std::alloc::{AllocError, AllocFailed};
 use std::io;
 
@@ -10,12 +13,16 @@ use std::io;
 pub(crate) enum Fault {
     /// Two rows have not as many cells as one another.
     Records(RecordsFault),
-    /// The table doesn't fit.
-    Misfit(Misfit),
+    /// A table from rows isn't printed.
+    Table(TableFault),
+    /// A grid isn't printed.
+    Print(PrintFault),
+    /// A row isn't printed.
+    Stream(StreamFault),
     /// Memory was refused.
     Memory,
-    /// A write failed.
-    Write(io::Error),
+    /// A read or a write failed.
+    Io(io::Error),
 }
 
 impl From<RecordsFault> for Fault {
@@ -24,18 +31,27 @@ impl From<RecordsFault> for Fault {
     }
 }
 
-impl From<Misfit> for Fault {
-    fn from(misfit: Misfit) -> Fault {
-        Fault::Misfit(misfit)
+impl From<TableFault> for Fault {
+    fn from(fault: TableFault) -> Fault {
+        Fault::Table(fault)
     }
 }
 
 impl From<PrintFault> for Fault {
     fn from(fault: PrintFault) -> Fault {
-        match fault {
-            PrintFault::Misfit(misfit) => Fault::Misfit(misfit),
-            PrintFault::Memory => Fault::Memory,
-        }
+        Fault::Print(fault)
+    }
+}
+
+impl From<Misfit> for Fault {
+    fn from(misfit: Misfit) -> Fault {
+        Fault::Print(PrintFault::Misfit(misfit))
+    }
+}
+
+impl From<StreamFault> for Fault {
+    fn from(fault: StreamFault) -> Fault {
+        Fault::Stream(fault)
     }
 }
 
@@ -53,6 +69,6 @@ impl<T: Drop> From<AllocFailed<T>> for Fault {
 
 impl From<io::Error> for Fault {
     fn from(error: io::Error) -> Fault {
-        Fault::Write(error)
+        Fault::Io(error)
     }
 }

@@ -1,6 +1,6 @@
 //! Rows that are printed at once, each behind the test that it fits.
 
-use crate::COLUMNS;
+use crate::streamed_rows::COLUMNS;
 use pg_config::SpannedConfig;
 use pg_layout::{EvenDimension, NoColors};
 use pg_stream::{RowFault, RowPrinter, StreamFault};

@@ -1,13 +1,11 @@
-//! The program `price_list`: rows with a header, printed as wide as they are.
+//! A price list: rows with a header, printed as wide as they are.
 //!
 //! All settings of a configuration are settings of a table: here the numbers stand at the right.
-#![tactic(auto)]
 
 use pg_config::SpannedConfig;
 use pg_layout::{AlignmentHorizontal, Borders, Entity, HorizontalLine, Indent, Sides};
 use pg_table::{Table, TableFault};
 use std::alloc::{AllocError, Global};
-use std::io;
 
 // Borders and a space at both sides of each text; quantities and prices at the right.
 fn look(alloc: Global) -> Result<SpannedConfig, AllocError> {
@@ -20,8 +18,8 @@ fn look(alloc: Global) -> Result<SpannedConfig, AllocError> {
     Ok(config)
 }
 
-// The table of the prices, with a line below its header.
-fn prices(alloc: Global) -> Result<String, TableFault> {
+/// The table of the prices, with a line below its header.
+pub(crate) fn prices(alloc: Global) -> Result<String, TableFault> {
     let rows = vec![in alloc;
         vec![in alloc; "name", "quantity", "price"]?,
         vec![in alloc; "apples", "12", "3.50"]?,
@@ -31,11 +29,4 @@ fn prices(alloc: Global) -> Result<String, TableFault> {
     table
         .with_header_line(HorizontalLine::sharp())?
         .to_string(alloc)
-}
-
-fn main(rt: HostRuntime) -> io::Result<()> {
-    match prices(rt.alloc()) {
-        Ok(text) => println!(rt; "{text}"),
-        Err(fault) => println!(rt; "{fault}"),
-    }
 }

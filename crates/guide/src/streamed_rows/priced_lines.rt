@@ -1,6 +1,6 @@
 //! Lines that are rows, or errors in the place of rows.
 
-use crate::COLUMNS;
+use crate::streamed_rows::COLUMNS;
 use pg_config::SpannedConfig;
 use pg_layout::{EvenDimension, NoColors};
 use pg_stream::{RowStream, RowsFault, StreamFault};

@@ -1,10 +1,9 @@
-//! The program `streamed_rows`: it prints tables of articles and prices, whose rows come from a vector,
-//! from iterators over it, from arrays and from the parts of lines.
+//! Tables of articles and prices, whose rows come from a vector, from iterators over it, from arrays
+//! and from the parts of lines.
 //!
 //! It shows the calls that take all rows at once, or rows of any kind: [`priced_lines`] has rows that
 //! may be errors, and [`tested_rows`] has rows behind a test. None of its functions needs a proof by
 //! hand, nor does [`append_rows`], whose contract says what text it appends.
-#![tactic(auto)]
 
 mod priced_lines;
 mod tested_rows;
@@ -12,13 +11,12 @@ mod tested_rows;
 ghost use Rattle.std.specs.Prelude.{◌≡◌, ◌++◌, map, None, OnOk, string_bytes};
 ghost use Rattle.pg_stream.specs.Printing.{printer, rows_text};
 
-use crate::priced_lines::append_priced_lines;
-use crate::tested_rows::append_fitting;
+use crate::streamed_rows::priced_lines::append_priced_lines;
+use crate::streamed_rows::tested_rows::append_fitting;
 use pg_config::SpannedConfig;
 use pg_layout::{Borders, Colors, Dimension, Entity, EvenDimension, Indent, NoColors, Sides};
 use pg_stream::{RowStream, StreamFault};
 use std::alloc::{AllocError, Global};
-use std::io;
 
 /// An article and its price.
 const COLUMNS: usize = 2;
@@ -171,8 +169,8 @@ fn append_tested(
     append_fitting(alloc, config, dimension, (rows, sum), buf)
 }
 
-// All of them, parted by dashes.
-fn lists(alloc: Global) -> Result<String, StreamFault> {
+/// All of them, parted by dashes.
+pub(crate) fn lists(alloc: Global) -> Result<String, StreamFault> {
     let mut config = SpannedConfig::new(alloc);
     set_look(&mut config)?;
     let dimension = EvenDimension {
@@ -186,11 +184,4 @@ fn lists(alloc: Global) -> Result<String, StreamFault> {
     buf.push_str("\n--\n")?;
     append_tested(alloc, &config, &dimension, &mut buf)?;
     Ok(buf)
-}
-
-fn main(rt: HostRuntime) -> io::Result<()> {
-    match lists(rt.alloc()) {
-        Ok(text) => println!(rt; "{text}"),
-        Err(fault) => println!(rt; "{fault}"),
-    }
 }

@@ -1,21 +1,13 @@
-//! The program `compact_list`: a line for each row, and one look for all cells.
-#![tactic(auto)]
+//! A compact list: a line for each row, and one look for all cells.
 
+use pg_compact::CompactGrid;
 use pg_config::CompactConfig;
-use pg_grid::{CompactGrid, PrintFault};
 use pg_layout::{Borders, EvenDimension, Indent, NoColors, Sides, VecRecords};
+use pg_picture::PrintFault;
 use std::alloc::{AllocError, Global};
-use std::io;
 
-fn main(rt: HostRuntime) -> io::Result<()> {
-    match list(rt.alloc()) {
-        Ok(text) => println!(rt; "{text}"),
-        Err(fault) => println!(rt; "{fault}"),
-    }
-}
-
-// What is to be done, as a list.
-fn list(alloc: Global) -> Result<String, PrintFault> {
+/// What is to be done, as a list.
+pub(crate) fn list(alloc: Global) -> Result<String, PrintFault> {
     let (space, none) = (Indent::spaced(1), Indent::zero());
     let config = CompactConfig::new()
         .set_borders(Borders::rounded())

@@ -1,13 +1,11 @@
-//! The program `grid_calls`: the ways to call a table printer.
+//! The ways to call a table printer.
 //!
 //! A printer asks that its table fits. [`checked`] has the calls that test it themselves, [`tested`]
 //! those behind a test of the caller's, and [`stated`] a caller that says in turn what it appended,
 //! each tried on one table; [`told`] has a table of its own, all of it told in one function. None of
 //! these functions needs a proof of its own.
-#![tactic(auto)]
 
 mod checked;
-mod fault;
 mod parts;
 mod stated;
 mod tested;
@@ -19,17 +17,19 @@ use pg_grid::{Misfit, PrintFault};
 use pg_layout::{Borders, ConstantDimension, NoColors};
 use std::alloc::Global;
 
-fn main(rt: HostRuntime) -> Result<(), Fault> {
-    let alloc = rt.alloc();
+/// The tables of all these calls.
+pub(crate) fn tables(alloc: Global) -> Result<String, Fault> {
     let mut config = SpannedConfig::new(alloc);
     config.set_borders(Borders::ascii());
     let compact = CompactConfig::new().set_borders(Borders::ascii());
-    println!(rt; "checked:\n{}", checked_tables(alloc, &config, &compact)?)?;
-    println!(rt; "tested:\n{}", tested_tables(alloc, &config, &compact)?)?;
-    println!(rt; "built:\n{}", built_tables(alloc, &config, &compact)?)?;
-    println!(rt; "stated:\n{}", stated_table(alloc, &config)?)?;
-    println!(rt; "told:\n{}", told::titled_text(alloc)?)?;
-    Ok(())
+    let checked = checked_tables(alloc, &config, &compact)?;
+    let tested = tested_tables(alloc, &config, &compact)?;
+    let built = built_tables(alloc, &config, &compact)?;
+    let stated = stated_table(alloc, &config)?;
+    let told = told::titled_text(alloc)?;
+    Ok(format!(in alloc;
+        "checked:\n{checked}\ntested:\n{tested}\nbuilt:\n{built}\nstated:\n{stated}\ntold:\n{told}"
+    )?)
 }
 
 // The tables of calls that test them, and what such a call answers where the table is too narrow.

@@ -1,0 +1,32 @@
+//! The program `guide`: the programs of the guide one after the other, each behind a line with its name.
+//!
+//! Each is a module whose one public function makes a text; [`word_counts`] reads standard input, and
+//! prints while it reads. None of their functions needs a proof by hand.
+#![tactic(auto)]
+
+mod compact_list;
+mod fault;
+mod grid_calls;
+mod price_list;
+mod streamed_rows;
+mod timetable;
+mod word_counts;
+
+use crate::fault::Fault;
+use std::io;
+
+fn main(rt: HostRuntime) -> Result<(), Fault> {
+    let alloc = rt.alloc();
+    show(&rt, "price_list", &price_list::prices(alloc)?)?;
+    show(&rt, "timetable", &timetable::week(alloc)?)?;
+    show(&rt, "streamed_rows", &streamed_rows::lists(alloc)?)?;
+    show(&rt, "compact_list", &compact_list::list(alloc)?)?;
+    show(&rt, "grid_calls", &grid_calls::tables(alloc)?)?;
+    println!(rt; "== word_counts")?;
+    word_counts::print_counts(&rt, alloc, rt.stdin())
+}
+
+// Prints a text behind a line with its name.
+fn show(rt: &impl Print, name: &str, text: &str) -> io::Result<()> {
+    println!(rt; "== {name}\n{text}")
+}
