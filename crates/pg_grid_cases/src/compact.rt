@@ -37,7 +37,7 @@ fn borders_color_told(words: Words<'_>) -> Result<Borders<ANSIStr<'static>>, Fau
     let parts = words.rest().ok_or(Fault::Unknown)?;
     for part in parts.split(' ') {
         let (place, color) = part.split_once('=').ok_or(Fault::Unknown)?;
-        colors.set(place, Some(color_named(color)?))?;
+        *colors.place(place)? = Some(color_named(color)?);
     }
     Ok(colors)
 }

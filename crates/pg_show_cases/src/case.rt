@@ -31,6 +31,8 @@ pub(crate) struct Case<'a> {
     pub(crate) script: String,
     /// The words of the modes, if they were told.
     pub(crate) modes: Option<&'a str>,
+    /// Whether each run is also made while calls fail.
+    pub(crate) is_failing: bool,
     /// What each run answers, if it was told.
     pub(crate) answer: Option<Answer>,
 }
@@ -42,6 +44,7 @@ impl<'a> Case<'a> {
             number,
             script: String::new(alloc),
             modes: None,
+            is_failing: false,
             answer: None,
         }
     }
@@ -50,6 +53,7 @@ impl<'a> Case<'a> {
     pub(crate) fn push(&mut self, alloc: Global, line: Line<'a>) -> Result<bool, AllocError> {
         match (line, &mut self.answer) {
             (Line::Script(line), _) => push_line(&mut self.script, line)?,
+            (Line::Failing, _) => self.is_failing = true,
             (Line::Modes(words), _) if self.modes.is_none() => self.modes = Some(words),
             (Line::Shown(line), Some(Answer::Shown(text))) => push_line(text, line)?,
             (Line::Shown(line), None) => {

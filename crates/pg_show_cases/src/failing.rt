@@ -35,6 +35,8 @@ pub(crate) struct Trial<'c> {
     pub(crate) words: &'c [String],
     pub(crate) script: &'c str,
     pub(crate) answer: &'c Answer,
+    /// Whether it is made again and again.
+    pub(crate) is_failing: bool,
 }
 
 // The first bytes of a text, at most so many.
@@ -44,9 +46,12 @@ fn first_bytes(text: &str, count: usize) -> &[u8] {
 }
 
 impl Trial<'_> {
-    /// Makes the run while each call of each kind fails in turn, alone and with all behind it, and answers
-    /// the first slip.
+    /// Makes the run while each call of each kind fails in turn, alone and with all behind it, if it is told
+    /// to, and answers the first slip.
     pub(crate) fn slip(&self) -> Option<Slip> {
+        if !self.is_failing {
+            return None;
+        }
         for kind in [Kind::Memory, Kind::Read, Kind::Write, Kind::Tell] {
             let slip = self.slip_of(kind);
             if slip.is_some() {
@@ -83,8 +88,8 @@ impl Trial<'_> {
         bytes == 0 || calls > bytes.div_ceil(PIECE) as u64
     }
 
-    // How the run ends where calls of a kind fail, of which the first is that of this number. What reads
-    // and writes before it gave and took stands, and none of its kind follows it.
+    // How the run ends where calls of a kind fail, of which the first is that of this number. What writes
+    // before it took stands, and no read or write of its kind follows it.
     fn outcome(&self, failing: (Kind, Rule), number: u64) -> Outcome {
         let run = Run::new(self.alloc, self.words, self.script, failing);
         let (status, shown, told) = self.answer.parts();
@@ -100,7 +105,7 @@ impl Trial<'_> {
             Kind::Memory => run.leaves(4, b"", b"out of memory\n"),
             Kind::Read => is_last && run.leaves(5, b"", b"read failed\n"),
             Kind::Write => is_last && run.leaves(5, first_bytes(shown, taken), b"write failed\n"),
-            Kind::Tell => is_last && run.leaves(status, b"", first_bytes(told, taken)),
+            Kind::Tell => is_last && run.leaves_part(status, told),
         };
         if is_right {
             Outcome::Failed

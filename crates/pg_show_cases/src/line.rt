@@ -11,6 +11,8 @@ pub(crate) enum Line<'a> {
     Section(&'a str),
     /// A case begins, perhaps with a line of its script.
     Case(Option<&'a str>),
+    /// Each run of a case is also made while calls fail.
+    Failing,
     /// The modes of a case.
     Modes(&'a str),
     /// A line of a script.
@@ -34,6 +36,7 @@ impl<'a> Line<'a> {
             ":" if !text.is_empty() => Some(Line::Section(text)),
             "-" if text.is_empty() => Some(Line::Case(None)),
             "+" => Some(Line::Case(Some(text))),
+            "~" if text.is_empty() => Some(Line::Failing),
             "@" if !text.is_empty() => Some(Line::Modes(text)),
             ">" => Some(Line::Script(text)),
             "=" => Some(Line::Shown(text)),

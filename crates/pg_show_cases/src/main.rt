@@ -34,18 +34,19 @@
 //! - What can't be seen is written by pictures: `␣` is a space, `␍` a carriage return, `␉` a tab, `␛`
 //!   an escape, `⍽` a no-break space and `␂` a byte order mark. Behind a line with `␃` at its end
 //!   there is no line feed.
+//! - `~` tells that each run of the case, or of the section's cases, is also made while calls fail.
 //!
-//! Each run that answers as told is made again and again: while each of its requests for memory is refused,
-//! each read of the script fails, each write of the table or each write of the line that is told, alone or
-//! with all behind it, until no call comes as late as that. Reads and writes are of three bytes, and a
-//! flush is a write. Where memory is refused the run answers `out of memory` and shows nothing; where a
-//! read fails `read failed`, likewise; where a write fails `write failed`, behind what was written before
-//! it; and where the line that is told can't be written it keeps its status. Nothing is read or written
-//! after the call that failed.
+//! Calls fail one after the other, alone or with all behind them, until no call comes as late as that:
+//! requests for memory, reads of the script, writes of the table and of the line that is told. Reads and
+//! writes are of three bytes, and a flush is a write. Where memory is refused the run answers `out of
+//! memory` and shows nothing; where a read fails `read failed`, likewise; where a write fails `write
+//! failed`, behind what was written before it; and where the line that is told can't be written it keeps
+//! its status. Nothing of the kind is read or written after the call that failed.
 //!
 //! A run that answers otherwise has a line with its section, the line in the file where its case
-//! begins, its mode, and its answer or the first call whose failure it answers otherwise. The last line has the counts of cases and runs. The exit status is
-//! 0 where all answer as told, and 1 where one doesn't, or a line of the file isn't understood.
+//! begins, its mode, and its answer or the first call whose failure it answers otherwise. The last line
+//! has the counts of cases and runs. The exit status is 0 where all answer as told, and 1 where one
+//! doesn't, or a line of the file isn't understood.
 #![tactic(auto)]
 
 mod case;

@@ -65,6 +65,7 @@ impl Report {
                 words: &words,
                 script: &script,
                 answer,
+                is_failing: case.is_failing || common.is_failing,
             };
             self.push_run((section.name, number, mode), trial)?;
         }

@@ -80,4 +80,10 @@ impl Run {
     pub(crate) fn leaves(&self, status: u8, shown: &[u8], told: &[u8]) -> bool {
         self.status == status && self.out.as_slice() == shown && self.err.as_slice() == told
     }
+
+    /// Whether it leaves this status, no table, and a beginning of this line, which is told in pieces.
+    pub(crate) fn leaves_part(&self, status: u8, told: &str) -> bool {
+        let is_begun = told.as_bytes().starts_with(self.err.as_slice());
+        self.status == status && self.out.is_empty() && is_begun
+    }
 }

@@ -1,7 +1,7 @@
 //! Lines that tell of the borders of a table, of a cell and of a row line.
 
 use crate::fault::ToldFault;
-use crate::named_places::{set_colors, set_glyphs};
+use crate::named_places::{colors_told, glyphs_told};
 use crate::words::Words;
 use pg_config::SpannedConfig;
 use pg_layout::{Border, Borders, HorizontalLine};
@@ -30,9 +30,7 @@ pub(crate) fn borders_told(words: Words<'_>) -> Result<Borders<char>, ToldFault>
     if !parts.contains('=') {
         return look_named(parts);
     }
-    let mut borders = Borders::empty();
-    set_glyphs(&mut borders, words)?;
-    Ok(borders)
+    glyphs_told(Borders::empty(), words)
 }
 
 /// Tells of the glyphs of all borders, or of the one that stands for a missing glyph.
@@ -55,9 +53,7 @@ pub(crate) fn tell_borders_color<A: Allocator + Copy>(
     alloc: A,
     words: Words<'_>,
 ) -> Result<(), ToldFault> {
-    let mut colors = Borders::empty();
-    set_colors(&mut colors, alloc, words)?;
-    config.set_borders_color(colors);
+    config.set_borders_color(colors_told(Borders::empty(), alloc, words)?);
     Ok(())
 }
 
@@ -67,9 +63,7 @@ pub(crate) fn tell_border<A: Allocator + Copy>(
     mut words: Words<'_>,
 ) -> Result<(), ToldFault> {
     let pos = words.place()?;
-    let mut border = Border::empty();
-    set_glyphs(&mut border, words)?;
-    Ok(config.set_border(pos, border)?)
+    Ok(config.set_border(pos, glyphs_told(Border::empty(), words)?)?)
 }
 
 /// Tells of the colours round a cell.
@@ -79,9 +73,7 @@ pub(crate) fn tell_border_color<A: Allocator + Copy>(
     mut words: Words<'_>,
 ) -> Result<(), ToldFault> {
     let pos = words.place()?;
-    let mut colors = Border::empty();
-    set_colors(&mut colors, alloc, words)?;
-    Ok(config.set_border_color(pos, colors)?)
+    Ok(config.set_border_color(pos, colors_told(Border::empty(), alloc, words)?)?)
 }
 
 /// Tells of the glyphs of a row line, by its row and the number of columns.
@@ -91,7 +83,6 @@ pub(crate) fn tell_row_line<A: Allocator + Copy>(
 ) -> Result<(), ToldFault> {
     let row = words.number()?;
     let columns = words.number()?;
-    let mut line = HorizontalLine::new(None, None, None, None);
-    set_glyphs(&mut line, words)?;
+    let line = glyphs_told(HorizontalLine::new(None, None, None, None), words)?;
     Ok(config.set_row_line(row, columns, line)?)
 }

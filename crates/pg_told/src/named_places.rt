@@ -8,91 +8,90 @@ use std::alloc::Allocator;
 
 /// What has places with names.
 pub trait NamedPlaces<T> {
-    /// Gives the place of this name a value.
-    fn set(&mut self, name: &str, value: Option<T>) -> Result<(), ToldFault>;
+    /// The place of this name.
+    fn place(&mut self, name: &str) -> Result<&mut Option<T>, ToldFault>;
 }
 
-impl<T: Drop> NamedPlaces<T> for Border<T> {
-    fn set(&mut self, name: &str, value: Option<T>) -> Result<(), ToldFault> {
+impl<T> NamedPlaces<T> for Border<T> {
+    fn place(&mut self, name: &str) -> Result<&mut Option<T>, ToldFault> {
         match name {
-            "top" => self.top = value,
-            "bottom" => self.bottom = value,
-            "left" => self.left = value,
-            "right" => self.right = value,
-            "top_left" => self.top_left = value,
-            "top_right" => self.top_right = value,
-            "bottom_left" => self.bottom_left = value,
-            "bottom_right" => self.bottom_right = value,
-            _ => return Err(ToldFault::Unknown),
+            "top" => Ok(&mut self.top),
+            "bottom" => Ok(&mut self.bottom),
+            "left" => Ok(&mut self.left),
+            "right" => Ok(&mut self.right),
+            "top_left" => Ok(&mut self.top_left),
+            "top_right" => Ok(&mut self.top_right),
+            "bottom_left" => Ok(&mut self.bottom_left),
+            "bottom_right" => Ok(&mut self.bottom_right),
+            _ => Err(ToldFault::Unknown),
         }
-        Ok(())
     }
 }
 
-impl<T: Drop> NamedPlaces<T> for Borders<T> {
-    fn set(&mut self, name: &str, value: Option<T>) -> Result<(), ToldFault> {
+impl<T> NamedPlaces<T> for Borders<T> {
+    fn place(&mut self, name: &str) -> Result<&mut Option<T>, ToldFault> {
         match name {
-            "top" => self.top = value,
-            "top_left" => self.top_left = value,
-            "top_right" => self.top_right = value,
-            "top_intersection" => self.top_intersection = value,
-            "bottom" => self.bottom = value,
-            "bottom_left" => self.bottom_left = value,
-            "bottom_right" => self.bottom_right = value,
-            "bottom_intersection" => self.bottom_intersection = value,
-            "horizontal" => self.horizontal = value,
-            "left_intersection" => self.left_intersection = value,
-            "right_intersection" => self.right_intersection = value,
-            "intersection" => self.intersection = value,
-            "left" => self.left = value,
-            "right" => self.right = value,
-            "vertical" => self.vertical = value,
-            _ => return Err(ToldFault::Unknown),
+            "top" => Ok(&mut self.top),
+            "top_left" => Ok(&mut self.top_left),
+            "top_right" => Ok(&mut self.top_right),
+            "top_intersection" => Ok(&mut self.top_intersection),
+            "bottom" => Ok(&mut self.bottom),
+            "bottom_left" => Ok(&mut self.bottom_left),
+            "bottom_right" => Ok(&mut self.bottom_right),
+            "bottom_intersection" => Ok(&mut self.bottom_intersection),
+            "horizontal" => Ok(&mut self.horizontal),
+            "left_intersection" => Ok(&mut self.left_intersection),
+            "right_intersection" => Ok(&mut self.right_intersection),
+            "intersection" => Ok(&mut self.intersection),
+            "left" => Ok(&mut self.left),
+            "right" => Ok(&mut self.right),
+            "vertical" => Ok(&mut self.vertical),
+            _ => Err(ToldFault::Unknown),
         }
-        Ok(())
     }
 }
 
 impl NamedPlaces<char> for HorizontalLine<char> {
-    fn set(&mut self, name: &str, value: Option<char>) -> Result<(), ToldFault> {
+    fn place(&mut self, name: &str) -> Result<&mut Option<char>, ToldFault> {
         match name {
-            "main" => self.main = value,
-            "intersection" => self.intersection = value,
-            "left" => self.left = value,
-            "right" => self.right = value,
-            _ => return Err(ToldFault::Unknown),
+            "main" => Ok(&mut self.main),
+            "intersection" => Ok(&mut self.intersection),
+            "left" => Ok(&mut self.left),
+            "right" => Ok(&mut self.right),
+            _ => Err(ToldFault::Unknown),
         }
-        Ok(())
     }
 }
 
-/// Gives the places that these words name their glyphs.
-pub(crate) fn set_glyphs<P: NamedPlaces<char>>(
-    places: &mut P,
+/// These places, of which those that the words name have their glyphs.
+pub(crate) fn glyphs_told<P: NamedPlaces<char> + Drop>(
+    mut places: P,
     words: Words<'_>,
-) -> Result<(), ToldFault> {
+) -> Result<P, ToldFault> {
     let Some(parts) = words.rest() else {
-        return Ok(());
+        return Ok(places);
     };
     for part in parts.split(' ') {
         let (name, word) = named(part)?;
-        places.set(name, glyph_of(word)?)?;
+        let glyph = glyph_of(word)?;
+        *places.place(name)? = glyph;
     }
-    Ok(())
+    Ok(places)
 }
 
-/// Gives the places that these words name their colours.
-pub(crate) fn set_colors<A: Allocator + Copy, P: NamedPlaces<ANSIBuf<A>>>(
-    places: &mut P,
+/// These places, of which those that the words name have their colours.
+pub(crate) fn colors_told<A: Allocator + Copy, P: NamedPlaces<ANSIBuf<A>> + Drop>(
+    mut places: P,
     alloc: A,
     words: Words<'_>,
-) -> Result<(), ToldFault> {
+) -> Result<P, ToldFault> {
     let Some(parts) = words.rest() else {
-        return Ok(());
+        return Ok(places);
     };
     for part in parts.split(' ') {
         let (name, word) = named(part)?;
-        places.set(name, color_of(alloc, word)?)?;
+        let color = color_of(alloc, word)?;
+        *places.place(name)? = color;
     }
-    Ok(())
+    Ok(places)
 }
