@@ -14,6 +14,7 @@ mod PictureColors
 mod FullCells
 mod DrawnCells
 mod FirstMisfits
+mod GridTexts
 pub mod Computing
 mod RowsText
 mod RowsConfig

@@ -1,9 +1,10 @@
-//! Laws of configurations and of pictures, and worked examples. The functions do nothing, but for those of `setters`, which call
-//! what they speak of: their contracts are what holds.
+//! Laws of configurations, of pictures and of grids, and worked examples. The functions do nothing,
+//! but for those of `setters`, which call what they speak of: their contracts are what holds.
 #![tactic(auto)]
 
 pub mod examples;
 pub mod fits;
+pub mod grids;
 pub mod laws;
 pub mod looks;
 pub mod setters;

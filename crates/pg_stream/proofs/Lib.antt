@@ -42,3 +42,4 @@ pub mod RowsOfCells
 pub mod StreamedRows
 pub mod StreamedRuns
 pub mod StreamedResults
+pub mod IterTables

@@ -6,4 +6,5 @@ pub mod Printers
 pub mod Laws
 pub mod Streams
 pub mod Faults
+pub mod IterGrids
 pub mod Inside

@@ -1,4 +1,4 @@
-//! The streaming printer: it prints a table row by row, and keeps the cells that go on below the
+//! The streaming printers: they print a table row by row, and keep the cells that go on below the
 //! last printed row.
 #![tactic(auto)]
 
@@ -8,6 +8,7 @@ mod conditions;
 mod drawing;
 mod fault;
 mod frame;
+mod grid;
 mod held_rows;
 mod laws;
 mod open_cell;
@@ -24,6 +25,7 @@ mod turns;
 
 pub use crate::conditions::printer_fits;
 pub use crate::fault::{RowFault, RowsFault, StreamFault};
+pub use crate::grid::IterGrid;
 pub use crate::laws::{rows_make_the_picture, tables_that_fit_may_be_printed};
 pub use crate::open_cells::OpenCells;
 pub use crate::row_printer::RowPrinter;

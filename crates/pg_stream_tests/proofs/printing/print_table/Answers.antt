@@ -1,7 +1,7 @@
 use Rattle.std.proofs.Common.{◌≡◌, arith}
 use Rattle.pg_layout.specs.Records.{Gives}
 use Rattle.pg_picture.specs.Grids.{table_of_parts}
-use Rattle.pg_grid.proofs.IterTables.{begun}
+use Rattle.pg_stream.proofs.IterTables.{begun}
 use Rattle.pg_stream_tests.proofs.printing.print_table.Goals as goal
 
 pub new-requires : goal.new-requires

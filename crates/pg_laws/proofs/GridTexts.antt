@@ -10,11 +10,11 @@ use Rattle.pg_stream.specs.Printing.{hint_of}
 use Rattle.pg_layout.specs.declared.records.Records as records
 use Rattle.pg_layout.specs.declared.dimension.Dimension as dimension
 use Rattle.pg_layout.specs.declared.colors.Colors as colors
-use Rattle.pg_grid.specs.declared.iter.IterGrid.{IterGrid}
+use Rattle.pg_stream.specs.declared.grid.IterGrid.{IterGrid}
 use Rattle.pg_peekable.specs.declared.grid.PeekableGrid.{PeekableGrid}
 use Rattle.pg_peekable.specs.Grids.{drawn}
-use Rattle.pg_grid.specs.IterGrids.{streamed}
-use Rattle.pg_grid.specs.Laws.{KnowsMargins, HaveSameParts, TextsAreOne}
+use Rattle.pg_stream.specs.IterGrids.{streamed}
+use Rattle.pg_laws.specs.GridLaws.{KnowsMargins, HaveSameParts, TextsAreOne}
 
 -- the hint matters to no margin
 hint-idle : (t : Table) (hint : Option ℕ) → KnowsMargins t hint → picture (hint_of hint) t ≡ picture Known t

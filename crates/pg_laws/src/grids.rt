@@ -1,6 +1,6 @@
 //! Laws of the grids. The functions do nothing: their contracts are the laws.
 
-ghost use Rattle.pg_grid.specs.Laws.{TextsAreOne};
+ghost use Rattle.pg_laws.specs.GridLaws.{TextsAreOne};
 
 use pg_layout::{Colors, Dimension, Records};
 

@@ -1,2 +1,0 @@
-pub mod IterGrids
-pub mod Laws
