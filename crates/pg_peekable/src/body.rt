@@ -107,7 +107,7 @@ where
         index: usize,
         is_first: bool,
     ) -> Result<usize, AllocError>
-        requires { HasRoom T.table row index (T.table.height row) }
+        requires room { HasRoom T.table row index (T.table.height row) }
         ensures lines { Appends buf.old buf.new result (body_text Known T.table (lines_before is_first) index (map (line_mark row) (range_with_len 0 (T.table.height row)))) }
         ensures index { IfOk result (λ next. next ≡ index + T.table.height row) }
     {

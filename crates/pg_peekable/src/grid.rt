@@ -141,7 +141,7 @@ where
         rows: usize,
         columns: usize,
     ) -> Result<(), AllocError>
-        requires { IsFull (drawn R.Records D.Dimension C.Colors self.now) rows columns }
+        requires full { IsFull (drawn R.Records D.Dimension C.Colors self.now) rows columns }
         ensures { Appends buf.old buf.new result (joined (picture_lines Known (drawn R.Records D.Dimension C.Colors self.now))) }
     {
         let path = self.path(!self.config.spans().is_empty());

@@ -208,7 +208,7 @@ impl<'k, T: Drawn> KeptCells<'k, T> {
         height: usize,
         reading: Reading,
     )
-        requires { IsReading T.table corner width height reading }
+        requires reading { IsReading T.table corner width height reading }
     {
         if corner.col < self.cells.len() {
             self.cells[corner.col] = Some(KeptCell {
@@ -253,7 +253,7 @@ impl<'k, T: Drawn> KeptCells<'k, T> {
     // Keeps what stands in a buffer from a place on, the text of each separator between two rows.
     #[inline(always)]
     pub(super) fn keep_separator<A: Allocator>(&mut self, buf: &String<A>, from: usize)
-        requires { IsSeparator T.table (drop from (string_bytes buf.now)) }
+        requires text { IsSeparator T.table (drop from (string_bytes buf.now)) }
     {
         self.separator.keep(buf, from);
     }

@@ -54,7 +54,7 @@ where
     // The spanned path, where there are spans; else the basic one, where the configuration is basic and
     // the colours are empty; else the path without spans.
     pub(super) fn path(&self, is_spanned: bool) -> Path
-        requires { is_spanned ≡ not (length (drawn R.Records D.Dimension C.Colors self.now).config.spans == 0) }
+        requires spanned { is_spanned ≡ not (length (drawn R.Records D.Dimension C.Colors self.now).config.spans == 0) }
         ensures { Draws result (drawn R.Records D.Dimension C.Colors self.now) }
     {
         if is_spanned {

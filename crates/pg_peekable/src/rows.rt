@@ -85,7 +85,7 @@ where
         line: &RowLine<T>,
         column: usize,
     ) -> Result<(), AllocError>
-        requires { IsCellLine T.table (at line.now.row column) (T.table.width column) (T.table.height line.now.row) line.now.number }
+        requires cell { IsCellLine T.table (at line.now.row column) (T.table.width column) (T.table.height line.now.row) line.now.number }
         ensures { Appends buf.old buf.new result (written (vertical T.table line.now.row line.now.number column) ++ written (cell_line T.table line.now.row column line.now.number)) }
     {
         let height = self.height_of(line.row);
@@ -138,7 +138,7 @@ where
         height: usize,
         number: usize,
     ) -> Result<(), AllocError>
-        requires { IsCellLine T.table pos width height number }
+        requires cell { IsCellLine T.table pos width height number }
         ensures { Appends buf.old buf.new result (written (line_of_cell T.table pos width height number)) }
     {
         match &self.all {
@@ -169,7 +169,7 @@ where
         height: usize,
         number: usize,
     ) -> Result<(), AllocError>
-        requires { IsCellLine T.table pos width height number }
+        requires cell { IsCellLine T.table pos width height number }
         ensures { Appends buf.old buf.new result (written (line_of_cell T.table pos width height number)) }
     {
         let style = self.style_of(pos);
@@ -207,7 +207,7 @@ where
         buf: &mut String<A>,
         line: CellLine<'_, T, B>,
     ) -> Result<(), AllocError>
-        requires { line.height ≡ 1 }
+        requires low { line.height ≡ 1 }
         ensures { Appends buf.old buf.new result (written (line_of_cell T.table line.entry.pos line.entry.width line.entry.height line.entry.number)) }
     {
         let text = self.text_of(line.pos);

@@ -48,7 +48,7 @@ where
         kept: &mut KeptCells<'_, T>,
         separator: &Separator<T>,
     ) -> Result<(), AllocError>
-        requires { IsInner T.table separator.now.row }
+        requires inner { IsInner T.table separator.now.row }
         ensures { Appends buf.old buf.new result (separator_text (separator_items T.table separator.now.row)) }
     {
         if let Some(text) = kept.separator() {

@@ -154,7 +154,7 @@ where
         corner: Position,
         row: usize,
     ) -> KeptRectangle<T>
-        requires { OwnsRow T.table corner row }
+        requires owner { OwnsRow T.table corner row }
         ensures corner { result.corner ≡ corner }
         ensures row { result.row ≡ row }
     {
@@ -203,7 +203,7 @@ where
     // How many lines of a rectangle stand above a row, where it is known how many stand above an
     // earlier one. With each row comes the separator below it.
     fn lines_above(&self, known: KeptRectangle<T>, row: usize) -> usize
-        requires { IsRowFrom T.table known.row row }
+        requires row { IsRowFrom T.table known.row row }
         ensures { result ≡ rows_height T.table known.corner.row (row - known.corner.row) }
     {
         let mut lines = known.above;

@@ -32,7 +32,7 @@ returns-in_err-run-2-clause-appends g c =
 pub rectangle_at-rectangle-requires : goal.rectangle_at-rectangle-requires
 rectangle_at-rectangle-requires g c =
     let t = g.T.Drawn.table in
-    found_owns t c.args.self.now.can c.args.separator.now.row c.args.column c.args.span (found-above t (in_order t c.args.self.now.can) c.args.separator.now.row c.args.column c.args.span c.requires.span) c.corner_of.result c.corner_of.ensures
+    record { owner = found_owns t c.args.self.now.can c.args.separator.now.row c.args.column c.args.span (found-above t (in_order t c.args.self.now.can) c.args.separator.now.row c.args.column c.args.span c.requires.span) c.corner_of.result c.corner_of.ensures }
 
 pub overflow_sub-rectangle : goal.overflow_sub-rectangle
 overflow_sub-rectangle g c =

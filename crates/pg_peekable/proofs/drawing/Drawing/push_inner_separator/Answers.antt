@@ -14,10 +14,10 @@ keep_separator-requires g c =
     let none = c.is_spanned.ensures c.if-not-is_spanned.true in
     let equal : has_equal_row_lines t.config ≡ true = ap has_equal_row_lines (sym c.args.self.now.is.config) ∙ sym c.has_equal_row_lines.ensures ∙ c.if-has_equal_row_lines.true in
     let here = text-from c.len-from.result (c.len-from.ensures ∙ c.args.buf.now.bytes.ok.0) c.in_ok-push_new_separator.ensures in
-    λ r inner. here ∙ ap separator_text (equal_separators t none equal c.args.separator.now.row r (record { some = c.requires.some; less = c.requires.row }) (record { some = inner.some; less = inner.row }))
+    record { text = λ r inner. here ∙ ap separator_text (equal_separators t none equal c.args.separator.now.row r (record { some = c.requires.inner.some; less = c.requires.inner.row }) (record { some = inner.some; less = inner.row })) }
 
 pub returns-in-Some : goal.returns-in-Some
 returns-in-Some g c =
     let t = g.T.Drawn.table in
     let all = subst (λ (lent : Option (Bor (List ℕ))). IfSome lent (λ text. IsSeparator t text.now)) c.in-Some.is c.separator.ensures in
-    Appends-text (all c.args.separator.now.row c.requires) c.push_text.ensures
+    Appends-text (all c.args.separator.now.row c.requires.inner) c.push_text.ensures

@@ -10,7 +10,7 @@ push_single_line-requires-clause-width g c =
     let style = style_of line.style.now in
     let text = c.text_of-text.result.now in
     let fits : cell_fits style text line.width line.height ≡ true = ap₂ (λ s x. cell_fits s x line.width line.height) line.is_styled c.text_of-text.ensures ∙ line.is.room in
-    (cell_fits-room style text line.width line.height fits (omega (arith, c.requires))).0
+    (cell_fits-room style text line.width line.height fits (omega (arith, c.requires.low))).0
 
 pub push_single_line-requires-clause-height : goal.push_single_line-requires-clause-height
 push_single_line-requires-clause-height g c =
@@ -18,4 +18,4 @@ push_single_line-requires-clause-height g c =
     let style = style_of line.style.now in
     let text = c.text_of-text.result.now in
     let fits : cell_fits style text line.width line.height ≡ true = ap₂ (λ s x. cell_fits s x line.width line.height) line.is_styled c.text_of-text.ensures ∙ line.is.room in
-    omega (arith, (cell_fits-room style text line.width line.height fits (omega (arith, c.requires))).1, c.requires)
+    omega (arith, (cell_fits-room style text line.width line.height fits (omega (arith, c.requires.low))).1, c.requires.low)

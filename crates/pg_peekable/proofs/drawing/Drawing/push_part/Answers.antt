@@ -7,7 +7,7 @@ use Rattle.pg_picture.proofs.Appending.{Appends-text, ◌then◌, stopped}
 use Rattle.pg_peekable.proofs.drawing.Drawing.push_part.Goals as goal
 
 pub push_cell-requires : goal.push_cell-requires
-push_cell-requires g c = rw (c.width_of-width.ensures, c.height_of-height.ensures, c.new-pos.ensures) c.requires
+push_cell-requires g c = record { cell = rw (c.width_of-width.ensures, c.height_of-height.ensures, c.new-pos.ensures) c.requires.cell }
 
 pub returns-in_err-push_vertical : goal.returns-in_err-push_vertical
 returns-in_err-push_vertical g c =

@@ -18,7 +18,7 @@ push_part-requires g c =
     let line = c.args.line.now in
     let here : c.loop-column.column < t.columns = omega (arith, c.args.self.now.shape.columns) in
     let room = plain_room t c.args.self.now.can (c.is_spanned.ensures c.if-is_spanned.false) (at line.row c.loop-column.column) line.is.row here in
-    record { row = line.is.row; column = here; room = room; line = line.is.line }
+    record { cell = record { row = line.is.row; column = here; room = room; line = line.is.line } }
 
 pub loop-column-preserved : goal.loop-column-preserved
 loop-column-preserved g c =

@@ -8,7 +8,7 @@ use Rattle.pg_peekable.proofs.drawing.Drawing.push_rectangle.Goals as goal
 pub push_cell-requires : goal.push_cell-requires
 push_cell-requires g c =
     let room = owner_room g.T.Drawn.table c.args.self.now.can.fits c.args.rectangle.corner c.args.rectangle.is.owner in
-    rw (c.args.rectangle.is.width, c.args.rectangle.is.height) record { row = c.args.rectangle.is.owner.row; column = c.args.rectangle.is.owner.column; room = room; line = c.requires.number }
+    record { cell = rw (c.args.rectangle.is.width, c.args.rectangle.is.height) record { row = c.args.rectangle.is.owner.row; column = c.args.rectangle.is.owner.column; room = room; line = c.requires.number } }
 
 pub returns : goal.returns
 returns g c =

@@ -6,7 +6,7 @@ use Rattle.pg_peekable.proofs.RectangleParts.{found_owns, found_fits, found_insi
 use Rattle.pg_peekable.proofs.drawing.Drawing.push_rectangle_part.Goals as goal
 
 pub rectangle_at-rectangle-requires : goal.rectangle_at-rectangle-requires
-rectangle_at-rectangle-requires g c = found_owns g.T.Drawn.table c.args.self.now.can c.args.line.now.row c.args.column c.args.span c.requires.span c.corner_of.result c.corner_of.ensures
+rectangle_at-rectangle-requires g c = record { owner = found_owns g.T.Drawn.table c.args.self.now.can c.args.line.now.row c.args.column c.args.span c.requires.span c.corner_of.result c.corner_of.ensures }
 
 pub overflow_add-rectangle : goal.overflow_add-rectangle
 overflow_add-rectangle g c =

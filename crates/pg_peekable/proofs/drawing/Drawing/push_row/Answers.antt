@@ -23,7 +23,7 @@ pub push_lines-requires : goal.push_lines-requires
 push_lines-requires g c =
     let t = g.T.Drawn.table in
     let n = lines_before c.args.is_first in
-    record { row = c.requires.row.row; room = lines-room t n c.args.index _ c.args.row (length (table_body t)) c.in_ok-next.ensures.index c.requires.row.row c.requires.row.room }
+    record { room = record { row = c.requires.row.row; room = lines-room t n c.args.index _ c.args.row (length (table_body t)) c.in_ok-next.ensures.index c.requires.row.row c.requires.row.room } }
 
 pub returns-clause-lines : goal.returns-clause-lines
 returns-clause-lines g c =

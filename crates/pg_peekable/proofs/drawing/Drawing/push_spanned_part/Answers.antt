@@ -9,7 +9,7 @@ pub push_part-requires : goal.push_part-requires
 push_part-requires g c =
     let t = g.T.Drawn.table in
     let room = single-room t (in_order t c.args.self.now.can) (at c.args.line.now.row c.args.column) c.args.line.now.number c.args.line.now.is.row c.requires.begins.column c.args.line.now.is.line c.requires.begins.left c.args.self.now.can.fits (sym c.requires.begins.span ∙ c.in-None.is) in
-    record { row = c.args.line.now.is.row; column = c.requires.begins.column; room = room; line = c.args.line.now.is.line }
+    record { cell = record { row = c.args.line.now.is.row; column = c.requires.begins.column; room = room; line = c.args.line.now.is.line } }
 
 pub returns-in-None : goal.returns-in-None
 returns-in-None g c =

@@ -23,7 +23,7 @@ push_picture-requires g c =
     let rows = c.count_rows-rows.ensures in
     let columns = c.count_columns-columns.ensures.value in
     let some : ((t.rows == 0) || (t.columns == 0)) ≡ false = grind (arith, nat_tests, rows, columns) in
-    record { fits = c.requires.fits; some = some; rows = rows; columns = columns }
+    record { full = record { fits = c.requires.fits; some = some; rows = rows; columns = columns } }
 
 pub returns-clause-appends : goal.returns-clause-appends
 returns-clause-appends g c =

@@ -20,44 +20,44 @@ use Rattle.pg_peekable.proofs.grid.PeekableGrid+R+ref+SpannedConfig+B+D+C.push_p
 pub full_width-requires : goal.full_width-requires
 full_width-requires g c =
     let t = drawn g.R.Records g.D.Dimension g.C.Colors c.args.self.now in
-    let can = can_draw t c.spans.ensures.ascending c.requires.fits c.requires.some in
-    omega (arith, c.requires.columns, (totals_facts t can.fits.totals).columns)
+    let can = can_draw t c.spans.ensures.ascending c.requires.full.fits c.requires.full.some in
+    omega (arith, c.requires.full.columns, (totals_facts t can.fits.totals).columns)
 
 pub body_height-requires : goal.body_height-requires
 body_height-requires g c =
     let t = drawn g.R.Records g.D.Dimension g.C.Colors c.args.self.now in
-    let can = can_draw t c.spans.ensures.ascending c.requires.fits c.requires.some in
-    omega (arith, c.requires.rows, (totals_facts t can.fits.totals).rows)
+    let can = can_draw t c.spans.ensures.ascending c.requires.full.fits c.requires.full.some in
+    omega (arith, c.requires.full.rows, (totals_facts t can.fits.totals).rows)
 
 pub unwrap-width-requires : goal.unwrap-width-requires
 unwrap-width-requires g c =
     let t = drawn g.R.Records g.D.Dimension g.C.Colors c.args.self.now in
-    let can = can_draw t c.spans.ensures.ascending c.requires.fits c.requires.some in
-    is_some_answer (width-answer t c.args.columns can c.requires.columns c.full_width.ensures)
+    let can = can_draw t c.spans.ensures.ascending c.requires.full.fits c.requires.full.some in
+    is_some_answer (width-answer t c.args.columns can c.requires.full.columns c.full_width.ensures)
 
 pub unwrap-height-requires : goal.unwrap-height-requires
 unwrap-height-requires g c =
     let t = drawn g.R.Records g.D.Dimension g.C.Colors c.args.self.now in
-    let can = can_draw t c.spans.ensures.ascending c.requires.fits c.requires.some in
-    is_some_answer (height-answer t c.args.rows can c.requires.rows c.body_height.ensures)
+    let can = can_draw t c.spans.ensures.ascending c.requires.full.fits c.requires.full.some in
+    is_some_answer (height-answer t c.args.rows can c.requires.full.rows c.body_height.ensures)
 
 pub push_drawn-requires-clause-can : goal.push_drawn-requires-clause-can
-push_drawn-requires-clause-can g c = can_draw (drawn g.R.Records g.D.Dimension g.C.Colors c.args.self.now) c.spans.ensures.ascending c.requires.fits c.requires.some
+push_drawn-requires-clause-can g c = can_draw (drawn g.R.Records g.D.Dimension g.C.Colors c.args.self.now) c.spans.ensures.ascending c.requires.full.fits c.requires.full.some
 
 pub push_drawn-requires-clause-shape : goal.push_drawn-requires-clause-shape
 push_drawn-requires-clause-shape g c =
     let t = drawn g.R.Records g.D.Dimension g.C.Colors c.args.self.now in
-    let can = can_draw t c.spans.ensures.ascending c.requires.fits c.requires.some in
+    let can = can_draw t c.spans.ensures.ascending c.requires.full.fits c.requires.full.some in
     let height : c.unwrap-height.result ≡ length (table_body t) =
-    some_is c.unwrap-height.result (body_height t) (sym c.unwrap-height.ensures ∙ height-answer t c.args.rows can c.requires.rows c.body_height.ensures) ∙ sym (length-table_body t) in
-    record { rows = c.requires.rows; columns = c.requires.columns; height = height; path = c.path-path.ensures }
+    some_is c.unwrap-height.result (body_height t) (sym c.unwrap-height.ensures ∙ height-answer t c.args.rows can c.requires.full.rows c.body_height.ensures) ∙ sym (length-table_body t) in
+    record { rows = c.requires.full.rows; columns = c.requires.full.columns; height = height; path = c.path-path.ensures }
 
 pub returns-in_err-push_top_margin : goal.returns-in_err-push_top_margin
 returns-in_err-push_top_margin g c =
     let t = drawn g.R.Records g.D.Dimension g.C.Colors c.args.self.now in
-    let can = can_draw t c.spans.ensures.ascending c.requires.fits c.requires.some in
-    let wide = some_is c.unwrap-width.result (full_width t) (sym c.unwrap-width.ensures ∙ width-answer t c.args.columns can c.requires.columns c.full_width.ensures) in
-    let high = some_is c.unwrap-height.result (body_height t) (sym c.unwrap-height.ensures ∙ height-answer t c.args.rows can c.requires.rows c.body_height.ensures) ∙ sym (length-table_body t) in
+    let can = can_draw t c.spans.ensures.ascending c.requires.full.fits c.requires.full.some in
+    let wide = some_is c.unwrap-width.result (full_width t) (sym c.unwrap-width.ensures ∙ width-answer t c.args.columns can c.requires.full.columns c.full_width.ensures) in
+    let high = some_is c.unwrap-height.result (body_height t) (sym c.unwrap-height.ensures ∙ height-answer t c.args.rows can c.requires.full.rows c.body_height.ensures) ∙ sym (length-table_body t) in
     let first : Bool = t.config.margin.top.size == 0 in
     let last : Bool = first && (c.unwrap-height.result == 0) in
     Appends-text (picture-parts Known t c.unwrap-width.result c.unwrap-height.result {is_first = first} {is_last = last} wide high refl refl)
@@ -69,9 +69,9 @@ returns-in_err-push_top_margin g c =
 pub returns-in_err-push_drawn : goal.returns-in_err-push_drawn
 returns-in_err-push_drawn g c =
     let t = drawn g.R.Records g.D.Dimension g.C.Colors c.args.self.now in
-    let can = can_draw t c.spans.ensures.ascending c.requires.fits c.requires.some in
-    let wide = some_is c.unwrap-width.result (full_width t) (sym c.unwrap-width.ensures ∙ width-answer t c.args.columns can c.requires.columns c.full_width.ensures) in
-    let high = some_is c.unwrap-height.result (body_height t) (sym c.unwrap-height.ensures ∙ height-answer t c.args.rows can c.requires.rows c.body_height.ensures) ∙ sym (length-table_body t) in
+    let can = can_draw t c.spans.ensures.ascending c.requires.full.fits c.requires.full.some in
+    let wide = some_is c.unwrap-width.result (full_width t) (sym c.unwrap-width.ensures ∙ width-answer t c.args.columns can c.requires.full.columns c.full_width.ensures) in
+    let high = some_is c.unwrap-height.result (body_height t) (sym c.unwrap-height.ensures ∙ height-answer t c.args.rows can c.requires.full.rows c.body_height.ensures) ∙ sym (length-table_body t) in
     let first : Bool = c.get_margin.result.top.size == 0 in
     let last : Bool = first && (c.unwrap-height.result == 0) in
     Appends-text (picture-parts Known t c.unwrap-width.result c.unwrap-height.result {is_first = first} {is_last = last} wide high (ap (λ (m : Sides Indent). m.top.size == 0) c.get_margin.ensures) refl)
@@ -82,9 +82,9 @@ returns-in_err-push_drawn g c =
 pub returns : goal.returns
 returns g c =
     let t = drawn g.R.Records g.D.Dimension g.C.Colors c.args.self.now in
-    let can = can_draw t c.spans.ensures.ascending c.requires.fits c.requires.some in
-    let wide = some_is c.unwrap-width.result (full_width t) (sym c.unwrap-width.ensures ∙ width-answer t c.args.columns can c.requires.columns c.full_width.ensures) in
-    let high = some_is c.unwrap-height.result (body_height t) (sym c.unwrap-height.ensures ∙ height-answer t c.args.rows can c.requires.rows c.body_height.ensures) ∙ sym (length-table_body t) in
+    let can = can_draw t c.spans.ensures.ascending c.requires.full.fits c.requires.full.some in
+    let wide = some_is c.unwrap-width.result (full_width t) (sym c.unwrap-width.ensures ∙ width-answer t c.args.columns can c.requires.full.columns c.full_width.ensures) in
+    let high = some_is c.unwrap-height.result (body_height t) (sym c.unwrap-height.ensures ∙ height-answer t c.args.rows can c.requires.full.rows c.body_height.ensures) ∙ sym (length-table_body t) in
     let first : Bool = c.get_margin.result.top.size == 0 in
     let last : c.if-is_first.push_bottom_margin ≡ (first && (c.unwrap-height.result == 0)) =
     elim c.if-is_first.branch [
