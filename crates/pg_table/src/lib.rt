@@ -11,4 +11,5 @@ mod table;
 pub use crate::fault::TableFault;
 pub use crate::laws::{ascii_borders_are_narrow, natural_tables_have_room};
 pub use crate::natural::NaturalTable;
+pub use crate::sizes::Axis;
 pub use crate::table::Table;

@@ -113,7 +113,7 @@ where
     ) -> Result<(), TableFault>
         ensures prints { Prints (fault_of (drawn_of R.texts R.columns C.color (natural_parts self.now))) buf.old buf.new result (picture Known (drawn_of R.texts R.columns C.color (natural_parts self.now))) }
         ensures printed { OnOk result (string_bytes buf.new ≡ string_bytes buf.old ++ picture Known (drawn_of R.texts R.columns C.color (natural_parts self.now))) }
-        ensures empty { is_empty (drawn_of R.texts R.columns C.color (natural_parts self.now)) ≡ true → IsOk result }
+        ensures empty { is_empty (drawn_of R.texts R.columns C.color (natural_parts self.now)) ≡ true → IsOk result × (buf.new ≡ buf.old) }
         ensures straight { IsOk result → IsStraight (drawn_of R.texts R.columns C.color (natural_parts self.now)) }
         ensures even { IsOk result → IsEven (drawn_of R.texts R.columns C.color (natural_parts self.now)) }
     {
@@ -126,11 +126,12 @@ where
     }
 
     /// The picture of the table at its natural sizes as a text of its own; errors as those of
-    /// [`NaturalTable::print`].
+    /// [`NaturalTable::print`]. A table with no rows or no columns asks for no memory.
     pub fn to_string<A: Allocator + Copy>(&self, alloc: A) -> Result<String<A>, TableFault>
         ensures text { IfOk result (λ text. string_bytes text ≡ picture Known (drawn_of R.texts R.columns C.color (natural_parts self.now))) }
         ensures fault { (fault : TableFault) → fault_of (drawn_of R.texts R.columns C.color (natural_parts self.now)) ≡ Some fault → result ≡ Err fault }
         ensures memory { (fault : TableFault) → fault_of (drawn_of R.texts R.columns C.color (natural_parts self.now)) ≡ None → result ≡ Err fault → fault ≡ TableFault.Memory }
+        ensures empty { is_empty (drawn_of R.texts R.columns C.color (natural_parts self.now)) ≡ true → IsOk result }
     {
         let mut text = String::new(alloc);
         self.print(alloc, &mut text)?;

@@ -22,10 +22,12 @@ pub(crate) fn plus(sum: Option<usize>, more: usize) -> Option<usize>
     sum?.checked_add(more)
 }
 
-/// What has a size: columns have widths, and rows have heights.
+/// What has a natural size: columns have widths, and rows have heights. Contracts name it.
 #[derive(Debug, Clone, Copy)]
-pub(crate) enum Axis {
+pub enum Axis {
+    /// The columns.
     Columns,
+    /// The rows.
     Rows,
 }
 

@@ -126,8 +126,9 @@ impl<T, A: Allocator> Table<T, A> {
 }
 
 impl<T: AsStr + Drop, A: Allocator> Table<T, A> {
-    ghost use Rattle.std.specs.Prelude.{◌≡◌, length, OnErr, ◌↔◌, ◌⊎◌, ◌&&◌, ◌++◌, true, false, map, Some, None, Err, IfOk, IsOk, OnOk, string_bytes};
+    ghost use Rattle.std.specs.Prelude.{◌≡◌, ◌<◌, length, OnErr, ◌↔◌, ◌⊎◌, ◌&&◌, ◌++◌, true, false, map, Some, None, Err, IfOk, IsOk, OnOk, string_bytes};
     ghost use Rattle.pg_layout.specs.Records.{columns_of};
+    ghost use Rattle.pg_config.specs.Overrides.{has_glyph};
     ghost use Rattle.pg_picture.specs.Straight.{IsStraight};
     ghost use Rattle.pg_picture.specs.Picture.{picture};
     ghost use Rattle.pg_picture.specs.Table.{Known, is_empty};
@@ -140,12 +141,15 @@ impl<T: AsStr + Drop, A: Allocator> Table<T, A> {
     /// that the line lacks is as it was; a table of less than two rows has no such line.
     ///
     /// Takes memory for its places, one for each column and each column line; where that is refused,
-    /// nothing changes. [`Table::with_header_line`] does the same to a table by value.
+    /// nothing changes. Of less than two rows, no columns, or a line without glyphs none is wanted.
+    /// [`Table::with_header_line`] does the same to a table by value.
     pub fn set_header_line(&mut self, line: HorizontalLine<char>) -> Result<(), AllocError>
     where
         A: Clone,
         ensures ok { OnOk result (self.new ≡ record self.old { config = with_header_line line (length self.old.rows) (columns_of self.old.rows) self.old.config }) }
         ensures err { OnErr result (self.new ≡ self.old) }
+        ensures few { length self.old.rows < 2 → IsOk result }
+        ensures nothing { has_glyph (columns_of self.old.rows) line ≡ false → IsOk result }
     {
         let (rows, columns) = self.size();
         if rows < 2 {
@@ -204,7 +208,7 @@ impl<T: AsStr + Drop, A: Allocator> Table<T, A> {
     ) -> Result<(), TableFault>
         ensures prints { Prints (fault_of (drawn T.text self.now)) buf.old buf.new result (picture Known (drawn T.text self.now)) }
         ensures printed { OnOk result (string_bytes buf.new ≡ string_bytes buf.old ++ picture Known (drawn T.text self.now)) }
-        ensures empty { is_empty (drawn T.text self.now) ≡ true → IsOk result }
+        ensures empty { is_empty (drawn T.text self.now) ≡ true → IsOk result × (buf.new ≡ buf.old) }
         ensures straight { IsOk result → IsStraight (drawn T.text self.now) }
         ensures even { IsOk result → IsEven (drawn T.text self.now) }
     {
@@ -212,11 +216,12 @@ impl<T: AsStr + Drop, A: Allocator> Table<T, A> {
     }
 
     /// The picture of the table at its natural sizes as a text of its own; errors as those of
-    /// [`Table::print`].
+    /// [`Table::print`]. A table with no rows or no columns asks for no memory.
     pub fn to_string<B: Allocator + Copy>(&self, alloc: B) -> Result<String<B>, TableFault>
         ensures text { IfOk result (λ text. string_bytes text ≡ picture Known (drawn T.text self.now)) }
         ensures fault { (fault : TableFault) → fault_of (drawn T.text self.now) ≡ Some fault → result ≡ Err fault }
         ensures memory { (fault : TableFault) → fault_of (drawn T.text self.now) ≡ None → result ≡ Err fault → fault ≡ TableFault.Memory }
+        ensures empty { is_empty (drawn T.text self.now) ≡ true → IsOk result }
     {
         self.natural().to_string(alloc)
     }
