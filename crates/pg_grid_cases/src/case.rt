@@ -43,6 +43,10 @@ pub(crate) struct Case<'a> {
     pub(crate) again: Option<&'a str>,
     /// The refusal that stands in place of a picture.
     pub(crate) refusal: Option<Refusal>,
+    /// Whether it is that of a table that has all memory.
+    pub(crate) has_memory: bool,
+    /// Whether a span was told.
+    pub(crate) is_spanned: bool,
 }
 
 impl<'a> Case<'a> {
@@ -64,6 +68,8 @@ impl<'a> Case<'a> {
             picture: None,
             again: None,
             refusal: None,
+            has_memory: false,
+            is_spanned: false,
         }
     }
 
@@ -113,6 +119,7 @@ impl<'a> Case<'a> {
         self.grids = Vec::new(self.alloc);
         self.table = None;
         self.is_answered = false;
+        self.is_spanned = false;
     }
 
     // Forgets what the table gives.
@@ -152,16 +159,20 @@ impl<'a> Case<'a> {
             "heights" => self.dimension.1 = numbers_of(self.alloc, rest)?,
             "=" => self.push_picture(rest)?,
             "~" => self.again = Some(rest),
-            "!" => {
+            "!" | "?" => {
                 self.begin_answer();
                 self.refusal = Some(Refusal::told(rest)?);
+                self.has_memory = word == "?";
             }
             "natural" => self.natural = Some(rest),
             "table" => self.call(rest, report)?,
             "by" => self.push_grids(rest)?,
             "color" => tell_color_of_cell(&mut self.colors, self.alloc, rest)?,
             "compact" => self.compact = compact::told(self.compact, rest)?,
-            _ => tell(&mut self.config, self.alloc, line)?,
+            _ => {
+                self.is_spanned = self.is_spanned || word.ends_with("_span");
+                tell(&mut self.config, self.alloc, line)?;
+            }
         }
         Ok(())
     }

@@ -77,7 +77,7 @@ impl Case<'_> {
                 CompactGrid::new(records, &self.compact, dimension, colors).fits()
             }
             Drawn::Lent(records) => {
-                let tested = NaturalTable::new(records, config, colors).fits();
+                let tested = NaturalTable::new(records, config, colors).fits(self.alloc);
                 return Some(tested.map_err(Refusal::from));
             }
             Drawn::Owned(_) => return None,
@@ -178,14 +178,14 @@ impl Case<'_> {
     }
 
     /// How many requests for memory printing makes beside those of the buffer: the streaming grid makes
-    /// one for its open cells, and a table at its natural sizes one for each list of them. Where there
-    /// are no rows or no columns nothing is asked for.
+    /// one for its open cells, and a table at its natural sizes those for them. Where there are no rows
+    /// or no columns nothing is asked for.
     pub(crate) fn own_requests(&self, drawn: Drawn<'_>) -> u64 {
         match drawn {
             _ if !self.has_cells() => 0,
             Drawn::Grid(Grid::Peekable | Grid::Compact, _) => 0,
             Drawn::Grid(Grid::Hinted | Grid::Unhinted, _) => 1,
-            Drawn::Lent(_) | Drawn::Owned(_) => 2,
+            Drawn::Lent(_) | Drawn::Owned(_) => self.requests_of_sizes(drawn),
         }
     }
 }

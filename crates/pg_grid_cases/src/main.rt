@@ -40,12 +40,15 @@
 //! - `widths 3 9` and `heights 1 1` are the sizes of its columns and rows. Where none are told there are
 //!   none.
 //! - `natural` tells that the table is drawn at its natural sizes, and `natural [3, 2] [1, 1]` which these
-//!   are: widths and heights. `natural none` tells that there are none.
+//!   are: widths and heights. `natural none` tells that there are none, and `natural spans` that spans don't
+//!   fit.
 //! - `= LINE` is the next line of the picture. `=` alone is an empty one, and the whole picture of a table
 //!   that shows nothing.
 //! - `~ TEXT` tells that the picture goes on with this text over and over, so that no memory holds it.
 //! - `! room 0 1` stands in place of a picture: the table doesn't fit, and that is its first misfit, as are
-//!   `! spans` and `! totals`, or `! ragged 2` where row 2 is the first of another length.
+//!   `! spans` and `! totals`, or `! ragged 2` where row 2 is the first of another length. All memory is
+//!   refused meanwhile, which `! memory` tells of a table that can't be judged without. `? totals` is the
+//!   same where none is refused.
 //! - A setting, as `borders ascii`, is told to a configuration (crate `pg_told`); `color 0 0 <r>|</r>`
 //!   gives a cell a colour, by what stands before its text and behind it.
 //! - `by peekable hinted` tells which grids draw the table: `peekable` is the looked-up one, `hinted` the
@@ -73,16 +76,18 @@
 //!   is printed into buffers that get no more memory, with room for each number of bytes up to its length:
 //!   three answers, each of which tells the first thing that is wrong. A beginning of the picture stands
 //!   where memory was refused, and else all of it. The streaming grid asks once for memory of its own, and
-//!   a table at its natural sizes twice; where there are no rows or no columns nothing asks for any. Of a
+//!   a table at its natural sizes twice, or more often where cells span others; where there are no rows or
+//!   no columns nothing asks for any. Of a
 //!   picture of more than 200 bytes only the last two rooms are tried, and of a table of more than 100 rows
 //!   only the rooms: one answer.
 //! - A picture that goes on and on is begun seven times, each time with more memory, and each time what the
 //!   buffer gains is a beginning of it: 29 answers, of which the last one tells that there is no text.
 //! - A refusal is what the test answers, and why both calls are refused. The buffer stays as it was, and no
-//!   request for memory comes: five answers. Rows of several lengths are refused by the records and by the
+//!   request for memory comes, but for natural sizes one in each call unless spans don't fit: five answers,
+//!   or four where none is refused. Rows of several lengths are refused by the records and by the
 //!   builder with rows of its own: two answers.
-//! - Natural sizes that are told are listed with no more requests for memory than there are lists that
-//!   aren't empty, and then while each of them is refused: two answers.
+//! - Natural sizes that are told are listed, without spans with no more requests for memory than there are
+//!   lists that aren't empty, and then while each of them is refused: two answers.
 //! - A line below a header is also told, by either call, to a table in memory that is refused, which stays
 //!   as it was: two answers.
 //!

@@ -20,7 +20,7 @@ pub(crate) enum Refusal {
     Ragged(usize),
     /// The cell in this row and this column has no room.
     Room(usize, usize),
-    /// A span doesn't fit, or there is one in a table at its natural sizes.
+    /// A span doesn't fit.
     Spans,
     /// A total is no number of 64 bits.
     Totals,
@@ -35,6 +35,7 @@ impl Refusal {
         match (words.word()?, words.rest()) {
             ("spans", None) => Ok(Refusal::Spans),
             ("totals", None) => Ok(Refusal::Totals),
+            ("memory", None) => Ok(Refusal::Memory),
             ("ragged", Some(_)) => Ok(Refusal::Ragged(words.last_number()?)),
             ("room", Some(_)) => Ok(Refusal::Room(words.number()?, words.last_number()?)),
             _ => Err(Fault::Unknown),
@@ -73,8 +74,8 @@ impl From<TableFault> for Refusal {
 }
 
 impl Case<'_> {
-    /// The table is refused so: each call answers it, asks for no memory and leaves the buffer as it was.
-    /// One request is granted, that for the buffer's old text.
+    /// The table is refused so: each call answers it and leaves the buffer as it was. Where memory is
+    /// refused, one request is granted, that for the buffer's old text.
     pub(crate) fn draw_refusal(
         &self,
         drawn: Drawn<'_>,
@@ -85,13 +86,27 @@ impl Case<'_> {
         if let Some(fits) = self.fits(drawn) {
             report.compare(place, drawn.fits_call(), fits, Err(refusal))?;
         }
-        let memory = Refusing::from_on(self.alloc, 1);
+        let granted = if self.has_memory { u64::MAX } else { 1 };
+        let memory = Refusing::from_on(self.alloc, granted);
         let mut buf = String::from_str(&memory, KEPT)?;
         let printed = self.print(&memory, drawn, &mut buf);
         report.compare(place, drawn.print_call(), printed, Err(refusal))?;
         report.compare(place, drawn.print_call(), buf.as_bytes(), KEPT.as_bytes())?;
         let given = self.text(&memory, drawn).err();
         report.compare(place, drawn.text_call(), given, Some(refusal))?;
-        report.compare(place, drawn.text_call(), memory.requests(), 1)
+        if self.has_memory {
+            return Ok(());
+        }
+        let requests = requests_of(drawn, refusal);
+        report.compare(place, drawn.text_call(), memory.requests(), requests)
+    }
+}
+
+// How many requests come where a table is refused so: that of the buffer; and where it is drawn at its
+// natural sizes, one for these in each of two calls, but where spans are refused, which are looked at first.
+fn requests_of(drawn: Drawn<'_>, refusal: Refusal) -> u64 {
+    match (drawn, refusal) {
+        (Drawn::Grid(_, _), _) | (_, Refusal::Spans) => 1,
+        _ => 3,
     }
 }

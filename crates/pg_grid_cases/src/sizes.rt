@@ -9,12 +9,16 @@ use pg_testing::refusing::Refusing;
 use pg_told::report::Report;
 use std::alloc::{AllocError, Allocator, Global};
 
-/// What a line `natural` says where there are no sizes.
+/// What a line `natural` says where sizes pass.
 const NONE: &str = "none";
+
+/// What it says where spans don't fit.
+const SPANS: &str = "spans";
 
 impl Case<'_> {
     /// Lists the natural sizes, where they are told, with no more requests for memory than there are
-    /// lists: one for each that isn't empty, and none where there are no sizes. Then refuses each.
+    /// lists: one for each that isn't empty, and none where there are no sizes. With spans there may be
+    /// more. Then refuses each.
     pub(crate) fn list_sizes(
         &self,
         drawn: Drawn<'_>,
@@ -24,7 +28,7 @@ impl Case<'_> {
         if sizes.is_empty() {
             return Ok(());
         }
-        let memory = Refusing::from_on(self.alloc, self.lists());
+        let memory = Refusing::from_on(self.alloc, self.requests_of_sizes(drawn));
         let Some(listed) = self.sizes(&memory, drawn) else {
             return Ok(());
         };
@@ -37,14 +41,25 @@ impl Case<'_> {
     // How many lists of natural sizes there are that aren't empty.
     fn lists(&self) -> u64 {
         match self.natural {
-            Some(NONE) => 0,
+            Some(NONE | SPANS) => 0,
             _ => u64::from(!self.rows.is_empty()).saturating_add(u64::from(self.has_cells())),
         }
     }
 
+    /// How many requests the listing of natural sizes makes, where there are any: with spans those that
+    /// come, else one for each list.
+    pub(crate) fn requests_of_sizes(&self, drawn: Drawn<'_>) -> u64 {
+        if !self.is_spanned || self.lists() == 0 {
+            return self.lists();
+        }
+        let memory = Refusing::from_on(self.alloc, u64::MAX);
+        drop(self.sizes(&memory, drawn));
+        memory.requests()
+    }
+
     // Refuses each request for the memory of sizes in turn, alone.
     fn slip_of_sizes(&self, drawn: Drawn<'_>) -> Option<Slip> {
-        for number in 0..self.lists() {
+        for number in 0..self.requests_of_sizes(drawn) {
             let memory = Refusing::only(self.alloc, number);
             let listed = self.sizes(&memory, drawn)?;
             if listed.err() != Some(Refusal::Memory) {
@@ -66,6 +81,7 @@ fn sizes_text<A: Allocator>(
             Ok(format!(in alloc; "{widths:?} {heights:?}")?)
         }
         Err(Refusal::Totals) => String::from_str(alloc, NONE),
+        Err(Refusal::Spans) => String::from_str(alloc, SPANS),
         Err(refusal) => Ok(format!(in alloc; "{refusal:?}")?),
     }
 }

@@ -1,15 +1,15 @@
 -- A script's table at its natural sizes: what its printing answers shows it.
-use Rattle.std.proofs.Common.{◌≡◌, ◌⊎◌, Some, None, Result, Ok, Err, String, inl, inr, refl, sym, ap, ◌∙◌}
+use Rattle.std.proofs.Common.{◌≡◌, ◌⊎◌, false, Some, None, Result, Ok, Err, String, inl, inr, refl, sym, ap, ◌∙◌}
 use Rattle.std.specs.Result.{is_err, IsErrAnd}
 use Rattle.std.proofs.lemmas.Bool.{cases_Bool, false≢true}
 use Rattle.pg_layout.specs.Records.{columns_of}
 use Rattle.pg_config.specs.Config.{default_config}
-use Rattle.pg_picture.specs.Fits.{misfit_of, totals_fit}
+use Rattle.pg_picture.specs.Fits.{misfit_of, spans_fit, totals_fit}
 use Rattle.pg_picture.specs.Picture.{picture}
 use Rattle.pg_picture.proofs.Appending.{appended-as, refused-as}
 use Rattle.pg_picture.specs.Table.{Table, Known, is_empty}
 use Rattle.pg_picture.specs.declared.fits.Misfit.TheVariants as misfits
-use Rattle.pg_table.specs.Printing.{fault_of, Prints}
+use Rattle.pg_table.specs.Printing.{fault_of, is_spanned, Prints}
 use Rattle.pg_table.specs.declared.fault.TableFault.{TableFault}
 use Rattle.pg_table.specs.declared.fault.TableFault.TheVariants.{Totals}
 use Rattle.pg_table.proofs.NaturalRoom.{natural_tables_have_room}
@@ -26,9 +26,9 @@ module _ (told : Told) where
 
   -- nothing misfits, or the totals do, and the table's fault is the same
   one_fault : ((fault_of t ≡ None) × (misfit_of t ≡ None)) ⊎ ((fault_of t ≡ Some Totals) × (misfit_of t ≡ Some misfits.Totals))
-  unfolding fault_of default_config
+  unfolding fault_of default_config spans_fit
   one_fault =
-      let room = natural_tables_have_room (natural_config told.compact) told.texts (columns_of told.texts) (λ place. None) refl in
+      let room = natural_tables_have_room (natural_config told.compact) told.texts (columns_of told.texts) (λ place. None) in
       elim (cases_Bool (is_empty t)) [
         | inl y ↦ inl (rw y refl, room ∙ rw y refl)
         | inr n ↦ elim (cases_Bool (totals_fit t)) [
@@ -37,8 +37,13 @@ module _ (told : Told) where
         ]
       ]
 
+  -- it keeps no span
+  no_span : is_spanned t ≡ false
+  unfolding default_config
+  no_span = refl
+
   -- a text that was appended is that of the table
-  pub Shows-printed : {Z U V : Type 0} (old new : String Z) (u : U) (v : V) → Prints (fault_of t) old new (Ok u) (picture Known t) → Shows mode.Table told old new (Ok v)
+  pub Shows-printed : {Z U V : Type 0} (old new : String Z) (u : U) (v : V) → Prints (is_spanned t) (fault_of t) old new (Ok u) (picture Known t) → Shows mode.Table told old new (Ok v)
   Shows-printed old new u v prints =
       elim one_fault [
         | inl none ↦ record {
@@ -46,11 +51,11 @@ module _ (told : Told) where
           kept = λ m e. absurd (false≢true (ap is_err e));
           printed = λ _. elim (rw none.0 at prints).0 [ inl all ↦ inl (appended-as all) | inr refused ↦ absurd (false≢true refused.0) ];
         }
-        | inr past ↦ absurd (false≢true (ap is_err (rw past.0 at prints).0))
+        | inr past ↦ elim (rw past.0 at prints).0 [ inl refused ↦ absurd (false≢true (ap is_err refused)) | inr refused ↦ absurd (false≢true (ap is_err refused.0)) ]
       ]
 
   -- a fault is the misfit of the table, or want of memory
-  pub Shows-refused : (U : Type 0) {Z V : Type 0} (old new : String Z) (fault : TableFault) (result : Result V ShowFault) → Prints {U = U} (fault_of t) old new (Err fault) (picture Known t) → IsErrAnd result (λ shown. shown ≡ fault_of_table fault) → Shows mode.Table told old new result
+  pub Shows-refused : (U : Type 0) {Z V : Type 0} (old new : String Z) (fault : TableFault) (result : Result V ShowFault) → Prints {U = U} (is_spanned t) (fault_of t) old new (Err fault) (picture Known t) → IsErrAnd result (λ shown. shown ≡ fault_of_table fault) → Shows mode.Table told old new result
   Shows-refused U old new fault (Ok v) prints is = absurd is
   Shows-refused U old new fault (Err e) prints is =
       elim one_fault [
@@ -64,7 +69,7 @@ module _ (told : Told) where
             }
         | inr past ↦
             let refused = rw past.0 at prints in
-            let totals : fault ≡ Totals = cc in
+            let totals : fault ≡ Totals = elim refused.0 [ inl same ↦ cc | inr memory ↦ absurd (false≢true (sym no_span ∙ memory.2)) ] in
             let told_totals : e ≡ show.Misfit misfits.Totals = is ∙ ap fault_of_table totals in
             record {
               misfit = λ m. (λ same. cc, λ found. cc);

@@ -4,3 +4,16 @@ pub mod CellsBelow
 pub mod NaturalRoom
 pub mod Faults
 pub mod StraightTables
+pub mod Sums
+pub mod Shares
+pub mod Widenings
+pub mod Layers
+pub mod Exact
+pub mod Places
+pub mod PlainCells
+pub mod Most
+pub mod Walks
+pub mod RoomOfNeeds
+pub mod ShownCells
+pub mod TotalsOfSizes
+pub mod CellsAndSizes

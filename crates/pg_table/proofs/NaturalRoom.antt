@@ -1,28 +1,41 @@
--- A table at its natural sizes has room for each of its cells.
-use Rattle.std.proofs.Common.{◌≡◌, ℕ, ◌+◌, ◌^◌, ◌<◌, ◌≤◌, ◌&&◌, ◌||◌, ◌==◌, true, false, not, nat_le, List, [], length, slice_index_or, sum_by, refl, sym, ap, ◌∙◌, arith, Option, None, inl, inr}
-use Rattle.std.specs.List.{range_with_len}
-use Rattle.std.proofs.lemmas.Bool.{cases_Bool, and_from, or_right}
+-- A table at its natural sizes has room for each of its shown cells.
+use Rattle.std.proofs.Common.{◌≡◌, ℕ, ◌+◌, ◌-◌, ◌<◌, ◌≤◌, ◌&&◌, ◌==◌, true, false, not, nat_le, cond, List, [], map, length, find, sum_by, count_by, All, refl, sym, ap, ◌∙◌, subst, arith, Option, Some, None, inl, inr}
+use Rattle.std.specs.List.{range_with_len, list_all}
+use Rattle.std.proofs.lemmas.Bool.{cases_Bool, and_from, and_parts, or_right}
 use Rattle.std.proofs.lemmas.Bool.Decides.{nat_tests}
 use Rattle.pg_layout.specs.declared.position.Position.{Position}
 use Rattle.pg_layout.specs.Colors.{Color}
-use Rattle.pg_layout.specs.Position.{at}
+use Rattle.pg_layout.specs.Position.{at, is_at}
 use Rattle.pg_layout.specs.Records.{text_at}
 use Rattle.pg_layout.specs.Text.{Text}
-use Rattle.pg_config.specs.Config.{Config, get_padding, get_formatting, count_vertical, count_horizontal}
+use Rattle.pg_config.specs.Config.{Config, has_vertical, has_horizontal, count_vertical, count_horizontal}
+use Rattle.pg_config.specs.Spans.{Span, corner, in_span, owner, size_of, span_size, rect_rows, rect_columns}
+use Rattle.pg_config.specs.declared.spans.SpanSize.{SpanSize}
+use Rattle.pg_config.proofs.LinesLaw.{rows_stay}
 use Rattle.pg_picture.specs.Fitting.{TableFits}
-use Rattle.pg_picture.specs.Fits.{spans_fit, totals_fit, cell_fits, owner_fits, misfit_of, body_height}
+use Rattle.pg_picture.specs.Fits.{span_fits, all_apart, spans_fit, totals_fit, cell_fits, owner_fits, misfit_of, body_height}
 use Rattle.pg_picture.specs.Pieces.{Style, style_at, widest}
 use Rattle.pg_picture.specs.Table.{Table, is_empty, rect_width, rect_height, full_width, total_width}
+use Rattle.pg_picture.specs.declared.fits.Misfit.TheVariants.{Spans}
 use Rattle.pg_picture.proofs.FittingTables.{widths_fit, heights_fit}
-use Rattle.pg_picture.proofs.PlainTables.{rect_width_plain, rect_height_plain}
+use Rattle.pg_picture.proofs.HeightsOfRectangles.{height_of_rect-sum, rect_height-of_rect}
+use Rattle.pg_picture.proofs.OwnersOfPlaces.{Among, find_cases}
+use Rattle.pg_picture.proofs.PlainTables.{rect_height-one_row}
+use Rattle.pg_picture.proofs.ReachOfRectangles.{is_at-same}
 use Rattle.pg_picture.proofs.Rooms.{misfit_of-totals, fitting_tables_have_none}
 use Rattle.pg_picture.proofs.FittingGrids.{misfit-empty}
-use Rattle.pg_table.specs.Laws.{NaturalTablesHaveRoom}
-use Rattle.pg_table.specs.Natural.{cell_size, cell_at, count, count_cells, natural_size, natural_sizes, natural_table, all_fit}
+use Rattle.pg_table.specs.Laws.{NaturalTablesHaveRoom, PlainSizes}
+use Rattle.pg_table.specs.Natural.{cell_size, cell_at, count, count_cells, is_single, size_of_singles, need_of, natural_size, natural_sizes, natural_table, all_fit}
+use Rattle.pg_table.specs.Widening.{widened}
+use Rattle.pg_table.specs.declared.needs.Need.{Need}
 use Rattle.pg_table.specs.declared.sizes.Axis.{Axis}
 use Rattle.pg_table.specs.declared.sizes.Axis.TheVariants.{Columns, Rows}
-use Rattle.pg_table.proofs.CellsBelow.{cell-below}
+use Rattle.pg_table.proofs.CellsBelow.{cell-below, natural-with_cells}
+use Rattle.pg_table.proofs.Exact.{cells_have_room, no_column_shrinks}
 use Rattle.pg_table.proofs.ListedSizes.{size-at, all_fit-each, sum-listed}
+use Rattle.pg_table.proofs.Places.{fits-among, all-among, among-all, size-single, size-corner}
+use Rattle.pg_table.proofs.Sums.{sum-same}
+use Rattle.pg_table.proofs.Widenings.{widened-stays}
 
 -- a cell at least as wide as its paddings and its text, and at least as high as its top padding
 has_room : (style : Style) (text : Text) (w h : ℕ) → (style.padding.left.size + style.padding.right.size) + widest style.formatting text ≤ w → style.padding.top.size ≤ h → cell_fits style text w h ≡ true
@@ -32,13 +45,23 @@ has_room style text w h wide high =
     let down : nat_le style.padding.top.size h ≡ true = grind (arith, nat_tests, high) in
     or_right (h == 0) _ (and_from _ _ across down)
 
+-- a rectangle that fits
+pub record Inside (rows columns : ℕ) (s : Span) : Type 0 where
+  pub some_rows : 0 < s.1.rows
+  pub some_columns : 0 < s.1.columns
+  pub columns_end : s.0.col + s.1.columns ≤ columns
+  pub rows_end : s.0.row + s.1.rows ≤ rows
+
+inside-of : (rows columns : ℕ) (s : Span) → span_fits rows columns s ≡ true → Inside rows columns s
+inside-of rows columns s h = record { some_rows = grind (arith, nat_tests, h); some_columns = grind (arith, nat_tests, h); columns_end = grind (arith, nat_tests, h); rows_end = grind (arith, nat_tests, h) }
+
 module _ (config : Config) (texts : List (List Text)) (columns : ℕ) (color : Position → Option Color) where
   abbrev table : Table
   table = natural_table config texts columns color
 
   -- the natural size of column or row k, and its place in the list
   abbrev pub size : Axis → ℕ → ℕ
-  size axis k = natural_size axis config (text_at texts) (count_cells axis (length texts) columns) k
+  size axis k = natural_size axis config (text_at texts) (length texts) columns k
 
   pub width-at : (c : ℕ) → c < columns → table.width c ≡ size Columns c
   unfolding natural_sizes
@@ -48,30 +71,125 @@ module _ (config : Config) (texts : List (List Text)) (columns : ℕ) (color : P
   unfolding natural_sizes
   height-at r h = size-at (size Rows) (length texts) r h
 
-  -- a cell is no wider than its column, and no higher than its row
-  wide : (r c : ℕ) → r < length texts → c < columns → cell_size Columns config (text_at texts) (at r c) ≤ table.width c
-  wide r c h k = omega (arith, width-at c k, cell-below Columns config (text_at texts) (length texts) c r h)
+  -- ---- cells without a span
 
-  high : (r c : ℕ) → r < length texts → c < columns → cell_size Rows config (text_at texts) (at r c) ≤ table.height r
-  high r c h k = omega (arith, height-at r h, cell-below Rows config (text_at texts) columns r c k)
+  -- such a cell is no wider than its column, and no higher than its row
+  pub single_below : (axis : Axis) (k j : ℕ) → j < count_cells axis (length texts) columns → is_single config.spans (cell_at axis k j) ≡ true → cell_size axis config (text_at texts) (cell_at axis k j) ≤ size axis k
+  single_below axis k j h single =
+      omega (
+        arith,
+        cell-below axis config (text_at texts) (count_cells axis (length texts) columns) k j h single,
+        natural-with_cells axis config (text_at texts) (length texts) columns k (omega (arith, h)),
+        no_column_shrinks (size_of_singles axis config (text_at texts) (count_cells axis (length texts) columns)) (map (need_of axis config (text_at texts) (count axis (length texts) columns)) config.spans) (count axis (length texts) columns) k,
+      )
 
-  pub room : config.spans ≡ [] → (r c : ℕ) → r < length texts → c < columns → owner_fits table (at r c) ≡ true
-  unfolding owner_fits style_at
-  room none r c h k =
-      or_right (not _) _
-      (has_room (style_at config (at r c)) (text_at texts (at r c)) (rect_width table (at r c)) (rect_height table (at r c))
-      (omega (arith, rect_width_plain table none (at r c), wide r c h k))
-      (omega (arith, rect_height_plain table none (at r c) h, high r c h k)))
+  module _ (fit : spans_fit config.spans (length texts) columns ≡ true) where
+    pub all_fits : list_all (span_fits (length texts) columns) config.spans ≡ true
+    unfolding spans_fit
+    all_fits = (and_parts (list_all (span_fits (length texts) columns) config.spans) (all_apart config.spans) fit).0
 
-  spans_fit-none : config.spans ≡ [] → spans_fit config.spans (length texts) columns ≡ true
-  unfolding spans_fit
-  spans_fit-none none = rw none refl
+    pub inside : (s : Span) → Among config.spans s → Inside (length texts) columns s
+    inside s m = inside-of (length texts) columns s (fits-among (length texts) columns config.spans all_fits s m)
 
-  pub fits : config.spans ≡ [] → totals_fit table ≡ true → TableFits table
-  fits none totals = record { spans = spans_fit-none none; totals = totals; rooms = λ r c h k. room none r c h k }
+    room_single : (r c : ℕ) → r < length texts → c < columns → find (in_span r c) config.spans ≡ None → cell_fits (style_at config (at r c)) (text_at texts (at r c)) (rect_width table (at r c)) (rect_height table (at r c)) ≡ true
+    unfolding style_at rect_width rect_columns rect_rows
+    room_single r c h k none =
+        let one : size_of config.spans (at r c) ≡ span_size 1 1 = size-single (length texts) columns config.spans r c all_fits none in
+        let one_column : rect_columns config.spans (at r c) ≡ 1 = ap (λ (z : SpanSize). z.columns) one in
+        let one_row : rect_rows config.spans (at r c) ≡ 1 = ap (λ (z : SpanSize). z.rows) one in
+        let single : is_single config.spans (at r c) ≡ true = rw none refl in
+        let width : rect_width table (at r c) ≡ table.width c = rw one_column (omega arith) in
+        has_room (style_at config (at r c)) (text_at texts (at r c)) (rect_width table (at r c)) (rect_height table (at r c))
+        (omega (arith, width, width-at c k, single_below Columns c r h single))
+        (omega (arith, rect_height-one_row table (at r c) one_row h, height-at r h, single_below Rows r c k single))
 
-  pub misfit-none : config.spans ≡ [] → totals_fit table ≡ true → misfit_of table ≡ None
-  misfit-none none totals = fitting_tables_have_none table (fits none totals)
+    -- ---- cells with a span
+
+    abbrev pub needs : Axis → List Need
+    needs axis = map (need_of axis config (text_at texts) (count axis (length texts) columns)) config.spans
+
+    pub needs_some : (axis : Axis) → All (λ (need : Need). 0 < need.count) (needs axis)
+    needs_some Columns = all-among (λ (need : Need). 0 < need.count) (need_of Columns config (text_at texts) columns) config.spans (λ s m. (inside s m).some_columns)
+    needs_some Rows = all-among (λ (need : Need). 0 < need.count) (need_of Rows config (text_at texts) (length texts)) config.spans (λ s m. (inside s m).some_rows)
+
+    needs_end : (axis : Axis) → All (λ (need : Need). need.count ≤ count axis (length texts) columns) (needs axis)
+    needs_end Columns = all-among (λ (need : Need). need.count ≤ columns) (need_of Columns config (text_at texts) columns) config.spans (λ s m. omega (arith, (inside s m).columns_end))
+    needs_end Rows = all-among (λ (need : Need). need.count ≤ length texts) (need_of Rows config (text_at texts) (length texts)) config.spans (λ s m. omega (arith, (inside s m).rows_end))
+
+    pub needs_inside : (axis : Axis) → All (λ (need : Need). need.first + need.count ≤ count axis (length texts) columns) (needs axis)
+    needs_inside Columns = all-among (λ (need : Need). need.first + need.count ≤ columns) (need_of Columns config (text_at texts) columns) config.spans (λ s m. (inside s m).columns_end)
+    needs_inside Rows = all-among (λ (need : Need). need.first + need.count ≤ length texts) (need_of Rows config (text_at texts) (length texts)) config.spans (λ s m. (inside s m).rows_end)
+
+    -- its columns, or its rows, are as large as it needs
+    has_cells : (axis : Axis) (s : Span) → Among config.spans s → 0 < count_cells axis (length texts) columns
+    has_cells Columns s m = omega (arith, (inside s m).some_rows, (inside s m).rows_end)
+    has_cells Rows s m = omega (arith, (inside s m).some_columns, (inside s m).columns_end)
+
+    span_room : (axis : Axis) (s : Span) → Among config.spans s
+        → (need_of axis config (text_at texts) (count axis (length texts) columns) s).size
+        ≤ sum_by (size axis) (range_with_len (need_of axis config (text_at texts) (count axis (length texts) columns) s).first (need_of axis config (text_at texts) (count axis (length texts) columns) s).count)
+    span_room axis s m =
+        let n : ℕ = count axis (length texts) columns in
+        let base : ℕ → ℕ = size_of_singles axis config (text_at texts) (count_cells axis (length texts) columns) in
+        let need : Need = need_of axis config (text_at texts) (count axis (length texts) columns) s in
+        let room = among-all (λ (x : Need). x.size ≤ sum_by (widened base (needs axis) n) (range_with_len x.first x.count)) (need_of axis config (text_at texts) (count axis (length texts) columns)) config.spans
+        (cells_have_room base (needs axis) n (needs_some axis) (needs_end axis)) s m in
+        omega (arith, room, sum-same (size axis) (λ k. widened base (needs axis) n k) need.first need.count (λ k l h. natural-with_cells axis config (text_at texts) (length texts) columns k (has_cells axis s m)))
+
+    pub wide_span : (s : Span) → Among config.spans s → size_of config.spans (corner s) ≡ s.1 → cell_size Columns config (text_at texts) (corner s) ≤ rect_width table (corner s)
+    unfolding rect_width rect_columns
+    wide_span s m one =
+        let taken : rect_columns config.spans (corner s) ≡ s.1.columns = ap (λ (z : SpanSize). z.columns) one in
+        let width : rect_width table (corner s) ≡ sum_by table.width (range_with_len s.0.col s.1.columns) + count_by (λ c. has_vertical config c columns) (range_with_len (s.0.col + 1) (s.1.columns - 1)) = rw taken refl in
+        let sums = sum-same table.width (size Columns) s.0.col s.1.columns (λ k l h. width-at k (omega (arith, h, (inside s m).columns_end))) in
+        let room : cell_size Columns config (text_at texts) (corner s) - count_by (λ c. has_vertical config c columns) (range_with_len (s.0.col + 1) (s.1.columns - 1)) ≤ sum_by (size Columns) (range_with_len s.0.col s.1.columns) = span_room Columns s m in
+        omega (arith, width, sums, room)
+
+    pub high_span : (s : Span) → Among config.spans s → size_of config.spans (corner s) ≡ s.1 → cell_size Rows config (text_at texts) (corner s) ≤ rect_height table (corner s)
+    unfolding rect_rows
+    high_span s m one =
+        let taken : rect_rows config.spans (corner s) ≡ s.1.rows = ap (λ (z : SpanSize). z.rows) one in
+        let ends = (inside s m).rows_end in
+        let some = (inside s m).some_rows in
+        let height = rect_height-of_rect table (corner s) (omega (arith, taken, some)) (omega (arith, taken, ends)) ∙ height_of_rect-sum config table.height (corner s) (omega (arith, taken, some)) in
+        let told : rect_height table (corner s) ≡ sum_by table.height (range_with_len s.0.row s.1.rows) + count_by (λ r. has_horizontal config r (s.0.row + s.1.rows)) (range_with_len (s.0.row + 1) (s.1.rows - 1)) =
+        subst (λ n. rect_height table (corner s) ≡ sum_by table.height (range_with_len s.0.row n) + count_by (λ r. has_horizontal config r (s.0.row + n)) (range_with_len (s.0.row + 1) (n - 1))) taken height in
+        let sums = sum-same table.height (size Rows) s.0.row s.1.rows (λ k l h. height-at k (omega (arith, h, ends))) in
+        let lines = sum-same (λ r. cond (has_horizontal config r (s.0.row + s.1.rows)) 1 0) (λ r. cond (has_horizontal config r (length texts)) 1 0) (s.0.row + 1) (s.1.rows - 1)
+        (λ k l h. ap (λ b. cond b 1 0) (rows_stay config (at k 0) 0 (s.0.row + s.1.rows) (length texts) (omega (arith, h, some)) (omega (arith, h, some, ends))).line) in
+        let room : cell_size Rows config (text_at texts) (corner s) - count_by (λ r. has_horizontal config r (length texts)) (range_with_len (s.0.row + 1) (s.1.rows - 1)) ≤ sum_by (size Rows) (range_with_len s.0.row s.1.rows) = span_room Rows s m in
+        omega (arith, told, sums, lines, room)
+
+    room_corner : (s : Span) → Among config.spans s → size_of config.spans (corner s) ≡ s.1 → cell_fits (style_at config (corner s)) (text_at texts (corner s)) (rect_width table (corner s)) (rect_height table (corner s)) ≡ true
+    unfolding style_at
+    room_corner s m one =
+        has_room (style_at config (corner s)) (text_at texts (corner s)) (rect_width table (corner s)) (rect_height table (corner s))
+        (wide_span s m one)
+        (let high = high_span s m one in omega (arith, high))
+
+    pub room : (r c : ℕ) → r < length texts → c < columns → owner_fits table (at r c) ≡ true
+    unfolding owner_fits owner
+    room r c h k =
+        elim (find_cases (in_span r c) config.spans) [
+          | inl none ↦ or_right (not _) _ (room_single r c h k none)
+          | inr some ↦
+              let s : Span = some.0 in
+              elim (cases_Bool (is_at (corner s) r c)) [
+                | inl own ↦
+                    let same : corner s ≡ at r c = is_at-same (corner s) (at r c) own in
+                    let one : size_of config.spans (at r c) ≡ s.1 = size-corner (length texts) columns config.spans s r c all_fits some.1 same in
+                    or_right (not _) _
+                    (subst (λ p. cell_fits (style_at config p) (text_at texts p) (rect_width table p) (rect_height table p) ≡ true) same
+                    (room_corner s some.3 (subst (λ p. size_of config.spans p ≡ s.1) (sym same) one)))
+                | inr other ↦ rw (some.1, other) refl
+              ]
+        ]
+
+    pub fits : totals_fit table ≡ true → TableFits table
+    fits totals = record { spans = fit; totals = totals; rooms = λ r c h k. room r c h k }
+
+    pub misfit-none : totals_fit table ≡ true → misfit_of table ≡ None
+    misfit-none totals = fitting_tables_have_none table (fits totals)
 
   -- ---- totals
 
@@ -99,13 +217,27 @@ module _ (config : Config) (texts : List (List Text)) (columns : ℕ) (color : P
       (all_fit-each (size Columns) columns (λ c h. omega (arith, widths_fit table totals c h, width-at c h)))
       (all_fit-each (size Rows) (length texts) (λ r h. omega (arith, heights_fit table totals r h, height-at r h)))
 
+no_spans_fit : (config : Config) (texts : List (List Text)) (columns : ℕ) (color : Position → Option Color) → is_empty (natural_table config texts columns color) ≡ false → spans_fit config.spans (length texts) columns ≡ false → misfit_of (natural_table config texts columns color) ≡ Some Spans
+unfolding misfit_of
+no_spans_fit config texts columns color some none = rw (some, none) refl
+
 pub natural_tables_have_room : NaturalTablesHaveRoom
-natural_tables_have_room config texts columns color none =
+natural_tables_have_room config texts columns color =
     let t = natural_table config texts columns color in
     elim (cases_Bool (is_empty t)) [
       | inl y ↦ misfit-empty t y ∙ rw y refl
-      | inr n ↦ elim (cases_Bool (totals_fit t)) [
-        | inl z ↦ misfit-none config texts columns color none z ∙ rw (n, z) refl
-        | inr m ↦ misfit_of-totals t n (spans_fit-none config texts columns color none) m ∙ rw (n, m) refl
+      | inr n ↦ elim (cases_Bool (spans_fit config.spans (length texts) columns)) [
+        | inl fit ↦ elim (cases_Bool (totals_fit t)) [
+          | inl z ↦ misfit-none config texts columns color fit z ∙ rw (n, fit, z) refl
+          | inr m ↦ misfit_of-totals t n fit m ∙ rw (n, fit, m) refl
+        ]
+        | inr misfit ↦ no_spans_fit config texts columns color n misfit ∙ rw (n, misfit) refl
       ]
     ]
+
+-- without spans a column is as wide as its widest cell
+pub plain_tables_are_as_they_were : PlainSizes
+unfolding size_of_singles
+plain_tables_are_as_they_were axis config text rows columns k none some =
+    natural-with_cells axis config text rows columns k some
+    ∙ rw none (widened-stays (size_of_singles axis (record config { spans = [] }) text (count_cells axis rows columns)) [] (λ i d h. absurd (omega (arith, h))) (count axis rows columns) k)

@@ -1,5 +1,5 @@
 -- Tables at their natural sizes are straight.
-use Rattle.std.proofs.Common.{◌≡◌, ℕ, ◌<◌, ◌==◌, true, false, List, [], ◌∷◌, length, Bool, refl, sym, ap, ◌∙◌, arith, Option, Some, None, IfSome, IsSome, encode_utf8, inl, inr, if◌then◌else◌}
+use Rattle.std.proofs.Common.{◌≡◌, ℕ, ◌<◌, ◌==◌, true, false, List, [], ◌∷◌, length, Bool, refl, arith, Option, Some, None, IfSome, encode_utf8, inl, inr}
 use Rattle.std.specs.Option.{option_or}
 use Rattle.std.proofs.lemmas.Bool.{cases_Bool}
 use Rattle.std.proofs.lemmas.Bool.Decides.{nat_tests}
@@ -15,7 +15,7 @@ use Rattle.pg_config.specs.Overrides.{horizontal_override, vertical_override, cr
 use Rattle.pg_picture.specs.Straight.{IsNarrow, HasNarrowFills, HasNarrowGlyphs, CellsFit, IsStraight}
 use Rattle.pg_picture.specs.Pieces.{style_at}
 use Rattle.pg_picture.specs.Table.{Table, Known}
-use Rattle.pg_picture.specs.Fits.{totals_fit}
+use Rattle.pg_picture.specs.Fits.{spans_fit, totals_fit}
 use Rattle.pg_picture.proofs.StraightColumns.{columns_are_straight, margins_are_straight}
 use Rattle.pg_picture.proofs.GlyphsOfLines.{missing_glyph_fills_gaps}
 use Rattle.pg_table.specs.Laws.{HasNarrowLines, IsEven, AsciiIsNarrow}
@@ -67,7 +67,7 @@ module _ (config : Config) (texts : List (List Text)) (columns : ℕ) (color : P
   abbrev table : Table
   table = natural_table config texts columns color
 
-  facts : 0 < table.rows → 0 < table.columns → (config.spans ≡ []) × (totals_fit table ≡ true)
+  facts : 0 < table.rows → 0 < table.columns → (spans_fit config.spans (length texts) columns ≡ true) × (totals_fit table ≡ true)
   facts h k = fault-none table (grind (arith, nat_tests, h, k)) none
 
   cells : 0 < table.rows → 0 < table.columns → CellsFit table

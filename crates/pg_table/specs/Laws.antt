@@ -1,27 +1,39 @@
 -- What natural sizes give a table.
-use Rattle.std.specs.Prelude.{◌≡◌, ℕ, ◌<◌, ◌&&◌, true, List, [], Option, Some, None, IfSome, IsSome, if◌then◌else◌}
+use Rattle.std.specs.List.{range_with_len}
+use Rattle.std.specs.Prelude.{◌≡◌, ℕ, ◌<◌, ◌&&◌, true, not, List, [], map, length, Option, Some, None, IfSome, IsSome, if◌then◌else◌}
 use Rattle.pg_layout.specs.declared.position.Position.{Position}
 use Rattle.pg_layout.specs.Borders.{horizontal_glyph, vertical_glyph, crossing_glyph}
 use Rattle.pg_layout.specs.Colors.{Color}
-use Rattle.pg_layout.specs.Text.{Text}
+use Rattle.pg_layout.specs.Text.{Text, greatest}
 use Rattle.pg_config.specs.Config.{Config}
 use Rattle.pg_config.specs.Offsets.{no_offsets}
 use Rattle.pg_config.specs.Overrides.{horizontal_override, vertical_override, crossing_override}
-use Rattle.pg_picture.specs.Fits.{totals_fit, misfit_of}
+use Rattle.pg_picture.specs.Fits.{spans_fit, totals_fit, misfit_of}
 use Rattle.pg_picture.specs.Straight.{IsNarrow, HasNarrowFills, HasNarrowMargins, HasStraightLines, HasStraightMargins}
 use Rattle.pg_picture.specs.Pieces.{style_at}
 use Rattle.pg_picture.specs.Table.{Table, Known, is_empty}
-use Rattle.pg_picture.specs.declared.fits.Misfit.TheVariants.{Totals}
-use Rattle.pg_table.specs.Natural.{natural_sizes, natural_table, all_fit}
+use Rattle.pg_picture.specs.declared.fits.Misfit.TheVariants.{Spans, Totals}
+use Rattle.pg_table.specs.Natural.{cell_size, cell_at, count_cells, natural_size, natural_sizes, natural_table, all_fit}
 use Rattle.pg_table.specs.Printing.{ascii_config}
+use Rattle.pg_table.specs.declared.sizes.Axis.{Axis}
 use Rattle.pg_table.specs.declared.sizes.Axis.TheVariants.{Columns, Rows}
 
--- At its natural sizes a table without spans has room for each of its cells: nothing but its totals can misfit.
+-- At its natural sizes a table has room for each of its shown cells: nothing but spans that don't fit and totals that are no
+-- numbers can misfit.
 abbrev pub NaturalTablesHaveRoom : Type 0
 NaturalTablesHaveRoom =
-    (config : Config) (texts : List (List Text)) (columns : ℕ) (color : Position → Option Color) → config.spans ≡ []
+    (config : Config) (texts : List (List Text)) (columns : ℕ) (color : Position → Option Color)
     → misfit_of (natural_table config texts columns color)
-    ≡ (if is_empty (natural_table config texts columns color) then None else if totals_fit (natural_table config texts columns color) then None else Some Totals)
+    ≡ (if is_empty (natural_table config texts columns color) then None
+    else if not (spans_fit config.spans (length texts) columns) then Some Spans
+    else if totals_fit (natural_table config texts columns color) then None
+    else Some Totals)
+
+-- Without spans a column is as wide as its widest cell, and a row as high as its highest one.
+abbrev pub PlainSizes : Type 0
+PlainSizes =
+    (axis : Axis) (config : Config) (text : Position → Text) (rows columns k : ℕ) → config.spans ≡ [] → 0 < count_cells axis rows columns
+    → natural_size axis config text rows columns k ≡ greatest (map (λ j. cell_size axis config text (cell_at axis k j)) (range_with_len 0 (count_cells axis rows columns)))
 
 -- Where its totals fit, each natural size does.
 abbrev pub TotalsHoldSizes : Type 0

@@ -1,14 +1,17 @@
 -- A table at its natural sizes: each column as wide as its widest cell, each row as high as its highest one.
-use Rattle.std.specs.Prelude.{ℕ, ◌+◌, ◌^◌, max, nat_lt, Bool, List, map, length, slice_index_or, Option}
+use Rattle.std.specs.Prelude.{ℕ, ◌+◌, ◌-◌, ◌^◌, ◌==◌, ◌&&◌, ◌||◌, not, nat_lt, Bool, List, map, find, length, count_by, slice_index_or, Option, is_none, if◌then◌else◌}
 use Rattle.std.specs.List.{range_with_len, list_all}
 use Rattle.pg_layout.specs.declared.position.Position.{Position}
 use Rattle.pg_layout.specs.Colors.{Color}
 use Rattle.pg_layout.specs.Position.{at}
 use Rattle.pg_layout.specs.Records.{text_at}
 use Rattle.pg_layout.specs.Text.{Text, greatest}
-use Rattle.pg_config.specs.Config.{Config, get_padding, get_formatting}
+use Rattle.pg_config.specs.Config.{Config, get_padding, get_formatting, has_horizontal, has_vertical}
+use Rattle.pg_config.specs.Spans.{Span, corner, in_span, is_visible}
 use Rattle.pg_picture.specs.Pieces.{shown, widest}
 use Rattle.pg_picture.specs.Table.{Table}
+use Rattle.pg_table.specs.Widening.{widened}
+use Rattle.pg_table.specs.declared.needs.Need.{Need}
 use Rattle.pg_table.specs.declared.sizes.Axis.{Axis}
 use Rattle.pg_table.specs.declared.sizes.Axis.TheVariants.{Columns, Rows}
 
@@ -40,20 +43,55 @@ abbrev pub count_cells : Axis → ℕ → ℕ → ℕ
 count_cells Columns rows columns = rows
 count_cells Rows rows columns = columns
 
--- the natural width of column k, or the natural height of row k, of so many cells: the greatest of its cells, and where it
--- has none the paddings alone
-unfoldable pub natural_size : Axis → Config → (Position → Text) → ℕ → ℕ → ℕ
-natural_size axis config text cells k =
-    max (paddings axis config (cell_at axis k 0)) (greatest (map (λ j. cell_size axis config text (cell_at axis k j)) (range_with_len 0 cells)))
+-- no rectangle that is kept holds the place: its cell takes one column and one row
+abbrev pub is_single : List Span → Position → Bool
+is_single spans p = is_none (find (in_span p.row p.col) spans)
+
+-- what such a cell takes; the others count for nothing here
+abbrev pub single_size : Axis → Config → (Position → Text) → Position → ℕ
+single_size axis config text p = if is_single config.spans p then cell_size axis config text p else 0
+
+-- the width of column k by them alone, or the height of row k, of so many cells: the greatest of them
+unfoldable pub size_of_singles : Axis → Config → (Position → Text) → ℕ → ℕ → ℕ
+size_of_singles axis config text cells k = greatest (map (λ j. single_size axis config text (cell_at axis k j)) (range_with_len 0 cells))
+
+-- what a cell with a span needs of its columns, or its rows, in a table of so many: its size less the lines between them
+abbrev pub need_of : Axis → Config → (Position → Text) → ℕ → Span → Need
+need_of Columns config text columns s = record {
+  first = s.0.col;
+  count = s.1.columns;
+  size = cell_size Columns config text (corner s) - count_by (λ c. has_vertical config c columns) (range_with_len (s.0.col + 1) (s.1.columns - 1));
+}
+need_of Rows config text rows s = record {
+  first = s.0.row;
+  count = s.1.rows;
+  size = cell_size Rows config text (corner s) - count_by (λ r. has_horizontal config r rows) (range_with_len (s.0.row + 1) (s.1.rows - 1));
+}
+
+-- the natural width of column k, or the natural height of row k, of a table of so many rows and columns: that of its single
+-- cells, widened for those with a span, the smaller ones first; and where it has no cells the paddings of its first place
+unfoldable pub natural_size : Axis → Config → (Position → Text) → ℕ → ℕ → ℕ → ℕ
+natural_size axis config text rows columns k =
+    if count_cells axis rows columns == 0 then paddings axis config (cell_at axis k 0)
+    else widened (size_of_singles axis config text (count_cells axis rows columns)) (map (need_of axis config text (count axis rows columns)) config.spans) (count axis rows columns) k
 
 -- the natural widths of all columns of texts, or the natural heights of all rows
 unfoldable pub natural_sizes : Axis → Config → List (List Text) → ℕ → List ℕ
 natural_sizes axis config texts columns =
-    map (natural_size axis config (text_at texts) (count_cells axis (length texts) columns)) (range_with_len 0 (count axis (length texts) columns))
+    map (natural_size axis config (text_at texts) (length texts) columns) (range_with_len 0 (count axis (length texts) columns))
 
 -- all are numbers of 64 bits
 abbrev pub all_fit : List ℕ → Bool
 all_fit sizes = list_all (λ n. nat_lt n (2 ^ 64)) sizes
+
+-- the width and the height of a cell are numbers of 64 bits
+abbrev pub is_sized : Config → (Position → Text) → Position → Bool
+is_sized config text p = nat_lt (cell_size Columns config text p) (2 ^ 64) && nat_lt (cell_size Rows config text p) (2 ^ 64)
+
+-- those of each shown cell are
+unfoldable pub cells_fit : Config → (Position → Text) → ℕ → ℕ → Bool
+cells_fit config text rows columns =
+    list_all (λ r. list_all (λ c. not (is_visible config.spans (at r c)) || is_sized config text (at r c)) (range_with_len 0 columns)) (range_with_len 0 rows)
 
 -- the table of these texts of so many columns, at its natural sizes
 abbrev pub natural_table : Config → List (List Text) → ℕ → (Position → Option Color) → Table

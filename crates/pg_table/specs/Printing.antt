@@ -1,38 +1,56 @@
 -- What printing a table at its natural sizes does.
-use Rattle.std.specs.Prelude.{◌≡◌, Bool, not, ◌==◌, nat_lt, ℕ, List, map, length, Option, Some, None, Result, Err, String, if◌then◌else◌}
+use Rattle.std.specs.Prelude.{◌≡◌, ◌⊎◌, Bool, true, not, ◌&&◌, ◌||◌, ◌==◌, nat_lt, ℕ, List, map, length, Option, Some, None, Result, Err, String, if◌then◌else◌}
 use Rattle.pg_layout.specs.declared.borders.HorizontalLine.{HorizontalLine}
 use Rattle.pg_layout.specs.declared.position.Position.{Position}
 use Rattle.pg_layout.specs.Colors.{Color}
 use Rattle.pg_layout.specs.ColorsMap.{color_at}
 use Rattle.pg_layout.specs.Looks.{ascii}
-use Rattle.pg_layout.specs.Records.{columns_of}
+use Rattle.pg_layout.specs.Records.{columns_of, text_at}
 use Rattle.pg_layout.specs.Text.{Text}
 use Rattle.pg_config.specs.Config.{Config, default_config}
 use Rattle.pg_config.specs.Overrides.{with_row_line}
-use Rattle.pg_picture.specs.Fits.{totals_fit}
+use Rattle.pg_picture.specs.Fits.{spans_fit, totals_fit}
 use Rattle.pg_picture.specs.Table.{Table as Drawn, is_empty}
 use Rattle.pg_picture.specs.Appending.{AppendsOrNothing}
-use Rattle.pg_table.specs.Natural.{natural_sizes, natural_table}
+use Rattle.pg_table.specs.Natural.{natural_sizes, natural_table, all_fit, cells_fit}
 use Rattle.pg_table.specs.declared.fault.TableFault.{TableFault}
 use Rattle.pg_table.specs.declared.fault.TableFault.TheVariants.{Spans, Totals, Memory}
 use Rattle.pg_table.specs.declared.natural.NaturalTable.{NaturalTable}
 use Rattle.pg_table.specs.declared.sizes.Axis.{Axis}
+use Rattle.pg_table.specs.declared.sizes.Axis.TheVariants.{Columns, Rows}
 
 -- ---- faults
 
--- why a table with cells isn't printed at its natural sizes: a span is kept, or its totals are no numbers
+-- why a table with cells isn't printed at its natural sizes: its spans don't fit, or its totals are no numbers
 unfoldable pub fault_of : Drawn → Option TableFault
 fault_of t =
     if is_empty t then None
-    else if not (length t.config.spans == 0) then Some Spans
+    else if not (spans_fit t.config.spans t.rows t.columns) then Some Spans
     else if not (totals_fit t) then Some Totals
     else None
 
--- A table with a fault is refused and the buffer stays as it was. Any other is appended, and nothing but want of memory is
--- refused, before the first byte or in the midst of them.
-abbrev pub Prints : {Z U : Type 0} → Option TableFault → String Z → String Z → Result U TableFault → Text → Type 0
-Prints (Some fault) old new result text = (result ≡ Err fault) × (new ≡ old)
-Prints None old new result text = AppendsOrNothing old new result text × ((fault : TableFault) → result ≡ Err fault → fault ≡ Memory)
+-- a span is kept
+abbrev pub is_spanned : Drawn → Bool
+is_spanned t = not (length t.config.spans == 0)
+
+-- What a call that works out the sizes of a table may answer: its fault; and want of memory where it has none, or where it
+-- has spans and its totals are no numbers, which is known only where there is memory for its sizes.
+abbrev pub CanFail : Drawn → TableFault → Type 0
+CanFail t fault = (fault_of t ≡ Some fault) ⊎ ((fault ≡ Memory) × ((fault_of t ≡ None) ⊎ ((fault_of t ≡ Some Totals) × (is_spanned t ≡ true))))
+
+-- A table with a fault is refused and the buffer stays as it was. Any other table is appended, and nothing but
+-- want of memory is refused, before the first byte or in the midst of them.
+abbrev pub Prints : {Z U : Type 0} → Bool → Option TableFault → String Z → String Z → Result U TableFault → Text → Type 0
+Prints spanned (Some fault) old new result text = ((result ≡ Err fault) ⊎ ((result ≡ Err Memory) × (fault ≡ Totals) × (spanned ≡ true))) × (new ≡ old)
+Prints spanned None old new result text = AppendsOrNothing old new result text × ((fault : TableFault) → result ≡ Err fault → fault ≡ Memory)
+
+-- why natural sizes of these texts of so many columns aren't told: the spans of a table with cells don't fit, or a natural size, or
+-- the width or the height of a shown cell, is no number
+unfoldable pub sizes_fault : Config → List (List Text) → ℕ → Option TableFault
+sizes_fault config texts columns =
+    if not ((length texts == 0) || (columns == 0)) && not (spans_fit config.spans (length texts) columns) then Some Spans
+    else if not ((all_fit (natural_sizes Columns config texts columns) && all_fit (natural_sizes Rows config texts columns)) && cells_fit config (text_at texts) (length texts) columns) then Some Totals
+    else None
 
 -- ---- tables
 
@@ -47,6 +65,10 @@ drawn_of texts columns color (records, config, colors) = natural_table config (t
 -- its natural sizes, by what its records tell
 abbrev pub sizes_of : {R C : Type 0} → (R → List (List Text)) → (R → ℕ) → Axis → R × Config × C → List ℕ
 sizes_of texts columns axis (records, config, colors) = natural_sizes axis config (texts records) (columns records)
+
+-- and why they aren't told
+abbrev pub sizes_fault_of : {R C : Type 0} → (R → List (List Text)) → (R → ℕ) → R × Config × C → Option TableFault
+sizes_fault_of texts columns (records, config, colors) = sizes_fault config (texts records) (columns records)
 
 -- what a table with rows of its own is made of
 pub record Parts (T : Type 0) : Type 0 where

@@ -1,12 +1,27 @@
 //! Laws of natural sizes: the contracts of functions that do nothing are the laws.
 
-ghost use Rattle.pg_table.specs.Laws.{NaturalTablesHaveRoom, TotalsHoldSizes, AsciiIsNarrow};
+ghost use Rattle.pg_table.specs.Laws.{NaturalTablesHaveRoom, TotalsHoldSizes, PlainSizes, AsciiIsNarrow};
+ghost use Rattle.pg_table.specs.WideningLaws.{CellsHaveRoom, NoColumnShrinks, NoColumnPassesItsCells, EnoughStays, AloneIsExact};
 
-/// At its natural sizes a table without spans has room for each of its cells: nothing but its totals
-/// can misfit. Where the totals fit, each natural size does.
+/// At its natural sizes a table has room for each of its shown cells: nothing but spans that don't fit
+/// and its totals can misfit. Where the totals fit, each natural size does. Without spans each column
+/// is as wide as its widest cell, and each row as high as its highest one.
 pub fn natural_tables_have_room()
     ensures room { NaturalTablesHaveRoom }
     ensures sizes { TotalsHoldSizes }
+    ensures plain { PlainSizes }
+{}
+
+/// Columns, or rows, have room for each cell that takes several of them. None is narrower than its
+/// widest cell of one column, and none is wider than its widest cell; where no cell lacks room, each
+/// stays as it is. A cell of whose columns no other cell of as many or more takes any is filled
+/// exactly.
+pub fn columns_are_widened_as_needed()
+    ensures room { CellsHaveRoom }
+    ensures least { NoColumnShrinks }
+    ensures greatest { NoColumnPassesItsCells }
+    ensures enough { EnoughStays }
+    ensures exact { AloneIsExact }
 {}
 
 /// The ASCII borders that a table begins with take one column each: all that is left to make its

@@ -3,13 +3,17 @@
 
 mod fault;
 mod laws;
+mod measured;
 mod natural;
+mod needs;
 mod sizes;
 mod style;
 mod table;
 
 pub use crate::fault::TableFault;
-pub use crate::laws::{ascii_borders_are_narrow, natural_tables_have_room};
+pub use crate::laws::{
+    ascii_borders_are_narrow, columns_are_widened_as_needed, natural_tables_have_room,
+};
 pub use crate::natural::NaturalTable;
 pub use crate::sizes::Axis;
 pub use crate::table::Table;

@@ -8,11 +8,13 @@ use crate::sizes::{Axis, NaturalSizes, plus};
 use pg_config::SpannedConfig;
 use pg_layout::{Colors, ConstantDimension, Dimension, ExactRecords, PeekableRecords};
 use pg_peekable::PeekableGrid;
+use pg_picture::fits::{spans_fit, totals_fit};
 use std::alloc::{AllocError, Allocator, Global};
 
 /// A table over records that can be read at any place, at its natural sizes: each column as wide as
 /// its widest cell, and each row as high as its highest one, a cell being its text with the paddings
-/// round it. Nothing is copied: records, settings and colours are lent.
+/// round it. What a cell with a span lacks beside smaller cells is shared out evenly over its columns
+/// and its rows. Nothing is copied: records, settings and colours are lent.
 ///
 /// ```text
 /// NaturalTable::new(&records, &config, &NoColors).print(alloc, &mut buf)?;
@@ -44,30 +46,62 @@ where
     C: Colors,
     B: Allocator,
 {
-    ghost use Rattle.std.specs.Prelude.{◌≡◌, ◌↔◌, ◌⊎◌, ◌<◌, ◌&&◌, ◌++◌, length, true, false, Some, None, Err, IfOk, IsOk, OnOk, string_bytes};
-    ghost use Rattle.std.specs.Result.{result_err};
-    ghost use Rattle.pg_picture.specs.Appending.{Appends, AppendsOrNothing};
-    ghost use Rattle.pg_picture.specs.Fits.{totals_fit, body_height, misfit_of};
+    ghost use Rattle.std.specs.Prelude.{◌≡◌, ◌<◌, ◌++◌, [], length, true, false, Some, None, Err, IfOk, IsOk, OnOk, string_bytes};
+    ghost use Rattle.pg_layout.specs.Keys.{by_columns};
+    ghost use Rattle.pg_layout.specs.Places.{IsAscending};
+    ghost use Rattle.pg_picture.specs.Appending.{Appends};
+    ghost use Rattle.pg_picture.specs.Fits.{spans_fit, totals_fit, body_height, misfit_of};
     ghost use Rattle.pg_picture.specs.Straight.{IsStraight};
     ghost use Rattle.pg_picture.specs.Picture.{picture};
     ghost use Rattle.pg_picture.specs.Table.{Known, full_width, is_empty};
     ghost use Rattle.pg_picture.specs.Sizes.{if_fits};
-    ghost use Rattle.pg_table.specs.Natural.{all_fit};
     ghost use Rattle.pg_table.specs.Laws.{IsEven};
-    ghost use Rattle.pg_table.specs.Printing.{fault_of, drawn_of, natural_parts, sizes_of, Prints};
+    ghost use Rattle.pg_table.specs.Printing.{fault_of, is_spanned, drawn_of, natural_parts, sizes_of, sizes_fault_of, CanFail, Prints};
     ghost use Rattle.pg_table.specs.declared.sizes.Axis.TheVariants.{Columns, Rows};
 
     /// The natural widths of the columns and the natural heights of the rows, in terminal columns
     /// and lines.
     ///
-    /// `Totals` comes exactly where one of them passes `usize::MAX`, before any memory is taken;
-    /// `Memory` where memory is refused; and no other error.
+    /// `Spans` comes exactly where the table has cells and its spans don't fit; `Totals` exactly where
+    /// they do and one of the sizes, or the width or the height of a shown cell, passes `usize::MAX`,
+    /// also where memory is refused; `Memory` where memory is refused and neither is so.
     pub fn natural_dimension<A: Allocator + Copy>(
         &self,
         alloc: A,
     ) -> Result<ConstantDimension<A>, TableFault>
-        ensures totals { (result ≡ Err TableFault.Totals) ↔ ((all_fit (sizes_of R.texts R.columns Columns (natural_parts self.now)) && all_fit (sizes_of R.texts R.columns Rows (natural_parts self.now))) ≡ false) }
-        ensures memory { (fault : TableFault) → result ≡ Err fault → fault ≡ TableFault.Totals ⊎ fault ≡ TableFault.Memory }
+        ensures fault { (fault : TableFault) → sizes_fault_of R.texts R.columns (natural_parts self.now) ≡ Some fault → result ≡ Err fault }
+        ensures memory { (fault : TableFault) → sizes_fault_of R.texts R.columns (natural_parts self.now) ≡ None → result ≡ Err fault → fault ≡ TableFault.Memory }
+        ensures widths { IfOk result (λ d. d.0.items ≡ sizes_of R.texts R.columns Columns (natural_parts self.now)) }
+        ensures heights { IfOk result (λ d. d.1.items ≡ sizes_of R.texts R.columns Rows (natural_parts self.now)) }
+    {
+        if self.is_empty() {
+            return self.dimension_without_cells(alloc);
+        }
+        if !self.spans_fit() {
+            return Err(TableFault::Spans);
+        }
+        let sizes = self.sizes();
+        match sizes.measured(alloc) {
+            Ok(Some(dimension)) => Ok(dimension),
+            Ok(None) => Err(TableFault::Totals),
+            Err(_) => {
+                if sizes.cells_fit() {
+                    Err(TableFault::Memory)
+                } else {
+                    Err(TableFault::Totals)
+                }
+            }
+        }
+    }
+
+    // The same of a table without cells.
+    fn dimension_without_cells<A: Allocator + Copy>(
+        &self,
+        alloc: A,
+    ) -> Result<ConstantDimension<A>, TableFault>
+        requires { is_empty (drawn_of R.texts R.columns C.color (natural_parts self.now)) ≡ true }
+        ensures fault { (fault : TableFault) → sizes_fault_of R.texts R.columns (natural_parts self.now) ≡ Some fault → result ≡ Err fault }
+        ensures memory { (fault : TableFault) → sizes_fault_of R.texts R.columns (natural_parts self.now) ≡ None → result ≡ Err fault → fault ≡ TableFault.Memory }
         ensures widths { IfOk result (λ d. d.0.items ≡ sizes_of R.texts R.columns Columns (natural_parts self.now)) }
         ensures heights { IfOk result (λ d. d.1.items ≡ sizes_of R.texts R.columns Rows (natural_parts self.now)) }
     {
@@ -78,40 +112,36 @@ where
         Ok(sizes.listed(alloc)?)
     }
 
-    /// Whether the table can be printed at its natural sizes: no span is kept, and the natural
-    /// sizes and the totals are at most `usize::MAX`. A table with no rows or no columns can.
+    /// Whether the table can be printed at its natural sizes: its spans fit, and the natural sizes and
+    /// the totals are at most `usize::MAX`. A table with no rows or no columns can, and takes no memory.
     ///
-    /// Takes no memory.
-    #[tactic(auto, unfolding(crate::specs::Printing::fault_of))]
-    pub fn fits(&self) -> Result<(), TableFault>
-        ensures { result_err result ≡ fault_of (drawn_of R.texts R.columns C.color (natural_parts self.now)) }
+    /// `alloc` gives the memory for the sizes. Where it is refused, a table without a span is still told
+    /// by its totals, and only then answered by `Memory`; one with a span is answered by `Memory`.
+    pub fn fits<A: Allocator + Copy>(&self, alloc: A) -> Result<(), TableFault>
+        ensures ok { IsOk result → fault_of (drawn_of R.texts R.columns C.color (natural_parts self.now)) ≡ None }
+        ensures fault { (fault : TableFault) → result ≡ Err fault → CanFail (drawn_of R.texts R.columns C.color (natural_parts self.now)) fault }
     {
         if self.is_empty() {
             return Ok(());
         }
-        if !self.config.spans().is_empty() {
-            return Err(TableFault::Spans);
-        }
-        if !self.totals_fit() {
-            return Err(TableFault::Totals);
-        }
+        self.sized(alloc)?;
         Ok(())
     }
 
     /// Appends the picture of the table at its natural sizes. A table with no rows or no columns
     /// appends nothing, and takes no memory.
     ///
-    /// A table that keeps a span is answered by `Spans`; one of which a natural size, the width of a
-    /// line or the number of lines passes `usize::MAX` by `Totals`. Both come before any memory is
-    /// taken, and the buffer stays as it was. `alloc` gives the memory for the sizes. Where memory is
-    /// refused, the answer is `Memory`, and the buffer holds a beginning of the picture behind what
-    /// it held before.
+    /// A table whose spans don't fit is answered by `Spans`, before any memory is taken; one of which a
+    /// natural size, the width of a line or the number of lines passes `usize::MAX` by `Totals`, also
+    /// where memory is refused, if it keeps no span. The buffer then stays as it was. `alloc` gives the
+    /// memory for the sizes. Where memory is refused, the answer is `Memory`, and the buffer holds a
+    /// beginning of the picture behind what it held before.
     pub fn print<A: Allocator + Copy, W: Allocator>(
         &self,
         alloc: A,
         buf: &mut String<W>,
     ) -> Result<(), TableFault>
-        ensures prints { Prints (fault_of (drawn_of R.texts R.columns C.color (natural_parts self.now))) buf.old buf.new result (picture Known (drawn_of R.texts R.columns C.color (natural_parts self.now))) }
+        ensures prints { Prints (is_spanned (drawn_of R.texts R.columns C.color (natural_parts self.now))) (fault_of (drawn_of R.texts R.columns C.color (natural_parts self.now))) buf.old buf.new result (picture Known (drawn_of R.texts R.columns C.color (natural_parts self.now))) }
         ensures printed { OnOk result (string_bytes buf.new ≡ string_bytes buf.old ++ picture Known (drawn_of R.texts R.columns C.color (natural_parts self.now))) }
         ensures empty { is_empty (drawn_of R.texts R.columns C.color (natural_parts self.now)) ≡ true → IsOk result × (buf.new ≡ buf.old) }
         ensures straight { IsOk result → IsStraight (drawn_of R.texts R.columns C.color (natural_parts self.now)) }
@@ -120,8 +150,8 @@ where
         if self.is_empty() {
             return Ok(());
         }
-        self.fits()?;
-        self.push_picture(alloc, buf)?;
+        let dimension = self.sized(alloc)?;
+        self.push_sized(dimension, buf)?;
         Ok(())
     }
 
@@ -129,13 +159,71 @@ where
     /// [`NaturalTable::print`]. A table with no rows or no columns asks for no memory.
     pub fn to_string<A: Allocator + Copy>(&self, alloc: A) -> Result<String<A>, TableFault>
         ensures text { IfOk result (λ text. string_bytes text ≡ picture Known (drawn_of R.texts R.columns C.color (natural_parts self.now))) }
-        ensures fault { (fault : TableFault) → fault_of (drawn_of R.texts R.columns C.color (natural_parts self.now)) ≡ Some fault → result ≡ Err fault }
-        ensures memory { (fault : TableFault) → fault_of (drawn_of R.texts R.columns C.color (natural_parts self.now)) ≡ None → result ≡ Err fault → fault ≡ TableFault.Memory }
+        ensures ok { IsOk result → fault_of (drawn_of R.texts R.columns C.color (natural_parts self.now)) ≡ None }
+        ensures fault { (fault : TableFault) → result ≡ Err fault → CanFail (drawn_of R.texts R.columns C.color (natural_parts self.now)) fault }
         ensures empty { is_empty (drawn_of R.texts R.columns C.color (natural_parts self.now)) ≡ true → IsOk result }
     {
         let mut text = String::new(alloc);
         self.print(alloc, &mut text)?;
         Ok(text)
+    }
+
+    // The natural sizes of a table with cells that has no fault.
+    fn sized<A: Allocator + Copy>(&self, alloc: A) -> Result<ConstantDimension<A>, TableFault>
+        requires { is_empty (drawn_of R.texts R.columns C.color (natural_parts self.now)) ≡ false }
+        ensures widths { IfOk result (λ d. d.0.items ≡ sizes_of R.texts R.columns Columns (natural_parts self.now)) }
+        ensures heights { IfOk result (λ d. d.1.items ≡ sizes_of R.texts R.columns Rows (natural_parts self.now)) }
+        ensures ok { IsOk result → fault_of (drawn_of R.texts R.columns C.color (natural_parts self.now)) ≡ None }
+        ensures fault { (fault : TableFault) → result ≡ Err fault → CanFail (drawn_of R.texts R.columns C.color (natural_parts self.now)) fault }
+    {
+        if !self.spans_fit() {
+            return Err(TableFault::Spans);
+        }
+        match self.sizes().measured(alloc) {
+            Ok(Some(dimension)) => {
+                if self.totals_fit_at(&dimension) {
+                    Ok(dimension)
+                } else {
+                    Err(TableFault::Totals)
+                }
+            }
+            Ok(None) => Err(TableFault::Totals),
+            Err(_) => Err(self.fault_without_memory()),
+        }
+    }
+
+    // What is answered where memory is refused for the sizes of a table with cells whose spans fit.
+    fn fault_without_memory(&self) -> TableFault
+        requires some { is_empty (drawn_of R.texts R.columns C.color (natural_parts self.now)) ≡ false }
+        requires fit { spans_fit self.now.config.now.spans (length (R.texts self.now.records)) (R.columns self.now.records) ≡ true }
+        ensures { CanFail (drawn_of R.texts R.columns C.color (natural_parts self.now)) result }
+    {
+        if self.config.spans().is_empty() && !self.totals_fit() {
+            TableFault::Totals
+        } else {
+            TableFault::Memory
+        }
+    }
+
+    // Whether the totals fit at these sizes, the natural ones.
+    fn totals_fit_at<A: Allocator>(&self, dimension: &ConstantDimension<A>) -> bool
+        requires widths { dimension.now.0.items ≡ sizes_of R.texts R.columns Columns (natural_parts self.now) }
+        requires heights { dimension.now.1.items ≡ sizes_of R.texts R.columns Rows (natural_parts self.now) }
+        ensures { result ≡ totals_fit (drawn_of R.texts R.columns C.color (natural_parts self.now)) }
+    {
+        let (rows, columns) = (self.records.count_rows(), self.records.count_columns());
+        totals_fit(self.config, dimension, rows, columns)
+    }
+
+    // Whether its spans fit, which stand in their order.
+    fn spans_fit(&self) -> bool
+        ensures ascending { IsAscending by_columns self.now.config.now.spans }
+        ensures fit { result ≡ spans_fit self.now.config.now.spans (length (R.texts self.now.records)) (R.columns self.now.records) }
+    {
+        // Shows that the spans stand in order.
+        let _spans = self.config.spans();
+        let (rows, columns) = (self.records.count_rows(), self.records.count_columns());
+        spans_fit(self.config, rows, columns)
     }
 
     // The natural sizes of its columns and rows.
@@ -153,9 +241,12 @@ where
         self.records.count_rows() == 0 || self.records.count_columns() == 0
     }
 
-    // Whether the rows and columns can be counted, and the totals are at most `usize::MAX`.
+    // Whether the rows and columns can be counted, and the totals of a table with cells and without a
+    // span are at most `usize::MAX`.
     #[tactic(auto, unfolding(pg_picture::specs::Fits::totals_fit))]
     fn totals_fit(&self) -> bool
+        requires some { is_empty (drawn_of R.texts R.columns C.color (natural_parts self.now)) ≡ false }
+        requires plain { self.now.config.now.spans ≡ [] }
         ensures { result ≡ totals_fit (drawn_of R.texts R.columns C.color (natural_parts self.now)) }
     {
         self.records.count_rows() < usize::MAX
@@ -167,7 +258,9 @@ where
     // How many terminal columns a line has, its side margins among them, or None where they pass
     // `usize::MAX`.
     fn full_width(&self) -> Option<usize>
-        requires { R.columns self.now.records < usize.MAX }
+        requires count { R.columns self.now.records < usize.MAX }
+        requires some { is_empty (drawn_of R.texts R.columns C.color (natural_parts self.now)) ≡ false }
+        requires plain { self.now.config.now.spans ≡ [] }
         ensures { result ≡ if_fits (full_width (drawn_of R.texts R.columns C.color (natural_parts self.now))) }
     {
         let margin = self.config.get_margin();
@@ -178,25 +271,13 @@ where
 
     // How many lines the body has, or None where they pass `usize::MAX`.
     fn body_height(&self) -> Option<usize>
-        requires { length (R.texts self.now.records) < usize.MAX }
+        requires count { length (R.texts self.now.records) < usize.MAX }
+        requires some { is_empty (drawn_of R.texts R.columns C.color (natural_parts self.now)) ≡ false }
+        requires plain { self.now.config.now.spans ≡ [] }
         ensures { result ≡ if_fits (body_height (drawn_of R.texts R.columns C.color (natural_parts self.now))) }
     {
         let horizontals = self.config.count_horizontal(self.records.count_rows());
         plus(self.sizes().total(Axis::Rows), horizontals)
-    }
-
-    // Appends the picture of a table with cells and without a fault.
-    fn push_picture<A: Allocator + Copy, W: Allocator>(
-        &self,
-        alloc: A,
-        buf: &mut String<W>,
-    ) -> Result<(), AllocError>
-        requires some { is_empty (drawn_of R.texts R.columns C.color (natural_parts self.now)) ≡ false }
-        requires fits { fault_of (drawn_of R.texts R.columns C.color (natural_parts self.now)) ≡ None }
-        ensures { AppendsOrNothing buf.old buf.new result (picture Known (drawn_of R.texts R.columns C.color (natural_parts self.now))) }
-    {
-        let dimension = self.sizes().listed(alloc)?;
-        self.push_sized(dimension, buf)
     }
 
     // Appends the picture of a table that fits, at these sizes.

@@ -46,8 +46,8 @@ impl Axis {
 /// The natural sizes of the columns and the rows of records, worked out at each question.
 #[derive(Debug, Drop)]
 pub(crate) struct NaturalSizes<'a, R, B: Allocator> {
-    records: R,
-    config: &'a SpannedConfig<B>,
+    pub(crate) records: R,
+    pub(crate) config: &'a SpannedConfig<B>,
     all: Option<SizeStyle>,
     ghost is_of_all: { ForSome all (IsStyleOfAll config.now) },
 }
@@ -89,7 +89,7 @@ impl<'a, R: PeekableRecords + ExactRecords, B: Allocator> NaturalSizes<'a, R, B>
 
     // The style of a cell: that of all cells, or its own.
     #[inline(always)]
-    fn style(&self, pos: Position) -> SizeStyle
+    pub(crate) fn style(&self, pos: Position) -> SizeStyle
         ensures { IsStyleAt self.now.config.now pos result }
     {
         match self.all {
@@ -100,7 +100,7 @@ impl<'a, R: PeekableRecords + ExactRecords, B: Allocator> NaturalSizes<'a, R, B>
 
     // What the paddings of a cell take, or None where it passes `usize::MAX`.
     #[inline(always)]
-    fn paddings(&self, axis: Axis, pos: Position) -> Option<usize>
+    pub(crate) fn paddings(&self, axis: Axis, pos: Position) -> Option<usize>
         ensures { result ≡ if_fits (paddings axis self.now.config.now pos) }
     {
         let padding = self.style(pos).padding;

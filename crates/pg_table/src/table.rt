@@ -15,10 +15,11 @@ use std::convert::AsStr;
 use std::marker::Model;
 
 /// Rows of texts, drawn at their natural sizes: each column as wide as its widest cell, and each row
-/// as high as its highest one, a cell being its text with the paddings round it.
+/// as high as its highest one, a cell being its text with the paddings round it. What a cell with a
+/// span lacks beside smaller cells is shared out evenly over its columns and its rows.
 ///
 /// It has ASCII borders, no paddings, and texts at the left, unless it is told otherwise. Each
-/// setting of [`SpannedConfig`] but a span can be told by [`Table::with_config`].
+/// setting of [`SpannedConfig`], spans among them, can be told by [`Table::with_config`].
 ///
 /// ```text
 /// let rows = vec![in alloc; vec![in alloc; "a", "b"]?, vec![in alloc; "ccc", "d"]?]?;
@@ -126,15 +127,15 @@ impl<T, A: Allocator> Table<T, A> {
 }
 
 impl<T: AsStr + Drop, A: Allocator> Table<T, A> {
-    ghost use Rattle.std.specs.Prelude.{◌≡◌, ◌<◌, length, OnErr, ◌↔◌, ◌⊎◌, ◌&&◌, ◌++◌, true, false, map, Some, None, Err, IfOk, IsOk, OnOk, string_bytes};
+    ghost use Rattle.std.specs.Prelude.{◌≡◌, ◌<◌, length, OnErr, ◌&&◌, ◌++◌, true, false, map, Some, None, Err, IfOk, IsOk, OnOk, string_bytes};
     ghost use Rattle.pg_layout.specs.Records.{columns_of};
     ghost use Rattle.pg_config.specs.Overrides.{has_glyph};
     ghost use Rattle.pg_picture.specs.Straight.{IsStraight};
     ghost use Rattle.pg_picture.specs.Picture.{picture};
     ghost use Rattle.pg_picture.specs.Table.{Known, is_empty};
-    ghost use Rattle.pg_table.specs.Natural.{all_fit, natural_sizes};
+    ghost use Rattle.pg_table.specs.Natural.{natural_sizes};
     ghost use Rattle.pg_table.specs.Laws.{IsEven};
-    ghost use Rattle.pg_table.specs.Printing.{fault_of, drawn, with_header_line, Prints};
+    ghost use Rattle.pg_table.specs.Printing.{fault_of, is_spanned, sizes_fault, drawn, with_header_line, CanFail, Prints};
     ghost use Rattle.pg_table.specs.declared.sizes.Axis.TheVariants.{Columns, Rows};
 
     /// Draws a line between row 0 and row 1, and no other row line but those of the borders. A glyph
@@ -179,14 +180,15 @@ impl<T: AsStr + Drop, A: Allocator> Table<T, A> {
     /// The natural widths of the columns and the natural heights of the rows, in terminal columns
     /// and lines.
     ///
-    /// `Totals` comes exactly where one of them passes `usize::MAX`, before any memory is taken;
-    /// `Memory` where memory is refused; and no other error.
+    /// `Spans` comes exactly where the table has cells and its spans don't fit; `Totals` exactly where
+    /// they do and one of the sizes, or the width or the height of a shown cell, passes `usize::MAX`,
+    /// also where memory is refused; `Memory` where memory is refused and neither is so.
     pub fn natural_dimension<B: Allocator + Copy>(
         &self,
         alloc: B,
     ) -> Result<ConstantDimension<B>, TableFault>
-        ensures totals { (result ≡ Err TableFault.Totals) ↔ ((all_fit (natural_sizes Columns self.now.config (map (λ row. map T.text row) self.now.rows) (columns_of self.now.rows)) && all_fit (natural_sizes Rows self.now.config (map (λ row. map T.text row) self.now.rows) (columns_of self.now.rows))) ≡ false) }
-        ensures memory { (fault : TableFault) → result ≡ Err fault → fault ≡ TableFault.Totals ⊎ fault ≡ TableFault.Memory }
+        ensures fault { (fault : TableFault) → sizes_fault self.now.config (map (λ row. map T.text row) self.now.rows) (columns_of self.now.rows) ≡ Some fault → result ≡ Err fault }
+        ensures memory { (fault : TableFault) → sizes_fault self.now.config (map (λ row. map T.text row) self.now.rows) (columns_of self.now.rows) ≡ None → result ≡ Err fault → fault ≡ TableFault.Memory }
         ensures widths { IfOk result (λ d. d.0.items ≡ natural_sizes Columns self.now.config (map (λ row. map T.text row) self.now.rows) (columns_of self.now.rows)) }
         ensures heights { IfOk result (λ d. d.1.items ≡ natural_sizes Rows self.now.config (map (λ row. map T.text row) self.now.rows) (columns_of self.now.rows)) }
     {
@@ -196,17 +198,17 @@ impl<T: AsStr + Drop, A: Allocator> Table<T, A> {
     /// Appends the picture of the table at its natural sizes. A table with no rows or no columns
     /// appends nothing, and takes no memory.
     ///
-    /// A table that keeps a span is answered by `Spans`; one of which a natural size, the width of a
-    /// line or the number of lines passes `usize::MAX` by `Totals`. Both come before any memory is
-    /// taken, and the buffer stays as it was. `alloc` gives the memory for the sizes. Where memory is
-    /// refused, the answer is `Memory`, and the buffer holds a beginning of the picture behind what
-    /// it held before.
+    /// A table whose spans don't fit is answered by `Spans`, before any memory is taken; one of which a
+    /// natural size, the width of a line or the number of lines passes `usize::MAX` by `Totals`, also
+    /// where memory is refused, if it keeps no span. The buffer then stays as it was. `alloc` gives the
+    /// memory for the sizes. Where memory is refused, the answer is `Memory`, and the buffer holds a
+    /// beginning of the picture behind what it held before.
     pub fn print<B: Allocator + Copy, W: Allocator>(
         &self,
         alloc: B,
         buf: &mut String<W>,
     ) -> Result<(), TableFault>
-        ensures prints { Prints (fault_of (drawn T.text self.now)) buf.old buf.new result (picture Known (drawn T.text self.now)) }
+        ensures prints { Prints (is_spanned (drawn T.text self.now)) (fault_of (drawn T.text self.now)) buf.old buf.new result (picture Known (drawn T.text self.now)) }
         ensures printed { OnOk result (string_bytes buf.new ≡ string_bytes buf.old ++ picture Known (drawn T.text self.now)) }
         ensures empty { is_empty (drawn T.text self.now) ≡ true → IsOk result × (buf.new ≡ buf.old) }
         ensures straight { IsOk result → IsStraight (drawn T.text self.now) }
@@ -219,8 +221,8 @@ impl<T: AsStr + Drop, A: Allocator> Table<T, A> {
     /// [`Table::print`]. A table with no rows or no columns asks for no memory.
     pub fn to_string<B: Allocator + Copy>(&self, alloc: B) -> Result<String<B>, TableFault>
         ensures text { IfOk result (λ text. string_bytes text ≡ picture Known (drawn T.text self.now)) }
-        ensures fault { (fault : TableFault) → fault_of (drawn T.text self.now) ≡ Some fault → result ≡ Err fault }
-        ensures memory { (fault : TableFault) → fault_of (drawn T.text self.now) ≡ None → result ≡ Err fault → fault ≡ TableFault.Memory }
+        ensures ok { IsOk result → fault_of (drawn T.text self.now) ≡ None }
+        ensures fault { (fault : TableFault) → result ≡ Err fault → CanFail (drawn T.text self.now) fault }
         ensures empty { is_empty (drawn T.text self.now) ≡ true → IsOk result }
     {
         self.natural().to_string(alloc)

@@ -2,13 +2,11 @@ use Rattle.std.proofs.Common.{◌≡◌, ◌<◌, ◌^◌, ◌++◌, ◌∷◌, 
 use Rattle.std.specs.List.{range_with_len}
 use Rattle.std.proofs.lemmas.List.FromFn.{map-range_with_len_more}
 use Rattle.pg_picture.proofs.SumsOfSizes.{if_fits-below}
-use Rattle.pg_table.specs.Natural.{natural_sizes}
 use Rattle.pg_table.specs.Inside.Sizes.{size_of, count_of}
 use Rattle.pg_table.proofs.ListedSizes.{each-fits}
 use Rattle.pg_table.proofs.sizes.NaturalSizes.list.Goals as goal
 
 pub loop-k-preserved : goal.loop-k-preserved
-unfolding natural_sizes
 loop-k-preserved g c =
     let f : ℕ → ℕ = size_of g.R.Records.texts g.R.Records.columns c.args.self.now c.args.axis in
     let n : ℕ = count_of g.R.Records.texts g.R.Records.columns c.args.self.now c.args.axis in
@@ -21,7 +19,6 @@ loop-k-preserved g c =
     ∙ sym (map-range_with_len_more f 0 c.loop-k.k c.loop-k.k (omega arith))
 
 pub returns : goal.returns
-unfolding natural_sizes
 returns g c =
     let f : ℕ → ℕ = size_of g.R.Records.texts g.R.Records.columns c.args.self.now c.args.axis in
     let all : c.loop-k.k ≡ count_of g.R.Records.texts g.R.Records.columns c.args.self.now c.args.axis = omega (arith, c.loop-k-test.false, c.loop-k.auto.k-end, c.count-k-end.ensures) in

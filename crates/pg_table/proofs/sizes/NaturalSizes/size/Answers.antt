@@ -1,12 +1,13 @@
-use Rattle.std.proofs.Common.{◌≡◌, ℕ, ◌+◌, max, map, length, sym, ap, ◌∙◌, arith}
+use Rattle.std.proofs.Common.{◌≡◌, ℕ, max, map, length, sym, ap, ◌∙◌, arith}
 use Rattle.std.specs.List.{range_with_len}
 use Rattle.pg_layout.specs.Records.{text_at}
 use Rattle.pg_layout.specs.Text.{greatest}
 use Rattle.pg_picture.specs.Sizes.{if_fits}
 use Rattle.pg_picture.proofs.SumsOfSizes.{if_fits-below}
-use Rattle.pg_table.specs.Natural.{paddings, cell_size, cell_at, count_cells, natural_size}
+use Rattle.pg_table.specs.Natural.{paddings, cell_size, cell_at, count_cells}
+use Rattle.pg_table.specs.Inside.Sizes.{plain_size}
 use Rattle.pg_layout.proofs.Greatest.{greatest-more}
-use Rattle.pg_table.proofs.CellsBelow.{past-paddings, past-cell}
+use Rattle.pg_table.proofs.PlainCells.{past-paddings, past-cell}
 use Rattle.pg_table.proofs.ListedSizes.{some-below}
 use Rattle.pg_table.proofs.sizes.NaturalSizes.size.Goals as goal
 
@@ -22,7 +23,7 @@ returns-in_err-cell_size g c =
     ∙ sym (past-cell c.args.axis self.config.now (text_at (g.R.Records.texts self.records)) (count_cells c.args.axis (length (g.R.Records.texts self.records)) (g.R.Records.columns self.records)) c.args.k c.loop-j.j (omega (arith, c.loop-j-test.true, c.count_cells-j-end.ensures)) (rw c.cell-in-loop-j.ensures at c.in_err-cell_size.ensures))
 
 pub returns : goal.returns
-unfolding natural_size
+unfolding plain_size
 returns g c =
     let self = c.args.self.now in
     let all : c.loop-j.j ≡ count_cells c.args.axis (length (g.R.Records.texts self.records)) (g.R.Records.columns self.records) = omega (arith, c.loop-j-test.false, c.loop-j.auto.j-end, c.count_cells-j-end.ensures) in

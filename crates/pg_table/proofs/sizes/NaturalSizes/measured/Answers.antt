@@ -1,0 +1,52 @@
+use Rattle.std.proofs.Common.{◌≡◌, ◌==◌, ℕ, Bool, List, [], length, is_some, IfOk, subst, sym, ap, ◌∙◌}
+use Rattle.std.specs.List.{list_all}
+use Rattle.pg_layout.specs.Records.{text_at}
+use Rattle.pg_config.specs.Spans.{Span, corner}
+use Rattle.pg_picture.proofs.OwnersOfPlaces.{InOrder}
+use Rattle.pg_table.specs.Natural.{is_sized, all_fit}
+use Rattle.pg_table.specs.declared.sizes.Axis.TheVariants.{Columns, Rows}
+use Rattle.pg_table.proofs.Faults.{no_spans}
+use Rattle.pg_table.proofs.RoomOfNeeds.{plain_sizes}
+use Rattle.pg_table.proofs.ShownCells.{cells-sized, corners-decide, huge-past, singles-sized}
+use Rattle.pg_table.proofs.sizes.NaturalSizes.measured.Goals as goal
+
+pub returns-then-is_empty-clause-widths : goal.returns-then-is_empty-clause-widths
+returns-then-is_empty-clause-widths g c =
+    let self = c.args.self.now in
+    let none : self.config.now.spans ≡ [] = no_spans self.config.now.spans (ap (λ (xs : List Span). length xs == 0) (sym c.spans.ensures.all) ∙ sym c.is_empty.ensures ∙ c.if-is_empty.true) in
+    (rw c.in-Some.is at c.in_ok-singles.ensures.widths) ∙ plain_sizes Columns self.config.now (g.R.Records.texts self.records) (g.R.Records.columns self.records) none c.requires.rows
+
+pub returns-then-is_empty-clause-heights : goal.returns-then-is_empty-clause-heights
+returns-then-is_empty-clause-heights g c =
+    let self = c.args.self.now in
+    let none : self.config.now.spans ≡ [] = no_spans self.config.now.spans (ap (λ (xs : List Span). length xs == 0) (sym c.spans.ensures.all) ∙ sym c.is_empty.ensures ∙ c.if-is_empty.true) in
+    (rw c.in-Some.is at c.in_ok-singles.ensures.heights) ∙ plain_sizes Rows self.config.now (g.R.Records.texts self.records) (g.R.Records.columns self.records) none c.requires.columns
+
+pub returns-then-is_empty-clause-sized : goal.returns-then-is_empty-clause-sized
+returns-then-is_empty-clause-sized g c =
+    let self = c.args.self.now in
+    let texts = g.R.Records.texts self.records in
+    let columns : ℕ = g.R.Records.columns self.records in
+    let none : self.config.now.spans ≡ [] = no_spans self.config.now.spans (ap (λ (xs : List Span). length xs == 0) (sym c.spans.ensures.all) ∙ sym c.is_empty.ensures ∙ c.if-is_empty.true) in
+    let wide = ap (λ xs. all_fit xs) (sym (rw c.in-Some.is at c.in_ok-singles.ensures.widths)) ∙ c.both_are_numbers.ensures.widths in
+    let high = ap (λ xs. all_fit xs) (sym (rw c.in-Some.is at c.in_ok-singles.ensures.heights)) ∙ c.both_are_numbers.ensures.heights in
+    sym (cells-sized self.config.now (text_at texts) (length texts) columns (singles-sized self.config.now (text_at texts) (length texts) columns wide high)
+    (ap (λ spans. list_all (λ s. is_sized self.config.now (text_at texts) (corner s)) spans) none))
+
+pub returns-else-is_empty-clause-sized : goal.returns-else-is_empty-clause-sized
+returns-else-is_empty-clause-sized g c =
+    let self = c.args.self.now in
+    let texts = g.R.Records.texts self.records in
+    let columns : ℕ = g.R.Records.columns self.records in
+    let order : InOrder self.config.now.spans (length texts) columns = record { ascending = c.spans.ensures.ascending; fit = c.requires.fit } in
+    let wide = ap (λ xs. all_fit xs) (sym (rw c.in-Some.is at c.in_ok-singles.ensures.widths)) ∙ c.both_are_numbers.ensures.widths in
+    let high = ap (λ xs. all_fit xs) (sym (rw c.in-Some.is at c.in_ok-singles.ensures.heights)) ∙ c.both_are_numbers.ensures.heights in
+    subst (λ (b : Bool). IfOk c.with_spans.result (λ o. is_some o ≡ b))
+    (corners-decide self.config.now (text_at texts) (length texts) columns order (singles-sized self.config.now (text_at texts) (length texts) columns wide high))
+    c.with_spans.ensures.sized
+
+pub returns-in-None-clause-sized : goal.returns-in-None-clause-sized
+returns-in-None-clause-sized g c =
+    let self = c.args.self.now in
+    let texts = g.R.Records.texts self.records in
+    sym (huge-past self.config.now (text_at texts) (length texts) (g.R.Records.columns self.records) (c.in_ok-singles.ensures.huge c.in-None.is))
