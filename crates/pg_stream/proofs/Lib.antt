@@ -43,3 +43,5 @@ pub mod StreamedRows
 pub mod StreamedRuns
 pub mod StreamedResults
 pub mod IterTables
+pub mod LiveRows
+pub mod TableEnds

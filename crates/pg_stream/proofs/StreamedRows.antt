@@ -10,7 +10,7 @@ use Rattle.pg_stream.specs.Conditions.{RowFits}
 use Rattle.pg_stream.specs.Printing.{Printing, row_text, finish_text, after_row, rows_text}
 use Rattle.pg_stream.specs.Streams.{Streaming, held_text, HeldFits, after_push, rows_left, IsMisfit, text_above, OnlyMemory, TellsRow, AppendsIf, AppendsRows, PrintsRows, IsMisfitButLatest, text_but_latest, PrintsButLatest}
 use Rattle.pg_stream.specs.declared.fault.StreamFault.{StreamFault}
-use Rattle.pg_stream.specs.declared.fault.StreamFault.TheVariants.{Misfit, Row, Memory}
+use Rattle.pg_stream.specs.declared.fault.StreamFault.TheVariants.{Misfit, Row, Open, Memory}
 
 -- ---- the stream after a push
 
@@ -87,6 +87,7 @@ module _ {Z U : Type 0} where
     misfit = λ no. (ap (λ k. Err (Row k)) p.tells.0, (p.misfit no).1);
     tells = p.tells;
   }
+  stops-as Open p = absurd p.tells
   stops-as Memory p = record { whole = λ fits. (refused-as refl (p.whole fits).0, tt); misfit = λ no. absurd (no p.tells); tells = p.tells }
 
   -- what a fault tells
@@ -112,12 +113,14 @@ module _ {Z U : Type 0} {Fit : Type 0} {IsFirst : ℕ → Type 0} {text : Text} 
   rows-fit (Ok value) fit none a memory = record { whole = λ _. (a, tt); misfit = λ n is. absurd (none n is); tells = fit }
   rows-fit (Err (Misfit m)) fit none a memory = absurd memory
   rows-fit (Err (Row n)) fit none a memory = absurd memory
+  rows-fit (Err Open) fit none a memory = absurd memory
   rows-fit (Err Memory) fit none a memory = record { whole = λ _. (a, tt); misfit = λ n is. absurd (none n is); tells = a }
 
   -- where no row is held, nothing comes before them
   same-stop : {V : Type 0} {row : ℕ} {old new : String Z} (fault : StreamFault) → AppendsIf {U = V} (Unit {0}) row [] old new (Err fault) → AppendsRows {U = U} Fit IsFirst text above old new (Err fault)
   same-stop (Misfit m) p = absurd p.tells
   same-stop (Row n) p = absurd (p.tells.1 tt)
+  same-stop Open p = absurd p.tells
   same-stop Memory p = record { whole = λ _. (stopped text refl (p.whole tt).0, tt); misfit = λ n is. stopped (above n) refl (p.whole tt).0; tells = stopped text refl (p.whole tt).0 }
 
   same-rows : {V : Type 0} {old mid new : String Z} {value : V} (r : Result U StreamFault) → Appends {U = V} {E = StreamFault} old mid (Ok value) [] → AppendsRows Fit IsFirst text above mid new r → AppendsRows Fit IsFirst text above old new r
@@ -130,6 +133,7 @@ module _ {Z U : Type 0} {Fit : Type 0} {IsFirst : ℕ → Type 0} {text : Text} 
         misfit = λ k is. ((q.misfit k is).0, (q.misfit k is).1 ∙ ap (λ t. t ++ above k) same);
         tells = (q.tells.0, q.tells.1 ∙ ap (λ t. t ++ above n) same);
       }
+  same-rows (Err Open) a q = absurd q.tells
   same-rows (Err Memory) a q = record { whole = λ _. (a then q.tells, tt); misfit = λ k is. a then q.misfit k is; tells = a then q.tells }
 
 -- ---- a row before others
@@ -153,6 +157,7 @@ module _ {Z U : Type 0} {Fits Fit : Type 0} {IsFirst : ℕ → Type 0} {row : �
         ];
         tells = (inl p.tells, same ∙ bytes-none old (above n) (none n p.tells.0));
       }
+  row-stop Open text behind none more p = absurd p.tells
   row-stop Memory text behind none more p = record {
     whole = λ fit. (stopped text refl (p.whole p.tells).0, tt);
     misfit = λ k is. elim is [
@@ -185,6 +190,7 @@ module _ {Z U : Type 0} {Fits Fit : Type 0} {IsFirst : ℕ → Type 0} {row : �
         ];
         tells = (inr (fits, q.tells.0), q.tells.1 ∙ joined n q.tells.0);
       }
+  row-goes (Err Open) more fits a q = absurd q.tells
   row-goes (Err Memory) more fits a q = record {
     whole = λ fit. (a then q.tells, tt);
     misfit = λ k is. elim is [
@@ -250,6 +256,7 @@ module _ {Z U : Type 0} where
         misfit = λ k is. (p.tells.0 ∙ sym is.0, same ∙ bytes-none old _ (none-above s row [] k is.0));
         tells = (p.tells, same ∙ bytes-none old _ (none-above s row [] n p.tells.0));
       }
+  last-stops Open s row p = absurd p.tells
   last-stops Memory s row p = rows-fit (Err Memory) p.tells (λ n is. is.1 p.tells) (stopped (finish_text (after_row s row true)) refl (p.whole p.tells).0) tt
 
   pub end-stops : {V : Type 0} {old new : String Z} (fault : StreamFault) (s : Streaming) (row : List Text) → s.held ≡ Some row → AppendsIf {U = V} (RowFits s.before row true) s.before.rows (row_text s.before row true) old new (Err fault)

@@ -8,11 +8,12 @@ use Rattle.pg_stream.specs.declared.fault.RowFault.TheVariants.{Misfit as Refuse
 use Rattle.pg_stream.specs.declared.fault.RowsFault.{RowsFault}
 use Rattle.pg_stream.specs.declared.fault.RowsFault.TheVariants.{Stream, Source}
 use Rattle.pg_stream.specs.declared.fault.StreamFault.{StreamFault}
-use Rattle.pg_stream.specs.declared.fault.StreamFault.TheVariants.{Misfit, Row, Memory}
+use Rattle.pg_stream.specs.declared.fault.StreamFault.TheVariants.{Misfit, Row, Open, Memory}
 
 abbrev pub stream_fault_text : StreamFault → Text
 stream_fault_text (Misfit misfit) = print_fault_text (PrintFault.Misfit misfit)
 stream_fault_text (Row row) = codes "row " ++ (decimal row ++ codes " does not fit")
+stream_fault_text Open = codes "the table does not end here"
 stream_fault_text Memory = print_fault_text PrintFault.Memory
 
 abbrev pub row_fault_text : {P : Type 0} → RowFault P → Text

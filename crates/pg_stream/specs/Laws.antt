@@ -5,8 +5,9 @@ use Rattle.pg_layout.specs.Position.{at}
 use Rattle.pg_layout.specs.Text.{Text}
 use Rattle.pg_picture.specs.Fits.{spans_fit, misfit_of}
 use Rattle.pg_picture.specs.Picture.{picture}
-use Rattle.pg_picture.specs.Table.{Table}
+use Rattle.pg_picture.specs.Table.{Table, Unknown}
 use Rattle.pg_stream.specs.Conditions.{PrinterFits, RowsFit}
+use Rattle.pg_stream.specs.LiveStreams.{live_text}
 use Rattle.pg_stream.specs.Printing.{hint_of, printer, rows_text}
 
 -- the texts of a table, row by row
@@ -16,6 +17,10 @@ texts_of t = map (λ r. map (λ c. t.text (at r c)) (range_with_len 0 t.columns)
 -- All rows of a table whose spans fit it, printed one after another and ended, are its picture.
 abbrev pub RowsMakeThePicture : Type 0
 RowsMakeThePicture = (t : Table) (hint : Option ℕ) → IfSome hint (λ rows. rows ≡ t.rows) → spans_fit t.config.spans t.rows t.columns ≡ true → 0 < t.rows → 0 < t.columns → rows_text (printer t.config t.columns t.width t.height t.color hint) (texts_of t) ≡ picture (hint_of hint) t
+
+-- The same where no row is told to be the last; margins that end before the last lines are whole then.
+abbrev pub LiveRowsMakeThePicture : Type 0
+LiveRowsMakeThePicture = (t : Table) → spans_fit t.config.spans t.rows t.columns ≡ true → 0 < t.rows → 0 < t.columns → live_text (printer t.config t.columns t.width t.height t.color None) (texts_of t) ≡ picture Unknown t
 
 -- A table that fits may be printed row by row.
 abbrev pub FittingTablesMayBePrinted : Type 0

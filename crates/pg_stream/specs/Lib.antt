@@ -5,6 +5,7 @@ pub mod Placed
 pub mod Printers
 pub mod Laws
 pub mod Streams
+pub mod LiveStreams
 pub mod Faults
 pub mod IterGrids
 pub mod Inside

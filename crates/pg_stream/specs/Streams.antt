@@ -10,7 +10,7 @@ use Rattle.pg_stream.specs.Printing.{Printing, row_text, rows_text, after_row}
 use Rattle.pg_stream.specs.declared.fault.RowsFault.{RowsFault}
 use Rattle.pg_stream.specs.declared.fault.RowsFault.TheVariants.{Stream as InStream, Source}
 use Rattle.pg_stream.specs.declared.fault.StreamFault.{StreamFault}
-use Rattle.pg_stream.specs.declared.fault.StreamFault.TheVariants.{Misfit, Row, Memory}
+use Rattle.pg_stream.specs.declared.fault.StreamFault.TheVariants.{Misfit, Row, Open, Memory}
 
 -- ---- a stream
 
@@ -64,6 +64,7 @@ abbrev pub OnlyMemory : {U : Type 0} → Result U StreamFault → Type 0
 OnlyMemory (Ok value) = ⊤
 OnlyMemory (Err (Misfit misfit)) = ⊥
 OnlyMemory (Err (Row row)) = ⊥
+OnlyMemory (Err Open) = ⊥
 OnlyMemory (Err Memory) = ⊤
 
 -- the answer says whether the row fits
@@ -71,6 +72,7 @@ abbrev pub TellsRow : {U : Type 0} → Type 0 → ℕ → Result U StreamFault �
 TellsRow Fits row (Ok value) = Fits
 TellsRow Fits row (Err (Misfit misfit)) = ⊥
 TellsRow Fits row (Err (Row n)) = (n ≡ row) × ¬ Fits
+TellsRow Fits row (Err Open) = ⊥
 TellsRow Fits row (Err Memory) = Fits
 
 -- A call appends this text, if a row fits that has this number. Else it names the row, and appends nothing.
@@ -85,6 +87,7 @@ abbrev pub StopsAt : {Z U : Type 0} → ℕ → Text → String Z → String Z �
 StopsAt row above old new (Ok value) = ⊥
 StopsAt row above old new (Err (Misfit misfit)) = ⊥
 StopsAt row above old new (Err (Row n)) = (n ≡ row) × (string_bytes new ≡ string_bytes old ++ above)
+StopsAt row above old new (Err Open) = ⊥
 StopsAt {U} row above old new (Err Memory) = Appends {U = U} old new (Err Memory) above
 
 -- the answer says whether all rows fit, or names the first that doesn't, and then those above it are appended
@@ -92,6 +95,7 @@ abbrev pub TellsRows : {Z U : Type 0} → Type 0 → (ℕ → Type 0) → Text �
 TellsRows Fit IsFirst text above old new (Ok value) = Fit
 TellsRows Fit IsFirst text above old new (Err (Misfit misfit)) = ⊥
 TellsRows Fit IsFirst text above old new (Err (Row n)) = IsFirst n × (string_bytes new ≡ string_bytes old ++ above n)
+TellsRows Fit IsFirst text above old new (Err Open) = ⊥
 TellsRows {U} Fit IsFirst text above old new (Err Memory) = Appends {U = U} old new (Err Memory) text
 
 -- A call appends rows, if they fit. Else it stops at the first that doesn't. The rows alone say which: `Fit`, that they fit;

@@ -22,6 +22,9 @@ pub enum StreamFault {
     /// The row with this number doesn't fit below those above it. Rows are counted from 0, so it is
     /// also the number of rows above.
     Row(usize),
+    /// The table doesn't end behind its last row: a rectangle goes on below it, or more rows are known. Only
+    /// a call that ends a table behind rows of which none was told to be the last answers it.
+    Open,
     /// No memory was found.
     Memory,
 }
@@ -58,6 +61,7 @@ impl fmt::Display for StreamFault {
         match self {
             StreamFault::Misfit(misfit) => write!(f, "{}", PrintFault::Misfit(*misfit)),
             StreamFault::Row(row) => write!(f, "row {row} does not fit"),
+            StreamFault::Open => write!(f, "the table does not end here"),
             StreamFault::Memory => write!(f, "{}", PrintFault::Memory),
         }
     }

@@ -1,12 +1,18 @@
 //! Laws of printers of rows. The functions do nothing: their contracts are the laws.
 
-ghost use Rattle.pg_stream.specs.Laws.{RowsMakeThePicture, FittingTablesMayBePrinted};
+ghost use Rattle.pg_stream.specs.Laws.{RowsMakeThePicture, LiveRowsMakeThePicture, FittingTablesMayBePrinted};
 
 /// All rows of a table whose spans fit it, printed one after another and ended, are its picture: with
 /// the number of rows the one that looked-up printing gives, without it the one in which margins that
 /// end before the last lines are whole.
 pub fn rows_make_the_picture()
     ensures { RowsMakeThePicture }
+{}
+
+/// All rows of a table whose spans fit it, printed one after another of which none is told to be the last,
+/// and ended, are its picture, in which margins that end before the last lines are whole.
+pub fn live_rows_make_the_picture()
+    ensures { LiveRowsMakeThePicture }
 {}
 
 /// A table that fits (`pg_picture::fits::table_fits`) may be printed row by row: its printer may be

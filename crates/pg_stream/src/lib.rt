@@ -11,6 +11,7 @@ mod frame;
 mod grid;
 mod held_rows;
 mod laws;
+mod live_stream;
 mod open_cell;
 mod open_cells;
 mod open_line;
@@ -21,12 +22,16 @@ mod row_printer;
 mod row_stream;
 mod separators;
 mod single_rows;
+mod table_end;
 mod turns;
 
 pub use crate::conditions::printer_fits;
 pub use crate::fault::{RowFault, RowsFault, StreamFault};
 pub use crate::grid::IterGrid;
-pub use crate::laws::{rows_make_the_picture, tables_that_fit_may_be_printed};
+pub use crate::laws::{
+    live_rows_make_the_picture, rows_make_the_picture, tables_that_fit_may_be_printed,
+};
+pub use crate::live_stream::LiveStream;
 pub use crate::open_cells::OpenCells;
 pub use crate::row_printer::RowPrinter;
 pub use crate::row_stream::RowStream;

@@ -10,6 +10,8 @@ mod counted;
 #[cfg(test)]
 mod given;
 #[cfg(test)]
+mod live;
+#[cfg(test)]
 mod parts;
 #[cfg(test)]
 mod printers;

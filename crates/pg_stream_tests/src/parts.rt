@@ -2,7 +2,7 @@
 
 use pg_config::SpannedConfig;
 use pg_layout::{EvenDimension, NoColors};
-use pg_stream::{RowPrinter, RowStream, RowsFault, StreamFault};
+use pg_stream::{LiveStream, RowPrinter, RowStream, RowsFault, StreamFault};
 use std::alloc::{AllocError, Allocator, Global};
 use std::test::Fail;
 
@@ -36,6 +36,16 @@ pub(crate) type Stream<'a, A = Global, V = Global> = RowStream<
     V,
 >;
 
+/// A stream whose rows are shown at once, of texts that live as long as the program.
+pub(crate) type Live<'a, A = Global> = LiveStream<
+    'a,
+    &'static str,
+    EvenDimension,
+    NoColors,
+    Global,
+    A,
+>;
+
 /// A row, or an error that came in its place.
 pub(crate) type Item<E, V = Global> = Result<Vec<&'static str, V>, E>;
 
@@ -47,8 +57,11 @@ pub(crate) enum Way {
     PrintVec,
     PrintAll,
     PrintResults,
+    /// Into a stream whose rows are shown at once, which takes no number of rows.
+    Live,
 }
 
+/// Those of a stream that holds a row.
 pub(crate) const WAYS: [Way; 5] = [
     Way::Push,
     Way::PushFrom,
@@ -137,6 +150,18 @@ fn print_results<V: Allocator, W: Allocator>(
     }
 }
 
+// Pushes the rows, each of which is shown at once.
+fn push_live<V: Allocator, W: Allocator>(
+    mut stream: Live<'_, V>,
+    rows: Vec<Vec<&'static str, V>, V>,
+    buf: &mut String<W>,
+) -> Result<(), StreamFault> {
+    for row in rows {
+        stream.push(row, buf)?;
+    }
+    stream.finish(buf)
+}
+
 /// Prints the rows in this way, and answers how that ended. `memory` is that of all but the buffer.
 pub(crate) fn print_by<A: Allocator + Copy, W: Allocator>(
     memory: A,
@@ -146,6 +171,10 @@ pub(crate) fn print_by<A: Allocator + Copy, W: Allocator>(
     dimension: &EvenDimension,
     buf: &mut String<W>,
 ) -> Result<(), StreamFault> {
+    if way == Way::Live {
+        let stream = LiveStream::new(memory, config, dimension, &NoColors, COLUMNS)?;
+        return push_live(stream, rows_of(memory, texts)?, buf);
+    }
     let stream: Stream<'_, A, A> = RowStream::new(
         memory, config, dimension, &NoColors, COLUMNS, hint,
     )?;
@@ -154,6 +183,6 @@ pub(crate) fn print_by<A: Allocator + Copy, W: Allocator>(
         Way::PushFrom => push_rows_from(memory, stream, texts, buf),
         Way::PrintVec => stream.print_vec(rows_of(memory, texts)?, buf),
         Way::PrintAll => stream.print_all(rows_of(memory, texts)?.into_iter(), buf),
-        Way::PrintResults => print_results(stream, items_of(memory, texts, None)?, buf),
+        Way::PrintResults | Way::Live => print_results(stream, items_of(memory, texts, None)?, buf),
     }
 }

@@ -120,6 +120,7 @@ fn refused_memory_leaves_a_beginning_of_the_rows(rt: HostRuntime) -> Result<(), 
     for way in WAYS {
         assert_each_refused(&rt, rt.alloc(), Work::Rows(way), &config)?;
     }
+    assert_each_refused(&rt, rt.alloc(), Work::Rows(Way::Live), &config)?;
     assert_each_refused(&rt, rt.alloc(), Work::End, &config)?;
     assert_each_refused(&rt, rt.alloc(), Work::FirstRow, &config)
 }

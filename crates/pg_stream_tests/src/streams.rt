@@ -188,8 +188,10 @@ fn why_rows_are_not_printed_is_told_in_words(rt: HostRuntime) -> Result<(), Fail
     let came: RowsFault<u8> = RowsFault::Source(7);
     let back: RowFault<u8> = RowFault::Misfit(0);
     let refused: RowFault<u8> = RowFault::Memory;
-    let told = format!(in alloc; "{found}, {came}, {back}, {refused}")?;
-    let wanted = "row 3 does not fit, 7, the row does not fit, out of memory";
+    let open = StreamFault::Open;
+    let told = format!(in alloc; "{found}, {came}, {back}, {refused}, {open}")?;
+    let wanted =
+        "row 3 does not fit, 7, the row does not fit, out of memory, the table does not end here";
     assert_same(&rt, told.as_str(), wanted);
     Ok(())
 }

@@ -132,4 +132,5 @@ line_of fault = fault_text fault ++ codes "\n"
 abbrev pub told_by : StreamFault → Fault
 told_by (stream.Misfit misfit) = Memory
 told_by (stream.Row row) = Room (min (row + 1) (2 ^ 64 - 1))
+told_by stream.Open = Memory
 told_by stream.Memory = Memory

@@ -35,15 +35,15 @@ impl From<AllocError> for Fault {
     }
 }
 
-/// The first row is that of line 1. What the table looks like fits, so no call answers
-/// `StreamFault::Misfit`.
+/// The first row is that of line 1. What the table looks like fits, and its last row is told, so no call
+/// answers `StreamFault::Misfit` or `StreamFault::Open`.
 impl From<StreamFault> for Fault {
     ghost from_gives = { λ found fault. fault ≡ told_by found };
 
     fn from(fault: StreamFault) -> Fault {
         match fault {
             StreamFault::Row(row) => Fault::Room(row.saturating_add(1)),
-            StreamFault::Misfit(_) | StreamFault::Memory => Fault::Memory,
+            StreamFault::Misfit(_) | StreamFault::Open | StreamFault::Memory => Fault::Memory,
         }
     }
 }
