@@ -52,7 +52,7 @@ where
         cell: &OpenCell<S>,
         column: usize,
     ) -> Result<(), AllocError>
-        requires { slice_index_or self.now.opened.now column None ≡ Some cell.now }
+        requires cell { slice_index_or self.now.opened.now column None ≡ Some cell.now }
         ensures { Appends buf.old buf.new result (written (slot_block (frame_of T.told) (slot_of (Some cell.now)) column)) }
     {
         let pos = Position::new(cell.begun(), column);

@@ -63,7 +63,7 @@ impl<S: AsStr, A: Allocator> Progress<'_, S, A> {
         D: Dimension,
         C: Colors,
         B: Allocator,
-        requires { IsSoundAt (told_of D.width D.height C.color frame.now) frame.now self.now }
+        requires sound { IsSoundAt (told_of D.width D.height C.color frame.now) frame.now self.now }
         ensures fits { IsSome result ↔ RowFits (now_of (told_of D.width D.height C.color frame.now) self.now) (map S.text cells.now) is_last }
         ensures plain { result ≡ Some true → ArePlain frame.now.columns (map S.text cells.now) }
     {

@@ -30,7 +30,7 @@ where
         index: usize,
         row: usize,
     ) -> Result<(), AllocError>
-        requires { MayDraw (frame_of T.told) opened.old index (T.told.height row) }
+        requires may { MayDraw (frame_of T.told) opened.old index (T.told.height row) }
         ensures appends { Appends buf.old buf.new result (open_lines (frame_of T.told) self.entry.frame.now.height is_first opened.old row index (T.told.height row)) }
         ensures drawn { OnOk result (opened.new ≡ map (draw_cell (T.told.height row)) opened.old) }
     {

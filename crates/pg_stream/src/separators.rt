@@ -39,7 +39,7 @@ where
         index: usize,
         row: usize,
     ) -> Result<usize, AllocError>
-        requires { MaySeparate (frame_of T.told) row index opened.old kept.old }
+        requires may { MaySeparate (frame_of T.told) row index opened.old kept.old }
         ensures appends { Appends buf.old buf.new result (above_text (frame_of T.told) self.entry.frame.now.height is_first opened.old row index) }
         ensures index { IfOk result (λ next. next ≡ index + separator_height T.told.config row) }
         ensures drawn { OnOk result (opened.new ≡ map (draw_cell (separator_height T.told.config row)) opened.old) }
@@ -175,7 +175,7 @@ where
         rows: usize,
         is_inside: bool,
     ) -> Result<Run<'f, ANSIBuf<B>>, AllocError>
-        requires { is_inside ≡ nat_lt pos.col (reach T.told.config.spans self.now.opened.now pos.col) }
+        requires inside { is_inside ≡ nat_lt pos.col (reach T.told.config.spans self.now.opened.now pos.col) }
         ensures appends { Appends buf.old buf.new result (items_after run.entry (open_separator_part (frame_of T.told) rows self.now.opened.now pos.row pos.col)) }
         ensures color { IfOk result (λ after. after ≡ last_color run.entry (open_separator_part (frame_of T.told) rows self.now.opened.now pos.row pos.col)) }
     {

@@ -58,7 +58,7 @@ where
         cells: I,
         are_plain: bool,
     ) -> Result<(), AllocError>
-        requires { (texts : List Text) × Gives (λ x y. S.text x ≡ y) I.can_next I.next_gives I.remaining cells texts × IsSingleRow T.told row are_plain texts }
+        requires single { (texts : List Text) × Gives (λ x y. S.text x ≡ y) I.can_next I.next_gives I.remaining cells texts × IsSingleRow T.told row are_plain texts }
         ensures { (texts : List Text) → AlwaysGives (λ x y. S.text x ≡ y) I.next_gives cells texts → Appends buf.old buf.new result (line_at T.told.config self.entry.frame.now.height is_first index (written (single_line (frame_of T.told) row texts))) }
     {
         self.push_start(buf, is_first, index)?;

@@ -18,7 +18,7 @@ returns-then-not-has_horizontal-clause-drawn g c =
     drawn-none c.args.opened.now ∙ ap (λ n. map (draw_cell n) c.args.opened.now) (sym (height-absent g.T.Drawn.told.config c.args.row c.has_horizontal.ensures c.if-not-has_horizontal.true))
 
 pub invariant_of-line : goal.invariant_of-line
-invariant_of-line g c = let one = height-there g.T.Drawn.told.config c.args.row c.has_horizontal.ensures c.if-not-has_horizontal.false in record { are_drawn = c.requires.line.opened (omega (arith, one)) }
+invariant_of-line g c = let one = height-there g.T.Drawn.told.config c.args.row c.has_horizontal.ensures c.if-not-has_horizontal.false in record { are_drawn = c.requires.may.line.opened (omega (arith, one)) }
 
 pub returns-in_err-push_start-clause-appends : goal.returns-in_err-push_start-clause-appends
 returns-in_err-push_start-clause-appends g c =
@@ -38,10 +38,10 @@ returns-in_err-push_end-clause-appends g c =
 pub draw_line-requires : goal.draw_line-requires
 draw_line-requires g c =
     let P : ℕ → Type 0 = λ n. AllOpen (λ x cell. cell.drawn + n < 2 ^ 64) c.args.opened.now in
-    subst P (height-there g.T.Drawn.told.config c.args.row c.has_horizontal.ensures c.if-not-has_horizontal.false) c.requires.line.room
+    subst P (height-there g.T.Drawn.told.config c.args.row c.has_horizontal.ensures c.if-not-has_horizontal.false) c.requires.may.line.room
 
 pub overflow_add-result : goal.overflow_add-result
-overflow_add-result g c = let one = height-there g.T.Drawn.told.config c.args.row c.has_horizontal.ensures c.if-not-has_horizontal.false in omega (arith, one, c.requires.line.lines)
+overflow_add-result g c = let one = height-there g.T.Drawn.told.config c.args.row c.has_horizontal.ensures c.if-not-has_horizontal.false in omega (arith, one, c.requires.may.line.lines)
 
 pub returns-clause-appends : goal.returns-clause-appends
 returns-clause-appends g c =

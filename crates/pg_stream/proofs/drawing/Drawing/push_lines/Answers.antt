@@ -13,7 +13,7 @@ loop-line-init g c = (drawn-none c.args.opened.now, Gained-text (lines-none (fra
 pub invariant_of-shown : goal.invariant_of-shown
 invariant_of-shown g c =
     let t = frame_of g.T.Drawn.told in
-    record { are_drawn = subst (AreDrawn t) (sym c.loop-line.invariant.0) (drawn-still t c.loop-line.line c.args.opened.now (c.requires.opened (omega (arith, c.height_of-line-end.ensures)))) }
+    record { are_drawn = subst (AreDrawn t) (sym c.loop-line.invariant.0) (drawn-still t c.loop-line.line c.args.opened.now (c.requires.may.opened (omega (arith, c.height_of-line-end.ensures)))) }
 
 pub returns-in_err-push_body_line-clause-appends : goal.returns-in_err-push_body_line-clause-appends
 returns-in_err-push_body_line-clause-appends g c =
@@ -24,7 +24,7 @@ returns-in_err-push_body_line-clause-appends g c =
 pub draw_line-requires : goal.draw_line-requires
 draw_line-requires g c =
     subst (AllOpen (λ x cell. cell.drawn + 1 < 2 ^ 64)) (sym c.loop-line.invariant.0)
-    (drawn-all (λ x cell. cell.drawn + g.T.Drawn.told.height c.args.row < 2 ^ 64) (λ x cell. cell.drawn + 1 < 2 ^ 64) c.loop-line.line c.args.opened.now (λ x cell h. omega (arith, h, c.loop-line-test.true, c.height_of-line-end.ensures)) c.requires.room)
+    (drawn-all (λ x cell. cell.drawn + g.T.Drawn.told.height c.args.row < 2 ^ 64) (λ x cell. cell.drawn + 1 < 2 ^ 64) c.loop-line.line c.args.opened.now (λ x cell h. omega (arith, h, c.loop-line-test.true, c.height_of-line-end.ensures)) c.requires.may.room)
 
 pub loop-line-preserved : goal.loop-line-preserved
 loop-line-preserved g c =

@@ -16,7 +16,7 @@ loop-column-init g c = record { gained = Gained-none c.args.buf.now; color = ref
 pub push_column-requires : goal.push_column-requires
 push_column-requires g c =
     let spans = g.T.Drawn.told.config.spans in
-    ap (λ n. nat_lt c.loop-column.column n) c.loop-column.invariant.ends ∙ sym (ap (λ (p : Position). nat_lt p.col (reach spans c.args.self.now.opened.now p.col)) c.new-pos.ensures)
+    record { inside = ap (λ n. nat_lt c.loop-column.column n) c.loop-column.invariant.ends ∙ sym (ap (λ (p : Position). nat_lt p.col (reach spans c.args.self.now.opened.now p.col)) c.new-pos.ensures) }
 
 pub returns-in_err-run-clause-appends : goal.returns-in_err-run-clause-appends
 returns-in_err-run-clause-appends g c =

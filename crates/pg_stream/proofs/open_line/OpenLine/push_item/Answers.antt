@@ -32,4 +32,4 @@ returns-clause-color g c =
     rw here c.in_ok-run.ensures.color
 
 pub push_cell_line-requires : goal.push_cell_line-requires
-push_cell_line-requires g c = sym c.open_at.ensures ∙ ap (λ o. option_map (λ x. x.now) o) c.in-Some.is
+push_cell_line-requires g c = record { cell = sym c.open_at.ensures ∙ ap (λ o. option_map (λ x. x.now) o) c.in-Some.is }

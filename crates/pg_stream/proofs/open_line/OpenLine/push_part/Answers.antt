@@ -18,4 +18,4 @@ returns g c =
     Appends-text (part-some (frame_of g.T.Drawn.told) c.args.self.now.opened.now c.args.pos.row c.args.line c.args.pos.col c.in-Some.cell.now here) (c.in_ok-push_vertical.ensures then c.push_cell_line.ensures)
 
 pub push_cell_line-requires : goal.push_cell_line-requires
-push_cell_line-requires g c = sym c.open_at.ensures ∙ ap (λ o. option_map (λ x. x.now) o) c.in-Some.is
+push_cell_line-requires g c = record { cell = sym c.open_at.ensures ∙ ap (λ o. option_map (λ x. x.now) o) c.in-Some.is }

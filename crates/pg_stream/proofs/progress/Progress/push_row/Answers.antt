@@ -35,11 +35,13 @@ push_above-requires g c =
     let fits = c.requires.fits.2 in
     let both = length_of_row s.config s.height s.rows in
     record {
-      between = record { row = omega (arith, fits.rows); alone = none-open s w h cells refl sound; separator = c.requires.sound.kept };
-      line = record {
-        lines = omega (arith, fits.lines, both);
-        room = room-above s w h cells refl sound (separator_height s.config s.rows) (omega (arith, fits.lines, both));
-        opened = drawn-above s w h cells refl sound;
+      may = record {
+        between = record { row = omega (arith, fits.rows); alone = none-open s w h cells refl sound; separator = c.requires.sound.kept };
+        line = record {
+          lines = omega (arith, fits.lines, both);
+          room = room-above s w h cells refl sound (separator_height s.config s.rows) (omega (arith, fits.lines, both));
+          opened = drawn-above s w h cells refl sound;
+        };
       };
     }
 
@@ -58,11 +60,14 @@ push_single_row-requires g c =
     let s : Printing = now_of g.T.Drawn.told c.args.self.now in
     let fits = c.requires.fits.2 in
     let once = at-once c.height_of-height.result s.config.spans c.draws_at_once.result c.draws_at_once.ensures c.if-draws_at_once.true in
-    let one : s.height s.rows ≡ 1 = sym c.height_of-height.ensures ∙ once.0 in (
-      c.requires.fits.0,
-      record { can_next = c.requires.can.0; ends = c.requires.can.1; gives = c.requires.fits.1 },
-      record { single = record { alone = once.1; height = one }; whole = fits.whole; rooms = fits.rooms; plain = c.requires.fits.3 },
-    )
+    let one : s.height s.rows ≡ 1 = sym c.height_of-height.ensures ∙ once.0 in
+    record {
+      single = (
+        c.requires.fits.0,
+        record { can_next = c.requires.can.0; ends = c.requires.can.1; gives = c.requires.fits.1 },
+        record { single = record { alone = once.1; height = one }; whole = fits.whole; rooms = fits.rooms; plain = c.requires.fits.3 },
+      );
+    }
 
 pub returns-in_err-push_single_row-clause-appends : goal.returns-in_err-push_single_row-clause-appends
 returns-in_err-push_single_row-clause-appends g c = λ texts gives.
@@ -153,9 +158,11 @@ push_lines-requires g c =
     let now = c.begin.ensures c.requires.fits.0 c.requires.fits.1 ∙ ap (λ l. cells_begun t s.rows c.requires.fits.0 l) c.in_ok-next.ensures.drawn in
     let both = length_of_row s.config s.height s.rows in
     record {
-      lines = omega (arith, fits.lines, both, c.in_ok-next.ensures.index);
-      room = subst (AllOpen (λ x cell. cell.drawn + s.height s.rows < 2 ^ 64)) (sym now) (room-now s w h cells refl sound c.requires.fits.0 (omega (arith, fits.lines, both)));
-      opened = λ some. subst (AreDrawn t) (sym now) (drawn-now s w h cells refl sound c.requires.fits.0 fits.rooms some);
+      may = record {
+        lines = omega (arith, fits.lines, both, c.in_ok-next.ensures.index);
+        room = subst (AllOpen (λ x cell. cell.drawn + s.height s.rows < 2 ^ 64)) (sym now) (room-now s w h cells refl sound c.requires.fits.0 (omega (arith, fits.lines, both)));
+        opened = λ some. subst (AreDrawn t) (sym now) (drawn-now s w h cells refl sound c.requires.fits.0 fits.rooms some);
+      };
     }
 
 pub returns-in_err-push_lines-clause-appends : goal.returns-in_err-push_lines-clause-appends

@@ -13,7 +13,7 @@ use Rattle.pg_stream.proofs.StreamedRows.{row-misfits, row-refused, row-printed}
 use Rattle.pg_stream.proofs.progress.Progress.try_row.Goals as goal
 
 pub plainness-requires : goal.plainness-requires
-plainness-requires g c = subst (λ t. IsSoundAt t c.args.frame.now c.args.self.now) (sym c.requires.is) c.requires.sound
+plainness-requires g c = record { sound = subst (λ t. IsSoundAt t c.args.frame.now c.args.self.now) (sym c.requires.is) c.requires.sound }
 
 pub returns-in_default-clause-prints : goal.returns-in_default-clause-prints
 returns-in_default-clause-prints g c =
