@@ -59,7 +59,7 @@ impl<D: Dimension, C: Colors> CompactPrinter<'_, D, C> {
 
     // What stands above the rows: the top margin and the top line.
     fn push_head<A: Allocator>(&self, buf: &mut String<A>, width: usize) -> Result<(), AllocError>
-        requires { width ≡ compact_full_width (printed_table D.width C.color self.now []) }
+        requires width { width ≡ compact_full_width (printed_table D.width C.color self.now []) }
         ensures { Appends buf.old buf.new result (continued 0 (head_lines (printed_table D.width C.color self.now []))) }
     {
         let (borders, colors) = (self.config.get_borders(), self.config.get_borders_color());
@@ -76,7 +76,7 @@ impl<D: Dimension, C: Colors> CompactPrinter<'_, D, C> {
 
     // What stands below the rows: the bottom line and the bottom margin.
     fn push_foot<A: Allocator>(&self, buf: &mut String<A>, width: usize) -> Result<(), AllocError>
-        requires { width ≡ compact_full_width (printed_table D.width C.color self.now []) }
+        requires width { width ≡ compact_full_width (printed_table D.width C.color self.now []) }
         ensures { Appends buf.old buf.new result (fed (foot_lines (printed_table D.width C.color self.now []))) }
     {
         let (borders, colors) = (self.config.get_borders(), self.config.get_borders_color());
@@ -102,7 +102,7 @@ impl<D: Dimension, C: Colors> CompactPrinter<'_, D, C> {
         Cells: Iterator<Item = T>,
         Rows: Iterator<Item = Cells>,
         A: Allocator,
-        requires { (texts : List (List (List ℕ))) × AreRows (Gives (λ x y. T.text x ≡ y) Cells.can_next Cells.next_gives Cells.remaining) Rows.can_next Rows.next_gives Rows.remaining self.now.columns 1 texts rows }
+        requires rows { (texts : List (List (List ℕ))) × AreRows (Gives (λ x y. T.text x ≡ y) Cells.can_next Cells.next_gives Cells.remaining) Rows.can_next Rows.next_gives Rows.remaining self.now.columns 1 texts rows }
         ensures { (texts : List (List (List ℕ))) → AreRows (Gives (λ x y. T.text x ≡ y) Cells.can_next Cells.next_gives Cells.remaining) Rows.can_next Rows.next_gives Rows.remaining self.now.columns 1 texts rows → Appends buf.old buf.new result (fed (flat_map (row_lines (printed_table D.width C.color self.now texts)) (range_with_len 1 (length texts - 1)))) }
     {
         let mut room = [0; SEPARATOR_ROOM];

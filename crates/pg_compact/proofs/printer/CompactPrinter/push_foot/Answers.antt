@@ -17,7 +17,7 @@ returns-in_err-push_separator_if g c =
     let there = c.has_bottom.ensures ∙ ap (λ b. has_bottom b) c.get_borders-borders.ensures in
     let glyphs = c.bottom_line.ensures ∙ ap (λ b. bottom_line b) c.get_borders-borders.ensures in
     let colors = ap line_colors c.bottom_line-2.ensures ∙ ap (λ b. bottom_line b) c.get_borders_color-colors.ensures in
-    Appends-text (foot-text g.D.Dimension.width g.C.Colors.color p [] c.args.width m mc c.bottom_line.result (line_colors c.bottom_line-2.result) c.requires c.get_margin-margin.ensures c.get_margin_color-color.ensures there glyphs colors)
+    Appends-text (foot-text g.D.Dimension.width g.C.Colors.color p [] c.args.width m mc c.bottom_line.result (line_colors c.bottom_line-2.result) c.requires.width c.get_margin-margin.ensures c.get_margin_color-color.ensures there glyphs colors)
     (stopped (continued (lines_before false) (replicate m.bottom.size (compact_indent m.bottom.fill c.args.width mc.bottom))) c.from_residual.ensures.0 c.in_err-push_separator_if.ensures)
 
 pub returns : goal.returns
@@ -28,5 +28,5 @@ returns g c =
     let there = c.has_bottom.ensures ∙ ap (λ b. has_bottom b) c.get_borders-borders.ensures in
     let glyphs = c.bottom_line.ensures ∙ ap (λ b. bottom_line b) c.get_borders-borders.ensures in
     let colors = ap line_colors c.bottom_line-2.ensures ∙ ap (λ b. bottom_line b) c.get_borders_color-colors.ensures in
-    Appends-text (foot-text g.D.Dimension.width g.C.Colors.color p [] c.args.width m mc c.bottom_line.result (line_colors c.bottom_line-2.result) c.requires c.get_margin-margin.ensures c.get_margin_color-color.ensures there glyphs colors)
+    Appends-text (foot-text g.D.Dimension.width g.C.Colors.color p [] c.args.width m mc c.bottom_line.result (line_colors c.bottom_line-2.result) c.requires.width c.get_margin-margin.ensures c.get_margin_color-color.ensures there glyphs colors)
     (c.in_ok-push_separator_if.ensures then c.push_compact_margin.ensures)

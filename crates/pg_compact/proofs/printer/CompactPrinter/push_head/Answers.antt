@@ -15,7 +15,7 @@ returns-in_err-push_compact_margin g c =
     let t = printed_table g.D.Dimension.width g.C.Colors.color p [] in
     let m = c.get_margin.result in
     let mc = side_colors c.get_margin_color.result in
-    Appends-text (head-text g.D.Dimension.width g.C.Colors.color p [] c.args.width m mc {first = m.top.size == 0} (top_line t.config.borders) (top_line t.config.borders_color) c.requires c.get_margin.ensures c.get_margin_color.ensures refl refl refl refl)
+    Appends-text (head-text g.D.Dimension.width g.C.Colors.color p [] c.args.width m mc {first = m.top.size == 0} (top_line t.config.borders) (top_line t.config.borders_color) c.requires.width c.get_margin.ensures c.get_margin_color.ensures refl refl refl refl)
     (stopped (continued (lines_before (m.top.size == 0)) (line_if (has_top t.config.borders) (separator_row t (top_line t.config.borders) (top_line t.config.borders_color)))) c.from_residual.ensures.0 c.in_err-push_compact_margin.ensures)
 
 pub returns : goal.returns
@@ -26,5 +26,5 @@ returns g c =
     let there = c.has_top.ensures ∙ ap (λ b. has_top b) c.get_borders-borders.ensures in
     let glyphs = c.top_line.ensures ∙ ap (λ b. top_line b) c.get_borders-borders.ensures in
     let colors = ap line_colors c.top_line-2.ensures ∙ ap (λ b. top_line b) c.get_borders_color-colors.ensures in
-    Appends-text (head-text g.D.Dimension.width g.C.Colors.color p [] c.args.width m mc c.top_line.result (line_colors c.top_line-2.result) c.requires c.get_margin.ensures c.get_margin_color.ensures there glyphs colors refl)
+    Appends-text (head-text g.D.Dimension.width g.C.Colors.color p [] c.args.width m mc c.top_line.result (line_colors c.top_line-2.result) c.requires.width c.get_margin.ensures c.get_margin_color.ensures there glyphs colors refl)
     (c.in_ok-push_compact_margin.ensures then c.push_separator_if.ensures)

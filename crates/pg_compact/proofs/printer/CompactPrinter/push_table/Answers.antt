@@ -42,7 +42,7 @@ push_head-requires g c =
     let taken = row-taken all c.in-Some.ensures.steps c.in-Some.ensures.goes in
     let columns : 0 < c.args.self.now.columns = omega arith in
     let totals = totals-fit g.D.Dimension.width g.C.Colors.color c.args.self.now texts fits taken.rest.begun columns in
-    some_is c.unwrap-width.result _ (sym c.unwrap-width.ensures ∙ width-answer g.D.Dimension.width g.C.Colors.color c.args.self.now texts totals c.compact_full_width.ensures)
+    record { width = some_is c.unwrap-width.result _ (sym c.unwrap-width.ensures ∙ width-answer g.D.Dimension.width g.C.Colors.color c.args.self.now texts totals c.compact_full_width.ensures) }
 
 pub push_foot-requires : goal.push_foot-requires
 push_foot-requires g c =
@@ -50,7 +50,7 @@ push_foot-requires g c =
     let taken = row-taken all c.in-Some.ensures.steps c.in-Some.ensures.goes in
     let columns : 0 < c.args.self.now.columns = omega arith in
     let totals = totals-fit g.D.Dimension.width g.C.Colors.color c.args.self.now texts fits taken.rest.begun columns in
-    some_is c.unwrap-width.result _ (sym c.unwrap-width.ensures ∙ width-answer g.D.Dimension.width g.C.Colors.color c.args.self.now texts totals c.compact_full_width.ensures)
+    record { width = some_is c.unwrap-width.result _ (sym c.unwrap-width.ensures ∙ width-answer g.D.Dimension.width g.C.Colors.color c.args.self.now texts totals c.compact_full_width.ensures) }
 
 pub push_row-requires : goal.push_row-requires
 push_row-requires g c =
@@ -61,7 +61,7 @@ push_row-requires g c =
 pub push_next_rows-requires : goal.push_next_rows-requires
 push_next_rows-requires g c =
     let (texts, all, fits) = c.requires in
-    (texts, (row-taken all c.in-Some.ensures.steps c.in-Some.ensures.goes).rest)
+    record { rows = (texts, (row-taken all c.in-Some.ensures.steps c.in-Some.ensures.goes).rest) }
 
 pub returns-in_err-push_head : goal.returns-in_err-push_head
 returns-in_err-push_head g c = λ texts all.
