@@ -12,3 +12,4 @@ mod words;
 
 pub use crate::reading::parse_script;
 pub use crate::script::{Script, ScriptFault};
+pub use crate::statement::Size;

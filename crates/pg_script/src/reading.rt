@@ -37,22 +37,22 @@ fn size_of_line(line: &[u8]) -> Option<Option<Size>>
     }
 }
 
-// Reads lines until one tells the size of the table. Their numbers begin with `number`, which then
-// is that of the next line.
-fn read_size(rest: &mut Lines<'_>, number: &mut usize) -> Result<Size, ScriptFault>
+// Reads lines until one tells the size of the table, or is bad: then it answers that line's number.
+// Their numbers begin with `number`, which then is that of the next line.
+fn read_size(rest: &mut Lines<'_>, number: &mut usize) -> Result<Size, usize>
     requires { number.old + length (lines rest.old.rest.now) < 2 ^ 64 }
     ensures counted { number.new + length (lines rest.new.rest.now) ≡ number.old + length (lines rest.old.rest.now) }
     ensures told { IfOk result (λ size. read_lines number.old None (lines rest.old.rest.now) ≡ read_lines number.new (Some (size, told_nothing size)) (lines rest.new.rest.now)) }
-    ensures bad { (n : ℕ) → result ≡ Err (ScriptFault.Bad n) → read_lines number.old None (lines rest.old.rest.now) ≡ Err n }
+    ensures bad { (n : ℕ) → result ≡ Err n → read_lines number.old None (lines rest.old.rest.now) ≡ Err n }
 {
     while let Some(line) = rest.next() {
-        let bad = ScriptFault::Bad(*number);
+        let bad = *number;
         *number += 1;
         if let Some(size) = size_of_line(line).ok_or(bad)? {
             return Ok(size);
         }
     }
-    Err(ScriptFault::Bad(*number))
+    Err(*number)
 }
 
 // Changes the table as a line says that follows the size, and tells whether the line is good.
@@ -110,7 +110,10 @@ pub fn parse_script<A: Allocator + Copy>(alloc: A, script: &[u8]) -> Result<Scri
 {
     let mut rest = Lines::new(script);
     let mut number = 1;
-    let size = read_size(&mut rest, &mut number)?;
+    let size = match read_size(&mut rest, &mut number) {
+        Ok(size) => size,
+        Err(line) => return Err(ScriptFault::Bad(line)),
+    };
     let mut draft = Draft::new(alloc, size)?;
     match follow_lines(alloc, &mut draft, rest, number) {
         Ok(()) => Ok(draft.finish()),

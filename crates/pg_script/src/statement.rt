@@ -18,11 +18,13 @@ const MOST: usize = 1000;
 /// The greatest number of a colour.
 const GREATEST_CODE: usize = 107;
 
-/// How many rows and columns the table of a script has.
+/// How many rows and columns the table of a script has. Contracts name it.
 #[derive(Debug, Clone, Copy)]
-pub(crate) struct Size {
-    pub(crate) rows: usize,
-    pub(crate) columns: usize,
+pub struct Size {
+    /// The rows.
+    pub rows: usize,
+    /// The columns.
+    pub columns: usize,
 }
 
 impl Size {
