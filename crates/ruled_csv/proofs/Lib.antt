@@ -1,0 +1,3 @@
+mod AllRecords
+mod Marks
+mod TextRows

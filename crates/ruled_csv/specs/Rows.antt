@@ -1,0 +1,17 @@
+-- The rows that bytes of separated values hold.
+use Rattle.std.specs.Prelude.{ℕ, List, [], ◌∷◌, length}
+use Rattle.csv.specs.declared.parser.Config.{Config}
+use Rattle.csv.specs.Reading.{default_config, records, strip_bom}
+
+-- the fields are parted by this byte, and quoted as in CSV
+abbrev pub config_of : ℕ → Config
+config_of delimiter = record default_config { delimiter = delimiter }
+
+-- the rows of these bytes, without a byte order mark at their front: each is the list of its fields
+abbrev pub rows_of : ℕ → List ℕ → List (List (List ℕ))
+rows_of delimiter bytes = records (config_of delimiter) (strip_bom bytes)
+
+-- how many columns rows have: as many as row 0 has fields
+abbrev pub columns_of : List (List (List ℕ)) → ℕ
+columns_of [] = 0
+columns_of (row ∷ rows) = length row

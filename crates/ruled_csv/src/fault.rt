@@ -1,0 +1,77 @@
+//! Why rows can't be read.
+
+ghost use Rattle.std.specs.Prelude.{◌≡◌};
+ghost use Rattle.ruled_csv.specs.declared.fault.RowsFault.TheVariants.{Memory};
+
+use std::alloc::{AllocError, AllocFailed};
+use std::fmt;
+
+/// Why rows can't be read. A line is counted from 1, and a row from 0.
+#[derive(Clone, Copy)]
+pub enum RowsFault {
+    /// The quote that is opened on this line is never closed.
+    OpenQuote {
+        line: usize,
+    },
+    /// On this line text stands behind a closing quote.
+    BehindQuote {
+        line: usize,
+    },
+    /// This row, which begins on this line, has so many fields, and row 0 has so many columns.
+    Length {
+        row: usize,
+        line: usize,
+        fields: usize,
+        columns: usize,
+    },
+    /// This row, which begins on this line, isn't UTF-8.
+    Encoding {
+        row: usize,
+        line: usize,
+    },
+    /// Memory was refused.
+    Memory,
+}
+
+impl From<AllocError> for RowsFault {
+    ghost from_gives = { λ _ fault. fault ≡ Memory };
+
+    fn from(_error: AllocError) -> RowsFault {
+        RowsFault::Memory
+    }
+}
+
+impl<T: Drop> From<AllocFailed<T>> for RowsFault {
+    ghost from_gives = { λ _ fault. fault ≡ Memory };
+
+    fn from(_error: AllocFailed<T>) -> RowsFault {
+        RowsFault::Memory
+    }
+}
+
+/// Writes what is wrong.
+impl fmt::Display for RowsFault {
+    fn fmt<W: fmt::Write>(&self, f: &mut fmt::Formatter<W>) -> fmt::Result {
+        match self {
+            RowsFault::OpenQuote { line } => write!(f, "line {line}: a quote isn't closed"),
+            RowsFault::BehindQuote { line } => write!(
+                f,
+                "line {line}: text behind a closing quote"
+            ),
+            RowsFault::Length {
+                line,
+                fields,
+                columns,
+                ..
+            } => {
+                let fields_word = if *fields == 1 { "field" } else { "fields" };
+                write!(
+                    f,
+                    "line {line}: {fields} {fields_word}, and row 0 has {columns}"
+                )
+            }
+            RowsFault::Encoding { line, .. } => write!(f, "line {line}: not UTF-8"),
+            RowsFault::Memory => write!(f, "out of memory"),
+        }
+    }
+}

@@ -1,0 +1,9 @@
+//! The rows that bytes of separated values hold, and what is wrong with bytes that hold none.
+#![tactic(auto)]
+
+mod fault;
+mod quotes;
+mod records;
+
+pub use crate::fault::RowsFault;
+pub use crate::records::read_rows;
