@@ -1,0 +1,5 @@
+mod Even
+mod Fields
+mod Shown
+mod Tables
+mod Views

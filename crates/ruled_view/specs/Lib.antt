@@ -1,0 +1,4 @@
+pub mod Columns
+pub mod Faults
+pub mod Look
+pub mod View

@@ -1,0 +1,30 @@
+-- What tables look like.
+use Rattle.std.specs.Prelude.{ℕ, Option, Some, None}
+use Rattle.pg_layout.specs.Looks as looks
+use Rattle.pg_layout.specs.declared.borders.Borders.{Borders}
+use Rattle.pg_layout.specs.declared.borders.HorizontalLine.{HorizontalLine}
+use Rattle.ruled_view.specs.declared.options.Look.{Look}
+use Rattle.ruled_view.specs.declared.options.Look.TheVariants.{Sharp, Rounded, Modern, Extended, Ascii, Dots, Psql, Markdown, Blank}
+
+abbrev pub borders_of : Look → Borders ℕ
+borders_of Sharp = looks.sharp
+borders_of Rounded = looks.rounded
+borders_of Modern = looks.modern
+borders_of Extended = looks.extended
+borders_of Ascii = looks.ascii
+borders_of Dots = looks.dots
+borders_of Psql = looks.psql
+borders_of Markdown = looks.markdown
+borders_of Blank = looks.blank
+
+-- the line below a header, of those that have no lines between all rows
+abbrev pub header_line_of : Look → Option (HorizontalLine ℕ)
+header_line_of Sharp = Some looks.sharp_line
+header_line_of Rounded = Some looks.sharp_line
+header_line_of Modern = None
+header_line_of Extended = None
+header_line_of Ascii = None
+header_line_of Dots = None
+header_line_of Psql = Some looks.psql_line
+header_line_of Markdown = Some looks.markdown_line
+header_line_of Blank = None

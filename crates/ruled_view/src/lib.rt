@@ -1,0 +1,14 @@
+//! Rows of separated values as a table: bytes in, the picture of the rows that they hold out.
+#![tactic(auto)]
+
+mod columns;
+mod fault;
+mod options;
+mod program;
+mod rows;
+mod table;
+
+pub use crate::fault::Fault;
+pub use crate::options::{Look, Options};
+pub use crate::program::{Ending, run};
+pub use crate::table::view;

@@ -1,0 +1,70 @@
+//! How rows are read and shown.
+
+ghost use Rattle.std.specs.Prelude.{◌≡◌};
+ghost use Rattle.ruled_view.specs.Look as spec;
+
+use pg_layout::{Borders, HorizontalLine};
+
+/// What a table looks like: the borders of this name. Those that have no lines between all rows have
+/// one below a header, except for `Blank`.
+#[derive(Clone, Copy)]
+pub enum Look {
+    Sharp,
+    Rounded,
+    Modern,
+    Extended,
+    Ascii,
+    Dots,
+    Psql,
+    Markdown,
+    Blank,
+}
+
+impl Look {
+    // Its borders.
+    pub(crate) fn borders(self) -> Borders<char>
+        ensures { result ≡ spec.borders_of self }
+    {
+        match self {
+            Look::Sharp => Borders::sharp(),
+            Look::Rounded => Borders::rounded(),
+            Look::Modern => Borders::modern(),
+            Look::Extended => Borders::extended(),
+            Look::Ascii => Borders::ascii(),
+            Look::Dots => Borders::dots(),
+            Look::Psql => Borders::psql(),
+            Look::Markdown => Borders::markdown(),
+            Look::Blank => Borders::blank(),
+        }
+    }
+
+    // The line below a header, where it is one of its own.
+    pub(crate) fn header_line(self) -> Option<HorizontalLine<char>>
+        ensures { result ≡ spec.header_line_of self }
+    {
+        match self {
+            Look::Sharp | Look::Rounded => Some(HorizontalLine::sharp()),
+            Look::Psql => Some(HorizontalLine::psql()),
+            Look::Markdown => Some(HorizontalLine::markdown()),
+            Look::Modern | Look::Extended | Look::Ascii | Look::Dots | Look::Blank => None,
+        }
+    }
+}
+
+/// How rows are read and shown.
+#[derive(Drop)]
+pub struct Options {
+    /// The byte between two fields.
+    pub delimiter: u8,
+    /// What the table looks like.
+    pub look: Look,
+    /// Whether row 0 is a header, with a line below it.
+    pub has_header: bool,
+    /// The columns that are shown, in this order, by their names in row 0. Where no name is listed, all
+    /// are shown.
+    pub columns: Vec<String>,
+    /// How many rows are shown at most, besides a header.
+    pub head: Option<u32>,
+    /// Whether control characters are sent as they are.
+    pub is_raw: bool,
+}

@@ -1,0 +1,75 @@
+//! The rows that are shown, as texts.
+
+ghost use Rattle.std.specs.Prelude.{◌≡◌, map, string_bytes, IfOk};
+ghost use Rattle.csv.specs.Records.{fields_of};
+ghost use Rattle.ruled_view.specs.View.{heads, shown_row, shown_text, limit_of};
+
+use crate::columns::field_at;
+use crate::options::Options;
+use csv::StringRecord;
+use pg_fit::visible;
+use std::alloc::{AllocError, Global};
+
+// A text as it is shown.
+fn shown_text(alloc: Global, is_raw: bool, text: &str) -> Result<String, AllocError>
+    ensures { IfOk result (λ shown. string_bytes shown ≡ shown_text is_raw text.now) }
+{
+    if is_raw {
+        return Ok(String::from_str(alloc, text)?);
+    }
+    visible(alloc, text)
+}
+
+// A row as it is shown: its fields at these places.
+fn shown_row(
+    alloc: Global,
+    is_raw: bool,
+    places: &[usize],
+    fields: &StringRecord,
+) -> Result<Vec<String>, AllocError>
+    ensures { IfOk result (λ row. map string_bytes row.items ≡ shown_row is_raw places.now (fields_of fields.now)) }
+{
+    let mut row = Vec::with_capacity(alloc, places.len())?;
+    for place in places {
+        let text = shown_text(alloc, is_raw, field_at(fields, *place))?;
+        row.push(text)?;
+    }
+    Ok(row)
+}
+
+// How many rows are shown at most, where that is told.
+fn limit_of(options: &Options) -> Option<usize>
+    ensures { result ≡ limit_of options.now }
+{
+    let rows = options.head? as usize;
+    Some(if options.has_header { rows + 1 } else { rows })
+}
+
+// The rows that are shown.
+fn heads(options: &Options, rows: Vec<StringRecord>) -> Vec<StringRecord>
+    ensures { map fields_of result.items ≡ heads options.now (map fields_of rows.items) }
+{
+    let mut heads = rows;
+    if let Some(limit) = limit_of(options) {
+        heads.truncate(limit);
+    }
+    heads
+}
+
+/// The rows that are shown, of all of them, as texts.
+pub(crate) fn shown_rows(
+    alloc: Global,
+    options: &Options,
+    places: &[usize],
+    all: Vec<StringRecord>,
+) -> Result<Vec<Vec<String>>, AllocError>
+    ensures { IfOk result (λ rows. map (λ row. map string_bytes row.items) rows.items ≡ map (shown_row options.now.is_raw places.now) (heads options.now (map fields_of all.items))) }
+{
+    let heads = heads(options, all);
+    let mut rows = Vec::with_capacity(alloc, heads.len())?;
+    for fields in heads {
+        let row = shown_row(alloc, options.is_raw, places, &fields)?;
+        rows.push(row)?;
+    }
+    Ok(rows)
+}

@@ -1,0 +1,110 @@
+//! The text of the table that bytes hold.
+
+ghost use Rattle.std.specs.Prelude.{◌≡◌, ◌∷◌, ◌++◌, [], map, string_bytes, IfOk, is_some, if◌then◌else◌, ◌⊎◌, Some, None, Err};
+ghost use Rattle.pg_layout.specs.Records.{ragged_row};
+ghost use Rattle.pg_picture.specs.Picture.{picture};
+ghost use Rattle.pg_picture.specs.Table.{Known};
+ghost use Rattle.pg_table.specs.Printing.{drawn, fault_of};
+ghost use Rattle.ruled_view.specs.Faults.{Tells};
+ghost use Rattle.ruled_view.specs.View.{line_in, look_config, table_parts, text_of, totals_fault, view_fault, view_text};
+ghost use Rattle.ruled_view.specs.declared.fault.Fault.{Fault};
+ghost use Rattle.pg_table.specs.declared.fault.TableFault.{TableFault};
+
+use crate::columns::places_of;
+use crate::fault::Fault;
+use crate::options::{Look, Options};
+use crate::rows::shown_rows;
+use pg_config::SpannedConfig;
+use pg_layout::{Entity, HorizontalLine, Indent, Sides};
+use pg_table::{Table, TableFault};
+use ruled_csv::read_rows;
+use std::alloc::{AllocError, Global};
+
+// What a table looks like, but for the line below its header.
+fn look_config(alloc: Global, look: Look) -> Result<SpannedConfig, AllocError>
+    ensures { IfOk result (λ config. config ≡ look_config look) }
+{
+    let (beside, none) = (Indent::spaced(1), Indent::zero());
+    let mut config = SpannedConfig::new(alloc);
+    config.set_borders(look.borders());
+    config.set_padding(Entity::Global, Sides::new(beside, beside, none, none))?;
+    Ok(config)
+}
+
+// The line below a header, where the table has one.
+fn line_in(options: &Options) -> Option<HorizontalLine<char>>
+    ensures { result ≡ line_in options.now }
+{
+    if options.has_header {
+        options.look.header_line()
+    } else {
+        None
+    }
+}
+
+// The table of rows of equal length.
+fn table_of(
+    alloc: Global,
+    options: &Options,
+    rows: Vec<Vec<String>>,
+) -> Result<Table<String>, TableFault>
+    requires even { ragged_row (map (λ row. row.items) rows.items) ≡ None }
+    ensures parts { IfOk result (λ table. table ≡ table_parts options.now (map (λ row. row.items) rows.items)) }
+    ensures memory { (fault : TableFault) → result ≡ Err fault → fault ≡ TableFault.Memory }
+{
+    let config = look_config(alloc, options.look)?;
+    let table = Table::new(alloc, rows)?.with_config(config);
+    match line_in(options) {
+        Some(line) => table.with_header_line(line),
+        None => Ok(table),
+    }
+}
+
+// Why a table isn't printed.
+fn fault_in(fault: TableFault) -> Fault
+    ensures two { result ≡ Fault.Memory ⊎ result ≡ Fault.Totals }
+    ensures memory { fault ≡ TableFault.Memory → result ≡ Fault.Memory }
+{
+    match fault {
+        TableFault::Memory => Fault::Memory,
+        _ => Fault::Totals,
+    }
+}
+
+// The picture of a table, and a line feed.
+fn picture_of(alloc: Global, table: &Table<String>) -> Result<String, Fault>
+    ensures text { IfOk result (λ text. string_bytes text ≡ picture Known (drawn string_bytes table.now) ++ 10 ∷ []) }
+    ensures fault { Tells (if is_some (fault_of (drawn string_bytes table.now)) then Some Fault.Totals else None) result }
+{
+    let mut text = table.to_string(alloc).map_err(fault_in)?;
+    text.push('\n')?;
+    Ok(text)
+}
+
+// The text of the table of rows of equal length.
+fn text_of(alloc: Global, options: &Options, rows: Vec<Vec<String>>) -> Result<String, Fault>
+    requires even { ragged_row (map (λ row. row.items) rows.items) ≡ None }
+    ensures text { IfOk result (λ text. string_bytes text ≡ text_of options.now (map (λ row. map string_bytes row.items) rows.items)) }
+    ensures fault { Tells (totals_fault options.now (map (λ row. map string_bytes row.items) rows.items)) result }
+{
+    if rows.is_empty() {
+        return Ok(String::new(alloc));
+    }
+    let table = table_of(alloc, options, rows).map_err(fault_in)?;
+    picture_of(alloc, &table)
+}
+
+/// The text of the table of the rows that bytes of separated values hold, and a line feed behind it; of
+/// no rows the empty text.
+///
+/// The fault is that of the bytes, of the names of columns, or of the sizes of the table, in this
+/// order, or want of memory.
+pub fn view(alloc: Global, options: &Options, bytes: &[u8]) -> Result<String, Fault>
+    ensures text { IfOk result (λ text. string_bytes text ≡ view_text options.now bytes.now) }
+    ensures fault { Tells (view_fault options.now bytes.now) result }
+{
+    let all = read_rows(alloc, options.delimiter, bytes)?;
+    let places = places_of(alloc, &options.columns, &all)?;
+    let rows = shown_rows(alloc, options, &places, all)?;
+    text_of(alloc, options, rows)
+}
