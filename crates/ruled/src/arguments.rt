@@ -1,0 +1,184 @@
+//! The arguments of the program.
+
+use clap::{Arg, ArgAction, ArgMatches, Command};
+use ruled_view::{Look, Options};
+use std::alloc::{AllocError, Global};
+use std::{env, io};
+
+static LOOKS: [&str; 9] = [
+    "sharp", "rounded", "modern", "extended", "ascii", "dots", "psql", "markdown", "blank",
+];
+
+/// What is to be shown.
+#[derive(Drop)]
+pub(crate) struct Wanted {
+    /// The file that is read, or `None` for standard input.
+    pub(crate) file: Option<String>,
+    pub(crate) options: Options,
+}
+
+/// What the arguments ask for.
+#[derive(Drop)]
+pub(crate) enum Asked {
+    /// A table.
+    Table(Wanted),
+    /// Nothing more than was told, and this exit status.
+    Told(u8),
+}
+
+// An option that takes a value.
+fn option<'a>(alloc: Global, name: &'a str, value: &'a str, help: &'a str) -> Arg<'a> {
+    Arg::new(alloc, name)
+        .long(name)
+        .value_name(value)
+        .help(help)
+        .action(ArgAction::Set)
+}
+
+// An option that takes none.
+fn flag<'a>(alloc: Global, name: &'a str, help: &'a str) -> Arg<'a> {
+    Arg::new(alloc, name)
+        .long(name)
+        .help(help)
+        .action(ArgAction::SetTrue)
+}
+
+// The command with what is read.
+fn with_input<'a>(alloc: Global, command: Command<'a>) -> Result<Command<'a>, AllocError> {
+    let file = Arg::new(alloc, "file").value_name("FILE").help(
+        "The file that is read; without one, or as -, standard input",
+    );
+    let delimiter = option(
+        alloc,
+        "delimiter",
+        "C",
+        "What stands between two fields: a character, or the word tab; else a tab in a file whose name ends in .tsv or .tab, and a comma",
+    );
+    let bare = flag(alloc, "no-header", "Row 0 is no header");
+    command.arg(file)?.arg(delimiter)?.arg(bare)
+}
+
+// The command with what is shown.
+fn with_shown<'a>(alloc: Global, command: Command<'a>) -> Result<Command<'a>, AllocError> {
+    let columns = option(
+        alloc,
+        "columns",
+        "NAMES",
+        "The columns that are shown, in this order, by their names in row 0",
+    )
+    .value_delimiter(',');
+    let head = option(
+        alloc,
+        "head",
+        "N",
+        "How many rows are shown at most, besides the header",
+    )
+    .value_parser(clap::value_parser!(u32));
+    let look = option(alloc, "look", "LOOK", "What the table looks like")
+        .value_parser(LOOKS.as_slice())
+        .default_value("sharp");
+    let raw = flag(
+        alloc,
+        "raw",
+        "Control characters are sent as they are, and not made visible",
+    );
+    command.arg(columns)?.arg(head)?.arg(look)?.arg(raw)
+}
+
+fn command<'a>(alloc: Global) -> Result<Command<'a>, AllocError> {
+    let command = Command::new(alloc, "ruled")
+        .about("Shows rows of separated values as a table")
+        .version("0.1.0");
+    with_shown(alloc, with_input(alloc, command)?)
+}
+
+// The look of this name.
+fn look_of(name: Option<&str>) -> Look {
+    match name.unwrap_or("sharp") {
+        "rounded" => Look::Rounded,
+        "modern" => Look::Modern,
+        "extended" => Look::Extended,
+        "ascii" => Look::Ascii,
+        "dots" => Look::Dots,
+        "psql" => Look::Psql,
+        "markdown" => Look::Markdown,
+        "blank" => Look::Blank,
+        _ => Look::Sharp,
+    }
+}
+
+// The delimiter that a word names: one byte of ASCII that is no quote and ends no line, or a tab.
+fn delimiter_of(word: &str) -> Option<u8> {
+    if word == "tab" || word == "\\t" {
+        return Some(b'\t');
+    }
+    match word.as_bytes() {
+        [b'"' | b'\r' | b'\n'] => None,
+        [byte] if byte.is_ascii() => Some(*byte),
+        _ => None,
+    }
+}
+
+// The delimiter in a file of this name.
+fn delimiter_in(file: Option<&str>) -> u8 {
+    let name = file.unwrap_or("");
+    if name.ends_with(".tsv") || name.ends_with(".tab") {
+        b'\t'
+    } else {
+        b','
+    }
+}
+
+// The names that were listed.
+fn names_of(alloc: Global, words: Option<&[&str]>) -> Result<Vec<String>, AllocError> {
+    let mut names = Vec::new(alloc);
+    for word in words.unwrap_or(&[]) {
+        names.push(String::from_str(alloc, word)?)?;
+    }
+    Ok(names)
+}
+
+// What was asked for, or `None` where the delimiter isn't one.
+fn wanted(alloc: Global, found: &ArgMatches) -> Result<Option<Wanted>, AllocError> {
+    let name = found.get_str("file").filter(|name| *name != "-");
+    let delimiter = match found.get_str("delimiter") {
+        Some(word) => delimiter_of(word),
+        None => Some(delimiter_in(name)),
+    };
+    let Some(delimiter) = delimiter else {
+        return Ok(None);
+    };
+    let file = match name {
+        Some(name) => Some(String::from_str(alloc, name)?),
+        None => None,
+    };
+    let options = Options {
+        delimiter,
+        look: look_of(found.get_str("look")),
+        has_header: !found.get_flag("no-header"),
+        columns: names_of(alloc, found.get_strs("columns"))?,
+        head: found.get_one::<u32>("head"),
+        is_raw: found.get_flag("raw"),
+    };
+    Ok(Some(Wanted { file, options }))
+}
+
+/// Reads the arguments, and tells what clap has to say of them.
+pub(crate) fn asked(rt: &HostRuntime) -> io::Result<Asked> {
+    let words: Vec<String> = env::args(rt)?.collect(rt.alloc())?;
+    let command = command(rt.alloc())?;
+    let found = match command.try_get_matches_from(words.as_slice()) {
+        Ok(found) => found,
+        Err(error) => {
+            error.print(rt)?;
+            return Ok(Asked::Told(error.exit_code() as u8));
+        }
+    };
+    if let Some(wanted) = wanted(rt.alloc(), &found)? {
+        return Ok(Asked::Table(wanted));
+    }
+    eprintln!(rt;
+        "ruled: a delimiter is one character of ASCII that is no quote, or the word tab"
+    )?;
+    Ok(Asked::Told(2))
+}

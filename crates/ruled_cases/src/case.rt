@@ -1,0 +1,100 @@
+//! Cases of a file.
+
+use crate::words::{push_input, set_option};
+use ruled_view::{Look, Options, run};
+use std::alloc::{AllocError, Global};
+use std::io;
+
+/// An input, and what is answered to it.
+#[derive(Drop)]
+pub(crate) struct Case {
+    name: String,
+    options: Options,
+    input: Vec<u8>,
+    // What is shown of a table.
+    shown: String,
+    status: u8,
+    // What is told of a fault.
+    told: String,
+}
+
+impl Case {
+    /// A case of this name without an input.
+    pub(crate) fn new(alloc: Global, name: &str) -> Result<Case, AllocError> {
+        let options = Options {
+            delimiter: b',',
+            look: Look::Sharp,
+            has_header: true,
+            columns: Vec::new(alloc),
+            head: None,
+            is_raw: false,
+        };
+        Ok(Case {
+            name: String::from_str(alloc, name)?,
+            options,
+            input: Vec::new(alloc),
+            shown: String::new(alloc),
+            status: 0,
+            told: String::new(alloc),
+        })
+    }
+
+    /// Reads a line of the file, and answers whether it is understood.
+    pub(crate) fn read(&mut self, alloc: Global, line: &str) -> Result<bool, AllocError> {
+        let (mark, text) = line.split_once(' ').unwrap_or((line, ""));
+        match mark {
+            "" | "#" => Ok(true),
+            "@" => set_option(alloc, &mut self.options, text),
+            ">" => {
+                push_input(&mut self.input, text)?;
+                Ok(true)
+            }
+            "=" => {
+                self.push_shown(text)?;
+                Ok(true)
+            }
+            "!" => self.set_told(text),
+            _ => Ok(false),
+        }
+    }
+
+    // Appends a line that is shown.
+    fn push_shown(&mut self, text: &str) -> Result<(), AllocError> {
+        match text.strip_suffix('␣') {
+            Some(text) => {
+                self.shown.push_str(text)?;
+                self.shown.push(' ')?;
+            }
+            None => self.shown.push_str(text)?,
+        }
+        self.shown.push('\n')
+    }
+
+    // Takes the exit status and the line that is told.
+    fn set_told(&mut self, text: &str) -> Result<bool, AllocError> {
+        let (status, told) = text.split_once(' ').unwrap_or((text, ""));
+        let Ok(status) = status.parse() else {
+            return Ok(false);
+        };
+        self.status = status;
+        self.told.push_str(told)?;
+        self.told.push('\n')?;
+        Ok(true)
+    }
+
+    /// Runs the case, and answers whether it answers as told. Another answer is printed.
+    pub(crate) fn is_as_told(&self, rt: &HostRuntime) -> io::Result<bool> {
+        let (mut out, mut err) = (Vec::new(rt.alloc()), Vec::new(rt.alloc()));
+        let mut input = self.input.as_slice();
+        let status = run(rt.alloc(), &self.options, &mut input, &mut out, &mut err).status();
+        let is_right = status == self.status
+            && out.as_slice() == self.shown.as_bytes()
+            && err.as_slice() == self.told.as_bytes();
+        if !is_right {
+            let shown = str::from_utf8(&out).unwrap_or("no UTF-8");
+            let told = str::from_utf8(&err).unwrap_or("no UTF-8");
+            println!(rt; "{}: {status}\n{shown}{told}", self.name)?;
+        }
+        Ok(is_right)
+    }
+}

@@ -1,0 +1,65 @@
+//! The program `ruled_cases`: it runs the cases of a file on standard input by [`ruled_view::run`], and
+//! tells which of them answer otherwise than the file says.
+//!
+//! ```text
+//! # The text is all that follows one space.
+//! : a row is too short
+//! @ look markdown
+//! > a,b
+//! > 1
+//! ! 2 ruled: line 2: 1 field, and row 0 has 2
+//! ```
+//!
+//! - `:` begins a case and names it. `@` has an option and its value.
+//! - `>` has a line of the input. What can't be seen is written by pictures: `␍` is a carriage return,
+//!   `␉` a tab, `␛` an escape, `␀` a zero byte, `␂` a byte order mark and `⌧` a byte that is no UTF-8.
+//!   Behind a line with `␃` at its end there is no line feed.
+//! - `=` has a line that is shown, with `␣` for a space at its end. `!` has the exit status and the line that is told; without it the
+//!   status is 0, and nothing is told.
+//! - Empty lines and those with `#` are comments.
+//!
+//! A case that answers otherwise is told with its answer. The exit status is 0 where all answer as
+//! told, and 1 where one doesn't, or a line of the file isn't understood.
+#![tactic(auto)]
+
+mod case;
+mod words;
+
+use crate::case::Case;
+use std::io;
+use std::process::ExitCode;
+
+// Runs the cases of a text, and answers how many there are, or `None` where one was told.
+fn check(rt: &HostRuntime, text: &str) -> io::Result<Option<usize>> {
+    let (mut count, mut is_right) = (0usize, true);
+    let mut case = Case::new(rt.alloc(), "")?;
+    for line in text.lines() {
+        if let Some(name) = line.strip_prefix(": ") {
+            is_right &= case.is_as_told(rt)?;
+            case = Case::new(rt.alloc(), name)?;
+            count = count.saturating_add(1);
+        } else if !case.read(rt.alloc(), line)? {
+            println!(rt; "not understood: {line}")?;
+            is_right = false;
+        }
+    }
+    is_right &= case.is_as_told(rt)?;
+    Ok(if is_right { Some(count) } else { None })
+}
+
+// Runs the cases of the input, and tells whether all answer as told.
+fn check_input(rt: &HostRuntime) -> io::Result<bool> {
+    let text = io::read_to_string(rt.alloc(), rt.stdin())?;
+    let count = check(rt, &text)?;
+    if let Some(count) = count {
+        println!(rt; "{count} cases answer as told")?;
+    }
+    Ok(count.is_some())
+}
+
+fn main(rt: HostRuntime) -> ExitCode {
+    match check_input(&rt) {
+        Ok(true) => ExitCode::SUCCESS,
+        _ => ExitCode::FAILURE,
+    }
+}

@@ -1,0 +1,74 @@
+//! What the lines of a case say.
+
+use ruled_view::{Look, Options};
+use std::alloc::{AllocError, Global};
+
+// The look of this name.
+fn look_of(name: &str) -> Option<Look> {
+    match name {
+        "sharp" => Some(Look::Sharp),
+        "rounded" => Some(Look::Rounded),
+        "modern" => Some(Look::Modern),
+        "extended" => Some(Look::Extended),
+        "ascii" => Some(Look::Ascii),
+        "dots" => Some(Look::Dots),
+        "psql" => Some(Look::Psql),
+        "markdown" => Some(Look::Markdown),
+        "blank" => Some(Look::Blank),
+        _ => None,
+    }
+}
+
+/// Sets an option, and answers whether there is one of this name with this value.
+pub(crate) fn set_option(
+    alloc: Global,
+    options: &mut Options,
+    text: &str,
+) -> Result<bool, AllocError> {
+    let (name, value) = text.split_once(' ').unwrap_or((text, ""));
+    match name {
+        "no-header" => options.has_header = false,
+        "raw" => options.is_raw = true,
+        "delimiter" if value == "tab" => options.delimiter = b'\t',
+        "delimiter" => options.delimiter = value.as_bytes().first().copied().unwrap_or(b','),
+        "head" => options.head = value.parse().ok(),
+        "look" => match look_of(value) {
+            Some(look) => options.look = look,
+            None => return Ok(false),
+        },
+        "column" => options.columns.push(String::from_str(alloc, value)?)?,
+        _ => return Ok(false),
+    }
+    Ok(true)
+}
+
+// What a picture stands for.
+fn meaning(c: char) -> char {
+    match c {
+        '␍' => '\r',
+        '␉' => '\t',
+        '␛' => '\x1b',
+        '␀' => '\0',
+        '␂' => '\u{feff}',
+        _ => c,
+    }
+}
+
+/// Appends a line of an input: its pictures as what they stand for, and a line feed unless it says that
+/// there is none.
+pub(crate) fn push_input(input: &mut Vec<u8>, line: &str) -> Result<(), AllocError> {
+    let (line, end) = match line.strip_suffix('␃') {
+        Some(line) => (line, ""),
+        None => (line, "\n"),
+    };
+    for c in line.chars() {
+        match c {
+            '⌧' => input.push(0xff)?,
+            _ => {
+                let mut bytes = [0u8; 4];
+                input.extend_from_slice(meaning(c).encode_utf8(&mut bytes).as_bytes())?;
+            }
+        }
+    }
+    input.extend_from_slice(end.as_bytes())
+}
