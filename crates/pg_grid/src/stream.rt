@@ -1,5 +1,5 @@
 //! Tables printed row by row, of which no more is kept than the cells that go on below.
 
 pub use pg_stream::{
-    OpenCells, RowFault, RowPrinter, RowStream, RowsFault, StreamFault, printer_fits,
+    LiveStream, OpenCells, RowFault, RowPrinter, RowStream, RowsFault, StreamFault, printer_fits,
 };
