@@ -139,7 +139,7 @@ fn names_of(alloc: Global, words: Option<&[&str]>) -> Result<Vec<String>, AllocE
 }
 
 // What was asked for, or `None` where the delimiter isn't one.
-fn wanted(alloc: Global, found: &ArgMatches) -> Result<Option<Wanted>, AllocError> {
+fn table_of(alloc: Global, found: &ArgMatches) -> Result<Option<Wanted>, AllocError> {
     let name = found.get_str("file").filter(|name| *name != "-");
     let delimiter = match found.get_str("delimiter") {
         Some(word) => delimiter_of(word),
@@ -164,7 +164,7 @@ fn wanted(alloc: Global, found: &ArgMatches) -> Result<Option<Wanted>, AllocErro
 }
 
 /// Reads the arguments, and tells what clap has to say of them.
-pub(crate) fn asked(rt: &HostRuntime) -> io::Result<Asked> {
+pub(crate) fn read_arguments(rt: &HostRuntime) -> io::Result<Asked> {
     let words: Vec<String> = env::args(rt)?.collect(rt.alloc())?;
     let command = command(rt.alloc())?;
     let found = match command.try_get_matches_from(words.as_slice()) {
@@ -174,7 +174,7 @@ pub(crate) fn asked(rt: &HostRuntime) -> io::Result<Asked> {
             return Ok(Asked::Told(error.exit_code() as u8));
         }
     };
-    if let Some(wanted) = wanted(rt.alloc(), &found)? {
+    if let Some(wanted) = table_of(rt.alloc(), &found)? {
         return Ok(Asked::Table(wanted));
     }
     eprintln!(rt;

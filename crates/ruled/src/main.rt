@@ -4,7 +4,7 @@
 
 mod arguments;
 
-use crate::arguments::{Asked, Wanted, asked};
+use crate::arguments::{Asked, Wanted, read_arguments};
 use ruled_view::run;
 use std::io::{ErrorKind, Write};
 use std::process::ExitCode;
@@ -36,7 +36,7 @@ fn show(rt: &HostRuntime, wanted: &Wanted) -> u8 {
 }
 
 fn main(rt: HostRuntime) -> ExitCode {
-    let status = match asked(&rt) {
+    let status = match read_arguments(&rt) {
         Ok(Asked::Table(wanted)) => show(&rt, &wanted),
         Ok(Asked::Told(status)) => status,
         Err(_) => {
