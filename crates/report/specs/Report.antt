@@ -119,7 +119,7 @@ status_after (Some fault) = status_of fault
 -- the words for a fault, and the line that tells of it
 abbrev pub fault_text : Fault → Text
 fault_text (NoText line) = codes "line " ++ (decimal line ++ codes ": not UTF-8")
-fault_text (Words line) = codes "line " ++ (decimal line ++ codes ": not three words")
+fault_text (Words line) = codes "line " ++ (decimal line ++ codes ": not three fields")
 fault_text (Room line) = codes "line " ++ (decimal line ++ codes ": too wide for its column")
 fault_text Memory = codes "out of memory"
 fault_text Read = codes "read failed"

@@ -15,7 +15,7 @@ use std::{fmt, io};
 pub(crate) enum Fault {
     /// This line isn't a text.
     Text(usize),
-    /// This line isn't three words.
+    /// This line isn't three fields.
     Words(usize),
     /// A word of this line is wider than its column.
     Room(usize),
@@ -76,7 +76,7 @@ impl fmt::Display for Fault {
     fn fmt<W: fmt::Write>(&self, f: &mut fmt::Formatter<W>) -> fmt::Result {
         match self {
             Fault::Text(line) => write!(f, "line {line}: not UTF-8"),
-            Fault::Words(line) => write!(f, "line {line}: not three words"),
+            Fault::Words(line) => write!(f, "line {line}: not three fields"),
             Fault::Room(line) => write!(f, "line {line}: too wide for its column"),
             Fault::Memory => write!(f, "out of memory"),
             Fault::Read => write!(f, "read failed"),

@@ -144,9 +144,9 @@ fn bad_lines_end_the_table(rt: HostRuntime) -> Result<(), Fail> {
     let cases: [(&[u8], &str); 9] = [
         (b"\xff;cd;ef\n", "not UTF-8"),
         (b"ab;cd;\xe8\x8c\n", "not UTF-8"),
-        (b"\n", "not three words"),
-        (b"ab;cd\n", "not three words"),
-        (b"ab;cd;ef;\r\n", "not three words"),
+        (b"\n", "not three fields"),
+        (b"ab;cd\n", "not three fields"),
+        (b"ab;cd;ef;\r\n", "not three fields"),
         (b"abcdefghijk;cd;ef\n", TOO_WIDE),
         (b"ab;abcdefghijklmnopqrstuvwxy;ef\n", TOO_WIDE),
         (b"ab;cd;12345678901\n", TOO_WIDE),
@@ -168,7 +168,7 @@ fn the_first_bad_line_is_told_of(rt: HostRuntime) -> Result<(), Fail> {
         (b"abcdefghijk;;\n\xff\n", 0, TOO_WIDE),
         (b"\xff\nabcdefghijk;;\n", 0, "not UTF-8"),
         (b"ab;cd;ef\nabcdefghijk;;\nab", 1, TOO_WIDE),
-        (b"ab;cd;ef\ngh;ij;kl\nmn;op", 2, "not three words"),
+        (b"ab;cd;ef\ngh;ij;kl\nmn;op", 2, "not three fields"),
     ];
     for (input, rows, words) in cases {
         assert_refused(&rt, rt.alloc(), input, (rows, words))?;
