@@ -1,5 +1,5 @@
 -- A script's table at its natural sizes: what its printing answers shows it.
-use Rattle.std.proofs.Common.{◌≡◌, ◌⊎◌, false, Some, None, Result, Ok, Err, String, inl, inr, refl, sym, ap, ◌∙◌}
+use Rattle.std.proofs.Common.{◌≡◌, ◌⊎◌, false, Some, None, Result, Ok, Err, String, inl, inr, refl, sym, ap, subst, ◌∙◌}
 use Rattle.std.specs.Result.{is_err, IsErrAnd}
 use Rattle.std.proofs.lemmas.Bool.{cases_Bool, false≢true}
 use Rattle.pg_layout.specs.Records.{columns_of}
@@ -19,6 +19,10 @@ use Rattle.pg_show.proofs.PrintedGrids.{some≢none}
 use Rattle.pg_show.specs.declared.mode.Mode.TheVariants as mode
 use Rattle.pg_show.specs.declared.show.ShowFault.{ShowFault}
 use Rattle.pg_show.specs.declared.show.ShowFault.TheVariants as show
+
+-- what is printed of a table is printed of each that is the same
+pub Prints-same : {Z U : Type 0} {s t : Table} (same : s ≡ t) (old new : String Z) (result : Result U TableFault) → Prints (is_spanned s) (fault_of s) old new result (picture Known s) → Prints (is_spanned t) (fault_of t) old new result (picture Known t)
+Prints-same same old new result prints = subst (λ x. Prints (is_spanned x) (fault_of x) old new result (picture Known x)) same prints
 
 module _ (told : Told) where
   abbrev t : Table

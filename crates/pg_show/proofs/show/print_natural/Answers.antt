@@ -2,7 +2,7 @@ use Rattle.std.proofs.Common.{◌∙◌, None, map, string_bytes, ap}
 use Rattle.pg_layout.specs.Records.{columns_of}
 use Rattle.pg_table.specs.Natural.{natural_table}
 use Rattle.pg_script.specs.Script.{told_of_script}
-use Rattle.pg_show.proofs.NaturalTables.{Shows-printed, Shows-refused}
+use Rattle.pg_show.proofs.NaturalTables.{Prints-same, Shows-printed, Shows-refused}
 use Rattle.pg_show.proofs.ScriptTables.{natural_table-script}
 use Rattle.pg_show.proofs.show.print_natural.Goals as goal
 
@@ -13,7 +13,7 @@ returns-in_err-print g c =
     ap (λ parts. natural_table parts.1 (map (λ row. map string_bytes row) parts.0.now) (columns_of parts.0.now) (λ place. None)) c.new.ensures
     ∙ ap (λ config. natural_table config (map (λ row. map string_bytes row) script.records) (columns_of script.records) (λ place. None)) c.natural_config-config.ensures
     ∙ natural_table-script script in
-    Shows-refused (told_of_script script) _ c.args.buf.now c.print.new.buf _ c.from_residual.result (rw drawn at c.in_err-print.ensures.prints) c.from_residual.ensures.1
+    Shows-refused (told_of_script script) _ c.args.buf.now c.print.new.buf _ c.from_residual.result (Prints-same drawn c.args.buf.now c.print.new.buf _ c.in_err-print.ensures.prints) c.from_residual.ensures.1
 
 pub returns : goal.returns
 returns g c =
@@ -22,4 +22,4 @@ returns g c =
     ap (λ parts. natural_table parts.1 (map (λ row. map string_bytes row) parts.0.now) (columns_of parts.0.now) (λ place. None)) c.new.ensures
     ∙ ap (λ config. natural_table config (map (λ row. map string_bytes row) script.records) (columns_of script.records) (λ place. None)) c.natural_config-config.ensures
     ∙ natural_table-script script in
-    Shows-printed (told_of_script script) c.args.buf.now c.print.new.buf _ _ (rw drawn at c.in_ok-print.ensures.prints)
+    Shows-printed (told_of_script script) c.args.buf.now c.print.new.buf _ _ (Prints-same drawn c.args.buf.now c.print.new.buf _ c.in_ok-print.ensures.prints)
