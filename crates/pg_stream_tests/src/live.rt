@@ -2,11 +2,11 @@
 
 use crate::parts::{COLUMNS, Live, Printer, narrow};
 use crate::same::assert_same;
-use crate::settings::{Setting, tell_all};
 use pg_config::SpannedConfig;
-use pg_layout::{ConstantDimension, EvenDimension, NoColors, Position};
+use pg_layout::{ConstantDimension, EvenDimension, NoColors};
 use pg_stream::{LiveStream, RowPrinter, StreamFault};
 use pg_testing::refusing::Refusing;
+use pg_told::tell_all;
 use std::alloc::Global;
 use std::process::Abort;
 use std::test::Fail;
@@ -52,8 +52,7 @@ fn assert_spanned(
 fn a_row_is_shown_when_it_is_pushed(rt: HostRuntime) -> Result<(), Fail> {
     let alloc = rt.alloc();
     let mut config = SpannedConfig::new(alloc);
-    let span = Setting::RowSpan(Position { row: 0, col: 0 }, 3);
-    tell_all(&mut config, &[Setting::Ascii, span])?;
+    tell_all(&mut config, alloc, &["borders ascii", "row_span 0 0 3"])?;
     let dimension = ConstantDimension(vec![in alloc; 1, 1]?, vec![in alloc; 1, 0, 3]?);
     for rows in 0..4 {
         assert_spanned(&rt, alloc, rows, &config, &dimension)?;
@@ -123,7 +122,7 @@ fn assert_lost(
 #[test]
 fn a_stream_that_memory_was_refused_to_appends_nothing_more(rt: HostRuntime) -> Result<(), Fail> {
     let mut config = SpannedConfig::new(rt.alloc());
-    tell_all(&mut config, &[Setting::Ascii])?;
+    tell_all(&mut config, rt.alloc(), &["borders ascii"])?;
     let dimension = narrow(rt.alloc())?;
     assert_lost(&rt, rt.alloc(), &config, &dimension)
 }
@@ -151,18 +150,17 @@ fn close_behind_one(
 #[test]
 fn a_printer_is_closed_behind_any_row_that_ends_its_table(rt: HostRuntime) -> Result<(), Fail> {
     let alloc = rt.alloc();
-    let long = Setting::RowSpan(Position { row: 0, col: 0 }, 2);
     let open = (Err(StreamFault::Open), "+-+-+\n|a|b|");
     let whole = (Ok(()), "+-+-+\n|a|b|\n+-+-+");
-    for (settings, hint, (end, text)) in [
-        ([Setting::Ascii, Setting::Ascii], None, whole),
-        ([Setting::Ascii, Setting::Ascii], Some(1), whole),
-        ([Setting::Ascii, Setting::Ascii], Some(2), open),
-        ([Setting::Ascii, long], None, open),
-        ([Setting::Ascii, long], Some(2), open),
+    for (rows, hint, (end, text)) in [
+        ("row_span 0 0 1", None, whole),
+        ("row_span 0 0 1", Some(1), whole),
+        ("row_span 0 0 1", Some(2), open),
+        ("row_span 0 0 2", None, open),
+        ("row_span 0 0 2", Some(2), open),
     ] {
         let mut config = SpannedConfig::new(alloc);
-        tell_all(&mut config, &settings)?;
+        tell_all(&mut config, alloc, &["borders ascii", rows])?;
         let mut buf = String::new(alloc);
         assert_same(&rt, close_behind_one(alloc, hint, &config, &mut buf)?, end);
         assert_same(&rt, buf.as_str(), text);
