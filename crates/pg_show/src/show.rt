@@ -55,7 +55,7 @@ impl From<TableFault> for ShowFault {
 
 /// Appends the table of a script, as the printer of the mode prints it.
 ///
-/// A table that doesn't fit is refused before any memory is taken, and the buffer stays as it was.
+/// A table that doesn't fit is refused, also where memory is, and the buffer stays as it was.
 /// Where memory is refused the buffer has gained a beginning of the table's text. `alloc` gives the
 /// memory that a printer keeps cells in, or the sizes of columns and rows; only [`Mode::Iter`] and
 /// [`Mode::Table`] take any, and of a table with no rows or no columns neither does.

@@ -143,12 +143,12 @@ fn two_modes_ask_for_memory_of_their_own(rt: HostRuntime) -> Result<(), Fail> {
     Ok(())
 }
 
-// The table of this script is printed with this answer while all memory is refused, and none is asked
-// for.
-fn assert_asks_for_none(
+// The table of this script is printed with this answer while all memory is refused, for which so many
+// requests come.
+fn assert_asks(
     rt: &impl Abort,
     alloc: Global,
-    mode: Mode,
+    (mode, requests): (Mode, u64),
     (script, is_printed): (&str, bool),
 ) -> Result<(), Fail> {
     let memory = Refusing::from_on(alloc, 0);
@@ -161,12 +161,12 @@ fn assert_asks_for_none(
             "{script}"
         ),
     }
-    assert_same_at(rt, script, (memory.requests(), buf.len()), (0, 0));
+    assert_same_at(rt, script, (memory.requests(), buf.len()), (requests, 0));
     Ok(())
 }
 
-// A table with no rows or no columns takes no memory, and one that doesn't fit is refused before any
-// is taken.
+// A table with no rows or no columns takes no memory, and one that doesn't fit is refused before any is
+// taken, but that natural sizes are asked for once.
 #[test]
 fn tables_without_text_take_no_memory(rt: HostRuntime) -> Result<(), Fail> {
     let too_wide = "\
@@ -176,9 +176,10 @@ borders ascii
 pad all 18446744073709551615 0 0 0
 ";
     for (mode, _) in SHOWN {
-        assert_asks_for_none(&rt, rt.alloc(), mode, (too_wide, false))?;
+        let sizes = u64::from(matches!(mode, Mode::Table));
+        assert_asks(&rt, rt.alloc(), (mode, sizes), (too_wide, false))?;
         for script in ["size 0 2", "size 2 0", "size 0 0"] {
-            assert_asks_for_none(&rt, rt.alloc(), mode, (script, true))?;
+            assert_asks(&rt, rt.alloc(), (mode, 0), (script, true))?;
         }
     }
     Ok(())
