@@ -102,7 +102,7 @@ impl Trial<'_> {
         let taken = PIECE.saturating_mul(number as usize);
         let is_last = run.calls == number.saturating_add(1);
         let is_right = match failing.0 {
-            Kind::Memory => run.leaves(4, b"", b"out of memory\n"),
+            Kind::Memory => run.leaves(4, b"", b"out of memory\n") || self.is_misfit_told(&run),
             Kind::Read => is_last && run.leaves(5, b"", b"read failed\n"),
             Kind::Write => is_last && run.leaves(5, first_bytes(shown, taken), b"write failed\n"),
             Kind::Tell => is_last && run.leaves_part(status, told),
@@ -112,5 +112,12 @@ impl Trial<'_> {
         } else {
             Outcome::Wrong
         }
+    }
+
+    // Whether it is told that the table doesn't fit, which sums alone tell of natural sizes where these are
+    // refused memory.
+    fn is_misfit_told(&self, run: &Run) -> bool {
+        let (status, shown, told) = self.answer.parts();
+        status == 3 && run.leaves(status, shown.as_bytes(), told.as_bytes())
     }
 }
