@@ -1,11 +1,12 @@
 -- The program's answers, where a table was printed and where it wasn't.
-use Rattle.std.proofs.Common.{◌≡◌, ℕ, List, [], ◌∷◌, ◌++◌, Option, Some, None, Result, Ok, Err, IfSome, false, String, string_bytes, inl, inr, refl, sym, ◌∙◌, ap}
+use Rattle.std.proofs.Common.{◌≡◌, ◌≢◌, ℕ, List, [], ◌∷◌, ◌++◌, Option, Some, None, Result, Ok, Err, IfSome, IsOk, false, String, string_bytes, inl, inr, refl, sym, ◌∙◌, ap}
 use Rattle.std.specs.Result.{IsErrAnd}
 use Rattle.std.proofs.lemmas.Bool.{false≢true}
 use Rattle.pg_layout.specs.Text.{Text}
 use Rattle.pg_picture.specs.declared.fits.Misfit.{Misfit}
-use Rattle.pg_show.specs.Program.{Answers, answer_of_told, unless_misfit_shown, fault_of_show, is_failure, tells_failure, status_of, status_after, status_of_answer}
+use Rattle.pg_show.specs.Program.{Answers, answer_of_script, answer_of_told, unless_bad_shown, unless_misfit_shown, fault_of_show, is_failure, tells_failure, status_of, status_after, status_of_answer}
 use Rattle.pg_show.specs.Show.{misfit_in, text_in, Prints}
+use Rattle.pg_script.specs.Script.{told_by}
 use Rattle.pg_script.specs.Told.{Told}
 use Rattle.pg_show.specs.declared.fault.Fault.{Fault}
 use Rattle.pg_show.specs.declared.fault.Fault.TheVariants as fault
@@ -29,7 +30,25 @@ pub Answers-unprinted : {A : Type 0} (mode : Mode) (told : Told) (e : ShowFault)
 Answers-unprinted mode told e (Ok text) misfit is = absurd is
 Answers-unprinted mode told (show.Misfit m) (Err fault) misfit is = λ _.
     ap (λ found. unless_misfit_shown found (text_in mode told)) (misfit m refl) ∙ ap Err (sym is)
-Answers-unprinted mode told show.Memory (Err fault) misfit is = λ not. absurd (false≢true (sym not ∙ ap is_failure is))
+Answers-unprinted mode told show.Memory (Err fault) misfit is = λ other. absurd (other is)
+
+-- a failed write is never right
+unwritten-told : (found : Option Misfit) (text : Text) → unless_misfit_shown found text ≡ Err fault.Write → ⊥
+unwritten-told None text is = cc
+unwritten-told (Some m) text is = cc
+
+unwritten : (mode : Mode) (told : Result Told ℕ) → unless_bad_shown mode told ≡ Err fault.Write → ⊥
+unwritten mode (Err line) is = cc
+unwritten mode (Ok told) is = unwritten-told (misfit_in mode told) (text_in mode told) is
+
+pub unread-writes_nothing : {A : Type 0} (mode : Mode) (input : Option (List ℕ)) → IfSome input (λ script. Answers {A} (answer_of_script mode script) (Err fault.Write)) → IfSome input (λ script. IsOk (answer_of_script mode script))
+unread-writes_nothing mode None answers = tt
+unread-writes_nothing mode (Some script) answers = let other : fault.Write ≢ fault.Memory = λ is. cc in absurd (unwritten mode (told_by script) (answers other))
+
+-- a text that was answered is right
+pub text-right : {A : Type 0} (mode : Mode) (input : Option (List ℕ)) (text : String A) → IfSome input (λ script. Answers (answer_of_script mode script) (Ok text)) → IfSome input (λ script. IsOk (answer_of_script mode script))
+text-right mode None text answers = tt
+text-right mode (Some script) text answers = rw answers tt
 
 -- where nothing was refused, the buffer has gained the whole text, whatever the mode
 pub Prints-ok : {Z U : Type 0} (E : Type 0) (mode : Mode) (old new : String Z) (u : U) (text : Text) → Prints {E = E} mode old new (Ok u) text → string_bytes new ≡ string_bytes old ++ text
@@ -49,13 +68,12 @@ is_failure-status fault.Memory = refl
 is_failure-status fault.Read = refl
 is_failure-status fault.Write = refl
 
--- the status of a text that is right, or of a fault that is, is that of the right answer
-pub status_of_answer-right : (found : Option Fault) (status : ℕ) (input : Option (List ℕ)) (right : List ℕ → Result Text Fault) (Shown : Text → Type 0)
-    → status ≡ status_after found
+-- the status of a run that showed a right text, or ended with a right fault, is that of the right answer
+pub status_of_answer-right : (found : Option Fault) (input : Option (List ℕ)) (right : List ℕ → Result Text Fault) (Shown : Text → Type 0)
     → (found ≡ None → IfSome input (λ script. (text : Text) × (right script ≡ Ok text) × Shown text))
     → ((fault : Fault) → found ≡ Some fault → is_failure fault ≡ false → IfSome input (λ script. right script ≡ Err fault))
-    → tells_failure status ≡ false → IfSome input (λ script. status ≡ status_of_answer (right script))
-status_of_answer-right found status None right Shown is shown refused no_failure = tt
-status_of_answer-right None status (Some script) right Shown is shown refused no_failure = is ∙ ap status_of_answer (sym (shown refl).1)
-status_of_answer-right (Some f) status (Some script) right Shown is shown refused no_failure =
-    is ∙ ap status_of_answer (sym (refused f refl (is_failure-status f ∙ ap tells_failure (sym is) ∙ no_failure)))
+    → tells_failure (status_after found) ≡ false → IfSome input (λ script. status_after found ≡ status_of_answer (right script))
+status_of_answer-right found None right Shown shown refused no_failure = tt
+status_of_answer-right None (Some script) right Shown shown refused no_failure = ap status_of_answer (sym (shown refl).1)
+status_of_answer-right (Some f) (Some script) right Shown shown refused no_failure =
+    ap status_of_answer (sym (refused f refl (is_failure-status f ∙ no_failure)))

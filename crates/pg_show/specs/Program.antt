@@ -1,5 +1,5 @@
 -- What the program answers.
-use Rattle.std.specs.Prelude.{◌≡◌, ℕ, ◌==◌, Bool, true, false, ◌||◌, List, [], ◌∷◌, ◌++◌, Option, Some, None, Result, Ok, Err, String, string_bytes, codes, decimal}
+use Rattle.std.specs.Prelude.{◌≡◌, ◌≢◌, ℕ, ◌==◌, Bool, true, false, ◌||◌, List, [], ◌∷◌, ◌++◌, Option, Some, None, Result, Ok, Err, String, string_bytes, codes, decimal}
 use Rattle.pg_layout.specs.Text.{Text}
 use Rattle.pg_picture.specs.declared.fits.Misfit.{Misfit as WhatMisfits}
 use Rattle.pg_picture.specs.Fits.{misfit_text}
@@ -95,7 +95,7 @@ abbrev pub status_of_answer : Result Text Fault → ℕ
 status_of_answer (Ok text) = 0
 status_of_answer (Err fault) = status_of fault
 
--- what was answered is right, or says that memory, a read or a write failed
+-- what was answered is right, or says that memory was refused
 abbrev pub Answers : {A : Type 0} → Result Text Fault → Result (String A) Fault → Type 0
 Answers right (Ok text) = right ≡ Ok (string_bytes text)
-Answers right (Err fault) = is_failure fault ≡ false → right ≡ Err fault
+Answers right (Err fault) = fault ≢ Memory → right ≡ Err fault

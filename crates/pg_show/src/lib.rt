@@ -9,6 +9,6 @@ mod show;
 
 pub use crate::fault::Fault;
 pub use crate::mode::Mode;
-pub use crate::program::{Ending, run, show_or_tell};
+pub use crate::program::{Ending, run};
 pub use crate::show::{ShowFault, print_script};
 pub use pg_script::{Script, ScriptFault, parse_script};

@@ -1,11 +1,11 @@
 //! The program: arguments and a script in, a table out.
 
-ghost use Rattle.std.specs.Prelude.{◌≡◌, ◌≢◌, ◌^◌, ◌≤◌, List, length, map, string_bytes, true, false, Some, None, Ok, Err, IfOk, IfSome, OnOk};
-ghost use Rattle.std.specs.Io.KnownBytes.{Appends, Keeps};
+ghost use Rattle.std.specs.Prelude.{◌≡◌, ◌≢◌, ◌^◌, ◌<◌, ◌≤◌, ◌⊎◌, ℕ, List, length, map, string_bytes, true, false, Some, None, Ok, Err, IfOk, IfSome, IsOk, OnOk};
+ghost use Rattle.std.specs.Io.KnownBytes.{Appends, Consumes, Keeps};
 ghost use Rattle.pg_layout.specs.Text.{Text};
 ghost use Rattle.pg_show.specs.Mode.{mode_of};
 ghost use Rattle.pg_script.specs.Script.{told_of_script};
-ghost use Rattle.pg_show.specs.Program.{Answers, answer_of_told, answer_of_script, answer_to, is_failure, line_of, status_of, status_after, status_of_answer, tells_failure};
+ghost use Rattle.pg_show.specs.Program.{Answers, answer_of_told, answer_of_script, answer_to, is_failure, line_of, status_after, status_of_answer, tells_failure};
 
 use crate::fault::Fault;
 use crate::mode::Mode;
@@ -23,7 +23,7 @@ const MOST_READS: u32 = 16_777_216;
 pub struct Ending {
     /// Why no table was printed, or `None` where one was.
     pub fault: Option<Fault>,
-    /// Whether the line that tells of the fault was written. Without a fault there is none to write.
+    /// Whether the line that tells of the fault was written; true without a fault, which has none.
     pub is_told: bool,
 }
 
@@ -50,11 +50,13 @@ impl Ending {
     }
 }
 
-// All that the input gives, or `None` where there were too many reads.
+// All that the input gives, or `None` where there were too many reads. Memory is wanted only behind a
+// byte that was read.
 fn read_whole<A: Allocator, R: Read>(alloc: A, input: &mut R) -> Result<Option<Vec<u8, A>>, Fault>
     ensures whole { IfOk result (λ read. IfSome read (λ bytes. IfSome (R.remaining input.old) (λ script. bytes.items ≡ script))) }
     ensures endless { result ≡ Ok None → IfSome (R.remaining input.old) (λ script. 2 ^ 24 ≤ length script) }
-    ensures failed { (fault : _) → result ≡ Err fault → is_failure fault ≡ true }
+    ensures failed { (fault : _) → result ≡ Err fault → fault ≡ Fault.Read ⊎ fault ≡ Fault.Memory }
+    ensures memory { result ≡ Err Fault.Memory → (lost : List ℕ) × Consumes (R.remaining input.old) (R.remaining input.new) lost × (0 < length lost) }
 {
     let mut block = [0u8; 4096];
     let mut bytes = Vec::new(alloc);
@@ -97,13 +99,14 @@ fn text_of_script<A: Allocator + Copy>(
     text
 }
 
-// The text of the table that the input tells of, and a line feed.
+// The text of the table that the input tells of, and a line feed. `Read` says that the input wasn't
+// read to its end.
 fn table_text<A: Allocator + Copy, R: Read>(
     alloc: A,
     mode: Mode,
     input: &mut R,
 ) -> Result<String<A>, Fault>
-    ensures { IfSome (R.remaining input.old) (λ script. Answers (answer_of_script mode script) result) }
+    ensures { result ≢ Err Fault.Read → IfSome (R.remaining input.old) (λ script. Answers (answer_of_script mode script) result) }
 {
     let bytes = read_whole(alloc, input)?.ok_or(Fault::Read)?;
     text_of_script(alloc, &bytes, mode)
@@ -128,6 +131,7 @@ fn show<A: Allocator + Copy, R: Read, W: Write>(
     ensures wrong_arguments { mode_of (map string_bytes words.now) ≡ None → (result ≡ Err Fault.Usage) × Keeps (R.remaining input.old) (R.remaining input.new) }
     ensures shown { OnOk result (IfSome (R.remaining input.old) (λ script. (text : Text) × (answer_to (map string_bytes words.now) script ≡ Ok text) × Appends (W.contents out.old) (W.contents out.new) text)) }
     ensures refused { (fault : _) → result ≡ Err fault → is_failure fault ≡ false → IfSome (R.remaining input.old) (λ script. answer_to (map string_bytes words.now) script ≡ Err fault) }
+    ensures failed_write { result ≡ Err Fault.Write → IfSome (R.remaining input.old) (λ script. IsOk (answer_to (map string_bytes words.now) script)) }
     ensures unwritten { (fault : _) → result ≡ Err fault → fault ≢ Fault.Write → Keeps (W.contents out.old) (W.contents out.new) }
 {
     let mode = Mode::from_words(words).ok_or(Fault::Usage)?;
@@ -135,12 +139,15 @@ fn show<A: Allocator + Copy, R: Read, W: Write>(
     write_text(text.as_str(), out)
 }
 
-/// Shows the table of a script, or tells of the fault why there is none.
+/// Runs the program: shows the table of a script, or tells of the fault why there is none.
 ///
 /// `words` are the program's arguments. A script is read from `input`, and the text of its table and
 /// a line feed are written to `out`. Each fault is one line on `err`, and nothing is written to `out`
 /// save by a write that fails. Wrong arguments are told before anything is read.
-pub fn show_or_tell<A: Allocator + Copy, R: Read, W1: Write, W2: Write>(
+///
+/// The exit status is that of the right answer, unless memory, a read or a write failed, and it is the
+/// same where the fault's line couldn't be written.
+pub fn run<A: Allocator + Copy, R: Read, W1: Write, W2: Write>(
     alloc: A,
     words: &[String],
     input: &mut R,
@@ -148,10 +155,13 @@ pub fn show_or_tell<A: Allocator + Copy, R: Read, W1: Write, W2: Write>(
     err: &mut W2,
 ) -> Ending
     ensures wrong_arguments { mode_of (map string_bytes words.now) ≡ None → (result.fault ≡ Some Fault.Usage) × Keeps (R.remaining input.old) (R.remaining input.new) }
+    ensures answered { tells_failure (status_after result.fault) ≡ false → IfSome (R.remaining input.old) (λ script. status_after result.fault ≡ status_of_answer (answer_to (map string_bytes words.now) script)) }
     ensures shown { result.fault ≡ None → IfSome (R.remaining input.old) (λ script. (text : Text) × (answer_to (map string_bytes words.now) script ≡ Ok text) × Appends (W1.contents out.old) (W1.contents out.new) text) }
     ensures refused { (fault : _) → result.fault ≡ Some fault → is_failure fault ≡ false → IfSome (R.remaining input.old) (λ script. answer_to (map string_bytes words.now) script ≡ Err fault) }
+    ensures failed_write { result.fault ≡ Some Fault.Write → IfSome (R.remaining input.old) (λ script. IsOk (answer_to (map string_bytes words.now) script)) }
     ensures unwritten { (fault : _) → result.fault ≡ Some fault → fault ≢ Fault.Write → Keeps (W1.contents out.old) (W1.contents out.new) }
     ensures told { (fault : _) → result.fault ≡ Some fault → result.is_told ≡ true → Appends (W2.contents err.old) (W2.contents err.new) (line_of fault) }
+    ensures nothing_to_tell { result.fault ≡ None → result.is_told ≡ true }
     ensures silent { result.fault ≡ None → Keeps (W2.contents err.old) (W2.contents err.new) }
 {
     match show(alloc, words, input, out) {
@@ -161,25 +171,4 @@ pub fn show_or_tell<A: Allocator + Copy, R: Read, W1: Write, W2: Write>(
         },
         Err(fault) => Ending::with_fault(fault, err),
     }
-}
-
-/// Runs the program, and answers its exit status.
-///
-/// It shows the table of the script on `input`, or tells of the fault why there is none, as
-/// [`show_or_tell`] does. The status is that of the right answer, unless memory, a read or a write
-/// failed, and it is the same where the fault's line couldn't be written.
-pub fn run<A: Allocator + Copy, R: Read, W1: Write, W2: Write>(
-    alloc: A,
-    words: &[String],
-    input: &mut R,
-    out: &mut W1,
-    err: &mut W2,
-) -> u8
-    ensures wrong_arguments { mode_of (map string_bytes words.now) ≡ None → (result ≡ status_of Fault.Usage) × Keeps (R.remaining input.old) (R.remaining input.new) }
-    ensures answered { tells_failure result ≡ false → IfSome (R.remaining input.old) (λ script. result ≡ status_of_answer (answer_to (map string_bytes words.now) script)) }
-    ensures shown { result ≡ 0 → IfSome (R.remaining input.old) (λ script. (text : Text) × (answer_to (map string_bytes words.now) script ≡ Ok text) × Appends (W1.contents out.old) (W1.contents out.new) text) }
-    ensures unwritten { result ≢ 0 → result ≢ status_of Fault.Write → Keeps (W1.contents out.old) (W1.contents out.new) }
-    ensures silent { result ≡ 0 → Keeps (W2.contents err.old) (W2.contents err.new) }
-{
-    show_or_tell(alloc, words, input, out, err).status()
 }

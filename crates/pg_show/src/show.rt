@@ -6,7 +6,7 @@ ghost use Rattle.pg_picture.specs.Table.{is_empty};
 ghost use Rattle.pg_script.specs.Script.{told_of_script};
 ghost use Rattle.pg_show.specs.Show.{fault_of_print, fault_of_table, misfit_in, natural_config, table_of_told, text_in, Prints, Shows};
 ghost use Rattle.pg_show.specs.declared.mode.Mode.TheVariants as mode;
-ghost use Rattle.pg_show.specs.declared.mode.Mode.TheVariants.{Iter};
+ghost use Rattle.pg_show.specs.declared.mode.Mode.TheVariants.{Iter, Table};
 ghost use Rattle.pg_show.specs.declared.show.ShowFault.TheVariants.{Memory};
 ghost use Rattle.pg_show.specs.declared.show.ShowFault.TheVariants as variants;
 
@@ -58,7 +58,8 @@ impl From<TableFault> for ShowFault {
 /// A table that doesn't fit is refused, also where memory is, and the buffer stays as it was.
 /// Where memory is refused the buffer has gained a beginning of the table's text. `alloc` gives the
 /// memory that a printer keeps cells in, or the sizes of columns and rows; only [`Mode::Iter`] and
-/// [`Mode::Table`] take any, and of a table with no rows or no columns neither does.
+/// [`Mode::Table`] take any. Of a table with no rows or no columns neither does, and the buffer stays
+/// as it was.
 pub fn print_script<C: Allocator + Copy, A: Allocator, B: Allocator>(
     alloc: C,
     script: &Script<A>,
@@ -68,7 +69,8 @@ pub fn print_script<C: Allocator + Copy, A: Allocator, B: Allocator>(
     ensures misfit { (m : _) → (result ≡ Err (ShowFault.Misfit m)) ↔ (misfit_in mode (told_of_script script.now) ≡ Some m) }
     ensures kept { (m : _) → result ≡ Err (ShowFault.Misfit m) → buf.new ≡ buf.old }
     ensures printed { misfit_in mode (told_of_script script.now) ≡ None → Prints mode buf.old buf.new result (text_in mode (told_of_script script.now)) }
-    ensures empty { mode ≡ Iter → is_empty (table_of_told (told_of_script script.now)) ≡ true → IsOk result }
+    ensures empty_streamed { mode ≡ Iter → is_empty (table_of_told (told_of_script script.now)) ≡ true → IsOk result × (buf.new ≡ buf.old) }
+    ensures empty_natural { mode ≡ Table → is_empty (table_of_told (told_of_script script.now)) ≡ true → IsOk result × (buf.new ≡ buf.old) }
 {
     match mode {
         Mode::Compact => print_compact(script, buf),
@@ -97,7 +99,7 @@ fn print_streamed<C: Allocator, A: Allocator, B: Allocator>(
     buf: &mut String<B>,
 ) -> Result<(), ShowFault>
     ensures shows { Shows mode.Iter (told_of_script script.now) buf.old buf.new result }
-    ensures empty { is_empty (table_of_told (told_of_script script.now)) ≡ true → IsOk result }
+    ensures empty { is_empty (table_of_told (told_of_script script.now)) ≡ true → IsOk result × (buf.new ≡ buf.old) }
 {
     let (dimension, colors) = (&script.dimension, &script.colors);
     IterGrid::new(&script.records, &script.config, dimension, colors).print(alloc, buf)?;
@@ -122,7 +124,8 @@ fn print_natural<C: Allocator + Copy, A: Allocator, B: Allocator>(
     script: &Script<A>,
     buf: &mut String<B>,
 ) -> Result<(), ShowFault>
-    ensures { Shows mode.Table (told_of_script script.now) buf.old buf.new result }
+    ensures shows { Shows mode.Table (told_of_script script.now) buf.old buf.new result }
+    ensures empty { is_empty (table_of_told (told_of_script script.now)) ≡ true → IsOk result × (buf.new ≡ buf.old) }
 {
     let config = natural_config(alloc, &script.compact);
     NaturalTable::new(&script.records, &config, &NoColors).print(alloc, buf)?;

@@ -60,7 +60,7 @@ impl Run {
         let mut input = FailingReader::new(script.as_bytes(), rule_for(Kind::Read, failing));
         let mut table = FailingWriter::new(&mut out, rule_for(Kind::Write, failing));
         let mut line = FailingWriter::new(&mut err, rule_for(Kind::Tell, failing));
-        let status = pg_show::run(&memory, words, &mut input, &mut table, &mut line);
+        let status = pg_show::run(&memory, words, &mut input, &mut table, &mut line).status();
         let (has_failed, calls) = match failing.0 {
             Kind::Memory => (memory.has_refused(), memory.requests()),
             Kind::Read => (input.has_failed(), input.reads()),

@@ -2,7 +2,7 @@
 
 use crate::running::{ALL_MODES, arguments};
 use crate::same::{assert_same, assert_same_at};
-use pg_show::{Ending, Fault, show_or_tell};
+use pg_show::{Ending, Fault, run};
 use pg_testing::ledger::Rule;
 use pg_testing::streams::{FailingWriter, PIECE};
 use std::alloc::{AllocError, Global};
@@ -85,7 +85,7 @@ fn misfit(alloc: Global) -> Result<Fault, Fail> {
     let words = arguments(alloc, &["peek"])?;
     let (mut out, mut err) = (Vec::new(alloc), Vec::new(alloc));
     let mut script = TOO_WIDE.0.as_bytes();
-    match show_or_tell(alloc, &words, &mut script, &mut out, &mut err).fault {
+    match run(alloc, &words, &mut script, &mut out, &mut err).fault {
         Some(fault) => Ok(fault),
         None => Err(Fail::new("the table fits")),
     }
@@ -118,7 +118,7 @@ fn assert_told(
     let (mut out, mut told) = (Vec::new(alloc), Vec::new(alloc));
     let mut err = FailingWriter::new(&mut told, rule);
     let mut script = "size 1 1\nwidth 5\n".as_bytes();
-    let ending = show_or_tell(alloc, &words, &mut script, &mut out, &mut err);
+    let ending = run(alloc, &words, &mut script, &mut out, &mut err);
     assert!(rt; matches!(ending.fault, Some(Fault::Bad(2))), "{mode}");
     assert_same(rt, ending.is_told, !line.is_empty());
     assert_same(rt, out.len(), 0);

@@ -21,7 +21,7 @@ fn assert_reader_refused<R: Read>(
     assert_same_at(
         rt,
         mode,
-        run(alloc, &words, input, &mut out, &mut err),
+        run(alloc, &words, input, &mut out, &mut err).status(),
         status,
     );
     assert_same(rt, out.len(), 0);

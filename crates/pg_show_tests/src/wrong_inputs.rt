@@ -17,7 +17,7 @@ fn assert_refused(
     let arguments = arguments(alloc, words)?;
     let (mut out, mut err) = (Vec::new(alloc), Vec::new(alloc));
     let mut input = script;
-    let status = run(alloc, &arguments, &mut input, &mut out, &mut err);
+    let status = run(alloc, &arguments, &mut input, &mut out, &mut err).status();
     assert_same_at(rt, (words, script), status, 2);
     assert_same_at(rt, (words, script), out.len(), 0);
     assert_same_at(rt, (words, script), err.as_slice(), line.as_bytes());

@@ -14,9 +14,9 @@ fn arguments(rt: &(impl Env + AllocGlobal)) -> io::Result<Vec<String>> {
 
 fn main(rt: HostRuntime) -> ExitCode {
     let (mut input, mut out, mut err) = (rt.stdin(), rt.stdout(), rt.stderr());
-    let status = match arguments(&rt) {
+    let ending = match arguments(&rt) {
         Ok(words) => run(rt.alloc(), &words, &mut input, &mut out, &mut err),
-        Err(error) => Ending::with_fault(Fault::of_arguments(&error), &mut err).status(),
+        Err(error) => Ending::with_fault(Fault::of_arguments(&error), &mut err),
     };
-    ExitCode::from(status)
+    ExitCode::from(ending.status())
 }

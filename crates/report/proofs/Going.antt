@@ -14,7 +14,7 @@ use Rattle.report.specs.Report.{begin, written, report_of, row_of, rows_of, faul
 use Rattle.report.specs.Steps.{moved, line_at, Stays, IsBad, NoEnd}
 use Rattle.report.specs.declared.fault.Fault.{Fault}
 use Rattle.report.specs.declared.fault.Fault.TheVariants.{Room, Write}
-use Rattle.report.proofs.Rows.{Shown, shown-begin, shown-next, written-next, held-misfits, bare-misfits, last-misfits, written-above, written-end}
+use Rattle.report.proofs.Rows.{Shown, shown-begin, shown-next, written-next, held-misfits, bare-misfits, last-misfits, written-above, written-fit, written-end}
 
 -- how many rows were pushed
 abbrev pub pushed : Streaming → ℕ
@@ -55,7 +55,7 @@ going-begin (Some bytes) old s is = rw is (bytes, refl, [], Appends-nil old, sho
 ended : (old mid : Option (List ℕ)) (s : Streaming) (bytes rest : List ℕ) (so_far : Text) (new : Option (List ℕ)) (fault : Fault) → Appends old mid (written s.before.rows so_far) → Shown (rows_of bytes) (rows_of rest) s so_far → Keeps mid new
     → (is_failure fault ≡ false → IsTold bytes s.before.rows fault) → (text : Text) × Writes bytes (Some fault) text × Appends old new text
 ended old mid s bytes rest so_far new fault wrote shown keeps told =
-    (written s.before.rows so_far, (s.before.rows, written-above (rows_of bytes) (rows_of rest) s so_far shown, told), Appends-kept old mid new (written s.before.rows so_far) wrote keeps)
+    (written s.before.rows so_far, (s.before.rows, written-fit (rows_of bytes) (rows_of rest) s so_far shown, written-above (rows_of bytes) (rows_of rest) s so_far shown, told), Appends-kept old mid new (written s.before.rows so_far) wrote keeps)
 
 module _ (old mid : Option (List ℕ)) (s : Streaming) (number : ℕ) where
   pub going-fails : (given left new : Option (List ℕ)) (fault : Fault) → Going given left old mid s number → Keeps mid new → is_failure fault ≡ true → Ends given old new (Some fault)

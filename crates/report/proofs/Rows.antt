@@ -1,5 +1,5 @@
 -- A report as it goes on: what is written, and what the rows that are left tell, is what all rows tell.
-use Rattle.std.proofs.Common.{◌≡◌, ℕ, zero, suc, ◌+◌, ◌<◌, ◌≤◌, Bool, true, false, ◌==◌, nat_lt, List, [], ◌∷◌, ◌++◌, length, Option, Some, None, refl, sym, ap, ◌∙◌, append_assoc, append-nil, arith, inl, inr}
+use Rattle.std.proofs.Common.{Err, String, string_bytes, ◌≡◌, ℕ, zero, suc, ◌+◌, ◌<◌, ◌≤◌, Bool, true, false, ◌==◌, nat_lt, List, [], ◌∷◌, ◌++◌, length, Option, Some, None, refl, sym, ap, ◌∙◌, append_assoc, append-nil, arith, inl, inr}
 use Rattle.std.specs.Prelude.{⊤}
 use Rattle.std.proofs.lemmas.Bool.{cases_Bool}
 use Rattle.std.proofs.lemmas.Bool.Decides.{nat_tests}
@@ -7,10 +7,13 @@ use Rattle.pg_layout.specs.Text.{Text}
 use Rattle.pg_picture.specs.Joined.{continued, joined}
 use Rattle.pg_stream.specs.Conditions.{RowFits, RowsFit}
 use Rattle.pg_stream.specs.Printing.{Printing, row_text, rows_text, after_row, lines_printed, finish_text, finish_lines, lines_of_rows, printer}
-use Rattle.pg_stream.specs.Streams.{Streaming, held_text, HeldFits, after_push, rows_left, IsMisfit, text_above}
+use Rattle.pg_stream.specs.Streams.{Streaming, held_text, HeldFits, after_push, rows_left, IsMisfit, text_above, StopsAt, PrintsRows}
+use Rattle.pg_stream.specs.declared.fault.StreamFault.{StreamFault}
+use Rattle.pg_stream.specs.declared.fault.StreamFault.TheVariants as stream
 use Rattle.pg_stream.proofs.DrawnLines.{length_of_row}
 use Rattle.pg_stream.proofs.TextsOfCalls.{rows_text-lines}
-use Rattle.report.specs.Report.{begin, written, report_of, report_above}
+use Rattle.report.specs.Report.{begin, written, report_of, report_above, told_by, FitAbove}
+use Rattle.report.specs.declared.fault.Fault.TheVariants.{Memory}
 use Rattle.report.specs.Steps.{moved, moved_feed}
 
 -- ---- the line feeds
@@ -54,6 +57,7 @@ above-more s cells rows n less = let e : nat_lt s.rows n ≡ true = grind (arith
 pub record Shown (all left : List (List Text)) (s : Streaming) (so_far : Text) : Type 0 where
   pub fit : RowsFit s.before (rows_left s left) → RowsFit begin all
   pub misfit : (n : ℕ) → IsMisfit s.before (rows_left s left) n → IsMisfit begin all n
+  pub fit_above : (n : ℕ) → FitAbove s.before (rows_left s left) n → FitAbove begin all n
   pub text : rows_text begin all ≡ so_far ++ rows_text s.before (rows_left s left)
   pub above : (n : ℕ) → s.before.rows ≤ n → text_above begin all n ≡ so_far ++ text_above s.before (rows_left s left) n
   pub count : length all ≡ s.before.rows + length (rows_left s left)
@@ -69,6 +73,7 @@ unfolding printer
 shown-begin all = record {
   fit = λ fit. fit;
   misfit = λ n is. is;
+  fit_above = λ n fit. fit;
   text = refl;
   above = λ n least. refl;
   count = omega arith;
@@ -89,6 +94,7 @@ module _ (all left : List (List Text)) (before : Printing) (so_far : Text) where
   shown-next None next p fits = record {
     fit = p.fit;
     misfit = p.misfit;
+    fit_above = p.fit_above;
     text = p.text ∙ ap (λ t. t ++ rows_text before (next ∷ left)) (sym (append-nil so_far));
     above = λ n least. p.above n least ∙ ap (λ t. t ++ text_above before (next ∷ left) n) (sym (append-nil so_far));
     count = p.count;
@@ -101,6 +107,7 @@ module _ (all left : List (List Text)) (before : Printing) (so_far : Text) where
   shown-next (Some row) next p fits = record {
     fit = λ fit. p.fit (fits, fit);
     misfit = λ n is. p.misfit n (inr (fits, is));
+    fit_above = λ n fit. p.fit_above n (inr (fits, fit));
     text = p.text ∙ sym (append_assoc so_far (row_text before row false) _);
     above = λ n least. p.above n (omega (arith, least)) ∙ ap (λ t. so_far ++ t) (above-more before row (next ∷ left) n (omega (arith, least))) ∙ sym (append_assoc so_far (row_text before row false) _);
     count = omega (arith, p.count);
@@ -142,6 +149,14 @@ pub last-misfits : (all : List (List Text)) (before : Printing) (held : Option (
 last-misfits all before None so_far n p is = absurd is
 last-misfits all before (Some row) so_far n p is = (p.misfit before.rows (refl, is.1), is.0, λ none. cc)
 
+-- the rows that are written fit
+fit-here : (s : Printing) (rows : List (List Text)) → FitAbove s rows s.rows
+fit-here s [] = refl
+fit-here s (cells ∷ rows) = inl refl
+
+pub written-fit : (all left : List (List Text)) (s : Streaming) (so_far : Text) → Shown all left s so_far → FitAbove begin all s.before.rows
+written-fit all left s so_far p = p.fit_above s.before.rows (fit-here s.before (rows_left s left))
+
 -- what is written so far is the rows above
 pub written-above : (all left : List (List Text)) (s : Streaming) (so_far : Text) → Shown all left s so_far → written s.before.rows so_far ≡ report_above all s.before.rows
 written-above all left s so_far p = ap (written s.before.rows) (sym (p.above s.before.rows (omega arith) ∙ ap (λ t. so_far ++ t) (above-none s.before (rows_left s left)) ∙ append-nil so_far))
@@ -163,3 +178,19 @@ written-end all before (Some row) so_far number p is =
     let many : length all ≡ before.rows + 1 = omega (arith, p.count) in
     let is-fed : 0 < before.rows → IsFed (rows_text before (row ∷ [])) = λ some. rw (rows_text-lines before (row ∷ []) (λ none. absurd (omega (arith, none, some)))) (continued-fed (lines_printed before) (lines_of_rows before (row ∷ [])) (p.begun some)) in
     rw (same, many, p.text) (one-more before.rows so_far (rows_text before (row ∷ [])) p.none is-fed)
+
+-- ---- want of memory
+
+-- no buffer has too little room for no text: where the row that is held doesn't fit as the last one, memory isn't wanted
+none-wanted : {Z U : Type 0} (before : Printing) (held : Option (List Text)) (n : ℕ) (old new : String Z) → string_bytes old ≡ [] → StopsAt {Z = Z} {U = U} n (text_above before (rows_left (record { before = before; held = held }) []) n) old new (Err stream.Memory)
+    → IsMisfit before (rows_left (record { before = before; held = held }) []) n → ⊥
+none-wanted before None n old new empty stops is = is
+none-wanted before (Some row) n old new empty stops is =
+    let above : text_above before (row ∷ []) n ≡ [] = rw is.0 (above-none before (row ∷ [])) in
+    omega (arith, stops.full, ap length empty, ap length above)
+
+pub no-misfit-wanted : {Z U : Type 0} (before : Printing) (held : Option (List Text)) (n : ℕ) (old new : String Z) (fault : StreamFault) → string_bytes old ≡ [] → told_by fault ≡ Memory
+    → PrintsRows {Z = Z} {U = U} before (rows_left (record { before = before; held = held }) []) old new (Err fault) → IsMisfit before (rows_left (record { before = before; held = held }) []) n → ⊥
+no-misfit-wanted before held n old new (stream.Misfit misfit) empty told prints is = prints.tells
+no-misfit-wanted before held n old new (stream.Row row) empty told prints is = cc
+no-misfit-wanted {Z} {U} before held n old new stream.Memory empty told prints is = none-wanted {Z} {U} before held n old new empty (prints.misfit n is) is

@@ -1,5 +1,5 @@
 -- What a report reads of its input, what it writes of it, and how it ends.
-use Rattle.std.specs.Prelude.{◌≡◌, ℕ, ◌+◌, ◌-◌, ◌^◌, min, Bool, true, false, ◌==◌, List, [], ◌∷◌, ◌++◌, map, length, take, slice_index_or, Option, Some, None, if◌then◌else◌, codes, decimal}
+use Rattle.std.specs.Prelude.{◌≡◌, ℕ, ◌+◌, ◌-◌, ◌^◌, min, Bool, true, false, ◌==◌, List, [], ◌∷◌, ◌++◌, map, length, take, slice_index_or, Option, Some, None, if◌then◌else◌, codes, decimal, ◌⊎◌}
 use Rattle.std.specs.Io.BufRead.{ends_with_byte}
 use Rattle.std.specs.List.{slice_split}
 use Rattle.std.specs.Str.{is_utf8}
@@ -12,8 +12,8 @@ use Rattle.pg_layout.specs.declared.sides.Indent.{Indent}
 use Rattle.pg_layout.specs.declared.position.Entity.TheVariants.{Global, Column}
 use Rattle.pg_config.specs.Config.{Config, default_config}
 use Rattle.pg_config.specs.Settings.{with_setting}
-use Rattle.pg_stream.specs.Conditions.{RowsFit}
-use Rattle.pg_stream.specs.Printing.{Printing, printer, rows_text}
+use Rattle.pg_stream.specs.Conditions.{RowFits, RowsFit}
+use Rattle.pg_stream.specs.Printing.{Printing, printer, rows_text, after_row}
 use Rattle.pg_stream.specs.Streams.{IsMisfit, text_above}
 use Rattle.pg_stream.specs.declared.fault.StreamFault.{StreamFault}
 use Rattle.pg_stream.specs.declared.fault.StreamFault.TheVariants as stream
@@ -96,11 +96,17 @@ pub record IsTold (bytes : List ℕ) (n : ℕ) (fault : Fault) : Type 0 where
   pub first : IsMisfit begin (rows_of bytes) n
   pub is : fault ≡ fault_of (n + 1) (slice_index_or (lines bytes) n [])
 
+-- there is a row n of the table, or it comes next, and each of these above it fits as one that isn't the last
+abbrev pub FitAbove : Printing → List (List Text) → ℕ → Type 0
+FitAbove s [] n = n ≡ s.rows
+FitAbove s (cells ∷ rows) n = (n ≡ s.rows) ⊎ (RowFits s cells false × FitAbove (after_row s cells false) rows n)
+
 -- What is written where no write fails. Without a fault the rows of all lines fit, and that is their table. A line that is told of is the
--- first whose row doesn't fit, and that is the rows above it. After any other failure it is some rows, whole and without the table's end.
+-- first whose row doesn't fit, and that is the rows above it. After any other failure it is some rows that fit, whole and without the
+-- table's end.
 abbrev pub Writes : List ℕ → Option Fault → Text → Type 0
 Writes bytes None text = RowsFit begin (rows_of bytes) × (text ≡ report_of (rows_of bytes))
-Writes bytes (Some fault) text = (n : ℕ) × (text ≡ report_above (rows_of bytes) n) × (is_failure fault ≡ false → IsTold bytes n fault)
+Writes bytes (Some fault) text = (n : ℕ) × FitAbove begin (rows_of bytes) n × (text ≡ report_above (rows_of bytes) n) × (is_failure fault ≡ false → IsTold bytes n fault)
 
 -- the exit status that tells of a fault
 abbrev pub status_of : Fault → ℕ

@@ -1,13 +1,14 @@
 //! Why a ledger isn't printed to its end.
 
-ghost use Rattle.std.specs.Prelude.{◌≡◌, ◌+◌, ◌-◌, ◌^◌, min, OnOk, Some};
+ghost use Rattle.std.specs.Prelude.{◌≡◌, ◌≢◌, ◌+◌, ◌-◌, ◌^◌, min, true, OnOk, Some};
 ghost use Rattle.std.specs.Io.KnownBytes.{Appends};
-ghost use Rattle.report.specs.Report.{status_of, fault_text, line_of, told_by};
+ghost use Rattle.std.specs.IoError.{error_kind};
+ghost use Rattle.report.specs.Report.{status_of, fault_text, is_failure, line_of, told_by};
 ghost use Rattle.report.specs.declared.fault.Fault.TheVariants.{Memory};
 
 use pg_stream::StreamFault;
 use std::alloc::AllocError;
-use std::io::Write;
+use std::io::{ErrorKind, Write};
 use std::{fmt, io};
 
 /// Why a ledger isn't printed to its end. Lines are counted from 1.
@@ -49,6 +50,19 @@ impl From<StreamFault> for Fault {
 }
 
 impl Fault {
+    /// Why the input couldn't be read: memory was refused, or a read failed.
+    pub(crate) fn of_read(error: &io::Error) -> Fault
+        ensures memory { error_kind error.now ≡ ErrorKind.OutOfMemory → result ≡ Fault.Memory }
+        ensures other { error_kind error.now ≢ ErrorKind.OutOfMemory → result ≡ Fault.Read }
+        ensures failure { is_failure result ≡ true }
+        ensures unwritten { result ≢ Fault.Write }
+    {
+        match error.kind() {
+            ErrorKind::OutOfMemory => Fault::Memory,
+            _ => Fault::Read,
+        }
+    }
+
     /// The exit status that tells of it.
     pub(crate) fn status(self) -> u8
         ensures { result ≡ status_of self }

@@ -8,8 +8,8 @@ ghost use Rattle.pg_config.specs.Config.{default_config};
 ghost use Rattle.pg_layout.specs.Text.{Text};
 ghost use Rattle.pg_stream.specs.Conditions.{RowsFit};
 ghost use Rattle.pg_stream.specs.Printing.{rows_text};
-ghost use Rattle.pg_stream.specs.Streams.{after_push, held_text, HeldFits, rows_left};
-ghost use Rattle.report.specs.Report.{Writes, begin, row_of, fault_of, status_after, line_of};
+ghost use Rattle.pg_stream.specs.Streams.{after_push, held_text, HeldFits, IsMisfit, rows_left};
+ghost use Rattle.report.specs.Report.{Writes, begin, row_of, fault_of, is_failure, status_after, line_of};
 ghost use Rattle.report.specs.Steps.{state_of, moved, Stays, IsBad, NoEnd};
 ghost use Rattle.report.specs.declared.fault.Fault.{Fault};
 
@@ -30,7 +30,7 @@ type Rows<'a> = RowStream<'a, String, Sizes, NoColors>;
 pub(crate) struct Ending {
     /// Why the ledger wasn't printed to its end, or `None` where it was.
     pub(crate) fault: Option<Fault>,
-    /// Whether the line that tells of the fault was written. Without a fault there is none to write.
+    /// Whether the line that tells of the fault was written; true without a fault, which has none.
     pub(crate) is_told: bool,
 }
 
@@ -84,6 +84,7 @@ fn push_row<'a, W: Write>(
     ensures written { OnOk result (Appends (W.contents out.old) (W.contents out.new) (moved (number == 2) (held_text (state_of rows.entry)))) }
     ensures empty { OnOk result (string_bytes buf.new ≡ []) }
     ensures stops { (fault : Fault) → result ≡ Err fault → fault ≢ Fault.Write → Stays (state_of rows.entry) fault (W.contents out.old) (W.contents out.new) }
+    ensures held { (fault : Fault) → result ≡ Err fault → is_failure fault ≡ true → HeldFits (state_of rows.entry) }
 {
     let rows = rows.push(cells, buf)?;
     write_appended(buf.as_str(), number == 2, out)?;
@@ -106,6 +107,8 @@ fn print_line<'a, W: Write>(
     ensures written { OnOk result (Appends (W.contents out.old) (W.contents out.new) (moved (number == 2) (held_text (state_of rows.entry)))) }
     ensures empty { OnOk result (string_bytes buf.new ≡ []) }
     ensures stops { (fault : Fault) → result ≡ Err fault → fault ≢ Fault.Write → Stays (state_of rows.entry) fault (W.contents out.old) (W.contents out.new) ⊎ IsBad (state_of rows.entry) number line.now fault (W.contents out.old) (W.contents out.new) }
+    ensures held { (fault : Fault) → result ≡ Err fault → is_failure fault ≡ true → HeldFits (state_of rows.entry) }
+    ensures whole { (fault : Fault) → result ≡ Err fault → is_failure fault ≡ true → fault ≢ Fault.Write → Keeps (W.contents out.old) (W.contents out.new) ⊎ fault_of number line.now ≡ Fault.Room number }
 {
     match cells_of(alloc, number, line) {
         Ok(cells) => push_row(rows, number, cells, buf, out),
@@ -127,6 +130,7 @@ fn print_end<W: Write>(
     ensures fits { OnOk result (RowsFit (state_of rows.entry).before (rows_left (state_of rows.entry) [])) }
     ensures written { OnOk result (Appends (W.contents out.old) (W.contents out.new) (moved is_first (rows_text (state_of rows.entry).before (rows_left (state_of rows.entry) [])))) }
     ensures stops { (fault : Fault) → result ≡ Err fault → fault ≢ Fault.Write → NoEnd (state_of rows.entry) fault (W.contents out.old) (W.contents out.new) }
+    ensures held { (n : ℕ) → result ≡ Err Fault.Memory → ¬ (IsMisfit (state_of rows.entry).before (rows_left (state_of rows.entry) []) n) }
 {
     rows.finish(buf)?;
     write_appended(buf.as_str(), is_first, out)
@@ -194,6 +198,7 @@ pub(crate) fn run<R: Read + Drop, W1: Write, W2: Write>(
 ) -> Ending
     ensures printed { result.fault ≢ Some Fault.Write → IfSome (R.remaining input) (λ bytes. (text : Text) × Writes bytes result.fault text × Appends (W1.contents out.old) (W1.contents out.new) text) }
     ensures told { (fault : Fault) → result.fault ≡ Some fault → result.is_told ≡ true → Appends (W2.contents err.old) (W2.contents err.new) (line_of fault) }
+    ensures nothing_to_tell { result.fault ≡ None → result.is_told ≡ true }
     ensures silent { result.fault ≡ None → Keeps (W2.contents err.old) (W2.contents err.new) }
 {
     match print(alloc, input, out) {

@@ -6,7 +6,7 @@ ghost use Rattle.report.specs.Report.{line_in, is_failure};
 ghost use Rattle.report.specs.declared.fault.Fault.{Fault};
 
 use crate::fault::Fault;
-use std::io::{BufRead, ErrorKind};
+use std::io::BufRead;
 
 // The line without the carriage return at its end, if it has one.
 fn without_carriage_return(line: &[u8]) -> &[u8]
@@ -38,7 +38,6 @@ pub(crate) fn read_line<R: BufRead>(reader: &mut R, bytes: &mut Vec<u8>) -> Resu
     bytes.clear();
     match reader.read_until(b'\n', bytes) {
         Ok(count) => Ok(count > 0),
-        Err(error) if error.kind() == ErrorKind::OutOfMemory => Err(Fault::Memory),
-        Err(_) => Err(Fault::Read),
+        Err(error) => Err(Fault::of_read(&error)),
     }
 }

@@ -1,4 +1,4 @@
-use Rattle.std.proofs.Common.{◌≡◌, [], ◌<◌, ◌++◌, ◌∙◌, length, take, arith, sym, ap, append-nil}
+use Rattle.std.proofs.Common.{◌≡◌, [], ◌<◌, ◌++◌, ◌∙◌, length, length-append, take, arith, sym, ap, append-nil}
 use Rattle.std.proofs.KnownBytes.{Consumes-trans, Consumes-whole}
 use Rattle.pg_show.proofs.BytesRead.{Consumes-length}
 use Rattle.pg_show.proofs.program.read_whole.Goals as goal
@@ -12,3 +12,9 @@ returns-in-Ok-eq0-clause-whole g c =
 
 pub returns-clause-endless : goal.returns-clause-endless
 returns-clause-endless g c = λ _. Consumes-length _ _ c.loop.bytes.items 16777216 c.loop.invariant.read (omega (arith, c.loop.invariant.reads, c.loop-test.false))
+
+-- a byte was read before memory was wanted
+pub returns-in_err-extend_from_slice-in-Ok-clause-memory : goal.returns-in_err-extend_from_slice-in-Ok-clause-memory
+returns-in_err-extend_from_slice-in-Ok-clause-memory g c = λ wanted.
+    let lost = c.loop.bytes.items ++ take c.in-Ok.count c.read.new.buf in
+    (lost, Consumes-trans _ _ _ _ _ c.loop.invariant.read c.in-Ok.ensures.bytes.0, omega (arith, length-append c.loop.bytes.items (take c.in-Ok.count c.read.new.buf), c.in-Ok.ensures.bound))

@@ -33,3 +33,10 @@ returns-in_err-print-clause-empty g c = λ none.
     ∙ ap is_empty (table-script c.args.script.now) in
     let ended = c.in_err-print.ensures.empty (drawn ∙ none) in
     absurd (false≢true ended.0)
+
+pub returns-clause-empty : goal.returns-clause-empty
+returns-clause-empty g c = λ none.
+    let drawn =
+    ap (λ parts. is_empty (table_with parts.1.now parts.2.now.0.items parts.2.now.1.items (map (λ row. map string_bytes row) parts.0.now) (columns_of parts.0.now) parts.3.now)) c.new.ensures
+    ∙ ap is_empty (table-script c.args.script.now) in
+    c.in_ok-print.ensures.empty (drawn ∙ none)

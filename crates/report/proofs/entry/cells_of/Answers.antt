@@ -2,7 +2,6 @@ use Rattle.std.proofs.Common.{◌≡◌, ◌==◌, false, true, ℕ, List, lengt
 use Rattle.std.specs.Str.{IsUtf8, is_utf8}
 use Rattle.std.proofs.lemmas.Str.{is_utf8-from_IsUtf8, IsUtf8-from_is_utf8}
 use Rattle.std.proofs.lemmas.Bool.Decides.{nat_tests}
-use Rattle.std.proofs.lemmas.List.{length-map}
 use Rattle.report.specs.Report.{words_of}
 use Rattle.report.specs.declared.fault.Fault.TheVariants.{Text, Words}
 use Rattle.report.proofs.entry.cells_of.Goals as goal
@@ -16,17 +15,32 @@ returns-in_default-clause-bad c = λ fault is bad.
     let none = no-text c.args.line.now c.in_default.ensures.cases.0 in
     rw none (refl, same)
 
-pub returns-then-len-ne-COLUMNS-clause-bad : goal.returns-then-len-ne-COLUMNS-clause-bad
-returns-then-len-ne-COLUMNS-clause-bad c = λ fault is bad.
+pub returns-then-count_words-ne-COLUMNS-clause-bad : goal.returns-then-count_words-ne-COLUMNS-clause-bad
+returns-then-count_words-ne-COLUMNS-clause-bad c = λ fault is bad.
     let same : fault ≡ Words c.args.number = cc in
     let text = is_utf8-from_IsUtf8 c.args.line.now c.in-Ok.ensures.cases.1 in
-    let words = ap length (c.in_ok-words.ensures ∙ ap words_of c.in-Ok.ensures.cases.0) in
-    let others : (length (words_of c.args.line.now) == 3) ≡ false = grind (arith, nat_tests, words, length-map c.in_ok-words.words.items (λ word. word.now), c.len.ensures, c.if-len-ne-COLUMNS.true) in
+    let words = ap (λ t. length (words_of t)) c.in-Ok.ensures.cases.0 in
+    let others : (length (words_of c.args.line.now) == 3) ≡ false = grind (arith, nat_tests, words, c.count_words.ensures, c.if-count_words-ne-COLUMNS.true) in
     rw (text, others) (refl, same)
+
+pub returns-in_err-words-clause-whole : goal.returns-in_err-words-clause-whole
+returns-in_err-words-clause-whole c = λ fault is failed.
+    let text = is_utf8-from_IsUtf8 c.args.line.now c.in-Ok.ensures.cases.1 in
+    let words = ap (λ t. length (words_of t)) c.in-Ok.ensures.cases.0 in
+    let three : (length (words_of c.args.line.now) == 3) ≡ true = grind (arith, nat_tests, words, c.count_words.ensures, c.if-count_words-ne-COLUMNS.false) in
+    rw (text, three) refl
+
+pub returns-in_err-owned-clause-whole : goal.returns-in_err-owned-clause-whole
+returns-in_err-owned-clause-whole c = λ fault is failed.
+    let text = is_utf8-from_IsUtf8 c.args.line.now c.in-Ok.ensures.cases.1 in
+    let words = ap (λ t. length (words_of t)) c.in-Ok.ensures.cases.0 in
+    let three : (length (words_of c.args.line.now) == 3) ≡ true = grind (arith, nat_tests, words, c.count_words.ensures, c.if-count_words-ne-COLUMNS.false) in
+    rw (text, three) refl
 
 pub returns-clause-cells : goal.returns-clause-cells
 returns-clause-cells c =
     let text = is_utf8-from_IsUtf8 c.args.line.now c.in-Ok.ensures.cases.1 in
+    let words = ap (λ t. length (words_of t)) c.in-Ok.ensures.cases.0 in
     let are = c.in_ok-words.ensures ∙ ap words_of c.in-Ok.ensures.cases.0 in
-    let three : (length (words_of c.args.line.now) == 3) ≡ true = grind (arith, nat_tests, ap length are, length-map c.in_ok-words.words.items (λ word. word.now), c.len.ensures, c.if-len-ne-COLUMNS.false) in
+    let three : (length (words_of c.args.line.now) == 3) ≡ true = grind (arith, nat_tests, words, c.count_words.ensures, c.if-count_words-ne-COLUMNS.false) in
     rw (text, three) (c.in_ok-owned.ensures ∙ ap (map (λ word. word.now)) c.deref.ensures.value ∙ are, refl)
