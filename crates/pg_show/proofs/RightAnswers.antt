@@ -1,12 +1,11 @@
 -- The program's answers, where a table was printed and where it wasn't.
-use Rattle.std.proofs.Common.{◌≡◌, ◌≢◌, ℕ, List, [], ◌∷◌, ◌++◌, Option, Some, None, Result, Ok, Err, IfSome, IsOk, false, String, string_bytes, inl, inr, refl, sym, ◌∙◌, ap}
+use Rattle.std.proofs.Common.{◌≡◌, ◌≢◌, ℕ, List, [], ◌∷◌, ◌++◌, Option, Some, None, Result, Ok, Err, IfSome, false, String, string_bytes, inl, inr, refl, sym, ◌∙◌, ap}
 use Rattle.std.specs.Result.{IsErrAnd}
 use Rattle.std.proofs.lemmas.Bool.{false≢true}
 use Rattle.pg_layout.specs.Text.{Text}
 use Rattle.pg_picture.specs.declared.fits.Misfit.{Misfit}
-use Rattle.pg_show.specs.Program.{Answers, answer_of_script, answer_of_told, unless_bad_shown, unless_misfit_shown, fault_of_show, is_failure, tells_failure, status_of, status_after, status_of_answer}
+use Rattle.pg_show.specs.Program.{Answers, answer_of_told, unless_misfit_shown, fault_of_show, is_failure, tells_failure, status_of, status_after, status_of_answer}
 use Rattle.pg_show.specs.Show.{misfit_in, text_in, Prints}
-use Rattle.pg_script.specs.Script.{told_by}
 use Rattle.pg_script.specs.Told.{Told}
 use Rattle.pg_show.specs.declared.fault.Fault.{Fault}
 use Rattle.pg_show.specs.declared.fault.Fault.TheVariants as fault
@@ -31,24 +30,6 @@ Answers-unprinted mode told e (Ok text) misfit is = absurd is
 Answers-unprinted mode told (show.Misfit m) (Err fault) misfit is = λ _.
     ap (λ found. unless_misfit_shown found (text_in mode told)) (misfit m refl) ∙ ap Err (sym is)
 Answers-unprinted mode told show.Memory (Err fault) misfit is = λ other. absurd (other is)
-
--- a failed write is never right
-unwritten-told : (found : Option Misfit) (text : Text) → unless_misfit_shown found text ≡ Err fault.Write → ⊥
-unwritten-told None text is = cc
-unwritten-told (Some m) text is = cc
-
-unwritten : (mode : Mode) (told : Result Told ℕ) → unless_bad_shown mode told ≡ Err fault.Write → ⊥
-unwritten mode (Err line) is = cc
-unwritten mode (Ok told) is = unwritten-told (misfit_in mode told) (text_in mode told) is
-
-pub unread-writes_nothing : {A : Type 0} (mode : Mode) (input : Option (List ℕ)) → IfSome input (λ script. Answers {A} (answer_of_script mode script) (Err fault.Write)) → IfSome input (λ script. IsOk (answer_of_script mode script))
-unread-writes_nothing mode None answers = tt
-unread-writes_nothing mode (Some script) answers = let other : fault.Write ≢ fault.Memory = λ is. cc in absurd (unwritten mode (told_by script) (answers other))
-
--- a text that was answered is right
-pub text-right : {A : Type 0} (mode : Mode) (input : Option (List ℕ)) (text : String A) → IfSome input (λ script. Answers (answer_of_script mode script) (Ok text)) → IfSome input (λ script. IsOk (answer_of_script mode script))
-text-right mode None text answers = tt
-text-right mode (Some script) text answers = rw answers tt
 
 -- where nothing was refused, the buffer has gained the whole text, whatever the mode
 pub Prints-ok : {Z U : Type 0} (E : Type 0) (mode : Mode) (old new : String Z) (u : U) (text : Text) → Prints {E = E} mode old new (Ok u) text → string_bytes new ≡ string_bytes old ++ text

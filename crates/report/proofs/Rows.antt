@@ -193,4 +193,5 @@ pub no-misfit-wanted : {Z U : Type 0} (before : Printing) (held : Option (List T
     → PrintsRows {Z = Z} {U = U} before (rows_left (record { before = before; held = held }) []) old new (Err fault) → IsMisfit before (rows_left (record { before = before; held = held }) []) n → ⊥
 no-misfit-wanted before held n old new (stream.Misfit misfit) empty told prints is = prints.tells
 no-misfit-wanted before held n old new (stream.Row row) empty told prints is = cc
-no-misfit-wanted {Z} {U} before held n old new stream.Memory empty told prints is = none-wanted {Z} {U} before held n old new empty (prints.misfit n is) is
+no-misfit-wanted before held n old new stream.Open empty told prints is = prints.tells
+no-misfit-wanted before held n old new stream.Memory empty told prints is = none-wanted before held n old new empty (prints.misfit n is) is

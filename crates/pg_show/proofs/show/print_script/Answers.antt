@@ -10,4 +10,4 @@ pub returns-in-Peek-clause-misfit : goal.returns-in-Peek-clause-misfit
 returns-in-Peek-clause-misfit g c = rw c.in-Peek.is c.print_peekable.ensures.misfit
 
 pub returns-in-Table-clause-misfit : goal.returns-in-Table-clause-misfit
-returns-in-Table-clause-misfit g c = rw c.in-Table.is c.print_natural.ensures.misfit
+returns-in-Table-clause-misfit g c = rw c.in-Table.is c.print_natural.ensures.shows.misfit

@@ -11,6 +11,22 @@ use Rattle.report.proofs.Going.{going-begin, going-fails}
 use Rattle.report.proofs.Looks.{may_begin}
 use Rattle.report.proofs.ledger.print_with.Goals as goal
 
+-- nothing was read and nothing written when memory was refused
+pub returns-in_err-set_look : goal.returns-in_err-set_look
+returns-in_err-set_look g c =
+    let p = err_from_is_err_and c.from_residual.result c.from_residual.ensures.1 in
+    let given = g.R.Read.remaining c.args.input in
+    let out = g.W.Write.contents c.args.out.now in
+    let start : Streaming = record { before = begin; held = None } in
+    rw (p.1, p.2) (λ other. going-fails out out start 1 given given out Memory (going-begin given out start refl) (Keeps-refl out) refl)
+
+pub returns-in_default : goal.returns-in_default
+returns-in_default g c =
+    let given = g.R.Read.remaining c.args.input in
+    let out = g.W.Write.contents c.args.out.now in
+    let start : Streaming = record { before = begin; held = None } in
+    λ other. going-fails out out start 1 given given out Memory (going-begin given out start refl) (Keeps-refl out) refl
+
 -- only memory keeps a stream from being made
 pub returns-in_err-rows : goal.returns-in_err-rows
 returns-in_err-rows g c =
