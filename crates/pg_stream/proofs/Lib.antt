@@ -44,4 +44,5 @@ pub mod StreamedRuns
 pub mod StreamedResults
 pub mod IterTables
 pub mod LiveRows
+pub mod LentRows
 pub mod TableEnds

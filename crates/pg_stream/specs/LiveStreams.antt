@@ -5,6 +5,7 @@ use Rattle.pg_layout.specs.Colors.{Color}
 use Rattle.pg_layout.specs.Text.{Text}
 use Rattle.pg_picture.specs.Appending.{Appends}
 use Rattle.pg_picture.specs.Fits.{spans_fit}
+use Rattle.pg_stream.specs.Conditions.{RowFits}
 use Rattle.pg_stream.specs.Printers.{Printer, printing}
 use Rattle.pg_stream.specs.Printing.{Printing, row_text, finish_text, after_row}
 use Rattle.pg_stream.specs.Streams.{OnlyMemory}
@@ -25,6 +26,10 @@ pub record Live (D C : Type 0) : Type 0 where
 
 abbrev pub living : {D C : Type 0} → (D → ℕ → ℕ) → (D → ℕ → ℕ) → (C → Position → Option Color) → Live D C → Living
 living width height color s = record { printed = printing width height color s.printer; is_lost = s.is_lost }
+
+-- A row may be lent where it fits, no cell spans others, and it has one line: then no cell of it goes on.
+abbrev pub LentFits : Printing → List Text → Type 0
+LentFits s cells = RowFits s cells false × (s.config.spans ≡ []) × (s.height s.rows ≡ 1)
 
 -- ---- its end
 

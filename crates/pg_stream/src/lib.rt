@@ -11,6 +11,7 @@ mod frame;
 mod grid;
 mod held_rows;
 mod laws;
+mod lent_rows;
 mod live_stream;
 mod open_cell;
 mod open_cells;

@@ -47,10 +47,10 @@ pub struct LiveStream<
     B: Allocator = Global,
     A: Allocator = Global,
 > {
-    frame: Frame<'a, D, C, B>,
-    progress: Progress<'a, S, A>,
-    // Whether memory was refused in the midst of a row.
-    is_lost: bool,
+    pub(crate) frame: Frame<'a, D, C, B>,
+    pub(crate) progress: Progress<'a, S, A>,
+    /// Whether memory was refused in the midst of a row.
+    pub(crate) is_lost: bool,
 }
 
 impl<'a, S: AsStr, D: Dimension, C: Colors, B: Allocator, A: Allocator> Model

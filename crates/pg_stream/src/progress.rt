@@ -68,6 +68,10 @@ impl<S: AsStr + Drop, A: Allocator> Progress<'_, S, A> {
             frame,
             of: PhantomData,
         };
+        let height = drawing.height_of(self.rows);
+        if drawing.draws_at_once(height) {
+            return self.push_single::<T, D, C, B, S, I, W>(frame, cells, are_plain, is_last, buf);
+        }
         let is_first = drawing.begins_with_body();
         drawing.push_top(buf, self.rows)?;
         let next = drawing.push_above(
@@ -78,13 +82,7 @@ impl<S: AsStr + Drop, A: Allocator> Progress<'_, S, A> {
             self.lines,
             self.rows,
         )?;
-        let height = drawing.height_of(self.rows);
         let below = next + height;
-        if drawing.draws_at_once(height) {
-            drawing.push_single_row(buf, is_first, next, self.rows, cells, are_plain)?;
-            self.end_row(below, is_last);
-            return Ok(());
-        }
         drawing.begin(&mut self.cells, cells, self.rows);
         drawing.push_lines(&mut self.cells, buf, is_first, next, self.rows)?;
         drawing.close(&mut self.cells, self.rows);
@@ -145,7 +143,7 @@ impl<S: AsStr + Drop, A: Allocator> Progress<'_, S, A> {
 
     // One more row is printed, with which so many lines are.
     #[inline(always)]
-    fn end_row(&mut self, lines: usize, is_last: bool)
+    pub(crate) fn end_row(&mut self, lines: usize, is_last: bool)
         requires { self.old.rows + 1 < 2 ^ 64 }
         ensures { self.new ≡ record self.old { rows = self.old.rows + 1; lines = lines; is_ended = is_last } }
     {

@@ -53,19 +53,20 @@ impl<S: AsStr, A: Allocator> Progress<'_, S, A> {
     // Whether these cells may be printed as the next row of the table of a frame, as `RowPrinter::fits`
     // tells, and then whether each text is known to be plain: such a row is read but once.
     #[inline(always)]
-    pub(crate) fn plainness<D, C, B>(
+    pub(crate) fn plainness<X, D, C, B>(
         &self,
         frame: &Frame<'_, D, C, B>,
-        cells: &[S],
+        cells: &[X],
         is_last: bool,
     ) -> Option<bool>
     where
+        X: AsStr,
         D: Dimension,
         C: Colors,
         B: Allocator,
         requires sound { IsSoundAt (told_of D.width D.height C.color frame.now) frame.now self.now }
-        ensures fits { IsSome result ↔ RowFits (now_of (told_of D.width D.height C.color frame.now) self.now) (map S.text cells.now) is_last }
-        ensures plain { result ≡ Some true → ArePlain frame.now.columns (map S.text cells.now) }
+        ensures fits { IsSome result ↔ RowFits (now_of (told_of D.width D.height C.color frame.now) self.now) (map X.text cells.now) is_last }
+        ensures plain { result ≡ Some true → ArePlain frame.now.columns (map X.text cells.now) }
     {
         if self.is_next(frame, cells.len(), is_last)
             && ends_spans(frame.config, self.rows, frame.columns, is_last)

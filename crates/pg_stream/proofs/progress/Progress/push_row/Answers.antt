@@ -1,4 +1,4 @@
-use Rattle.std.proofs.Common.{◌≡◌, ℕ, ◌+◌, ◌<◌, ◌≤◌, ◌^◌, List, Option, refl, sym, ap, ap₂, ◌∙◌, subst, arith, map, length, get_or, None}
+use Rattle.std.proofs.Common.{ℕ, ◌+◌, ◌<◌, ◌≤◌, ◌^◌, List, Option, refl, sym, ap, ap₂, ◌∙◌, subst, arith, map, length, get_or, None}
 use Rattle.std.proofs.lemmas.List.{length-map}
 use Rattle.pg_picture.proofs.Appending.{◌then◌, stopped, refused-as, appended-as, Appends-text}
 use Rattle.pg_stream.specs.Placed.{Placed, slots_of, AllOpen}
@@ -12,7 +12,7 @@ use Rattle.pg_stream.proofs.DrawnLines.{length_of_row}
 use Rattle.pg_stream.proofs.RowsPrinted.{room-above, drawn-above, owner-begins, whole-now, cells_now, begun-now, drawn-now, room-now}
 use Rattle.pg_stream.proofs.RowsAppended.{row_text-is, after-is, sound-next, open_lines-same}
 use Rattle.pg_stream.proofs.SingleLines.{at-once}
-use Rattle.pg_stream.proofs.SingleRowsPrinted.{none-open, single_text-is, single-left}
+use Rattle.pg_stream.proofs.SingleRowsPrinted.{none-open}
 use Rattle.pg_stream.proofs.progress.Progress.push_row.Goals as goal
 
 pub returns-in_err-push_top-clause-appends : goal.returns-in_err-push_top-clause-appends
@@ -54,83 +54,6 @@ returns-in_err-next-clause-appends g c = λ texts gives.
     let sound = c.requires.sound.printer in
     let fits = c.requires.fits.2 in
     Appends-text (row_text-is s w h cells refl sound c.args.is_last fits.hint fits.spans texts c.begins_with_body-is_first.result c.begins_with_body-is_first.ensures) (c.in_ok-push_top.ensures then stopped _ c.from_residual-in_err-next.ensures.0 c.in_err-next.ensures.appends)
-
-pub push_single_row-requires : goal.push_single_row-requires
-push_single_row-requires g c =
-    let s : Printing = now_of g.T.Drawn.told c.args.self.now in
-    let fits = c.requires.fits.2 in
-    let once = at-once c.height_of-height.result s.config.spans c.draws_at_once.result c.draws_at_once.ensures c.if-draws_at_once.true in
-    let one : s.height s.rows ≡ 1 = sym c.height_of-height.ensures ∙ once.0 in
-    record {
-      single = (
-        c.requires.fits.0,
-        record { can_next = c.requires.can.0; ends = c.requires.can.1; gives = c.requires.fits.1 },
-        record { single = record { alone = once.1; height = one }; whole = fits.whole; rooms = fits.rooms; plain = c.requires.fits.3 },
-      );
-    }
-
-pub returns-in_err-push_single_row-clause-appends : goal.returns-in_err-push_single_row-clause-appends
-returns-in_err-push_single_row-clause-appends g c = λ texts gives.
-    let s : Printing = now_of g.T.Drawn.told c.args.self.now in
-    let w = c.args.frame.now.width in
-    let h = c.args.frame.now.height in
-    let cells = c.args.self.now.cells in
-    let sound = c.requires.sound.printer in
-    let fits = c.requires.fits.2 in
-    let once = at-once c.height_of-height.result s.config.spans c.draws_at_once.result c.draws_at_once.ensures c.if-draws_at_once.true in
-    let one : s.height s.rows ≡ 1 = sym c.height_of-height.ensures ∙ once.0 in
-    Appends-text (single_text-is s w h cells refl sound c.args.is_last fits.hint fits.spans once.1 one texts c.begins_with_body-is_first.result c.begins_with_body-is_first.ensures _ c.in_ok-next.ensures.index)
-    (c.in_ok-push_top.ensures then (c.in_ok-next.ensures.appends then refused-as c.from_residual-in_err-push_single_row.ensures.0 (c.in_err-push_single_row.ensures texts gives)))
-
-pub returns-then-draws_at_once-clause-sound : goal.returns-then-draws_at_once-clause-sound
-returns-then-draws_at_once-clause-sound g c =
-    let s : Printing = now_of g.T.Drawn.told c.args.self.now in
-    let t = frame_of g.T.Drawn.told in
-    let w = c.args.frame.now.width in
-    let h = c.args.frame.now.height in
-    let cells = c.args.self.now.cells in
-    let sound = c.requires.sound.printer in
-    let fits = c.requires.fits.2 in
-    let once = at-once c.height_of-height.result s.config.spans c.draws_at_once.result c.draws_at_once.ensures c.if-draws_at_once.true in
-    let one : s.height s.rows ≡ 1 = sym c.height_of-height.ensures ∙ once.0 in
-    let left = c.in_ok-next.ensures.drawn ∙ single-left s w h cells refl sound c.args.is_last fits.hint fits.spans once.1 one c.requires.fits.0 in
-    let lines = ap₂ (λ (a b : ℕ). a + b) c.in_ok-next.ensures.index c.height_of-height.ensures in
-    subst (IsSoundAt g.T.Drawn.told c.args.frame.now) (sym c.end_row.ensures) (record {
-      printer =
-          subst (λ n. IsSound (record s { rows = s.rows + 1; lines = n; is_ended = c.args.is_last; slots = slots_of c.push_above.new.opened }) t w h c.push_above.new.opened) (sym lines)
-          (subst (λ l. IsSound (record s { rows = s.rows + 1; lines = (s.lines + separator_height s.config s.rows) + s.height s.rows; is_ended = c.args.is_last; slots = slots_of l }) t w h l) (sym left)
-          (sound-next s w h cells refl sound c.args.is_last fits.hint fits.spans c.requires.fits.0 fits.rooms fits.rows));
-      kept = c.in_ok-next.ensures.kept;
-    })
-
-pub returns-then-draws_at_once-clause-appends : goal.returns-then-draws_at_once-clause-appends
-returns-then-draws_at_once-clause-appends g c = λ texts gives.
-    let s : Printing = now_of g.T.Drawn.told c.args.self.now in
-    let w = c.args.frame.now.width in
-    let h = c.args.frame.now.height in
-    let cells = c.args.self.now.cells in
-    let sound = c.requires.sound.printer in
-    let fits = c.requires.fits.2 in
-    let once = at-once c.height_of-height.result s.config.spans c.draws_at_once.result c.draws_at_once.ensures c.if-draws_at_once.true in
-    let one : s.height s.rows ≡ 1 = sym c.height_of-height.ensures ∙ once.0 in
-    Appends-text (single_text-is s w h cells refl sound c.args.is_last fits.hint fits.spans once.1 one texts c.begins_with_body-is_first.result c.begins_with_body-is_first.ensures _ c.in_ok-next.ensures.index)
-    (c.in_ok-push_top.ensures then (c.in_ok-next.ensures.appends then appended-as (c.in_ok-push_single_row.ensures texts gives)))
-
-pub returns-then-draws_at_once-clause-after : goal.returns-then-draws_at_once-clause-after
-returns-then-draws_at_once-clause-after g c = λ texts gives.
-    let s : Printing = now_of g.T.Drawn.told c.args.self.now in
-    let w = c.args.frame.now.width in
-    let h = c.args.frame.now.height in
-    let cells = c.args.self.now.cells in
-    let sound = c.requires.sound.printer in
-    let fits = c.requires.fits.2 in
-    let once = at-once c.height_of-height.result s.config.spans c.draws_at_once.result c.draws_at_once.ensures c.if-draws_at_once.true in
-    let one : s.height s.rows ≡ 1 = sym c.height_of-height.ensures ∙ once.0 in
-    let left = c.in_ok-next.ensures.drawn ∙ single-left s w h cells refl sound c.args.is_last fits.hint fits.spans once.1 one texts in
-    let lines = ap₂ (λ (a b : ℕ). a + b) c.in_ok-next.ensures.index c.height_of-height.ensures in
-    ap (now_of g.T.Drawn.told) c.end_row.ensures
-    ∙ ap₂ (λ (l : List (Option Placed)) (n : ℕ). record s { rows = s.rows + 1; lines = n; is_ended = c.args.is_last; slots = slots_of l }) left lines
-    ∙ after-is s w h cells refl sound c.args.is_last fits.hint fits.spans texts
 
 pub begin-requires-clause-above : goal.begin-requires-clause-above
 begin-requires-clause-above g c =
@@ -223,7 +146,7 @@ returns-clause-sound g c =
     let drawn = c.in_ok-push_lines.ensures.drawn ∙ ap (map (draw_cell (s.height s.rows))) now in
     let left = c.close.ensures ∙ ap (λ l. cells_closed s.config.spans s.rows l) drawn in
     let lines = ap₂ (λ (a b : ℕ). a + b) c.in_ok-next.ensures.index c.height_of-height.ensures in
-    subst (IsSoundAt g.T.Drawn.told c.args.frame.now) (sym c.end_row-2.ensures) (record {
+    subst (IsSoundAt g.T.Drawn.told c.args.frame.now) (sym c.end_row.ensures) (record {
       printer =
           subst (λ n. IsSound (record s { rows = s.rows + 1; lines = n; is_ended = c.args.is_last; slots = slots_of c.close.new.opened }) t w h c.close.new.opened) (sym lines)
           (subst (λ l. IsSound (record s { rows = s.rows + 1; lines = (s.lines + separator_height s.config s.rows) + s.height s.rows; is_ended = c.args.is_last; slots = slots_of l }) t w h l) (sym left)
@@ -258,6 +181,12 @@ returns-clause-after g c = λ texts gives.
     let drawn = c.in_ok-push_lines.ensures.drawn ∙ ap (map (draw_cell (s.height s.rows))) now in
     let left = c.close.ensures ∙ ap (λ l. cells_closed s.config.spans s.rows l) drawn in
     let lines = ap₂ (λ (a b : ℕ). a + b) c.in_ok-next.ensures.index c.height_of-height.ensures in
-    ap (now_of g.T.Drawn.told) c.end_row-2.ensures
+    ap (now_of g.T.Drawn.told) c.end_row.ensures
     ∙ ap₂ (λ (l : List (Option Placed)) (n : ℕ). record s { rows = s.rows + 1; lines = n; is_ended = c.args.is_last; slots = slots_of l }) left lines
     ∙ after-is s w h cells refl sound c.args.is_last fits.hint fits.spans texts
+
+pub push_single-requires-clause-single : goal.push_single-requires-clause-single
+push_single-requires-clause-single g c =
+    let s : Printing = now_of g.T.Drawn.told c.args.self.now in
+    let once = at-once c.height_of-height.result s.config.spans c.draws_at_once.result c.draws_at_once.ensures c.if-draws_at_once.true in
+    record { alone = once.1; height = sym c.height_of-height.ensures ∙ once.0 }
