@@ -14,108 +14,99 @@ mod told;
 use crate::fault::Fault;
 use pg_config::{CompactConfig, SpannedConfig};
 use pg_grid::{Misfit, PrintFault};
-use pg_layout::{Borders, ConstantDimension, NoColors};
+use pg_layout::{Borders, ConstantDimension, NoColors, VecRecords};
 use std::alloc::Global;
+
+/// The rows of the table.
+const ROWS: [(&str, &str); 2] = [("apples", "12"), ("rye bread\n(sliced)", "1")];
+
+/// What the table consists of, sizes that it fits in and sizes that it doesn't, and looks.
+#[derive(Drop)]
+struct Given {
+    alloc: Global,
+    records: VecRecords<String>,
+    wide: ConstantDimension,
+    narrow: ConstantDimension,
+    config: SpannedConfig,
+    compact: CompactConfig,
+}
 
 /// The tables of all these calls.
 pub(crate) fn tables(alloc: Global) -> Result<String, Fault> {
     let mut config = SpannedConfig::new(alloc);
     config.set_borders(Borders::ascii());
-    let compact = CompactConfig::new().set_borders(Borders::ascii());
-    let checked = checked_tables(alloc, &config, &compact)?;
-    let tested = tested_tables(alloc, &config, &compact)?;
-    let built = built_tables(alloc, &config, &compact)?;
-    let stated = stated_table(alloc, &config)?;
-    let told = told::titled_text(alloc)?;
-    Ok(format!(in alloc;
-        "checked:\n{checked}\ntested:\n{tested}\nbuilt:\n{built}\nstated:\n{stated}\ntold:\n{told}"
-    )?)
+    let given = Given {
+        alloc,
+        records: parts::records(alloc, &ROWS)?,
+        wide: parts::sizes(alloc, 9)?,
+        narrow: parts::sizes(alloc, 6)?,
+        config,
+        compact: CompactConfig::new().set_borders(Borders::ascii()),
+    };
+    let mut text = String::new(alloc);
+    push_tables(&given, &mut text)?;
+    Ok(text)
+}
+
+// Appends them all, each kind behind a line that names it.
+fn push_tables(given: &Given, text: &mut String) -> Result<(), Fault> {
+    text.push_str("checked:\n")?;
+    push_checked(given, text)?;
+    text.push_str("\ntested:\n")?;
+    push_tested(given, text)?;
+    text.push_str("\nbuilt:\n")?;
+    push_built(given, text)?;
+    text.push_str("\nstated:\nStock\n")?;
+    let wide = &given.wide;
+    stated::push_table(&given.records, &given.config, wide, NoColors, text)?;
+    text.push_str("\ntold:\n")?;
+    Ok(text.push_str(&told::titled_text(given.alloc)?)?)
 }
 
 // The tables of calls that test them, and what such a call answers where the table is too narrow.
-fn checked_tables(
-    alloc: Global,
-    config: &SpannedConfig,
-    compact: &CompactConfig,
-) -> Result<String, Fault> {
-    let records = parts::records(alloc)?;
-    let (wide, narrow) = (parts::sizes(alloc, 9)?, parts::sizes(alloc, 6)?);
-    let mut text = String::new(alloc);
-    checked::push_looked_up(&records, config, &wide, &mut text)?;
+fn push_checked(given: &Given, text: &mut String) -> Result<(), Fault> {
+    let (records, config) = (&given.records, &given.config);
+    checked::push_looked_up(records, config, &given.wide, text)?;
     text.push('\n')?;
-    checked::push_streamed(alloc, parts::records(alloc)?, config, &wide, &mut text)?;
+    let handed_over = parts::records(given.alloc, &ROWS)?;
+    checked::push_streamed(given.alloc, handed_over, config, &given.wide, text)?;
     text.push('\n')?;
-    text.push_str(checked::compact_text(alloc, &records, compact, &wide)?.as_str())?;
-    let refused = checked::push_looked_up(&records, config, &narrow, &mut text);
+    let compact = checked::compact_text(given.alloc, records, &given.compact, &given.wide)?;
+    text.push_str(&compact)?;
+    let refused = checked::push_looked_up(records, config, &given.narrow, text);
     if let Err(PrintFault::Misfit(Misfit::Room(row, column))) = refused {
-        let line = format!(in alloc; "\nno room in row {row}, column {column}")?;
-        text.push_str(line.as_str())?;
+        let line = format!(in given.alloc; "\nno room in row {row}, column {column}")?;
+        text.push_str(&line)?;
     }
-    Ok(text)
+    Ok(())
 }
 
 // Texts of tables behind a test.
-fn tested_tables(
-    alloc: Global,
-    config: &SpannedConfig,
-    compact: &CompactConfig,
-) -> Result<String, Fault> {
-    let records = parts::records(alloc)?;
-    let (wide, narrow) = (parts::sizes(alloc, 9)?, parts::sizes(alloc, 6)?);
-    let mut text = tested::text(alloc, &records, config, &wide)?;
-    push_texts(alloc, (config, compact), &wide, &mut text)?;
-    if let Some(found) = tested::text_of_first_fit(alloc, &records, config, &[narrow, wide])? {
+fn push_tested(given: &Given, text: &mut String) -> Result<(), Fault> {
+    let (alloc, wide) = (given.alloc, &given.wide);
+    text.push_str(&tested::text(alloc, &given.records, &given.config, wide)?)?;
+    text.push('\n')?;
+    let handed_over = parts::records(alloc, &ROWS)?;
+    text.push_str(&tested::streamed_text(alloc, handed_over, &given.config, wide)?)?;
+    text.push('\n')?;
+    text.push_str(&tested::compact_text(alloc, &given.records, &given.compact, wide)?)?;
+    let sizes = [&given.narrow, wide];
+    if let Some(found) = tested::text_of_first_fit(alloc, &given.records, &given.config, &sizes)? {
         text.push('\n')?;
-        text.push_str(found.as_str())?;
+        text.push_str(&found)?;
     }
-    Ok(text)
-}
-
-// Appends the texts of the streaming and the compact grid, each behind a line feed.
-fn push_texts(
-    alloc: Global,
-    (config, compact): (&SpannedConfig, &CompactConfig),
-    sizes: &ConstantDimension,
-    text: &mut String,
-) -> Result<(), Fault> {
-    text.push('\n')?;
-    let streamed = tested::streamed_text(alloc, parts::records(alloc)?, config, sizes)?;
-    text.push_str(streamed.as_str())?;
-    text.push('\n')?;
-    let records = parts::records(alloc)?;
-    text.push_str(tested::compact_text(alloc, &records, compact, sizes)?.as_str())?;
     Ok(())
 }
 
 // Tables that are built behind a test, and what stands in the place of one that is too narrow.
-fn built_tables(
-    alloc: Global,
-    config: &SpannedConfig,
-    compact: &CompactConfig,
-) -> Result<String, Fault> {
-    let records = parts::records(alloc)?;
-    let (wide, narrow) = (parts::sizes(alloc, 9)?, parts::sizes(alloc, 6)?);
-    let mut text = String::new(alloc);
-    tested::push_twice(&records, config, &wide, &mut text)?;
+fn push_built(given: &Given, text: &mut String) -> Result<(), Fault> {
+    tested::push_twice(&given.records, &given.config, &given.wide, text)?;
     text.push('\n')?;
-    tested::push_compact(&records, compact, &wide, &mut text)?;
-    for sizes in [&wide, &narrow] {
+    tested::push_compact(&given.records, &given.compact, &given.wide, text)?;
+    for sizes in [&given.wide, &given.narrow] {
         text.push('\n')?;
-        tested::push_streamed(alloc, parts::records(alloc)?, config, sizes, &mut text)?;
+        let handed_over = parts::records(given.alloc, &ROWS)?;
+        tested::push_streamed(given.alloc, handed_over, &given.config, sizes, text)?;
     }
-    Ok(text)
-}
-
-// A title, and a table whose text is known.
-fn stated_table(alloc: Global, config: &SpannedConfig) -> Result<String, Fault> {
-    let records = parts::records(alloc)?;
-    let mut text = String::from_str(alloc, "Stock\n")?;
-    stated::push_table(
-        &records,
-        config,
-        parts::sizes(alloc, 9)?,
-        NoColors,
-        &mut text,
-    )?;
-    Ok(text)
+    Ok(())
 }

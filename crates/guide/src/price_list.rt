@@ -7,6 +7,12 @@ use pg_layout::{AlignmentHorizontal, Borders, Entity, HorizontalLine, Indent, Si
 use pg_table::{Table, TableFault};
 use std::alloc::{AllocError, Global};
 
+const PRICES: [[&str; 3]; 3] = [
+    ["name", "quantity", "price"],
+    ["apples", "12", "3.50"],
+    ["rye bread\n(sliced)", "1", "14.20"],
+];
+
 // Borders and a space at both sides of each text; quantities and prices at the right.
 fn look(alloc: Global) -> Result<SpannedConfig, AllocError> {
     let (space, none) = (Indent::spaced(1), Indent::zero());
@@ -20,11 +26,10 @@ fn look(alloc: Global) -> Result<SpannedConfig, AllocError> {
 
 /// The table of the prices, with a line below its header.
 pub(crate) fn prices(alloc: Global) -> Result<String, TableFault> {
-    let rows = vec![in alloc;
-        vec![in alloc; "name", "quantity", "price"]?,
-        vec![in alloc; "apples", "12", "3.50"]?,
-        vec![in alloc; "rye bread\n(sliced)", "1", "14.20"]?,
-    ]?;
+    let mut rows = Vec::new(alloc);
+    for row in PRICES {
+        rows.push(row.to_vec(alloc)?)?;
+    }
     let table = Table::new(alloc, rows)?.with_config(look(alloc)?);
     table
         .with_header_line(HorizontalLine::sharp())?

@@ -1,4 +1,4 @@
-//! Tables of articles and prices, whose rows come from a vector, from iterators over it, from arrays
+//! Tables of articles and prices, whose rows come from a vector, from an iterator over it, from arrays
 //! and from the parts of lines.
 //!
 //! It shows the calls that take all rows at once, or rows of any kind: [`priced_lines`] has rows that
@@ -48,18 +48,6 @@ fn append_rows<D: Dimension, C: Colors>(
     stream.print_vec(rows, buf)
 }
 
-// Appends the rows that the iterator of a vector gives.
-fn append_all(
-    alloc: Global,
-    config: &SpannedConfig,
-    dimension: &EvenDimension,
-    rows: Vec<Vec<&str>>,
-    buf: &mut String,
-) -> Result<(), StreamFault> {
-    let stream = RowStream::new(alloc, config, dimension, &NoColors, COLUMNS, None)?;
-    stream.print_all(rows.into_iter(), buf)
-}
-
 // Appends those of the rows that have a price.
 fn append_priced(
     alloc: Global,
@@ -70,19 +58,6 @@ fn append_priced(
 ) -> Result<(), StreamFault> {
     let stream = RowStream::new(alloc, config, dimension, &NoColors, COLUMNS, None)?;
     stream.print_all(rows.into_iter().filter(|row| row.len() == COLUMNS), buf)
-}
-
-// Appends rows that stand beside a number.
-fn append_counted(
-    alloc: Global,
-    config: &SpannedConfig,
-    dimension: &EvenDimension,
-    rows: Vec<(u32, Vec<&str>)>,
-    buf: &mut String,
-) -> Result<(), StreamFault> {
-    let hint = Some(rows.len());
-    let stream = RowStream::new(alloc, config, dimension, &NoColors, COLUMNS, hint)?;
-    stream.print_all(rows.into_iter().map(|(_, row)| row), buf)
 }
 
 // Appends a row for each pair.
@@ -115,31 +90,40 @@ fn append_lines(
     stream.finish(buf)
 }
 
-// Rows of vectors.
+// Rows of these cells.
+fn rows_of(alloc: Global, rows: &[&[&'static str]]) -> Result<Vec<Vec<&'static str>>, AllocError> {
+    let mut list = Vec::new(alloc);
+    for row in rows {
+        list.push(row.to_vec(alloc)?)?;
+    }
+    Ok(list)
+}
+
+// Rows of vectors, of which one has no price. Dashes stand behind each list.
 fn append_vectors(
     alloc: Global,
     config: &SpannedConfig,
     dimension: &EvenDimension,
     buf: &mut String,
 ) -> Result<(), StreamFault> {
-    let bread = vec![in alloc; "bread", "2.10"]?;
-    let milk = vec![in alloc; "milk", "0.95"]?;
-    let rows = vec![in alloc; bread, milk]?;
+    let rows = rows_of(alloc, &[&["bread", "2.10"], &["milk", "0.95"]])?;
     append_rows(alloc, config, dimension, &NoColors, rows, buf)?;
     buf.push_str("\n--\n")?;
-    let flour = vec![in alloc; "flour", "1.15"]?;
-    let yeast = vec![in alloc; "yeast", "0.70"]?;
-    append_all(alloc, config, dimension, vec![in alloc; flour, yeast]?, buf)?;
-    buf.push_str("\n--\n")?;
-    let salt = vec![in alloc; "salt", "0.40"]?;
-    let rows = vec![in alloc; salt, vec![in alloc; "sugar"]?]?;
-    append_priced(alloc, config, dimension, rows, buf)?;
-    buf.push_str("\n--\n")?;
-    let rice = vec![in alloc; "rice", "1.80"]?;
-    append_counted(alloc, config, dimension, vec![in alloc; (3, rice)]?, buf)
+    for rows in PRICED {
+        append_priced(alloc, config, dimension, rows_of(alloc, rows)?, buf)?;
+        buf.push_str("\n--\n")?;
+    }
+    Ok(())
 }
 
-// Rows of arrays and of lines, of which one has no price.
+const PRICED: [&[&[&str]]; 3] = [
+    &[&["flour", "1.15"], &["yeast", "0.70"]],
+    &[&["salt", "0.40"], &["sugar"]],
+    &[&["rice", "1.80"]],
+];
+
+// Rows of arrays and of lines, of which one has no price, and rows of which one doesn't fit, and is left
+// out.
 fn append_parts(
     alloc: Global,
     config: &SpannedConfig,
@@ -151,37 +135,26 @@ fn append_parts(
     buf.push_str("\n--\n")?;
     append_lines(alloc, config, dimension, "eggs,3.10\nbeans,1.05", buf)?;
     buf.push_str("\n--\n")?;
-    append_priced_lines(alloc, config, dimension, "tea,2.40\njam,3.20\nfigs", buf)
+    append_priced_lines(alloc, config, dimension, "tea,2.40\njam,3.20\nfigs", buf)?;
+    buf.push_str("\n--\n")?;
+    let rows = rows_of(alloc, TESTED)?;
+    append_fitting(alloc, config, dimension, rows, &["sum", "6.95"], buf)
 }
 
-// Rows of which one doesn't fit, and is left out.
-fn append_tested(
-    alloc: Global,
-    config: &SpannedConfig,
-    dimension: &EvenDimension,
-    buf: &mut String,
-) -> Result<(), StreamFault> {
-    let honey = vec![in alloc; "honey", "4.75"]?;
-    let berries = vec![in alloc; "strawberries", "5.50"]?;
-    let plums = vec![in alloc; "plums", "2.20"]?;
-    let rows = vec![in alloc; honey, berries, plums]?;
-    let sum = vec![in alloc; "sum", "6.95"]?;
-    append_fitting(alloc, config, dimension, (rows, sum), buf)
-}
+const TESTED: &[&[&str]] = &[
+    &["honey", "4.75"],
+    &["strawberries", "5.50"],
+    &["plums", "2.20"],
+];
 
 /// All of them, parted by dashes.
 pub(crate) fn lists(alloc: Global) -> Result<String, StreamFault> {
     let mut config = SpannedConfig::new(alloc);
     set_look(&mut config)?;
-    let dimension = EvenDimension {
-        widths: vec![in alloc; 10, 8]?,
-        height: 1,
-    };
+    let widths = vec![in alloc; 10, 8]?;
+    let dimension = EvenDimension { widths, height: 1 };
     let mut buf = String::new(alloc);
     append_vectors(alloc, &config, &dimension, &mut buf)?;
-    buf.push_str("\n--\n")?;
     append_parts(alloc, &config, &dimension, &mut buf)?;
-    buf.push_str("\n--\n")?;
-    append_tested(alloc, &config, &dimension, &mut buf)?;
     Ok(buf)
 }

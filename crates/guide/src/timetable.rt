@@ -11,12 +11,12 @@ use std::alloc::{AllocError, Global};
 
 /// The lessons of two days, as a table.
 pub(crate) fn week(alloc: Global) -> Result<String, PrintFault> {
-    let records = lessons(alloc)?;
-    let dimension = sizes(alloc)?;
-    let colors = colors(alloc)?;
     let mut config = SpannedConfig::new(alloc);
     set_look(&mut config)?;
     set_spans(&mut config)?;
+    let records = lessons(alloc)?;
+    let dimension = sizes(alloc)?;
+    let colors = colors(alloc)?;
     PeekableGrid::new(records, &config, dimension, colors).text(alloc)
 }
 

@@ -23,23 +23,24 @@ pub(crate) fn print_counts<R: Read + Drop>(
 ) -> Result<(), Fault> {
     let mut config = SpannedConfig::new(alloc);
     set_look(&mut config)?;
-    let dimension = EvenDimension {
-        widths: vec![in alloc; 5, 20]?,
-        height: 1,
-    };
+    let widths = vec![in alloc; 5, 20]?;
+    let dimension = EvenDimension { widths, height: 1 };
     let mut stream = RowStream::new(alloc, &config, &dimension, &NoColors, 2, None)?;
     let mut buf = String::new(alloc);
     for line in BufReader::new(alloc, input)?.lines(alloc) {
-        let line = line?;
-        let words = line.split_whitespace().count();
-        let row = vec![in alloc; format!(in alloc; "{words}")?, line]?;
-        stream = stream.push(row, &mut buf)?;
+        stream = stream.push(counted(alloc, line?)?, &mut buf)?;
         print!(rt; "{buf}")?;
         buf.clear();
     }
     stream.finish(&mut buf)?;
-    println!(rt; "{buf}")?;
-    Ok(())
+    Ok(println!(rt; "{buf}")?)
+}
+
+// The number of a line's words, and the line.
+fn counted(alloc: Global, line: String) -> Result<Vec<String>, AllocError> {
+    let words = line.split_whitespace().count();
+    let count = format!(in alloc; "{words}")?;
+    Ok(vec![in alloc; count, line]?)
 }
 
 // Verticals, a space at each side of a text, and numbers on the right.

@@ -4,9 +4,8 @@ use crate::fault::Fault;
 use pg_layout::{ConstantDimension, VecRecords};
 use std::alloc::Global;
 
-/// Two rows of a text and a number.
-pub(crate) fn records(alloc: Global) -> Result<VecRecords<String>, Fault> {
-    let rows = [("apples", "12"), ("rye bread\n(sliced)", "1")];
+/// Rows of a text and a number.
+pub(crate) fn records(alloc: Global, rows: &[(&str, &str)]) -> Result<VecRecords<String>, Fault> {
     let mut cells = Vec::new(alloc);
     for (name, count) in rows {
         let name = String::from_str(alloc, name)?;

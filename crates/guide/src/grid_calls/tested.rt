@@ -47,7 +47,7 @@ pub(crate) fn text_of_first_fit(
     alloc: Global,
     records: &VecRecords<String>,
     config: &SpannedConfig,
-    dimensions: &[ConstantDimension],
+    dimensions: &[&ConstantDimension],
 ) -> Result<Option<String>, AllocError> {
     for dimension in dimensions {
         let grid = PeekableGrid::new(records, config, dimension, &NoColors);

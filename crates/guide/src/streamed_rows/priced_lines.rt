@@ -7,7 +7,7 @@ use pg_stream::{RowStream, RowsFault, StreamFault};
 use std::alloc::{AllocFailed, Global};
 
 /// Why a line is no row.
-#[derive(Debug, Clone, Copy, PartialEq, Eq)]
+#[derive(Clone, Copy)]
 enum LineFault {
     /// No comma parts a price from the article.
     NoPrice,

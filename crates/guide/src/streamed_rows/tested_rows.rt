@@ -12,7 +12,8 @@ pub(crate) fn append_fitting<'a>(
     alloc: Global,
     config: &SpannedConfig,
     dimension: &EvenDimension,
-    (rows, last): (Vec<Vec<&'a str>>, Vec<&'a str>),
+    rows: Vec<Vec<&'a str>>,
+    last: &[&'a str],
     buf: &mut String,
 ) -> Result<(), StreamFault> {
     let mut printer = RowPrinter::try_new(alloc, config, dimension, &NoColors, COLUMNS, None)?;
@@ -23,7 +24,7 @@ pub(crate) fn append_fitting<'a>(
             Err(RowFault::Memory) => return Err(StreamFault::Memory),
         };
     }
-    append_last(printer, last, buf)
+    append_last(printer, last.to_vec(alloc)?, buf)
 }
 
 // Appends the last row behind a test of its own, and the line below it.
