@@ -1,6 +1,7 @@
 //! The arguments of the program.
 
 use clap::{Arg, ArgAction, ArgMatches, Command};
+use pg_layout::AlignmentHorizontal;
 use ruled_view::{Look, Options};
 use std::alloc::{AllocError, Global};
 use std::{env, io};
@@ -8,6 +9,8 @@ use std::{env, io};
 static LOOKS: [&str; 9] = [
     "sharp", "rounded", "modern", "extended", "ascii", "dots", "psql", "markdown", "blank",
 ];
+
+static SIDES: [&str; 5] = ["auto", "left", "right", "centre", "center"];
 
 /// What is to be shown.
 #[derive(Drop)]
@@ -77,12 +80,25 @@ fn with_shown<'a>(alloc: Global, command: Command<'a>) -> Result<Command<'a>, Al
     let look = option(alloc, "look", "LOOK", "What the table looks like")
         .value_parser(LOOKS.as_slice())
         .default_value("sharp");
+    let align = option(
+        alloc,
+        "align",
+        "SIDES",
+        "The side of each column that is shown: left, right, centre, or auto, which is right where all texts below the header are numbers; one word alone is for all",
+    )
+    .value_parser(SIDES.as_slice())
+    .value_delimiter(',');
     let raw = flag(
         alloc,
         "raw",
         "Control characters are sent as they are, and not made visible",
     );
-    command.arg(columns)?.arg(head)?.arg(look)?.arg(raw)
+    command
+        .arg(columns)?
+        .arg(head)?
+        .arg(look)?
+        .arg(align)?
+        .arg(raw)
 }
 
 fn command<'a>(alloc: Global) -> Result<Command<'a>, AllocError> {
@@ -138,6 +154,28 @@ fn names_of(alloc: Global, words: Option<&[&str]>) -> Result<Vec<String>, AllocE
     Ok(names)
 }
 
+// The side that a word names, where it names one.
+fn side_of(word: &str) -> Option<AlignmentHorizontal> {
+    match word {
+        "left" => Some(AlignmentHorizontal::Left),
+        "right" => Some(AlignmentHorizontal::Right),
+        "centre" | "center" => Some(AlignmentHorizontal::Center),
+        _ => None,
+    }
+}
+
+// The sides that were listed.
+fn sides_of(
+    alloc: Global,
+    words: Option<&[&str]>,
+) -> Result<Vec<Option<AlignmentHorizontal>>, AllocError> {
+    let mut sides = Vec::new(alloc);
+    for word in words.unwrap_or(&[]) {
+        sides.push(side_of(word))?;
+    }
+    Ok(sides)
+}
+
 // What was asked for, or `None` where the delimiter isn't one.
 fn table_of(alloc: Global, found: &ArgMatches) -> Result<Option<Wanted>, AllocError> {
     let name = found.get_str("file").filter(|name| *name != "-");
@@ -157,6 +195,7 @@ fn table_of(alloc: Global, found: &ArgMatches) -> Result<Option<Wanted>, AllocEr
         look: look_of(found.get_str("look")),
         has_header: !found.get_flag("no-header"),
         columns: names_of(alloc, found.get_strs("columns"))?,
+        sides: sides_of(alloc, found.get_strs("align"))?,
         head: found.get_one::<u32>("head"),
         is_raw: found.get_flag("raw"),
     };

@@ -26,6 +26,7 @@ impl Case {
             look: Look::Sharp,
             has_header: true,
             columns: Vec::new(alloc),
+            sides: Vec::new(alloc),
             head: None,
             is_raw: false,
         };

@@ -1,5 +1,6 @@
 //! What the lines of a case say.
 
+use pg_layout::AlignmentHorizontal;
 use ruled_view::{Look, Options};
 use std::alloc::{AllocError, Global};
 
@@ -19,6 +20,17 @@ fn look_of(name: &str) -> Option<Look> {
     }
 }
 
+// The side that a word names.
+fn side_of(word: &str) -> Option<Option<AlignmentHorizontal>> {
+    match word {
+        "auto" => Some(None),
+        "left" => Some(Some(AlignmentHorizontal::Left)),
+        "right" => Some(Some(AlignmentHorizontal::Right)),
+        "centre" => Some(Some(AlignmentHorizontal::Center)),
+        _ => None,
+    }
+}
+
 /// Sets an option, and answers whether there is one of this name with this value.
 pub(crate) fn set_option(
     alloc: Global,
@@ -34,6 +46,10 @@ pub(crate) fn set_option(
         "head" => options.head = value.parse().ok(),
         "look" => match look_of(value) {
             Some(look) => options.look = look,
+            None => return Ok(false),
+        },
+        "align" => match side_of(value) {
+            Some(side) => options.sides.push(side)?,
             None => return Ok(false),
         },
         "column" => options.columns.push(String::from_str(alloc, value)?)?,

@@ -1,5 +1,6 @@
 mod Even
 mod Fields
+mod MoreColumns
 mod Shown
 mod Tables
 mod Views

@@ -1,4 +1,6 @@
 pub mod Columns
 pub mod Faults
 pub mod Look
+pub mod Numbers
+pub mod Sides
 pub mod View

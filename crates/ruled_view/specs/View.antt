@@ -18,6 +18,7 @@ use Rattle.ruled_csv.specs.Faults.{rows_fault}
 use Rattle.ruled_view.specs.Columns.{column_fault, places_of}
 use Rattle.ruled_view.specs.Faults.{fault_of_rows}
 use Rattle.ruled_view.specs.Look.{borders_of, header_line_of}
+use Rattle.ruled_view.specs.Sides.{side_of, with_sides}
 use Rattle.ruled_view.specs.declared.fault.Fault.{Fault}
 use Rattle.ruled_view.specs.declared.fault.Fault.TheVariants.{Totals}
 use Rattle.ruled_view.specs.declared.options.Look.{Look}
@@ -69,20 +70,30 @@ with_line (Some line) rows columns config = with_header_line line rows columns c
 abbrev pub line_in : Options → Option (HorizontalLine ℕ)
 line_in options = if options.has_header then header_line_of options.look else None
 
-abbrev pub config_of : Options → ℕ → ℕ → Config
-config_of options rows columns = with_line (line_in options) rows columns (look_config options.look)
+-- each column at its side
+abbrev pub sided_config : Options → List (List Text) → Config
+sided_config options rows =
+    let config : Config = look_config options.look in
+    record config { alignment_horizontal = with_sides (side_of options.has_header options.sides.items rows) (columns_of rows) config.alignment_horizontal }
 
--- the table of rows that are shown
-abbrev pub table_of : Options → List (List Text) → Table
-table_of options rows = natural_table (config_of options (length rows) (columns_of rows)) rows (columns_of rows) (λ place. None)
+-- a table of rows
+abbrev pub table_with : Config → Option (HorizontalLine ℕ) → List (List Text) → Table
+table_with config line rows = natural_table (with_line line (length rows) (columns_of rows) config) rows (columns_of rows) (λ place. None)
 
 -- its picture, and a line feed; of no rows nothing
-abbrev pub text_of : Options → List (List Text) → Text
-text_of options rows = if length rows == 0 then [] else picture Known (table_of options rows) ++ 10 ∷ []
+abbrev pub text_with : Config → Option (HorizontalLine ℕ) → List (List Text) → Text
+text_with config line rows = if length rows == 0 then [] else picture Known (table_with config line rows) ++ 10 ∷ []
 
 -- what is wrong with its sizes
+abbrev pub fault_with : Config → Option (HorizontalLine ℕ) → List (List Text) → Option Fault
+fault_with config line rows = if is_some (fault_of (table_with config line rows)) then Some Totals else None
+
+-- the same of the rows that are shown
+abbrev pub text_of : Options → List (List Text) → Text
+text_of options rows = text_with (sided_config options rows) (line_in options) rows
+
 abbrev pub totals_fault : Options → List (List Text) → Option Fault
-totals_fault options rows = if is_some (fault_of (table_of options rows)) then Some Totals else None
+totals_fault options rows = fault_with (sided_config options rows) (line_in options) rows
 
 -- ---- bytes
 
@@ -98,5 +109,5 @@ view_fault options bytes =
     (totals_fault options (shown_rows options (rows_of options.delimiter bytes))))
 
 -- what a table of rows is made of
-abbrev pub table_parts : {X : Type 0} → Options → List (List X) → Parts X
-table_parts options rows = record { rows = rows; config = config_of options (length rows) (columns_of rows); colors = [] }
+abbrev pub table_parts : {X : Type 0} → Config → Option (HorizontalLine ℕ) → List (List X) → Parts X
+table_parts config line rows = record { rows = rows; config = with_line line (length rows) (columns_of rows) config; colors = [] }

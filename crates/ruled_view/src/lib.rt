@@ -3,9 +3,11 @@
 
 mod columns;
 mod fault;
+mod numbers;
 mod options;
 mod program;
 mod rows;
+mod sides;
 mod table;
 
 pub use crate::fault::Fault;

@@ -3,7 +3,7 @@
 ghost use Rattle.std.specs.Prelude.{◌≡◌};
 ghost use Rattle.ruled_view.specs.Look as spec;
 
-use pg_layout::{Borders, HorizontalLine};
+use pg_layout::{AlignmentHorizontal, Borders, HorizontalLine};
 
 /// What a table looks like: the borders of this name. Those that have no lines between all rows have
 /// one below a header, except for `Blank`.
@@ -63,6 +63,10 @@ pub struct Options {
     /// The columns that are shown, in this order, by their names in row 0. Where no name is listed, all
     /// are shown.
     pub columns: Vec<String>,
+    /// At which side of its cells each column stands that is shown; one side alone is that of all. A
+    /// column of which nothing is said, or `None`, stands right where each text below the header is a
+    /// number or blank, and else left.
+    pub sides: Vec<Option<AlignmentHorizontal>>,
     /// How many rows are shown at most, besides a header.
     pub head: Option<u32>,
     /// Whether control characters are sent as they are.

@@ -6,7 +6,7 @@ ghost use Rattle.pg_picture.specs.Picture.{picture};
 ghost use Rattle.pg_picture.specs.Table.{Known};
 ghost use Rattle.pg_table.specs.Printing.{drawn, fault_of};
 ghost use Rattle.ruled_view.specs.Faults.{Tells};
-ghost use Rattle.ruled_view.specs.View.{line_in, look_config, table_parts, text_of, totals_fault, view_fault, view_text};
+ghost use Rattle.ruled_view.specs.View.{fault_with, line_in, look_config, sided_config, table_parts, text_of, text_with, totals_fault, view_fault, view_text};
 ghost use Rattle.ruled_view.specs.declared.fault.Fault.{Fault};
 ghost use Rattle.pg_table.specs.declared.fault.TableFault.{TableFault};
 
@@ -14,6 +14,7 @@ use crate::columns::places_of;
 use crate::fault::Fault;
 use crate::options::{Look, Options};
 use crate::rows::shown_rows;
+use crate::sides::set_sides;
 use pg_config::SpannedConfig;
 use pg_layout::{Entity, HorizontalLine, Indent, Sides};
 use pg_table::{Table, TableFault};
@@ -42,19 +43,32 @@ fn line_in(options: &Options) -> Option<HorizontalLine<char>>
     }
 }
 
-// The table of rows of equal length.
-fn table_of(
+// What the table of these rows looks like, but for that line.
+fn sided_config(
     alloc: Global,
     options: &Options,
+    rows: &[Vec<String>],
+) -> Result<SpannedConfig, AllocError>
+    ensures { IfOk result (λ config. config ≡ sided_config options.now (map (λ row. map string_bytes row.items) rows.now)) }
+{
+    let mut config = look_config(alloc, options.look)?;
+    set_sides(&mut config, options.has_header, &options.sides, rows)?;
+    Ok(config)
+}
+
+// The table of rows of equal length, with this line below row 0.
+fn table_with(
+    alloc: Global,
+    config: SpannedConfig,
+    line: Option<HorizontalLine<char>>,
     rows: Vec<Vec<String>>,
 ) -> Result<Table<String>, TableFault>
     requires even { ragged_row (map (λ row. row.items) rows.items) ≡ None }
-    ensures parts { IfOk result (λ table. table ≡ table_parts options.now (map (λ row. row.items) rows.items)) }
+    ensures parts { IfOk result (λ table. table ≡ table_parts config line (map (λ row. row.items) rows.items)) }
     ensures memory { (fault : TableFault) → result ≡ Err fault → fault ≡ TableFault.Memory }
 {
-    let config = look_config(alloc, options.look)?;
     let table = Table::new(alloc, rows)?.with_config(config);
-    match line_in(options) {
+    match line {
         Some(line) => table.with_header_line(line),
         None => Ok(table),
     }
@@ -81,17 +95,32 @@ fn picture_of(alloc: Global, table: &Table<String>) -> Result<String, Fault>
     Ok(text)
 }
 
-// The text of the table of rows of equal length.
+// The text of the table of rows of equal length, with this line below row 0.
+fn text_with(
+    alloc: Global,
+    config: SpannedConfig,
+    line: Option<HorizontalLine<char>>,
+    rows: Vec<Vec<String>>,
+) -> Result<String, Fault>
+    requires even { ragged_row (map (λ row. row.items) rows.items) ≡ None }
+    ensures text { IfOk result (λ text. string_bytes text ≡ text_with config line (map (λ row. map string_bytes row.items) rows.items)) }
+    ensures fault { Tells (fault_with config line (map (λ row. map string_bytes row.items) rows.items)) result }
+{
+    if rows.is_empty() {
+        return Ok(String::new(alloc));
+    }
+    let table = table_with(alloc, config, line, rows).map_err(fault_in)?;
+    picture_of(alloc, &table)
+}
+
+// The text of the table of the rows that are shown.
 fn text_of(alloc: Global, options: &Options, rows: Vec<Vec<String>>) -> Result<String, Fault>
     requires even { ragged_row (map (λ row. row.items) rows.items) ≡ None }
     ensures text { IfOk result (λ text. string_bytes text ≡ text_of options.now (map (λ row. map string_bytes row.items) rows.items)) }
     ensures fault { Tells (totals_fault options.now (map (λ row. map string_bytes row.items) rows.items)) result }
 {
-    if rows.is_empty() {
-        return Ok(String::new(alloc));
-    }
-    let table = table_of(alloc, options, rows).map_err(fault_in)?;
-    picture_of(alloc, &table)
+    let config = sided_config(alloc, options, &rows)?;
+    text_with(alloc, config, line_in(options), rows)
 }
 
 /// The text of the table of the rows that bytes of separated values hold, and a line feed behind it; of

@@ -1,30 +1,20 @@
-use Rattle.std.proofs.Common.{◌≡◌, ◌∙◌, ◌∷◌, ◌++◌, [], length, string_bytes, Ok, true, false, ap, subst, rules}
-use Rattle.std.specs.Prelude.{◌==◌, IfOk, Some, None, is_some, if◌then◌else◌}
+use Rattle.std.proofs.Common.{◌≡◌, ◌∙◌, ℕ, List, map, string_bytes, Option, ap, subst, rules}
 use Rattle.pg_layout.specs.Text.{Text}
-use Rattle.pg_picture.specs.Picture.{picture}
-use Rattle.pg_picture.specs.Table.{Known, Table}
-use Rattle.pg_table.specs.Printing.{drawn, fault_of}
+use Rattle.pg_layout.specs.declared.borders.HorizontalLine.{HorizontalLine}
+use Rattle.pg_config.specs.Config.{Config}
 use Rattle.ruled_view.specs.Faults.{Tells}
-use Rattle.ruled_view.specs.declared.fault.Fault.TheVariants.{Totals}
-use Rattle.ruled_view.proofs.Tables.{table_drawn, text_printed, totals_empty}
+use Rattle.ruled_view.specs.View.{fault_with, sided_config, totals_fault}
+use Rattle.ruled_view.specs.declared.fault.Fault.{Fault}
 use Rattle.ruled_view.proofs.table.text_of.Goals as goal
-
-pub returns-then-is_empty-clause-fault : goal.returns-then-is_empty-clause-fault
-returns-then-is_empty-clause-fault c =
-    let none : (length c.args.rows.items == 0) ≡ true = search rules in
-    totals_empty string_bytes (λ row. row.items) c.args.options.now c.args.rows.items none
-
-pub returns-clause-text : goal.returns-clause-text
-returns-clause-text c =
-    let some : (length c.args.rows.items == 0) ≡ false = search rules in
-    let made : c.table_of.result ≡ Ok c.in_ok-table.table = search rules in
-    let parts = rw made at c.table_of.ensures.parts in
-    let is = ap (λ table. picture Known (drawn string_bytes table) ++ 10 ∷ []) parts ∙ text_printed string_bytes (λ row. row.items) c.args.options.now c.args.rows.items some in
-    subst (λ (shown : Text). IfOk c.picture_of.result (λ text. string_bytes text ≡ shown)) is c.picture_of.ensures.text
 
 pub returns-clause-fault : goal.returns-clause-fault
 returns-clause-fault c =
-    let made : c.table_of.result ≡ Ok c.in_ok-table.table = search rules in
-    let parts = rw made at c.table_of.ensures.parts in
-    let is = ap (drawn string_bytes) parts ∙ table_drawn string_bytes (λ row. row.items) c.args.options.now c.args.rows.items in
-    subst (λ (table : Table). Tells (if is_some (fault_of table) then Some Totals else None) c.picture_of.result) is c.picture_of.ensures.fault
+    let options = c.args.options.now in
+    let texts : List (List Text) = map (λ row. map string_bytes row.items) c.args.rows.items in
+    let rows : c.deref.result.now ≡ c.args.rows.items = search rules in
+    let config : c.in_ok-config.config ≡ sided_config options texts = rw rows at c.in_ok-config.ensures in
+    let is : fault_with c.in_ok-config.config c.line_in.result texts ≡ totals_fault options texts =
+    ap (λ (config : Config). fault_with config c.line_in.result texts) config
+    ∙ ap (λ (line : Option (HorizontalLine ℕ)). fault_with (sided_config options texts) line texts) c.line_in.ensures
+    in
+    subst (λ (fault : Option Fault). Tells fault c.text_with.result) is c.text_with.ensures.fault
