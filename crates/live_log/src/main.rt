@@ -34,7 +34,8 @@ fn main(rt: HostRuntime) -> Result<()> {
     let mut stream: Rows<'_> = LiveStream::new(alloc, &config, &dimension, &NoColors, 2)?;
     let mut buf = String::new(alloc);
     for line in BufReader::new(alloc, rt.stdin())?.lines(alloc) {
-        push_message(&mut stream, alloc, &visible(alloc, &line?)?, &mut buf)?;
+        let line = visible(alloc, &line?)?;
+        push_message(&mut stream, alloc, &line, &mut buf)?;
         print!(rt; "{buf}")?;
         buf.clear();
     }
@@ -50,8 +51,13 @@ fn push_message(rows: &mut Rows<'_>, alloc: Global, line: &str, buf: &mut String
     let message = wrap(alloc, message, WIDTHS.1, Breaking::BetweenWords)?;
     let mut first = time.as_str();
     for part in get_lines(&message) {
-        rows.push_lent(&[first, part], buf)?;
+        push_row(rows, first, part, buf)?;
         first = "";
     }
     Ok(())
+}
+
+// A row of these two texts.
+fn push_row<'t>(rows: &mut Rows<'_>, time: &'t str, part: &'t str, buf: &mut String) -> Result<()> {
+    Ok(rows.push_lent(&[time, part], buf)?)
 }
