@@ -18,9 +18,6 @@ use std::io::{BufRead, BufReader};
 /// How wide a time and a message are, in terminal columns.
 const WIDTHS: (usize, usize) = (5, 24);
 
-/// The rows that are seen. Their cells are lent one row at a time, so none of this kind is ever held.
-type Rows<'a> = LiveStream<'a, &'a str, EvenDimension, NoColors>;
-
 fn main(rt: HostRuntime) -> Result<()> {
     let alloc = rt.alloc();
     let (space, none) = (Indent::spaced(1), Indent::zero());
@@ -31,11 +28,12 @@ fn main(rt: HostRuntime) -> Result<()> {
         widths: vec![in alloc; WIDTHS.0 + 2, WIDTHS.1 + 2]?,
         height: 1,
     };
-    let mut stream: Rows<'_> = LiveStream::new(alloc, &config, &dimension, &NoColors, 2)?;
+    let mut stream = LiveStream::new(alloc, &config, &dimension, &NoColors, 2)?;
     let mut buf = String::new(alloc);
     for line in BufReader::new(alloc, rt.stdin())?.lines(alloc) {
-        let line = visible(alloc, &line?)?;
-        push_message(&mut stream, alloc, &line, &mut buf)?;
+        for row in rows_of(alloc, &visible(alloc, &line?)?)? {
+            stream.push(row, &mut buf)?;
+        }
         print!(rt; "{buf}")?;
         buf.clear();
     }
@@ -45,19 +43,14 @@ fn main(rt: HostRuntime) -> Result<()> {
 }
 
 // A row for each line that a message takes. Its time stands before the first space.
-fn push_message(rows: &mut Rows<'_>, alloc: Global, line: &str, buf: &mut String) -> Result<()> {
+fn rows_of(alloc: Global, line: &str) -> Result<Vec<Vec<String>>> {
     let (time, message) = line.split_once(' ').unwrap_or(("", line));
-    let time = cut(alloc, time, WIDTHS.0, "…")?;
+    let mut time = cut(alloc, time, WIDTHS.0, "…")?;
     let message = wrap(alloc, message, WIDTHS.1, Breaking::BetweenWords)?;
-    let mut first = time.as_str();
+    let mut rows = Vec::new(alloc);
     for part in get_lines(&message) {
-        push_row(rows, first, part, buf)?;
-        first = "";
+        rows.push(vec![in alloc; time, String::from_str(alloc, part)?]?)?;
+        time = String::new(alloc);
     }
-    Ok(())
-}
-
-// A row of these two texts.
-fn push_row<'t>(rows: &mut Rows<'_>, time: &'t str, part: &'t str, buf: &mut String) -> Result<()> {
-    Ok(rows.push_lent(&[time, part], buf)?)
+    Ok(rows)
 }

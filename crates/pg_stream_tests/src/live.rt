@@ -118,8 +118,10 @@ fn a_lent_row_is_gone_when_the_next_one_comes(rt: HostRuntime) -> Result<(), Fai
     };
     let mut buf = String::new(alloc);
     for text in ["1", "2"] {
-        let number = String::from_str(alloc, text)?;
-        let cells = [number.as_str(), "x"];
+        let cells = [
+            String::from_str(alloc, text)?,
+            String::from_str(alloc, "x")?,
+        ];
         assert_same(&rt, stream.push_lent(&cells, &mut buf), Ok(()));
     }
     assert_same(
