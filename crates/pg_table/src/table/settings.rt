@@ -1,0 +1,111 @@
+//! The settings of a table: what it was told, and how it is told by reference.
+
+ghost use Rattle.std.specs.Prelude.{◌≡◌, Err, IfOk, OnErr, OnOk};
+ghost use Rattle.pg_config.specs.Settings.{with_setting};
+
+use crate::fault::TableFault;
+use crate::table::Table;
+use pg_config::SpannedConfig;
+use pg_layout::{AlignmentHorizontal, Borders, ColorsMap, Entity, Indent, Sides};
+use std::alloc::{AllocError, Allocator};
+
+impl<T, A: Allocator> Table<T, A> {
+    /// What the table was told: borders, paddings, alignments, spans and all else but colours of cells.
+    pub fn config(&self) -> &SpannedConfig<A>
+        ensures { result.now ≡ self.now.config }
+    {
+        &self.config
+    }
+
+    /// The colours of the cells.
+    pub fn colors(&self) -> &ColorsMap<A>
+        ensures { result.now ≡ self.now.colors }
+    {
+        &self.colors
+    }
+
+    /// Tells the table all that this configuration was told, in place of all that it was told itself
+    /// ([`Table::with_config`]). Takes no memory.
+    pub fn set_config(&mut self, config: SpannedConfig<A>)
+        ensures { self.new ≡ record self.old { config = config } }
+    {
+        self.config = config;
+    }
+
+    /// Gives the cells these colours, in place of all colours that they had ([`Table::with_colors`]).
+    /// Takes no memory.
+    pub fn set_colors(&mut self, colors: ColorsMap<A>)
+        ensures { self.new ≡ record self.old { colors = colors } }
+    {
+        self.colors = colors;
+    }
+
+    /// Gives the table these borders ([`Table::with_borders`]). Takes no memory.
+    pub fn set_borders(&mut self, borders: Borders<char>)
+        ensures { self.new ≡ record self.old { config = record self.old.config { borders = borders } } }
+    {
+        self.config.set_borders(borders);
+    }
+
+    /// Gives all cells this padding ([`Table::with_padding`]). Takes no memory.
+    pub fn set_padding(&mut self, padding: Sides<Indent>)
+    where
+        A: Clone,
+        ensures { self.new ≡ record self.old { config = record self.old.config { padding = with_setting Entity.Global padding self.old.config.padding } } }
+    {
+        self.config.set_padding(Entity::Global, padding).unwrap();
+    }
+
+    /// Puts the texts of all cells at this side ([`Table::with_alignment`]). Takes no memory.
+    pub fn set_alignment(&mut self, alignment: AlignmentHorizontal)
+    where
+        A: Clone,
+        ensures { self.new ≡ record self.old { config = record self.old.config { alignment_horizontal = with_setting Entity.Global alignment self.old.config.alignment_horizontal } } }
+    {
+        self.config
+            .set_alignment_horizontal(Entity::Global, alignment)
+            .unwrap();
+    }
+
+    /// Puts the texts of a column, counted from 0, at this side. Of a cell the latest call counts, so a
+    /// later [`Table::set_alignment`] takes it away; a column that the table hasn't changes nothing
+    /// that is drawn.
+    ///
+    /// Takes memory for the column; where that is refused, nothing changes.
+    pub fn set_column_alignment(
+        &mut self,
+        column: usize,
+        alignment: AlignmentHorizontal,
+    ) -> Result<(), AllocError>
+    where
+        A: Clone,
+        ensures ok { OnOk result (self.new ≡ record self.old { config = record self.old.config { alignment_horizontal = with_setting (Entity.Column column) alignment self.old.config.alignment_horizontal } }) }
+        ensures err { OnErr result (self.new ≡ self.old) }
+    {
+        self.config
+            .set_alignment_horizontal(Entity::Column(column), alignment)
+    }
+
+    /// The same table with the texts of a column at this side ([`Table::set_column_alignment`]). Where
+    /// memory is refused the table is let go.
+    ///
+    /// ```text
+    /// let table = table.with_column_alignment(1, AlignmentHorizontal::Right)?;
+    /// ```
+    pub fn with_column_alignment(
+        mut self,
+        column: usize,
+        alignment: AlignmentHorizontal,
+    ) -> Result<Table<T, A>, TableFault>
+    where
+        T: Drop,
+        A: Clone,
+        ensures ok { IfOk result (λ table. table ≡ record self { config = record self.config { alignment_horizontal = with_setting (Entity.Column column) alignment self.config.alignment_horizontal } }) }
+        ensures memory { (fault : TableFault) → result ≡ Err fault → fault ≡ TableFault.Memory }
+    {
+        match self.set_column_alignment(column, alignment) {
+            Ok(()) => Ok(self),
+            Err(error) => Err(error.into()),
+        }
+    }
+}
