@@ -17,3 +17,10 @@ pub mod RoomOfNeeds
 pub mod ShownCells
 pub mod TotalsOfSizes
 pub mod CellsAndSizes
+pub mod TrimmedWidths
+pub mod FittedTexts
+pub mod LeastColumns
+pub mod PlainWidths
+pub mod FittedColumns
+pub mod FittedPlaces
+pub mod FitFaults

@@ -2,18 +2,24 @@
 #![tactic(auto)]
 
 mod fault;
+mod fitted;
 mod laws;
 mod measured;
+mod narrowing;
 mod natural;
 mod needs;
+mod overflow;
 mod sizes;
 mod style;
 mod table;
 
 pub use crate::fault::TableFault;
+pub use crate::fitted::FittedTable;
 pub use crate::laws::{
     ascii_borders_are_narrow, columns_are_widened_as_needed, natural_tables_have_room,
 };
 pub use crate::natural::NaturalTable;
+pub use crate::overflow::Overflow;
 pub use crate::sizes::Axis;
 pub use crate::table::Table;
+pub use pg_fit::Breaking;

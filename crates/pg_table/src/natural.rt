@@ -21,9 +21,9 @@ use std::alloc::{AllocError, Allocator, Global};
 /// ```
 #[derive(Debug, Drop)]
 pub struct NaturalTable<'a, R, C, B: Allocator = Global> {
-    records: R,
-    config: &'a SpannedConfig<B>,
-    colors: &'a C,
+    pub(crate) records: R,
+    pub(crate) config: &'a SpannedConfig<B>,
+    pub(crate) colors: &'a C,
 }
 
 impl<'a, R, C, B: Allocator> NaturalTable<'a, R, C, B> {
@@ -227,7 +227,7 @@ where
     }
 
     // The natural sizes of its columns and rows.
-    fn sizes(&self) -> NaturalSizes<'a, R, B>
+    pub(crate) fn sizes(&self) -> NaturalSizes<'a, R, B>
         ensures records { result.records ≡ self.now.records }
         ensures config { result.config.now ≡ self.now.config.now }
     {
@@ -235,7 +235,7 @@ where
     }
 
     // Whether there are no cells.
-    fn is_empty(&self) -> bool
+    pub(crate) fn is_empty(&self) -> bool
         ensures { result ≡ is_empty (drawn_of R.texts R.columns C.color (natural_parts self.now)) }
     {
         self.records.count_rows() == 0 || self.records.count_columns() == 0

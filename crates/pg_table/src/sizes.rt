@@ -68,7 +68,7 @@ impl<'a, R: PeekableRecords + ExactRecords, B: Allocator> NaturalSizes<'a, R, B>
     }
 
     // How many columns there are, or rows.
-    fn count(&self, axis: Axis) -> usize
+    pub(crate) fn count(&self, axis: Axis) -> usize
         ensures { result ≡ count_of R.texts R.columns self.now axis }
     {
         match axis {
@@ -78,7 +78,7 @@ impl<'a, R: PeekableRecords + ExactRecords, B: Allocator> NaturalSizes<'a, R, B>
     }
 
     // How many cells each of them has.
-    fn count_cells(&self, axis: Axis) -> usize
+    pub(crate) fn count_cells(&self, axis: Axis) -> usize
         ensures { result ≡ cells_of R.texts R.columns self.now axis }
     {
         match axis {
@@ -112,7 +112,7 @@ impl<'a, R: PeekableRecords + ExactRecords, B: Allocator> NaturalSizes<'a, R, B>
 
     // What the text of a cell takes. Lines are looked at one by one where they are trimmed.
     #[inline(always)]
-    fn text_size(&self, axis: Axis, pos: Position) -> usize
+    pub(crate) fn text_size(&self, axis: Axis, pos: Position) -> usize
         requires row { pos.row < length (R.texts self.now.records) }
         requires column { pos.col < R.columns self.now.records }
         ensures { result ≡ text_size axis self.now.config.now (text_at (R.texts self.now.records)) pos }
@@ -143,7 +143,7 @@ impl<'a, R: PeekableRecords + ExactRecords, B: Allocator> NaturalSizes<'a, R, B>
 
     // The natural size of a column or a row, or None where it passes `usize::MAX`.
     #[inline(always)]
-    fn size(&self, axis: Axis, k: usize) -> Option<usize>
+    pub(crate) fn size(&self, axis: Axis, k: usize) -> Option<usize>
         requires { k < count_of R.texts R.columns self.now axis }
         ensures { result ≡ if_fits (size_of R.texts R.columns self.now axis k) }
     {
@@ -200,7 +200,11 @@ impl<'a, R: PeekableRecords + ExactRecords, B: Allocator> NaturalSizes<'a, R, B>
     }
 
     // All sizes of columns, or of rows.
-    fn list<A: Allocator>(&self, alloc: A, axis: Axis) -> Result<Vec<usize, A>, AllocError>
+    pub(crate) fn list<A: Allocator>(
+        &self,
+        alloc: A,
+        axis: Axis,
+    ) -> Result<Vec<usize, A>, AllocError>
         requires { all_fit (sizes_of R.texts R.columns self.now axis) ≡ true }
         ensures { IfOk result (λ sizes. sizes.items ≡ sizes_of R.texts R.columns self.now axis) }
     {

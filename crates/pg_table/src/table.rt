@@ -4,7 +4,9 @@ ghost use Rattle.std.specs.Prelude.{◌≡◌};
 ghost use Rattle.pg_table.specs.Printing.{ascii_config};
 
 use crate::fault::TableFault;
+use crate::fitted::FittedTable;
 use crate::natural::NaturalTable;
+use crate::overflow::Overflow;
 use pg_config::SpannedConfig;
 use pg_layout::{
     AlignmentHorizontal, Borders, ColorsMap, ConstantDimension, Entity, ExactRecords,
@@ -130,12 +132,14 @@ impl<T, A: Allocator> Table<T, A> {
 }
 
 impl<T: AsStr + Drop, A: Allocator> Table<T, A> {
-    ghost use Rattle.std.specs.Prelude.{◌≡◌, ◌<◌, length, OnErr, ◌&&◌, ◌++◌, true, false, map, Some, None, Err, IfOk, IsOk, OnOk, string_bytes};
+    ghost use Rattle.std.specs.Prelude.{ℕ, [], ◌-◌, ◌^◌, ◌<◌, ◌≤◌, max, nat_lt, if◌then◌else◌, ◌≡◌, length, OnErr, ◌&&◌, ◌++◌, true, false, map, Some, None, Err, IfOk, IsOk, OnOk, string_bytes};
     ghost use Rattle.pg_layout.specs.Records.{columns_of};
     ghost use Rattle.pg_config.specs.Overrides.{has_glyph};
     ghost use Rattle.pg_picture.specs.Straight.{IsStraight};
     ghost use Rattle.pg_picture.specs.Picture.{picture};
-    ghost use Rattle.pg_picture.specs.Table.{Known, is_empty};
+    ghost use Rattle.pg_picture.specs.Sizes.{if_fits};
+    ghost use Rattle.pg_picture.specs.Table.{Known, full_width, is_empty};
+    ghost use Rattle.pg_table.specs.Fitted.{HasPlainTail, limit_of, drawn_rows, fitted_rows, fit_fault_rows, least_at_rows, least_width_rows};
     ghost use Rattle.pg_table.specs.Natural.{natural_sizes};
     ghost use Rattle.pg_table.specs.Laws.{IsEven};
     ghost use Rattle.pg_table.specs.Printing.{fault_of, is_spanned, sizes_fault, drawn, with_header_line, CanFail, Prints};
@@ -229,6 +233,58 @@ impl<T: AsStr + Drop, A: Allocator> Table<T, A> {
         ensures empty { is_empty (drawn T.text self.now) ≡ true → IsOk result }
     {
         self.natural().to_string(alloc)
+    }
+
+    /// The width of a line, in terminal columns, where each column is as narrow as wrapping or cutting
+    /// can make it ([`NaturalTable::least_width`]). None where it passes `usize::MAX` or the columns are
+    /// too many to count.
+    pub fn least_width(&self, how: Overflow) -> Option<usize>
+        ensures { result ≡ (if nat_lt (columns_of self.now.rows) (2 ^ 64 - 1) then if_fits (least_width_rows how.entry T.text self.now) else None) }
+    {
+        self.natural().least_width(how)
+    }
+
+    /// The table within so many terminal columns, the side margins and the column lines among them:
+    /// where it is wider, columns are narrowed, the widest first, and texts that are wider than their
+    /// column are wrapped or cut.
+    ///
+    /// Its lines are at most so wide, or as wide as [`Table::least_width`] tells, where a tail is of
+    /// printable ASCII and ellipses. Where nothing is too wide it takes no memory, and draws the same
+    /// table. Errors as those of [`NaturalTable::within_limits`].
+    ///
+    /// ```text
+    /// let how = Overflow::Wrap(Breaking::BetweenWords);
+    /// table.within(alloc, 80, how)?.print(alloc, &mut buf)?;
+    /// ```
+    pub fn within<B: Allocator + Copy>(
+        &self,
+        alloc: B,
+        width: usize,
+        how: Overflow,
+    ) -> Result<FittedTable<'_, &VecRecords<T, A>, ColorsMap<A>, A, B>, TableFault>
+        ensures table { IfOk result (λ fitted. drawn_rows T.text fitted ≡ fitted_rows how.entry width [] T.text self.now) }
+        ensures bound { HasPlainTail how.entry → IfOk result (λ fitted. full_width (drawn_rows T.text fitted) ≤ max width (least_width_rows how.entry T.text self.now)) }
+        ensures fault { (fault : TableFault) → fit_fault_rows T.text self.now ≡ Some fault → result ≡ Err fault }
+        ensures memory { (fault : TableFault) → fit_fault_rows T.text self.now ≡ None → result ≡ Err fault → fault ≡ TableFault.Memory }
+    {
+        self.natural().within(alloc, width, how)
+    }
+
+    /// The same, where the first columns have limits of their own ([`NaturalTable::within_limits`]).
+    pub fn within_limits<B: Allocator + Copy>(
+        &self,
+        alloc: B,
+        width: usize,
+        limits: &[usize],
+        how: Overflow,
+    ) -> Result<FittedTable<'_, &VecRecords<T, A>, ColorsMap<A>, A, B>, TableFault>
+        ensures table { IfOk result (λ fitted. drawn_rows T.text fitted ≡ fitted_rows how.entry width limits.now T.text self.now) }
+        ensures bound { HasPlainTail how.entry → IfOk result (λ fitted. full_width (drawn_rows T.text fitted) ≤ max width (least_width_rows how.entry T.text self.now)) }
+        ensures limits { HasPlainTail how.entry → IfOk result (λ fitted. (k : ℕ) → k < columns_of self.now.rows → (drawn_rows T.text fitted).width k ≤ max (least_at_rows how.entry T.text self.now k) (limit_of limits.now k)) }
+        ensures fault { (fault : TableFault) → fit_fault_rows T.text self.now ≡ Some fault → result ≡ Err fault }
+        ensures memory { (fault : TableFault) → fit_fault_rows T.text self.now ≡ None → result ≡ Err fault → fault ≡ TableFault.Memory }
+    {
+        self.natural().within_limits(alloc, width, limits, how)
     }
 
     // The same table over what is lent.

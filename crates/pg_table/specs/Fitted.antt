@@ -1,0 +1,156 @@
+-- A table within a width: columns narrowed to it, and the texts that are too wide for them wrapped or cut.
+use Rattle.std.specs.Prelude.{◌≡◌, ℕ, ◌+◌, ◌-◌, ◌^◌, min, max, nat_lt, nat_le, true, not, ◌&&◌, ◌||◌, ◌==◌, List, map, length, sum_by, slice_index, slice_index_or, chars, Option, Some, None, ⊤, if◌then◌else◌}
+use Rattle.std.specs.Borrow.{Bor}
+use Rattle.std.specs.List.{range_with_len, list_all}
+use Rattle.pg_layout.specs.declared.alignment.Formatting.{Formatting}
+use Rattle.pg_layout.specs.declared.position.Position.{Position}
+use Rattle.pg_layout.specs.Colors.{Color}
+use Rattle.pg_layout.specs.Position.{at}
+use Rattle.pg_layout.specs.Records.{text_at, columns_of}
+use Rattle.pg_layout.specs.ColorsMap.{color_at}
+use Rattle.pg_layout.specs.Text.{Text, width_of, greatest}
+use Rattle.pg_config.specs.Config.{Config, get_formatting, count_vertical}
+use Rattle.pg_fit.specs.declared.narrowing.ColumnRange.{ColumnRange}
+use Rattle.pg_fit.specs.Cutting.{cut_text}
+use Rattle.pg_fit.specs.Laws.{is_tail_character}
+use Rattle.pg_fit.specs.Narrowing.{limited, narrowed}
+use Rattle.pg_fit.specs.Overlaid.{overlaid}
+use Rattle.pg_fit.specs.Wrapping.{least_width, wrapped}
+use Rattle.pg_picture.specs.Pieces.{widest}
+use Rattle.pg_picture.specs.Table.{Table as Drawn}
+use Rattle.pg_table.specs.Natural.{paddings, natural_sizes, natural_table, all_fit}
+use Rattle.pg_table.specs.Printing.{Parts, sizes_fault}
+use Rattle.pg_table.specs.declared.fault.TableFault.{TableFault}
+use Rattle.pg_table.specs.declared.fault.TableFault.TheVariants.{Spans, Totals}
+use Rattle.pg_table.specs.declared.fitted.FittedTable.{FittedTable}
+use Rattle.pg_table.specs.declared.overflow.Overflow.{Overflow}
+use Rattle.pg_table.specs.declared.overflow.Overflow.TheVariants.{Wrap, Cut}
+use Rattle.pg_table.specs.declared.sizes.Axis.{Axis}
+use Rattle.pg_table.specs.declared.sizes.Axis.TheVariants.{Columns}
+
+-- ---- texts
+
+-- a text that is too wide for so many columns, wrapped or cut to them
+abbrev pub overflowed : Overflow → ℕ → Text → Text
+overflowed (Wrap breaking) width text = wrapped breaking width text
+overflowed (Cut tail) width text = cut_text width tail.now text
+
+-- a text that is shown within so many columns stays, and any other is wrapped or cut to them
+unfoldable pub fitted_text : Overflow → Formatting → ℕ → Text → Text
+fitted_text how formatting width text = if nat_le (widest formatting text) width then text else overflowed how width text
+
+-- how narrow a text becomes where it is wrapped: as its widest character; where it is cut, its tail has room
+abbrev pub least_overflowed : Overflow → Text → ℕ
+least_overflowed (Wrap breaking) text = least_width breaking text
+least_overflowed (Cut tail) text = width_of tail.now
+
+-- what the text of a cell takes at least
+abbrev pub least_text_width : Overflow → Config → (Position → Text) → Position → ℕ
+least_text_width how config text p = min (widest (get_formatting config p) (text p)) (least_overflowed how (text p))
+
+-- A tail of printable ASCII and ellipses: it joins no character before it.
+abbrev pub HasPlainTail : Overflow → Type 0
+HasPlainTail (Wrap breaking) = ⊤
+HasPlainTail (Cut tail) = list_all is_tail_character (chars tail.now) ≡ true
+
+-- ---- columns
+
+-- the least width of column k of so many cells: that of its widest cell, made as narrow as it can be, and where it has none the paddings alone
+unfoldable pub least_column_width : Overflow → Config → (Position → Text) → ℕ → ℕ → ℕ
+least_column_width how config text rows k =
+    max (paddings Columns config (at 0 k)) (greatest (map (λ r. paddings Columns config (at r k) + least_text_width how config text (at r k)) (range_with_len 0 rows)))
+
+-- what a line takes besides the columns: its verticals and the side margins
+abbrev pub beside_columns : Config → ℕ → ℕ
+beside_columns config columns = count_vertical config columns + (config.margin.left.size + config.margin.right.size)
+
+-- the width of a line whose columns are as narrow as they can be
+unfoldable pub least_full_width : Overflow → Config → List (List Text) → ℕ → ℕ
+least_full_width how config texts columns =
+    sum_by (least_column_width how config (text_at texts) (length texts)) (range_with_len 0 columns) + beside_columns config columns
+
+-- the greatest width of column k, where the first columns are told theirs: none is told as the greatest number
+abbrev pub limit_of : List ℕ → ℕ → ℕ
+limit_of limits k = slice_index_or limits k (2 ^ 64 - 1)
+
+module _ (how : Overflow) (total : ℕ) (limits : List ℕ) (config : Config) (texts : List (List Text)) (columns : ℕ) where
+  -- how narrow column k may be, and its natural width, lowered to its limit
+  abbrev pub column_range : ℕ → ColumnRange
+  column_range k =
+      limited (limit_of limits k)
+      (record { least = least_column_width how config (text_at texts) (length texts) k; natural = slice_index (natural_sizes Columns config texts columns) k })
+
+  abbrev pub column_ranges : List ColumnRange
+  column_ranges = map column_range (range_with_len 0 columns)
+
+  -- the widths of the columns
+  unfoldable pub column_widths : List ℕ
+  column_widths = narrowed (total - beside_columns config columns) column_ranges
+
+  -- the columns that a cell leaves to its text
+  abbrev pub text_room : Position → ℕ
+  text_room p = slice_index column_widths p.col - paddings Columns config p
+
+  -- the text of a cell
+  abbrev pub fitted_at : Position → Text
+  fitted_at p = fitted_text how (get_formatting config p) (text_room p) (text_at texts p)
+
+  -- all texts
+  unfoldable pub fitted_texts : List (List Text)
+  fitted_texts = map (λ r. map (λ c. fitted_at (at r c)) (range_with_len 0 columns)) (range_with_len 0 (length texts))
+
+  -- the table, at the natural sizes of these texts
+  abbrev pub fitted_table : (Position → Option Color) → Drawn
+  fitted_table color = natural_table config fitted_texts columns color
+
+-- why a table with cells isn't fitted: a span is kept, or its columns can't be counted, or the natural width of one is no number of 64 bits
+unfoldable pub fit_fault : Config → List (List Text) → ℕ → Option TableFault
+fit_fault config texts columns =
+    if (length texts == 0) || (columns == 0) then None
+    else if not (length config.spans == 0) then Some Spans
+    else if not (nat_lt columns (2 ^ 64 - 1) && all_fit (natural_sizes Columns config texts columns)) then Some Totals
+    else None
+
+-- ---- tables
+
+-- what a fitted table draws, by what its records and its colours tell
+abbrev pub drawn_fitted : {R C B A : Type 0} → (R → List (List Text)) → (R → ℕ) → (C → Position → Option Color) → FittedTable R C B A → Drawn
+drawn_fitted texts columns color t = natural_table t.config.now (overlaid texts columns t.records) (columns t.records.records) (color t.colors.now)
+
+-- its natural sizes
+abbrev pub sizes_fitted : {R C B A : Type 0} → (R → List (List Text)) → (R → ℕ) → Axis → FittedTable R C B A → List ℕ
+sizes_fitted texts columns axis t = natural_sizes axis t.config.now (overlaid texts columns t.records) (columns t.records.records)
+
+-- and why they aren't told
+abbrev pub sizes_fault_fitted : {R C B A : Type 0} → (R → List (List Text)) → (R → ℕ) → FittedTable R C B A → Option TableFault
+sizes_fault_fitted texts columns t = sizes_fault t.config.now (overlaid texts columns t.records) (columns t.records.records)
+
+-- the table of lent parts, fitted
+abbrev pub fitted_of : {R C : Type 0} → Overflow → ℕ → List ℕ → (R → List (List Text)) → (R → ℕ) → (C → Position → Option Color) → R × Config × C → Drawn
+fitted_of how total limits texts columns color (records, config, colors) = fitted_table how total limits config (texts records) (columns records) (color colors)
+
+-- why it isn't fitted, and the width of a line whose columns are as narrow as they can be
+abbrev pub fit_fault_of : {R C : Type 0} → (R → List (List Text)) → (R → ℕ) → R × Config × C → Option TableFault
+fit_fault_of texts columns (records, config, colors) = fit_fault config (texts records) (columns records)
+
+abbrev pub least_at : {R C : Type 0} → Overflow → (R → List (List Text)) → (R → ℕ) → R × Config × C → ℕ → ℕ
+least_at how texts columns (records, config, colors) k = least_column_width how config (text_at (texts records)) (length (texts records)) k
+
+abbrev pub least_width_of : {R C : Type 0} → Overflow → (R → List (List Text)) → (R → ℕ) → R × Config × C → ℕ
+least_width_of how texts columns (records, config, colors) = least_full_width how config (texts records) (columns records)
+
+-- the same of a table with rows of its own, by the texts of its cells; and what it draws, fitted, over these rows
+abbrev pub fitted_rows : {T : Type 0} → Overflow → ℕ → List ℕ → (T → Text) → Parts T → Drawn
+fitted_rows how total limits text t = fitted_table how total limits t.config (map (λ row. map text row) t.rows) (columns_of t.rows) (λ place. color_at place t.colors)
+
+abbrev pub fit_fault_rows : {T : Type 0} → (T → Text) → Parts T → Option TableFault
+fit_fault_rows text t = fit_fault t.config (map (λ row. map text row) t.rows) (columns_of t.rows)
+
+abbrev pub least_width_rows : {T : Type 0} → Overflow → (T → Text) → Parts T → ℕ
+least_width_rows how text t = least_full_width how t.config (map (λ row. map text row) t.rows) (columns_of t.rows)
+
+abbrev pub least_at_rows : {T : Type 0} → Overflow → (T → Text) → Parts T → ℕ → ℕ
+least_at_rows how text t k = least_column_width how t.config (text_at (map (λ row. map text row) t.rows)) (length (map (λ row. map text row) t.rows)) k
+
+abbrev pub drawn_rows : {T B A : Type 0} → (T → Text) → FittedTable (Bor (List (List T))) (List (Position × Color)) B A → Drawn
+drawn_rows text t = drawn_fitted (λ r. map (λ row. map text row) r.now) (λ r. columns_of r.now) (λ colors place. color_at place colors) t

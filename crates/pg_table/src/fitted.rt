@@ -1,0 +1,214 @@
+//! A table within a width: its columns are narrowed to it, and texts that are wider than their column
+//! are wrapped or cut.
+
+use crate::fault::TableFault;
+use crate::natural::NaturalTable;
+use crate::overflow::Overflow;
+use crate::sizes::plus;
+use pg_config::SpannedConfig;
+use pg_fit::OverlaidRecords;
+use pg_layout::{Colors, ConstantDimension, ExactRecords, PeekableRecords};
+use std::alloc::{Allocator, Global};
+
+/// A table whose columns were narrowed ([`NaturalTable::within`]), at the natural sizes of its texts, of
+/// which those that were too wide are wrapped or cut. Only these take memory: records, settings and
+/// colours are lent.
+#[derive(Debug)]
+pub struct FittedTable<'a, R, C, B: Allocator = Global, A: Allocator = Global> {
+    records: OverlaidRecords<R, A>,
+    config: &'a SpannedConfig<B>,
+    colors: &'a C,
+}
+
+// Written out, so that a caller's proof has one call where it lets the table go.
+impl<'a, R: Drop, C, B: Allocator, A: Allocator> Drop for FittedTable<'a, R, C, B, A> {
+    fn drop(self) {
+        let FittedTable {
+            records,
+            config: _,
+            colors: _,
+        } = self;
+        drop(records);
+    }
+}
+
+impl<'a, R, C, B> NaturalTable<'a, R, C, B>
+where
+    R: PeekableRecords + ExactRecords + Copy,
+    C: Colors,
+    B: Allocator,
+{
+    ghost use Rattle.std.specs.Prelude.{◌≡◌, ℕ, [], length, ◌-◌, ◌^◌, ◌<◌, ◌≤◌, max, nat_lt, Some, None, Err, IfOk, OnOk, if◌then◌else◌};
+    ghost use Rattle.pg_fit.specs.Overlaid.{other_text};
+    ghost use Rattle.pg_picture.specs.Sizes.{if_fits};
+    ghost use Rattle.pg_picture.specs.Table.{full_width};
+    ghost use Rattle.pg_table.specs.Fitted.{HasPlainTail, limit_of, drawn_fitted, fitted_of, fit_fault_of, least_at, least_width_of};
+    ghost use Rattle.pg_table.specs.Inside.Fitting.{HasPlainWidths, AreFittedBelow};
+    ghost use Rattle.pg_table.specs.Printing.{natural_parts};
+
+    /// The width of a line, in terminal columns, where each column is as narrow as wrapping or cutting
+    /// can make it, the side margins and the column lines among it: no width below it can be had. None
+    /// where it passes `usize::MAX` or the columns are too many to count.
+    pub fn least_width(&self, how: Overflow) -> Option<usize>
+        ensures { result ≡ (if nat_lt (R.columns self.now.records) (2 ^ 64 - 1) then if_fits (least_width_of how.entry R.texts R.columns (natural_parts self.now)) else None) }
+    {
+        let columns = self.records.count_columns();
+        if columns == usize::MAX {
+            return None;
+        }
+        let verticals = self.config.count_vertical(columns);
+        let margin = self.config.get_margin();
+        let inner = plus(self.sizes().least_total(how), verticals);
+        plus(plus(inner, margin.left.size), margin.right.size)
+    }
+
+    /// The table within so many terminal columns, the side margins and the column lines among them:
+    /// where it is wider, columns are narrowed, the widest first ([`pg_fit::narrow`]), and texts that
+    /// are wider than their column are wrapped or cut.
+    ///
+    /// Its lines are at most so wide, or as wide as [`NaturalTable::least_width`] tells, where a tail is
+    /// of printable ASCII and ellipses. Where nothing is too wide it takes no memory, and draws the same
+    /// table. Errors as those of [`NaturalTable::within_limits`].
+    pub fn within<A: Allocator + Copy>(
+        &self,
+        alloc: A,
+        width: usize,
+        how: Overflow,
+    ) -> Result<FittedTable<'a, R, C, B, A>, TableFault>
+        ensures table { IfOk result (λ fitted. drawn_fitted R.texts R.columns C.color fitted ≡ fitted_of how.entry width [] R.texts R.columns C.color (natural_parts self.now)) }
+        ensures bound { HasPlainTail how.entry → IfOk result (λ fitted. full_width (drawn_fitted R.texts R.columns C.color fitted) ≤ max width (least_width_of how.entry R.texts R.columns (natural_parts self.now))) }
+        ensures fault { (fault : TableFault) → fit_fault_of R.texts R.columns (natural_parts self.now) ≡ Some fault → result ≡ Err fault }
+        ensures memory { (fault : TableFault) → fit_fault_of R.texts R.columns (natural_parts self.now) ≡ None → result ≡ Err fault → fault ≡ TableFault.Memory }
+    {
+        self.within_limits(alloc, width, &[], how)
+    }
+
+    /// The same, where the first columns have limits of their own, their paddings among them:
+    /// `limits[0]` is the greatest width of column 0, `usize::MAX` is no limit, and columns behind the
+    /// last have none. With a width of `usize::MAX` the limits alone count.
+    ///
+    /// A table that keeps a span is answered by `Spans`; one of which the natural width of a column
+    /// passes `usize::MAX`, or whose columns are too many to count, by `Totals`; both come before any
+    /// memory is taken, and neither where there are no cells. `Memory` comes where memory is refused.
+    pub fn within_limits<A: Allocator + Copy>(
+        &self,
+        alloc: A,
+        width: usize,
+        limits: &[usize],
+        how: Overflow,
+    ) -> Result<FittedTable<'a, R, C, B, A>, TableFault>
+        ensures table { IfOk result (λ fitted. drawn_fitted R.texts R.columns C.color fitted ≡ fitted_of how.entry width limits.now R.texts R.columns C.color (natural_parts self.now)) }
+        ensures bound { HasPlainTail how.entry → IfOk result (λ fitted. full_width (drawn_fitted R.texts R.columns C.color fitted) ≤ max width (least_width_of how.entry R.texts R.columns (natural_parts self.now))) }
+        ensures limits { HasPlainTail how.entry → IfOk result (λ fitted. (k : ℕ) → k < R.columns self.now.records → (drawn_fitted R.texts R.columns C.color fitted).width k ≤ max (least_at how.entry R.texts R.columns (natural_parts self.now) k) (limit_of limits.now k)) }
+        ensures fault { (fault : TableFault) → fit_fault_of R.texts R.columns (natural_parts self.now) ≡ Some fault → result ≡ Err fault }
+        ensures memory { (fault : TableFault) → fit_fault_of R.texts R.columns (natural_parts self.now) ≡ None → result ≡ Err fault → fault ≡ TableFault.Memory }
+    {
+        let mut records = OverlaidRecords::new(alloc, self.records);
+        self.fit(alloc, width, limits, how, &mut records)?;
+        Ok(FittedTable {
+            records,
+            config: self.config,
+            colors: self.colors,
+        })
+    }
+
+    // Sets other texts for the cells whose texts are too wide for their columns.
+    fn fit<A: Allocator + Copy>(
+        &self,
+        alloc: A,
+        width: usize,
+        limits: &[usize],
+        how: Overflow,
+        records: &mut OverlaidRecords<R, A>,
+    ) -> Result<(), TableFault>
+        requires { records.old.others ≡ [] }
+        ensures fault { (fault : TableFault) → fit_fault_of R.texts R.columns (natural_parts self.now) ≡ Some fault → result ≡ Err fault }
+        ensures memory { (fault : TableFault) → fit_fault_of R.texts R.columns (natural_parts self.now) ≡ None → result ≡ Err fault → fault ≡ TableFault.Memory }
+        ensures records { records.new.records ≡ records.old.records }
+        ensures plain { OnOk result (HasPlainWidths self.now.config.now (length (R.texts self.now.records)) (R.columns self.now.records)) }
+        ensures fits { OnOk result (AreFittedBelow how.entry width limits.now self.now.config.now (R.texts self.now.records) (R.columns self.now.records) (R.columns self.now.records) (other_text records.new.others (R.texts self.now.records))) }
+    {
+        if self.is_empty() {
+            return Ok(());
+        }
+        if !self.config.spans().is_empty() {
+            return Err(TableFault::Spans);
+        }
+        self.sizes().fit_texts(alloc, how, width, limits, records)
+    }
+}
+
+impl<'a, R, C, B, A> FittedTable<'a, R, C, B, A>
+where
+    R: PeekableRecords + ExactRecords,
+    C: Colors,
+    B: Allocator,
+    A: Allocator,
+{
+    ghost use Rattle.std.specs.Prelude.{◌≡◌, ◌++◌, true, Some, None, Err, IfOk, IsOk, OnOk, string_bytes};
+    ghost use Rattle.pg_picture.specs.Picture.{picture};
+    ghost use Rattle.pg_picture.specs.Straight.{IsStraight};
+    ghost use Rattle.pg_picture.specs.Table.{Known, is_empty};
+    ghost use Rattle.pg_table.specs.Fitted.{drawn_fitted, sizes_fitted, sizes_fault_fitted};
+    ghost use Rattle.pg_table.specs.Laws.{IsEven};
+    ghost use Rattle.pg_table.specs.Printing.{fault_of, is_spanned, CanFail, Prints};
+    ghost use Rattle.pg_table.specs.declared.sizes.Axis.TheVariants.{Columns, Rows};
+
+    // The same table over the records with their fitted texts.
+    fn natural(&self) -> NaturalTable<'_, &OverlaidRecords<R, A>, C, B>
+        ensures records { result.records.now ≡ self.now.records }
+        ensures config { result.config.now ≡ self.now.config.now }
+        ensures colors { result.colors.now ≡ self.now.colors.now }
+    {
+        NaturalTable::new(&self.records, self.config, self.colors)
+    }
+
+    /// The widths of the columns and the heights of the rows at the fitted texts, in terminal columns
+    /// and lines; errors as those of [`NaturalTable::natural_dimension`].
+    pub fn natural_dimension<D: Allocator + Copy>(
+        &self,
+        alloc: D,
+    ) -> Result<ConstantDimension<D>, TableFault>
+        ensures fault { (fault : TableFault) → sizes_fault_fitted R.texts R.columns self.now ≡ Some fault → result ≡ Err fault }
+        ensures memory { (fault : TableFault) → sizes_fault_fitted R.texts R.columns self.now ≡ None → result ≡ Err fault → fault ≡ TableFault.Memory }
+        ensures widths { IfOk result (λ d. d.0.items ≡ sizes_fitted R.texts R.columns Columns self.now) }
+        ensures heights { IfOk result (λ d. d.1.items ≡ sizes_fitted R.texts R.columns Rows self.now) }
+    {
+        self.natural().natural_dimension(alloc)
+    }
+
+    /// Whether the table can be printed, as [`NaturalTable::fits`] tells.
+    pub fn fits<D: Allocator + Copy>(&self, alloc: D) -> Result<(), TableFault>
+        ensures ok { IsOk result → fault_of (drawn_fitted R.texts R.columns C.color self.now) ≡ None }
+        ensures fault { (fault : TableFault) → result ≡ Err fault → CanFail (drawn_fitted R.texts R.columns C.color self.now) fault }
+    {
+        self.natural().fits(alloc)
+    }
+
+    /// Appends the picture of the table; errors as those of [`NaturalTable::print`]. A table with no rows
+    /// or no columns appends nothing, and takes no memory.
+    pub fn print<D: Allocator + Copy, W: Allocator>(
+        &self,
+        alloc: D,
+        buf: &mut String<W>,
+    ) -> Result<(), TableFault>
+        ensures prints { Prints (is_spanned (drawn_fitted R.texts R.columns C.color self.now)) (fault_of (drawn_fitted R.texts R.columns C.color self.now)) buf.old buf.new result (picture Known (drawn_fitted R.texts R.columns C.color self.now)) }
+        ensures printed { OnOk result (string_bytes buf.new ≡ string_bytes buf.old ++ picture Known (drawn_fitted R.texts R.columns C.color self.now)) }
+        ensures empty { is_empty (drawn_fitted R.texts R.columns C.color self.now) ≡ true → IsOk result × (buf.new ≡ buf.old) }
+        ensures straight { IsOk result → IsStraight (drawn_fitted R.texts R.columns C.color self.now) }
+        ensures even { IsOk result → IsEven (drawn_fitted R.texts R.columns C.color self.now) }
+    {
+        self.natural().print(alloc, buf)
+    }
+
+    /// The picture of the table as a text of its own; errors as those of [`FittedTable::print`]. A table
+    /// with no rows or no columns asks for no memory.
+    pub fn to_string<D: Allocator + Copy>(&self, alloc: D) -> Result<String<D>, TableFault>
+        ensures text { IfOk result (λ text. string_bytes text ≡ picture Known (drawn_fitted R.texts R.columns C.color self.now)) }
+        ensures ok { IsOk result → fault_of (drawn_fitted R.texts R.columns C.color self.now) ≡ None }
+        ensures fault { (fault : TableFault) → result ≡ Err fault → CanFail (drawn_fitted R.texts R.columns C.color self.now) fault }
+        ensures empty { is_empty (drawn_fitted R.texts R.columns C.color self.now) ≡ true → IsOk result }
+    {
+        self.natural().to_string(alloc)
+    }
+}
