@@ -93,11 +93,17 @@ fn with_shown<'a>(alloc: Global, command: Command<'a>) -> Result<Command<'a>, Al
         "raw",
         "Control characters are sent as they are, and not made visible",
     );
+    let markdown = flag(
+        alloc,
+        "markdown",
+        "A table of Markdown, in which bars, backslashes and line feeds of fields are escaped",
+    );
     command
         .arg(columns)?
         .arg(head)?
         .arg(look)?
         .arg(align)?
+        .arg(markdown)?
         .arg(raw)
 }
 
@@ -190,14 +196,21 @@ fn table_of(alloc: Global, found: &ArgMatches) -> Result<Option<Wanted>, AllocEr
         Some(name) => Some(String::from_str(alloc, name)?),
         None => None,
     };
+    let is_markdown = found.get_flag("markdown");
+    let look = if is_markdown {
+        Look::Markdown
+    } else {
+        look_of(found.get_str("look"))
+    };
     let options = Options {
         delimiter,
-        look: look_of(found.get_str("look")),
+        look,
         has_header: !found.get_flag("no-header"),
         columns: names_of(alloc, found.get_strs("columns"))?,
         sides: sides_of(alloc, found.get_strs("align"))?,
         head: found.get_one::<u32>("head"),
         is_raw: found.get_flag("raw"),
+        is_markdown,
     };
     Ok(Some(Wanted { file, options }))
 }

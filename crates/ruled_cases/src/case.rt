@@ -29,6 +29,7 @@ impl Case {
             sides: Vec::new(alloc),
             head: None,
             is_raw: false,
+            is_markdown: false,
         };
         Ok(Case {
             name: String::from_str(alloc, name)?,

@@ -41,6 +41,10 @@ pub(crate) fn set_option(
     match name {
         "no-header" => options.has_header = false,
         "raw" => options.is_raw = true,
+        "markdown" => {
+            options.look = Look::Markdown;
+            options.is_markdown = true;
+        }
         "delimiter" if value == "tab" => options.delimiter = b'\t',
         "delimiter" => options.delimiter = value.as_bytes().first().copied().unwrap_or(b','),
         "head" => options.head = value.parse().ok(),

@@ -1,4 +1,5 @@
 pub mod Columns
+pub mod Escapes
 pub mod Faults
 pub mod Look
 pub mod Numbers

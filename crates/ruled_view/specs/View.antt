@@ -15,6 +15,7 @@ use Rattle.pg_table.specs.Natural.{natural_table}
 use Rattle.pg_table.specs.Printing.{Parts, fault_of, with_header_line}
 use Rattle.ruled_csv.specs.Rows.{rows_of}
 use Rattle.ruled_csv.specs.Faults.{rows_fault}
+use Rattle.ruled_view.specs.Escapes.{escaped_text}
 use Rattle.ruled_view.specs.Columns.{column_fault, places_of}
 use Rattle.ruled_view.specs.Faults.{fault_of_rows}
 use Rattle.ruled_view.specs.Look.{borders_of, header_line_of}
@@ -26,13 +27,17 @@ use Rattle.ruled_view.specs.declared.options.Options.{Options}
 
 -- ---- rows
 
--- a text as it is shown: as it is, or with its control characters made visible
-abbrev pub shown_text : Bool → Text → Text
-shown_text is_raw text = if is_raw then text else visible_text text
+-- a text as it is, or with its control characters made visible
+abbrev pub seen_text : Bool → Text → Text
+seen_text is_raw text = if is_raw then text else visible_text text
+
+-- a text as it is shown: for Markdown escaped, too
+abbrev pub shown_text : Options → Text → Text
+shown_text options text = if options.is_markdown then escaped_text (seen_text options.is_raw text) else seen_text options.is_raw text
 
 -- a row as it is shown: its fields at these places
-abbrev pub shown_row : Bool → List ℕ → List Text → List Text
-shown_row is_raw places row = map (λ place. shown_text is_raw (slice_index_or row place [])) places
+abbrev pub shown_row : Options → List ℕ → List Text → List Text
+shown_row options places row = map (λ place. shown_text options (slice_index_or row place [])) places
 
 -- how many rows are shown at most, a header among them
 abbrev pub limit_of : Options → Option ℕ
@@ -48,7 +53,7 @@ heads options rows = up_to (limit_of options) rows
 -- the rows that are shown, of all of them
 abbrev pub shown_rows : Options → List (List Text) → List (List Text)
 shown_rows options rows =
-    map (shown_row options.is_raw (places_of options.columns.items rows)) (heads options rows)
+    map (shown_row options (places_of options.columns.items rows)) (heads options rows)
 
 -- ---- their table
 

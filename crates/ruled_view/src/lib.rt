@@ -2,6 +2,7 @@
 #![tactic(auto)]
 
 mod columns;
+mod escapes;
 mod fault;
 mod numbers;
 mod options;

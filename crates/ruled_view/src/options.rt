@@ -71,4 +71,7 @@ pub struct Options {
     pub head: Option<u32>,
     /// Whether control characters are sent as they are.
     pub is_raw: bool,
+    /// Whether texts are escaped, so that Markdown reads each as one cell: a bar is `\|`, a backslash
+    /// `\\`, and a line feed `<br>`.
+    pub is_markdown: bool,
 }

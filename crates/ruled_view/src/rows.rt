@@ -2,17 +2,18 @@
 
 ghost use Rattle.std.specs.Prelude.{◌≡◌, map, string_bytes, IfOk};
 ghost use Rattle.csv.specs.Records.{fields_of};
-ghost use Rattle.ruled_view.specs.View.{heads, shown_row, shown_text, limit_of};
+ghost use Rattle.ruled_view.specs.View.{heads, seen_text, shown_row, shown_text, limit_of};
 
 use crate::columns::field_at;
+use crate::escapes::escaped;
 use crate::options::Options;
 use csv::StringRecord;
 use pg_fit::visible;
 use std::alloc::{AllocError, Global};
 
-// A text as it is shown.
-fn shown_text(alloc: Global, is_raw: bool, text: &str) -> Result<String, AllocError>
-    ensures { IfOk result (λ shown. string_bytes shown ≡ shown_text is_raw text.now) }
+// A text in which control characters are seen, unless it is to be sent as it is.
+fn seen_text(alloc: Global, is_raw: bool, text: &str) -> Result<String, AllocError>
+    ensures { IfOk result (λ seen. string_bytes seen ≡ seen_text is_raw text.now) }
 {
     if is_raw {
         return Ok(String::from_str(alloc, text)?);
@@ -20,18 +21,29 @@ fn shown_text(alloc: Global, is_raw: bool, text: &str) -> Result<String, AllocEr
     visible(alloc, text)
 }
 
+// A text as it is shown.
+fn shown_text(alloc: Global, options: &Options, text: &str) -> Result<String, AllocError>
+    ensures { IfOk result (λ shown. string_bytes shown ≡ shown_text options.now text.now) }
+{
+    let seen = seen_text(alloc, options.is_raw, text)?;
+    if options.is_markdown {
+        return escaped(alloc, &seen);
+    }
+    Ok(seen)
+}
+
 // A row as it is shown: its fields at these places.
 fn shown_row(
     alloc: Global,
-    is_raw: bool,
+    options: &Options,
     places: &[usize],
     fields: &StringRecord,
 ) -> Result<Vec<String>, AllocError>
-    ensures { IfOk result (λ row. map string_bytes row.items ≡ shown_row is_raw places.now (fields_of fields.now)) }
+    ensures { IfOk result (λ row. map string_bytes row.items ≡ shown_row options.now places.now (fields_of fields.now)) }
 {
     let mut row = Vec::with_capacity(alloc, places.len())?;
     for place in places {
-        let text = shown_text(alloc, is_raw, field_at(fields, *place))?;
+        let text = shown_text(alloc, options, field_at(fields, *place))?;
         row.push(text)?;
     }
     Ok(row)
@@ -63,12 +75,12 @@ pub(crate) fn shown_rows(
     places: &[usize],
     all: Vec<StringRecord>,
 ) -> Result<Vec<Vec<String>>, AllocError>
-    ensures { IfOk result (λ rows. map (λ row. map string_bytes row.items) rows.items ≡ map (shown_row options.now.is_raw places.now) (heads options.now (map fields_of all.items))) }
+    ensures { IfOk result (λ rows. map (λ row. map string_bytes row.items) rows.items ≡ map (shown_row options.now places.now) (heads options.now (map fields_of all.items))) }
 {
     let heads = heads(options, all);
     let mut rows = Vec::with_capacity(alloc, heads.len())?;
     for fields in heads {
-        let row = shown_row(alloc, options.is_raw, places, &fields)?;
+        let row = shown_row(alloc, options, places, &fields)?;
         rows.push(row)?;
     }
     Ok(rows)

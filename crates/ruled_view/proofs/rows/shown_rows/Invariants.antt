@@ -6,5 +6,5 @@ use Rattle.ruled_view.proofs.rows.shown_rows.Given as goal
 
 abbrev pub invariant-loop-fields : goal.invariant-loop-fields
 invariant-loop-fields l =
-    map (λ row. map string_bytes row.items) l.rows.items ++ map (λ fields. shown_row l.options.is_raw l.places (fields_of fields)) (into_iter_items l.fields-iterator)
-    ≡ map (shown_row l.options.is_raw l.places) (heads l.options (map fields_of l.fn.all.items))
+    map (λ row. map string_bytes row.items) l.rows.items ++ map (λ fields. shown_row l.options l.places (fields_of fields)) (into_iter_items l.fields-iterator)
+    ≡ map (shown_row l.options l.places) (heads l.options (map fields_of l.fn.all.items))

@@ -22,7 +22,7 @@ text_of-requires c =
       even =
           ragged_same (λ row. row.items) (λ row. map string_bytes row.items) (λ row. sym (length-map row.items string_bytes)) c.in_ok-rows.rows.items
           ∙ ap ragged_row c.in_ok-rows.ensures
-          ∙ even_rows (shown_row c.args.options.now.is_raw places) (length places) (λ row. length-map places _) (heads c.args.options.now (map fields_of c.in_ok-all.all.items));
+          ∙ even_rows (shown_row c.args.options.now places) (length places) (λ row. length-map places _) (heads c.args.options.now (map fields_of c.in_ok-all.all.items));
     }
 
 pub returns-clause-text : goal.returns-clause-text
@@ -36,7 +36,7 @@ returns-clause-text c =
     let places : c.deref-3.result.now ≡ places_of options.columns.items (map fields_of all) = here ∙ (rw (names, rows) at c.in_ok-places.ensures.places) in
     let is =
     c.in_ok-rows.ensures
-    ∙ ap (λ (places : List ℕ). map (shown_row options.is_raw places) (heads options (map fields_of all))) places
+    ∙ ap (λ (places : List ℕ). map (shown_row options places) (heads options (map fields_of all))) places
     ∙ ap (λ (rows : List (List Text)). shown_rows options rows) c.in_ok-all.ensures.rows
     in
     subst (λ (rows : List (List Text)). IfOk c.text_of.result (λ text. string_bytes text ≡ text_of options rows)) is c.text_of.ensures.text
@@ -53,7 +53,7 @@ returns-clause-fault c =
     let places : c.deref-3.result.now ≡ places_of options.columns.items (map fields_of all) = here ∙ (rw (names, rows) at c.in_ok-places.ensures.places) in
     let shown =
     c.in_ok-rows.ensures
-    ∙ ap (λ (places : List ℕ). map (shown_row options.is_raw places) (heads options (map fields_of all))) places
+    ∙ ap (λ (places : List ℕ). map (shown_row options places) (heads options (map fields_of all))) places
     ∙ ap (λ (rows : List (List Text)). shown_rows options rows) c.in_ok-all.ensures.rows
     in
     let none : column_fault options.columns.items (rows_of options.delimiter bytes) ≡ None =
