@@ -45,3 +45,6 @@ pub mod EqualSeparators
 pub mod KeptTexts
 pub mod OneStyle
 pub mod FittingGrids
+pub mod ShownLines
+pub mod FirstPlaces
+pub mod ShownGrids

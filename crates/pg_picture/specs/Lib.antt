@@ -16,4 +16,6 @@ pub mod CompactSizes
 pub mod Rectangles
 pub mod Grids
 pub mod Printed
+pub mod Shown
+pub mod Whole
 pub mod Inside

@@ -17,9 +17,11 @@ mod place;
 mod run;
 mod separator_keeper;
 mod share;
+pub mod shown;
 mod style;
 mod table_margins;
 mod vertical;
+mod whole_fault;
 
 pub use crate::cell::{push_block_line_of, push_single_line, push_text_line};
 pub use crate::compact_cell::{push_border_glyph, push_compact_cell, push_compact_indent};
@@ -39,3 +41,4 @@ pub use crate::table_margins::{
     push_bottom_margin, push_left_margin, push_right_margin, push_top_margin,
 };
 pub use crate::vertical::{push_vertical, push_vertical_at};
+pub use crate::whole_fault::WholeFault;

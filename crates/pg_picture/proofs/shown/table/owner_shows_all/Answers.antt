@@ -1,0 +1,37 @@
+use Rattle.std.proofs.Common.{◌≡◌, true, false, None, refl, sym, ◌∙◌}
+use Rattle.pg_config.specs.Spans.{left_span}
+use Rattle.pg_picture.specs.Pieces.{style_at}
+use Rattle.pg_picture.specs.Shown.{cell_shows_all}
+use Rattle.pg_picture.specs.Sizes.{table_of}
+use Rattle.pg_picture.specs.Table.{rect_height}
+use Rattle.pg_picture.proofs.DrawnRectangles.{single_height}
+use Rattle.pg_picture.proofs.FirstPlaces.{owner_shows_all-own, owner_shows_all-other}
+use Rattle.pg_picture.proofs.LeftColumns.{own_unless}
+use Rattle.pg_picture.proofs.OwnersOfPlaces.{InOrder, size_alone}
+use Rattle.pg_picture.proofs.shown.table.owner_shows_all.Goals as goal
+
+pub returns-then-begins_above : goal.returns-then-begins_above
+returns-then-begins_above g c =
+    let t = (table_of c.args.config.now (g.D.Dimension.width c.args.dimension.now) (g.D.Dimension.height c.args.dimension.now) (g.R.Records.texts c.args.records.now) (g.R.Records.columns c.args.records.now)) in
+    let order : InOrder t.config.spans t.rows t.columns = record { ascending = c.spans-spans.ensures.ascending; fit = c.requires.spans } in
+    let other = own_unless t.config.spans t.rows t.columns order c.args.pos.row c.args.pos.col c.args.span c.begins_above.result true c.requires.left c.requires.span c.begins_above.ensures c.if-begins_above.true in
+    c.if-begins_above.true ∙ sym (owner_shows_all-other t c.args.pos.row c.args.pos.col other)
+
+pub returns-else-begins_above : goal.returns-else-begins_above
+returns-else-begins_above g c =
+    let t = (table_of c.args.config.now (g.D.Dimension.width c.args.dimension.now) (g.D.Dimension.height c.args.dimension.now) (g.R.Records.texts c.args.records.now) (g.R.Records.columns c.args.records.now)) in
+    let order : InOrder t.config.spans t.rows t.columns = record { ascending = c.spans-spans.ensures.ascending; fit = c.requires.spans } in
+    let own = own_unless t.config.spans t.rows t.columns order c.args.pos.row c.args.pos.col c.args.span c.begins_above.result false c.requires.left c.requires.span c.begins_above.ensures c.if-begins_above.false in
+    c.rectangle_shows_all.ensures ∙ sym (owner_shows_all-own t c.args.pos own)
+
+pub returns-in-None : goal.returns-in-None
+returns-in-None g c =
+    let t = (table_of c.args.config.now (g.D.Dimension.width c.args.dimension.now) (g.D.Dimension.height c.args.dimension.now) (g.R.Records.texts c.args.records.now) (g.R.Records.columns c.args.records.now)) in
+    let p = c.args.pos in
+    let order : InOrder t.config.spans t.rows t.columns = record { ascending = c.spans-spans.ensures.ascending; fit = c.requires.spans } in
+    let none : left_span t.config.spans p.row p.col ≡ None = sym c.requires.span ∙ c.in-None.is in
+    let own = own_unless t.config.spans t.rows t.columns order p.row p.col None false false c.requires.left (sym none) refl refl in
+    let one = size_alone t.config.spans t.rows t.columns order p.row p.col none in
+    let height = c.get_height.ensures ∙ sym (single_height t p.row p.col one c.requires.row) in
+    let same : cell_shows_all (style_at c.args.config.now p) c.get_text.result.now c.get_height.result ≡ cell_shows_all (style_at c.args.config.now p) (t.text p) (rect_height t p) = rw (c.get_text.ensures, height) refl in
+    c.cell_shows_all.ensures ∙ same ∙ sym (owner_shows_all-own t p own)
