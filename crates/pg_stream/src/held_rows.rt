@@ -1,6 +1,6 @@
 //! The rows of a stream: how far they are printed, and the latest one, which is held.
 
-ghost use Rattle.std.specs.Prelude.{◌≡◌, [], List, None, Result, length, map, OnOk};
+ghost use Rattle.std.specs.Prelude.{◌≡◌, [], List, None, Result, length, map, IsOk, OnOk};
 ghost use Rattle.std.specs.Iterator.{IsFinite};
 ghost use Rattle.std.specs.Iterator.Runs.{SomeRun};
 ghost use Rattle.std.specs.Result.{result_map_both};
@@ -69,7 +69,8 @@ impl<S: AsStr + Drop, A: Allocator, V: Allocator> HeldRows<'_, S, A, V> {
         W: Allocator,
         requires is { told_of D.width D.height C.color frame.now ≡ T.told }
         requires sound { AreSoundAt T.told frame.now self }
-        ensures { PrintsRows (streamed S.text T.told self.entry).before (rows_left (streamed S.text T.told self.entry) []) buf.old buf.new result }
+        ensures prints { PrintsRows (streamed S.text T.told self.entry).before (rows_left (streamed S.text T.told self.entry) []) buf.old buf.new result }
+        ensures empty { self.entry.held ≡ None → IsOk result × (buf.new ≡ buf.old) }
     {
         let HeldRows { mut progress, held } = self;
         let Some(row) = held else {

@@ -1,6 +1,6 @@
 //! A table whose rows are shown at once, and whose end is told behind the last one.
 
-ghost use Rattle.std.specs.Prelude.{◌≡◌, ◌↔◌, ◌++◌, ℕ, true, false, map, Some, None, IfOk, OnOk, Err, string_bytes};
+ghost use Rattle.std.specs.Prelude.{◌≡◌, ◌↔◌, ◌++◌, ℕ, true, false, map, Some, None, IfOk, IsOk, OnOk, Err, string_bytes};
 ghost use Rattle.pg_picture.specs.declared.fits.Misfit.{Misfit};
 ghost use Rattle.pg_stream.specs.Conditions.{PrinterFits, RowFits, printer_misfit};
 ghost use Rattle.pg_stream.specs.LiveStreams.{living, AppendsEnd};
@@ -144,13 +144,14 @@ impl<'a, S: AsStr + Drop, D: Dimension, C: Colors, B: Allocator, A: Allocator> L
     }
 
     /// Ends the table behind the rows so far: the separator below the last one, where it is there, and the
-    /// bottom margin. Where no row was printed, it appends nothing.
+    /// bottom margin. Where no row was printed, the buffer stays as it was.
     ///
     /// `StreamFault::Open` says that a rectangle goes on below them; then nothing is appended. Where memory
     /// is refused, a beginning of the table's end is, or nothing where the stream was lost already.
     pub fn finish<W: Allocator>(self, buf: &mut String<W>) -> Result<(), StreamFault>
         ensures ends { (living D.width D.height C.color self.entry).is_lost ≡ false → AppendsEnd (living D.width D.height C.color self.entry).printed buf.old buf.new result }
         ensures lost { (living D.width D.height C.color self.entry).is_lost ≡ true → (result ≡ Err StreamFault.Memory) × (buf.new ≡ buf.old) }
+        ensures empty { (living D.width D.height C.color self.entry).is_lost ≡ false → (living D.width D.height C.color self.entry).printed.rows ≡ 0 → IsOk result × (buf.new ≡ buf.old) }
     {
         let LiveStream {
             frame,

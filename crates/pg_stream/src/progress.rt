@@ -1,6 +1,6 @@
 //! How far a table is printed, and what its next rows and its end append.
 
-ghost use Rattle.std.specs.Prelude.{◌≡◌, ◌⊎◌, ◌+◌, ◌<◌, ◌^◌, ◌∷◌, ◌&&◌, ◌==◌, not, List, None, true, length, map, OnOk};
+ghost use Rattle.std.specs.Prelude.{◌≡◌, ◌⊎◌, ◌+◌, ◌<◌, ◌^◌, ◌∷◌, ◌&&◌, ◌==◌, not, List, None, true, length, map, IsOk, OnOk};
 ghost use Rattle.std.specs.Iterator.{IsFinite};
 ghost use Rattle.pg_layout.specs.Records.{AlwaysGives, Gives};
 ghost use Rattle.pg_layout.specs.Text.{Text};
@@ -167,7 +167,8 @@ impl<S: AsStr + Drop, A: Allocator> Progress<'_, S, A> {
         requires is { told_of D.width D.height C.color frame.now ≡ T.told }
         requires sound { IsSoundAt T.told frame.now self.now }
         requires ended { (self.now.rows ≡ 0) ⊎ (self.now.is_ended ≡ true) }
-        ensures { Appends buf.old buf.new result (finish_text (now_of T.told self.now)) }
+        ensures appends { Appends buf.old buf.new result (finish_text (now_of T.told self.now)) }
+        ensures empty { self.now.rows ≡ 0 → IsOk result × (buf.new ≡ buf.old) }
     {
         if self.rows == 0 {
             return Ok(());

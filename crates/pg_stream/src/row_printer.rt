@@ -1,6 +1,6 @@
 //! A table that is printed row by row.
 
-ghost use Rattle.std.specs.Prelude.{◌≡◌, ◌⊎◌, ◌<◌, ◌^◌, ◌-◌, List, true, None, IfOk, IfSome, option_map};
+ghost use Rattle.std.specs.Prelude.{◌≡◌, ◌⊎◌, ◌<◌, ◌^◌, ◌-◌, List, true, None, IfOk, IfSome, IsOk, option_map};
 ghost use Rattle.pg_picture.specs.Fits.{body_height};
 ghost use Rattle.pg_picture.specs.Sizes.{sized};
 ghost use Rattle.std.specs.Iterator.{IsFinite};
@@ -184,8 +184,8 @@ impl<'a, S: AsStr + Drop, D: Dimension, C: Colors, B: Allocator, A: Allocator> R
     }
 
     /// Ends the table: the separator below the last row, where it is there, and the bottom margin, each
-    /// line after a line feed unless it is the picture's first line. Where no row was printed, it
-    /// appends nothing.
+    /// line after a line feed unless it is the picture's first line. Where no row was printed, the
+    /// buffer stays as it was.
     ///
     /// No row was printed, or the last one was: [`RowPrinter::rows`] answers 0, or
     /// [`RowPrinter::is_ended`] that it was. [`RowStream::finish`] asks nothing.
@@ -195,7 +195,8 @@ impl<'a, S: AsStr + Drop, D: Dimension, C: Colors, B: Allocator, A: Allocator> R
     /// [`RowStream::finish`]: crate::RowStream::finish
     pub fn finish<W: Allocator>(self, buf: &mut String<W>) -> Result<(), AllocError>
         requires { ((printing D.width D.height C.color self).rows ≡ 0) ⊎ ((printing D.width D.height C.color self).is_ended ≡ true) }
-        ensures { Appends buf.old buf.new result (finish_text (printing D.width D.height C.color self.entry)) }
+        ensures appends { Appends buf.old buf.new result (finish_text (printing D.width D.height C.color self.entry)) }
+        ensures empty { (printing D.width D.height C.color self.entry).rows ≡ 0 → IsOk result × (buf.new ≡ buf.old) }
     {
         let RowPrinter { frame, progress } = self;
         progress.push_end::<Brand, D, C, B, W>(&frame, buf)

@@ -1,6 +1,6 @@
 //! A table whose rows come one at a time, and whose last row isn't known before its end.
 
-ghost use Rattle.std.specs.Prelude.{◌≡◌, ◌≢◌, ◌++◌, ◌↔◌, ℕ, [], List, false, map, Some, None, IfOk, OnOk, Result, Err, string_bytes};
+ghost use Rattle.std.specs.Prelude.{◌≡◌, ◌≢◌, ◌++◌, ◌↔◌, ℕ, [], List, false, map, Some, None, IfOk, IsOk, OnOk, Result, Err, string_bytes};
 ghost use Rattle.std.specs.Iterator.{IsFinite};
 ghost use Rattle.std.specs.Iterator.Runs.{SomeRun};
 ghost use Rattle.std.specs.Result.{result_map_both};
@@ -182,14 +182,15 @@ impl<
         self.push(cells, buf)
     }
 
-    /// Prints the row that is held as the last one, and ends the table. Where no row was pushed, it
-    /// appends nothing.
+    /// Prints the row that is held as the last one, and ends the table. Where no row was pushed, the
+    /// buffer stays as it was.
     ///
     /// `StreamFault::Row` names the row that was held, where that doesn't fit as the last one; then
     /// nothing is appended. Where memory is refused, a beginning of its text and the table's end is.
     pub fn finish<W: Allocator>(self, buf: &mut String<W>) -> Result<(), StreamFault>
         ensures appends { OnOk result (string_bytes buf.new ≡ string_bytes buf.old ++ rows_text (streaming D.width D.height C.color self.entry).before (rows_left (streaming D.width D.height C.color self.entry) [])) }
         ensures prints { PrintsRows (streaming D.width D.height C.color self.entry).before (rows_left (streaming D.width D.height C.color self.entry) []) buf.old buf.new result }
+        ensures empty { (streaming D.width D.height C.color self.entry).held ≡ None → IsOk result × (buf.new ≡ buf.old) }
     {
         let RowStream { frame, rows } = self;
         rows.finish::<Brand, D, C, B, W>(&frame, buf)

@@ -1,6 +1,6 @@
 //! The end of a table behind rows of which none was told to be the last.
 
-ghost use Rattle.std.specs.Prelude.{◌≡◌, ◌↔◌, ◌<◌, true, IfSome, IsTrue};
+ghost use Rattle.std.specs.Prelude.{◌≡◌, ◌↔◌, ◌<◌, true, IfSome, IsOk, IsTrue};
 ghost use Rattle.pg_picture.specs.Fits.{spans_fit};
 ghost use Rattle.pg_stream.specs.Inside.Held.{IsSoundAt};
 ghost use Rattle.pg_stream.specs.Inside.Told.{told_of};
@@ -30,9 +30,11 @@ impl<'a, S: AsStr + Drop, D: Dimension, C: Colors, B: Allocator, A: Allocator> R
     /// told to be the last.
     ///
     /// `StreamFault::Open` says that a rectangle goes on below them, or that more rows are known; then
-    /// nothing is appended. Where memory is refused, a beginning of the table's end is.
+    /// nothing is appended. Where memory is refused, a beginning of the table's end is. Where no row was
+    /// printed, the buffer stays as it was.
     pub fn close<W: Allocator>(self, buf: &mut String<W>) -> Result<(), StreamFault>
-        ensures { AppendsEnd (printing D.width D.height C.color self.entry) buf.old buf.new result }
+        ensures ends { AppendsEnd (printing D.width D.height C.color self.entry) buf.old buf.new result }
+        ensures empty { (printing D.width D.height C.color self.entry).rows ≡ 0 → IsOk result × (buf.new ≡ buf.old) }
     {
         let RowPrinter {
             frame,
@@ -57,7 +59,8 @@ impl<S: AsStr + Drop, A: Allocator> Progress<'_, S, A> {
         W: Allocator,
         requires is { told_of D.width D.height C.color frame.now ≡ T.told }
         requires sound { IsSoundAt T.told frame.now self.old }
-        ensures { AppendsEnd (now_of T.told self.old) buf.old buf.new result }
+        ensures ends { AppendsEnd (now_of T.told self.old) buf.old buf.new result }
+        ensures empty { self.old.rows ≡ 0 → IsOk result × (buf.new ≡ buf.old) }
     {
         if self.rows == 0 {
             return Ok(());

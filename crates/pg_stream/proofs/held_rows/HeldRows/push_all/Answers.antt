@@ -47,10 +47,10 @@ pub returns-clause-prints : goal.returns-clause-prints
 returns-clause-prints g c =
     let now : Streaming = streamed g.S.AsStr.text g.T.Drawn.told c.loop-row.pushed in
     let began : Streaming = streamed g.S.AsStr.text g.T.Drawn.told c.args.self in
-    λ texts left. pushed-ends (Unit {0}) (λ x. map g.S.AsStr.text x.items) g.I.Iterator.next_gives now began texts c.finish.result (c.loop-row.invariant.2 texts left) c.in-None.ensures.steps c.finish.ensures
+    λ texts left. pushed-ends (Unit {0}) (λ x. map g.S.AsStr.text x.items) g.I.Iterator.next_gives now began texts c.finish.result (c.loop-row.invariant.2 texts left) c.in-None.ensures.steps c.finish.ensures.prints
 
 pub returns-clause-runs : goal.returns-clause-runs
 returns-clause-runs g c =
     let now : Streaming = streamed g.S.AsStr.text g.T.Drawn.told c.loop-row.pushed in
     let began : Streaming = streamed g.S.AsStr.text g.T.Drawn.told c.args.self in
-    rw (← c.into_iter-row-iterator.ensures.into_iter_gives) (run-ends (λ x. map g.S.AsStr.text x.items) g.I.Iterator.next_gives c.loop-row.yielded now began c.finish.result c.loop-row.yielded_by c.loop-row.invariant.4 c.in-None.ensures.steps c.finish.ensures)
+    rw (← c.into_iter-row-iterator.ensures.into_iter_gives) (run-ends (λ x. map g.S.AsStr.text x.items) g.I.Iterator.next_gives c.loop-row.yielded now began c.finish.result c.loop-row.yielded_by c.loop-row.invariant.4 c.in-None.ensures.steps c.finish.ensures.prints)

@@ -79,7 +79,7 @@ returns-in_err-finish-clause-prints g c =
     let began : Streaming = streamed g.S.AsStr.text g.T.Drawn.told c.args.self in
     let view : Result _ g.row.E.Denot → Result (List Text) g.row.E.Denot = λ x. result_map_both (λ row. map g.S.AsStr.text row.items) (λ error. error) x in
     rw (p.1, p.2) (λ items left.
-    streamed-ends (Unit {0}) view g.I.Iterator.next_gives c.finish.new.buf now began items (Err (RowsFault.Stream c.in_err-finish.field-0.0)) (c.loop-row.invariant.2 items left) c.in-None.ensures.steps c.in_err-finish.ensures)
+    streamed-ends (Unit {0}) view g.I.Iterator.next_gives c.finish.new.buf now began items (Err (RowsFault.Stream c.in_err-finish.field-0.0)) (c.loop-row.invariant.2 items left) c.in-None.ensures.steps c.in_err-finish.ensures.prints)
 
 pub returns-in_err-finish-clause-runs : goal.returns-in_err-finish-clause-runs
 returns-in_err-finish-clause-runs g c =
@@ -87,18 +87,18 @@ returns-in_err-finish-clause-runs g c =
     let now : Streaming = streamed g.S.AsStr.text g.T.Drawn.told c.loop-row.pushed in
     let began : Streaming = streamed g.S.AsStr.text g.T.Drawn.told c.args.self in
     let view : Result _ g.row.E.Denot → Result (List Text) g.row.E.Denot = λ x. result_map_both (λ row. map g.S.AsStr.text row.items) (λ error. error) x in
-    rw (p.1, p.2, ← c.into_iter-row-iterator.ensures.into_iter_gives) (results-end-err view g.I.Iterator.next_gives c.loop-row.yielded now began c.in_err-finish.field-0.0 c.loop-row.yielded_by c.loop-row.invariant.4 c.in-None.ensures.steps c.in_err-finish.ensures)
+    rw (p.1, p.2, ← c.into_iter-row-iterator.ensures.into_iter_gives) (results-end-err view g.I.Iterator.next_gives c.loop-row.yielded now began c.in_err-finish.field-0.0 c.loop-row.yielded_by c.loop-row.invariant.4 c.in-None.ensures.steps c.in_err-finish.ensures.prints)
 
 pub returns-clause-prints : goal.returns-clause-prints
 returns-clause-prints g c =
     let now : Streaming = streamed g.S.AsStr.text g.T.Drawn.told c.loop-row.pushed in
     let began : Streaming = streamed g.S.AsStr.text g.T.Drawn.told c.args.self in
     let view : Result _ g.row.E.Denot → Result (List Text) g.row.E.Denot = λ x. result_map_both (λ row. map g.S.AsStr.text row.items) (λ error. error) x in
-    λ items left. streamed-ends (Unit {0}) view g.I.Iterator.next_gives c.finish.new.buf now began items (Ok tt) (c.loop-row.invariant.2 items left) c.in-None.ensures.steps (refl, c.in_ok-finish.ensures)
+    λ items left. streamed-ends (Unit {0}) view g.I.Iterator.next_gives c.finish.new.buf now began items (Ok tt) (c.loop-row.invariant.2 items left) c.in-None.ensures.steps (refl, c.in_ok-finish.ensures.prints)
 
 pub returns-clause-runs : goal.returns-clause-runs
 returns-clause-runs g c =
     let now : Streaming = streamed g.S.AsStr.text g.T.Drawn.told c.loop-row.pushed in
     let began : Streaming = streamed g.S.AsStr.text g.T.Drawn.told c.args.self in
     let view : Result _ g.row.E.Denot → Result (List Text) g.row.E.Denot = λ x. result_map_both (λ row. map g.S.AsStr.text row.items) (λ error. error) x in
-    rw (← c.into_iter-row-iterator.ensures.into_iter_gives) (results-end-ok view g.I.Iterator.next_gives c.loop-row.yielded now began c.loop-row.yielded_by c.loop-row.invariant.4 c.in-None.ensures.steps c.in_ok-finish.ensures)
+    rw (← c.into_iter-row-iterator.ensures.into_iter_gives) (results-end-ok view g.I.Iterator.next_gives c.loop-row.yielded now began c.loop-row.yielded_by c.loop-row.invariant.4 c.in-None.ensures.steps c.in_ok-finish.ensures.prints)

@@ -8,8 +8,8 @@ use Rattle.pg_stream.specs.declared.fault.StreamFault.{StreamFault}
 use Rattle.pg_stream.proofs.TableEnds.{finish-any, sound-ended, none-ends, ends}
 use Rattle.pg_stream.proofs.progress.Progress.close.Goals as goal
 
-pub returns-then-self-eq0 : goal.returns-then-self-eq0
-returns-then-self-eq0 g c = let none : c.args.self.now.rows ≡ 0 = omega arith in none-ends tt none
+pub returns-then-self-eq0-clause-ends : goal.returns-then-self-eq0-clause-ends
+returns-then-self-eq0-clause-ends g c = let none : c.args.self.now.rows ≡ 0 = omega arith in none-ends tt none
 
 pub push_end-requires-clause-sound : goal.push_end-requires-clause-sound
 push_end-requires-clause-sound g c =
@@ -19,13 +19,13 @@ push_end-requires-clause-sound g c =
       kept = c.requires.sound.kept;
     }
 
-pub returns-in_err-push_end : goal.returns-in_err-push_end
-returns-in_err-push_end g c =
+pub returns-in_err-push_end-clause-ends : goal.returns-in_err-push_end-clause-ends
+returns-in_err-push_end-clause-ends g c =
     let may = subst (λ (t : Printing). IfSome t.hint (λ rows. c.args.self.now.rows ≡ rows) × (spans_fit t.config.spans c.args.self.now.rows t.columns ≡ true)) c.requires.is (c.may_end.ensures.0 c.if-not-may_end.false) in
     let p = err_from_is_err_and c.from_residual.result c.from_residual.ensures.1 in
-    rw (p.1, p.2) (ends (Err StreamFault.Memory) (inr may) (Appends-text (finish-any (now_of g.T.Drawn.told c.args.self.now) true) (refused-as refl c.in_err-push_end.ensures)) tt)
+    rw (p.1, p.2) (ends (Err StreamFault.Memory) (inr may) (Appends-text (finish-any (now_of g.T.Drawn.told c.args.self.now) true) (refused-as refl c.in_err-push_end.ensures.appends)) tt)
 
-pub returns : goal.returns
-returns g c =
+pub returns-clause-ends : goal.returns-clause-ends
+returns-clause-ends g c =
     let may = subst (λ (t : Printing). IfSome t.hint (λ rows. c.args.self.now.rows ≡ rows) × (spans_fit t.config.spans c.args.self.now.rows t.columns ≡ true)) c.requires.is (c.may_end.ensures.0 c.if-not-may_end.false) in
-    ends (Ok tt) (inr may) (Appends-text (finish-any (now_of g.T.Drawn.told c.args.self.now) true) (appended-as c.in_ok-push_end.ensures)) tt
+    ends (Ok tt) (inr may) (Appends-text (finish-any (now_of g.T.Drawn.told c.args.self.now) true) (appended-as c.in_ok-push_end.ensures.appends)) tt

@@ -11,8 +11,8 @@ use Rattle.pg_stream.specs.Printing.{Printing, frame_of}
 use Rattle.pg_stream.proofs.Ending.{finish-none, no_cells, finish_text-is, ended_of}
 use Rattle.pg_stream.proofs.progress.Progress.push_end.Goals as goal
 
-pub returns-then-self-eq0 : goal.returns-then-self-eq0
-returns-then-self-eq0 g c = Appends-text (finish-none (now_of g.T.Drawn.told c.args.self.now) (omega arith)) (Gained-all (Gained-none c.args.buf.now))
+pub returns-then-self-eq0-clause-appends : goal.returns-then-self-eq0-clause-appends
+returns-then-self-eq0-clause-appends g c = Appends-text (finish-none (now_of g.T.Drawn.told c.args.self.now) (omega arith)) (Gained-all (Gained-none c.args.buf.now))
 
 pub invariant_of-line : goal.invariant_of-line
 invariant_of-line g c =
@@ -24,8 +24,8 @@ invariant_of-line g c =
     let ended : c.args.self.now.is_ended ≡ true = ended_of c.args.self.now.rows c.args.self.now.is_ended c.requires.ended some in
     record { are_drawn = record { opened = record { columns = c.requires.sound.printer.whole; inside = no_cells s w h cells refl c.requires.sound.printer ended _; placed = c.requires.sound.printer.placed }; tall = no_cells s w h cells refl c.requires.sound.printer ended (IsTall (frame_of g.T.Drawn.told)) } }
 
-pub returns-in_err-push_below : goal.returns-in_err-push_below
-returns-in_err-push_below g c =
+pub returns-in_err-push_below-clause-appends : goal.returns-in_err-push_below-clause-appends
+returns-in_err-push_below-clause-appends g c =
     let s : Printing = now_of g.T.Drawn.told c.args.self.now in
     let w = c.args.frame.now.width in
     let h = c.args.frame.now.height in
@@ -34,8 +34,8 @@ returns-in_err-push_below g c =
     let ended : c.args.self.now.is_ended ≡ true = ended_of c.args.self.now.rows c.args.self.now.is_ended c.requires.ended some in
     Appends-text (finish_text-is s w h cells refl c.requires.sound.printer ended c.begins_with_body-is_first.result (has_horizontal s.config s.rows s.rows) some c.begins_with_body-is_first.ensures refl) (stopped _ c.from_residual.ensures.0 c.in_err-push_below.ensures)
 
-pub returns : goal.returns
-returns g c =
+pub returns-clause-appends : goal.returns-clause-appends
+returns-clause-appends g c =
     let s : Printing = now_of g.T.Drawn.told c.args.self.now in
     let w = c.args.frame.now.width in
     let h = c.args.frame.now.height in
@@ -46,3 +46,13 @@ returns g c =
     let line = written (margin_line margin s.config.margin_offset.bottom s.config.margin_color.bottom w) in
     Appends-text (finish_text-is s w h cells refl c.requires.sound.printer ended c.begins_with_body-is_first.result c.has_horizontal-has_last.result some c.begins_with_body-is_first.ensures c.has_horizontal-has_last.ensures)
     (c.in_ok-push_below.ensures then Appends-text (ap (λ b. continued (lines_before b) (replicate margin.size line)) c.is_bare.ensures) c.push_bottom.ensures)
+
+pub returns-in_err-push_below-clause-empty : goal.returns-in_err-push_below-clause-empty
+returns-in_err-push_below-clause-empty g c = λ none.
+    let some : 0 < c.args.self.now.rows = omega arith in
+    absurd (omega (arith, none, some))
+
+pub returns-clause-empty : goal.returns-clause-empty
+returns-clause-empty g c = λ none.
+    let some : 0 < c.args.self.now.rows = omega arith in
+    absurd (omega (arith, none, some))

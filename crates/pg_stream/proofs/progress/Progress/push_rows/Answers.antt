@@ -86,4 +86,4 @@ returns g c = λ cells texts from.
     let ended = no-row is_row g.Rows.Iterator.next_gives _ _ now.texts now.from.others c.in-None.ensures.steps in
     let after = c.in_ok-push_row-2.ensures.after now.cells now.from.first.gives in
     Appends-text (sym (now.is ∙ ap (λ t. now.so_far ++ t) (rows_text-last s now.cells now.texts ended)))
-    (gained-then now.gained (c.in_ok-push_row-2.ensures.appends now.cells now.from.first.gives then Appends-text (ap finish_text after) c.push_end.ensures))
+    (gained-then now.gained (c.in_ok-push_row-2.ensures.appends now.cells now.from.first.gives then Appends-text (ap finish_text after) c.push_end.ensures.appends))

@@ -1,4 +1,7 @@
 use Rattle.pg_stream.proofs.row_printer.RowPrinter.close.Goals as goal
 
-pub returns : goal.returns
-returns g c = rw (← c.self.view_is) c.close.ensures
+pub returns-clause-ends : goal.returns-clause-ends
+returns-clause-ends g c = rw (← c.self.view_is) c.close.ensures.ends
+
+pub returns-clause-empty : goal.returns-clause-empty
+returns-clause-empty g c = rw (← c.self.view_is) c.close.ensures.empty

@@ -7,5 +7,8 @@ use Rattle.pg_stream.proofs.row_printer.RowPrinter.finish.Goals as goal
 pub push_end-requires-clause-ended : goal.push_end-requires-clause-ended
 push_end-requires-clause-ended g c = subst (λ p. ((printing g.D.Dimension.width g.D.Dimension.height g.C.Colors.color p).rows ≡ 0) ⊎ ((printing g.D.Dimension.width g.D.Dimension.height g.C.Colors.color p).is_ended ≡ true)) (sym c.self.view_is) c.requires
 
-pub returns : goal.returns
-returns g c = Appends-text (ap (λ p. finish_text (printing g.D.Dimension.width g.D.Dimension.height g.C.Colors.color p)) c.self.view_is) c.push_end.ensures
+pub returns-clause-appends : goal.returns-clause-appends
+returns-clause-appends g c = Appends-text (ap (λ p. finish_text (printing g.D.Dimension.width g.D.Dimension.height g.C.Colors.color p)) c.self.view_is) c.push_end.ensures.appends
+
+pub returns-clause-empty : goal.returns-clause-empty
+returns-clause-empty g c = rw (← c.self.view_is) c.push_end.ensures.empty
