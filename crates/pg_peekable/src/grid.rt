@@ -74,11 +74,12 @@ where
     ///
     /// A table that doesn't fit is refused with what `fits` answers, and the buffer stays as it was.
     /// Where memory is refused, the buffer holds a beginning of the picture behind what it held
-    /// before.
+    /// before. A table with no rows or no columns fits, and leaves the buffer as it was.
     pub fn print<A: Allocator>(&self, buf: &mut String<A>) -> Result<(), PrintFault>
         ensures prints { Prints (misfit_of (drawn R.Records D.Dimension C.Colors self.now)) buf.old buf.new result (picture Known (drawn R.Records D.Dimension C.Colors self.now)) }
         ensures printed { OnOk result (string_bytes buf.new ≡ string_bytes buf.old ++ picture Known (drawn R.Records D.Dimension C.Colors self.now)) }
         ensures misfit { (m : _) → (result ≡ Err (PrintFault.Misfit m)) ↔ (misfit_of (drawn R.Records D.Dimension C.Colors self.now) ≡ Some m) }
+        ensures empty { is_empty (drawn R.Records D.Dimension C.Colors self.now) ≡ true → IsOk result × (buf.new ≡ buf.old) }
     {
         self.fits()?;
         self.build(buf)?;
@@ -98,8 +99,8 @@ where
     }
 
     /// Appends the picture of the table, which fits: [`PeekableGrid::fits`] is the test, and
-    /// [`PeekableGrid::print`] the call that makes it first. A table with no rows or no columns appends
-    /// nothing.
+    /// [`PeekableGrid::print`] the call that makes it first. Of a table with no rows or no columns the
+    /// buffer stays as it was.
     ///
     /// Where each glyph and each fill takes one column, and no glyph of a column line is missing, all
     /// lines of the body are as wide as the table.
@@ -112,6 +113,7 @@ where
         requires fits { misfit_of (drawn R.Records D.Dimension C.Colors self.now) ≡ None }
         ensures appends { Appends buf.old buf.new result (picture Known (drawn R.Records D.Dimension C.Colors self.now)) }
         ensures straight { IsStraight (drawn R.Records D.Dimension C.Colors self.now) }
+        ensures empty { is_empty (drawn R.Records D.Dimension C.Colors self.now) ≡ true → IsOk result × (buf.new ≡ buf.old) }
     {
         let rows = self.records.count_rows();
         let columns = self.records.count_columns();

@@ -1,4 +1,5 @@
 use Rattle.std.proofs.Common.{◌≡◌, ◌||◌, ◌==◌, true, false, sym, ◌∙◌, arith}
+use Rattle.std.proofs.lemmas.Bool.{false≢true}
 use Rattle.std.proofs.lemmas.Bool.Decides.{nat_tests}
 use Rattle.pg_picture.specs.Table.{Known}
 use Rattle.pg_picture.proofs.Appending.{Appends-text, Gained-none, Gained-all}
@@ -32,3 +33,12 @@ returns-clause-appends g c =
     let columns = c.count_columns-columns.ensures.value in
     let some : ((t.rows == 0) || (t.columns == 0)) ≡ false = grind (arith, nat_tests, rows, columns) in
     Appends-text (sym (picture-some Known t some)) c.push_picture.ensures
+
+-- a picture is pushed where there are cells
+pub returns-clause-empty : goal.returns-clause-empty
+returns-clause-empty g c = λ empty.
+    let t = drawn g.R.Records g.D.Dimension g.C.Colors c.args.self.now in
+    let rows = c.count_rows-rows.ensures in
+    let columns = c.count_columns-columns.ensures.value in
+    let some : ((t.rows == 0) || (t.columns == 0)) ≡ false = grind (arith, nat_tests, rows, columns) in
+    absurd (false≢true (sym some ∙ empty))
