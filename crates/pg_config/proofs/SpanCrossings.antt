@@ -19,13 +19,13 @@ use Rattle.pg_config.specs.declared.crossings.Side.TheVariants.{Top, Bottom, Lef
 use Rattle.pg_config.specs.Config.{Config}
 use Rattle.pg_config.specs.Crossings.{lies_inside, is_on_side, is_on, arms, meeting, edge_glyph, span_crossing, with_rows, with_crossings}
 use Rattle.pg_config.specs.Inside.CrossingMarks.{Marks, no_sides, has_side, with_side, sides_at, with_mark, on_line, with_line, count_inside, line_behind, with_span, with_spans, with_glyphs, with_all}
-use Rattle.pg_config.specs.Overrides.{with_row}
+use Rattle.pg_config.specs.Overrides.{Overrides, with_row}
 use Rattle.pg_config.specs.Spans.{Span}
 use Rattle.pg_config.proofs.Lookups.{value_at-with_some}
 
 -- ---- marks
 
-is_same : Side → Side → Bool
+abbrev is_same : Side → Side → Bool
 is_same Top Top = true
 is_same Bottom Bottom = true
 is_same Left Left = true
@@ -52,8 +52,7 @@ has_side-with Right Right s = refl
 
 -- what holds where another holds, and else doesn't, is the same
 both : (a b : Bool) → (a ≡ true → b ≡ true) → (a ≡ false → b ≡ false) → a ≡ b
-both true b yes no = sym (yes refl)
-both false b yes no = sym (no refl)
+both a b with without = elim (cases_Bool a) [ inl y ↦ y ∙ sym (with y) | inr n ↦ n ∙ sym (without n) ]
 
 -- a crossing has that mark
 abbrev is_marked : Marks → Position → Side → Bool
@@ -134,7 +133,9 @@ module _ (rows columns : ℕ) where
   along_rows : (f c r i q_row q_col : ℕ) → (if nat_le (r + i) rows then (q_row == r + i) && (nat_lt f q_col && nat_le q_col (f + count_inside f c columns)) else false) ≡ ((nat_le q_row rows && nat_le q_col columns) && ((q_row == r + i) && lies_inside f c columns q_col))
   along_rows f c r i q_row q_col =
       elim (cases_Bool (nat_le (r + i) rows)) [
-        | inl y ↦ rw y (both _ _ (λ h. grind (arith, nat_tests, y, h)) (λ h. grind (arith, nat_tests, y, h)))
+        | inl y ↦
+            let there : ((q_row == r + i) && (nat_lt f q_col && nat_le q_col (f + count_inside f c columns))) ≡ ((nat_le q_row rows && nat_le q_col columns) && ((q_row == r + i) && lies_inside f c columns q_col)) = both _ _ (λ h. grind (arith, nat_tests, y, h)) (λ h. grind (arith, nat_tests, y, h)) in
+            rw y there
         | inr n ↦
             let none : ((nat_le q_row rows && nat_le q_col columns) && ((q_row == r + i) && lies_inside f c columns q_col)) ≡ false = grind (arith, nat_tests, n) in
             rw n (sym none)
@@ -143,7 +144,9 @@ module _ (rows columns : ℕ) where
   along_columns : (f c r i q_row q_col : ℕ) → (if nat_le (r + i) columns then (q_col == r + i) && (nat_lt f q_row && nat_le q_row (f + count_inside f c rows)) else false) ≡ ((nat_le q_row rows && nat_le q_col columns) && ((q_col == r + i) && lies_inside f c rows q_row))
   along_columns f c r i q_row q_col =
       elim (cases_Bool (nat_le (r + i) columns)) [
-        | inl y ↦ rw y (both _ _ (λ h. grind (arith, nat_tests, y, h)) (λ h. grind (arith, nat_tests, y, h)))
+        | inl y ↦
+            let there : ((q_col == r + i) && (nat_lt f q_row && nat_le q_row (f + count_inside f c rows))) ≡ ((nat_le q_row rows && nat_le q_col columns) && ((q_col == r + i) && lies_inside f c rows q_row)) = both _ _ (λ h. grind (arith, nat_tests, y, h)) (λ h. grind (arith, nat_tests, y, h)) in
+            rw y there
         | inr n ↦
             let none : ((nat_le q_row rows && nat_le q_col columns) && ((q_col == r + i) && lies_inside f c rows q_row)) ≡ false = grind (arith, nat_tests, n) in
             rw n (sym none)
@@ -268,7 +271,7 @@ module _ (rows columns : ℕ) where
         ∙ elim (cases_Bool (in_table q)) [ inl y ↦ rw y refl | inr n ↦ rw n refl ]
 
     -- the glyph of a place by its entry among the marks
-    entry_glyph : Position → Option (Sides Bool) → Option ℕ
+    abbrev entry_glyph : Position → Option (Sides Bool) → Option ℕ
     entry_glyph q None = None
     entry_glyph q (Some s) = edge_glyph config b rows columns q (has_side s)
 
@@ -301,6 +304,12 @@ module _ (rows columns : ℕ) where
         ∙ marked-is q
 
 -- ---- all crossings
+
+more_columns : (r n : ℕ) (q : Position) → ((same by_place (at r n) q || ((q.row == r) && nat_lt q.col n))) ≡ ((q.row == r) && nat_lt q.col (suc n))
+more_columns r n q = both _ _ (λ h. grind (arith, nat_tests, h)) (λ h. grind (arith, nat_tests, h))
+
+none_of : (b : Bool) (q : Position) → (b && nat_lt q.col 0) ≡ false
+none_of b q = grind (arith, nat_tests)
 
 module _ {G : Type 0} where
   value_at-all : (gs es : List (Position × G)) → IsAscending by_place gs → (q : Position) → value_at by_place q (with_all gs es) ≡ option_or (value_at by_place q gs) (value_at by_place q es)
@@ -335,12 +344,6 @@ module _ {G : Type 0} where
   -- a place that is reached has its value, if there is one
   abbrev reached : Bool → Option G → Option G → Option G
   reached b v o = if b then option_or v o else o
-
-  more_columns : (r n : ℕ) (q : Position) → ((same by_place (at r n) q || ((q.row == r) && nat_lt q.col n))) ≡ ((q.row == r) && nat_lt q.col (suc n))
-  more_columns r n q = both _ _ (λ h. grind (arith, nat_tests, h)) (λ h. grind (arith, nat_tests, h))
-
-  none_of : (b : Bool) (q : Position) → (b && nat_lt q.col 0) ≡ false
-  none_of b q = grind (arith, nat_tests)
 
   value_at-row : (r n : ℕ) (values : ℕ → Option G) (es : List (Position × G)) (q : Position) → value_at by_place q (with_row r n values es) ≡ reached ((q.row == r) && nat_lt q.col n) (values q.col) (value_at by_place q es)
   value_at-row r zero values es q = rw (none_of (q.row == r) q) refl
@@ -432,16 +435,25 @@ kept_or true v o = refl
 kept_or false v o = refl
 
 -- To put the glyphs of all marks is to give each crossing its glyph.
-pub glyphs_are_crossings : (config : Config) (b : Borders ℕ) (rows columns : ℕ) (m : Marks) (gs : List (Position × ℕ)) → m ≡ with_spans rows columns config.spans [] → gs ≡ with_glyphs config b rows columns m [] → IsAscending by_place m → IsAscending by_place gs → IsAscending by_place config.overrides.crossings → record config.overrides { crossings = with_all gs config.overrides.crossings } ≡ with_crossings rows columns (span_crossing config b rows columns) config.overrides
+glyphs_are_crossings : (config : Config) (b : Borders ℕ) (rows columns : ℕ) (m : Marks) (gs : List (Position × ℕ)) → m ≡ with_spans rows columns config.spans [] → gs ≡ with_glyphs config b rows columns m [] → IsAscending by_place m → IsAscending by_place gs → IsAscending by_place config.overrides.crossings → record config.overrides { crossings = with_all gs config.overrides.crossings } ≡ with_crossings rows columns (span_crossing config b rows columns) config.overrides
 unfolding with_crossings
 glyphs_are_crossings config b rows columns m gs marks glyphs up_marks up_glyphs up =
     let es = config.overrides.crossings in
     let values = span_crossing config b rows columns in
     let told : gs ≡ with_glyphs config b rows columns (with_spans rows columns config.spans []) [] = glyphs ∙ ap (λ x. with_glyphs config b rows columns x []) marks in
     ap (λ x. record config.overrides { crossings = x }) (same_entries place-laws (with_all gs es) (with_rows (rows + 1) (columns + 1) values es) (IsAscending-all gs es up) (IsAscending-rows (rows + 1) (columns + 1) values es up) (λ q.
-      value_at-all gs es up_glyphs q
-      ∙ ap (λ x. option_or (value_at by_place q x) (value_at by_place q es)) told
-      ∙ ap (λ o. option_or o (value_at by_place q es)) (glyph_at rows columns config b q (subst (λ x. IsAscending by_place x) marks up_marks))
-      ∙ kept_or (nat_le q.row rows && nat_le q.col columns) (values q) (value_at by_place q es)
-      ∙ ap (λ x. reached x (values q) (value_at by_place q es)) (bounded rows columns q)
-      ∙ sym (value_at-rows (rows + 1) (columns + 1) values es q)))
+    value_at-all gs es up_glyphs q
+    ∙ ap (λ x. option_or (value_at by_place q x) (value_at by_place q es)) told
+    ∙ ap (λ o. option_or o (value_at by_place q es)) (glyph_at rows columns config b q (subst (λ x. IsAscending by_place x) marks up_marks))
+    ∙ kept_or (nat_le q.row rows && nat_le q.col columns) (values q) (value_at by_place q es)
+    ∙ ap (λ x. reached x (values q) (value_at by_place q es)) (bounded rows columns q)
+    ∙ sym (value_at-rows (rows + 1) (columns + 1) values es q)))
+
+-- the same of the configuration as it is held, whose overrides are then these
+pub crossings_set : (held config : Config) → held ≡ config → (b : Borders ℕ) (rows columns : ℕ) (spans : List Span) (m : Marks) (gs : List (Position × ℕ)) (new : Overrides ℕ) → spans ≡ config.spans → m ≡ with_spans rows columns spans [] → gs ≡ with_glyphs config b rows columns m [] → IsAscending by_place m → IsAscending by_place gs → IsAscending by_place held.overrides.crossings → new ≡ record held.overrides { crossings = with_all gs held.overrides.crossings } → record held { overrides = new } ≡ record config { overrides = with_crossings rows columns (span_crossing config b rows columns) config.overrides }
+crossings_set held config is b rows columns spans m gs new kept marks glyphs up_marks up_glyphs up put =
+    let marked : m ≡ with_spans rows columns config.spans [] = marks ∙ ap (λ s. with_spans rows columns s []) kept in
+    let up_held : IsAscending by_place config.overrides.crossings = subst (λ v. IsAscending by_place v.overrides.crossings) is up in
+    let told : new ≡ record config.overrides { crossings = with_all gs config.overrides.crossings } = put ∙ ap (λ v. record v.overrides { crossings = with_all gs v.overrides.crossings }) is in
+    ap (λ x. record held { overrides = x }) (told ∙ glyphs_are_crossings config b rows columns m gs marked glyphs up_marks up_glyphs up_held)
+    ∙ ap (λ v. record v { overrides = with_crossings rows columns (span_crossing config b rows columns) config.overrides }) is

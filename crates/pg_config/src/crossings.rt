@@ -198,14 +198,8 @@ fn edge_glyph<A: Allocator>(
     }
 }
 
-
 // The glyph where these lines meet, three or two of one direction.
-fn meeting(
-    borders: &Borders<char>,
-    size: (usize, usize),
-    pos: Position,
-    arms: Arms,
-) -> Option<char>
+fn meeting(borders: &Borders<char>, size: (usize, usize), pos: Position, arms: Arms) -> Option<char>
     ensures { result ≡ meeting borders.now size.0 size.1 pos arms }
 {
     let goes_across = arms.left && arms.right;

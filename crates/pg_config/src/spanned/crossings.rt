@@ -19,7 +19,6 @@ impl<A: Allocator + Copy> SpannedConfig<A> {
     /// without spans none is asked for. It takes as long as the edges of the spans are.
     ///
     /// A span that is told later changes no crossing: this is called once all are told.
-    #[tactic(auto, using(crate::proofs::SpanCrossings::glyphs_are_crossings))]
     pub fn set_span_crossings(
         &mut self,
         alloc: A,
