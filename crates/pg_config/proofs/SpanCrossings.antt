@@ -455,5 +455,9 @@ crossings_set held config is b rows columns spans m gs new kept marks glyphs up_
     let marked : m ≡ with_spans rows columns config.spans [] = marks ∙ ap (λ s. with_spans rows columns s []) kept in
     let up_held : IsAscending by_place config.overrides.crossings = subst (λ v. IsAscending by_place v.overrides.crossings) is up in
     let told : new ≡ record config.overrides { crossings = with_all gs config.overrides.crossings } = put ∙ ap (λ v. record v.overrides { crossings = with_all gs v.overrides.crossings }) is in
-    ap (λ x. record held { overrides = x }) (told ∙ glyphs_are_crossings config b rows columns m gs marked glyphs up_marks up_glyphs up_held)
-    ∙ ap (λ v. record v { overrides = with_crossings rows columns (span_crossing config b rows columns) config.overrides }) is
+    let made : Overrides ℕ = with_crossings rows columns (span_crossing config b rows columns) config.overrides in
+    let all : new ≡ made = told ∙ glyphs_are_crossings config b rows columns m gs marked glyphs up_marks up_glyphs up_held in
+    let put_over : Overrides ℕ → Config → Config = λ x v. record v { overrides = x } in
+    let first : put_over new held ≡ put_over made held = ap (λ x. put_over x held) all in
+    let second : put_over made held ≡ put_over made config = ap (λ v. put_over made v) is in
+    first ∙ second
