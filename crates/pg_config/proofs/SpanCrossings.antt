@@ -1,7 +1,6 @@
 -- The glyphs that are put on the edges of merged cells are those of the crossings there.
-use Rattle.std.proofs.Common.{◌≡◌, ℕ, zero, suc, ◌+◌, ◌-◌, ◌<◌, ◌≤◌, Bool, true, false, not, ◌&&◌, ◌||◌, ◌==◌, nat_lt, nat_le, min, List, [], ◌∷◌, refl, sym, ap, subst, ◌∙◌, arith, Option, Some, None, if◌then◌else◌, inl, inr}
+use Rattle.std.proofs.Common.{◌≡◌, ℕ, zero, suc, ◌+◌, Bool, true, false, ◌&&◌, ◌||◌, ◌==◌, nat_lt, nat_le, List, [], ◌∷◌, refl, sym, ap, subst, ◌∙◌, arith, Option, Some, None, if◌then◌else◌, inl, inr}
 use Rattle.std.specs.Prelude.{is_some, unwrap_or}
-use Rattle.std.specs.List.{list_any}
 use Rattle.std.specs.Option.{option_or}
 use Rattle.std.proofs.lemmas.Bool.{cases_Bool, false≢true}
 use Rattle.std.proofs.lemmas.Bool.Decides.{nat_tests}
@@ -17,7 +16,7 @@ use Rattle.pg_layout.proofs.PlacesOrder.{none_after, same-turned, before-not_bac
 use Rattle.pg_config.specs.declared.crossings.Side.{Side}
 use Rattle.pg_config.specs.declared.crossings.Side.TheVariants.{Top, Bottom, Left, Right}
 use Rattle.pg_config.specs.Config.{Config}
-use Rattle.pg_config.specs.Crossings.{lies_inside, is_on_side, is_on, arms, meeting, edge_glyph, span_crossing, with_rows, with_crossings}
+use Rattle.pg_config.specs.Crossings.{lies_inside, is_on_side, is_on, edge_glyph, span_crossing, with_rows, with_crossings}
 use Rattle.pg_config.specs.Inside.CrossingMarks.{Marks, no_sides, has_side, with_side, sides_at, with_mark, on_line, with_line, count_inside, line_behind, with_span, with_spans, with_glyphs, with_all}
 use Rattle.pg_config.specs.Overrides.{Overrides, with_row}
 use Rattle.pg_config.specs.Spans.{Span}
