@@ -7,6 +7,7 @@
 mod compact_list;
 mod fault;
 mod grid_calls;
+mod invoice;
 mod price_list;
 mod streamed_rows;
 mod timetable;
@@ -18,6 +19,7 @@ use std::io;
 fn main(rt: HostRuntime) -> Result<(), Fault> {
     let alloc = rt.alloc();
     show(&rt, "price_list", &price_list::prices(alloc)?)?;
+    show(&rt, "invoice", &invoice::invoice(alloc)?)?;
     show(&rt, "timetable", &timetable::week(alloc)?)?;
     show(&rt, "streamed_rows", &streamed_rows::lists(alloc)?)?;
     show(&rt, "compact_list", &compact_list::list(alloc)?)?;

@@ -11,6 +11,7 @@ mod TakenBack
 mod OverrideColumns
 mod BorderLines
 mod RowLines
+mod SpanCrossings
 mod KeptSpans
 mod Extents
 pub mod SettingsForAll

@@ -3,3 +3,4 @@ pub mod NotedPlaces
 pub mod Lines
 pub mod Extents
 pub mod Covered
+pub mod CrossingMarks

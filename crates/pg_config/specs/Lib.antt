@@ -4,5 +4,6 @@ pub mod Offsets
 pub mod GlyphOrder
 pub mod Spans
 pub mod Config
+pub mod Crossings
 pub mod CompactConfig
 pub mod Inside

@@ -2,6 +2,7 @@
 #![tactic(auto)]
 
 mod compact;
+mod crossings;
 mod entity_colors;
 mod extent;
 mod lines;
@@ -13,6 +14,7 @@ mod spanned;
 mod spans;
 
 pub use crate::compact::CompactConfig;
+pub use crate::crossings::{Arms, Side};
 pub use crate::entity_colors::EntityColors;
 pub use crate::spanned::SpannedConfig;
 pub use crate::spans::{Span, SpanSize, Spans};

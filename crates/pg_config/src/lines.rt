@@ -4,11 +4,12 @@ ghost use Rattle.std.specs.Prelude.{◌≡◌, ◌+◌, ◌^◌, ◌<◌, [], Bo
 ghost use Rattle.pg_layout.specs.Borders.{no_border};
 ghost use Rattle.pg_layout.specs.Keys.{by_place};
 ghost use Rattle.pg_layout.specs.Places.{with_some};
+ghost use Rattle.pg_config.specs.Inside.CrossingMarks.{with_all};
 ghost use Rattle.pg_config.specs.Inside.NotedPlaces.{settled, settled_at};
 ghost use Rattle.pg_config.specs.Overrides.{HasColumns, no_lines, behind, on_lines, with_round, with_border, with_row, line_crossing, with_row_line};
 
 use crate::noted_places::NotedPlaces;
-use pg_layout::{Border, ColumnPlace, HorizontalLine, Position};
+use pg_layout::{Border, ColumnPlace, HorizontalLine, Places, Position};
 use std::alloc::{AllocError, Allocator, Global};
 use std::marker::Model;
 
@@ -133,6 +134,22 @@ fn behind<G: Drop>(line: usize, part: Option<G>) -> Option<G>
 }
 
 impl<A: Allocator + Clone> Lines<char, A> {
+    /// Gives these crossings these glyphs, or some of them where memory is refused.
+    ///
+    /// Each column of a crossing is listed, as in all `Overrides`.
+    pub fn put_all_crossings(
+        &mut self,
+        glyphs: &Places<Position, char, A>,
+    ) -> Result<(), AllocError>
+        requires has_columns { HasColumns self.old.now.columns self.old.now.overrides.crossings }
+        ensures ok { OnOk result (self.new.now.overrides ≡ record self.old.now.overrides { crossings = with_all glyphs.now self.old.now.overrides.crossings }) }
+        ensures has_columns { OnOk result (HasColumns self.new.now.columns self.new.now.overrides.crossings) }
+        ensures before { self.new.before ≡ self.old.before }
+        ensures nothing { glyphs.now ≡ [] → IsOk result }
+    {
+        put_all(&mut self.crossings, &mut self.columns, glyphs)
+    }
+
     /// Gives the horizontals and the crossings of a row line of so many columns the glyphs of this
     /// line, or some of them where memory is refused.
     ///
@@ -160,6 +177,25 @@ impl<A: Allocator + Clone> Lines<char, A> {
         let (crossings, index) = (&mut self.crossings, &mut self.columns);
         put_crossings(crossings, index, row, columns, line)
     }
+}
+
+// Gives these crossings these glyphs, and lists their columns, or some of them.
+fn put_all<A: Allocator + Clone>(
+    crossings: &mut NotedPlaces<Position, char, A>,
+    columns: &mut NotedPlaces<usize, (), A>,
+    glyphs: &Places<Position, char, A>,
+) -> Result<(), AllocError>
+    requires has_columns { HasColumns columns.old.now crossings.old.now }
+    ensures ok { OnOk result (crossings.new.now ≡ with_all glyphs.now crossings.old.now) }
+    ensures has_columns { OnOk result (HasColumns columns.new.now crossings.new.now) }
+    ensures before { crossings.new.before ≡ crossings.old.before }
+    ensures before_columns { columns.new.before ≡ columns.old.before }
+    ensures nothing { glyphs.now ≡ [] → IsOk result }
+{
+    for (pos, glyph) in glyphs.iter() {
+        put_crossing(crossings, columns, *pos, Some(*glyph))?;
+    }
+    Ok(())
 }
 
 // Gives the first horizontals of a row line this glyph, if there is one, or some of them.

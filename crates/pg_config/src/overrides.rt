@@ -1,9 +1,10 @@
 //! What was set for single places of the border lines.
 
-ghost use Rattle.std.specs.Prelude.{◌≡◌, false, option_map, OnOk, OnErr, IsOk};
+ghost use Rattle.std.specs.Prelude.{◌≡◌, false, [], option_map, OnOk, OnErr, IsOk};
 ghost use Rattle.pg_layout.specs.Borders.{no_border};
-ghost use Rattle.pg_layout.specs.Keys.{in_row, in_column};
-ghost use Rattle.pg_layout.specs.Places.{has_key};
+ghost use Rattle.pg_layout.specs.Keys.{by_place, in_row, in_column};
+ghost use Rattle.pg_layout.specs.Places.{IsAscending, has_key};
+ghost use Rattle.pg_config.specs.Inside.CrossingMarks.{with_all};
 ghost use Rattle.pg_config.specs.Overrides.{no_overrides, on_lines, with_border, has_glyph, with_row_line, horizontal_override, vertical_override, crossing_override, overrides_row, overrides_column, sets_rows, sets_columns};
 
 use crate::lines::Lines;
@@ -117,6 +118,22 @@ impl<G: Drop, A: Allocator + Clone> Overrides<G, A> {
 }
 
 impl<A: Allocator + Clone> Overrides<char, A> {
+    /// Gives these crossings these glyphs.
+    ///
+    /// Where memory is refused, nothing changes. Without glyphs none is asked for.
+    pub fn set_crossings(&mut self, glyphs: &Places<Position, char, A>) -> Result<(), AllocError>
+        ensures ok { OnOk result (self.new ≡ record self.old { crossings = with_all glyphs.now self.old.crossings }) }
+        ensures err { OnErr result (self.new ≡ self.old) }
+        ensures ascending { IsAscending by_place self.old.crossings }
+        ensures nothing { glyphs.now ≡ [] → IsOk result }
+    {
+        // Shows that they stand in order.
+        self.lines.crossings.places().stand_in_order();
+        let done = self.lines.put_all_crossings(glyphs);
+        self.lines.settle(done.is_ok());
+        done
+    }
+
     /// Gives the horizontals and the crossings of a row line of so many columns the glyphs of this
     /// line. A glyph that it lacks leaves its places as they were. With no columns nothing changes.
     ///

@@ -17,9 +17,12 @@ use std::marker::Model;
 
 mod borders;
 mod colors;
+mod crossings;
 mod margins;
 mod offsets;
 mod spans;
+
+pub(crate) use self::borders::{horizontal_glyph, vertical_glyph};
 
 /// What a table is told: borders, paddings, alignments, spans, margins and colours.
 ///

@@ -60,7 +60,8 @@
 //!   `</r>`, and so are `green` and `blue`; `empty` is a colour of two empty texts.
 //! - `table with_borders psql` is the next call of a builder of natural sizes. Its other calls are
 //!   `with_padding 1 1 1:* 0`, `with_alignment right`, `with_header_line` and `set_header_line` (`psql`,
-//!   `sharp`, `markdown`, or the one glyph of a line without crossings and ends); and `with_config` and
+//!   `sharp`, `markdown`, or the one glyph of a line without crossings and ends); `with_span_crossings` and
+//!   `set_span_crossings`, with borders; and `with_config` and
 //!   `with_colors`, which take the settings and the colours that were told since the last one. `table`
 //!   alone makes one, and calls nothing.
 //! - `or` begins another way to draw the same texts, in the same sizes unless others are told, with

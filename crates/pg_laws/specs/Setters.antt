@@ -16,6 +16,7 @@ use Rattle.pg_config.specs.Overrides.{with_border, with_row_line}
 use Rattle.pg_config.specs.Offsets.{with_offset}
 use Rattle.pg_config.specs.Spans.{with_column_span, with_row_span}
 use Rattle.pg_config.specs.Config.{Config}
+use Rattle.pg_config.specs.Crossings.{span_crossing, with_crossings}
 
 -- a setter that succeeds, with what it is handed
 pub data Setter : Type 0 where
@@ -32,6 +33,7 @@ pub data Setter : Type 0 where
   set_borders_missing : Option ℕ → Setter
   set_border : Position → Border ℕ → Setter
   set_row_line : ℕ → ℕ → HorizontalLine ℕ → Setter
+  set_span_crossings : ℕ → ℕ → Borders ℕ → Setter
   set_borders_color : Borders Color → Setter
   set_border_color : Position → Border Color → Setter
   set_horizontal_char : Position → Offset → ℕ → Setter
@@ -59,6 +61,7 @@ after c (set_borders v) = record c { borders = v }
 after c (set_borders_missing v) = record c { missing = v }
 after c (set_border p v) = record c { overrides = with_border p v c.overrides }
 after c (set_row_line r columns v) = record c { overrides = with_row_line r columns v c.overrides }
+after c (set_span_crossings rows columns v) = record c { overrides = with_crossings rows columns (span_crossing c v rows columns) c.overrides }
 after c (set_borders_color v) = record c { border_colors = v; border_colored = true }
 after c (set_border_color p v) = record c { color_overrides = with_border p v c.color_overrides; border_colored = true }
 after c (set_horizontal_char p offset v) = record c { horizontal_chars = with_offset p offset v c.horizontal_chars }

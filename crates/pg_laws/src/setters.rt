@@ -3,7 +3,7 @@
 
 ghost use Rattle.std.specs.Prelude.{◌≡◌, ◌∷◌, [], OnOk};
 ghost use Rattle.std.specs.List.{fold};
-ghost use Rattle.pg_laws.specs.Setters.{after, set_padding, set_padding_color, set_alignment_horizontal, set_alignment_vertical, set_trim_horizontal, set_trim_vertical, set_line_alignment, set_justification, set_justification_color, set_borders, set_borders_missing, set_border, set_row_line, set_borders_color, set_border_color, set_horizontal_char, set_horizontal_color, set_vertical_char, set_vertical_color, set_margin, set_margin_offset, set_margin_color, set_column_span, set_row_span};
+ghost use Rattle.pg_laws.specs.Setters.{after, set_padding, set_padding_color, set_alignment_horizontal, set_alignment_vertical, set_trim_horizontal, set_trim_vertical, set_line_alignment, set_justification, set_justification_color, set_borders, set_borders_missing, set_border, set_row_line, set_span_crossings, set_borders_color, set_border_color, set_horizontal_char, set_horizontal_color, set_vertical_char, set_vertical_color, set_margin, set_margin_offset, set_margin_color, set_column_span, set_row_span};
 
 use pg_config::SpannedConfig;
 use pg_layout::{
@@ -89,6 +89,18 @@ pub fn overrides_are_told<A: Allocator + Clone>(
 {
     config.set_border(pos, border)?;
     config.set_row_line(pos.row, pos.col, line)
+}
+
+/// The glyphs of the crossings on the edges of merged cells.
+pub fn span_crossings_are_told<A: Allocator + Copy>(
+    config: &mut SpannedConfig<A>,
+    alloc: A,
+    size: (usize, usize),
+    borders: Borders<char>,
+) -> Result<(), AllocError>
+    ensures { OnOk result (config.new ≡ fold after config.old (set_span_crossings size.0 size.1 borders ∷ [])) }
+{
+    config.set_span_crossings(alloc, size, borders)
 }
 
 /// The colours of borders.

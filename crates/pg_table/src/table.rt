@@ -18,6 +18,7 @@ use std::marker::Model;
 
 mod rows;
 mod settings;
+mod crossings;
 
 /// Rows of texts, drawn at their natural sizes: each column as wide as its widest cell, and each row
 /// as high as its highest one, a cell being its text with the paddings round it. What a cell with a

@@ -86,3 +86,14 @@ pub(crate) fn tell_row_line<A: Allocator + Copy>(
     let line = glyphs_told(HorizontalLine::new(None, None, None, None), words)?;
     Ok(config.set_row_line(row, columns, line)?)
 }
+
+/// Tells of the crossings on the edges of cells with a span, by the rows and the columns of a table.
+pub(crate) fn tell_span_crossings<A: Allocator + Copy>(
+    config: &mut SpannedConfig<A>,
+    alloc: A,
+    mut words: Words<'_>,
+) -> Result<(), ToldFault> {
+    let rows = words.number()?;
+    let columns = words.number()?;
+    Ok(config.set_span_crossings(alloc, (rows, columns), words.last_borders()?)?)
+}

@@ -22,7 +22,8 @@
 //! - A side of a padding or a margin is a number of spaces, or a number, `:` and the glyph that fills it.
 //!   The sides are told in the order left, right, top, bottom.
 //! - `borders`, `border` and `row_line`, and those for colours, name the places that have a value, as
-//!   `left=|`. The others have none. `borders` may name a look instead.
+//!   `left=|`. The others have none. `borders` may name a look instead, and so may `span_crossings`,
+//!   which has the rows and the columns of a table before it.
 #![tactic(auto)]
 
 mod borders;
@@ -63,6 +64,7 @@ pub fn tell<A: Allocator + Copy>(
         "border" => borders::tell_border(config, words),
         "border_color" => borders::tell_border_color(config, alloc, words),
         "row_line" => borders::tell_row_line(config, words),
+        "span_crossings" => borders::tell_span_crossings(config, alloc, words),
         "column_span" | "row_span" => places::tell_span(config, name, words),
         "horizontal_char" | "vertical_char" => places::tell_glyph(config, name, words),
         "horizontal_color" | "vertical_color" => places::tell_color(config, alloc, name, words),

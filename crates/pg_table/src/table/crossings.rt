@@ -1,0 +1,49 @@
+//! Crossings that follow the merged cells of a table.
+
+ghost use Rattle.std.specs.Prelude.{◌≡◌, [], length, OnOk, OnErr, IfOk, IsOk, Err};
+ghost use Rattle.pg_layout.specs.Records.{columns_of};
+ghost use Rattle.pg_table.specs.Crossings.{with_span_crossings};
+
+use crate::fault::TableFault;
+use crate::table::Table;
+use pg_layout::{Borders, Records};
+use std::alloc::{AllocError, Allocator};
+use std::convert::AsStr;
+
+impl<T: AsStr + Drop, A: Allocator + Copy> Table<T, A> {
+    /// Draws each crossing on the edge of a cell with a span by the lines that meet there, with the
+    /// glyphs of these borders, as [`pg_config::SpannedConfig::set_span_crossings`] does for the rows and
+    /// columns of this table.
+    ///
+    /// Where memory is refused, nothing changes; without spans none is asked for. A span or a line that
+    /// is told later changes no crossing.
+    pub fn set_span_crossings(&mut self, alloc: A, borders: Borders<char>) -> Result<(), AllocError>
+        ensures ok { OnOk result (self.new ≡ record self.old { config = with_span_crossings borders (length self.old.rows) (columns_of self.old.rows) self.old.config }) }
+        ensures err { OnErr result (self.new ≡ self.old) }
+        ensures nothing { self.old.config.spans ≡ [] → IsOk result }
+    {
+        let size = self.size();
+        self.config.set_span_crossings(alloc, size, borders)
+    }
+
+    /// The same table with crossings that follow its merged cells ([`Table::set_span_crossings`]).
+    /// Where memory is refused the table is let go.
+    ///
+    /// ```text
+    /// let table = table.with_config(config).with_span_crossings(alloc, Borders::sharp())?;
+    /// ```
+    pub fn with_span_crossings(
+        mut self,
+        alloc: A,
+        borders: Borders<char>,
+    ) -> Result<Table<T, A>, TableFault>
+        ensures ok { IfOk result (λ table. table ≡ record self { config = with_span_crossings borders (length self.rows) (columns_of self.rows) self.config }) }
+        ensures memory { (fault : TableFault) → result ≡ Err fault → fault ≡ TableFault.Memory }
+        ensures nothing { self.config.spans ≡ [] → IsOk result }
+    {
+        match self.set_span_crossings(alloc, borders) {
+            Ok(()) => Ok(self),
+            Err(error) => Err(error.into()),
+        }
+    }
+}
