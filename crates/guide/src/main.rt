@@ -8,6 +8,7 @@ mod compact_list;
 mod fault;
 mod grid_calls;
 mod price_list;
+mod record_blocks;
 mod streamed_rows;
 mod timetable;
 mod word_counts;
@@ -18,6 +19,7 @@ use std::io;
 fn main(rt: HostRuntime) -> Result<(), Fault> {
     let alloc = rt.alloc();
     show(&rt, "price_list", &price_list::prices(alloc)?)?;
+    show(&rt, "record_blocks", &record_blocks::blocks(alloc)?)?;
     show(&rt, "timetable", &timetable::week(alloc)?)?;
     show(&rt, "streamed_rows", &streamed_rows::lists(alloc)?)?;
     show(&rt, "compact_list", &compact_list::list(alloc)?)?;
