@@ -9,6 +9,7 @@ mod fault;
 mod grid_calls;
 mod invoice;
 mod price_list;
+mod record_blocks;
 mod streamed_rows;
 mod timetable;
 mod word_counts;
@@ -20,6 +21,7 @@ fn main(rt: HostRuntime) -> Result<(), Fault> {
     let alloc = rt.alloc();
     show(&rt, "price_list", &price_list::prices(alloc)?)?;
     show(&rt, "invoice", &invoice::invoice(alloc)?)?;
+    show(&rt, "record_blocks", &record_blocks::blocks(alloc)?)?;
     show(&rt, "timetable", &timetable::week(alloc)?)?;
     show(&rt, "streamed_rows", &streamed_rows::lists(alloc)?)?;
     show(&rt, "compact_list", &compact_list::list(alloc)?)?;

@@ -1,10 +1,12 @@
 -- Rows in memory: what reads them gives their texts, and rows of one length.
-use Rattle.std.proofs.Common.{ℕ, ◌+◌, ◌<◌, ◌≤◌, nat_lt, Bool, true, false, not, ◌==◌, cond, length, map, get_or, slice_get, All, arith, ◌≡◌, List, [], ◌∷◌, Some, None, refl, sym, ap, ◌∙◌, subst}
+use Rattle.std.proofs.Common.{ℕ, ◌+◌, ◌<◌, ◌≤◌, nat_lt, Bool, true, false, not, ◌==◌, ◌||◌, cond, length, map, get_or, slice_get, All, arith, ◌≡◌, List, [], ◌∷◌, ◌++◌, Some, None, refl, sym, ap, ◌∙◌, subst}
 use Rattle.std.specs.List.{position, position_or_len}
-use Rattle.std.proofs.lemmas.List.{length-map, get_or-map}
+use Rattle.std.specs.Prelude.{Option}
+use Rattle.std.proofs.lemmas.List.{length-map, length_push, map-append, get_or-map}
+use Rattle.std.proofs.lemmas.List.Folds.{position_or_len_push}
 use Rattle.std.proofs.lemmas.List.Elements.{All-map}
-use Rattle.std.proofs.lemmas.List.Sums.{prefix_len_passes}
-use Rattle.std.proofs.lemmas.Bool.{ltb-false, eqb-true}
+use Rattle.std.proofs.lemmas.List.Sums.{position_or_len_is, prefix_len_passes}
+use Rattle.std.proofs.lemmas.Bool.{ltb-false, lt-ltb, le-ltb, eqb-true, eq-eqb, ne_eqb}
 use Rattle.std.specs.Iterator.{YieldsFirstBy}
 use Rattle.pg_layout.specs.Records.{AlwaysGives, columns_of, ragged_row, text_at}
 use Rattle.pg_layout.specs.Text.{Text}
@@ -58,6 +60,44 @@ even-rows rows none k d h =
 -- the same, of what each cell shows
 pub even-texts : {X Y : Type 0} (f : X → Y) (rows : List (List X)) → ragged_row rows ≡ None → All (λ row. length row ≡ columns_of rows) (map (λ row. map f row) rows)
 even-texts f rows none = All-map (λ row. length row ≡ columns_of rows) (λ row. map f row) rows (λ k d h. length-map (get_or rows k d) f ∙ even-rows rows none k d h)
+
+-- a row below rows of one length is the first ragged one, or there is none
+pub ragged-push : {X : Type 0} (rows : List (List X)) (row : List X) → ragged_row rows ≡ None
+    → ragged_row (rows ++ row ∷ []) ≡ cond ((length rows == 0) || (length row == columns_of rows)) None (Some (length rows))
+ragged-push [] row none = ap (λ b. cond (nat_lt (cond (not (not b)) 1 0) 1) (Some (cond (not (not b)) 1 0)) None) (eq-eqb (length row) (length row) refl)
+ragged-push {X} (first ∷ rows) row none =
+    let p : List X → Bool = λ r. not (length r == length first) in
+    let all : List (List X) = first ∷ rows in
+    let same : position_or_len p all ≡ length all = position_or_len_is p all (length all) first (omega arith)
+    (λ k h. ap not (eq-eqb (length (get_or all k first)) (length first) (even-rows all none k first h))) (λ h. absurd (omega (arith, h))) in
+    let pushed : position_or_len p (all ++ row ∷ []) ≡ length all + cond (p row) 0 1 =
+    position_or_len_push p all row ∙ ap (λ b. cond b (length all + cond (p row) 0 1) (position_or_len p all)) (eq-eqb (position_or_len p all) (length all) same) in
+    ap (λ n. cond (nat_lt n (length (all ++ row ∷ []))) (Some n) None) pushed
+    ∙ ap (λ n. cond (nat_lt (length all + cond (p row) 0 1) n) (Some (length all + cond (p row) 0 1)) None) (length_push all row)
+    ∙ last (length row == length first) (length all)
+    ∙ sym (ap (λ b. cond (b || (length row == length first)) None (Some (length all))) (ne_eqb (length all) 0 (λ e. absurd (omega (arith, e)))))
+  where
+    last : (b : Bool) (n : ℕ) → cond (nat_lt (n + cond (not b) 0 1) (n + 1)) (Some (n + cond (not b) 0 1)) None ≡ cond b None (Some n)
+    last true n = ap (λ z. cond z (Some (n + 1)) None) (le-ltb (n + 1) (n + 1) (omega arith))
+    last false n = ap (λ z. cond z (Some (n + 0)) None) (lt-ltb (n + 0) (n + 1) (omega arith)) ∙ ap Some (omega arith)
+
+-- which row a row below rows in memory is, where it is ragged: what a test of its length alone tells
+pub ragged-below : {X R : Type 0} (f : R → List X) (slice inside : List R) (seen : List (List X)) (row : List X) (n : ℕ) (r : Option ℕ)
+    → r ≡ cond ((length slice == 0) || (n == columns_of (map f slice))) None (Some (length slice))
+    → slice ≡ inside → n ≡ length row → map f inside ≡ seen → ragged_row (map f inside) ≡ None → r ≡ ragged_row (seen ++ row ∷ [])
+ragged-below f slice inside seen row n r is same size view even =
+    is
+    ∙ ap (λ z. cond ((length z == 0) || (n == columns_of (map f z))) None (Some (length z))) same
+    ∙ ap (λ z. cond ((length inside == 0) || (z == columns_of (map f inside))) None (Some (length inside))) size
+    ∙ ap (λ z. cond ((z == 0) || (length row == columns_of (map f inside))) None (Some z)) (sym (length-map inside f))
+    ∙ sym (ragged-push (map f inside) row even)
+    ∙ ap (λ z. ragged_row (z ++ row ∷ [])) view
+
+-- rows stay of one length where a row that isn't ragged is pushed
+pub even-push : {X R : Type 0} (f : R → List X) (inside pushed : List R) (seen : List (List X)) (row : R)
+    → pushed ≡ inside ++ row ∷ [] → map f inside ≡ seen → ragged_row (seen ++ f row ∷ []) ≡ None → ragged_row (map f pushed) ≡ None
+even-push f inside pushed seen row is view even =
+    ap (λ z. ragged_row (map f z)) is ∙ ap ragged_row (map-append f inside (row ∷ []) ∙ ap (λ z. z ++ f row ∷ []) view) ∙ even
 
 -- a row that was read, where each row is seen through a map
 pub row-at : {X Y : Type 0} (f : X → List Y) (rows : List X) (seen : List (List Y)) (i : ℕ) (row : X) → map f rows ≡ seen → i < length seen → row ≡ get_or rows i row → f row ≡ get_or seen i []

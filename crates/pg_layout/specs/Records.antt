@@ -3,6 +3,8 @@ use Rattle.std.specs.Prelude.{◌≡◌, ℕ, ◌==◌, not, List, [], ◌∷◌
 use Rattle.std.specs.Iterator.{Count, IsFinite}
 use Rattle.pg_layout.specs.Text.{Text}
 use Rattle.pg_layout.specs.declared.position.Position.{Position}
+use Rattle.pg_layout.specs.declared.vec_records.PushFault.{PushFault}
+use Rattle.pg_layout.specs.declared.vec_records.PushFault.TheVariants as pushed
 use Rattle.pg_layout.specs.declared.vec_records.RecordsFault.{RecordsFault}
 use Rattle.pg_layout.specs.declared.vec_records.RecordsFault.TheVariants.{Ragged}
 
@@ -54,3 +56,8 @@ ragged_row rows = position (λ row. not (length row == columns_of rows)) rows
 -- the words for rows that are no records
 abbrev pub records_fault_text : RecordsFault → Text
 records_fault_text (Ragged row) = codes "row " ++ (decimal row ++ codes " has another length than row 0")
+
+-- the words for a row that isn't added
+abbrev pub push_fault_text : PushFault → Text
+push_fault_text (pushed.Ragged row) = records_fault_text (Ragged row)
+push_fault_text pushed.Memory = codes "out of memory"

@@ -36,5 +36,5 @@ pub use crate::text::{
     is_plain, trim_line,
 };
 pub use crate::vec_records::{
-    OwnedColumns, OwnedRows, RecordsFault, VecColumns, VecRecords, VecRows,
+    OwnedColumns, OwnedRows, PushFault, RecordsFault, VecColumns, VecRecords, VecRows,
 };

@@ -1,18 +1,19 @@
 //! Rows of cells in memory.
 
-ghost use Rattle.std.specs.Prelude.{◌≡◌, ◌==◌, ◌<◌, ℕ, not, [], List, slice_index_or, map, length, position, Some, None, MatchOption, IfOk, option_map};
+ghost use Rattle.std.specs.Prelude.{◌≡◌, ◌==◌, ◌<◌, ◌||◌, ◌++◌, ◌∷◌, if◌then◌else◌, ℕ, not, [], List, slice_index_or, map, length, position, Some, None, Err, MatchOption, IfOk, OnErr, OnOk, option_map};
 ghost use Rattle.std.specs.Result.{result_err};
 ghost use Rattle.std.specs.Iterator.{YieldsFirstBy, item_count, at_most};
 ghost use Rattle.std.specs.Vec.{vec_len};
 ghost use Rattle.std.specs.Vec.Iter.{into_iter_items, into_iter_len, into_iter_steps};
-ghost use Rattle.pg_layout.specs.Records.{columns_of, ragged_row, records_fault_text, text_at};
+ghost use Rattle.pg_layout.specs.Records.{columns_of, push_fault_text, ragged_row, records_fault_text, text_at};
 ghost use Rattle.pg_layout.specs.Text.{lines_of};
+ghost use Rattle.pg_layout.specs.declared.vec_records.PushFault.TheVariants as push_fault;
 ghost use Rattle.pg_layout.specs.declared.vec_records.RecordsFault.TheVariants.{Ragged};
 
 use crate::position::Position;
 use crate::records::{ExactRecords, PeekableRecords, Records};
 use crate::text::{count_lines, get_line, get_line_width, get_text_width};
-use std::alloc::{Allocator, Global};
+use std::alloc::{AllocFailed, Allocator, Global};
 use std::convert::AsStr;
 use std::error::Error;
 use std::fmt;
@@ -137,6 +138,37 @@ impl fmt::Display for RecordsFault {
 
 impl Error for RecordsFault {}
 
+/// Why a row isn't added to records.
+#[derive(Debug, Clone, Copy, PartialEq, Eq)]
+pub enum PushFault {
+    /// The row would be the one of this number, counted from 0, and has another length than row 0.
+    Ragged(usize),
+    /// Memory was refused.
+    Memory,
+}
+
+impl<T: Drop> From<AllocFailed<T>> for PushFault {
+    ghost from_gives = { λ _ fault. fault ≡ push_fault.Memory };
+
+    fn from(_error: AllocFailed<T>) -> PushFault {
+        PushFault::Memory
+    }
+}
+
+/// Writes which row has another length than row 0, or that memory was refused.
+impl fmt::Display for PushFault {
+    ghost output = { λ fault. Some (push_fault_text fault) };
+
+    fn fmt<W: fmt::Write>(&self, f: &mut fmt::Formatter<W>) -> fmt::Result {
+        match self {
+            PushFault::Ragged(row) => write!(f, "{}", RecordsFault::Ragged(*row)),
+            PushFault::Memory => write!(f, "out of memory"),
+        }
+    }
+}
+
+impl Error for PushFault {}
+
 /// Rows of cells in memory, all of one length.
 ///
 /// Hand the records themselves to a printer where nothing else needs them: the printer then owns
@@ -182,6 +214,26 @@ impl<T: AsStr + Drop, A: Allocator> VecRecords<T, A> {
     }
 }
 
+impl<T: Drop, A: Allocator> VecRecords<T, A> {
+    /// Adds a row below the others; `Ragged` with its number where there is a row 0 of another length,
+    /// else `Memory` where memory is refused. After an error the records are as they were, and the row
+    /// is dropped. The first row of records without rows may have any length.
+    pub fn push_row(&mut self, row: Vec<T, A>) -> Result<(), PushFault>
+        ensures ok { OnOk result (self.new ≡ self.old ++ row.items ∷ []) }
+        ensures err { OnErr result (self.new ≡ self.old) }
+        ensures ragged { (number : ℕ) → ragged_row (self.old ++ row.items ∷ []) ≡ Some number → result ≡ Err (push_fault.Ragged number) }
+        ensures memory { (fault : PushFault) → ragged_row (self.old ++ row.items ∷ []) ≡ None → result ≡ Err fault → fault ≡ push_fault.Memory }
+    {
+        match find_ragged_below(&self.rows, row.len()) {
+            Some(number) => Err(PushFault::Ragged(number)),
+            None => {
+                self.rows.push(row)?;
+                Ok(())
+            }
+        }
+    }
+}
+
 impl<T: AsStr, A: Allocator> VecRecords<T, A> {
     // The text at a place in the table.
     fn text_at(&self, pos: Position) -> &str
@@ -215,6 +267,17 @@ fn find_ragged<T, A: Allocator>(rows: &[Vec<T, A>]) -> Option<usize>
     ensures { result ≡ ragged_row (map (λ row. row.items) rows.now) }
 {
     find_other_length(rows, first_length(rows))
+}
+
+// The number of a row of so many cells below these, where there is a first row of another length.
+fn find_ragged_below<T, A: Allocator>(rows: &[Vec<T, A>], cells: usize) -> Option<usize>
+    ensures { result ≡ (if (length rows.now == 0) || (cells == columns_of (map (λ row. row.items) rows.now)) then None else Some (length rows.now)) }
+{
+    if rows.is_empty() || cells == first_length(rows) {
+        None
+    } else {
+        Some(rows.len())
+    }
 }
 
 impl<'a, T: AsStr, A: Allocator> Records for &'a VecRecords<T, A> {

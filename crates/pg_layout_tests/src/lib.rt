@@ -10,6 +10,8 @@ mod given;
 #[cfg(test)]
 mod places;
 #[cfg(test)]
+mod pushed;
+#[cfg(test)]
 mod same;
 #[cfg(test)]
 mod testing;

@@ -1,11 +1,39 @@
-//! How many rows and columns a table has.
+//! The rows of a table: how many there are, and one more.
 
-ghost use Rattle.std.specs.Prelude.{◌≡◌, length};
-ghost use Rattle.pg_layout.specs.Records.{columns_of};
+ghost use Rattle.std.specs.Prelude.{◌≡◌, ◌++◌, ◌∷◌, [], ℕ, length, None, Some, Err, OnErr, OnOk};
+ghost use Rattle.pg_layout.specs.Records.{columns_of, ragged_row};
 
+use crate::fault::TableFault;
 use crate::table::Table;
+use pg_layout::PushFault;
 use std::alloc::Allocator;
 use std::convert::AsStr;
+
+impl<T: Drop, A: Allocator> Table<T, A> {
+    /// Adds a row below the others: a vector of as many texts as the other rows have. Settings and
+    /// colours stay; a line below the header has the places that it had.
+    ///
+    /// Answers `Ragged` with the row's number, counted from 0, where there is a row 0 of another length,
+    /// and else `Memory` where memory is refused. After both the table is as it was, and the row is
+    /// dropped. In a table without rows the first one may have any length.
+    ///
+    /// ```text
+    /// let mut table = Table::new(alloc, Vec::new(alloc))?;
+    /// table.push_row(vec![in alloc; "tea", "12"]?)?;
+    /// ```
+    pub fn push_row(&mut self, row: Vec<T, A>) -> Result<(), TableFault>
+        ensures ok { OnOk result (self.new ≡ record self.old { rows = self.old.rows ++ row.items ∷ [] }) }
+        ensures err { OnErr result (self.new ≡ self.old) }
+        ensures ragged { (number : ℕ) → ragged_row (self.old.rows ++ row.items ∷ []) ≡ Some number → result ≡ Err (TableFault.Ragged number) }
+        ensures memory { (fault : TableFault) → ragged_row (self.old.rows ++ row.items ∷ []) ≡ None → result ≡ Err fault → fault ≡ TableFault.Memory }
+    {
+        match self.records.push_row(row) {
+            Ok(()) => Ok(()),
+            Err(PushFault::Ragged(number)) => Err(TableFault::Ragged(number)),
+            Err(PushFault::Memory) => Err(TableFault::Memory),
+        }
+    }
+}
 
 impl<T: AsStr + Drop, A: Allocator> Table<T, A> {
     /// How many rows there are.

@@ -1,0 +1,57 @@
+//! Records as blocks of keys and values, one below the other: for rows that are wider than the screen.
+//!
+//! The rows are pushed one after the other. Keys are lent and headings are made, and both are cells of
+//! one table without a copy.
+
+use pg_config::SpannedConfig;
+use pg_layout::{Borders, Entity, HorizontalLine, Position, Sides};
+use pg_table::{Table, TableFault};
+use std::alloc::{AllocError, Global};
+use std::borrow::CowStr;
+
+// The items of a stock: name, how many there are, the price.
+const STOCK: [[&str; 3]; 2] = [["tea", "12", "3.50"], ["rice, brown", "3", "14.20"]];
+
+/// The table of the blocks.
+pub(crate) fn blocks(alloc: Global) -> Result<String, TableFault> {
+    let mut table = Table::new(alloc, Vec::new(alloc))?;
+    let mut config = look(alloc)?;
+    for (before, item) in STOCK.iter().enumerate() {
+        head(&mut config, table.count_rows())?;
+        push_block(alloc, &mut table, before.saturating_add(1), *item)?;
+    }
+    table.with_config(config).to_string(alloc)
+}
+
+// A column line, and a space at both sides of each text.
+fn look(alloc: Global) -> Result<SpannedConfig, AllocError> {
+    let mut config = SpannedConfig::new(alloc);
+    config.set_borders(Borders::psql());
+    config.set_padding(Entity::Global, Sides::horizontal(1))?;
+    Ok(config)
+}
+
+// Adds a heading with the record's number, and below it a row for each key.
+fn push_block(
+    alloc: Global,
+    table: &mut Table<CowStr<'static>>,
+    number: usize,
+    item: [&'static str; 3],
+) -> Result<(), TableFault> {
+    let heading = format!(in alloc; "RECORD {number}")?;
+    let [name, count, price] = item;
+    table.push_row(vec![in alloc; CowStr::Owned(heading), CowStr::Borrowed("")]?)?;
+    table.push_row(vec![in alloc; CowStr::Borrowed("item"), CowStr::Borrowed(name)]?)?;
+    table.push_row(vec![in alloc; CowStr::Borrowed("in stock"), CowStr::Borrowed(count)]?)?;
+    table.push_row(vec![in alloc; CowStr::Borrowed("price"), CowStr::Borrowed(price)]?)
+}
+
+// The next row's heading takes both columns, below a line without a crossing.
+fn head(config: &mut SpannedConfig, row: usize) -> Result<(), AllocError> {
+    let line = HorizontalLine {
+        intersection: Some('-'),
+        ..HorizontalLine::psql()
+    };
+    config.set_column_span(Position::new(row, 0), 2)?;
+    config.set_row_line(row, 2, line)
+}
