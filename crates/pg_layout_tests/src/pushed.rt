@@ -11,9 +11,12 @@ fn rows_of_the_first_ones_length_are_pushed(rt: HostRuntime) -> Result<(), Fail>
     let mut records = VecRecords::new(Vec::new(alloc)).unwrap();
     assert_same(&rt, records.push_row(vec![in alloc; "a", "b"]?), Ok(()));
     assert_same(&rt, records.push_row(vec![in alloc; "c", "d"]?), Ok(()));
-    assert_same(&rt, (&records).count_rows(), 2);
-    assert_same(&rt, (&records).count_columns(), 2);
-    assert_same(&rt, (&records).get_text(Position::new(1, 0)), "c");
+    let pushed = &records;
+    assert_same(&rt, pushed.count_rows(), 2);
+    assert_same(&rt, pushed.count_columns(), 2);
+    if pushed.count_rows() == 2 && pushed.count_columns() == 2 {
+        assert_same(&rt, pushed.get_text(Position::new(1, 0)), "c");
+    }
     Ok(())
 }
 
