@@ -16,9 +16,9 @@ use std::alloc::{AllocError, Allocator, Global};
 use std::convert::AsStr;
 use std::marker::Model;
 
+mod crossings;
 mod rows;
 mod settings;
-mod crossings;
 
 /// Rows of texts, drawn at their natural sizes: each column as wide as its widest cell, and each row
 /// as high as its highest one, a cell being its text with the paddings round it. What a cell with a
