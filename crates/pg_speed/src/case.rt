@@ -1,16 +1,17 @@
 //! The tables that are built, by name.
 
-use crate::growth::{LARGE, SMALL};
+use crate::table::{Spans, Table, Telling, Words};
 
-/// A name, the grid that prints, and the table.
-#[derive(Debug, Clone, Copy)]
+/// A name, what prints, and the table.
 pub(crate) struct Case(pub(crate) &'static str, pub(crate) Grid, pub(crate) Table);
 
 /// Which grid prints a table, and from what.
-#[derive(Debug, Clone, Copy, PartialEq, Eq)]
+#[derive(Clone, Copy)]
 pub(crate) enum Grid {
     /// The looked-up grid, from texts in memory.
     Peekable,
+    /// The same with colours of cells.
+    Colored,
     /// The streaming grid, from texts in memory; it is told how many rows there are.
     Iter,
     /// The streaming grid, from texts that are made as it asks for them; it isn't told how many rows
@@ -18,6 +19,8 @@ pub(crate) enum Grid {
     IterMade,
     /// The compact grid, from texts in memory.
     Compact,
+    /// The same with colours of cells, borders and margins.
+    CompactColored,
     /// The looked-up grid by its checked call, which tests the table in each build, from texts in
     /// memory.
     Checked,
@@ -27,8 +30,14 @@ pub(crate) enum Grid {
     Rows,
     /// The same stream, handed an iterator that makes the rows.
     Results,
-    /// Rows that are made as vectors in each build, and what becomes of them.
-    Vectors(Use),
+    /// Rows that are made as vectors in each build, and are let go.
+    Vectors,
+    /// The same rows; a stream prints them, each behind its test.
+    VectorsStreamed,
+    /// The same rows; the streaming grid tests the table.
+    VectorsTested,
+    /// The same rows; the streaming grid tests the table and prints it.
+    VectorsPrinted,
     /// The looked-up grid at the table's natural sizes, which are worked out in each build, from
     /// texts in memory.
     Natural,
@@ -37,129 +46,99 @@ pub(crate) enum Grid {
     Told,
 }
 
-/// What becomes of rows that are vectors.
-#[derive(Debug, Clone, Copy, PartialEq, Eq)]
-pub(crate) enum Use {
-    /// Nothing: they are let go.
-    Nothing,
-    /// A stream of rows prints them, each behind its test.
-    Streamed,
-    /// The streaming grid tests the table.
-    Tested,
-    /// The streaming grid tests the table and prints it.
-    Printed,
-}
+/// ASCII borders, and one space left and right of each text.
+const PLAIN: &[&str] = &["borders ascii", "padding all 1 1 0 0"];
 
-/// What a table consists of.
-#[derive(Debug, Clone, Copy)]
-pub(crate) struct Table {
-    pub(crate) rows: usize,
-    pub(crate) columns: usize,
-    /// How many terminal columns each column has.
-    pub(crate) width: usize,
-    /// How many lines each row has.
-    pub(crate) height: usize,
-    pub(crate) words: Words,
-    pub(crate) look: Look,
-    pub(crate) spanning: Spanning,
-    pub(crate) telling: Telling,
-}
+/// The same with lines of a box as borders.
+const BOXED: &[&str] = &["borders modern", "padding all 1 1 0 0"];
 
-/// What the cells of a table say.
-#[derive(Debug, Clone, Copy, PartialEq, Eq)]
-pub(crate) enum Words {
-    /// A few letters.
-    Letters,
-    /// Three lines, with spaces round the words.
-    Lines,
-    /// A few wide characters.
-    Wide,
-    /// The same line, as many times as the row has lines.
-    Long,
-    /// The same three letters in each cell.
-    Same,
-}
+/// `PLAIN` with blue borders and gray margins of dots.
+const FRAMED: &[&str] = &[
+    "borders ascii",
+    "padding all 1 1 0 0",
+    "borders_color \
+        top=\u{1b}[34m|\u{1b}[39m top_left=\u{1b}[34m|\u{1b}[39m \
+        top_right=\u{1b}[34m|\u{1b}[39m top_intersection=\u{1b}[34m|\u{1b}[39m \
+        bottom=\u{1b}[34m|\u{1b}[39m bottom_left=\u{1b}[34m|\u{1b}[39m \
+        bottom_right=\u{1b}[34m|\u{1b}[39m bottom_intersection=\u{1b}[34m|\u{1b}[39m \
+        horizontal=\u{1b}[34m|\u{1b}[39m left_intersection=\u{1b}[34m|\u{1b}[39m \
+        right_intersection=\u{1b}[34m|\u{1b}[39m intersection=\u{1b}[34m|\u{1b}[39m \
+        left=\u{1b}[34m|\u{1b}[39m right=\u{1b}[34m|\u{1b}[39m vertical=\u{1b}[34m|\u{1b}[39m",
+    "margin 2:. 2:. 1:. 1:.",
+    "margin_color \u{1b}[90m|\u{1b}[39m \u{1b}[90m|\u{1b}[39m \u{1b}[90m|\u{1b}[39m \u{1b}[90m|\u{1b}[39m",
+];
 
-/// What is drawn round texts, and how they stand in their cells.
-#[derive(Debug, Clone, Copy, PartialEq, Eq)]
-pub(crate) enum Look {
-    /// ASCII borders, and one space left and right of each text.
-    Plain,
-    /// The same with lines of a box as borders.
-    Boxed,
-    /// `Plain` with colours of cells, borders and margins.
-    Colored,
-    /// `Plain` with texts that are trimmed and stand in the middle of their cells.
-    Trimmed,
-    /// Nothing but the texts.
-    Bare,
-}
+/// `PLAIN` with texts that are trimmed and stand in the middle of their cells.
+const TRIMMED: &[&str] = &[
+    "borders ascii",
+    "padding all 1 1 0 0",
+    "trim_horizontal all on",
+    "trim_vertical all on",
+    "alignment_horizontal all center",
+    "alignment_vertical all center",
+];
 
-/// Which cells span others.
-#[derive(Debug, Clone, Copy, PartialEq, Eq)]
-pub(crate) enum Spanning {
-    /// No cell.
-    Nothing,
-    /// A cell of two rows and three columns in each fourth row, its text in the middle.
-    Blocks,
-    /// A cell of two rows and three columns in each tenth column of each tenth row.
-    Tiles,
-    /// A cell of two rows and two columns in each second column of each second row, so that no cell
-    /// is left that spans nothing.
-    Squares,
-    /// The first cell, down to the last row.
-    Tall,
-}
+/// No cell spans others.
+const NO_SPANS: Spans = Spans {
+    size: (1, 1),
+    apart: (0, 0),
+    is_shifted: false,
+};
 
-/// What a table that is told anew is told of single cells and rows.
-#[derive(Debug, Clone, Copy)]
-pub(crate) enum Telling {
-    /// Nothing.
-    Nothing,
-    /// A colour, a padding and an alignment of each cell.
-    Cells(Order),
-    /// A border of each cell, row by row.
-    Borders,
-    /// An alignment of each cell, row by row, and then one of each row.
-    RowsAfterCells,
-}
+/// A cell of two rows and three columns in each fourth row, its text in the middle.
+const BLOCKS: Spans = Spans {
+    size: (2, 3),
+    apart: (4, usize::MAX),
+    is_shifted: true,
+};
 
-/// In which order cells are told of.
-#[derive(Debug, Clone, Copy)]
-pub(crate) enum Order {
-    /// Row by row.
-    Natural,
-    /// From the last cell to the first.
-    Reversed,
-    /// Each cell far from the one before.
-    Scattered,
-}
+/// A cell of two rows and three columns in each tenth column of each tenth row.
+const TILES: Spans = Spans {
+    size: (2, 3),
+    apart: (10, 10),
+    is_shifted: false,
+};
 
-pub(crate) const BASIC: Table = Table {
+/// A cell of two rows and two columns in each second column of each second row, so that no cell is
+/// left that spans nothing.
+const SQUARES: Spans = Spans {
+    size: (2, 2),
+    apart: (2, 2),
+    is_shifted: false,
+};
+
+/// The first cell, down to the last of 1,000 rows.
+const TALL: Spans = Spans {
+    size: (1000, 1),
+    apart: (usize::MAX, usize::MAX),
+    is_shifted: false,
+};
+
+const BASIC: Table = Table {
     rows: 100,
     columns: 10,
     width: 12,
     height: 1,
     words: Words::Letters,
-    look: Look::Plain,
-    spanning: Spanning::Nothing,
+    look: PLAIN,
+    spans: NO_SPANS,
     telling: Telling::Nothing,
 };
 
 const SPANS: Table = Table {
-    spanning: Spanning::Blocks,
+    spans: BLOCKS,
     ..BASIC
 };
 
 const COLORED: Table = Table {
-    look: Look::Colored,
+    look: FRAMED,
     ..BASIC
 };
 
 const MULTILINE: Table = Table {
     height: 3,
     words: Words::Lines,
-    look: Look::Trimmed,
+    look: TRIMMED,
     ..BASIC
 };
 
@@ -168,8 +147,8 @@ const UNICODE: Table = Table {
     ..BASIC
 };
 
-pub(crate) const BOX: Table = Table {
-    look: Look::Boxed,
+const BOX: Table = Table {
+    look: BOXED,
     ..UNICODE
 };
 
@@ -178,41 +157,44 @@ const SPANS1000: Table = Table {
     ..SPANS
 };
 
-const TALLSPAN: Table = Table {
+const TALL_SPAN: Table = Table {
     rows: 1000,
     columns: 2,
-    spanning: Spanning::Tall,
+    spans: TALL,
     ..BASIC
 };
 
-const LONGCELL: Table = Table {
+const LONG_CELL: Table = Table {
     rows: 1,
     columns: 1,
     height: 1000,
     words: Words::Long,
-    look: Look::Trimmed,
+    look: TRIMMED,
     ..BASIC
 };
 
-const TALL: Table = Table {
+const TALL_TABLE: Table = Table {
     rows: 10_000,
     columns: 3,
     width: 3,
     words: Words::Same,
-    look: Look::Bare,
+    look: &[],
     ..BASIC
 };
 
-const TALL10: Table = Table { rows: 10, ..TALL };
+const TALL10: Table = Table {
+    rows: 10,
+    ..TALL_TABLE
+};
 
 const TALL1000000: Table = Table {
     rows: 1_000_000,
-    ..TALL
+    ..TALL_TABLE
 };
 
 const CELLS100: Table = Table {
     columns: 100,
-    spanning: Spanning::Tiles,
+    spans: TILES,
     ..BASIC
 };
 
@@ -222,83 +204,160 @@ const CELLS1000: Table = Table {
     ..CELLS100
 };
 
-/// The tables that `--all` builds.
-pub(crate) const CASES: [Case; 19] = [
+const ORDERED: Table = Table {
+    columns: 100,
+    telling: Telling::Ordered,
+    ..BASIC
+};
+
+const REVERSED: Table = Table {
+    telling: Telling::Reversed,
+    ..ORDERED
+};
+
+const SCATTERED: Table = Table {
+    telling: Telling::Scattered,
+    ..ORDERED
+};
+
+const BORDERS: Table = Table {
+    telling: Telling::Borders,
+    ..ORDERED
+};
+
+const ROWS: Table = Table {
+    telling: Telling::RowsAfterCells,
+    ..ORDERED
+};
+
+const SQUARES100: Table = Table {
+    columns: 100,
+    spans: SQUARES,
+    ..BASIC
+};
+
+const TALL_CELLS: Table = Table {
+    rows: 4,
+    columns: 64,
+    height: 40,
+    words: Words::Long,
+    ..BASIC
+};
+
+const BOX40: Table = Table { columns: 40, ..BOX };
+
+const ORDERED1000: Table = Table {
+    rows: 1000,
+    ..ORDERED
+};
+
+const REVERSED1000: Table = Table {
+    rows: 1000,
+    ..REVERSED
+};
+
+const SCATTERED1000: Table = Table {
+    rows: 1000,
+    ..SCATTERED
+};
+
+const BORDERS1000: Table = Table {
+    rows: 1000,
+    ..BORDERS
+};
+
+const ROWS1000: Table = Table { rows: 1000, ..ROWS };
+
+const SQUARES400: Table = Table {
+    rows: 400,
+    columns: 400,
+    ..SQUARES100
+};
+
+const TALL_CELLS160: Table = Table {
+    height: 160,
+    ..TALL_CELLS
+};
+
+// Its separators have 8,154 bytes.
+const BOX209: Table = Table {
+    columns: 209,
+    ..BOX
+};
+
+/// How many cases `--all` builds, from the first one on.
+pub(crate) const COMMON: usize = 29;
+
+/// All cases, as they are listed. Behind the common ones stand tables of other sizes, some of which take
+/// long, and tables that are printed by other calls.
+pub(crate) static CASES: [Case; 57] = [
     Case("peek_basic", Grid::Peekable, BASIC),
     Case("peek_spans", Grid::Peekable, SPANS),
-    Case("peek_colored", Grid::Peekable, COLORED),
+    Case("peek_colored", Grid::Colored, COLORED),
     Case("peek_multiline", Grid::Peekable, MULTILINE),
     Case("peek_unicode", Grid::Peekable, UNICODE),
     Case("peek_box", Grid::Peekable, BOX),
     Case("peek_spans1000", Grid::Peekable, SPANS1000),
-    Case("peek_tallspan", Grid::Peekable, TALLSPAN),
-    Case("peek_longcell", Grid::Peekable, LONGCELL),
+    Case("peek_tallspan", Grid::Peekable, TALL_SPAN),
+    Case("peek_longcell", Grid::Peekable, LONG_CELL),
     Case("iter_basic", Grid::Iter, BASIC),
     Case("iter_spans", Grid::Iter, SPANS),
     Case("iter_multiline", Grid::Iter, MULTILINE),
-    Case("iter_tall", Grid::IterMade, TALL),
+    Case("iter_tall", Grid::IterMade, TALL_TABLE),
     Case("iter_spans1000", Grid::Iter, SPANS1000),
-    Case("iter_tallspan", Grid::Iter, TALLSPAN),
-    Case("iter_longcell", Grid::Iter, LONGCELL),
+    Case("iter_tallspan", Grid::Iter, TALL_SPAN),
+    Case("iter_longcell", Grid::Iter, LONG_CELL),
     Case("compact_basic", Grid::Compact, BASIC),
-    Case("compact_colored", Grid::Compact, COLORED),
+    Case("compact_colored", Grid::CompactColored, COLORED),
     Case("table_basic", Grid::Natural, BASIC),
-];
-
-/// Tables that are printed by other calls, and tables of other sizes, some of which take long.
-pub(crate) const OTHER_SIZES: [Case; 18] = [
+    Case("told_ordered10000", Grid::Told, ORDERED),
+    Case("told_reversed10000", Grid::Told, REVERSED),
+    Case("told_scattered10000", Grid::Told, SCATTERED),
+    Case("told_borders10000", Grid::Told, BORDERS),
+    Case("told_rows10000", Grid::Told, ROWS),
+    Case("told_spans10000", Grid::Told, SQUARES100),
+    Case("peek_tallcells40", Grid::Peekable, TALL_CELLS),
+    Case("iter_tallcells40", Grid::Iter, TALL_CELLS),
+    Case("peek_box40", Grid::Peekable, BOX40),
+    Case("iter_box40", Grid::Iter, BOX40),
     Case("iter_tall10", Grid::IterMade, TALL10),
     Case("iter_tall1000000", Grid::IterMade, TALL1000000),
     Case("peek_cells100", Grid::Peekable, CELLS100),
     Case("peek_cells1000", Grid::Peekable, CELLS1000),
     Case("peek_checked", Grid::Checked, BASIC),
-    Case("rows_tall", Grid::Rows, TALL),
+    Case("rows_tall", Grid::Rows, TALL_TABLE),
     Case("rows_tall1000000", Grid::Rows, TALL1000000),
-    Case("results_tall", Grid::Results, TALL),
+    Case("results_tall", Grid::Results, TALL_TABLE),
     Case("results_tall1000000", Grid::Results, TALL1000000),
     Case("peek_tested", Grid::Tested, BASIC),
-    Case("vectors_tall", Grid::Vectors(Use::Nothing), TALL),
-    Case("vectors_tall_streamed", Grid::Vectors(Use::Streamed), TALL),
-    Case("vectors_tall_tested", Grid::Vectors(Use::Tested), TALL),
-    Case("vectors_tall_printed", Grid::Vectors(Use::Printed), TALL),
-    Case(
-        "vectors_tall1000000",
-        Grid::Vectors(Use::Nothing),
-        TALL1000000,
-    ),
+    Case("vectors_tall", Grid::Vectors, TALL_TABLE),
+    Case("vectors_tall_streamed", Grid::VectorsStreamed, TALL_TABLE),
+    Case("vectors_tall_tested", Grid::VectorsTested, TALL_TABLE),
+    Case("vectors_tall_printed", Grid::VectorsPrinted, TALL_TABLE),
+    Case("vectors_tall1000000", Grid::Vectors, TALL1000000),
     Case(
         "vectors_tall1000000_streamed",
-        Grid::Vectors(Use::Streamed),
+        Grid::VectorsStreamed,
         TALL1000000,
     ),
     Case(
         "vectors_tall1000000_tested",
-        Grid::Vectors(Use::Tested),
+        Grid::VectorsTested,
         TALL1000000,
     ),
     Case(
         "vectors_tall1000000_printed",
-        Grid::Vectors(Use::Printed),
+        Grid::VectorsPrinted,
         TALL1000000,
     ),
+    Case("told_ordered100000", Grid::Told, ORDERED1000),
+    Case("told_reversed100000", Grid::Told, REVERSED1000),
+    Case("told_scattered100000", Grid::Told, SCATTERED1000),
+    Case("told_borders100000", Grid::Told, BORDERS1000),
+    Case("told_rows100000", Grid::Told, ROWS1000),
+    Case("told_spans160000", Grid::Told, SQUARES400),
+    Case("peek_tallcells160", Grid::Peekable, TALL_CELLS160),
+    Case("iter_tallcells160", Grid::Iter, TALL_CELLS160),
+    Case("peek_box209", Grid::Peekable, BOX209),
+    Case("iter_box209", Grid::Iter, BOX209),
 ];
-
-/// All cases, as they are listed.
-pub(crate) const LISTS: [&[Case]; 4] = [&CASES, &SMALL, &OTHER_SIZES, &LARGE];
-
-impl Case {
-    /// The case of this name.
-    pub(crate) fn named(name: &str) -> Option<Case> {
-        LISTS.into_iter().find_map(|cases| among(cases, name))
-    }
-}
-
-// The case of this name among these.
-fn among(cases: &[Case], name: &str) -> Option<Case> {
-    for case in cases {
-        if case.0 == name {
-            return Some(*case);
-        }
-    }
-    None
-}

@@ -11,7 +11,7 @@ use std::iter::{RepeatN, repeat_n};
 
 /// Records of so many rows and columns whose cells all say the same, and which don't tell how many
 /// rows there are. They take no memory.
-#[derive(Debug, Clone, Copy)]
+#[derive(Clone, Copy)]
 pub(crate) struct MadeRecords {
     pub(crate) text: &'static str,
     pub(crate) rows: usize,

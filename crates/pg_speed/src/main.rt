@@ -1,92 +1,73 @@
 //! The program `pg_speed`: it builds tables of known sizes over and over, so that the printers can
 //! be measured, and tells how many bytes the last text has and its checksum.
+//!
+//! Whatever goes wrong, wrong arguments among it, is told on the error stream, and the exit status is
+//! then 1.
 #![tactic(auto)]
 
-use crate::case::{CASES, Case, LISTS};
-use crate::failure::Failure;
-use crate::growth::SMALL;
-use crate::measure::measure;
+use crate::case::{CASES, COMMON, Case};
+use crate::checksum::checksum;
+use crate::measure::text_of;
+use anyhow::{Result, bail};
 use std::alloc::Global;
-use std::process::ExitCode;
 use std::rt::Env;
 use std::{env, io};
 
+mod anew;
 mod case;
 mod checksum;
-mod dimension;
-mod failure;
-mod growth;
 mod made_records;
 mod measure;
-mod rows;
 mod settings;
-mod streamed;
+mod table;
 mod telling;
 mod texts;
-mod told;
-mod vectors;
 
-/// What the arguments ask for.
-#[derive(Debug, Clone, Copy)]
-enum Request {
-    /// The names of the cases.
-    List,
-    /// Each case but those of other sizes and larger ones, built so many times.
-    All(usize),
-    /// One case, built so many times.
-    One(Case, usize),
+const USAGE: &str = "usage: pg_speed CASE N | --all N | --list";
+
+// The names of the cases.
+fn list(rt: &impl Print) -> io::Result<()> {
+    for case in &CASES {
+        println!(rt; "{}", case.0)?;
+    }
+    Ok(())
 }
 
-impl Request {
-    // The request of these arguments.
-    fn read(words: &[String]) -> Result<Request, Failure> {
-        match words {
-            [word] if word.as_str() == "--list" => Ok(Request::List),
-            [word, times] if word.as_str() == "--all" => Ok(Request::All(count(times)?)),
-            [name, times] => {
-                let case = Case::named(name.as_str()).ok_or(Failure::Usage)?;
-                Ok(Request::One(case, count(times)?))
-            }
-            _ => Err(Failure::Usage),
+// Builds each of the common cases so many times.
+fn all(rt: &impl Print, alloc: Global, times: usize) -> Result<()> {
+    for case in &CASES[..COMMON] {
+        print!(rt; "{} ", case.0)?;
+        one(rt, alloc, case, times)?;
+    }
+    Ok(())
+}
+
+// Builds a case so many times.
+fn one(rt: &impl Print, alloc: Global, case: &Case, times: usize) -> Result<()> {
+    let text = text_of(alloc, case, times)?;
+    println!(rt; "{} {:016x}", text.len(), checksum(text.as_bytes()))?;
+    Ok(())
+}
+
+// The case of this name.
+fn named(name: &str) -> Option<&'static Case> {
+    for case in &CASES {
+        if case.0 == name {
+            return Some(case);
         }
     }
+    None
 }
 
-fn count(word: &String) -> Result<usize, Failure> {
-    word.as_str().parse::<usize>().map_err(|_| Failure::Usage)
-}
-
-fn list(rt: &impl Print) -> Result<(), Failure> {
-    for cases in LISTS {
-        list_cases(rt, cases)?;
+// Builds the case of this name so many times, or all common ones.
+fn build(rt: &impl Print, alloc: Global, name: &str, times: usize) -> Result<()> {
+    if name == "--all" {
+        return all(rt, alloc, times);
     }
-    Ok(())
-}
-
-fn list_cases(rt: &impl Print, cases: &[Case]) -> Result<(), Failure> {
-    for Case(name, _, _) in cases {
-        println!(rt; "{name}")?;
+    match named(name) {
+        Some(case) => one(rt, alloc, case, times),
+        None => bail!("{USAGE}"),
     }
-    Ok(())
-}
-
-fn all(rt: &impl Print, alloc: Global, times: usize) -> Result<(), Failure> {
-    each(rt, alloc, &CASES, times)?;
-    each(rt, alloc, &SMALL, times)
-}
-
-fn each(rt: &impl Print, alloc: Global, cases: &[Case], times: usize) -> Result<(), Failure> {
-    for &case in cases {
-        let text = measure(alloc, case, times)?;
-        println!(rt; "{} {} {:016x}", case.0, text.bytes, text.checksum)?;
-    }
-    Ok(())
-}
-
-fn one(rt: &impl Print, alloc: Global, case: Case, times: usize) -> Result<(), Failure> {
-    let text = measure(alloc, case, times)?;
-    println!(rt; "{} {:016x}", text.bytes, text.checksum)?;
-    Ok(())
 }
 
 // The arguments behind the program's name.
@@ -95,22 +76,14 @@ fn arguments(rt: &(impl Env + AllocGlobal)) -> io::Result<Vec<String>> {
     Ok(words)
 }
 
-fn run(rt: &(impl Print + Env + AllocGlobal)) -> Result<(), Failure> {
-    let words = arguments(rt)?;
-    let alloc = rt.alloc();
-    match Request::read(&words)? {
-        Request::List => list(rt),
-        Request::All(times) => all(rt, alloc, times),
-        Request::One(case, times) => one(rt, alloc, case, times),
-    }
-}
-
-fn main(rt: HostRuntime) -> ExitCode {
-    match run(&rt) {
-        Ok(()) => ExitCode::SUCCESS,
-        Err(failure) => {
-            let _ = eprintln!(rt; "{failure}");
-            failure.status()
-        }
+fn main(rt: HostRuntime) -> Result<()> {
+    let words = arguments(&rt)?;
+    match words.as_slice() {
+        [word] if word.as_str() == "--list" => Ok(list(&rt)?),
+        [name, times] => match times.as_str().parse::<usize>() {
+            Ok(times) => build(&rt, rt.alloc(), name.as_str(), times),
+            Err(_) => bail!("{USAGE}"),
+        },
+        _ => bail!("{USAGE}"),
     }
 }

@@ -1,35 +1,31 @@
 //! What a table is told of single cells and rows.
 
-use crate::case::{Order, Table, Telling};
 use crate::settings::color_cell;
+use crate::table::{Table, Telling};
 use pg_config::SpannedConfig;
 use pg_layout::{AlignmentHorizontal, Border, ColorsMap, Entity, Indent, Position, Sides};
-use std::alloc::{AllocError, Allocator};
+use std::alloc::{AllocError, Global};
 
 /// How many cells on the next one is that is told of, where they are scattered. It has no divisor in
 /// common with the numbers of cells, so that each is told of once.
 const STRIDE: usize = 61_803;
 
 /// Tells a configuration and colours what a table says of single cells and rows.
-pub(crate) fn tell<A: Allocator + Copy>(
-    alloc: A,
-    table: Table,
-    config: &mut SpannedConfig<A>,
-    colors: &mut ColorsMap<A>,
+pub(crate) fn tell(
+    alloc: Global,
+    table: &Table,
+    config: &mut SpannedConfig,
+    colors: &mut ColorsMap,
 ) -> Result<(), AllocError> {
     match table.telling {
         Telling::Nothing => Ok(()),
-        Telling::Cells(order) => tell_cells(alloc, table, order, config, colors),
         Telling::Borders => tell_borders(config, table),
         Telling::RowsAfterCells => {
             align_cells(config, table)?;
             align_rows(config, table.rows)
         }
+        _ => tell_cells(alloc, table, config, colors),
     }
-}
-
-fn count_cells(table: Table) -> usize {
-    table.rows.saturating_mul(table.columns)
 }
 
 // The place of the cell of this number, row by row.
@@ -41,28 +37,27 @@ fn position(number: usize, columns: usize) -> Position {
 }
 
 // The number of the cell that is told of after so many others, of so many cells.
-fn number(order: Order, told: usize, cells: usize) -> usize {
+fn number(telling: Telling, told: usize, cells: usize) -> usize {
     if cells == 0 {
         return 0;
     }
-    match order {
-        Order::Natural => told,
-        Order::Reversed => cells - 1 - told % cells,
-        Order::Scattered => told.wrapping_mul(STRIDE) % cells,
+    match telling {
+        Telling::Reversed => cells - 1 - told % cells,
+        Telling::Scattered => told.wrapping_mul(STRIDE) % cells,
+        _ => told,
     }
 }
 
 // A colour, a padding and an alignment of each cell.
-fn tell_cells<A: Allocator + Copy>(
-    alloc: A,
-    table: Table,
-    order: Order,
-    config: &mut SpannedConfig<A>,
-    colors: &mut ColorsMap<A>,
+fn tell_cells(
+    alloc: Global,
+    table: &Table,
+    config: &mut SpannedConfig,
+    colors: &mut ColorsMap,
 ) -> Result<(), AllocError> {
-    let cells = count_cells(table);
+    let cells = table.rows.saturating_mul(table.columns);
     for told in 0..cells {
-        let pos = position(number(order, told, cells), table.columns);
+        let pos = position(number(table.telling, told, cells), table.columns);
         color_cell(alloc, colors, pos)?;
         style_cell(config, pos)?;
     }
@@ -70,10 +65,7 @@ fn tell_cells<A: Allocator + Copy>(
 }
 
 // Two spaces beside a text, and the text left, in the middle or right.
-fn style_cell<A: Allocator + Copy>(
-    config: &mut SpannedConfig<A>,
-    pos: Position,
-) -> Result<(), AllocError> {
+fn style_cell(config: &mut SpannedConfig, pos: Position) -> Result<(), AllocError> {
     let cell = Entity::Cell(pos.row, pos.col);
     let (left, right) = [(1, 1), (0, 2), (2, 0)][(pos.row % 3 + pos.col % 3) % 3];
     let none = Indent::spaced(0);
@@ -91,39 +83,32 @@ const ALIGNMENTS: [AlignmentHorizontal; 3] = [
 ];
 
 // A border of each cell.
-fn tell_borders<A: Allocator + Copy>(
-    config: &mut SpannedConfig<A>,
-    table: Table,
-) -> Result<(), AllocError> {
+fn tell_borders(config: &mut SpannedConfig, table: &Table) -> Result<(), AllocError> {
     for row in 0..table.rows {
         tell_borders_of_row(config, row, table.columns)?;
     }
     Ok(())
 }
 
-fn tell_borders_of_row<A: Allocator + Copy>(
-    config: &mut SpannedConfig<A>,
+// The same glyph all round each cell of a row.
+fn tell_borders_of_row(
+    config: &mut SpannedConfig,
     row: usize,
     columns: usize,
 ) -> Result<(), AllocError> {
     for column in 0..columns {
-        let glyph = ['#', '*', '%'][(row % 3 + column % 3) % 3];
-        config.set_border(Position::new(row, column), border(glyph))?;
+        let c = ['#', '*', '%'][(row % 3 + column % 3) % 3];
+        config.set_border(
+            Position::new(row, column),
+            Border::full(c, c, c, c, c, c, c, c),
+        )?;
     }
     Ok(())
 }
 
-// The same glyph all round a cell.
-fn border(glyph: char) -> Border<char> {
-    Border::full(glyph, glyph, glyph, glyph, glyph, glyph, glyph, glyph)
-}
-
 // All texts right, cell by cell.
-fn align_cells<A: Allocator + Copy>(
-    config: &mut SpannedConfig<A>,
-    table: Table,
-) -> Result<(), AllocError> {
-    for number in 0..count_cells(table) {
+fn align_cells(config: &mut SpannedConfig, table: &Table) -> Result<(), AllocError> {
+    for number in 0..table.rows.saturating_mul(table.columns) {
         let pos = position(number, table.columns);
         let cell = Entity::Cell(pos.row, pos.col);
         config.set_alignment_horizontal(cell, AlignmentHorizontal::Right)?;
@@ -132,10 +117,7 @@ fn align_cells<A: Allocator + Copy>(
 }
 
 // All texts in the middle, row by row.
-fn align_rows<A: Allocator + Copy>(
-    config: &mut SpannedConfig<A>,
-    rows: usize,
-) -> Result<(), AllocError> {
+fn align_rows(config: &mut SpannedConfig, rows: usize) -> Result<(), AllocError> {
     for row in 0..rows {
         config.set_alignment_horizontal(Entity::Row(row), AlignmentHorizontal::Center)?;
     }

@@ -1,0 +1,121 @@
+//! Tables of which more than the text is made anew in each build: their rows, or all that they are told.
+
+use crate::case::Grid;
+use crate::settings::set;
+use crate::table::Table;
+use crate::telling::tell;
+use crate::texts::{SAME, records, sizes};
+use anyhow::Result;
+use pg_config::SpannedConfig;
+use pg_grid::{IterGrid, PeekableGrid};
+use pg_layout::{ColorsMap, ConstantDimension, NoColors, VecRecords};
+use pg_stream::RowStream;
+use std::alloc::{AllocError, Global};
+
+/// The text of a table whose rows are made anew, built so many times; empty where it isn't printed.
+pub(crate) fn text_of_rows(
+    alloc: Global,
+    grid: Grid,
+    table: &Table,
+    config: &SpannedConfig,
+    times: usize,
+) -> Result<String> {
+    let mut text = String::new(alloc);
+    for _ in 0..times {
+        text.clear();
+        match grid {
+            Grid::Rows => push_rows(alloc, table, config, &mut text)?,
+            Grid::Results => print_rows(alloc, table, config, &mut text)?,
+            _ => print_vectors(alloc, grid, table, config, &mut text)?,
+        }
+    }
+    Ok(text)
+}
+
+// Appends all rows of a table, each of which is pushed.
+fn push_rows(
+    alloc: Global,
+    table: &Table,
+    config: &SpannedConfig,
+    text: &mut String,
+) -> Result<()> {
+    let mut stream = RowStream::new(alloc, config, table, &NoColors, table.columns, None)?;
+    for _ in 0..table.rows {
+        stream = stream.push(row_of(alloc, table)?, text)?;
+    }
+    Ok(stream.finish(text)?)
+}
+
+// Appends all rows of a table, which an iterator gives.
+fn print_rows(
+    alloc: Global,
+    table: &Table,
+    config: &SpannedConfig,
+    text: &mut String,
+) -> Result<()> {
+    let stream = RowStream::new(alloc, config, table, &NoColors, table.columns, None)?;
+    let rows = (0..table.rows).map(|_| row_of(alloc, table));
+    Ok(stream.print_results(rows, text)?)
+}
+
+// A row of a table.
+fn row_of(alloc: Global, table: &Table) -> Result<Vec<&'static str>, AllocError> {
+    Ok(vec![in alloc; SAME; table.columns]?)
+}
+
+// Makes all rows of a table, and does with them what the grid says.
+fn print_vectors(
+    alloc: Global,
+    grid: Grid,
+    table: &Table,
+    config: &SpannedConfig,
+    text: &mut String,
+) -> Result<()> {
+    let mut rows = Vec::new(alloc);
+    for _ in 0..table.rows {
+        rows.push(row_of(alloc, table)?)?;
+    }
+    match grid {
+        Grid::VectorsStreamed => {
+            let stream = RowStream::new(alloc, config, table, &NoColors, table.columns, None)?;
+            Ok(stream.print_vec(rows, text)?)
+        }
+        Grid::VectorsTested => {
+            let records = VecRecords::new(rows)?;
+            Ok(IterGrid::new(records, config, table, NoColors).fits()?)
+        }
+        Grid::VectorsPrinted => {
+            let records = VecRecords::new(rows)?;
+            Ok(IterGrid::new(records, config, table, NoColors).print(alloc, text)?)
+        }
+        _ => Ok(()),
+    }
+}
+
+/// The text of a table as the looked-up grid prints it by its checked call, built so many times, and
+/// each time by settings and colours that are told anew.
+pub(crate) fn told(alloc: Global, table: &Table, times: usize) -> Result<String> {
+    let records = records(alloc, table)?;
+    let dimension = sizes(alloc, table)?;
+    let mut text = String::new(alloc);
+    for _ in 0..times {
+        text.clear();
+        push_told(alloc, table, &records, &dimension, &mut text)?;
+    }
+    Ok(text)
+}
+
+// Appends a table by settings and colours that are told and dropped again.
+fn push_told(
+    alloc: Global,
+    table: &Table,
+    records: &VecRecords<String>,
+    dimension: &ConstantDimension,
+    text: &mut String,
+) -> Result<()> {
+    let mut config = SpannedConfig::new(alloc);
+    let mut colors = ColorsMap::new(alloc);
+    set(alloc, table, &mut config)?;
+    tell(alloc, table, &mut config, &mut colors)?;
+    Ok(PeekableGrid::new(records, &config, dimension, &colors).print(text)?)
+}

@@ -1,0 +1,79 @@
+//! What the tables consist of.
+
+use pg_layout::Dimension;
+
+/// What a table consists of.
+///
+/// As a dimension it has columns of one width and rows of one height, which take no memory.
+#[derive(Clone, Copy)]
+pub(crate) struct Table {
+    pub(crate) rows: usize,
+    pub(crate) columns: usize,
+    /// How many terminal columns each column has.
+    pub(crate) width: usize,
+    /// How many lines each row has.
+    pub(crate) height: usize,
+    pub(crate) words: Words,
+    /// What is drawn round texts, and how they stand in their cells: lines for `pg_told::tell`.
+    pub(crate) look: &'static [&'static str],
+    pub(crate) spans: Spans,
+    pub(crate) telling: Telling,
+}
+
+/// What the cells of a table say.
+#[derive(Clone, Copy)]
+pub(crate) enum Words {
+    /// A few letters.
+    Letters,
+    /// Three lines, with spaces round the words.
+    Lines,
+    /// A few wide characters.
+    Wide,
+    /// The same line, as many times as the row has lines.
+    Long,
+    /// The same three letters in each cell.
+    Same,
+}
+
+/// Which cells span others.
+#[derive(Clone, Copy)]
+pub(crate) struct Spans {
+    /// How many rows and columns each has.
+    pub(crate) size: (usize, usize),
+    /// How many rows and columns below and right of one the next one stands; no row: none spans others.
+    pub(crate) apart: (usize, usize),
+    /// Whether the first one of a row stands in column 0, 3 and 6 by turns, and the texts of all in the
+    /// middle.
+    pub(crate) is_shifted: bool,
+}
+
+/// What a table that is told anew is told of single cells and rows.
+#[derive(Clone, Copy)]
+pub(crate) enum Telling {
+    /// Nothing.
+    Nothing,
+    /// A colour, a padding and an alignment of each cell, row by row.
+    Ordered,
+    /// The same, from the last cell to the first.
+    Reversed,
+    /// The same, each cell far from the one before.
+    Scattered,
+    /// A border of each cell, row by row.
+    Borders,
+    /// An alignment of each cell, row by row, and then one of each row.
+    RowsAfterCells,
+}
+
+impl Dimension for Table {
+    ghost width = { λ table _. table.width };
+
+    ghost height = { λ table _. table.height };
+
+    fn get_width(&self, _column: usize) -> usize {
+        self.width
+    }
+
+    fn get_height(&self, _row: usize) -> usize {
+        self.height
+    }
+}
