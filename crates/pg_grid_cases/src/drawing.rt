@@ -90,8 +90,7 @@ impl<'a> Case<'a> {
             (None, None, Some(refusal)) => self.draw_refusal(drawn, refusal, report)?,
             _ => return Err(Fault::Untold),
         }
-        self.list_sizes(drawn, report)?;
-        Ok(self.look_within(drawn, report)?)
+        Ok(self.list_sizes(drawn, report)?)
     }
 
     /// The number of the line and the name of the section that lines on faults tell.
