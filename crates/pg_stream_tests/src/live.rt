@@ -70,9 +70,9 @@ const ASKED: [(&[&str], Result<(), StreamFault>, &str); 5] = [
     (&["c", "d"], Ok(()), "\ncd"),
 ];
 
-#[test]
-fn a_live_stream_goes_on_behind_a_row_that_does_not_fit(rt: HostRuntime) -> Result<(), Fail> {
-    let alloc = rt.alloc();
+// Hands the rows over one after the other, and then ends the table: each row that doesn't fit is named,
+// and is as if it hadn't been there.
+fn assert_asked(rt: &impl Abort, alloc: Global, is_lent: bool) -> Result<(), Fail> {
     let config = SpannedConfig::new(alloc);
     let dimension = narrow(alloc)?;
     let mut buf = String::from_str(alloc, "log:")?;
@@ -84,13 +84,97 @@ fn a_live_stream_goes_on_behind_a_row_that_does_not_fit(rt: HostRuntime) -> Resu
         return Err(Fail::new("two columns don't fit"));
     };
     for (cells, end, text) in ASKED {
-        assert_same(&rt, stream.push(cells.to_vec(alloc)?, &mut buf), end);
+        let asked = if is_lent {
+            stream.push_lent(cells, &mut buf)
+        } else {
+            stream.push(cells.to_vec(alloc)?, &mut buf)
+        };
+        assert_same(rt, asked, end);
         wanted.push_str(text)?;
-        assert_same(&rt, buf.as_str(), wanted.as_str());
+        assert_same(rt, buf.as_str(), wanted.as_str());
     }
-    assert_same(&rt, stream.finish(&mut buf), Ok(()));
-    assert_same(&rt, buf.as_str(), wanted.as_str());
+    assert_same(rt, stream.finish(&mut buf), Ok(()));
+    assert_same(rt, buf.as_str(), wanted.as_str());
     Ok(())
+}
+
+#[test]
+fn a_live_stream_goes_on_behind_a_row_that_does_not_fit(rt: HostRuntime) -> Result<(), Fail> {
+    assert_asked(&rt, rt.alloc(), false)?;
+    assert_asked(&rt, rt.alloc(), true)
+}
+
+#[test]
+fn a_lent_row_is_gone_when_the_next_one_comes(rt: HostRuntime) -> Result<(), Fail> {
+    let alloc = rt.alloc();
+    let mut config = SpannedConfig::new(alloc);
+    tell_all(&mut config, alloc, &["borders ascii"])?;
+    let dimension = narrow(alloc)?;
+    let made: Result<Live<'_>, StreamFault> = LiveStream::new(
+        alloc, &config, &dimension, &NoColors, COLUMNS,
+    );
+    let Ok(mut stream) = made else {
+        return Err(Fail::new("two columns don't fit"));
+    };
+    let mut buf = String::new(alloc);
+    for text in ["1", "2"] {
+        let cells = [
+            String::from_str(alloc, text)?,
+            String::from_str(alloc, "x")?,
+        ];
+        assert_same(&rt, stream.push_lent(&cells, &mut buf), Ok(()));
+    }
+    assert_same(
+        &rt,
+        stream.push(vec![in alloc; "3", "y"]?, &mut buf),
+        Ok(()),
+    );
+    assert_same(&rt, stream.finish(&mut buf), Ok(()));
+    assert_same(
+        &rt,
+        buf.as_str(),
+        "+-+-+\n|1|x|\n+-+-+\n|2|x|\n+-+-+\n|3|y|\n+-+-+",
+    );
+    Ok(())
+}
+
+// By this configuration, of two rows of heights 1 and 2, so many may be lent. The others are pushed.
+fn assert_lent(
+    rt: &impl Abort,
+    alloc: Global,
+    setting: &str,
+    (lent, text): (usize, &str),
+) -> Result<(), Fail> {
+    let mut config = SpannedConfig::new(alloc);
+    tell_all(&mut config, alloc, &["borders ascii", setting])?;
+    let dimension = ConstantDimension(vec![in alloc; 1, 1]?, vec![in alloc; 1, 2]?);
+    let Ok(mut stream) = LiveStream::new(alloc, &config, &dimension, &NoColors, COLUMNS) else {
+        return Err(Fail::new("two columns don't fit"));
+    };
+    let mut buf = String::new(alloc);
+    for row in 0..2 {
+        let before = buf.len();
+        let asked = stream.push_lent(&["a", "b"], &mut buf);
+        if row < lent {
+            assert_same(rt, asked, Ok(()));
+        } else {
+            assert_same(rt, asked, Err(StreamFault::Row(row)));
+            assert_same(rt, buf.len(), before);
+            assert_same(rt, stream.push(vec![in alloc; "a", "b"]?, &mut buf), Ok(()));
+        }
+    }
+    assert_same(rt, stream.finish(&mut buf), Ok(()));
+    assert_same(rt, buf.as_str(), text);
+    Ok(())
+}
+
+#[test]
+fn a_row_of_two_lines_or_of_a_table_with_spans_is_not_lent(rt: HostRuntime) -> Result<(), Fail> {
+    let (alone, spanned) = ("row_span 0 0 1", "row_span 0 0 2");
+    let lines = "+-+-+\n|a|b|\n+-+-+\n|a|b|\n| | |\n+-+-+";
+    assert_lent(&rt, rt.alloc(), alone, (1, lines))?;
+    let lines = "+-+-+\n|a|b|\n+ +-+\n| |b|\n| | |\n+-+-+";
+    assert_lent(&rt, rt.alloc(), spanned, (0, lines))
 }
 
 // Pushes a row while the buffer's memory is refused: from then on the stream answers that, and appends
@@ -114,6 +198,7 @@ fn assert_lost(
     assert_same(rt, (pushed, memory.has_refused()), (lost, true));
     let left = buf.len();
     assert_same(rt, stream.push(vec![in alloc; "c", "d"]?, &mut buf), lost);
+    assert_same(rt, stream.push_lent(&["c", "d"], &mut buf), lost);
     assert_same(rt, stream.finish(&mut buf), lost);
     assert_same(rt, buf.len(), left);
     Ok(())

@@ -162,6 +162,22 @@ fn push_live<V: Allocator, W: Allocator>(
     stream.finish(buf)
 }
 
+/// Lends the rows to a stream, one after the other, each of which is shown at once. `memory` is that of
+/// all but the buffer.
+pub(crate) fn lend_rows<A: Allocator, W: Allocator>(
+    memory: A,
+    texts: &[&[&'static str]],
+    config: &SpannedConfig,
+    dimension: &EvenDimension,
+    buf: &mut String<W>,
+) -> Result<(), StreamFault> {
+    let mut stream: Live<'_, A> = LiveStream::new(memory, config, dimension, &NoColors, COLUMNS)?;
+    for cells in texts {
+        stream.push_lent(cells, buf)?;
+    }
+    stream.finish(buf)
+}
+
 /// Prints the rows in this way, and answers how that ended. `memory` is that of all but the buffer.
 pub(crate) fn print_by<A: Allocator + Copy, W: Allocator>(
     memory: A,

@@ -1,6 +1,6 @@
 //! Rows that come one at a time while memory is refused.
 
-use crate::parts::{COLUMNS, MANY, Printer, Stream, WAYS, Way, narrow, print_by};
+use crate::parts::{COLUMNS, MANY, Printer, Stream, WAYS, Way, lend_rows, narrow, print_by};
 use crate::same::assert_same;
 use pg_config::SpannedConfig;
 use pg_layout::{EvenDimension, NoColors};
@@ -19,6 +19,8 @@ const TEXTS: &[&[&str]] = &[&["a", "b"], &["c", "d"]];
 enum Work {
     /// Both are printed in this way.
     Rows(Way),
+    /// Both are lent to a stream that shows them at once.
+    Lent,
     /// Both are pushed, and what is done is the end.
     End,
     /// The first one is printed, which is tested.
@@ -29,7 +31,7 @@ impl Work {
     // What the buffer holds once it is done.
     fn text(self) -> &'static str {
         match self {
-            Work::Rows(_) | Work::End => "log:+-+-+\n|a|b|\n+-+-+\n|c|d|\n+-+-+",
+            Work::Rows(_) | Work::Lent | Work::End => "log:+-+-+\n|a|b|\n+-+-+\n|c|d|\n+-+-+",
             Work::FirstRow => "log:+-+-+\n|a|b|",
         }
     }
@@ -85,6 +87,10 @@ fn is_refused(
             memory.refuse_only(k);
             print_by(&memory, way, (TEXTS, None), config, dimension, &mut buf)
         }
+        Work::Lent => {
+            memory.refuse_only(k);
+            lend_rows(&memory, TEXTS, config, dimension, &mut buf)
+        }
         Work::End => print_end((&memory, k), config, dimension, &mut buf),
         Work::FirstRow => print_first((&memory, k), config, dimension, &mut buf),
     };
@@ -121,6 +127,7 @@ fn refused_memory_leaves_a_beginning_of_the_rows(rt: HostRuntime) -> Result<(), 
         assert_each_refused(&rt, rt.alloc(), Work::Rows(way), &config)?;
     }
     assert_each_refused(&rt, rt.alloc(), Work::Rows(Way::Live), &config)?;
+    assert_each_refused(&rt, rt.alloc(), Work::Lent, &config)?;
     assert_each_refused(&rt, rt.alloc(), Work::End, &config)?;
     assert_each_refused(&rt, rt.alloc(), Work::FirstRow, &config)
 }
