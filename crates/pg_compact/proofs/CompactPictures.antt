@@ -28,6 +28,12 @@ no_columns-text t none = sym (picture-empty t (grind (arith, nat_tests, none)))
 pub no_rows-text : (t : CompactTable) → t.rows ≡ 0 → [] ≡ compact_picture t
 no_rows-text t none = sym (picture-empty t (grind (arith, nat_tests, none)))
 
+-- with a row and a column there are cells
+pub some-cells : (t : CompactTable) → 0 < t.rows → 0 < t.columns → has_no_cells t ≡ true → ⊥
+some-cells t rows columns empty =
+    let some : has_no_cells t ≡ false = grind (arith, nat_tests, rows, columns) in
+    false≢true (sym some ∙ empty)
+
 -- and no misfit
 pub misfit-empty : (t : CompactTable) → has_no_cells t ≡ true → compact_misfit t ≡ None
 unfolding compact_misfit_of

@@ -1,6 +1,6 @@
 //! The lines of a compact table, one below the other.
 
-ghost use Rattle.std.specs.Prelude.{◌≡◌, ◌==◌, ◌-◌, ◌++◌, [], ℕ, List, IfSome, false, length, flat_map, replicate};
+ghost use Rattle.std.specs.Prelude.{◌≡◌, ◌==◌, ◌-◌, ◌++◌, [], ℕ, List, IfSome, IsOk, false, true, length, flat_map, replicate};
 ghost use Rattle.std.specs.Iterator.{IsFinite};
 ghost use Rattle.std.specs.List.{range_with_len};
 ghost use Rattle.pg_layout.specs.Colors.{str_color};
@@ -10,7 +10,7 @@ ghost use Rattle.pg_picture.specs.CompactLines.{compact_full_width, line_if, sep
 ghost use Rattle.pg_picture.specs.Joined.{continued, fed};
 ghost use Rattle.pg_picture.specs.Inside.Following.{feed_before, lines_before};
 ghost use Rattle.pg_picture.specs.Picture.{compact_picture};
-ghost use Rattle.pg_compact.specs.CompactGrids.{CompactFits};
+ghost use Rattle.pg_compact.specs.CompactGrids.{has_no_cells, CompactFits};
 ghost use Rattle.pg_compact.specs.Inside.Drawing.{printed_table, IsRow, AreRows, IsInnerSeparator, lines_between, line_colors, lines_of_row, head_lines, foot_lines};
 
 use crate::printer::CompactPrinter;
@@ -34,7 +34,8 @@ impl<D: Dimension, C: Colors> CompactPrinter<'_, D, C> {
         Rows: Iterator<Item = Cells>,
         A: Allocator,
         requires { (texts : List (List (List ℕ))) × AreRows (Gives (λ x y. T.text x ≡ y) Cells.can_next Cells.next_gives Cells.remaining) Rows.can_next Rows.next_gives Rows.remaining self.now.columns 0 texts rows × CompactFits (printed_table D.width C.color self.now texts) }
-        ensures { (texts : List (List (List ℕ))) → AreRows (Gives (λ x y. T.text x ≡ y) Cells.can_next Cells.next_gives Cells.remaining) Rows.can_next Rows.next_gives Rows.remaining self.now.columns 0 texts rows → Appends buf.old buf.new result (compact_picture (printed_table D.width C.color self.now texts)) }
+        ensures appends { (texts : List (List (List ℕ))) → AreRows (Gives (λ x y. T.text x ≡ y) Cells.can_next Cells.next_gives Cells.remaining) Rows.can_next Rows.next_gives Rows.remaining self.now.columns 0 texts rows → Appends buf.old buf.new result (compact_picture (printed_table D.width C.color self.now texts)) }
+        ensures empty { (texts : List (List (List ℕ))) → AreRows (Gives (λ x y. T.text x ≡ y) Cells.can_next Cells.next_gives Cells.remaining) Rows.can_next Rows.next_gives Rows.remaining self.now.columns 0 texts rows → has_no_cells (printed_table D.width C.color self.now texts) ≡ true → IsOk result × (buf.new ≡ buf.old) }
     {
         if self.columns == 0 {
             return Ok(());

@@ -60,7 +60,7 @@ where
     /// Appends the picture of the table, whose records may be read (all records in memory may), have
     /// at most `usize::MAX` rows, and in which the columns fit where there are rows: of records that
     /// know their rows [`CompactGrid::fits`] is the test, and [`CompactGrid::print`] the call that
-    /// makes it first. A table with no rows or no columns appends nothing.
+    /// makes it first. Of a table with no rows or no columns the buffer stays as it was.
     ///
     /// The rows are read once, each as it is printed. Takes no memory but the buffer's. An error
     /// comes only where the buffer's room is too small for the picture and it gets no more memory;
@@ -69,7 +69,8 @@ where
         requires readable { MayBeRead R.Records self }
         requires rows { (compact_table R.texts R.columns D.width C.color self).rows ≤ usize.MAX }
         requires fits { CompactFits (compact_table R.texts R.columns D.width C.color self) }
-        ensures { Appends buf.old buf.new result (compact_picture (compact_table R.texts R.columns D.width C.color self.entry)) }
+        ensures appends { Appends buf.old buf.new result (compact_picture (compact_table R.texts R.columns D.width C.color self.entry)) }
+        ensures empty { has_no_cells (compact_table R.texts R.columns D.width C.color self.entry) ≡ true → IsOk result × (buf.new ≡ buf.old) }
     {
         let columns = self.records.count_columns();
         let printer = CompactPrinter {
@@ -123,12 +124,13 @@ where
     ///
     /// A table that doesn't fit is refused with what `fits` answers, and the buffer stays as it was.
     /// Where memory is refused, the buffer holds a beginning of the picture behind what it held
-    /// before.
+    /// before. A table with no rows or no columns fits, and leaves the buffer as it was.
     pub fn print<A: Allocator>(self, buf: &mut String<A>) -> Result<(), PrintFault>
         requires readable { MayBeRead R.Records self }
         ensures prints { Prints (compact_misfit (compact_table R.texts R.columns D.width C.color self.entry)) buf.old buf.new result (compact_picture (compact_table R.texts R.columns D.width C.color self.entry)) }
         ensures printed { OnOk result (string_bytes buf.new ≡ string_bytes buf.old ++ compact_picture (compact_table R.texts R.columns D.width C.color self.entry)) }
         ensures misfit { (m : _) → (result ≡ Err (PrintFault.Misfit m)) ↔ (compact_misfit (compact_table R.texts R.columns D.width C.color self.entry) ≡ Some m) }
+        ensures empty { has_no_cells (compact_table R.texts R.columns D.width C.color self.entry) ≡ true → IsOk result × (buf.new ≡ buf.old) }
     {
         self.fits()?;
         self.build(buf)?;
