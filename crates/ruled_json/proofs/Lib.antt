@@ -1,0 +1,3 @@
+mod Views
+mod Texts
+mod Walks

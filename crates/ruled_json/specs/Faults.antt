@@ -1,0 +1,78 @@
+-- Why JSON holds no rows.
+use Rattle.std.specs.Prelude.{◌≡◌, ◌≢◌, ℕ, ◌+◌, not, List, [], ◌∷◌, Option, Some, None, is_none, option_and_then, Result, Ok, Err, if◌then◌else◌}
+use Rattle.std.specs.Option.{option_or}
+use Rattle.std.specs.Str.{is_utf8}
+use Rattle.json.specs.Json.{Json, null, boolean, number, string, array, object, document}
+use Rattle.ruled_json.specs.Rows.{is_blank, lines_of, list_of}
+use Rattle.ruled_json.specs.declared.fault.JsonFault.{JsonFault}
+use Rattle.ruled_json.specs.declared.fault.JsonFault.TheVariants.{Encoding, Syntax, NoRecords, NoObject, Memory}
+use Rattle.ruled_json.specs.declared.place.Place.{Place}
+use Rattle.ruled_json.specs.declared.place.Place.TheVariants.{Near, Record, Line}
+
+-- a place, but for the line on which the fault of a whole input is seen
+abbrev pub but_near : Place → Place
+but_near (Near line) = Near 0
+but_near (Record n) = Record n
+but_near (Line n) = Line n
+
+-- a fault, but for that line
+abbrev pub but_line : JsonFault → JsonFault
+but_line (Encoding place) = Encoding (but_near place)
+but_line (Syntax place) = Syntax (but_near place)
+but_line NoRecords = NoRecords
+but_line (NoObject place) = NoObject (but_near place)
+but_line Memory = Memory
+
+-- a result tells the right fault, or that memory was refused; where it is an `Ok` there is none
+abbrev pub Tells : {X : Type 0} → Option JsonFault → Result X JsonFault → Type 0
+Tells right (Ok x) = right ≡ None
+Tells right (Err fault) = fault ≢ Memory → right ≡ Some (but_line fault)
+
+-- what is wrong with the text of a value
+abbrev pub text_fault : Place → List ℕ → Option JsonFault
+text_fault place text =
+    if not (is_utf8 text) then Some (Encoding place)
+    else if is_none (document text) then Some (Syntax place)
+    else None
+
+-- a record is an object
+abbrev pub record_fault : Place → Json → Option JsonFault
+record_fault place null = Some (NoObject place)
+record_fault place (boolean b) = Some (NoObject place)
+record_fault place (number s) = Some (NoObject place)
+record_fault place (string s) = Some (NoObject place)
+record_fault place (array js) = Some (NoObject place)
+record_fault place (object ms) = None
+
+-- what is wrong with the first bad one of these records, which are those from this number on
+abbrev pub first_fault : ℕ → List Json → Option JsonFault
+first_fault n [] = None
+first_fault n (value ∷ values) = option_or (record_fault (Record n) value) (first_fault (n + 1) values)
+
+-- what is wrong with a value whose records are shown
+abbrev pub value_fault : Json → Option JsonFault
+value_fault null = Some NoRecords
+value_fault (boolean b) = Some NoRecords
+value_fault (number s) = Some NoRecords
+value_fault (string s) = Some NoRecords
+value_fault (array js) = first_fault 1 (list_of js)
+value_fault (object ms) = None
+
+-- what is wrong with bytes that are to be one value
+unfoldable pub rows_fault : List ℕ → Option JsonFault
+rows_fault bytes = option_or (text_fault (Near 0) bytes) (option_and_then value_fault (document bytes))
+
+-- what is wrong with a line
+abbrev pub line_fault : ℕ → List ℕ → Option JsonFault
+line_fault n line =
+    if is_blank line then None
+    else option_or (text_fault (Line n) line) (option_and_then (record_fault (Line n)) (document line))
+
+-- what is wrong with the first bad one of these lines, which are those from this number on
+abbrev pub first_line_fault : ℕ → List (List ℕ) → Option JsonFault
+first_line_fault n [] = None
+first_line_fault n (line ∷ lines) = option_or (line_fault n line) (first_line_fault (n + 1) lines)
+
+-- what is wrong with bytes that are to have a value on each line
+unfoldable pub line_rows_fault : List ℕ → Option JsonFault
+line_rows_fault bytes = first_line_fault 1 (lines_of bytes)

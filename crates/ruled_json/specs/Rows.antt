@@ -1,0 +1,91 @@
+-- The rows that JSON holds: a header, and a row for each record.
+use Rattle.std.specs.Prelude.{ℕ, ◌==◌, List, [], ◌∷◌, ◌++◌, map, fold, length, flat_map, Bool, Option, Some, None, if◌then◌else◌}
+use Rattle.std.specs.List.{filter_map, list_all, list_any, slice_split}
+use Rattle.std.specs.Str.{bytes_eq}
+use Rattle.json.specs.Find.{get}
+use Rattle.json.specs.Json.{Json, null, boolean, number, string, array, object, Items, no_items, item, document}
+use Rattle.json.specs.Print.{print}
+use Rattle.json.specs.Strict.{keys}
+use Rattle.json.specs.Tree.{json_tokens}
+use Rattle.json.specs.Word.{is_space}
+
+-- ---- columns
+
+-- the names of a record's members, in order
+abbrev pub names_in : Json → List (List ℕ)
+names_in null = []
+names_in (boolean b) = []
+names_in (number s) = []
+names_in (string s) = []
+names_in (array js) = []
+names_in (object ms) = keys ms
+
+-- a name behind those that are there, unless it is one of them
+abbrev pub with_name : List (List ℕ) → List ℕ → List (List ℕ)
+with_name names name = if list_any (bytes_eq name) names then names else names ++ name ∷ []
+
+-- the names of these records, each where it is first seen
+abbrev pub columns_of : List Json → List (List ℕ)
+columns_of records = fold with_name [] (flat_map names_in records)
+
+-- ---- rows
+
+-- the text of a member: that of a string, a number as it was written, an array or an object without spaces, and none where
+-- there is no member or it is null
+abbrev pub cell_text : Option Json → List ℕ
+cell_text None = []
+cell_text (Some null) = []
+cell_text (Some (boolean b)) = print (json_tokens (boolean b))
+cell_text (Some (number s)) = s
+cell_text (Some (string s)) = s
+cell_text (Some (array js)) = print (json_tokens (array js))
+cell_text (Some (object ms)) = print (json_tokens (object ms))
+
+-- the row of a record; of members of one name the last one counts
+abbrev pub row_of : List (List ℕ) → Json → List (List ℕ)
+row_of columns value = map (λ column. cell_text (get column value)) columns
+
+-- the rows of records: the header and theirs; where no record has a member, there are none
+abbrev pub table_of : List Json → List (List (List ℕ))
+table_of records =
+    if length (columns_of records) == 0 then [] else columns_of records ∷ map (row_of (columns_of records)) records
+
+-- ---- the records of a value
+
+abbrev pub list_of : Items → List Json
+list_of no_items = []
+list_of (item j js) = j ∷ list_of js
+
+-- those of an array are its items, and an object is one
+abbrev pub records_in : Json → List Json
+records_in null = []
+records_in (boolean b) = []
+records_in (number s) = []
+records_in (string s) = []
+records_in (array js) = list_of js
+records_in (object ms) = object ms ∷ []
+
+abbrev pub records_of : Option Json → List Json
+records_of None = []
+records_of (Some value) = records_in value
+
+-- the rows of the value that these bytes are
+unfoldable pub rows_of : List ℕ → List (List (List ℕ))
+rows_of bytes = table_of (records_of (document bytes))
+
+-- ---- a record on each line
+
+-- what line feeds part
+abbrev pub lines_of : List ℕ → List (List ℕ)
+lines_of bytes = slice_split (λ byte. byte == 10) bytes
+
+-- a blank line holds no record
+abbrev pub is_blank : List ℕ → Bool
+is_blank line = list_all is_space line
+
+abbrev pub record_on : List ℕ → Option Json
+record_on line = if is_blank line then None else document line
+
+-- the rows of the values that the lines of these bytes are
+unfoldable pub line_rows_of : List ℕ → List (List (List ℕ))
+line_rows_of bytes = table_of (filter_map record_on (lines_of bytes))

@@ -1,0 +1,109 @@
+//! The columns of records, and their rows.
+
+ghost use Rattle.std.specs.Prelude.{◌≡◌, ◌==◌, ◌∷◌, ◌++◌, [], fold, length, map, string_bytes, IfOk, IfSome, OnOk, option_map};
+ghost use Rattle.csv.specs.Records.{fields_of};
+ghost use Rattle.json.specs.Tree.{HasNumbers};
+ghost use Rattle.json.specs.Value.{value_view};
+ghost use Rattle.ruled_json.specs.Rows.{cell_text, names_in, row_of, with_name};
+
+use csv::StringRecord;
+use indexmap::IndexSet;
+use json::{Value, to_vec};
+use std::alloc::{AllocError, Global};
+
+// The members of an object, and no members of another value.
+fn members_of<'v, 'a>(value: &'v Value<'a>) -> &'v [(&'a str, Value<'a>)]
+    ensures { map (λ m. m.0.now) result.now ≡ names_in (value_view value.now) }
+{
+    match value {
+        Value::Object(members) => members.as_slice(),
+        _ => &[],
+    }
+}
+
+// Appends the text of a member to a row.
+fn push_cell(
+    alloc: Global,
+    row: &mut StringRecord,
+    value: Option<&Value<'_>>,
+) -> Result<(), AllocError>
+    requires numbers { IfSome value (λ v. HasNumbers (value_view v.now)) }
+    ensures { OnOk result (fields_of row.new ≡ fields_of row.old ++ cell_text (option_map (λ v. value_view v.now) value.entry) ∷ []) }
+{
+    match value {
+        None | Some(Value::Null) => row.push_field(""),
+        Some(Value::Number(text)) | Some(Value::String(text)) => row.push_field(text),
+        Some(value) => {
+            let bytes = to_vec(alloc, value)?;
+            row.push_field(unsafe { str::from_utf8_unchecked(&bytes) })
+        }
+    }
+}
+
+/// The names of columns, in the order in which they were first seen.
+#[derive(Drop)]
+pub(crate) struct Columns {
+    names: IndexSet<String>,
+}
+
+impl Columns {
+    /// No column.
+    pub(crate) fn new(alloc: Global) -> Columns
+        ensures { map string_bytes result.names.keys ≡ [] }
+    {
+        Columns {
+            names: IndexSet::new(alloc),
+        }
+    }
+
+    /// Whether there is no column.
+    pub(crate) fn is_empty(&self) -> bool
+        ensures { result ≡ (length (map string_bytes self.now.names.keys) == 0) }
+    {
+        self.names.is_empty()
+    }
+
+    // Adds a column of this name, unless there is one.
+    fn add(&mut self, alloc: Global, name: &str) -> Result<(), AllocError>
+        ensures { OnOk result (map string_bytes self.new.names.keys ≡ with_name (map string_bytes self.old.names.keys) name.now) }
+    {
+        if !self.names.contains(name) {
+            let text = String::from_str(alloc, name)?;
+            self.names.insert(text)?;
+        }
+        Ok(())
+    }
+
+    /// Adds the columns of a record that aren't there yet.
+    pub(crate) fn add_record(&mut self, alloc: Global, value: &Value<'_>) -> Result<(), AllocError>
+        ensures { OnOk result (map string_bytes self.new.names.keys ≡ fold with_name (map string_bytes self.old.names.keys) (names_in (value_view value.now))) }
+    {
+        for member in members_of(value) {
+            self.add(alloc, member.0)?;
+        }
+        Ok(())
+    }
+
+    /// The header.
+    pub(crate) fn header(&self, alloc: Global) -> Result<StringRecord, AllocError>
+        ensures { IfOk result (λ row. fields_of row ≡ map string_bytes self.now.names.keys) }
+    {
+        let mut row = StringRecord::new(alloc);
+        for name in self.names.as_slice() {
+            row.push_field(name.as_str())?;
+        }
+        Ok(row)
+    }
+
+    /// The row of a record.
+    pub(crate) fn row(&self, alloc: Global, value: &Value<'_>) -> Result<StringRecord, AllocError>
+        requires numbers { HasNumbers (value_view value.now) }
+        ensures { IfOk result (λ row. fields_of row ≡ row_of (map string_bytes self.now.names.keys) (value_view value.now)) }
+    {
+        let mut row = StringRecord::new(alloc);
+        for name in self.names.as_slice() {
+            push_cell(alloc, &mut row, value.get(name.as_str()))?;
+        }
+        Ok(row)
+    }
+}

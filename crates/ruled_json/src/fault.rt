@@ -1,0 +1,52 @@
+//! Why JSON holds no rows.
+
+ghost use Rattle.std.specs.Prelude.{◌≡◌};
+ghost use Rattle.ruled_json.specs.declared.fault.JsonFault.TheVariants.{Memory};
+
+use crate::place::Place;
+use std::alloc::{AllocError, AllocFailed};
+use std::fmt;
+
+/// Why JSON holds no rows.
+#[derive(Clone, Copy)]
+pub enum JsonFault {
+    /// The text isn't UTF-8.
+    Encoding(Place),
+    /// The text is no JSON value, or its arrays and objects nest deeper than 128.
+    Syntax(Place),
+    /// The value is neither an array nor an object.
+    NoRecords,
+    /// The value is no object.
+    NoObject(Place),
+    /// Memory was refused.
+    Memory,
+}
+
+impl From<AllocError> for JsonFault {
+    ghost from_gives = { λ _ fault. fault ≡ Memory };
+
+    fn from(_error: AllocError) -> JsonFault {
+        JsonFault::Memory
+    }
+}
+
+impl<T: Drop> From<AllocFailed<T>> for JsonFault {
+    ghost from_gives = { λ _ fault. fault ≡ Memory };
+
+    fn from(_error: AllocFailed<T>) -> JsonFault {
+        JsonFault::Memory
+    }
+}
+
+/// Writes what is wrong.
+impl fmt::Display for JsonFault {
+    fn fmt<W: fmt::Write>(&self, f: &mut fmt::Formatter<W>) -> fmt::Result {
+        match self {
+            JsonFault::Encoding(place) => write!(f, "{place}not UTF-8"),
+            JsonFault::Syntax(place) => write!(f, "{place}not JSON"),
+            JsonFault::NoRecords => write!(f, "neither an array nor an object"),
+            JsonFault::NoObject(place) => write!(f, "{place}not an object"),
+            JsonFault::Memory => write!(f, "out of memory"),
+        }
+    }
+}

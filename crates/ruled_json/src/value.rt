@@ -1,0 +1,128 @@
+//! Rows of one value.
+
+ghost use Rattle.std.specs.Prelude.{◌≡◌, All, Some, fold, map, string_bytes, IfOk};
+ghost use Rattle.csv.specs.Records.{fields_of};
+ghost use Rattle.json.specs.Json.{document};
+ghost use Rattle.json.specs.Tree.{HasNumbers};
+ghost use Rattle.json.specs.Value.{value_view};
+ghost use Rattle.ruled_json.specs.Faults.{Tells, but_near, first_fault, record_fault, rows_fault, text_fault, value_fault};
+ghost use Rattle.ruled_json.specs.Rows.{columns_of, records_in, rows_of, table_of};
+
+use crate::columns::Columns;
+use crate::fault::JsonFault;
+use crate::place::{Place, offset_of_fault};
+use csv::StringRecord;
+use json::{Error, Scratch, Value};
+use std::alloc::{AllocError, Global};
+use std::slice;
+
+/// The value that a text is, or what is wrong with the text.
+pub(crate) fn value_of<'a>(
+    alloc: Global,
+    scratch: &'a mut Scratch,
+    bytes: &'a [u8],
+    place: Place,
+) -> Result<Value<'a>, JsonFault>
+    ensures value { IfOk result (λ value. document bytes.now ≡ Some (value_view value)) }
+    ensures numbers { IfOk result (λ value. HasNumbers (value_view value)) }
+    ensures fault { Tells (text_fault (but_near place) bytes.now) result }
+{
+    let text = match str::from_utf8(bytes) {
+        Ok(text) => text,
+        Err(error) => {
+            return Err(JsonFault::Encoding(place.at(bytes, error.valid_up_to())));
+        }
+    };
+    match Value::parse(alloc, text, scratch) {
+        Ok(value) => Ok(value),
+        Err(Error::Invalid) => {
+            let offset = offset_of_fault(alloc, text);
+            Err(JsonFault::Syntax(place.at(bytes, offset)))
+        }
+        Err(_) => Err(JsonFault::Memory),
+    }
+}
+
+/// Whether a value is a record.
+pub(crate) fn check_record(value: &Value<'_>, place: Place) -> Result<(), JsonFault>
+    ensures { Tells (record_fault (but_near place) (value_view value.now)) result }
+{
+    match value {
+        Value::Object(_) => Ok(()),
+        _ => Err(JsonFault::NoObject(place)),
+    }
+}
+
+// Whether all of these values are records.
+fn check_records(values: &[Value<'_>]) -> Result<(), JsonFault>
+    ensures { Tells (first_fault 1 (map value_view values.now)) result }
+{
+    for (at, value) in values.iter().enumerate() {
+        check_record(value, Place::Record(at + 1))?;
+    }
+    Ok(())
+}
+
+// The records of a value.
+fn records_in<'v, 'a>(value: &'v Value<'a>) -> Result<&'v [Value<'a>], JsonFault>
+    ensures records { IfOk result (λ records. map value_view records.now ≡ records_in (value_view value.now)) }
+    ensures fault { Tells (value_fault (value_view value.now)) result }
+{
+    match value {
+        Value::Array(values) => {
+            check_records(values)?;
+            Ok(values.as_slice())
+        }
+        Value::Object(_) => Ok(slice::from_ref(value)),
+        _ => Err(JsonFault::NoRecords),
+    }
+}
+
+// The columns of records.
+fn columns_of(alloc: Global, records: &[Value<'_>]) -> Result<Columns, AllocError>
+    ensures { IfOk result (λ columns. map string_bytes columns.names.keys ≡ columns_of (map value_view records.now)) }
+{
+    let mut columns = Columns::new(alloc);
+    for record in records {
+        columns.add_record(alloc, record)?;
+    }
+    Ok(columns)
+}
+
+// The rows of records.
+fn table_of(alloc: Global, records: &[Value<'_>]) -> Result<Vec<StringRecord>, AllocError>
+    requires numbers { All HasNumbers (map value_view records.now) }
+    ensures { IfOk result (λ rows. map fields_of rows.items ≡ table_of (map value_view records.now)) }
+{
+    let columns = columns_of(alloc, records)?;
+    let mut rows = Vec::new(alloc);
+    if columns.is_empty() {
+        return Ok(rows);
+    }
+    rows.push(columns.header(alloc)?)?;
+    for record in records {
+        rows.push(columns.row(alloc, record)?)?;
+    }
+    Ok(rows)
+}
+
+/// The rows that a JSON value holds: a header and a row for each record, which are the objects of an
+/// array, or one object alone.
+///
+/// The columns are the names of all members, each where it is first seen. A cell is the text of a
+/// string, a number as it was written, `true` or `false`, and of an array or an object its text
+/// without spaces; it is empty where the record has no such member, or `null`. Of members of one name
+/// the last one counts. Where no record has a member, there are no rows.
+///
+/// What is wrong is told of the text, then of the value, then of the first record that is no object;
+/// and else nothing but want of memory.
+pub fn read_rows(alloc: Global, bytes: &[u8]) -> Result<Vec<StringRecord>, JsonFault>
+    ensures rows { IfOk result (λ rows. map fields_of rows.items ≡ rows_of bytes.now) }
+    ensures fault { Tells (rows_fault bytes.now) result }
+{
+    let mut scratch = Scratch::new(alloc);
+    let value = value_of(alloc, &mut scratch, bytes, Place::Near(0))?;
+    let records = records_in(&value)?;
+    let rows = table_of(alloc, records)?;
+    Ok(rows)
+}
