@@ -1,5 +1,5 @@
 -- A table within a width: columns narrowed to it, and the texts that are too wide for them wrapped or cut.
-use Rattle.std.specs.Prelude.{◌≡◌, ℕ, ◌+◌, ◌-◌, ◌^◌, min, max, nat_lt, nat_le, true, not, ◌&&◌, ◌||◌, ◌==◌, List, map, length, sum_by, slice_index, slice_index_or, chars, Option, Some, None, ⊤, if◌then◌else◌}
+use Rattle.std.specs.Prelude.{◌≡◌, ℕ, ◌+◌, ◌-◌, ◌^◌, ◌<◌, ◌≤◌, min, max, nat_lt, nat_le, true, not, ◌&&◌, ◌||◌, ◌==◌, List, map, length, sum_by, slice_index, slice_index_or, chars, Option, Some, None, ⊤, if◌then◌else◌}
 use Rattle.std.specs.Borrow.{Bor}
 use Rattle.std.specs.List.{range_with_len, list_all}
 use Rattle.pg_layout.specs.declared.alignment.Formatting.{Formatting}
@@ -103,6 +103,11 @@ module _ (how : Overflow) (total : ℕ) (limits : List ℕ) (config : Config) (t
   abbrev pub fitted_table : (Position → Option Color) → Drawn
   fitted_table color = natural_table config fitted_texts columns color
 
+-- nothing is too wide: each column at its natural width is within its limit, and a line of them within the total
+pub record IsNarrow (total : ℕ) (limits : List ℕ) (config : Config) (texts : List (List Text)) (columns : ℕ) : Type 0 where
+  pub each : (k : ℕ) → k < columns → slice_index (natural_sizes Columns config texts columns) k ≤ limit_of limits k
+  pub line : sum_by (λ k. slice_index (natural_sizes Columns config texts columns) k) (range_with_len 0 columns) + beside_columns config columns ≤ total
+
 -- why a table with cells isn't fitted: a span is kept, or its columns can't be counted, or the natural width of one is no number of 64 bits
 unfoldable pub fit_fault : Config → List (List Text) → ℕ → Option TableFault
 fit_fault config texts columns =
@@ -133,6 +138,10 @@ fitted_of how total limits texts columns color (records, config, colors) = fitte
 abbrev pub fit_fault_of : {R C : Type 0} → (R → List (List Text)) → (R → ℕ) → R × Config × C → Option TableFault
 fit_fault_of texts columns (records, config, colors) = fit_fault config (texts records) (columns records)
 
+-- whether nothing is too wide
+abbrev pub IsNarrowOf : {R C : Type 0} → ℕ → List ℕ → (R → List (List Text)) → (R → ℕ) → R × Config × C → Type 0
+IsNarrowOf total limits texts columns (records, config, colors) = IsNarrow total limits config (texts records) (columns records)
+
 abbrev pub least_at : {R C : Type 0} → Overflow → (R → List (List Text)) → (R → ℕ) → R × Config × C → ℕ → ℕ
 least_at how texts columns (records, config, colors) k = least_column_width how config (text_at (texts records)) (length (texts records)) k
 
@@ -145,6 +154,9 @@ fitted_rows how total limits text t = fitted_table how total limits t.config (ma
 
 abbrev pub fit_fault_rows : {T : Type 0} → (T → Text) → Parts T → Option TableFault
 fit_fault_rows text t = fit_fault t.config (map (λ row. map text row) t.rows) (columns_of t.rows)
+
+abbrev pub IsNarrowRows : {T : Type 0} → ℕ → List ℕ → (T → Text) → Parts T → Type 0
+IsNarrowRows total limits text t = IsNarrow total limits t.config (map (λ row. map text row) t.rows) (columns_of t.rows)
 
 abbrev pub least_width_rows : {T : Type 0} → Overflow → (T → Text) → Parts T → ℕ
 least_width_rows how text t = least_full_width how t.config (map (λ row. map text row) t.rows) (columns_of t.rows)

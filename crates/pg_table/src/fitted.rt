@@ -38,11 +38,11 @@ where
     C: Colors,
     B: Allocator,
 {
-    ghost use Rattle.std.specs.Prelude.{◌≡◌, ℕ, [], length, ◌-◌, ◌^◌, ◌<◌, ◌≤◌, max, nat_lt, Some, None, Err, IfOk, OnOk, if◌then◌else◌};
+    ghost use Rattle.std.specs.Prelude.{◌≡◌, ℕ, [], length, ◌-◌, ◌^◌, ◌<◌, ◌≤◌, max, nat_lt, Some, None, Err, IfOk, IsOk, OnOk, if◌then◌else◌};
     ghost use Rattle.pg_fit.specs.Overlaid.{other_text};
     ghost use Rattle.pg_picture.specs.Sizes.{if_fits};
     ghost use Rattle.pg_picture.specs.Table.{full_width};
-    ghost use Rattle.pg_table.specs.Fitted.{HasPlainTail, limit_of, drawn_fitted, fitted_of, fit_fault_of, least_at, least_width_of};
+    ghost use Rattle.pg_table.specs.Fitted.{HasPlainTail, limit_of, drawn_fitted, fitted_of, fit_fault_of, least_at, least_width_of, IsNarrowOf};
     ghost use Rattle.pg_table.specs.Inside.Fitting.{HasPlainWidths, AreFittedBelow};
     ghost use Rattle.pg_table.specs.Printing.{natural_parts};
 
@@ -79,6 +79,7 @@ where
         ensures bound { HasPlainTail how.entry → IfOk result (λ fitted. full_width (drawn_fitted R.texts R.columns C.color fitted) ≤ max width (least_width_of how.entry R.texts R.columns (natural_parts self.now))) }
         ensures fault { (fault : TableFault) → fit_fault_of R.texts R.columns (natural_parts self.now) ≡ Some fault → result ≡ Err fault }
         ensures memory { (fault : TableFault) → fit_fault_of R.texts R.columns (natural_parts self.now) ≡ None → result ≡ Err fault → fault ≡ TableFault.Memory }
+        ensures narrow { fit_fault_of R.texts R.columns (natural_parts self.now) ≡ None → IsNarrowOf width [] R.texts R.columns (natural_parts self.now) → IsOk result }
     {
         self.within_limits(alloc, width, &[], how)
     }
@@ -102,6 +103,7 @@ where
         ensures limits { HasPlainTail how.entry → IfOk result (λ fitted. (k : ℕ) → k < R.columns self.now.records → (drawn_fitted R.texts R.columns C.color fitted).width k ≤ max (least_at how.entry R.texts R.columns (natural_parts self.now) k) (limit_of limits.now k)) }
         ensures fault { (fault : TableFault) → fit_fault_of R.texts R.columns (natural_parts self.now) ≡ Some fault → result ≡ Err fault }
         ensures memory { (fault : TableFault) → fit_fault_of R.texts R.columns (natural_parts self.now) ≡ None → result ≡ Err fault → fault ≡ TableFault.Memory }
+        ensures narrow { fit_fault_of R.texts R.columns (natural_parts self.now) ≡ None → IsNarrowOf width limits.now R.texts R.columns (natural_parts self.now) → IsOk result }
     {
         let mut records = OverlaidRecords::new(alloc, self.records);
         self.fit(alloc, width, limits, how, &mut records)?;
@@ -124,6 +126,7 @@ where
         requires { records.old.others ≡ [] }
         ensures fault { (fault : TableFault) → fit_fault_of R.texts R.columns (natural_parts self.now) ≡ Some fault → result ≡ Err fault }
         ensures memory { (fault : TableFault) → fit_fault_of R.texts R.columns (natural_parts self.now) ≡ None → result ≡ Err fault → fault ≡ TableFault.Memory }
+        ensures narrow { fit_fault_of R.texts R.columns (natural_parts self.now) ≡ None → IsNarrowOf width limits.now R.texts R.columns (natural_parts self.now) → IsOk result }
         ensures records { records.new.records ≡ records.old.records }
         ensures plain { OnOk result (HasPlainWidths self.now.config.now (length (R.texts self.now.records)) (R.columns self.now.records)) }
         ensures fits { OnOk result (AreFittedBelow how.entry width limits.now self.now.config.now (R.texts self.now.records) (R.columns self.now.records) (R.columns self.now.records) (other_text records.new.others (R.texts self.now.records))) }

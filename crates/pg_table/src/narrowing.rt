@@ -1,6 +1,6 @@
 //! The widths of columns within limits, and the texts that are fitted to them.
 
-ghost use Rattle.std.specs.Prelude.{◌^◌, ◌&&◌, nat_lt, Err, ◌≡◌, ◌<◌, ◌≤◌, ◌+◌, ◌-◌, ℕ, IfOk, IfSome, OnOk, MatchOption, [], false, true, length, slice_index, sum_by};
+ghost use Rattle.std.specs.Prelude.{◌^◌, ◌&&◌, nat_lt, Err, ◌≡◌, ◌<◌, ◌≤◌, ◌+◌, ◌-◌, ℕ, IfOk, IfSome, IsOk, OnOk, MatchOption, [], false, true, length, slice_index, sum_by};
 ghost use Rattle.std.specs.Bool.{OnTrue};
 ghost use Rattle.std.specs.List.{range_with_len};
 ghost use Rattle.pg_layout.specs.Keys.{by_place};
@@ -9,7 +9,7 @@ ghost use Rattle.pg_layout.specs.Position.{at};
 ghost use Rattle.pg_picture.specs.Sizes.{if_fits};
 ghost use Rattle.pg_fit.specs.Overlaid.{other_text};
 ghost use Rattle.pg_table.specs.Natural.{paddings, all_fit};
-ghost use Rattle.pg_table.specs.Fitted.{least_text_width, beside_columns, limit_of, column_ranges};
+ghost use Rattle.pg_table.specs.Fitted.{least_text_width, beside_columns, limit_of, column_ranges, IsNarrow};
 ghost use Rattle.pg_table.specs.Inside.Fitting.{text_of, rows_of, least_of, naturals_of, widths_of, AreWithin, fitted_to, HasRoomAt, FitsColumn, AreFittedBelow};
 ghost use Rattle.pg_table.specs.declared.sizes.Axis.TheVariants.{Columns};
 
@@ -86,6 +86,7 @@ impl<'a, R: PeekableRecords + ExactRecords, B: Allocator> NaturalSizes<'a, R, B>
         requires plain { self.now.config.now.spans ≡ [] }
         ensures fit { MatchOption result (all_fit (naturals_of R.texts R.columns self.now) ≡ false) (λ within. all_fit (naturals_of R.texts R.columns self.now) ≡ true) }
         ensures within { IfSome result (λ within. OnTrue within (AreWithin R.texts R.columns self.now total limits.now)) }
+        ensures narrow { IsNarrow total limits.now self.now.config.now (R.texts self.now.records) (R.columns self.now.records) → IfSome result (λ within. within ≡ true) }
     {
         let columns = self.count(Axis::Columns);
         let mut left = room_of(self.config, total, columns);
@@ -236,6 +237,7 @@ impl<'a, R: PeekableRecords + ExactRecords, B: Allocator> NaturalSizes<'a, R, B>
         requires own { fitted.old.others ≡ [] }
         ensures totals { (nat_lt (R.columns self.now.records) (2 ^ 64 - 1) && all_fit (naturals_of R.texts R.columns self.now)) ≡ false → result ≡ Err TableFault.Totals }
         ensures memory { (nat_lt (R.columns self.now.records) (2 ^ 64 - 1) && all_fit (naturals_of R.texts R.columns self.now)) ≡ true → (fault : TableFault) → result ≡ Err fault → fault ≡ TableFault.Memory }
+        ensures narrow { (nat_lt (R.columns self.now.records) (2 ^ 64 - 1) && all_fit (naturals_of R.texts R.columns self.now)) ≡ true → IsNarrow total limits.now self.now.config.now (R.texts self.now.records) (R.columns self.now.records) → IsOk result }
         ensures records { fitted.new.records ≡ fitted.old.records }
         ensures fits { OnOk result (AreFittedBelow how.entry total limits.now self.now.config.now (R.texts self.now.records) (R.columns self.now.records) (R.columns self.now.records) (other_text fitted.new.others (R.texts self.now.records))) }
     {

@@ -140,7 +140,7 @@ impl<T: AsStr + Drop, A: Allocator> Table<T, A> {
     ghost use Rattle.pg_picture.specs.Picture.{picture};
     ghost use Rattle.pg_picture.specs.Sizes.{if_fits};
     ghost use Rattle.pg_picture.specs.Table.{Known, full_width, is_empty};
-    ghost use Rattle.pg_table.specs.Fitted.{HasPlainTail, limit_of, drawn_rows, fitted_rows, fit_fault_rows, least_at_rows, least_width_rows};
+    ghost use Rattle.pg_table.specs.Fitted.{HasPlainTail, limit_of, drawn_rows, fitted_rows, fit_fault_rows, least_at_rows, least_width_rows, IsNarrowRows};
     ghost use Rattle.pg_table.specs.Natural.{natural_sizes};
     ghost use Rattle.pg_table.specs.Laws.{IsEven};
     ghost use Rattle.pg_table.specs.Printing.{fault_of, is_spanned, sizes_fault, drawn, with_header_line, CanFail, Prints};
@@ -267,6 +267,7 @@ impl<T: AsStr + Drop, A: Allocator> Table<T, A> {
         ensures bound { HasPlainTail how.entry → IfOk result (λ fitted. full_width (drawn_rows T.text fitted) ≤ max width (least_width_rows how.entry T.text self.now)) }
         ensures fault { (fault : TableFault) → fit_fault_rows T.text self.now ≡ Some fault → result ≡ Err fault }
         ensures memory { (fault : TableFault) → fit_fault_rows T.text self.now ≡ None → result ≡ Err fault → fault ≡ TableFault.Memory }
+        ensures narrow { fit_fault_rows T.text self.now ≡ None → IsNarrowRows width [] T.text self.now → IsOk result }
     {
         self.natural().within(alloc, width, how)
     }
@@ -284,6 +285,7 @@ impl<T: AsStr + Drop, A: Allocator> Table<T, A> {
         ensures limits { HasPlainTail how.entry → IfOk result (λ fitted. (k : ℕ) → k < columns_of self.now.rows → (drawn_rows T.text fitted).width k ≤ max (least_at_rows how.entry T.text self.now k) (limit_of limits.now k)) }
         ensures fault { (fault : TableFault) → fit_fault_rows T.text self.now ≡ Some fault → result ≡ Err fault }
         ensures memory { (fault : TableFault) → fit_fault_rows T.text self.now ≡ None → result ≡ Err fault → fault ≡ TableFault.Memory }
+        ensures narrow { fit_fault_rows T.text self.now ≡ None → IsNarrowRows width limits.now T.text self.now → IsOk result }
     {
         self.natural().within_limits(alloc, width, limits, how)
     }

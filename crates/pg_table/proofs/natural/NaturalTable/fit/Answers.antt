@@ -4,7 +4,7 @@ use Rattle.std.proofs.lemmas.Bool.Decides.{nat_tests}
 use Rattle.pg_fit.specs.Overlaid.{other_text}
 use Rattle.pg_table.specs.Natural.{natural_sizes, all_fit}
 use Rattle.pg_table.specs.Inside.Fitting.{HasPlainWidths}
-use Rattle.pg_table.specs.declared.fault.TableFault.TheVariants.{Totals}
+use Rattle.pg_table.specs.declared.fault.TableFault.TheVariants.{Spans, Totals}
 use Rattle.pg_table.specs.declared.sizes.Axis.TheVariants.{Columns}
 use Rattle.pg_table.proofs.FitFaults.{same-fault, not-both, fault-empty, fault-spans, fault-totals, fault-none}
 use Rattle.pg_table.proofs.FittedPlaces.{none-there}
@@ -85,3 +85,25 @@ returns-clause-memory g c = λ fault h e.
 
 pub returns-clause-fits : goal.returns-clause-fits
 returns-clause-fits g c = rw (c.sizes.ensures.records, c.sizes.ensures.config) at c.fit_texts.ensures.fits
+
+pub returns-then-not-is_empty-clause-narrow : goal.returns-then-not-is_empty-clause-narrow
+returns-then-not-is_empty-clause-narrow g c = λ none w.
+    let self = c.args.self.now in
+    let same : c.is_empty-2.result ≡ (length self.config.now.spans == 0) = rw c.spans.ensures.all at c.is_empty-2.ensures in
+    let kept : not (length self.config.now.spans == 0) ≡ true = ap not (sym same ∙ c.if-not-is_empty.true) in
+    let is = fault-spans self.config.now (g.R.Records.texts self.records) (g.R.Records.columns self.records) (sym c.is_empty.ensures ∙ c.if-is_empty.false) kept in
+    absurd (not-both _ Spans none is)
+
+pub returns-clause-narrow : goal.returns-clause-narrow
+returns-clause-narrow g c = λ none w.
+    let self = c.args.self.now in
+    let texts = g.R.Records.texts self.records in
+    let columns : ℕ = g.R.Records.columns self.records in
+    let some = sym c.is_empty.ensures ∙ c.if-is_empty.false in
+    let same : c.is_empty-2.result ≡ (length self.config.now.spans == 0) = rw c.spans.ensures.all at c.is_empty-2.ensures in
+    let plain : not (length self.config.now.spans == 0) ≡ false = ap not (sym same ∙ c.if-not-is_empty.false) in
+    let told = rw (c.sizes.ensures.records, c.sizes.ensures.config) at c.fit_texts.ensures.narrow in
+    elim (cases_Bool (nat_lt columns (2 ^ 64 - 1) && all_fit (natural_sizes Columns self.config.now texts columns))) [
+      | inl held ↦ told held w
+      | inr past ↦ absurd (not-both _ Totals none (fault-totals self.config.now texts columns some plain past))
+    ]

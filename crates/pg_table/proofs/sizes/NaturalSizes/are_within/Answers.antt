@@ -3,11 +3,11 @@ use Rattle.std.specs.List.{range_with_len}
 use Rattle.std.proofs.lemmas.Bool.{cases_lt, false≢true}
 use Rattle.std.proofs.lemmas.Bool.Decides.{nat_tests}
 use Rattle.pg_table.specs.Natural.{all_fit}
-use Rattle.pg_table.specs.Fitted.{beside_columns, limit_of}
+use Rattle.pg_table.specs.Fitted.{beside_columns, limit_of, IsNarrow}
 use Rattle.pg_table.specs.Inside.Fitting.{AreWithin}
 use Rattle.pg_table.specs.Inside.Sizes.{size_of}
 use Rattle.pg_table.specs.declared.sizes.Axis.TheVariants.{Columns}
-use Rattle.pg_table.proofs.ListedSizes.{none-past, some-below, one-past, all_fit-each, sum-more, sum-listed, size-at}
+use Rattle.pg_table.proofs.ListedSizes.{none-past, some-below, one-past, all_fit-each, sum-more, sum-below, sum-listed, size-at}
 use Rattle.pg_table.proofs.FittedColumns.{on-true}
 use Rattle.pg_table.proofs.PlainWidths.{plain-widths, plain-naturals}
 use Rattle.pg_table.proofs.sizes.NaturalSizes.are_within.Goals as goal
@@ -33,6 +33,26 @@ loop-column-preserved g c =
       | then-within w ↦ (w.if-within.true, (let test = sym w.within-is ∙ yes in grind (arith, nat_tests, test)))
       | else-within w ↦ absurd (false≢true (sym w.if-within.false ∙ sym w.within-is ∙ yes))
     ]
+    in
+    let n : ℕ = g.R.Records.columns c.args.self.now.records in
+    let same = plain-naturals c.args.self.now.config.now (g.R.Records.texts c.args.self.now.records) n (plain-widths c.args.self.now.config.now (length (g.R.Records.texts c.args.self.now.records)) n c.requires.plain) in
+    let inside : k < n = omega (arith, c.loop-column-test.true, c.count-columns.ensures) in
+    let fits : IsNarrow c.args.total c.args.limits.now c.args.self.now.config.now (g.R.Records.texts c.args.self.now.records) n → c.in_ok-natural.natural ≤ c.min.result = λ w.
+    omega (
+      arith,
+      w.each k inside,
+      w.line,
+      ap (λ ws. slice_index ws k) same,
+      size-at f n k inside,
+      ap (λ ws. sum_by (λ j. slice_index ws j) (range_with_len 0 n)) same,
+      sum-listed f n,
+      sum-below f k n inside,
+      is,
+      i.left,
+      ap (λ m. beside_columns c.args.self.now.config.now m) c.count-columns.ensures,
+      c.limit_of.ensures,
+      c.min.ensures,
+    )
     in record {
       left = omega (arith, i.left, more, is);
       fit = λ j h. elim (cases_lt j k) [ inl before ↦ i.fit j before | inr past ↦ let e : j ≡ k = omega (arith, h, past) in omega (arith, ap f e, small) ];
@@ -43,6 +63,11 @@ loop-column-preserved g c =
             | inr past ↦ let e : j ≡ k = omega (arith, h, past) in omega (arith, p.1, is, ap f e, ap (λ n. limit_of c.args.limits.now n) e, c.limit_of.ensures, c.min.ensures)
           ];
       together = λ yes. let p = parts yes in omega (arith, i.together p.0, more, is, p.1, i.left, c.min.ensures);
+      narrow = λ w.
+          elim c.if-within.branch [
+            | then-within w2 ↦ (let low = fits w in let test = w2.within-is in grind (arith, nat_tests, low, test))
+            | else-within w2 ↦ absurd (false≢true (sym w2.if-within.false ∙ i.narrow w))
+          ];
     }
 
 pub returns-clause-fit : goal.returns-clause-fit

@@ -11,3 +11,6 @@ returns-clause-fault g c = rw (c.natural.ensures.records, c.natural.ensures.conf
 
 pub returns-clause-memory : goal.returns-clause-memory
 returns-clause-memory g c = rw (c.natural.ensures.records, c.natural.ensures.config) at c.within.ensures.memory
+
+pub returns-clause-narrow : goal.returns-clause-narrow
+returns-clause-narrow g c = rw (c.natural.ensures.records, c.natural.ensures.config) at c.within.ensures.narrow

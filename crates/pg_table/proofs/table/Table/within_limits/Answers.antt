@@ -14,3 +14,6 @@ returns-clause-memory g c = rw (c.natural.ensures.records, c.natural.ensures.con
 
 pub returns-clause-limits : goal.returns-clause-limits
 returns-clause-limits g c = rw (c.natural.ensures.records, c.natural.ensures.config) at c.within_limits.ensures.limits
+
+pub returns-clause-narrow : goal.returns-clause-narrow
+returns-clause-narrow g c = rw (c.natural.ensures.records, c.natural.ensures.config) at c.within_limits.ensures.narrow
