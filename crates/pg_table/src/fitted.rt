@@ -38,13 +38,13 @@ where
     C: Colors,
     B: Allocator,
 {
-    ghost use Rattle.std.specs.Prelude.{◌≡◌, ℕ, [], length, ◌-◌, ◌^◌, ◌<◌, ◌≤◌, max, nat_lt, Some, None, Err, IfOk, IsOk, OnOk, if◌then◌else◌};
+    ghost use Rattle.std.specs.Prelude.{◌≡◌, ℕ, [], length, ◌-◌, ◌^◌, ◌<◌, ◌≤◌, max, nat_lt, true, Some, None, Err, IfOk, IsOk, OnOk, if◌then◌else◌};
     ghost use Rattle.pg_fit.specs.Overlaid.{other_text};
     ghost use Rattle.pg_picture.specs.Sizes.{if_fits};
-    ghost use Rattle.pg_picture.specs.Table.{full_width};
+    ghost use Rattle.pg_picture.specs.Table.{full_width, is_empty};
     ghost use Rattle.pg_table.specs.Fitted.{HasPlainTail, limit_of, drawn_fitted, fitted_of, fit_fault_of, least_at, least_width_of, IsNarrowOf};
     ghost use Rattle.pg_table.specs.Inside.Fitting.{HasPlainWidths, AreFittedBelow};
-    ghost use Rattle.pg_table.specs.Printing.{natural_parts};
+    ghost use Rattle.pg_table.specs.Printing.{drawn_of, natural_parts};
 
     /// The width of a line, in terminal columns, where each column is as narrow as wrapping or cutting
     /// can make it, the side margins and the column lines among it: no width below it can be had. None
@@ -79,6 +79,7 @@ where
         ensures bound { HasPlainTail how.entry → IfOk result (λ fitted. full_width (drawn_fitted R.texts R.columns C.color fitted) ≤ max width (least_width_of how.entry R.texts R.columns (natural_parts self.now))) }
         ensures fault { (fault : TableFault) → fit_fault_of R.texts R.columns (natural_parts self.now) ≡ Some fault → result ≡ Err fault }
         ensures memory { (fault : TableFault) → fit_fault_of R.texts R.columns (natural_parts self.now) ≡ None → result ≡ Err fault → fault ≡ TableFault.Memory }
+        ensures empty { is_empty (drawn_of R.texts R.columns C.color (natural_parts self.now)) ≡ true → IsOk result }
         ensures narrow { fit_fault_of R.texts R.columns (natural_parts self.now) ≡ None → IsNarrowOf width [] R.texts R.columns (natural_parts self.now) → IsOk result }
     {
         self.within_limits(alloc, width, &[], how)
@@ -90,7 +91,8 @@ where
     ///
     /// A table that keeps a span is answered by `Spans`; one of which the natural width of a column
     /// passes `usize::MAX`, or whose columns are too many to count, by `Totals`; both come before any
-    /// memory is taken, and neither where there are no cells. `Memory` comes where memory is refused.
+    /// memory is taken. `Memory` comes where memory is refused, but not where nothing is too wide. A table
+    /// without cells is answered by none of them.
     pub fn within_limits<A: Allocator + Copy>(
         &self,
         alloc: A,
@@ -103,6 +105,7 @@ where
         ensures limits { HasPlainTail how.entry → IfOk result (λ fitted. (k : ℕ) → k < R.columns self.now.records → (drawn_fitted R.texts R.columns C.color fitted).width k ≤ max (least_at how.entry R.texts R.columns (natural_parts self.now) k) (limit_of limits.now k)) }
         ensures fault { (fault : TableFault) → fit_fault_of R.texts R.columns (natural_parts self.now) ≡ Some fault → result ≡ Err fault }
         ensures memory { (fault : TableFault) → fit_fault_of R.texts R.columns (natural_parts self.now) ≡ None → result ≡ Err fault → fault ≡ TableFault.Memory }
+        ensures empty { is_empty (drawn_of R.texts R.columns C.color (natural_parts self.now)) ≡ true → IsOk result }
         ensures narrow { fit_fault_of R.texts R.columns (natural_parts self.now) ≡ None → IsNarrowOf width limits.now R.texts R.columns (natural_parts self.now) → IsOk result }
     {
         let mut records = OverlaidRecords::new(alloc, self.records);
@@ -126,6 +129,7 @@ where
         requires { records.old.others ≡ [] }
         ensures fault { (fault : TableFault) → fit_fault_of R.texts R.columns (natural_parts self.now) ≡ Some fault → result ≡ Err fault }
         ensures memory { (fault : TableFault) → fit_fault_of R.texts R.columns (natural_parts self.now) ≡ None → result ≡ Err fault → fault ≡ TableFault.Memory }
+        ensures empty { is_empty (drawn_of R.texts R.columns C.color (natural_parts self.now)) ≡ true → IsOk result }
         ensures narrow { fit_fault_of R.texts R.columns (natural_parts self.now) ≡ None → IsNarrowOf width limits.now R.texts R.columns (natural_parts self.now) → IsOk result }
         ensures records { records.new.records ≡ records.old.records }
         ensures plain { OnOk result (HasPlainWidths self.now.config.now (length (R.texts self.now.records)) (R.columns self.now.records)) }

@@ -267,6 +267,7 @@ impl<T: AsStr + Drop, A: Allocator> Table<T, A> {
         ensures bound { HasPlainTail how.entry → IfOk result (λ fitted. full_width (drawn_rows T.text fitted) ≤ max width (least_width_rows how.entry T.text self.now)) }
         ensures fault { (fault : TableFault) → fit_fault_rows T.text self.now ≡ Some fault → result ≡ Err fault }
         ensures memory { (fault : TableFault) → fit_fault_rows T.text self.now ≡ None → result ≡ Err fault → fault ≡ TableFault.Memory }
+        ensures empty { is_empty (drawn T.text self.now) ≡ true → IsOk result }
         ensures narrow { fit_fault_rows T.text self.now ≡ None → IsNarrowRows width [] T.text self.now → IsOk result }
     {
         self.natural().within(alloc, width, how)
@@ -285,6 +286,7 @@ impl<T: AsStr + Drop, A: Allocator> Table<T, A> {
         ensures limits { HasPlainTail how.entry → IfOk result (λ fitted. (k : ℕ) → k < columns_of self.now.rows → (drawn_rows T.text fitted).width k ≤ max (least_at_rows how.entry T.text self.now k) (limit_of limits.now k)) }
         ensures fault { (fault : TableFault) → fit_fault_rows T.text self.now ≡ Some fault → result ≡ Err fault }
         ensures memory { (fault : TableFault) → fit_fault_rows T.text self.now ≡ None → result ≡ Err fault → fault ≡ TableFault.Memory }
+        ensures empty { is_empty (drawn T.text self.now) ≡ true → IsOk result }
         ensures narrow { fit_fault_rows T.text self.now ≡ None → IsNarrowRows width limits.now T.text self.now → IsOk result }
     {
         self.natural().within_limits(alloc, width, limits, how)

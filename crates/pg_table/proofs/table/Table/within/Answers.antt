@@ -14,3 +14,6 @@ returns-clause-memory g c = rw (c.natural.ensures.records, c.natural.ensures.con
 
 pub returns-clause-narrow : goal.returns-clause-narrow
 returns-clause-narrow g c = rw (c.natural.ensures.records, c.natural.ensures.config) at c.within.ensures.narrow
+
+pub returns-clause-empty : goal.returns-clause-empty
+returns-clause-empty g c = rw c.natural.ensures.records at c.within.ensures.empty

@@ -17,3 +17,6 @@ returns-clause-limits g c = rw (c.natural.ensures.records, c.natural.ensures.con
 
 pub returns-clause-narrow : goal.returns-clause-narrow
 returns-clause-narrow g c = rw (c.natural.ensures.records, c.natural.ensures.config) at c.within_limits.ensures.narrow
+
+pub returns-clause-empty : goal.returns-clause-empty
+returns-clause-empty g c = rw c.natural.ensures.records at c.within_limits.ensures.empty
