@@ -2,7 +2,7 @@
 
 use clap::{Arg, ArgAction, ArgMatches, Command};
 use pg_layout::AlignmentHorizontal;
-use ruled_view::{Look, Options};
+use ruled_view::{Bounds, Breaking, Look, Options, Overflow};
 use std::alloc::{AllocError, Global};
 use std::{env, io};
 
@@ -107,11 +107,39 @@ fn with_shown<'a>(alloc: Global, command: Command<'a>) -> Result<Command<'a>, Al
         .arg(raw)
 }
 
+// The command with how wide a table may be.
+fn with_bounds<'a>(alloc: Global, command: Command<'a>) -> Result<Command<'a>, AllocError> {
+    let width = option(
+        alloc,
+        "width",
+        "N",
+        "How many columns of the terminal a line takes at most; 0 is no limit. Without it the variable COLUMNS says it, where it is there",
+    )
+    .value_parser(clap::value_parser!(u32))
+    .conflicts_with("markdown")?;
+    let limits = option(
+        alloc,
+        "max-column-width",
+        "N",
+        "How many columns of the terminal the texts of each column take at most that is shown; one number alone is for all, and 0 is no limit",
+    )
+    .value_parser(clap::value_parser!(u32))
+    .value_delimiter(',')
+    .conflicts_with("markdown")?;
+    let wrap = flag(
+        alloc,
+        "wrap",
+        "Texts that are too wide go on in further lines, as they do without a word",
+    );
+    let cut = flag(alloc, "cut", "Texts that are too wide end with …").conflicts_with("wrap")?;
+    command.arg(width)?.arg(limits)?.arg(wrap)?.arg(cut)
+}
+
 fn command<'a>(alloc: Global) -> Result<Command<'a>, AllocError> {
     let command = Command::new(alloc, "ruled")
         .about("Shows rows of separated values as a table")
         .version("0.1.0");
-    with_shown(alloc, with_input(alloc, command)?)
+    with_bounds(alloc, with_shown(alloc, with_input(alloc, command)?)?)
 }
 
 // The look of this name.
@@ -182,8 +210,42 @@ fn sides_of(
     Ok(sides)
 }
 
+// The limit that a number tells: 0 is none.
+fn limit_of(number: u32) -> Option<u32> {
+    if number == 0 { None } else { Some(number) }
+}
+
+// How wide the table may be. A table of Markdown has a line for each row, and so no bounds.
+fn bounds_of(
+    alloc: Global,
+    found: &ArgMatches,
+    columns: Option<u32>,
+) -> Result<Bounds, AllocError> {
+    let mut bounds = Bounds {
+        width: found.get_one::<u32>("width").or(columns).and_then(limit_of),
+        limits: Vec::new(alloc),
+        overflow: Overflow::Wrap(Breaking::BetweenWords),
+    };
+    if found.get_flag("markdown") {
+        bounds.width = None;
+    }
+    if found.get_flag("cut") {
+        bounds.overflow = Overflow::Cut("…");
+    }
+    if let Some(limits) = found.get_many::<u32>("max-column-width") {
+        for limit in limits {
+            bounds.limits.push(limit.ok().and_then(limit_of))?;
+        }
+    }
+    Ok(bounds)
+}
+
 // What was asked for, or `None` where the delimiter isn't one.
-fn table_of(alloc: Global, found: &ArgMatches) -> Result<Option<Wanted>, AllocError> {
+fn table_of(
+    alloc: Global,
+    found: &ArgMatches,
+    columns: Option<u32>,
+) -> Result<Option<Wanted>, AllocError> {
     let name = found.get_str("file").filter(|name| *name != "-");
     let delimiter = match found.get_str("delimiter") {
         Some(word) => delimiter_of(word),
@@ -209,10 +271,17 @@ fn table_of(alloc: Global, found: &ArgMatches) -> Result<Option<Wanted>, AllocEr
         columns: names_of(alloc, found.get_strs("columns"))?,
         sides: sides_of(alloc, found.get_strs("align"))?,
         head: found.get_one::<u32>("head"),
+        bounds: bounds_of(alloc, found, columns)?,
         is_raw: found.get_flag("raw"),
         is_markdown,
     };
     Ok(Some(Wanted { file, options }))
+}
+
+// How many columns the terminal has, by the variable that says it.
+fn columns_told(rt: &HostRuntime) -> Option<u32> {
+    let told = env::var(rt, "COLUMNS").ok()?;
+    told.parse::<u32>().ok()
 }
 
 /// Reads the arguments, and tells what clap has to say of them.
@@ -226,7 +295,7 @@ pub(crate) fn read_arguments(rt: &HostRuntime) -> io::Result<Asked> {
             return Ok(Asked::Told(error.exit_code() as u8));
         }
     };
-    if let Some(wanted) = table_of(rt.alloc(), &found)? {
+    if let Some(wanted) = table_of(rt.alloc(), &found, columns_told(rt))? {
         return Ok(Asked::Table(wanted));
     }
     eprintln!(rt;

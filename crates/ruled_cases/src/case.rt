@@ -1,7 +1,7 @@
 //! Cases of a file.
 
-use crate::words::{push_input, set_option};
-use ruled_view::{Look, Options, run};
+use crate::words::{push_input, set_option, split_times};
+use ruled_view::{Bounds, Breaking, Look, Options, Overflow, run};
 use std::alloc::{AllocError, Global};
 use std::io;
 
@@ -28,6 +28,11 @@ impl Case {
             columns: Vec::new(alloc),
             sides: Vec::new(alloc),
             head: None,
+            bounds: Bounds {
+                width: None,
+                limits: Vec::new(alloc),
+                overflow: Overflow::Wrap(Breaking::BetweenWords),
+            },
             is_raw: false,
             is_markdown: false,
         };
@@ -53,23 +58,39 @@ impl Case {
             }
             "=" => {
                 self.push_shown(text)?;
+                self.shown.push('\n')?;
                 Ok(true)
             }
             "!" => self.set_told(text),
+            ">*" | "=*" => self.push_times(mark, text),
             _ => Ok(false),
         }
     }
 
-    // Appends a line that is shown.
+    // Appends a text so many times, to the input or to what is shown.
+    fn push_times(&mut self, mark: &str, text: &str) -> Result<bool, AllocError> {
+        let Some((times, text)) = split_times(text) else {
+            return Ok(false);
+        };
+        for _ in 0..times {
+            if mark == ">*" {
+                self.input.extend_from_slice(text.as_bytes())?;
+            } else {
+                self.push_shown(text)?;
+            }
+        }
+        Ok(true)
+    }
+
+    // Appends a text that is shown.
     fn push_shown(&mut self, text: &str) -> Result<(), AllocError> {
         match text.strip_suffix('␣') {
             Some(text) => {
                 self.shown.push_str(text)?;
-                self.shown.push(' ')?;
+                self.shown.push(' ')
             }
-            None => self.shown.push_str(text)?,
+            None => self.shown.push_str(text),
         }
-        self.shown.push('\n')
     }
 
     // Takes the exit status and the line that is told.

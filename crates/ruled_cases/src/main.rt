@@ -14,8 +14,9 @@
 //! - `>` has a line of the input. What can't be seen is written by pictures: `␍` is a carriage return,
 //!   `␉` a tab, `␛` an escape, `␀` a zero byte, `␂` a byte order mark and `⌧` a byte that is no UTF-8.
 //!   Behind a line with `␃` at its end there is no line feed.
-//! - `=` has a line that is shown, with `␣` for a space at its end. `!` has the exit status and the line that is told; without it the
-//!   status is 0, and nothing is told.
+//! - `=` has a line that is shown, with `␣` for a space at its end. `!` has the exit status and the line
+//!   that is told; without it the status is 0, and nothing is told.
+//! - `>*` and `=*` have a number and a text that stands so many times, with no line feed behind it.
 //! - Empty lines and those with `#` are comments.
 //!
 //! A case that answers otherwise is told with its answer. The exit status is 0 where all answer as

@@ -1,7 +1,7 @@
 //! What the lines of a case say.
 
 use pg_layout::AlignmentHorizontal;
-use ruled_view::{Look, Options};
+use ruled_view::{Look, Options, Overflow};
 use std::alloc::{AllocError, Global};
 
 // The look of this name.
@@ -48,6 +48,9 @@ pub(crate) fn set_option(
         "delimiter" if value == "tab" => options.delimiter = b'\t',
         "delimiter" => options.delimiter = value.as_bytes().first().copied().unwrap_or(b','),
         "head" => options.head = value.parse().ok(),
+        "width" => options.bounds.width = value.parse().ok(),
+        "limit" => options.bounds.limits.push(value.parse().ok())?,
+        "cut" => options.bounds.overflow = Overflow::Cut("…"),
         "look" => match look_of(value) {
             Some(look) => options.look = look,
             None => return Ok(false),
@@ -60,6 +63,12 @@ pub(crate) fn set_option(
         _ => return Ok(false),
     }
     Ok(true)
+}
+
+/// The number and the text of a line that has both.
+pub(crate) fn split_times(line: &str) -> Option<(usize, &str)> {
+    let (times, text) = line.split_once(' ')?;
+    Some((times.parse().ok()?, text))
 }
 
 // What a picture stands for.

@@ -1,6 +1,7 @@
 -- What is told where no table is shown: of the rows, of the columns, or of the sizes.
 use Rattle.std.proofs.Common.{◌≡◌, ◌≢◌, ℕ, List, Option, Some, None, Result, Ok, Err, true, false, refl, sym, ap, ◌∙◌, subst}
 use Rattle.std.specs.Prelude.{option_map, IfSome}
+use Rattle.std.proofs.lemmas.Bool.{true≢false}
 use Rattle.std.specs.Option.{option_or}
 use Rattle.std.specs.Result.{IsErrAnd}
 use Rattle.ruled_csv.specs.declared.fault.RowsFault.{RowsFault}
@@ -10,38 +11,25 @@ use Rattle.ruled_view.specs.Faults.{Tells, but_line, fault_of_rows, is_failure, 
 use Rattle.ruled_view.specs.declared.fault.Fault.{Fault}
 use Rattle.ruled_view.specs.declared.fault.Fault.TheVariants.{Rows, Column, Totals, Memory, Read, Closed, Write}
 
-rows_told : (found : RowsFault) (right : Option RowsFault) (later : Option Fault) → (found ≢ rows.Memory → right ≡ Some (csv.but_line found))
-    → is_failure (fault_of_rows found) ≡ false → option_or (option_map fault_of_rows right) later ≡ Some (but_line (fault_of_rows found))
-rows_told (rows.OpenQuote line) right later is told = rw (is (λ e. cc)) refl
-rows_told (rows.BehindQuote line) right later is told = rw (is (λ e. cc)) refl
-rows_told (rows.Length row line fields columns) right later is told = rw (is (λ e. cc)) refl
-rows_told (rows.Encoding row line) right later is told = rw (is (λ e. cc)) refl
-rows_told rows.Memory right later is told = cc
-
-columns_told : (rows : Option RowsFault) (columns totals : Option Fault) (fault : Fault) → rows ≡ None → columns ≡ Some fault
-    → option_or (option_map fault_of_rows rows) (option_or columns totals) ≡ Some fault
-columns_told rows columns totals fault e f = rw (e, f) refl
-
-pub totals_told : (rows : Option RowsFault) (columns totals : Option Fault) → rows ≡ None → columns ≡ None
-    → totals ≡ option_or (option_map fault_of_rows rows) (option_or columns totals)
-totals_told rows columns totals e f = rw (e, f) refl
-
 -- where the reading of rows fails, that is told
-pub all_told : {X : Type 0} (found : RowsFault) (right : Option RowsFault) (later : Option Fault) (result : Result X Fault) → (found ≢ rows.Memory → right ≡ Some (csv.but_line found))
-    → IsErrAnd result (λ fault. fault ≡ fault_of_rows found) → Tells (option_or (option_map fault_of_rows right) later) result
-all_told found right later (Ok x) is told = absurd told
-all_told found right later (Err fault) is told = λ counts.
-    let known : is_failure (fault_of_rows found) ≡ false = sym (ap is_failure told) ∙ counts in
-    rows_told found right later is known ∙ ap (λ (f : Fault). Some (but_line f)) (sym told)
+pub rows_told : {X : Type 0} (found : RowsFault) (right : Option RowsFault) (result : Result X Fault) → (found ≢ rows.Memory → right ≡ Some (csv.but_line found))
+    → IsErrAnd result (λ fault. fault ≡ fault_of_rows found) → Tells (option_map fault_of_rows right) result
+rows_told found right (Ok x) is told = absurd told
+rows_told (rows.OpenQuote line) right (Err fault) is told = λ counts. rw (is (λ e. cc), told) refl
+rows_told (rows.BehindQuote line) right (Err fault) is told = λ counts. rw (is (λ e. cc), told) refl
+rows_told (rows.Length row line fields columns) right (Err fault) is told = λ counts. rw (is (λ e. cc), told) refl
+rows_told (rows.Encoding row line) right (Err fault) is told = λ counts. rw (is (λ e. cc), told) refl
+rows_told rows.Memory right (Err fault) is told = λ counts. absurd (true≢false (sym (ap is_failure told) ∙ counts))
 
--- and where a column is missing, that
-pub places_told : {X : Type 0} (found : Fault) (rows : Option RowsFault) (columns totals : Option Fault) (result : Result X Fault) → rows ≡ None
-    → (is_failure found ≡ false → columns ≡ Some (but_line found)) → IsErrAnd result (λ fault. fault ≡ found)
-    → Tells (option_or (option_map fault_of_rows rows) (option_or columns totals)) result
-places_told found rows columns totals (Ok x) none is told = absurd told
-places_told found rows columns totals (Err fault) none is told = λ counts.
-    let known : is_failure found ≡ false = sym (ap is_failure told) ∙ counts in
-    columns_told rows columns totals (but_line found) none (is known) ∙ ap (λ (f : Fault). Some (but_line f)) (sym told)
+-- what is told first, is told
+pub first_told : {X : Type 0} (found : Fault) (right later : Option Fault) (result : Result X Fault) → (is_failure found ≡ false → right ≡ Some (but_line found))
+    → IsErrAnd result (λ fault. fault ≡ found) → Tells (option_or right later) result
+first_told found right later (Ok x) is told = absurd told
+first_told found right later (Err fault) is told = λ counts. rw (is (sym (ap is_failure told) ∙ counts), told) refl
+
+-- and where the first is nothing, what comes then
+pub then_told : {X : Type 0} (first later : Option Fault) (result : Result X Fault) → first ≡ None → Tells later result → Tells (option_or first later) result
+then_told first later result none told = rw none told
 
 -- a write that failed is a failure
 write_fails : (fault : Fault) → is_of_write fault ≡ true → is_failure fault ≡ true

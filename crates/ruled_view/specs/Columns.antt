@@ -6,6 +6,12 @@ use Rattle.pg_layout.specs.Text.{Text}
 use Rattle.ruled_view.specs.declared.fault.Fault.{Fault}
 use Rattle.ruled_view.specs.declared.fault.Fault.TheVariants.{Column}
 
+-- what is said of a column: one word alone is for all
+abbrev pub told_of : {X : Type 0} → List (Option X) → ℕ → Option X
+told_of [] column = None
+told_of (word ∷ []) column = word
+told_of (word ∷ next ∷ words) column = slice_index_or (word ∷ next ∷ words) column None
+
 -- the first column of this name
 abbrev pub column_of : List Text → Text → Option ℕ
 column_of header name = find (λ column. pointwise nat_eq (slice_index_or header column []) name) (range_with_len 0 (length header))

@@ -1,7 +1,10 @@
+pub mod Bounds
 pub mod Columns
 pub mod Escapes
 pub mod Faults
+pub mod Input
 pub mod Look
 pub mod Numbers
 pub mod Sides
+pub mod Tables
 pub mod View

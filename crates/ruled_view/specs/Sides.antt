@@ -1,11 +1,12 @@
 -- At which side of its cells the texts of a column stand.
-use Rattle.std.specs.Prelude.{ℕ, ◌||◌, Bool, List, [], ◌∷◌, drop, slice_index_or, fold, Option, Some, None, unwrap_or, if◌then◌else◌}
+use Rattle.std.specs.Prelude.{ℕ, ◌||◌, Bool, List, [], drop, slice_index_or, fold, Option, unwrap_or, if◌then◌else◌}
 use Rattle.std.specs.List.{list_all, range_with_len}
 use Rattle.pg_layout.specs.Text.{Text}
 use Rattle.pg_layout.specs.declared.alignment.AlignmentHorizontal.{AlignmentHorizontal}
 use Rattle.pg_layout.specs.declared.alignment.AlignmentHorizontal.TheVariants.{Left, Center, Right}
 use Rattle.pg_layout.specs.declared.position.Entity.TheVariants.{Column}
 use Rattle.pg_config.specs.Settings.{Settings, with_setting}
+use Rattle.ruled_view.specs.Columns.{told_of}
 use Rattle.ruled_view.specs.Numbers.{is_blank, is_number}
 
 -- ---- columns of numbers
@@ -22,12 +23,6 @@ abbrev pub is_numeric : List (List Text) → ℕ → Bool
 is_numeric rows column = list_all (λ row. is_numeric_text (slice_index_or row column [])) rows
 
 -- ---- sides
-
--- what is said of a column: one word alone is for all
-abbrev pub told_of : List (Option AlignmentHorizontal) → ℕ → Option AlignmentHorizontal
-told_of [] column = None
-told_of (side ∷ []) column = side
-told_of (side ∷ next ∷ sides) column = slice_index_or (side ∷ next ∷ sides) column None
 
 -- where nothing is said, numbers stand at the right
 abbrev pub side_of : Bool → List (Option AlignmentHorizontal) → List (List Text) → ℕ → AlignmentHorizontal

@@ -1,5 +1,5 @@
 -- What is shown of rows, and its picture.
-use Rattle.std.specs.Prelude.{ℕ, ◌+◌, ◌==◌, Bool, List, [], ◌∷◌, ◌++◌, map, length, take, slice_index_or, Option, Some, None, is_some, option_map, if◌then◌else◌}
+use Rattle.std.specs.Prelude.{ℕ, ◌+◌, Bool, List, [], map, take, slice_index_or, Option, Some, None, option_map, if◌then◌else◌}
 use Rattle.std.specs.Option.{option_or}
 use Rattle.pg_layout.specs.Text.{Text}
 use Rattle.pg_layout.specs.Records.{columns_of}
@@ -9,19 +9,13 @@ use Rattle.pg_layout.specs.declared.sides.Indent.{Indent}
 use Rattle.pg_config.specs.Config.{Config, default_config}
 use Rattle.pg_config.specs.Settings.{with_setting}
 use Rattle.pg_fit.specs.Controls.{visible_text}
-use Rattle.pg_picture.specs.Picture.{picture}
-use Rattle.pg_picture.specs.Table.{Known, Table}
-use Rattle.pg_table.specs.Natural.{natural_table}
-use Rattle.pg_table.specs.Printing.{Parts, fault_of, with_header_line}
-use Rattle.ruled_csv.specs.Rows.{rows_of}
-use Rattle.ruled_csv.specs.Faults.{rows_fault}
 use Rattle.ruled_view.specs.Escapes.{escaped_text}
 use Rattle.ruled_view.specs.Columns.{column_fault, places_of}
-use Rattle.ruled_view.specs.Faults.{fault_of_rows}
+use Rattle.ruled_view.specs.Input.{input_fault, rows_in}
 use Rattle.ruled_view.specs.Look.{borders_of, header_line_of}
 use Rattle.ruled_view.specs.Sides.{side_of, with_sides}
+use Rattle.ruled_view.specs.Tables.{fault_with, text_with}
 use Rattle.ruled_view.specs.declared.fault.Fault.{Fault}
-use Rattle.ruled_view.specs.declared.fault.Fault.TheVariants.{Totals}
 use Rattle.ruled_view.specs.declared.options.Look.{Look}
 use Rattle.ruled_view.specs.declared.options.Options.{Options}
 
@@ -67,11 +61,6 @@ look_config look =
       padding = with_setting Global (record { left = beside; right = beside; top = none; bottom = none }) default_config.padding;
     }
 
--- the configuration with a line below a header, in a table of so many rows and columns
-abbrev pub with_line : Option (HorizontalLine ℕ) → ℕ → ℕ → Config → Config
-with_line None rows columns config = config
-with_line (Some line) rows columns config = with_header_line line rows columns config
-
 abbrev pub line_in : Options → Option (HorizontalLine ℕ)
 line_in options = if options.has_header then header_line_of options.look else None
 
@@ -81,38 +70,23 @@ sided_config options rows =
     let config : Config = look_config options.look in
     record config { alignment_horizontal = with_sides (side_of options.has_header options.sides.items rows) (columns_of rows) config.alignment_horizontal }
 
--- a table of rows
-abbrev pub table_with : Config → Option (HorizontalLine ℕ) → List (List Text) → Table
-table_with config line rows = natural_table (with_line line (length rows) (columns_of rows) config) rows (columns_of rows) (λ place. None)
-
--- its picture, and a line feed; of no rows nothing
-abbrev pub text_with : Config → Option (HorizontalLine ℕ) → List (List Text) → Text
-text_with config line rows = if length rows == 0 then [] else picture Known (table_with config line rows) ++ 10 ∷ []
+-- the text of the rows that are shown: their table
+abbrev pub text_of : Options → List (List Text) → Text
+text_of options rows = text_with options.bounds (sided_config options rows) (line_in options) rows
 
 -- what is wrong with its sizes
-abbrev pub fault_with : Config → Option (HorizontalLine ℕ) → List (List Text) → Option Fault
-fault_with config line rows = if is_some (fault_of (table_with config line rows)) then Some Totals else None
-
--- the same of the rows that are shown
-abbrev pub text_of : Options → List (List Text) → Text
-text_of options rows = text_with (sided_config options rows) (line_in options) rows
-
 abbrev pub totals_fault : Options → List (List Text) → Option Fault
-totals_fault options rows = fault_with (sided_config options rows) (line_in options) rows
+totals_fault options rows = fault_with options.bounds (sided_config options rows) (line_in options) rows
 
 -- ---- bytes
 
 -- the picture of the rows that bytes hold
 unfoldable pub view_text : Options → List ℕ → Text
-view_text options bytes = text_of options (shown_rows options (rows_of options.delimiter bytes))
+view_text options bytes = text_of options (shown_rows options (rows_in options bytes))
 
 -- why there is none: the rows, the names of columns, or the sizes
 unfoldable pub view_fault : Options → List ℕ → Option Fault
 view_fault options bytes =
-    option_or (option_map fault_of_rows (rows_fault options.delimiter bytes))
-    (option_or (column_fault options.columns.items (rows_of options.delimiter bytes))
-    (totals_fault options (shown_rows options (rows_of options.delimiter bytes))))
-
--- what a table of rows is made of
-abbrev pub table_parts : {X : Type 0} → Config → Option (HorizontalLine ℕ) → List (List X) → Parts X
-table_parts config line rows = record { rows = rows; config = with_line line (length rows) (columns_of rows) config; colors = [] }
+    option_or (input_fault options bytes)
+    (option_or (column_fault options.columns.items (rows_in options bytes))
+    (totals_fault options (shown_rows options (rows_in options bytes))))

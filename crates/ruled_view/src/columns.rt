@@ -3,13 +3,23 @@
 ghost use Rattle.std.specs.Prelude.{◌≡◌, [], map, option_map, slice_index_or, IfOk};
 ghost use Rattle.std.specs.List.{range_with_len};
 ghost use Rattle.csv.specs.Records.{fields_of};
-ghost use Rattle.ruled_view.specs.Columns.{column_of, column_fault, columns_in, missing_name, named_columns, places_of};
+ghost use Rattle.ruled_view.specs.Columns.{column_of, column_fault, columns_in, missing_name, named_columns, places_of, told_of};
 ghost use Rattle.ruled_view.specs.Faults.{Tells};
 ghost use Rattle.ruled_view.specs.declared.fault.Fault.TheVariants.{Column};
 
 use crate::fault::Fault;
 use csv::StringRecord;
 use std::alloc::{AllocError, Global};
+
+/// What is said of a column: one word alone is for all.
+pub(crate) fn told_of<T: Copy>(words: &[Option<T>], column: usize) -> Option<T>
+    ensures { result ≡ told_of words.now column }
+{
+    match words {
+        [word] => *word,
+        _ => words.get(column).copied().unwrap_or(None),
+    }
+}
 
 /// A field of a row, or an empty text where there is none.
 pub(crate) fn field_at(fields: &StringRecord, place: usize) -> &str

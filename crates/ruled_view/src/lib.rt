@@ -1,9 +1,11 @@
 //! Rows of separated values as a table: bytes in, the picture of the rows that they hold out.
 #![tactic(auto)]
 
+mod bounds;
 mod columns;
 mod escapes;
 mod fault;
+mod input;
 mod numbers;
 mod options;
 mod program;
@@ -11,7 +13,9 @@ mod rows;
 mod sides;
 mod table;
 
+pub use crate::bounds::Bounds;
 pub use crate::fault::Fault;
 pub use crate::options::{Look, Options};
 pub use crate::program::{Ending, run};
 pub use crate::table::view;
+pub use pg_table::{Breaking, Overflow};

@@ -3,6 +3,7 @@
 ghost use Rattle.std.specs.Prelude.{◌≡◌};
 ghost use Rattle.ruled_view.specs.Look as spec;
 
+use crate::bounds::Bounds;
 use pg_layout::{AlignmentHorizontal, Borders, HorizontalLine};
 
 /// What a table looks like: the borders of this name. Those that have no lines between all rows have
@@ -69,6 +70,8 @@ pub struct Options {
     pub sides: Vec<Option<AlignmentHorizontal>>,
     /// How many rows are shown at most, besides a header.
     pub head: Option<u32>,
+    /// How wide the table may be.
+    pub bounds: Bounds,
     /// Whether control characters are sent as they are.
     pub is_raw: bool,
     /// Whether texts are escaped, so that Markdown reads each as one cell: a bar is `\|`, a backslash

@@ -5,6 +5,7 @@ ghost use Rattle.std.specs.List.{list_all};
 ghost use Rattle.pg_layout.specs.Records.{columns_of};
 ghost use Rattle.ruled_view.specs.Sides as spec;
 
+use crate::columns::told_of;
 use crate::numbers::{is_blank, is_number};
 use pg_config::SpannedConfig;
 use pg_layout::{AlignmentHorizontal, Entity};
@@ -41,16 +42,6 @@ fn body_of(has_header: bool, rows: &[Vec<String>]) -> &[Vec<String>]
     match rows {
         [_, body @ ..] if has_header => body,
         _ => rows,
-    }
-}
-
-// What is said of a column.
-fn told_of(sides: &[Option<AlignmentHorizontal>], column: usize) -> Option<AlignmentHorizontal>
-    ensures { result ≡ spec.told_of sides.now column }
-{
-    match sides {
-        [side] => *side,
-        _ => sides.get(column).copied().unwrap_or(None),
     }
 }
 

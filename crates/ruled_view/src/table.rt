@@ -1,24 +1,26 @@
 //! The text of the table that bytes hold.
 
-ghost use Rattle.std.specs.Prelude.{◌≡◌, ◌∷◌, ◌++◌, [], map, string_bytes, IfOk, is_some, if◌then◌else◌, ◌⊎◌, Some, None, Err};
+ghost use Rattle.std.specs.Prelude.{◌≡◌, ◌∷◌, ◌++◌, [], map, string_bytes, IfOk, is_none, if◌then◌else◌, ◌⊎◌, Some, None, Err};
 ghost use Rattle.pg_layout.specs.Records.{ragged_row};
 ghost use Rattle.pg_picture.specs.Picture.{picture};
 ghost use Rattle.pg_picture.specs.Table.{Known};
-ghost use Rattle.pg_table.specs.Printing.{drawn, fault_of};
+ghost use Rattle.ruled_view.specs.Bounds.{bounded_rows, rows_fault};
 ghost use Rattle.ruled_view.specs.Faults.{Tells};
-ghost use Rattle.ruled_view.specs.View.{fault_with, line_in, look_config, sided_config, table_parts, text_of, text_with, totals_fault, view_fault, view_text};
+ghost use Rattle.ruled_view.specs.Tables.{fault_with, table_parts, text_with};
+ghost use Rattle.ruled_view.specs.View.{line_in, look_config, sided_config, text_of, totals_fault, view_fault, view_text};
 ghost use Rattle.ruled_view.specs.declared.fault.Fault.{Fault};
 ghost use Rattle.pg_table.specs.declared.fault.TableFault.{TableFault};
 
+use crate::bounds::Bounds;
 use crate::columns::places_of;
 use crate::fault::Fault;
+use crate::input::rows_in;
 use crate::options::{Look, Options};
 use crate::rows::shown_rows;
 use crate::sides::set_sides;
 use pg_config::SpannedConfig;
 use pg_layout::{Entity, HorizontalLine, Indent, Sides};
 use pg_table::{Table, TableFault};
-use ruled_csv::read_rows;
 use std::alloc::{AllocError, Global};
 
 // What a table looks like, but for the line below its header.
@@ -85,32 +87,33 @@ fn fault_in(fault: TableFault) -> Fault
     }
 }
 
-// The picture of a table, and a line feed.
-fn picture_of(alloc: Global, table: &Table<String>) -> Result<String, Fault>
-    ensures text { IfOk result (λ text. string_bytes text ≡ picture Known (drawn string_bytes table.now) ++ 10 ∷ []) }
-    ensures fault { Tells (if is_some (fault_of (drawn string_bytes table.now)) then Some Fault.Totals else None) result }
+// The picture of a table within its bounds, and a line feed.
+fn picture_of(alloc: Global, bounds: &Bounds, table: &Table<String>) -> Result<String, Fault>
+    ensures text { IfOk result (λ text. string_bytes text ≡ picture Known (bounded_rows string_bytes bounds.now table.now) ++ 10 ∷ []) }
+    ensures fault { Tells (if is_none (rows_fault string_bytes bounds.now table.now) then None else Some Fault.Totals) result }
 {
-    let mut text = table.to_string(alloc).map_err(fault_in)?;
+    let mut text = bounds.picture(alloc, table).map_err(fault_in)?;
     text.push('\n')?;
     Ok(text)
 }
 
-// The text of the table of rows of equal length, with this line below row 0.
+// The text of the table of rows of equal length, with this line below row 0, within its bounds.
 fn text_with(
     alloc: Global,
+    bounds: &Bounds,
     config: SpannedConfig,
     line: Option<HorizontalLine<char>>,
     rows: Vec<Vec<String>>,
 ) -> Result<String, Fault>
     requires even { ragged_row (map (λ row. row.items) rows.items) ≡ None }
-    ensures text { IfOk result (λ text. string_bytes text ≡ text_with config line (map (λ row. map string_bytes row.items) rows.items)) }
-    ensures fault { Tells (fault_with config line (map (λ row. map string_bytes row.items) rows.items)) result }
+    ensures text { IfOk result (λ text. string_bytes text ≡ text_with bounds.now config line (map (λ row. map string_bytes row.items) rows.items)) }
+    ensures fault { Tells (fault_with bounds.now config line (map (λ row. map string_bytes row.items) rows.items)) result }
 {
     if rows.is_empty() {
         return Ok(String::new(alloc));
     }
     let table = table_with(alloc, config, line, rows).map_err(fault_in)?;
-    picture_of(alloc, &table)
+    picture_of(alloc, bounds, &table)
 }
 
 // The text of the table of the rows that are shown.
@@ -120,7 +123,7 @@ fn text_of(alloc: Global, options: &Options, rows: Vec<Vec<String>>) -> Result<S
     ensures fault { Tells (totals_fault options.now (map (λ row. map string_bytes row.items) rows.items)) result }
 {
     let config = sided_config(alloc, options, &rows)?;
-    text_with(alloc, config, line_in(options), rows)
+    text_with(alloc, &options.bounds, config, line_in(options), rows)
 }
 
 /// The text of the table of the rows that bytes of separated values hold, and a line feed behind it; of
@@ -132,7 +135,7 @@ pub fn view(alloc: Global, options: &Options, bytes: &[u8]) -> Result<String, Fa
     ensures text { IfOk result (λ text. string_bytes text ≡ view_text options.now bytes.now) }
     ensures fault { Tells (view_fault options.now bytes.now) result }
 {
-    let all = read_rows(alloc, options.delimiter, bytes)?;
+    let all = rows_in(alloc, options, bytes)?;
     let places = places_of(alloc, &options.columns, &all)?;
     let rows = shown_rows(alloc, options, &places, all)?;
     text_of(alloc, options, rows)

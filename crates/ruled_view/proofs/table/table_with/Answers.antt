@@ -1,7 +1,7 @@
 use Rattle.std.proofs.Common.{◌≡◌, ℕ, map, Option, sym, subst}
 use Rattle.std.specs.Prelude.{IfOk}
 use Rattle.pg_layout.specs.declared.borders.HorizontalLine.{HorizontalLine}
-use Rattle.ruled_view.specs.View.{table_parts}
+use Rattle.ruled_view.specs.Tables.{table_parts}
 use Rattle.ruled_view.proofs.table.table_with.Goals as goal
 
 pub returns-in-Some-clause-parts : goal.returns-in-Some-clause-parts

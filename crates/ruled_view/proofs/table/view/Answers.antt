@@ -5,14 +5,13 @@ use Rattle.std.proofs.lemmas.List.{length-map}
 use Rattle.csv.specs.Records.{fields_of}
 use Rattle.pg_layout.specs.Text.{Text}
 use Rattle.pg_layout.specs.Records.{ragged_row}
-use Rattle.ruled_csv.specs.Rows.{rows_of}
-use Rattle.ruled_csv.specs.Faults.{rows_fault}
 use Rattle.ruled_view.specs.Columns.{column_fault, places_of}
 use Rattle.ruled_view.specs.Faults.{Tells}
+use Rattle.ruled_view.specs.Input.{input_fault, rows_in}
 use Rattle.ruled_view.specs.View.{heads, shown_row, shown_rows, text_of, totals_fault, view_fault, view_text}
 use Rattle.ruled_view.specs.declared.fault.Fault.{Fault}
 use Rattle.ruled_view.proofs.Even.{even_rows, ragged_same}
-use Rattle.ruled_view.proofs.Views.{all_told, places_told, totals_told}
+use Rattle.ruled_view.proofs.Views.{first_told, then_told}
 use Rattle.ruled_view.proofs.table.view.Goals as goal
 
 pub text_of-requires : goal.text_of-requires
@@ -56,31 +55,35 @@ returns-clause-fault c =
     ∙ ap (λ (places : List ℕ). map (shown_row options places) (heads options (map fields_of all))) places
     ∙ ap (λ (rows : List (List Text)). shown_rows options rows) c.in_ok-all.ensures.rows
     in
-    let none : column_fault options.columns.items (rows_of options.delimiter bytes) ≡ None =
+    let none : column_fault options.columns.items (rows_in options bytes) ≡ None =
     ap (λ (rows : List (List Text)). column_fault options.columns.items rows) (sym c.in_ok-all.ensures.rows) ∙ (rw (names, rows) at c.in_ok-places.ensures.fault)
     in
-    let is =
-    ap (λ (rows : List (List Text)). totals_fault options rows) shown
-    ∙ totals_told (rows_fault options.delimiter bytes) (column_fault options.columns.items (rows_of options.delimiter bytes)) (totals_fault options (shown_rows options (rows_of options.delimiter bytes))) c.in_ok-all.ensures.fault none
+    let told : Tells (totals_fault options (shown_rows options (rows_in options bytes))) c.text_of.result =
+    subst (λ (rows : List (List Text)). Tells (totals_fault options rows) c.text_of.result) shown c.text_of.ensures.fault
     in
-    subst (λ (fault : Option Fault). Tells fault c.text_of.result) is c.text_of.ensures.fault
+    let later = option_or (column_fault options.columns.items (rows_in options bytes)) (totals_fault options (shown_rows options (rows_in options bytes))) in
+    then_told (input_fault options bytes) later c.text_of.result c.in_ok-all.ensures.fault
+    (then_told (column_fault options.columns.items (rows_in options bytes)) (totals_fault options (shown_rows options (rows_in options bytes))) c.text_of.result none told)
 
 pub returns-in_err-all-clause-fault : goal.returns-in_err-all-clause-fault
 unfolding view_fault
 returns-in_err-all-clause-fault c =
     let options = c.args.options.now in
-    let rows = rows_of options.delimiter c.args.bytes.now in
+    let rows = rows_in options c.args.bytes.now in
     let later = option_or (column_fault options.columns.items rows) (totals_fault options (shown_rows options rows)) in
-    all_told c.in_err-all.field-0.0 (rows_fault options.delimiter c.args.bytes.now) later c.from_residual.result c.in_err-all.ensures.fault c.from_residual.ensures.1
+    first_told c.in_err-all.field-0.0 (input_fault options c.args.bytes.now) later c.from_residual.result c.in_err-all.ensures.fault c.from_residual.ensures.1
 
 pub returns-in_err-places-clause-fault : goal.returns-in_err-places-clause-fault
 unfolding view_fault
 returns-in_err-places-clause-fault c =
     let options = c.args.options.now in
     let bytes = c.args.bytes.now in
-    let given = rows_of options.delimiter bytes in
+    let given = rows_in options bytes in
+    let columns : Option Fault = column_fault options.columns.items given in
+    let totals : Option Fault = totals_fault options (shown_rows options given) in
     let names : c.deref.result.now ≡ options.columns.items = search rules in
     let rows : c.deref-2.result.now ≡ c.in_ok-all.all.items = search rules in
     let told = rw (names, rows, c.in_ok-all.ensures.rows) at c.in_err-places.ensures.fault in
-    places_told c.in_err-places.field-0.0 (rows_fault options.delimiter bytes) (column_fault options.columns.items given) (totals_fault options (shown_rows options given)) c.from_residual-in_err-places.result
-    c.in_ok-all.ensures.fault told c.from_residual-in_err-places.ensures.1
+    let result = c.from_residual-in_err-places.result in
+    then_told (input_fault options bytes) (option_or columns totals) result c.in_ok-all.ensures.fault
+    (first_told c.in_err-places.field-0.0 columns totals result told c.from_residual-in_err-places.ensures.1)

@@ -1,0 +1,36 @@
+-- Tables of rows, and their texts.
+use Rattle.std.specs.Prelude.{ℕ, ◌==◌, ◌||◌, List, [], ◌∷◌, ◌++◌, length, Option, Some, None, is_none, if◌then◌else◌}
+use Rattle.pg_layout.specs.Text.{Text}
+use Rattle.pg_layout.specs.Records.{columns_of}
+use Rattle.pg_layout.specs.declared.borders.HorizontalLine.{HorizontalLine}
+use Rattle.pg_config.specs.Config.{Config}
+use Rattle.pg_picture.specs.Picture.{picture}
+use Rattle.pg_picture.specs.Table.{Known, Table}
+use Rattle.pg_table.specs.Printing.{Parts, with_header_line}
+use Rattle.ruled_view.specs.Bounds.{bounded_fault, bounded_table}
+use Rattle.ruled_view.specs.declared.bounds.Bounds.{Bounds}
+use Rattle.ruled_view.specs.declared.fault.Fault.{Fault}
+use Rattle.ruled_view.specs.declared.fault.Fault.TheVariants.{Totals}
+
+-- the configuration with a line below a header, in a table of so many rows and columns
+abbrev pub with_line : Option (HorizontalLine ℕ) → ℕ → ℕ → Config → Config
+with_line None rows columns config = config
+with_line (Some line) rows columns config = with_header_line line rows columns config
+
+-- a table of rows, within its bounds
+abbrev pub table_with : Bounds → Config → Option (HorizontalLine ℕ) → List (List Text) → Table
+table_with bounds config line rows = bounded_table bounds (with_line line (length rows) (columns_of rows) config) rows (columns_of rows) (λ place. None)
+
+-- its picture, and a line feed; of no rows nothing
+abbrev pub text_with : Bounds → Config → Option (HorizontalLine ℕ) → List (List Text) → Text
+text_with bounds config line rows = if length rows == 0 then [] else picture Known (table_with bounds config line rows) ++ 10 ∷ []
+
+-- what is wrong with its sizes
+abbrev pub fault_with : Bounds → Config → Option (HorizontalLine ℕ) → List (List Text) → Option Fault
+fault_with bounds config line rows =
+    if (length rows == 0) || is_none (bounded_fault bounds (with_line line (length rows) (columns_of rows) config) rows (columns_of rows) (λ place. None)) then None
+    else Some Totals
+
+-- what a table of rows is made of
+abbrev pub table_parts : {X : Type 0} → Config → Option (HorizontalLine ℕ) → List (List X) → Parts X
+table_parts config line rows = record { rows = rows; config = with_line line (length rows) (columns_of rows) config; colors = [] }
