@@ -1,5 +1,5 @@
 -- The table of records that are read row by row: its texts are those of the rows, it may be printed, and its rows make its picture.
-use Rattle.std.proofs.Common.{◌≡◌, ℕ, suc, ◌+◌, ◌<◌, ◌||◌, ◌==◌, false, List, [], ◌∷◌, map, length, slice_index_or, get_or, Option, None, Some, IfSome, All, refl, sym, ap, ap₂, ◌∙◌, subst, arith, add-zero, zero-add}
+use Rattle.std.proofs.Common.{◌≡◌, ℕ, suc, ◌+◌, ◌<◌, false, List, [], ◌∷◌, map, length, slice_index_or, get_or, Option, None, Some, IfSome, All, refl, sym, ap, ap₂, ◌∙◌, subst, arith, add-zero, zero-add}
 use Rattle.std.specs.List.{range_with_len}
 use Rattle.std.proofs.lemmas.Bool.Decides.{nat_tests}
 use Rattle.pg_layout.specs.declared.position.Position.{Position}

@@ -45,4 +45,7 @@ pub mod StreamedResults
 pub mod IterTables
 pub mod LiveRows
 pub mod LentRows
+pub mod OwnRows
+pub mod SizedRows
+pub mod SizedPushes
 pub mod TableEnds

@@ -1,5 +1,5 @@
 -- A printer that is ended behind rows of which none was told to be the last.
-use Rattle.std.proofs.Common.{◌≡◌, ◌⊎◌, ℕ, ◌≤◌, Bool, true, Option, Some, None, List, inl, refl}
+use Rattle.std.proofs.Common.{◌≡◌, ℕ, ◌≤◌, Bool, true, Option, Some, None, List, inl, refl}
 use Rattle.std.specs.Prelude.{String, Result, Ok, Err, IfSome}
 use Rattle.pg_picture.specs.Appending.{Appends}
 use Rattle.pg_picture.specs.Fits.{spans_fit}

@@ -7,4 +7,5 @@ pub mod Styles
 pub mod Told
 pub mod Frames
 pub mod Held
+pub mod Sized
 pub mod OpenCells

@@ -1,14 +1,18 @@
 -- Laws of printers of rows, in words of their own.
-use Rattle.std.specs.Prelude.{◌≡◌, ℕ, ◌<◌, true, List, map, IfSome, Option, None}
+use Rattle.std.specs.Prelude.{◌≡◌, ℕ, ◌<◌, Bool, true, List, map, IfSome, Option, None}
 use Rattle.std.specs.List.{range_with_len}
+use Rattle.pg_layout.specs.Colors.{Color}
+use Rattle.pg_layout.specs.declared.position.Position.{Position}
 use Rattle.pg_layout.specs.Position.{at}
 use Rattle.pg_layout.specs.Text.{Text}
+use Rattle.pg_config.specs.Config.{Config}
 use Rattle.pg_picture.specs.Fits.{spans_fit, misfit_of}
 use Rattle.pg_picture.specs.Picture.{picture}
 use Rattle.pg_picture.specs.Table.{Table, Unknown}
 use Rattle.pg_stream.specs.Conditions.{PrinterFits, RowsFit}
 use Rattle.pg_stream.specs.LiveStreams.{live_text}
-use Rattle.pg_stream.specs.Printing.{hint_of, printer, rows_text}
+use Rattle.pg_stream.specs.Printing.{Printing, hint_of, printer, after_row, rows_text}
+use Rattle.pg_stream.specs.SizedStreams.{CountsLines}
 
 -- the texts of a table, row by row
 abbrev pub texts_of : Table → List (List Text)
@@ -21,6 +25,12 @@ RowsMakeThePicture = (t : Table) (hint : Option ℕ) → IfSome hint (λ rows. r
 -- The same where no row is told to be the last; margins that end before the last lines are whole then.
 abbrev pub LiveRowsMakeThePicture : Type 0
 LiveRowsMakeThePicture = (t : Table) → spans_fit t.config.spans t.rows t.columns ≡ true → 0 < t.rows → 0 < t.columns → live_text (printer t.config t.columns t.width t.height t.color None) (texts_of t) ≡ picture Unknown t
+
+-- By the heights of its rows, a printer's lines are those of the rows so far: before its first row, and behind each row. So rows
+-- that bring the heights of a table are printed as those of that table.
+pub record RowsCountTheirLines : Type 0 where
+  pub none : (config : Config) (columns : ℕ) (width height : ℕ → ℕ) (color : Position → Option Color) (hint : Option ℕ) → CountsLines (printer config columns width height color hint)
+  pub more : (s : Printing) (cells : List Text) (is_last : Bool) → CountsLines s → CountsLines (after_row s cells is_last)
 
 -- A table that fits may be printed row by row.
 abbrev pub FittingTablesMayBePrinted : Type 0

@@ -6,6 +6,7 @@ pub mod Printers
 pub mod Laws
 pub mod Streams
 pub mod LiveStreams
+pub mod SizedStreams
 pub mod Faults
 pub mod IterGrids
 pub mod Inside

@@ -20,9 +20,11 @@ mod progress;
 mod row_fits;
 mod row_lines;
 mod row_printer;
+mod row_sizes;
 mod row_stream;
 mod separators;
 mod single_rows;
+mod sized_stream;
 mod table_end;
 mod turns;
 
@@ -30,9 +32,11 @@ pub use crate::conditions::printer_fits;
 pub use crate::fault::{RowFault, RowsFault, StreamFault};
 pub use crate::grid::IterGrid;
 pub use crate::laws::{
-    live_rows_make_the_picture, rows_make_the_picture, tables_that_fit_may_be_printed,
+    live_rows_make_the_picture, rows_count_their_lines, rows_make_the_picture,
+    tables_that_fit_may_be_printed,
 };
 pub use crate::live_stream::LiveStream;
 pub use crate::open_cells::OpenCells;
 pub use crate::row_printer::RowPrinter;
 pub use crate::row_stream::RowStream;
+pub use crate::sized_stream::SizedStream;

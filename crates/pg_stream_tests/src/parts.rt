@@ -2,7 +2,7 @@
 
 use pg_config::SpannedConfig;
 use pg_layout::{EvenDimension, NoColors};
-use pg_stream::{LiveStream, RowPrinter, RowStream, RowsFault, StreamFault};
+use pg_stream::{LiveStream, RowPrinter, RowStream, RowsFault, SizedStream, StreamFault};
 use std::alloc::{AllocError, Allocator, Global};
 use std::test::Fail;
 
@@ -46,6 +46,16 @@ pub(crate) type Live<'a, A = Global> = LiveStream<
     A,
 >;
 
+/// A stream whose rows bring their heights, of texts that live as long as the program.
+pub(crate) type Sized<'a, A = Global> = SizedStream<
+    'a,
+    &'static str,
+    EvenDimension,
+    NoColors,
+    Global,
+    A,
+>;
+
 /// A row, or an error that came in its place.
 pub(crate) type Item<E, V = Global> = Result<Vec<&'static str, V>, E>;
 
@@ -59,6 +69,8 @@ pub(crate) enum Way {
     PrintResults,
     /// Into a stream whose rows are shown at once, which takes no number of rows.
     Live,
+    /// Into one whose rows bring their height, which is 1 here.
+    Sized,
 }
 
 /// Those of a stream that holds a row.
@@ -162,6 +174,18 @@ fn push_live<V: Allocator, W: Allocator>(
     stream.finish(buf)
 }
 
+// Pushes the rows, each of which brings its height.
+fn push_sized<V: Allocator, W: Allocator>(
+    mut stream: Sized<'_, V>,
+    rows: Vec<Vec<&'static str, V>, V>,
+    buf: &mut String<W>,
+) -> Result<(), StreamFault> {
+    for row in rows {
+        stream.push(1, row, buf)?;
+    }
+    stream.finish(buf)
+}
+
 /// Lends the rows to a stream, one after the other, each of which is shown at once. `memory` is that of
 /// all but the buffer.
 pub(crate) fn lend_rows<A: Allocator, W: Allocator>(
@@ -191,6 +215,10 @@ pub(crate) fn print_by<A: Allocator + Copy, W: Allocator>(
         let stream = LiveStream::new(memory, config, dimension, &NoColors, COLUMNS)?;
         return push_live(stream, rows_of(memory, texts)?, buf);
     }
+    if way == Way::Sized {
+        let stream = SizedStream::new(memory, config, dimension, &NoColors, COLUMNS)?;
+        return push_sized(stream, rows_of(memory, texts)?, buf);
+    }
     let stream: Stream<'_, A, A> = RowStream::new(
         memory, config, dimension, &NoColors, COLUMNS, hint,
     )?;
@@ -199,6 +227,8 @@ pub(crate) fn print_by<A: Allocator + Copy, W: Allocator>(
         Way::PushFrom => push_rows_from(memory, stream, texts, buf),
         Way::PrintVec => stream.print_vec(rows_of(memory, texts)?, buf),
         Way::PrintAll => stream.print_all(rows_of(memory, texts)?.into_iter(), buf),
-        Way::PrintResults | Way::Live => print_results(stream, items_of(memory, texts, None)?, buf),
+        Way::PrintResults | Way::Live | Way::Sized => {
+            print_results(stream, items_of(memory, texts, None)?, buf)
+        }
     }
 }

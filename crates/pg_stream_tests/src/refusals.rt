@@ -127,6 +127,7 @@ fn refused_memory_leaves_a_beginning_of_the_rows(rt: HostRuntime) -> Result<(), 
         assert_each_refused(&rt, rt.alloc(), Work::Rows(way), &config)?;
     }
     assert_each_refused(&rt, rt.alloc(), Work::Rows(Way::Live), &config)?;
+    assert_each_refused(&rt, rt.alloc(), Work::Rows(Way::Sized), &config)?;
     assert_each_refused(&rt, rt.alloc(), Work::Lent, &config)?;
     assert_each_refused(&rt, rt.alloc(), Work::End, &config)?;
     assert_each_refused(&rt, rt.alloc(), Work::FirstRow, &config)
