@@ -2,13 +2,15 @@
 
 use clap::{Arg, ArgAction, ArgMatches, Command};
 use pg_layout::AlignmentHorizontal;
-use ruled_view::{Bounds, Breaking, Look, Options, Overflow};
+use ruled_view::{Bounds, Breaking, Format, Look, Options, Overflow};
 use std::alloc::{AllocError, Global};
 use std::{env, io};
 
 static LOOKS: [&str; 9] = [
     "sharp", "rounded", "modern", "extended", "ascii", "dots", "psql", "markdown", "blank",
 ];
+
+static FORMATS: [&str; 4] = ["csv", "tsv", "json", "jsonl"];
 
 static SIDES: [&str; 5] = ["auto", "left", "right", "centre", "center"];
 
@@ -51,14 +53,21 @@ fn with_input<'a>(alloc: Global, command: Command<'a>) -> Result<Command<'a>, Al
     let file = Arg::new(alloc, "file").value_name("FILE").help(
         "The file that is read; without one, or as -, standard input",
     );
+    let format = option(
+        alloc,
+        "format",
+        "FORMAT",
+        "How rows are written: separated by commas or tabs, as one value of JSON, or as lines of JSON; else the ending of the file's name tells it, or else its first bytes",
+    )
+    .value_parser(FORMATS.as_slice());
     let delimiter = option(
         alloc,
         "delimiter",
         "C",
-        "What stands between two fields: a character, or the word tab; else a tab in a file whose name ends in .tsv or .tab, and a comma",
+        "What stands between two fields: a character, or the word tab",
     );
     let bare = flag(alloc, "no-header", "Row 0 is no header");
-    command.arg(file)?.arg(delimiter)?.arg(bare)
+    command.arg(file)?.arg(format)?.arg(delimiter)?.arg(bare)
 }
 
 // The command with what is shown.
@@ -137,7 +146,7 @@ fn with_bounds<'a>(alloc: Global, command: Command<'a>) -> Result<Command<'a>, A
 
 fn command<'a>(alloc: Global) -> Result<Command<'a>, AllocError> {
     let command = Command::new(alloc, "ruled")
-        .about("Shows rows of separated values as a table")
+        .about("Shows rows of separated values or JSON as a table")
         .version("0.1.0");
     with_bounds(alloc, with_shown(alloc, with_input(alloc, command)?)?)
 }
@@ -169,13 +178,40 @@ fn delimiter_of(word: &str) -> Option<u8> {
     }
 }
 
-// The delimiter in a file of this name.
-fn delimiter_in(file: Option<&str>) -> u8 {
-    let name = file.unwrap_or("");
-    if name.ends_with(".tsv") || name.ends_with(".tab") {
-        b'\t'
-    } else {
-        b','
+// The format of this name, or of files whose names end in it.
+fn format_of(name: &str) -> Option<Format> {
+    match name {
+        "csv" => Some(Format::Separated(b',')),
+        "tsv" | "tab" => Some(Format::Separated(b'\t')),
+        "json" => Some(Format::Json),
+        "jsonl" | "ndjson" => Some(Format::JsonLines),
+        _ => None,
+    }
+}
+
+// The format of a file of this name, where its ending tells it.
+fn format_in(name: &str) -> Option<Format> {
+    let (_, ending) = name.rsplit_once('.')?;
+    format_of(ending)
+}
+
+// The file that is named, where it isn't standard input.
+fn name_in<'m>(found: &'m ArgMatches) -> Option<&'m str> {
+    found.get_str("file").filter(|name| *name != "-")
+}
+
+// The format that is asked for, or that the file's name tells, or why there is none.
+fn format_asked(found: &ArgMatches) -> Result<Option<Format>, &'static str> {
+    let asked = found.get_str("format").and_then(format_of);
+    let Some(word) = found.get_str("delimiter") else {
+        return Ok(asked.or(name_in(found).and_then(format_in)));
+    };
+    let Some(delimiter) = delimiter_of(word) else {
+        return Err("a delimiter is one character of ASCII that is no quote, or the word tab");
+    };
+    match asked {
+        Some(Format::Json) | Some(Format::JsonLines) => Err("JSON has no delimiter"),
+        _ => Ok(Some(Format::Separated(delimiter))),
     }
 }
 
@@ -240,21 +276,14 @@ fn bounds_of(
     Ok(bounds)
 }
 
-// What was asked for, or `None` where the delimiter isn't one.
+// What was asked for.
 fn table_of(
     alloc: Global,
     found: &ArgMatches,
+    format: Option<Format>,
     columns: Option<u32>,
-) -> Result<Option<Wanted>, AllocError> {
-    let name = found.get_str("file").filter(|name| *name != "-");
-    let delimiter = match found.get_str("delimiter") {
-        Some(word) => delimiter_of(word),
-        None => Some(delimiter_in(name)),
-    };
-    let Some(delimiter) = delimiter else {
-        return Ok(None);
-    };
-    let file = match name {
+) -> Result<Wanted, AllocError> {
+    let file = match name_in(found) {
         Some(name) => Some(String::from_str(alloc, name)?),
         None => None,
     };
@@ -265,7 +294,7 @@ fn table_of(
         look_of(found.get_str("look"))
     };
     let options = Options {
-        delimiter,
+        format,
         look,
         has_header: !found.get_flag("no-header"),
         columns: names_of(alloc, found.get_strs("columns"))?,
@@ -275,7 +304,7 @@ fn table_of(
         is_raw: found.get_flag("raw"),
         is_markdown,
     };
-    Ok(Some(Wanted { file, options }))
+    Ok(Wanted { file, options })
 }
 
 // How many columns the terminal has, by the variable that says it.
@@ -295,11 +324,11 @@ pub(crate) fn read_arguments(rt: &HostRuntime) -> io::Result<Asked> {
             return Ok(Asked::Told(error.exit_code() as u8));
         }
     };
-    if let Some(wanted) = table_of(rt.alloc(), &found, columns_told(rt))? {
-        return Ok(Asked::Table(wanted));
+    match format_asked(&found) {
+        Ok(format) => Ok(Asked::Table(table_of(rt.alloc(), &found, format, columns_told(rt))?)),
+        Err(told) => {
+            eprintln!(rt; "ruled: {told}")?;
+            Ok(Asked::Told(2))
+        }
     }
-    eprintln!(rt;
-        "ruled: a delimiter is one character of ASCII that is no quote, or the word tab"
-    )?;
-    Ok(Asked::Told(2))
 }

@@ -1,4 +1,4 @@
-//! The program `ruled`: it shows rows of separated values, from a file or from standard input, as a
+//! The program `ruled`: it shows rows of separated values or JSON, from a file or from standard input, as a
 //! table. `docs/RULED.md` is its manual.
 #![tactic(auto)]
 

@@ -1,7 +1,7 @@
 //! Cases of a file.
 
 use crate::words::{push_input, set_option, split_times};
-use ruled_view::{Bounds, Breaking, Look, Options, Overflow, run};
+use ruled_view::{Bounds, Breaking, Format, Look, Options, Overflow, run};
 use std::alloc::{AllocError, Global};
 use std::io;
 
@@ -22,7 +22,7 @@ impl Case {
     /// A case of this name without an input.
     pub(crate) fn new(alloc: Global, name: &str) -> Result<Case, AllocError> {
         let options = Options {
-            delimiter: b',',
+            format: Some(Format::Separated(b',')),
             look: Look::Sharp,
             has_header: true,
             columns: Vec::new(alloc),

@@ -1,7 +1,7 @@
 //! What the lines of a case say.
 
 use pg_layout::AlignmentHorizontal;
-use ruled_view::{Look, Options, Overflow};
+use ruled_view::{Format, Look, Options, Overflow};
 use std::alloc::{AllocError, Global};
 
 // The look of this name.
@@ -16,6 +16,16 @@ fn look_of(name: &str) -> Option<Look> {
         "psql" => Some(Look::Psql),
         "markdown" => Some(Look::Markdown),
         "blank" => Some(Look::Blank),
+        _ => None,
+    }
+}
+
+// The format that a word names, where it names one, or the one that the input shows.
+fn format_of(word: &str) -> Option<Option<Format>> {
+    match word {
+        "seen" => Some(None),
+        "json" => Some(Some(Format::Json)),
+        "jsonl" => Some(Some(Format::JsonLines)),
         _ => None,
     }
 }
@@ -45,8 +55,15 @@ pub(crate) fn set_option(
             options.look = Look::Markdown;
             options.is_markdown = true;
         }
-        "delimiter" if value == "tab" => options.delimiter = b'\t',
-        "delimiter" => options.delimiter = value.as_bytes().first().copied().unwrap_or(b','),
+        "delimiter" if value == "tab" => options.format = Some(Format::Separated(b'\t')),
+        "delimiter" => {
+            let delimiter = value.as_bytes().first().copied().unwrap_or(b',');
+            options.format = Some(Format::Separated(delimiter));
+        }
+        "format" => match format_of(value) {
+            Some(format) => options.format = format,
+            None => return Ok(false),
+        },
         "head" => options.head = value.parse().ok(),
         "width" => options.bounds.width = value.parse().ok(),
         "limit" => options.bounds.limits.push(value.parse().ok())?,

@@ -103,8 +103,8 @@ impl Walk {
     }
 }
 
-// The bytes without a byte order mark at their front.
-fn without_mark(bytes: &[u8]) -> &[u8]
+/// The bytes without a byte order mark at their front.
+pub fn without_mark(bytes: &[u8]) -> &[u8]
     ensures { result.now ≡ strip_bom bytes.now }
 {
     match bytes.strip_prefix(&[0xef, 0xbb, 0xbf]) {

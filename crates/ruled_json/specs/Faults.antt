@@ -1,5 +1,5 @@
 -- Why JSON holds no rows.
-use Rattle.std.specs.Prelude.{◌≡◌, ◌≢◌, ℕ, ◌+◌, not, List, [], ◌∷◌, Option, Some, None, is_none, option_and_then, Result, Ok, Err, if◌then◌else◌}
+use Rattle.std.specs.Prelude.{◌≡◌, ◌≢◌, ℕ, ◌+◌, not, ◌&&◌, Bool, List, [], ◌∷◌, Option, Some, None, is_none, is_some, option_and_then, Result, Ok, Err, if◌then◌else◌}
 use Rattle.std.specs.Option.{option_or}
 use Rattle.std.specs.Str.{is_utf8}
 use Rattle.json.specs.Json.{Json, null, boolean, number, string, array, object, document}
@@ -34,6 +34,10 @@ text_fault place text =
     if not (is_utf8 text) then Some (Encoding place)
     else if is_none (document text) then Some (Syntax place)
     else None
+
+-- whether bytes are one value
+abbrev pub is_value : List ℕ → Bool
+is_value bytes = is_utf8 bytes && is_some (document bytes)
 
 -- a record is an object
 abbrev pub record_fault : Place → Json → Option JsonFault

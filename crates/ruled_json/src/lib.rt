@@ -10,4 +10,4 @@ mod value;
 pub use crate::fault::JsonFault;
 pub use crate::lines::read_line_rows;
 pub use crate::place::Place;
-pub use crate::value::read_rows;
+pub use crate::value::{is_value, read_rows};

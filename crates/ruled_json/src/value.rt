@@ -5,14 +5,14 @@ ghost use Rattle.csv.specs.Records.{fields_of};
 ghost use Rattle.json.specs.Json.{document};
 ghost use Rattle.json.specs.Tree.{HasNumbers};
 ghost use Rattle.json.specs.Value.{value_view};
-ghost use Rattle.ruled_json.specs.Faults.{Tells, but_near, first_fault, record_fault, rows_fault, text_fault, value_fault};
+ghost use Rattle.ruled_json.specs.Faults.{Tells, but_near, first_fault, is_value, record_fault, rows_fault, text_fault, value_fault};
 ghost use Rattle.ruled_json.specs.Rows.{columns_of, records_in, rows_of, table_of};
 
 use crate::columns::Columns;
 use crate::fault::JsonFault;
 use crate::place::{Place, offset_of_fault};
 use csv::StringRecord;
-use json::{Error, Scratch, Value};
+use json::{Error, Scratch, Value, is_valid};
 use std::alloc::{AllocError, Global};
 use std::slice;
 
@@ -40,6 +40,16 @@ pub(crate) fn value_of<'a>(
             Err(JsonFault::Syntax(place.at(bytes, offset)))
         }
         Err(_) => Err(JsonFault::Memory),
+    }
+}
+
+/// Whether bytes are one JSON value.
+pub fn is_value(alloc: Global, bytes: &[u8]) -> Result<bool, AllocError>
+    ensures { IfOk result (λ is. is ≡ is_value bytes.now) }
+{
+    match str::from_utf8(bytes) {
+        Ok(text) => is_valid(text, &mut Scratch::new(alloc)),
+        Err(_) => Ok(false),
     }
 }
 

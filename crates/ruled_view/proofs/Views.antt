@@ -9,7 +9,7 @@ use Rattle.ruled_csv.specs.declared.fault.RowsFault.TheVariants as rows
 use Rattle.ruled_csv.specs.Faults as csv
 use Rattle.ruled_view.specs.Faults.{Tells, but_line, fault_of_rows, is_failure, is_of_write}
 use Rattle.ruled_view.specs.declared.fault.Fault.{Fault}
-use Rattle.ruled_view.specs.declared.fault.Fault.TheVariants.{Rows, Column, Totals, Memory, Read, Closed, Write}
+use Rattle.ruled_view.specs.declared.fault.Fault.TheVariants.{Rows, Json, Column, Totals, Memory, Read, Closed, Write}
 
 -- where the reading of rows fails, that is told
 pub rows_told : {X : Type 0} (found : RowsFault) (right : Option RowsFault) (result : Result X Fault) → (found ≢ rows.Memory → right ≡ Some (csv.but_line found))
@@ -31,9 +31,15 @@ first_told found right later (Err fault) is told = λ counts. rw (is (sym (ap is
 pub then_told : {X : Type 0} (first later : Option Fault) (result : Result X Fault) → first ≡ None → Tells later result → Tells (option_or first later) result
 then_told first later result none told = rw none told
 
+-- refused memory leaves all open
+pub memory_told : {X : Type 0} (found : Fault) (right : Option Fault) (result : Result X Fault) → found ≡ Memory → IsErrAnd result (λ fault. fault ≡ found) → Tells right result
+memory_told found right (Ok x) is told = absurd told
+memory_told found right (Err fault) is told = λ counts. absurd (true≢false (sym (ap is_failure (told ∙ is)) ∙ counts))
+
 -- a write that failed is a failure
 write_fails : (fault : Fault) → is_of_write fault ≡ true → is_failure fault ≡ true
 write_fails (Rows fault) e = cc
+write_fails (Json fault) e = cc
 write_fails (Column name) e = cc
 write_fails Totals e = cc
 write_fails Memory e = refl

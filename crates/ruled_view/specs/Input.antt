@@ -1,16 +1,33 @@
 -- The rows that an input holds.
 use Rattle.std.specs.Prelude.{ℕ, List, Option, option_map}
+use Rattle.csv.specs.Reading.{strip_bom}
 use Rattle.pg_layout.specs.Text.{Text}
-use Rattle.ruled_csv.specs.Rows.{rows_of}
-use Rattle.ruled_csv.specs.Faults.{rows_fault}
-use Rattle.ruled_view.specs.Faults.{fault_of_rows}
+use Rattle.ruled_csv.specs.Rows as csv_rows
+use Rattle.ruled_csv.specs.Faults as csv_faults
+use Rattle.ruled_json.specs.Rows as json_rows
+use Rattle.ruled_json.specs.Faults as json_faults
+use Rattle.ruled_view.specs.Faults.{fault_of_json, fault_of_rows}
+use Rattle.ruled_view.specs.Formats.{format_in}
 use Rattle.ruled_view.specs.declared.fault.Fault.{Fault}
+use Rattle.ruled_view.specs.declared.formats.Format.{Format}
+use Rattle.ruled_view.specs.declared.formats.Format.TheVariants.{Separated, Json, JsonLines}
 use Rattle.ruled_view.specs.declared.options.Options.{Options}
 
--- the rows, of which the first is row 0
-abbrev pub rows_in : Options → List ℕ → List (List Text)
-rows_in options bytes = rows_of options.delimiter bytes
+-- the rows of a format, of which the first is row 0
+abbrev pub rows_of : Format → List ℕ → List (List Text)
+rows_of (Separated delimiter) bytes = csv_rows.rows_of delimiter bytes
+rows_of Json bytes = json_rows.rows_of (strip_bom bytes)
+rows_of JsonLines bytes = json_rows.line_rows_of (strip_bom bytes)
 
 -- why there are none
+abbrev pub format_fault : Format → List ℕ → Option Fault
+format_fault (Separated delimiter) bytes = option_map fault_of_rows (csv_faults.rows_fault delimiter bytes)
+format_fault Json bytes = option_map fault_of_json (json_faults.rows_fault (strip_bom bytes))
+format_fault JsonLines bytes = option_map fault_of_json (json_faults.line_rows_fault (strip_bom bytes))
+
+-- the same of the format that is told, or seen
+abbrev pub rows_in : Options → List ℕ → List (List Text)
+rows_in options bytes = rows_of (format_in options.format bytes) bytes
+
 abbrev pub input_fault : Options → List ℕ → Option Fault
-input_fault options bytes = option_map fault_of_rows (rows_fault options.delimiter bytes)
+input_fault options bytes = format_fault (format_in options.format bytes) bytes

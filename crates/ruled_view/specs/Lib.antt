@@ -2,6 +2,7 @@ pub mod Bounds
 pub mod Columns
 pub mod Escapes
 pub mod Faults
+pub mod Formats
 pub mod Input
 pub mod Look
 pub mod Numbers

@@ -2,10 +2,12 @@
 
 ghost use Rattle.std.specs.Prelude.{◌≡◌};
 ghost use Rattle.ruled_csv.specs.declared.fault.RowsFault.TheVariants as rows;
-ghost use Rattle.ruled_view.specs.Faults.{fault_of_rows, status_of};
+ghost use Rattle.ruled_json.specs.declared.fault.JsonFault.TheVariants as json;
+ghost use Rattle.ruled_view.specs.Faults.{fault_of_json, fault_of_rows, status_of};
 ghost use Rattle.ruled_view.specs.declared.fault.Fault.TheVariants.{Memory};
 
 use ruled_csv::RowsFault;
+use ruled_json::JsonFault;
 use std::alloc::{AllocError, AllocFailed};
 use std::io;
 use std::io::Write;
@@ -13,8 +15,10 @@ use std::io::Write;
 /// Why no table is shown.
 #[derive(Clone, Copy)]
 pub enum Fault {
-    /// The bytes hold no rows.
+    /// The bytes of separated values hold no rows.
     Rows(RowsFault),
+    /// The bytes of JSON hold no rows.
+    Json(JsonFault),
     /// Row 0 has no field of this name, of those that [`crate::Options::columns`] lists, counted from 0.
     Column(usize),
     /// The sizes of the table are too large.
@@ -56,6 +60,17 @@ impl From<RowsFault> for Fault {
     }
 }
 
+impl From<JsonFault> for Fault {
+    ghost from_gives = { λ found fault. fault ≡ fault_of_json found };
+
+    fn from(fault: JsonFault) -> Fault {
+        match fault {
+            JsonFault::Memory => Fault::Memory,
+            _ => Fault::Json(fault),
+        }
+    }
+}
+
 impl Fault {
     /// The exit status that tells of it: 0 where nobody reads what is written.
     pub fn status(self) -> u8
@@ -63,7 +78,7 @@ impl Fault {
     {
         match self {
             Fault::Closed => 0,
-            Fault::Rows(_) | Fault::Column(_) => 2,
+            Fault::Rows(_) | Fault::Json(_) | Fault::Column(_) => 2,
             Fault::Totals => 3,
             Fault::Memory => 4,
             Fault::Read | Fault::Write => 5,
@@ -75,6 +90,7 @@ impl Fault {
         write!(err, "ruled: ")?;
         match self {
             Fault::Rows(fault) => writeln!(err, "{fault}")?,
+            Fault::Json(fault) => writeln!(err, "{fault}")?,
             Fault::Column(name) => {
                 let name = columns.get(name).map_or("", |name| name.as_str());
                 writeln!(err, "no column {name}")?;

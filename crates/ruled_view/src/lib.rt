@@ -5,6 +5,7 @@ mod bounds;
 mod columns;
 mod escapes;
 mod fault;
+mod formats;
 mod input;
 mod numbers;
 mod options;
@@ -15,6 +16,7 @@ mod table;
 
 pub use crate::bounds::Bounds;
 pub use crate::fault::Fault;
+pub use crate::formats::Format;
 pub use crate::options::{Look, Options};
 pub use crate::program::{Ending, run};
 pub use crate::table::view;

@@ -4,6 +4,7 @@ ghost use Rattle.std.specs.Prelude.{◌≡◌};
 ghost use Rattle.ruled_view.specs.Look as spec;
 
 use crate::bounds::Bounds;
+use crate::formats::Format;
 use pg_layout::{AlignmentHorizontal, Borders, HorizontalLine};
 
 /// What a table looks like: the borders of this name. Those that have no lines between all rows have
@@ -55,8 +56,10 @@ impl Look {
 /// How rows are read and shown.
 #[derive(Drop)]
 pub struct Options {
-    /// The byte between two fields.
-    pub delimiter: u8,
+    /// How the input holds rows. Without it the first bytes show it: what begins with `[` is JSON; what
+    /// begins with `{` is JSON where it is one value, and else JSON lines; anything else has tabs between
+    /// its fields where the first line has a tab and no comma, and else commas.
+    pub format: Option<Format>,
     /// What the table looks like.
     pub look: Look,
     /// Whether row 0 is a header, with a line below it.

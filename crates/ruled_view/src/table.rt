@@ -126,7 +126,7 @@ fn text_of(alloc: Global, options: &Options, rows: Vec<Vec<String>>) -> Result<S
     text_with(alloc, &options.bounds, config, line_in(options), rows)
 }
 
-/// The text of the table of the rows that bytes of separated values hold, and a line feed behind it; of
+/// The text of the table of the rows that bytes hold, and a line feed behind it; of
 /// no rows the empty text.
 ///
 /// The fault is that of the bytes, of the names of columns, or of the sizes of the table, in this

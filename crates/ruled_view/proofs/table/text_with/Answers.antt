@@ -7,14 +7,20 @@ use Rattle.pg_table.specs.declared.fault.TableFault.{TableFault}
 use Rattle.ruled_view.specs.Bounds.{bounded_rows, rows_fault}
 use Rattle.ruled_view.specs.Faults.{Tells}
 use Rattle.ruled_view.specs.declared.fault.Fault.{Fault}
-use Rattle.ruled_view.specs.declared.fault.Fault.TheVariants.{Totals}
+use Rattle.ruled_view.specs.declared.fault.Fault.TheVariants.{Memory, Totals}
 use Rattle.ruled_view.proofs.Tables.{fault_told, text_printed, totals_empty}
+use Rattle.ruled_view.proofs.Views.{memory_told}
 use Rattle.ruled_view.proofs.table.text_with.Goals as goal
 
 pub returns-then-is_empty-clause-fault : goal.returns-then-is_empty-clause-fault
 returns-then-is_empty-clause-fault c =
     let none : (length c.args.rows.items == 0) ≡ true = search rules in
     totals_empty string_bytes (λ row. row.items) c.args.bounds.now c.args.config c.args.line c.args.rows.items none
+
+pub returns-in_err-table-clause-fault : goal.returns-in_err-table-clause-fault
+returns-in_err-table-clause-fault c =
+    let is : c.in_err-table.field-0.0 ≡ Memory = search rules in
+    memory_told c.in_err-table.field-0.0 _ c.from_residual.result is c.from_residual.ensures.1
 
 pub returns-clause-text : goal.returns-clause-text
 returns-clause-text c =

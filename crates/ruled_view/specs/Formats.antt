@@ -1,0 +1,45 @@
+-- The format of bytes, where none is told.
+use Rattle.std.specs.Prelude.{ℕ, ◌==◌, ◌&&◌, not, List, find, take, position, Bool, Option, Some, None, if◌then◌else◌}
+use Rattle.std.specs.List.{list_any}
+use Rattle.std.specs.Option.{option_map_or}
+use Rattle.csv.specs.Reading.{strip_bom}
+use Rattle.json.specs.Word.{is_space}
+use Rattle.ruled_json.specs.Faults.{is_value}
+use Rattle.ruled_view.specs.declared.formats.Format.{Format}
+use Rattle.ruled_view.specs.declared.formats.Format.TheVariants.{Separated, Json, JsonLines}
+
+-- the first byte that is no space, tab, line feed or carriage return
+abbrev pub first_sign : List ℕ → Option ℕ
+first_sign bytes = find (λ byte. not (is_space byte)) bytes
+
+-- what stands in front of the first line feed
+abbrev pub first_line : List ℕ → List ℕ
+first_line bytes = option_map_or (λ feed. take feed bytes) (position (λ byte. byte == 10) bytes) bytes
+
+abbrev pub has : ℕ → List ℕ → Bool
+has byte bytes = list_any (λ other. other == byte) bytes
+
+-- a tab where the first line has one and no comma, else a comma
+abbrev pub delimiter_seen : List ℕ → ℕ
+delimiter_seen bytes = if has 9 (first_line bytes) && not (has 44 (first_line bytes)) then 9 else 44
+
+-- what begins with an opening brace is one JSON value, where it is one, and else a value on each line
+abbrev pub format_of_braces : List ℕ → Format
+format_of_braces bytes = if is_value bytes then Json else JsonLines
+
+-- what begins with an opening bracket is JSON, and what begins with neither has its fields apart
+abbrev pub format_from : Option ℕ → List ℕ → Format
+format_from None bytes = Separated (delimiter_seen bytes)
+format_from (Some sign) bytes =
+    if sign == 91 then Json
+    else if sign == 123 then format_of_braces bytes
+    else Separated (delimiter_seen bytes)
+
+-- the format that bytes show
+abbrev pub format_seen : List ℕ → Format
+format_seen bytes = format_from (first_sign bytes) bytes
+
+-- the format that is told, or else the one that the bytes show, without a byte order mark at their front
+abbrev pub format_in : Option Format → List ℕ → Format
+format_in (Some format) bytes = format
+format_in None bytes = format_seen (strip_bom bytes)
