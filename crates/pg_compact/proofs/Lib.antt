@@ -4,3 +4,4 @@ pub mod CompactSeparators
 pub mod CompactBodies
 pub mod CompactPictures
 pub mod EdgesOfRows
+pub mod ShownTexts

@@ -22,9 +22,9 @@ use std::alloc::{AllocError, Allocator};
 /// dimension aren't used, and there are no spans.
 #[derive(Debug, Clone, Drop)]
 pub struct CompactGrid<R, D, G, C> {
-    records: R,
-    dimension: D,
-    config: G,
+    pub(crate) records: R,
+    pub(crate) dimension: D,
+    pub(crate) config: G,
     colors: C,
 }
 

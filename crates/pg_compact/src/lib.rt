@@ -8,5 +8,6 @@ mod row_edges;
 mod rows;
 mod separators;
 mod short_text;
+mod whole;
 
 pub use crate::grid::CompactGrid;

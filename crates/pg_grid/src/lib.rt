@@ -5,6 +5,7 @@ pub mod stream;
 
 pub use pg_compact::CompactGrid;
 pub use pg_peekable::PeekableGrid;
-pub use pg_picture::PrintFault;
 pub use pg_picture::fits::Misfit;
+pub use pg_picture::shown::Unshown;
+pub use pg_picture::{PrintFault, WholeFault};
 pub use pg_stream::IterGrid;

@@ -11,5 +11,6 @@ mod rows;
 mod separators;
 mod slots;
 mod spanned;
+mod whole;
 
 pub use crate::grid::PeekableGrid;

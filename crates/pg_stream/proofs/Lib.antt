@@ -49,3 +49,4 @@ pub mod OwnRows
 pub mod SizedRows
 pub mod SizedPushes
 pub mod TableEnds
+pub mod ShownCells

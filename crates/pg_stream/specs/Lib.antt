@@ -9,4 +9,5 @@ pub mod LiveStreams
 pub mod SizedStreams
 pub mod Faults
 pub mod IterGrids
+pub mod ShownRows
 pub mod Inside

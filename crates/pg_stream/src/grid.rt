@@ -14,9 +14,9 @@ use std::alloc::{AllocError, Allocator};
 /// above it keeps only the cells that go on below, at most one for each column.
 #[derive(Debug, Clone, Copy, PartialEq, Eq, PartialOrd, Ord, Default, Hash, Drop)]
 pub struct IterGrid<R, D, G, C> {
-    records: R,
-    config: G,
-    dimension: D,
+    pub(crate) records: R,
+    pub(crate) config: G,
+    pub(crate) dimension: D,
     colors: C,
 }
 

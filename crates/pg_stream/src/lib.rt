@@ -20,6 +20,7 @@ mod progress;
 mod row_fits;
 mod row_lines;
 mod row_printer;
+mod row_shown;
 mod row_sizes;
 mod row_stream;
 mod separators;
@@ -27,6 +28,7 @@ mod single_rows;
 mod sized_stream;
 mod table_end;
 mod turns;
+mod whole;
 
 pub use crate::conditions::printer_fits;
 pub use crate::fault::{RowFault, RowsFault, StreamFault};
@@ -38,5 +40,6 @@ pub use crate::laws::{
 pub use crate::live_stream::LiveStream;
 pub use crate::open_cells::OpenCells;
 pub use crate::row_printer::RowPrinter;
+pub use crate::row_shown::RowUnshown;
 pub use crate::row_stream::RowStream;
 pub use crate::sized_stream::SizedStream;

@@ -1,0 +1,12 @@
+use Rattle.std.proofs.Common.{None, ap, ◌∙◌, subst, IsOk}
+use Rattle.pg_picture.specs.Shown.{unless_unshown}
+use Rattle.pg_picture.proofs.ShownGrids.{compact_unshown-any_colors, nothing-if-ok}
+use Rattle.pg_compact.specs.CompactGrids.{compact_table}
+use Rattle.pg_compact.proofs.ShownTexts.{shown-fits}
+use Rattle.pg_compact.proofs.whole.CompactGrid+R+D+ref+CompactConfig+C.shows_all.Goals as goal
+
+pub returns-clause-exact : goal.returns-clause-exact
+returns-clause-exact g c = c.compact_shows_all.ensures ∙ ap unless_unshown (compact_unshown-any_colors (compact_table g.R.Records.texts g.R.Records.columns g.D.Dimension.width g.C.Colors.color c.args.self.now) (λ p. None))
+
+pub returns-clause-fits : goal.returns-clause-fits
+returns-clause-fits g c = λ ok. shown-fits _ (nothing-if-ok _ (subst (λ r. IsOk r) (returns-clause-exact g c) ok))
