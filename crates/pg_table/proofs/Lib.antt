@@ -24,3 +24,4 @@ pub mod PlainWidths
 pub mod FittedColumns
 pub mod FittedPlaces
 pub mod FitFaults
+pub mod NaturalHeights

@@ -1,6 +1,7 @@
 //! Laws of natural sizes: the contracts of functions that do nothing are the laws.
 
 ghost use Rattle.pg_table.specs.Laws.{NaturalTablesHaveRoom, TotalsHoldSizes, PlainSizes, AsciiIsNarrow};
+ghost use Rattle.pg_table.specs.ShownLaws.{NaturalHeightsShowAll};
 ghost use Rattle.pg_table.specs.WideningLaws.{CellsHaveRoom, NoColumnShrinks, NoColumnPassesItsCells, EnoughStays, AloneIsExact};
 
 /// At its natural sizes a table has room for each of its shown cells: nothing but spans that don't fit
@@ -28,4 +29,10 @@ pub fn columns_are_widened_as_needed()
 /// lines equally wide are fills of one column (the clause `even` of [`crate::Table::print`]).
 pub fn ascii_borders_are_narrow()
     ensures { AsciiIsNarrow }
+{}
+
+/// At any widths and its natural heights, as [`crate::heights_for`] tells them, a table that fits
+/// shows each line of its texts: nothing but a misfit keeps it from being printed whole.
+pub fn natural_heights_show_all()
+    ensures { NaturalHeightsShowAll }
 {}

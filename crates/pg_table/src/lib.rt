@@ -3,6 +3,7 @@
 
 mod fault;
 mod fitted;
+mod heights;
 mod laws;
 mod measured;
 mod narrowing;
@@ -15,8 +16,10 @@ mod table;
 
 pub use crate::fault::TableFault;
 pub use crate::fitted::FittedTable;
+pub use crate::heights::heights_for;
 pub use crate::laws::{
-    ascii_borders_are_narrow, columns_are_widened_as_needed, natural_tables_have_room,
+    ascii_borders_are_narrow, columns_are_widened_as_needed, natural_heights_show_all,
+    natural_tables_have_room,
 };
 pub use crate::natural::NaturalTable;
 pub use crate::overflow::Overflow;
