@@ -26,3 +26,4 @@ mod RowsColors
 mod RowsMargins
 mod RowsCompact
 mod RowsPrinting
+mod RowsShown
