@@ -24,6 +24,8 @@ mod same;
 #[cfg(test)]
 mod sample;
 #[cfg(test)]
+mod shown;
+#[cfg(test)]
 mod sized;
 #[cfg(test)]
 mod span_fits;
