@@ -1,5 +1,5 @@
 //! The program `live_log`: it shows each message of a log, which it reads from standard input, as soon as
-//! its line is there. One that is wider than its column goes on in rows below.
+//! its line is there. One that is wider than its column is wrapped, and its row is as high as it needs.
 //!
 //! ```text
 //! ╭───────┬──────────────────────────╮
@@ -9,14 +9,14 @@
 
 use anyhow::Result;
 use pg_config::SpannedConfig;
-use pg_fit::{Breaking, cut, visible, wrap};
-use pg_layout::{Borders, Entity, EvenDimension, Indent, NoColors, Sides, get_lines};
-use pg_stream::LiveStream;
+use pg_fit::{Breaking, Fitted, cut, row_height, visible, wrap_row};
+use pg_layout::{Borders, Entity, EvenDimension, Indent, NoColors, Sides};
+use pg_stream::SizedStream;
 use std::alloc::Global;
 use std::io::{BufRead, BufReader};
 
 /// How wide a time and a message are, in terminal columns.
-const WIDTHS: (usize, usize) = (5, 24);
+const WIDTHS: [usize; 2] = [5, 24];
 
 fn main(rt: HostRuntime) -> Result<()> {
     let alloc = rt.alloc();
@@ -25,15 +25,14 @@ fn main(rt: HostRuntime) -> Result<()> {
     config.set_borders(Borders::rounded());
     config.set_padding(Entity::Global, Sides::new(space, space, none, none))?;
     let dimension = EvenDimension {
-        widths: vec![in alloc; WIDTHS.0 + 2, WIDTHS.1 + 2]?,
+        widths: vec![in alloc; WIDTHS[0] + 2, WIDTHS[1] + 2]?,
         height: 1,
     };
-    let mut stream = LiveStream::new(alloc, &config, &dimension, &NoColors, 2)?;
+    let mut stream = SizedStream::new(alloc, &config, &dimension, &NoColors, 2)?;
     let mut buf = String::new(alloc);
     for line in BufReader::new(alloc, rt.stdin())?.lines(alloc) {
-        for row in rows_of(alloc, &visible(alloc, &line?)?)? {
-            stream.push(row, &mut buf)?;
-        }
+        let row = row_of(alloc, &visible(alloc, &line?)?)?;
+        stream.push(row_height(&row), row, &mut buf)?;
         print!(rt; "{buf}")?;
         buf.clear();
     }
@@ -42,15 +41,10 @@ fn main(rt: HostRuntime) -> Result<()> {
     Ok(())
 }
 
-// A row for each line that a message takes. Its time stands before the first space.
-fn rows_of(alloc: Global, line: &str) -> Result<Vec<Vec<String>>> {
-    let (time, message) = line.split_once(' ').unwrap_or(("", line));
-    let mut time = cut(alloc, time, WIDTHS.0, "…")?;
-    let message = wrap(alloc, message, WIDTHS.1, Breaking::BetweenWords)?;
-    let mut rows = Vec::new(alloc);
-    for part in get_lines(&message) {
-        rows.push(vec![in alloc; time, String::from_str(alloc, part)?]?)?;
-        time = String::new(alloc);
-    }
-    Ok(rows)
+// The time of a message, which stands before the first space, and its words, wrapped.
+fn row_of(alloc: Global, line: &str) -> Result<Vec<Fitted<String>>> {
+    let (time, words) = line.split_once(' ').unwrap_or(("", line));
+    let time = cut(alloc, time, WIDTHS[0], "…")?;
+    let cells = vec![in alloc; time, String::from_str(alloc, words)?]?;
+    Ok(wrap_row(alloc, cells, &WIDTHS, Breaking::BetweenWords)?)
 }

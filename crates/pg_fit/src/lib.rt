@@ -10,6 +10,7 @@ mod least;
 mod narrowing;
 mod overlaid;
 mod row;
+mod wrapped_row;
 mod wrapping;
 
 pub use crate::controls::{is_visible, visible};
@@ -22,4 +23,5 @@ pub use crate::least::least_width;
 pub use crate::narrowing::{ColumnRange, narrow};
 pub use crate::overlaid::{OverlaidColumns, OverlaidRecords, OverlaidRows};
 pub use crate::row::{Fitted, fit_row};
+pub use crate::wrapped_row::{row_height, wrap_row};
 pub use crate::wrapping::{Breaking, wrap};

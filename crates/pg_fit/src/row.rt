@@ -10,12 +10,12 @@ use pg_layout::{count_lines, first_line, get_line_width};
 use std::alloc::{AllocError, Allocator, Global};
 use std::convert::AsStr;
 
-/// A cell of a row that was cut: its text as it was, or the one that was made in its place.
+/// A cell of a row that was cut or wrapped: its text as it was, or the one that was made in its place.
 #[derive(Debug)]
 pub enum Fitted<S, A: Allocator = Global> {
-    /// It has one line, which is narrow enough.
+    /// It is narrow enough, and in a row that was cut it has one line.
     Kept(S),
-    /// Its first line was cut, or has further ones behind it, which are left out.
+    /// Some of its lines were cut, left out or broken.
     Made(String<A>),
 }
 
@@ -48,7 +48,7 @@ fn is_fitting(text: &str, width: usize) -> bool
 }
 
 // The width of a column, or 0 where it has none.
-fn width_of_column(widths: &[usize], column: usize) -> usize
+pub(crate) fn width_of_column(widths: &[usize], column: usize) -> usize
     ensures { result ≡ slice_index_or widths.now column 0 }
 {
     widths.get(column).copied().unwrap_or(0)

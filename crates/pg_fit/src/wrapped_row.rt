@@ -1,0 +1,69 @@
+//! A row whose texts are wrapped in the widths of their columns, and how many lines it needs.
+
+ghost use Rattle.std.specs.Prelude.{◌≡◌, ◌++◌, IfOk, List, map, max, length, slice_index_or};
+ghost use Rattle.std.specs.Vec.Iter.{into_iter_items};
+ghost use Rattle.pg_fit.specs.Rows.{fitted_text, wrapped_row, row_height};
+ghost use Rattle.pg_fit.specs.Wrapping.{wrapped};
+
+use crate::row::{Fitted, width_of_column};
+use crate::wrapping::{Breaking, wrap};
+use pg_layout::{count_lines, get_text_width};
+use std::alloc::{AllocError, Allocator};
+use std::convert::AsStr;
+
+// A cell, wrapped in so many columns.
+fn wrap_cell<S: AsStr + Drop, A: Allocator>(
+    alloc: A,
+    cell: S,
+    width: usize,
+    breaking: Breaking,
+) -> Result<Fitted<S, A>, AllocError>
+    ensures { IfOk result (λ fitted. fitted_text S.text fitted ≡ wrapped breaking width (S.text cell)) }
+{
+    if get_text_width(cell.as_str()) <= width {
+        return Ok(Fitted::Kept(cell));
+    }
+    let made = wrap(alloc, cell.as_str(), width, breaking)?;
+    Ok(Fitted::Made(made))
+}
+
+/// The cells of a row, each wrapped in so many columns, as [`wrap`](crate::wrap) does it. A cell with no width gets none, so
+/// each of its characters a line.
+///
+/// Such a row is as high as [`row_height`] says, and has room in columns of these widths and their
+/// paddings where no character is wider than its column. Only cells that are wrapped take memory, besides
+/// the row itself.
+///
+/// ```text
+/// wrap_row(alloc, vec![in alloc; "tea", "dried leaves of a plant"]?, &[5, 12], Breaking::BetweenWords)?
+/// // tea | dried leaves
+/// //     | of a plant
+/// ```
+pub fn wrap_row<S: AsStr + Drop, B: Allocator, A: Allocator + Copy>(
+    alloc: A,
+    cells: Vec<S, B>,
+    widths: &[usize],
+    breaking: Breaking,
+) -> Result<Vec<Fitted<S, A>, A>, AllocError>
+    ensures { IfOk result (λ row. map (fitted_text S.text) row.items ≡ wrapped_row breaking widths.now (map S.text cells.items)) }
+{
+    let mut row = Vec::with_capacity(alloc, cells.len())?;
+    for cell in cells {
+        let width = width_of_column(widths, row.len());
+        let fitted = wrap_cell(alloc, cell, width, breaking)?;
+        row.push(fitted)?;
+    }
+    Ok(row)
+}
+
+/// How many lines a row of these cells needs: those of the cell that has the most, and none where there is
+/// no cell. Paddings above and below are not counted.
+pub fn row_height<S: AsStr>(cells: &[S]) -> usize
+    ensures { result ≡ row_height (map S.text cells.now) }
+{
+    let mut height = 0;
+    for cell in cells {
+        height = count_lines(cell.as_str()).max(height);
+    }
+    height
+}
