@@ -25,3 +25,4 @@ pub mod FittedColumns
 pub mod FittedPlaces
 pub mod FitFaults
 pub mod NaturalHeights
+pub mod NarrowLooks

@@ -1,31 +1,31 @@
 -- Tables at their natural sizes are straight.
-use Rattle.std.proofs.Common.{◌≡◌, ℕ, ◌<◌, ◌==◌, true, false, List, [], ◌∷◌, length, Bool, refl, arith, Option, Some, None, IfSome, encode_utf8, inl, inr}
+use Rattle.std.proofs.Common.{◌≡◌, ℕ, ◌<◌, ◌==◌, true, false, List, length, Bool, refl, arith, Option, Some, None, IfSome, inl, inr}
 use Rattle.std.specs.Option.{option_or}
+use Rattle.std.specs.Prelude.{String, string_bytes, Result, Ok, Err, IfOk, IsOk}
 use Rattle.std.proofs.lemmas.Bool.{cases_Bool}
 use Rattle.std.proofs.lemmas.Bool.Decides.{nat_tests}
 use Rattle.pg_layout.specs.declared.position.Position.{Position}
-use Rattle.pg_layout.specs.Borders.{ends, horizontal_glyph, vertical_glyph, crossing_glyph}
+use Rattle.pg_layout.specs.Borders.{ends}
 use Rattle.pg_layout.specs.Colors.{Color}
 use Rattle.pg_layout.specs.Position.{at}
 use Rattle.pg_layout.specs.Text.{Text}
-use Rattle.pg_layout.proofs.TextWidths.{width_of-plain}
-use Rattle.pg_config.specs.Config.{Config, default_config, missing_if, get_horizontal, get_vertical, get_intersection}
+use Rattle.pg_config.specs.Config.{Config, missing_if, get_horizontal, get_vertical, get_intersection}
 use Rattle.pg_config.specs.Offsets.{Offsets, no_offsets, lookup_offset}
-use Rattle.pg_config.specs.Overrides.{horizontal_override, vertical_override, crossing_override}
-use Rattle.pg_picture.specs.Straight.{IsNarrow, HasNarrowFills, HasNarrowGlyphs, CellsFit, IsStraight}
+use Rattle.pg_picture.specs.Straight.{IsNarrow, HasNarrowFills, HasNarrowMargins, HasNarrowGlyphs, CellsFit, IsStraight}
+use Rattle.pg_picture.specs.Picture.{picture}
 use Rattle.pg_picture.specs.Pieces.{style_at}
 use Rattle.pg_picture.specs.Table.{Table, Known}
 use Rattle.pg_picture.specs.Fits.{spans_fit, totals_fit}
 use Rattle.pg_picture.proofs.StraightColumns.{columns_are_straight, margins_are_straight}
 use Rattle.pg_picture.proofs.GlyphsOfLines.{missing_glyph_fills_gaps}
-use Rattle.pg_table.specs.Laws.{HasNarrowLines, IsEven, AsciiIsNarrow}
+use Rattle.pg_table.specs.Even.{HasNarrowLines, HasEvenLines, IsEven, IsEvenText}
 use Rattle.pg_table.specs.Natural.{natural_table}
 use Rattle.pg_table.specs.Printing.{fault_of}
 use Rattle.pg_table.proofs.NaturalRoom.{fits}
 use Rattle.pg_table.proofs.Faults.{fault-none}
 
 -- what is found first is narrow where both are
-first_narrow : (a b : Option ℕ) → IfSome a IsNarrow → IfSome b IsNarrow → IfSome (option_or a b) IsNarrow
+pub first_narrow : (a b : Option ℕ) → IfSome a IsNarrow → IfSome b IsNarrow → IfSome (option_or a b) IsNarrow
 first_narrow None b h k = k
 first_narrow (Some g) b h k = h
 
@@ -79,49 +79,23 @@ module _ (config : Config) (texts : List (List Text)) (columns : ℕ) (color : P
   straight h k narrow whole = columns_are_straight table (cells h k) narrow whole
 
   pub even : IsEven table
-  even h k narrow fills margins =
-      let whole = missing_glyph_fills_gaps table narrow.has_missing in
-      (columns_are_straight table (cells h k) (glyphs table narrow fills) whole, margins_are_straight Known table (cells h k) (glyphs table narrow fills) whole margins)
+  even look h k =
+      let whole = missing_glyph_fills_gaps table look.lines.has_missing in
+      let narrow = glyphs table look.lines look.fills in
+      let margins : HasNarrowMargins table = record { left = look.margins.left; right = look.margins.right; top = look.margins.top; bottom = look.margins.bottom } in
+      (columns_are_straight table (cells h k) narrow whole, margins_are_straight Known table (cells h k) narrow whole margins)
 
--- ---- ASCII glyphs take one column
+-- the text of a table whose lines are equally wide
+pub even-text : {A E : Type 0} (r : Result (String A) E) (t : Table) → IfOk r (λ text. string_bytes text ≡ picture Known t) → (IsOk r → HasEvenLines t) → IfOk r (λ text. IsEvenText (string_bytes text))
+even-text (Ok text) t is lines = (t, is, lines refl)
+even-text (Err error) t is lines = tt
 
-narrow-plus : IsNarrow 43
-unfolding lib.Utf8.encode
-narrow-plus = width_of-plain (43 ∷ []) refl
-
-narrow-minus : IsNarrow 45
-unfolding lib.Utf8.encode
-narrow-minus = width_of-plain (45 ∷ []) refl
-
-narrow-bar : IsNarrow 124
-unfolding lib.Utf8.encode
-narrow-bar = width_of-plain (124 ∷ []) refl
-
-narrow-space : IsNarrow 32
-unfolding lib.Utf8.encode
-narrow-space = width_of-plain (32 ∷ []) refl
+-- ---- glyphs
 
 -- one of three at a place of a line is narrow where each is
-ends_narrow : (a b c : Option ℕ) (i n : ℕ) → IfSome a IsNarrow → IfSome b IsNarrow → IfSome c IsNarrow → IfSome (ends a b c i n) IsNarrow
+pub ends_narrow : (a b c : Option ℕ) (i n : ℕ) → IfSome a IsNarrow → IfSome b IsNarrow → IfSome c IsNarrow → IfSome (ends a b c i n) IsNarrow
 ends_narrow a b c i n first middle last =
     elim (cases_Bool (i == 0)) [
       | inl y ↦ rw y first
       | inr x ↦ elim (cases_Bool (i == n)) [ inl y ↦ rw (x, y) last | inr y ↦ rw (x, y) middle ]
     ]
-
-pub ascii_is_narrow : AsciiIsNarrow
-unfolding default_config horizontal_glyph vertical_glyph crossing_glyph horizontal_override vertical_override crossing_override
-ascii_is_narrow =
-    let inner : (c columns : ℕ) → ends {A = Option ℕ} (Some 43) (Some 43) (Some 43) c columns ≡ Some 43 = λ c columns. elim (cases_Bool (c == 0)) [ inl y ↦ rw y refl | inr x ↦ elim (cases_Bool (c == columns)) [ inl y ↦ rw (x, y) refl | inr y ↦ rw (x, y) refl ] ] in
-    record {
-      horizontals = λ r rows. ends_narrow (Some 45) (Some 45) (Some 45) r rows narrow-minus narrow-minus narrow-minus;
-      verticals = λ c columns. ends_narrow (Some 124) (Some 124) (Some 124) c columns narrow-bar narrow-bar narrow-bar;
-      crossings = λ r c rows columns. rw (inner c columns) (ends_narrow (Some 43) (Some 43) (Some 43) r rows narrow-plus narrow-plus narrow-plus);
-      set_horizontals = λ p. tt;
-      set_verticals = λ p. tt;
-      set_crossings = λ p. tt;
-      missing = narrow-space;
-      has_missing = search;
-      horizontal_parts = refl;
-      vertical_parts = refl;
-    }

@@ -1,20 +1,23 @@
 -- What natural sizes give a table.
-use Rattle.std.specs.List.{range_with_len}
-use Rattle.std.specs.Prelude.{◌≡◌, ℕ, ◌<◌, ◌&&◌, true, not, List, [], map, length, Option, Some, None, IfSome, IsSome, if◌then◌else◌}
+use Rattle.std.specs.List.{range_with_len, list_all}
+use Rattle.std.specs.Prelude.{◌≡◌, ℕ, ◌<◌, ◌&&◌, true, not, List, [], ◌∷◌, map, length, Option, Some, None, if◌then◌else◌}
 use Rattle.pg_layout.specs.declared.position.Position.{Position}
-use Rattle.pg_layout.specs.Borders.{horizontal_glyph, vertical_glyph, crossing_glyph}
+use Rattle.pg_layout.specs.declared.position.Entity.TheVariants.{Global}
+use Rattle.pg_layout.specs.declared.borders.Borders.{Borders}
+use Rattle.pg_layout.specs.declared.borders.HorizontalLine.{HorizontalLine}
+use Rattle.pg_layout.specs.declared.sides.Indent.{Indent}
+use Rattle.pg_layout.specs.declared.sides.Sides.{Sides}
 use Rattle.pg_layout.specs.Colors.{Color}
+use Rattle.pg_layout.specs.Looks.{ascii, modern, sharp, rounded, extended, dots, blank, psql, markdown, sharp_line, psql_line, markdown_line}
 use Rattle.pg_layout.specs.Text.{Text, greatest}
 use Rattle.pg_config.specs.Config.{Config}
-use Rattle.pg_config.specs.Offsets.{no_offsets}
-use Rattle.pg_config.specs.Overrides.{horizontal_override, vertical_override, crossing_override}
+use Rattle.pg_config.specs.Settings.{with_setting}
 use Rattle.pg_picture.specs.Fits.{spans_fit, totals_fit, misfit_of}
-use Rattle.pg_picture.specs.Straight.{IsNarrow, HasNarrowFills, HasNarrowMargins, HasStraightLines, HasStraightMargins}
-use Rattle.pg_picture.specs.Pieces.{style_at}
-use Rattle.pg_picture.specs.Table.{Table, Known, is_empty}
+use Rattle.pg_picture.specs.Table.{is_empty}
 use Rattle.pg_picture.specs.declared.fits.Misfit.TheVariants.{Spans, Totals}
 use Rattle.pg_table.specs.Natural.{cell_size, cell_at, count_cells, natural_size, natural_sizes, natural_table, all_fit}
-use Rattle.pg_table.specs.Printing.{ascii_config}
+use Rattle.pg_table.specs.Even.{IsNarrowLook, are_line_glyphs, is_of_line_glyphs, are_line_fills}
+use Rattle.pg_table.specs.Printing.{ascii_config, with_header_line}
 use Rattle.pg_table.specs.declared.sizes.Axis.{Axis}
 use Rattle.pg_table.specs.declared.sizes.Axis.TheVariants.{Columns, Rows}
 
@@ -42,29 +45,15 @@ TotalsHoldSizes =
     → totals_fit (natural_table config texts columns color) ≡ true
     → (all_fit (natural_sizes Columns config texts columns) && all_fit (natural_sizes Rows config texts columns)) ≡ true
 
--- ---- straight lines
+-- ---- lines that are equally wide
 
--- Each glyph of the borders takes one column, and so does each one that was set for a place, and the missing glyph, which
--- is set. No glyph was set for a part of a line.
-pub record HasNarrowLines (config : Config) : Type 0 where
-  pub horizontals : (r rows : ℕ) → IfSome (horizontal_glyph config.borders r rows) IsNarrow
-  pub verticals : (c columns : ℕ) → IfSome (vertical_glyph config.borders c columns) IsNarrow
-  pub crossings : (r c rows columns : ℕ) → IfSome (crossing_glyph config.borders r c rows columns) IsNarrow
-  pub set_horizontals : (p : Position) → IfSome (horizontal_override config.overrides p) IsNarrow
-  pub set_verticals : (p : Position) → IfSome (vertical_override config.overrides p) IsNarrow
-  pub set_crossings : (p : Position) → IfSome (crossing_override config.overrides p) IsNarrow
-  pub missing : IfSome config.missing IsNarrow
-  pub has_missing : IsSome config.missing
-  pub horizontal_parts : config.horizontal_chars ≡ no_offsets
-  pub vertical_parts : config.vertical_chars ≡ no_offsets
-
--- Then all lines of a table with cells, at its natural sizes, are equally wide, where the fills of paddings, margins and justification
--- take one column each: the lines of the body alone, and those of the whole picture with the margins.
-abbrev pub IsEven : Table → Type 0
-IsEven t =
-    0 < t.rows → 0 < t.columns → HasNarrowLines t.config → ((p : Position) → HasNarrowFills (style_at t.config p)) → HasNarrowMargins t
-    → HasStraightLines t × HasStraightMargins Known t
-
--- Borders of ASCII glyphs alone are narrow.
-abbrev pub AsciiIsNarrow : Type 0
-AsciiIsNarrow = HasNarrowLines ascii_config
+-- A configuration that was told nothing but ASCII borders takes one column a glyph and a fill. It stays so where it is told
+-- borders, a line below the header of a table of any size, or a padding of all cells, of glyphs that do: each look by name
+-- is of such glyphs, and so is each line below a header.
+pub record LooksAreNarrow : Type 0 where
+  pub first : IsNarrowLook ascii_config
+  pub borders : (config : Config) (b : Borders ℕ) → are_line_glyphs b ≡ true → IsNarrowLook config → IsNarrowLook (record config { borders = b })
+  pub header : (config : Config) (line : HorizontalLine ℕ) (rows columns : ℕ) → is_of_line_glyphs line ≡ true → IsNarrowLook config → IsNarrowLook (with_header_line line rows columns config)
+  pub padding : (config : Config) (sides : Sides Indent) → are_line_fills sides ≡ true → IsNarrowLook config → IsNarrowLook (record config { padding = with_setting Global sides config.padding })
+  pub looks : list_all are_line_glyphs (ascii ∷ modern ∷ sharp ∷ rounded ∷ extended ∷ dots ∷ blank ∷ psql ∷ markdown ∷ []) ≡ true
+  pub lines : list_all is_of_line_glyphs (sharp_line ∷ psql_line ∷ markdown_line ∷ []) ≡ true

@@ -157,7 +157,7 @@ where
     ghost use Rattle.pg_picture.specs.Straight.{IsStraight};
     ghost use Rattle.pg_picture.specs.Table.{Known, is_empty};
     ghost use Rattle.pg_table.specs.Fitted.{drawn_fitted, sizes_fitted, sizes_fault_fitted};
-    ghost use Rattle.pg_table.specs.Laws.{IsEven};
+    ghost use Rattle.pg_table.specs.Even.{IsEven};
     ghost use Rattle.pg_table.specs.Printing.{fault_of, is_spanned, CanFail, Prints};
     ghost use Rattle.pg_table.specs.declared.sizes.Axis.TheVariants.{Columns, Rows};
 

@@ -1,6 +1,6 @@
 //! Laws of natural sizes: the contracts of functions that do nothing are the laws.
 
-ghost use Rattle.pg_table.specs.Laws.{NaturalTablesHaveRoom, TotalsHoldSizes, PlainSizes, AsciiIsNarrow};
+ghost use Rattle.pg_table.specs.Laws.{NaturalTablesHaveRoom, TotalsHoldSizes, PlainSizes, LooksAreNarrow};
 ghost use Rattle.pg_table.specs.ShownLaws.{NaturalHeightsShowAll};
 ghost use Rattle.pg_table.specs.WideningLaws.{CellsHaveRoom, NoColumnShrinks, NoColumnPassesItsCells, EnoughStays, AloneIsExact};
 
@@ -25,10 +25,12 @@ pub fn columns_are_widened_as_needed()
     ensures exact { AloneIsExact }
 {}
 
-/// The ASCII borders that a table begins with take one column each: all that is left to make its
-/// lines equally wide are fills of one column (the clause `even` of [`crate::Table::print`]).
-pub fn ascii_borders_are_narrow()
-    ensures { AsciiIsNarrow }
+/// The glyphs of each look by name and of each line below a header take one column each, as all of
+/// printable ASCII and the box drawings do, and so do the fills of a table that was told nothing. Where
+/// only such glyphs are told, the lines of a table at its natural sizes are equally wide (the clause
+/// `even` of [`crate::Table::print`]).
+pub fn looks_are_narrow()
+    ensures { LooksAreNarrow }
 {}
 
 /// At any widths and its natural heights, as [`crate::heights_for`] tells them, a table that fits

@@ -18,7 +18,7 @@ pub use crate::fault::TableFault;
 pub use crate::fitted::FittedTable;
 pub use crate::heights::heights_for;
 pub use crate::laws::{
-    ascii_borders_are_narrow, columns_are_widened_as_needed, natural_heights_show_all,
+    columns_are_widened_as_needed, looks_are_narrow, natural_heights_show_all,
     natural_tables_have_room,
 };
 pub use crate::natural::NaturalTable;

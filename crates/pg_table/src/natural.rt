@@ -55,7 +55,7 @@ where
     ghost use Rattle.pg_picture.specs.Picture.{picture};
     ghost use Rattle.pg_picture.specs.Table.{Known, full_width, is_empty};
     ghost use Rattle.pg_picture.specs.Sizes.{if_fits};
-    ghost use Rattle.pg_table.specs.Laws.{IsEven};
+    ghost use Rattle.pg_table.specs.Even.{IsEven};
     ghost use Rattle.pg_table.specs.Printing.{fault_of, is_spanned, drawn_of, natural_parts, sizes_of, sizes_fault_of, CanFail, Prints};
     ghost use Rattle.pg_table.specs.declared.sizes.Axis.TheVariants.{Columns, Rows};
 

@@ -60,6 +60,7 @@ impl<T: AsStr + Drop, A: Allocator + Copy> Table<T, A> {
     ghost use Rattle.std.specs.Prelude.{◌≡◌, [], map, IfOk, option_map};
     ghost use Rattle.std.specs.Result.{result_err};
     ghost use Rattle.pg_layout.specs.Records.{ragged_row};
+    ghost use Rattle.pg_table.specs.Even.{IsNarrowLook};
 
     /// A table of these rows; `Ragged` with the first row whose length differs from that of row 0,
     /// where there is one, and no other error.
@@ -68,6 +69,7 @@ impl<T: AsStr + Drop, A: Allocator + Copy> Table<T, A> {
     pub fn new(alloc: A, rows: Vec<Vec<T, A>, A>) -> Result<Table<T, A>, TableFault>
         ensures parts { IfOk result (λ table. table ≡ record { rows = map (λ row. row.items) rows.items; config = ascii_config; colors = [] }) }
         ensures exact { result_err result ≡ option_map TableFault.Ragged (ragged_row (map (λ row. row.items) rows.items)) }
+        ensures narrow { IfOk result (λ table. IsNarrowLook table.config) }
     {
         match VecRecords::new(rows) {
             Ok(records) => Ok(Table {
@@ -81,14 +83,16 @@ impl<T: AsStr + Drop, A: Allocator + Copy> Table<T, A> {
 }
 
 impl<T, A: Allocator> Table<T, A> {
-    ghost use Rattle.std.specs.Prelude.{◌≡◌};
+    ghost use Rattle.std.specs.Prelude.{◌≡◌, true};
     ghost use Rattle.pg_config.specs.Settings.{with_setting};
+    ghost use Rattle.pg_table.specs.Even.{IsNarrowLook, are_line_glyphs, are_line_fills};
 
     /// The table with this padding of all cells. Takes no memory.
     pub fn with_padding(mut self, padding: Sides<Indent>) -> Table<T, A>
     where
         A: Clone,
-        ensures { result ≡ record self { config = record self.config { padding = with_setting Entity.Global padding self.config.padding } } }
+        ensures table { result ≡ record self { config = record self.config { padding = with_setting Entity.Global padding self.config.padding } } }
+        ensures narrow { IsNarrowLook self.config → are_line_fills padding ≡ true → IsNarrowLook result.config }
     {
         self.config.set_padding(Entity::Global, padding).unwrap();
         self
@@ -98,7 +102,8 @@ impl<T, A: Allocator> Table<T, A> {
     pub fn with_alignment(mut self, alignment: AlignmentHorizontal) -> Table<T, A>
     where
         A: Clone,
-        ensures { result ≡ record self { config = record self.config { alignment_horizontal = with_setting Entity.Global alignment self.config.alignment_horizontal } } }
+        ensures table { result ≡ record self { config = record self.config { alignment_horizontal = with_setting Entity.Global alignment self.config.alignment_horizontal } } }
+        ensures narrow { IsNarrowLook self.config → IsNarrowLook result.config }
     {
         self.config
             .set_alignment_horizontal(Entity::Global, alignment)
@@ -108,7 +113,8 @@ impl<T, A: Allocator> Table<T, A> {
 
     /// The table with these borders, such as [`Borders::rounded`]. A line below its header stays.
     pub fn with_borders(mut self, borders: Borders<char>) -> Table<T, A>
-        ensures { result ≡ record self { config = record self.config { borders = borders } } }
+        ensures table { result ≡ record self { config = record self.config { borders = borders } } }
+        ensures narrow { IsNarrowLook self.config → are_line_glyphs borders ≡ true → IsNarrowLook result.config }
     {
         self.config.set_borders(borders);
         self
@@ -117,7 +123,8 @@ impl<T, A: Allocator> Table<T, A> {
     /// The table with all that this configuration was told, in place of all that it was told itself:
     /// borders, paddings, alignments and a line below its header among them.
     pub fn with_config(mut self, config: SpannedConfig<A>) -> Table<T, A>
-        ensures { result ≡ record self { config = config } }
+        ensures table { result ≡ record self { config = config } }
+        ensures narrow { IsNarrowLook config → IsNarrowLook result.config }
     {
         self.config = config;
         self
@@ -125,7 +132,8 @@ impl<T, A: Allocator> Table<T, A> {
 
     /// The table with these colours of cells, in place of all colours that it had.
     pub fn with_colors(mut self, colors: ColorsMap<A>) -> Table<T, A>
-        ensures { result ≡ record self { colors = colors } }
+        ensures table { result ≡ record self { colors = colors } }
+        ensures narrow { IsNarrowLook self.config → IsNarrowLook result.config }
     {
         self.colors = colors;
         self
@@ -142,7 +150,7 @@ impl<T: AsStr + Drop, A: Allocator> Table<T, A> {
     ghost use Rattle.pg_picture.specs.Table.{Known, full_width, is_empty};
     ghost use Rattle.pg_table.specs.Fitted.{HasPlainTail, limit_of, drawn_rows, fitted_rows, fit_fault_rows, least_at_rows, least_width_rows, IsNarrowRows};
     ghost use Rattle.pg_table.specs.Natural.{natural_sizes};
-    ghost use Rattle.pg_table.specs.Laws.{IsEven};
+    ghost use Rattle.pg_table.specs.Even.{IsEven, IsEvenText, IsNarrowLook, is_of_line_glyphs};
     ghost use Rattle.pg_table.specs.Printing.{fault_of, is_spanned, sizes_fault, drawn, with_header_line, CanFail, Prints};
     ghost use Rattle.pg_table.specs.declared.sizes.Axis.TheVariants.{Columns, Rows};
 
@@ -177,6 +185,7 @@ impl<T: AsStr + Drop, A: Allocator> Table<T, A> {
     where
         A: Clone,
         ensures ok { IfOk result (λ table. table ≡ record self { config = with_header_line line (length self.rows) (columns_of self.rows) self.config }) }
+        ensures narrow { IsNarrowLook self.config → is_of_line_glyphs line ≡ true → IfOk result (λ table. IsNarrowLook table.config) }
         ensures memory { (fault : TableFault) → result ≡ Err fault → fault ≡ TableFault.Memory }
     {
         match self.set_header_line(line) {
@@ -229,6 +238,7 @@ impl<T: AsStr + Drop, A: Allocator> Table<T, A> {
     /// [`Table::print`]. A table with no rows or no columns asks for no memory.
     pub fn to_string<B: Allocator + Copy>(&self, alloc: B) -> Result<String<B>, TableFault>
         ensures text { IfOk result (λ text. string_bytes text ≡ picture Known (drawn T.text self.now)) }
+        ensures even { IsNarrowLook self.now.config → IfOk result (λ text. IsEvenText (string_bytes text)) }
         ensures ok { IsOk result → fault_of (drawn T.text self.now) ≡ None }
         ensures fault { (fault : TableFault) → result ≡ Err fault → CanFail (drawn T.text self.now) fault }
         ensures empty { is_empty (drawn T.text self.now) ≡ true → IsOk result }

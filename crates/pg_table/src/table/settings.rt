@@ -1,7 +1,8 @@
 //! The settings of a table: what it was told, and how it is told by reference.
 
-ghost use Rattle.std.specs.Prelude.{◌≡◌, Err, IfOk, OnErr, OnOk};
-ghost use Rattle.pg_config.specs.Settings.{with_setting};
+ghost use Rattle.std.specs.Prelude.{◌≡◌, Err, IfOk, IsOk, OnErr, OnOk};
+ghost use Rattle.pg_config.specs.Settings.{with_setting, HasRoom};
+ghost use Rattle.pg_table.specs.Even.{IsNarrowLook};
 
 use crate::fault::TableFault;
 use crate::table::Table;
@@ -71,7 +72,8 @@ impl<T, A: Allocator> Table<T, A> {
     /// later [`Table::set_alignment`] takes it away; a column that the table hasn't changes nothing
     /// that is drawn.
     ///
-    /// Takes memory for the column; where that is refused, nothing changes.
+    /// Takes memory for the column, unless one was told of it before; where that is refused, nothing
+    /// changes.
     pub fn set_column_alignment(
         &mut self,
         column: usize,
@@ -81,6 +83,7 @@ impl<T, A: Allocator> Table<T, A> {
         A: Clone,
         ensures ok { OnOk result (self.new ≡ record self.old { config = record self.old.config { alignment_horizontal = with_setting (Entity.Column column) alignment self.old.config.alignment_horizontal } }) }
         ensures err { OnErr result (self.new ≡ self.old) }
+        ensures again { HasRoom (Entity.Column column) self.old.config.alignment_horizontal → IsOk result }
     {
         self.config
             .set_alignment_horizontal(Entity::Column(column), alignment)
@@ -102,6 +105,8 @@ impl<T, A: Allocator> Table<T, A> {
         A: Clone,
         ensures ok { IfOk result (λ table. table ≡ record self { config = record self.config { alignment_horizontal = with_setting (Entity.Column column) alignment self.config.alignment_horizontal } }) }
         ensures memory { (fault : TableFault) → result ≡ Err fault → fault ≡ TableFault.Memory }
+        ensures again { HasRoom (Entity.Column column) self.config.alignment_horizontal → IsOk result }
+        ensures narrow { IsNarrowLook self.config → IfOk result (λ table. IsNarrowLook table.config) }
     {
         match self.set_column_alignment(column, alignment) {
             Ok(()) => Ok(self),

@@ -1,0 +1,5 @@
+use Rattle.pg_table.proofs.NarrowLooks.{told-nothing}
+use Rattle.pg_table.proofs.table.Table.new.Goals as goal
+
+pub returns-in-Ok-clause-narrow : goal.returns-in-Ok-clause-narrow
+returns-in-Ok-clause-narrow g c = rw c.ascii_config.ensures told-nothing
