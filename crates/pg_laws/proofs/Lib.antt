@@ -22,6 +22,7 @@ mod RowsFits
 mod RowsPieces
 mod RowsPlain
 mod RowsSpans
+mod RowsCrossings
 mod RowsColors
 mod RowsMargins
 mod RowsCompact
