@@ -31,11 +31,6 @@ first_told found right later (Err fault) is told = λ counts. rw (is (sym (ap is
 pub then_told : {X : Type 0} (first later : Option Fault) (result : Result X Fault) → first ≡ None → Tells later result → Tells (option_or first later) result
 then_told first later result none told = rw none told
 
--- refused memory leaves all open
-pub memory_told : {X : Type 0} (found : Fault) (right : Option Fault) (result : Result X Fault) → found ≡ Memory → IsErrAnd result (λ fault. fault ≡ found) → Tells right result
-memory_told found right (Ok x) is told = absurd told
-memory_told found right (Err fault) is told = λ counts. absurd (true≢false (sym (ap is_failure (told ∙ is)) ∙ counts))
-
 -- a write that failed is a failure
 write_fails : (fault : Fault) → is_of_write fault ≡ true → is_failure fault ≡ true
 write_fails (Rows fault) e = cc

@@ -112,7 +112,10 @@ fn text_with(
     if rows.is_empty() {
         return Ok(String::new(alloc));
     }
-    let table = table_with(alloc, config, line, rows).map_err(fault_in)?;
+    // Rows of equal length want nothing but memory.
+    let Ok(table) = table_with(alloc, config, line, rows) else {
+        return Err(Fault::Memory);
+    };
     picture_of(alloc, bounds, &table)
 }
 

@@ -7,9 +7,8 @@ use Rattle.pg_table.specs.declared.fault.TableFault.{TableFault}
 use Rattle.ruled_view.specs.Bounds.{bounded_rows, rows_fault}
 use Rattle.ruled_view.specs.Faults.{Tells}
 use Rattle.ruled_view.specs.declared.fault.Fault.{Fault}
-use Rattle.ruled_view.specs.declared.fault.Fault.TheVariants.{Memory, Totals}
+use Rattle.ruled_view.specs.declared.fault.Fault.TheVariants.{Totals}
 use Rattle.ruled_view.proofs.Tables.{fault_told, text_printed, totals_empty}
-use Rattle.ruled_view.proofs.Views.{memory_told}
 use Rattle.ruled_view.proofs.table.text_with.Goals as goal
 
 pub returns-then-is_empty-clause-fault : goal.returns-then-is_empty-clause-fault
@@ -17,15 +16,10 @@ returns-then-is_empty-clause-fault c =
     let none : (length c.args.rows.items == 0) ≡ true = search rules in
     totals_empty string_bytes (λ row. row.items) c.args.bounds.now c.args.config c.args.line c.args.rows.items none
 
-pub returns-in_err-table-clause-fault : goal.returns-in_err-table-clause-fault
-returns-in_err-table-clause-fault c =
-    let is : c.in_err-table.field-0.0 ≡ Memory = search rules in
-    memory_told c.in_err-table.field-0.0 _ c.from_residual.result is c.from_residual.ensures.1
-
 pub returns-clause-text : goal.returns-clause-text
 returns-clause-text c =
     let some : (length c.args.rows.items == 0) ≡ false = search rules in
-    let made : c.table_with.result ≡ Ok c.in_ok-table.table = search rules in
+    let made : c.table_with.result ≡ Ok c.in-Ok.table = search rules in
     let parts = rw made at c.table_with.ensures.parts in
     let is = ap (λ table. picture Known (bounded_rows string_bytes c.args.bounds.now table) ++ 10 ∷ []) parts ∙ text_printed string_bytes (λ row. row.items) c.args.bounds.now c.args.config c.args.line c.args.rows.items some in
     subst (λ (shown : Text). IfOk c.picture_of.result (λ text. string_bytes text ≡ shown)) is c.picture_of.ensures.text
@@ -33,7 +27,7 @@ returns-clause-text c =
 pub returns-clause-fault : goal.returns-clause-fault
 returns-clause-fault c =
     let some : (length c.args.rows.items == 0) ≡ false = search rules in
-    let made : c.table_with.result ≡ Ok c.in_ok-table.table = search rules in
+    let made : c.table_with.result ≡ Ok c.in-Ok.table = search rules in
     let parts = rw made at c.table_with.ensures.parts in
     let told : Option TableFault → Option Fault = λ found. if is_none found then None else Some Totals in
     let is = ap (λ table. told (rows_fault string_bytes c.args.bounds.now table)) parts ∙ fault_told string_bytes (λ row. row.items) c.args.bounds.now c.args.config c.args.line c.args.rows.items some in
