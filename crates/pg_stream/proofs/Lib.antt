@@ -50,3 +50,4 @@ pub mod SizedRows
 pub mod SizedPushes
 pub mod TableEnds
 pub mod ShownCells
+pub mod NoRows

@@ -47,6 +47,7 @@ impl<S: AsStr + Drop, A: Allocator, V: Allocator> HeldRows<'_, S, A, V> {
         ensures sound { OnOk result (AreSoundAt T.told frame.now self.new) }
         ensures prints { AppendsIf (HeldFits (streamed S.text T.told self.old)) (streamed S.text T.told self.old).before.rows (held_text (streamed S.text T.told self.old)) buf.old buf.new result }
         ensures after { OnOk result (streamed S.text T.told self.new ≡ after_push (streamed S.text T.told self.old) (map S.text cells.items)) }
+        ensures first { self.old.held ≡ None → IsOk result × (buf.new ≡ buf.old) }
     {
         let Some(row) = self.held.replace(cells) else {
             return Ok(());
@@ -110,6 +111,7 @@ impl<S: AsStr + Drop, A: Allocator, V: Allocator> HeldRows<'_, S, A, V> {
         requires ends { IsFinite (I.remaining rows) }
         ensures prints { (texts : List (List Text)) → AlwaysGives (λ x y. map S.text x.items ≡ y) I.next_gives rows texts → PrintsRows (streamed S.text T.told self.entry).before (rows_left (streamed S.text T.told self.entry) texts) buf.old buf.new result }
         ensures runs { SomeRun I.next_gives rows (λ run. PrintsRun run.whole (streamed S.text T.told self.entry).before (rows_left (streamed S.text T.told self.entry) (map (λ row. map S.text row.items) run.items)) buf.old buf.new result) }
+        ensures empty { self.entry.held ≡ None → AlwaysGives (λ x y. map S.text x.items ≡ y) I.next_gives rows [] → IsOk result × (buf.new ≡ buf.old) }
     {
         let mut room = [0; SEPARATOR_ROOM];
         let mut pushed = self.with_room(&mut room);
@@ -141,6 +143,7 @@ impl<S: AsStr + Drop, A: Allocator, V: Allocator> HeldRows<'_, S, A, V> {
         requires ends { IsFinite (I.remaining rows) }
         ensures prints { (items : List (Result (List Text) E)) → AlwaysGives (λ x y. result_map_both (λ row. map S.text row.items) (λ error. error) x ≡ y) I.next_gives rows items → PrintsResults (streamed S.text T.told self.entry) items buf.old buf.new result }
         ensures runs { SomeRun I.next_gives rows (λ run. PrintsResultsRun run.whole (streamed S.text T.told self.entry) (map (λ item. result_map_both (λ row. map S.text row.items) (λ error. error) item) run.items) buf.old buf.new result) }
+        ensures empty { self.entry.held ≡ None → AlwaysGives (λ x y. result_map_both (λ row. map S.text row.items) (λ error. error) x ≡ y) I.next_gives rows [] → IsOk result × (buf.new ≡ buf.old) }
     {
         let mut room = [0; SEPARATOR_ROOM];
         let mut pushed = self.with_room(&mut room);

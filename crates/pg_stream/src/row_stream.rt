@@ -130,7 +130,8 @@ impl<
         }
     }
 
-    /// Holds a row, and prints the one that was held until now.
+    /// Holds a row, and prints the one that was held until now. At the first row none was, and the
+    /// buffer stays as it was.
     ///
     /// `StreamFault::Row` names the row that was held, where that doesn't fit; then nothing is
     /// appended. Where memory is refused, a beginning of its text is.
@@ -143,6 +144,7 @@ impl<
         ensures appends { OnOk result (string_bytes buf.new ≡ string_bytes buf.old ++ held_text (streaming D.width D.height C.color self.entry)) }
         ensures after { IfOk result (λ s. streaming D.width D.height C.color s ≡ after_push (streaming D.width D.height C.color self.entry) (map S.text cells.items)) }
         ensures prints { AppendsIf (HeldFits (streaming D.width D.height C.color self.entry)) (streaming D.width D.height C.color self.entry).before.rows (held_text (streaming D.width D.height C.color self.entry)) buf.old buf.new result }
+        ensures first { (streaming D.width D.height C.color self.entry).held ≡ None → IsOk result × (buf.new ≡ buf.old) }
     {
         let RowStream { frame, mut rows } = self;
         rows.push::<Brand, D, C, B, W>(&frame, cells, buf)?;
@@ -176,6 +178,7 @@ impl<
         ensures misfit { (row : ℕ) → result ≡ Err (StreamFault.Row row) → (row ≡ (streaming D.width D.height C.color self.entry).before.rows) × (buf.new ≡ buf.old) × ¬ (HeldFits (streaming D.width D.height C.color self.entry)) }
         ensures memory { result ≡ Err StreamFault.Memory → AppendsOrNothing buf.old buf.new result (held_text (streaming D.width D.height C.color self.entry)) }
         ensures untouched { ¬ (HeldFits (streaming D.width D.height C.color self.entry)) → buf.new ≡ buf.old }
+        ensures first { (streaming D.width D.height C.color self.entry).held ≡ None → buf.new ≡ buf.old }
         ensures told { (misfit : Misfit) → result ≢ Err (StreamFault.Misfit misfit) }
     {
         let cells = collect_cells(alloc, row)?;
@@ -201,7 +204,7 @@ impl<
     /// It stops at the first row that doesn't fit: the rows above that one stand whole, and it is named
     /// by its number (`StreamFault::Row`). Where memory is refused, a beginning of their text stands, or
     /// of that of all rows where all fit. So it is whatever the iterator gives, also where that isn't
-    /// known before.
+    /// known before. Of no rows at all the buffer stays as it was.
     ///
     /// The iterator may be asked, and ends: those over arrays and vectors do. [`RowStream::print_vec`]
     /// asks nothing.
@@ -218,6 +221,7 @@ impl<
         requires ends { IsFinite (I.remaining rows) }
         ensures prints { (texts : List (List Text)) → AlwaysGives (λ x y. map S.text x.items ≡ y) I.next_gives rows texts → PrintsRows (streaming D.width D.height C.color self.entry).before (rows_left (streaming D.width D.height C.color self.entry) texts) buf.old buf.new result }
         ensures runs { SomeRun I.next_gives rows (λ run. PrintsRun run.whole (streaming D.width D.height C.color self.entry).before (rows_left (streaming D.width D.height C.color self.entry) (map (λ row. map S.text row.items) run.items)) buf.old buf.new result) }
+        ensures empty { (streaming D.width D.height C.color self.entry).held ≡ None → AlwaysGives (λ x y. map S.text x.items ≡ y) I.next_gives rows [] → IsOk result × (buf.new ≡ buf.old) }
     {
         let RowStream {
             frame,
@@ -234,6 +238,7 @@ impl<
     ) -> Result<(), StreamFault>
         ensures appends { OnOk result (string_bytes buf.new ≡ string_bytes buf.old ++ rows_text (streaming D.width D.height C.color self.entry).before (rows_left (streaming D.width D.height C.color self.entry) (map (λ row. map S.text row.items) rows.items))) }
         ensures prints { PrintsRows (streaming D.width D.height C.color self.entry).before (rows_left (streaming D.width D.height C.color self.entry) (map (λ row. map S.text row.items) rows.items)) buf.old buf.new result }
+        ensures empty { (streaming D.width D.height C.color self.entry).held ≡ None → rows.items ≡ [] → IsOk result × (buf.new ≡ buf.old) }
     {
         self.print_all(rows.into_iter(), buf)
     }
@@ -259,6 +264,7 @@ impl<
         requires ends { IsFinite (I.remaining rows) }
         ensures prints { (items : List (Result (List Text) E)) → AlwaysGives (λ x y. result_map_both (λ row. map S.text row.items) (λ error. error) x ≡ y) I.next_gives rows items → PrintsResults (streaming D.width D.height C.color self.entry) items buf.old buf.new result }
         ensures runs { SomeRun I.next_gives rows (λ run. PrintsResultsRun run.whole (streaming D.width D.height C.color self.entry) (map (λ item. result_map_both (λ row. map S.text row.items) (λ error. error) item) run.items) buf.old buf.new result) }
+        ensures empty { (streaming D.width D.height C.color self.entry).held ≡ None → AlwaysGives (λ x y. result_map_both (λ row. map S.text row.items) (λ error. error) x ≡ y) I.next_gives rows [] → IsOk result × (buf.new ≡ buf.old) }
     {
         let RowStream {
             frame,

@@ -1,9 +1,10 @@
-use Rattle.std.proofs.Common.{map}
+use Rattle.std.proofs.Common.{map, ◌∙◌}
 use Rattle.std.proofs.lemmas.Result.{err_from_is_err_and}
 use Rattle.pg_stream.specs.Inside.Held.{streamed}
 use Rattle.pg_stream.specs.Streams.{Streaming}
 use Rattle.pg_stream.proofs.StreamedRows.{none-pushed, pushed-next, pushed-stops, pushed-ends}
 use Rattle.pg_stream.proofs.StreamedRuns.{none-behind, run-goes, run-stops, run-ends}
+use Rattle.pg_stream.proofs.NoRows.{untouched, touched, some-row}
 use Rattle.pg_stream.proofs.held_rows.HeldRows.push_all.Goals as goal
 
 pub loop-row-init : goal.loop-row-init
@@ -14,6 +15,7 @@ loop-row-init g c =
       λ texts left. none-pushed (Unit {0}) (λ x. map g.S.AsStr.text x.items) g.I.Iterator.next_gives c.args.buf.now c.args.rows (streamed g.S.AsStr.text g.T.Drawn.told c.args.self) texts left,
       (record { printer = c.requires.sound.0.printer; kept = tt }, c.requires.sound.1),
       none-behind c.args.buf.now (streamed g.S.AsStr.text g.T.Drawn.told c.args.self),
+      untouched g.I.Iterator.next_gives c.args.self.held c.args.rows c.args.buf.now,
     )
 
 pub loop-row-preserved : goal.loop-row-preserved
@@ -27,6 +29,7 @@ loop-row-preserved g c =
       λ texts left. pushed-next (Unit {0}) (λ x. map g.S.AsStr.text x.items) g.I.Iterator.next_gives now next began texts c.in-Some.row (c.loop-row.invariant.2 texts left) c.in-Some.ensures.steps c.in_ok-push.ensures.prints c.in_ok-push.ensures.after,
       c.in_ok-push.ensures.sound,
       run-goes (λ x. map g.S.AsStr.text x.items) g.I.Iterator.next_gives c.loop-row.yielded now next began c.in-Some.row c.loop-row.invariant.4 c.in_ok-push.ensures.prints c.in_ok-push.ensures.after,
+      touched g.I.Iterator.next_gives c.in-Some.row c.loop-row.invariant.5 c.in-Some.ensures.steps,
     )
 
 pub returns-in_err-push-clause-prints : goal.returns-in_err-push-clause-prints
@@ -54,3 +57,13 @@ returns-clause-runs g c =
     let now : Streaming = streamed g.S.AsStr.text g.T.Drawn.told c.loop-row.pushed in
     let began : Streaming = streamed g.S.AsStr.text g.T.Drawn.told c.args.self in
     rw (← c.into_iter-row-iterator.ensures.into_iter_gives) (run-ends (λ x. map g.S.AsStr.text x.items) g.I.Iterator.next_gives c.loop-row.yielded now began c.finish.result c.loop-row.yielded_by c.loop-row.invariant.4 c.in-None.ensures.steps c.finish.ensures.prints)
+
+-- a row that was pushed came from the iterator
+pub returns-in_err-push-clause-empty : goal.returns-in_err-push-clause-empty
+returns-in_err-push-clause-empty g c = λ none never. absurd (some-row g.I.Iterator.next_gives c.in-Some.row c.loop-row.invariant.5 c.in-Some.ensures.steps none never)
+
+pub returns-clause-empty : goal.returns-clause-empty
+returns-clause-empty g c = λ none never.
+    let so = c.loop-row.invariant.5.so none never in
+    let ends = c.finish.ensures.empty so.0 in
+    (ends.0, ends.1 ∙ so.2)

@@ -5,6 +5,7 @@ use Rattle.pg_stream.specs.Inside.Held.{streamed, AreSoundAt}
 use Rattle.pg_stream.specs.Streams.{Streaming}
 use Rattle.pg_stream.proofs.StreamedRows.{Pushed}
 use Rattle.pg_stream.proofs.StreamedRuns.{AllBehind}
+use Rattle.pg_stream.proofs.NoRows.{IsUntouched}
 use Rattle.pg_stream.proofs.held_rows.HeldRows.push_all.Given as goal
 
 -- what the rows that are left append is what all append
@@ -17,4 +18,5 @@ invariant-loop-row g l =
     ((texts : List (List Text)) → AlwaysGives (λ x y. map g.S.AsStr.text x.items ≡ y) g.I.Iterator.next_gives l.fn.rows texts
     → Pushed (Unit {0}) (λ x. map g.S.AsStr.text x.items) g.I.Iterator.next_gives l.fn.buf l.buf l.row-iterator now began texts) ×
     AreSoundAt g.T.Drawn.told l.frame l.pushed ×
-    AllBehind l.fn.buf l.buf now began (map (λ x. map g.S.AsStr.text x.items) l.yielded)
+    AllBehind l.fn.buf l.buf now began (map (λ x. map g.S.AsStr.text x.items) l.yielded) ×
+    IsUntouched g.I.Iterator.next_gives l.fn.self.held l.pushed.held l.fn.rows l.row-iterator l.fn.buf l.buf

@@ -1,4 +1,5 @@
-use Rattle.std.proofs.Common.{List, map, Result, Ok, Err, refl, ap}
+use Rattle.std.proofs.Common.{List, map, Result, Ok, Err, refl, sym, ap, ◌∙◌, is_ok}
+use Rattle.std.proofs.lemmas.Bool.{false≢true}
 use Rattle.std.specs.Result.{result_map_both}
 use Rattle.std.proofs.lemmas.Result.{err_from_is_err_and}
 use Rattle.pg_layout.specs.Text.{Text}
@@ -7,6 +8,7 @@ use Rattle.pg_stream.specs.Streams.{Streaming}
 use Rattle.pg_stream.specs.declared.fault.RowsFault.{RowsFault}
 use Rattle.pg_stream.proofs.StreamedResults.{none-streamed, item-taken, streamed-next, streamed-stops, streamed-fails, streamed-ends}
 use Rattle.pg_stream.proofs.StreamedRuns.{no-items, results-go-on, results-stop, results-fail, results-end-ok, results-end-err}
+use Rattle.pg_stream.proofs.NoRows.{untouched, touched, some-row}
 use Rattle.pg_stream.proofs.held_rows.HeldRows.push_results.Goals as goal
 
 pub loop-row-init : goal.loop-row-init
@@ -17,6 +19,7 @@ loop-row-init g c =
       λ items left. none-streamed (Unit {0}) (λ x. result_map_both (λ row. map g.S.AsStr.text row.items) (λ error. error) x) g.I.Iterator.next_gives c.args.buf.now c.args.rows (streamed g.S.AsStr.text g.T.Drawn.told c.args.self) items left,
       (record { printer = c.requires.sound.0.printer; kept = tt }, c.requires.sound.1),
       no-items c.args.buf.now (streamed g.S.AsStr.text g.T.Drawn.told c.args.self),
+      untouched g.I.Iterator.next_gives c.args.self.held c.args.rows c.args.buf.now,
     )
 
 pub returns-in-Err-clause-prints : goal.returns-in-Err-clause-prints
@@ -70,6 +73,7 @@ loop-row-preserved g c =
           (item-taken (Unit {0}) view g.I.Iterator.next_gives now began items c.in-Some.row (Ok cells) (c.loop-row.invariant.2 items left) c.in-Some.ensures.steps (ap view c.in-Ok.is)) c.in_ok-push.ensures.prints c.in_ok-push.ensures.after,
       c.in_ok-push.ensures.sound,
       results-go-on view g.I.Iterator.next_gives c.loop-row.yielded now next began c.in-Some.row cells c.loop-row.invariant.4 (ap view c.in-Ok.is) c.in_ok-push.ensures.prints c.in_ok-push.ensures.after,
+      touched g.I.Iterator.next_gives c.in-Some.row c.loop-row.invariant.5 c.in-Some.ensures.steps,
     )
 
 pub returns-in_err-finish-clause-prints : goal.returns-in_err-finish-clause-prints
@@ -102,3 +106,22 @@ returns-clause-runs g c =
     let began : Streaming = streamed g.S.AsStr.text g.T.Drawn.told c.args.self in
     let view : Result _ g.row.E.Denot → Result (List Text) g.row.E.Denot = λ x. result_map_both (λ row. map g.S.AsStr.text row.items) (λ error. error) x in
     rw (← c.into_iter-row-iterator.ensures.into_iter_gives) (results-end-ok view g.I.Iterator.next_gives c.loop-row.yielded now began c.loop-row.yielded_by c.loop-row.invariant.4 c.in-None.ensures.steps c.in_ok-finish.ensures.prints)
+
+-- an item that was taken came from the iterator
+pub returns-in-Err-clause-empty : goal.returns-in-Err-clause-empty
+returns-in-Err-clause-empty g c = λ none never. absurd (some-row g.I.Iterator.next_gives c.in-Some.row c.loop-row.invariant.5 c.in-Some.ensures.steps none never)
+
+pub returns-in_err-push-clause-empty : goal.returns-in_err-push-clause-empty
+returns-in_err-push-clause-empty g c = λ none never. absurd (some-row g.I.Iterator.next_gives c.in-Some.row c.loop-row.invariant.5 c.in-Some.ensures.steps none never)
+
+pub returns-in_err-finish-clause-empty : goal.returns-in_err-finish-clause-empty
+returns-in_err-finish-clause-empty g c = λ none never.
+    let so = c.loop-row.invariant.5.so none never in
+    let ends = c.finish.ensures.empty so.0 in
+    absurd (false≢true (ap is_ok (sym c.in_err-finish.was) ∙ ends.0))
+
+pub returns-clause-empty : goal.returns-clause-empty
+returns-clause-empty g c = λ none never.
+    let so = c.loop-row.invariant.5.so none never in
+    let ends = c.finish.ensures.empty so.0 in
+    (refl, ends.1 ∙ so.2)

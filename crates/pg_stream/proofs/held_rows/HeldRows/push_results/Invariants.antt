@@ -6,6 +6,7 @@ use Rattle.pg_stream.specs.Inside.Held.{streamed, AreSoundAt}
 use Rattle.pg_stream.specs.Streams.{Streaming}
 use Rattle.pg_stream.proofs.StreamedResults.{Streamed}
 use Rattle.pg_stream.proofs.StreamedRuns.{RowsBehind}
+use Rattle.pg_stream.proofs.NoRows.{IsUntouched}
 use Rattle.pg_stream.proofs.held_rows.HeldRows.push_results.Given as goal
 
 -- what the rows that are left append is what all append
@@ -19,4 +20,5 @@ invariant-loop-row g l =
     → AlwaysGives (λ x y. result_map_both (λ row. map g.S.AsStr.text row.items) (λ error. error) x ≡ y) g.I.Iterator.next_gives l.fn.rows items
     → Streamed (Unit {0}) (λ x. result_map_both (λ row. map g.S.AsStr.text row.items) (λ error. error) x) g.I.Iterator.next_gives l.fn.buf l.buf l.row-iterator now began items) ×
     AreSoundAt g.T.Drawn.told l.frame l.pushed ×
-    RowsBehind l.fn.buf l.buf now began (map (λ x. result_map_both (λ row. map g.S.AsStr.text row.items) (λ error. error) x) l.yielded)
+    RowsBehind l.fn.buf l.buf now began (map (λ x. result_map_both (λ row. map g.S.AsStr.text row.items) (λ error. error) x) l.yielded) ×
+    IsUntouched g.I.Iterator.next_gives l.fn.self.held l.pushed.held l.fn.rows l.row-iterator l.fn.buf l.buf
