@@ -1,6 +1,6 @@
 -- Printers whose rows bring their heights: what they append and what is true of them by any heights of the rows above that
 -- make up the lines so far.
-use Rattle.std.proofs.Common.{◌≡◌, ◌↔◌, ℕ, zero, suc, ◌+◌, ◌<◌, ◌≤◌, Bool, true, false, ◌==◌, List, [], ◌++◌, map, flat_map, length, length-append, replicate, refl, sym, ap, ap₂, ◌∙◌, arith, subst, add-one, Option, Some, None, IfSome, is_some, if◌then◌else◌}
+use Rattle.std.proofs.Common.{◌≡◌, ◌↔◌, ℕ, zero, suc, ◌+◌, ◌<◌, ◌≤◌, Bool, true, false, ◌==◌, List, [], ◌∷◌, ◌++◌, map, flat_map, length, length-append, replicate, refl, sym, ap, ap₂, ◌∙◌, arith, subst, add-one, Option, Some, None, IfSome, is_some, if◌then◌else◌}
 use mathlib.Core.Path.{fun_ext}
 use Rattle.std.specs.List.{range_with_len, enumerate_from}
 use Rattle.std.specs.Prelude.{Result, Err}
@@ -24,7 +24,7 @@ use Rattle.pg_stream.specs.Conditions.{HaveRoom, RowFits, printer_misfit}
 use Rattle.pg_stream.specs.Inside.Drawing.{open_separator_part, open_separator, IsSeparator}
 use Rattle.pg_stream.specs.Inside.Held.{IsSoundAt}
 use Rattle.pg_stream.specs.Inside.Sized.{first_height, height_in, IsSizedAt}
-use Rattle.pg_stream.specs.Laws.{RowsCountTheirLines}
+use Rattle.pg_stream.specs.Laws.{RowsCountTheirLines, AreNextHeights, SizedRowsMakeThePicture}
 use Rattle.pg_stream.specs.Open.{Slot}
 use Rattle.pg_stream.specs.Placed.{Placed, slots_of, AllOpen, IsPlaced}
 use Rattle.pg_stream.specs.Printers.{IsSound, now_of}
@@ -34,6 +34,7 @@ use Rattle.pg_stream.specs.declared.fault.StreamFault.{StreamFault}
 use Rattle.pg_stream.specs.declared.frame.Frame.{Frame}
 use Rattle.pg_stream.specs.declared.progress.Progress.{Progress}
 use Rattle.pg_stream.proofs.DrawnLines.{length_of_row}
+use Rattle.pg_stream.proofs.LiveRows.{live-make}
 use Rattle.pg_stream.proofs.OpenLists.{all-open}
 use Rattle.pg_stream.proofs.OwnRows.{owner-row, none-between, height-one_row, sep-resized, row-resized, lines-same}
 use Rattle.pg_stream.proofs.RowsOfTables.{row_inside_body, AllSame}
@@ -316,3 +317,10 @@ no-lines config columns width height color hint = refl
 
 pub count-lines : RowsCountTheirLines
 count-lines = record { none = no-lines; more = kept-lines }
+
+next-heights : (s : Printing) (rows : List (List Text)) → CountsLines s → AreNextHeights s rows
+next-heights s [] counts = counts
+next-heights s (cells ∷ rows) counts = (record { above = counts; next = refl }, next-heights (after_row s cells false) rows (kept-lines s cells false counts))
+
+pub sized-make : SizedRowsMakeThePicture
+sized-make t fit some wide = (next-heights _ _ (no-lines t.config t.columns t.width t.height t.color None), live-make t fit some wide)

@@ -1,5 +1,5 @@
 -- Laws of printers of rows, in words of their own.
-use Rattle.std.specs.Prelude.{◌≡◌, ℕ, ◌<◌, Bool, true, List, map, IfSome, Option, None}
+use Rattle.std.specs.Prelude.{◌≡◌, ℕ, ◌<◌, Bool, true, false, List, [], ◌∷◌, map, IfSome, Option, None}
 use Rattle.std.specs.List.{range_with_len}
 use Rattle.pg_layout.specs.Colors.{Color}
 use Rattle.pg_layout.specs.declared.position.Position.{Position}
@@ -12,7 +12,7 @@ use Rattle.pg_picture.specs.Table.{Table, Unknown}
 use Rattle.pg_stream.specs.Conditions.{PrinterFits, RowsFit}
 use Rattle.pg_stream.specs.LiveStreams.{live_text}
 use Rattle.pg_stream.specs.Printing.{Printing, hint_of, printer, after_row, rows_text}
-use Rattle.pg_stream.specs.SizedStreams.{CountsLines}
+use Rattle.pg_stream.specs.SizedStreams.{CountsLines, IsNextHeight}
 
 -- the texts of a table, row by row
 abbrev pub texts_of : Table → List (List Text)
@@ -31,6 +31,19 @@ LiveRowsMakeThePicture = (t : Table) → spans_fit t.config.spans t.rows t.colum
 pub record RowsCountTheirLines : Type 0 where
   pub none : (config : Config) (columns : ℕ) (width height : ℕ → ℕ) (color : Position → Option Color) (hint : Option ℕ) → CountsLines (printer config columns width height color hint)
   pub more : (s : Printing) (cells : List Text) (is_last : Bool) → CountsLines s → CountsLines (after_row s cells is_last)
+
+-- By these heights each of the rows may be pushed with its own, one after another, and the table be ended.
+abbrev pub AreNextHeights : Printing → List (List Text) → Type 0
+AreNextHeights s [] = CountsLines s
+AreNextHeights s (cells ∷ rows) = IsNextHeight s (s.height s.rows) × AreNextHeights (after_row s cells false) rows
+
+-- All rows of a table, pushed one after another, each with its height, and ended, are its picture: the table's heights make up
+-- the lines at each call, and what the calls append by them is that picture.
+abbrev pub SizedRowsMakeThePicture : Type 0
+SizedRowsMakeThePicture =
+    (t : Table) → spans_fit t.config.spans t.rows t.columns ≡ true → 0 < t.rows → 0 < t.columns
+    → AreNextHeights (printer t.config t.columns t.width t.height t.color None) (texts_of t)
+    × (live_text (printer t.config t.columns t.width t.height t.color None) (texts_of t) ≡ picture Unknown t)
 
 -- A table that fits may be printed row by row.
 abbrev pub FittingTablesMayBePrinted : Type 0

@@ -1,6 +1,6 @@
 //! Laws of printers of rows. The functions do nothing: their contracts are the laws.
 
-ghost use Rattle.pg_stream.specs.Laws.{RowsMakeThePicture, LiveRowsMakeThePicture, RowsCountTheirLines, FittingTablesMayBePrinted};
+ghost use Rattle.pg_stream.specs.Laws.{RowsMakeThePicture, LiveRowsMakeThePicture, RowsCountTheirLines, SizedRowsMakeThePicture, FittingTablesMayBePrinted};
 
 /// All rows of a table whose spans fit it, printed one after another and ended, are its picture: with
 /// the number of rows the one that looked-up printing gives, without it the one in which margins that
@@ -15,14 +15,17 @@ pub fn live_rows_make_the_picture()
     ensures { LiveRowsMakeThePicture }
 {}
 
-/// The lines of a printer are those of its rows, by their heights: before the first row, and behind each. So what
-/// [`SizedStream::push`] and [`SizedStream::finish`] append for rows that bring the heights of a table is
-/// what a live stream that is told these heights appends, the picture ([`live_rows_make_the_picture`]).
-///
-/// [`SizedStream::push`]: crate::SizedStream::push
-/// [`SizedStream::finish`]: crate::SizedStream::finish
+/// The lines of a printer are those of its rows, by their heights: before the first row, and behind each.
 pub fn rows_count_their_lines()
     ensures { RowsCountTheirLines }
+{}
+
+/// All rows of a table whose spans fit it, pushed one after another into a [`SizedStream`], each with its height,
+/// and ended, are its picture, in which margins that end before the last lines are whole.
+///
+/// [`SizedStream`]: crate::SizedStream
+pub fn sized_rows_make_the_picture()
+    ensures { SizedRowsMakeThePicture }
 {}
 
 /// A table that fits (`pg_picture::fits::table_fits`) may be printed row by row: its printer may be

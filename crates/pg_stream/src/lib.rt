@@ -35,7 +35,7 @@ pub use crate::fault::{RowFault, RowsFault, StreamFault};
 pub use crate::grid::IterGrid;
 pub use crate::laws::{
     live_rows_make_the_picture, rows_count_their_lines, rows_make_the_picture,
-    tables_that_fit_may_be_printed,
+    sized_rows_make_the_picture, tables_that_fit_may_be_printed,
 };
 pub use crate::live_stream::LiveStream;
 pub use crate::open_cells::OpenCells;
