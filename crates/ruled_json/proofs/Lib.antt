@@ -1,3 +1,4 @@
+mod Members
 mod Views
 mod Texts
 mod Walks

@@ -1,24 +1,56 @@
 //! The columns of records, and their rows.
 
-ghost use Rattle.std.specs.Prelude.{◌≡◌, ◌==◌, ◌∷◌, ◌++◌, [], fold, length, map, string_bytes, IfOk, IfSome, OnOk, option_map};
+ghost use Rattle.std.specs.Prelude.{◌≡◌, ◌==◌, ℕ, List, ◌∷◌, ◌++◌, [], fold, length, map, string_bytes, IfOk, IfSome, OnOk, option_map};
+ghost use Rattle.std.specs.Str.{bytes_eq};
 ghost use Rattle.csv.specs.Records.{fields_of};
+ghost use Rattle.indexmap.specs.IndexMap.{get_by};
+ghost use Rattle.json.specs.Find.{get, get_member};
 ghost use Rattle.json.specs.Tree.{HasNumbers};
-ghost use Rattle.json.specs.Value.{value_view};
+ghost use Rattle.json.specs.Value.{members_view, value_view};
 ghost use Rattle.ruled_json.specs.Rows.{cell_text, names_in, row_of, with_name};
 
 use csv::StringRecord;
-use indexmap::IndexSet;
+use indexmap::{IndexMap, IndexSet};
 use json::{Value, to_vec};
 use std::alloc::{AllocError, Global};
 
+// How many columns there are at most whose members are looked for one by one.
+const NARROW: usize = 32;
+
 // The members of an object, and no members of another value.
 fn members_of<'v, 'a>(value: &'v Value<'a>) -> &'v [(&'a str, Value<'a>)]
-    ensures { map (λ m. m.0.now) result.now ≡ names_in (value_view value.now) }
+    ensures names { map (λ m. m.0.now) result.now ≡ names_in (value_view value.now) }
+    ensures members { (name : List ℕ) → get_member name (members_view result.now) ≡ get name (value_view value.now) }
 {
     match value {
         Value::Object(members) => members.as_slice(),
         _ => &[],
     }
+}
+
+// The members of an object by their names, of those of one name the last one.
+fn members_by_name<'v, 'a>(
+    alloc: Global,
+    value: &'v Value<'a>,
+) -> Result<IndexMap<&'a str, &'v Value<'a>>, AllocError>
+    ensures { IfOk result (λ members. (name : List ℕ) → option_map (λ v. value_view v.now) (get_by (λ known. bytes_eq name known.now) members) ≡ get name (value_view value.now)) }
+{
+    let list = members_of(value);
+    let mut members = IndexMap::with_capacity(alloc, list.len())?;
+    for member in list {
+        members.insert(member.0, &member.1)?;
+    }
+    Ok(members)
+}
+
+// The member of this name.
+fn member_named<'v, 'a>(
+    members: &IndexMap<&'a str, &'v Value<'a>>,
+    name: &str,
+) -> Option<&'v Value<'a>>
+    ensures { result ≡ get_by (λ known. bytes_eq name.now known.now) members.now }
+{
+    members.get(name).copied()
 }
 
 // Appends the text of a member to a row.
@@ -95,8 +127,8 @@ impl Columns {
         Ok(row)
     }
 
-    /// The row of a record.
-    pub(crate) fn row(&self, alloc: Global, value: &Value<'_>) -> Result<StringRecord, AllocError>
+    // The row of a record of few columns.
+    fn narrow_row(&self, alloc: Global, value: &Value<'_>) -> Result<StringRecord, AllocError>
         requires numbers { HasNumbers (value_view value.now) }
         ensures { IfOk result (λ row. fields_of row ≡ row_of (map string_bytes self.now.names.keys) (value_view value.now)) }
     {
@@ -105,5 +137,30 @@ impl Columns {
             push_cell(alloc, &mut row, value.get(name.as_str()))?;
         }
         Ok(row)
+    }
+
+    // The row of a record of many columns.
+    fn wide_row(&self, alloc: Global, value: &Value<'_>) -> Result<StringRecord, AllocError>
+        requires numbers { HasNumbers (value_view value.now) }
+        ensures { IfOk result (λ row. fields_of row ≡ row_of (map string_bytes self.now.names.keys) (value_view value.now)) }
+    {
+        let members = members_by_name(alloc, value)?;
+        let mut row = StringRecord::new(alloc);
+        for name in self.names.as_slice() {
+            push_cell(alloc, &mut row, member_named(&members, name.as_str()))?;
+        }
+        Ok(row)
+    }
+
+    /// The row of a record.
+    pub(crate) fn row(&self, alloc: Global, value: &Value<'_>) -> Result<StringRecord, AllocError>
+        requires numbers { HasNumbers (value_view value.now) }
+        ensures { IfOk result (λ row. fields_of row ≡ row_of (map string_bytes self.now.names.keys) (value_view value.now)) }
+    {
+        if self.names.len() <= NARROW {
+            self.narrow_row(alloc, value)
+        } else {
+            self.wide_row(alloc, value)
+        }
     }
 }

@@ -3,7 +3,7 @@ use Rattle.csv.specs.Records.{fields_of}
 use Rattle.json.specs.Value.{value_view}
 use Rattle.ruled_json.proofs.Views.{part_has_numbers}
 use Rattle.ruled_json.proofs.Walks.{whole_row}
-use Rattle.ruled_json.proofs.columns.Columns.row.Goals as goal
+use Rattle.ruled_json.proofs.columns.Columns.narrow_row.Goals as goal
 
 pub push_cell-requires : goal.push_cell-requires
 push_cell-requires c = record {
