@@ -12,6 +12,7 @@ mod OverrideColumns
 mod BorderLines
 mod RowLines
 mod SpanCrossings
+mod LinePlaces
 mod KeptSpans
 mod Extents
 pub mod SettingsForAll

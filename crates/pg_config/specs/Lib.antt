@@ -5,5 +5,6 @@ pub mod GlyphOrder
 pub mod Spans
 pub mod Config
 pub mod Crossings
+pub mod LineGlyphs
 pub mod CompactConfig
 pub mod Inside

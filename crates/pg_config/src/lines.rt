@@ -6,9 +6,12 @@ ghost use Rattle.pg_layout.specs.Keys.{by_place};
 ghost use Rattle.pg_layout.specs.Places.{with_some};
 ghost use Rattle.pg_config.specs.Inside.CrossingMarks.{with_all};
 ghost use Rattle.pg_config.specs.Inside.NotedPlaces.{settled, settled_at};
+ghost use Rattle.pg_config.specs.LineGlyphs.{with_glyphs, with_line_crossings};
 ghost use Rattle.pg_config.specs.Overrides.{HasColumns, no_lines, behind, on_lines, with_round, with_border, with_row, line_crossing, with_row_line};
 
+use crate::line_glyphs::{LinePlace, put_over};
 use crate::noted_places::NotedPlaces;
+use crate::offsets::GlyphPlace;
 use pg_layout::{Border, ColumnPlace, HorizontalLine, Places, Position};
 use std::alloc::{AllocError, Allocator, Global};
 use std::marker::Model;
@@ -150,6 +153,26 @@ impl<A: Allocator + Clone> Lines<char, A> {
         put_all(&mut self.crossings, &mut self.columns, glyphs)
     }
 
+    /// Puts characters at their places in a row line, those at crossings here, or some of them where
+    /// memory is refused.
+    ///
+    /// Each column of a crossing is listed, as in all `Overrides`.
+    pub fn put_line_glyphs(
+        &mut self,
+        glyphs: &mut NotedPlaces<GlyphPlace, char, A>,
+        row: usize,
+        over: &[(Option<LinePlace>, char)],
+    ) -> Result<(), AllocError>
+        requires has_columns { HasColumns self.old.now.columns self.old.now.overrides.crossings }
+        ensures glyphs { OnOk result (glyphs.new.now ≡ with_glyphs row over.now glyphs.old.now) }
+        ensures before_glyphs { glyphs.new.before ≡ glyphs.old.before }
+        ensures ok { OnOk result (self.new.now.overrides ≡ record self.old.now.overrides { crossings = with_line_crossings row over.now self.old.now.overrides.crossings }) }
+        ensures has_columns { OnOk result (HasColumns self.new.now.columns self.new.now.overrides.crossings) }
+        ensures before { self.new.before ≡ self.old.before }
+    {
+        put_over(glyphs, &mut self.crossings, &mut self.columns, row, over)
+    }
+
     /// Gives the horizontals and the crossings of a row line of so many columns the glyphs of this
     /// line, or some of them where memory is refused.
     ///
@@ -253,7 +276,7 @@ fn crossing_of(line: HorizontalLine<char>, columns: usize, col: usize) -> Option
 
 // Gives a crossing this value, if there is one, and lists its column, or does one of the two where
 // memory is refused.
-fn put_crossing<G: Drop, A: Allocator + Clone>(
+pub(crate) fn put_crossing<G: Drop, A: Allocator + Clone>(
     crossings: &mut NotedPlaces<Position, G, A>,
     columns: &mut NotedPlaces<usize, (), A>,
     pos: Position,

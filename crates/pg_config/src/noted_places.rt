@@ -47,6 +47,27 @@ impl<K: Key, V, A: Allocator + Copy> NotedPlaces<K, V, A> {
 }
 
 impl<K: Key, V, A: Allocator> NotedPlaces<K, V, A> {
+    /// These entries, of which no change is noted. Takes no memory.
+    pub fn holding(alloc: A, places: Places<K, V, A>) -> NotedPlaces<K, V, A>
+        ensures { result ≡ settled_at places }
+    {
+        NotedPlaces {
+            places,
+            held: Vec::new(alloc),
+        }
+    }
+
+    /// The entries as they are now.
+    pub fn into_places(self) -> Places<K, V, A>
+    where
+        V: Drop,
+        ensures { result ≡ self.now }
+    {
+        let NotedPlaces { places, held } = self;
+        drop(held);
+        places
+    }
+
     /// The values as they are now.
     #[inline(always)]
     pub fn places(&self) -> &Places<K, V, A>

@@ -1,13 +1,16 @@
 //! What was set for single glyphs of a horizontal or a vertical.
 
-ghost use Rattle.std.specs.Prelude.{◌≡◌, ◌<◌, option_map, OnOk, OnErr, IsOk, IsSome};
+ghost use Rattle.std.specs.Prelude.{◌≡◌, ◌<◌, [], option_map, OnOk, OnErr, IsOk, IsSome};
 ghost use Rattle.pg_layout.specs.Places.{has_key};
 ghost use Rattle.pg_config.specs.Offsets.{glyph_at, by_glyph, of_place, no_offsets, offset_at, with_offset, lookup_offset, is_offset_at, has_offsets};
 ghost use Rattle.pg_config.specs.GlyphOrder.{glyph-order};
+ghost use Rattle.pg_config.specs.Inside.NotedPlaces.{settled_at};
 
+use crate::noted_places::NotedPlaces;
 use pg_layout::{Key, Offset, Places, Position};
 use std::alloc::{AllocError, Allocator, Global};
 use std::marker::Model;
+use std::mem;
 
 /// A glyph of a horizontal or a vertical: the place of the line, and the glyph's number there.
 #[derive(Debug, Clone, Copy, PartialEq, Eq, PartialOrd, Ord)]
@@ -25,7 +28,7 @@ impl Key for GlyphPlace {
 
 impl GlyphPlace {
     #[inline(always)]
-    fn new(pos: Position, number: usize) -> GlyphPlace
+    pub fn new(pos: Position, number: usize) -> GlyphPlace
         ensures { result ≡ glyph_at pos number }
     {
         GlyphPlace { pos, number }
@@ -57,6 +60,24 @@ impl<V, A: Allocator + Copy> Offsets<V, A> {
             from_start: Places::new(alloc),
             from_end: Places::new(alloc),
         }
+    }
+}
+
+impl<V: Drop, A: Allocator + Copy> Offsets<V, A> {
+    /// Takes out the values that are counted from the start, to change several of them at once.
+    pub fn take_from_start(&mut self, alloc: A) -> NotedPlaces<GlyphPlace, V, A>
+        ensures taken { result ≡ settled_at self.old.from_start }
+        ensures left { self.new ≡ record self.old { from_start = [] } }
+    {
+        let taken = mem::replace(&mut self.from_start, Places::new(alloc));
+        NotedPlaces::holding(alloc, taken)
+    }
+
+    /// Gives back values that are counted from the start, in place of all that there are.
+    pub fn give_from_start(&mut self, values: NotedPlaces<GlyphPlace, V, A>)
+        ensures { self.new ≡ record self.old { from_start = values.now } }
+    {
+        self.from_start = values.into_places();
     }
 }
 

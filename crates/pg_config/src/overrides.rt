@@ -5,9 +5,13 @@ ghost use Rattle.pg_layout.specs.Borders.{no_border};
 ghost use Rattle.pg_layout.specs.Keys.{by_place, in_row, in_column};
 ghost use Rattle.pg_layout.specs.Places.{IsAscending, has_key};
 ghost use Rattle.pg_config.specs.Inside.CrossingMarks.{with_all};
+ghost use Rattle.pg_config.specs.LineGlyphs.{with_glyphs, with_line_crossings};
 ghost use Rattle.pg_config.specs.Overrides.{no_overrides, on_lines, with_border, has_glyph, with_row_line, horizontal_override, vertical_override, crossing_override, overrides_row, overrides_column, sets_rows, sets_columns};
 
+use crate::line_glyphs::LinePlace;
 use crate::lines::Lines;
+use crate::noted_places::NotedPlaces;
+use crate::offsets::GlyphPlace;
 use pg_layout::{Border, ColumnPlace, HorizontalLine, Places, Position};
 use std::alloc::{AllocError, Allocator, Global};
 use std::marker::Model;
@@ -130,6 +134,26 @@ impl<A: Allocator + Clone> Overrides<char, A> {
         // Shows that they stand in order.
         self.lines.crossings.places().stand_in_order();
         let done = self.lines.put_all_crossings(glyphs);
+        self.lines.settle(done.is_ok());
+        done
+    }
+
+    /// Puts characters at their places in a row line: those at crossings here, the others among these
+    /// glyphs of horizontals, whose changes aren't settled then.
+    ///
+    /// Where memory is refused, no crossing changes.
+    pub fn set_over(
+        &mut self,
+        glyphs: &mut NotedPlaces<GlyphPlace, char, A>,
+        row: usize,
+        over: &[(Option<LinePlace>, char)],
+    ) -> Result<(), AllocError>
+        ensures glyphs { OnOk result (glyphs.new.now ≡ with_glyphs row over.now glyphs.old.now) }
+        ensures before { glyphs.new.before ≡ glyphs.old.before }
+        ensures ok { OnOk result (self.new ≡ record self.old { crossings = with_line_crossings row over.now self.old.crossings }) }
+        ensures err { OnErr result (self.new ≡ self.old) }
+    {
+        let done = self.lines.put_line_glyphs(glyphs, row, over);
         self.lines.settle(done.is_ok());
         done
     }

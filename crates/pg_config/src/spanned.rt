@@ -18,6 +18,7 @@ use std::marker::Model;
 mod borders;
 mod colors;
 mod crossings;
+mod line_glyphs;
 mod margins;
 mod offsets;
 mod spans;

@@ -4,7 +4,7 @@ use crate::fault::ToldFault;
 use crate::named_places::{colors_told, glyphs_told};
 use crate::words::Words;
 use pg_config::SpannedConfig;
-use pg_layout::{Border, Borders, HorizontalLine};
+use pg_layout::{Border, Borders, EvenDimension, HorizontalLine};
 use std::alloc::Allocator;
 
 // The borders of a look, by its name.
@@ -96,4 +96,27 @@ pub(crate) fn tell_span_crossings<A: Allocator + Copy>(
     let rows = words.number()?;
     let columns = words.number()?;
     Ok(config.set_span_crossings(alloc, (rows, columns), words.last_borders()?)?)
+}
+
+/// Tells of characters over the glyphs of a row line, by the row line, the rows of a table, the widths of
+/// its columns and the first column of the line that has one.
+pub(crate) fn tell_line_glyphs<A: Allocator + Copy>(
+    config: &mut SpannedConfig<A>,
+    alloc: A,
+    mut words: Words<'_>,
+) -> Result<(), ToldFault> {
+    let row = words.number()?;
+    let rows = words.number()?;
+    let mut widths = Vec::new(alloc);
+    for width in words.word()?.split(',') {
+        widths.push(Words::new(width).last_number()?)?;
+    }
+    let size = (rows, widths.len());
+    let first = words.number()?;
+    let dimension = EvenDimension { widths, height: 1 };
+    let mut glyphs = Vec::new(alloc);
+    for glyph in words.last()?.chars() {
+        glyphs.push(glyph)?;
+    }
+    Ok(config.set_line_glyphs(alloc, row, size, &dimension, first, &glyphs)?)
 }

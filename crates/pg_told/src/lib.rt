@@ -24,6 +24,8 @@
 //! - `borders`, `border` and `row_line`, and those for colours, name the places that have a value, as
 //!   `left=|`. The others have none. `borders` may name a look instead, and so may `span_crossings`,
 //!   which has the rows and the columns of a table before it.
+//! - `line_glyphs 1 2 3,5 0 ab` has the row line, the rows of a table, the widths of its columns, the
+//!   first column of the line, and the characters.
 #![tactic(auto)]
 
 mod borders;
@@ -65,6 +67,7 @@ pub fn tell<A: Allocator + Copy>(
         "border_color" => borders::tell_border_color(config, alloc, words),
         "row_line" => borders::tell_row_line(config, words),
         "span_crossings" => borders::tell_span_crossings(config, alloc, words),
+        "line_glyphs" => borders::tell_line_glyphs(config, alloc, words),
         "column_span" | "row_span" => places::tell_span(config, name, words),
         "horizontal_char" | "vertical_char" => places::tell_glyph(config, name, words),
         "horizontal_color" | "vertical_color" => places::tell_color(config, alloc, name, words),

@@ -1,0 +1,71 @@
+-- Characters over the glyphs of a row line, one for each column of the terminal.
+use Rattle.std.specs.Prelude.{ℕ, ◌+◌, ◌-◌, ◌^◌, Bool, nat_lt, List, [], ◌∷◌, Option, Some, None, sum_by, count_by, if◌then◌else◌}
+use Rattle.std.specs.List.{find, range_with_len}
+use Rattle.pg_layout.specs.Keys.{by_place}
+use Rattle.pg_layout.specs.Places.{with_place}
+use Rattle.pg_layout.specs.Position.{at}
+use Rattle.pg_layout.specs.declared.position.Position.{Position}
+use Rattle.pg_config.specs.Config.{Config, has_horizontal, has_vertical}
+use Rattle.pg_config.specs.Offsets.{by_glyph, glyph_at}
+use Rattle.pg_config.specs.declared.line_glyphs.LinePlace.{LinePlace}
+use Rattle.pg_config.specs.declared.line_glyphs.LinePlace.TheVariants.{Glyph, Crossing}
+use Rattle.pg_config.specs.declared.offsets.GlyphPlace.{GlyphPlace}
+
+-- how many columns of a row line stand before those of column c: the widths of the columns left of it, and the column lines
+-- between them and left of it that are there, but for column line 0
+abbrev pub first_of_column : Config → ℕ → (ℕ → ℕ) → ℕ → ℕ
+first_of_column config columns width c = sum_by width (range_with_len 0 c) + count_by (λ x. has_vertical config x columns) (range_with_len 1 c)
+
+-- column c ends behind column k of the line
+abbrev pub ends_behind : Config → ℕ → (ℕ → ℕ) → ℕ → ℕ → Bool
+ends_behind config columns width k c = nat_lt k (first_of_column config columns width c + width c)
+
+-- where column k of the line lies, if column c is the first one that ends behind it
+abbrev pub place_in : Config → ℕ → (ℕ → ℕ) → ℕ → Option ℕ → Option LinePlace
+place_in config columns width k None = None
+place_in config columns width k (Some c) =
+    Some (if nat_lt k (first_of_column config columns width c) then Crossing c else Glyph c (k - first_of_column config columns width c))
+
+-- Where column k of a row line lies, counted from the first glyph of column 0: at a glyph of a horizontal, or at the crossing with a
+-- column line that is there. Behind the last column there is no such place, nor where k has more than 64 bits.
+unfoldable pub line_place : Config → ℕ → (ℕ → ℕ) → ℕ → Option LinePlace
+line_place config columns width k =
+    if nat_lt k (2 ^ 64) then place_in config columns width k (find (ends_behind config columns width k) (range_with_len 0 columns)) else None
+
+-- the characters, each with its place, the first one at column k
+abbrev pub over_line : (ℕ → Option LinePlace) → ℕ → List ℕ → List (Option LinePlace × ℕ)
+over_line place k [] = []
+over_line place k (g ∷ gs) = (place k, g) ∷ over_line place (k + 1) gs
+
+-- a character at a glyph of a horizontal of row line r
+abbrev pub with_glyph : ℕ → Option LinePlace → ℕ → List (GlyphPlace × ℕ) → List (GlyphPlace × ℕ)
+with_glyph r None g es = es
+with_glyph r (Some (Glyph c i)) g es = with_place by_glyph (glyph_at (at r c) i) g es
+with_glyph r (Some (Crossing c)) g es = es
+
+-- a character at a crossing of row line r
+abbrev pub with_crossing : ℕ → Option LinePlace → ℕ → List (Position × ℕ) → List (Position × ℕ)
+with_crossing r None g es = es
+with_crossing r (Some (Glyph c i)) g es = es
+with_crossing r (Some (Crossing c)) g es = with_place by_place (at r c) g es
+
+-- all of them, one after another
+abbrev pub with_glyphs : ℕ → List (Option LinePlace × ℕ) → List (GlyphPlace × ℕ) → List (GlyphPlace × ℕ)
+with_glyphs r [] es = es
+with_glyphs r (o ∷ over) es = with_glyphs r over (with_glyph r o.0 o.1 es)
+
+abbrev pub with_line_crossings : ℕ → List (Option LinePlace × ℕ) → List (Position × ℕ) → List (Position × ℕ)
+with_line_crossings r [] es = es
+with_line_crossings r (o ∷ over) es = with_line_crossings r over (with_crossing r o.0 o.1 es)
+
+abbrev pub with_over : ℕ → List (Option LinePlace × ℕ) → Config → Config
+with_over r over config = record config {
+  horizontal_chars = record config.horizontal_chars { from_start = with_glyphs r over config.horizontal_chars.from_start };
+  overrides = record config.overrides { crossings = with_line_crossings r over config.overrides.crossings };
+}
+
+-- Row line r of a table of so many rows and columns of these widths, with these characters over its glyphs from column k on. A line
+-- that isn't there has no glyph.
+unfoldable pub with_line_glyphs : ℕ → ℕ → ℕ → (ℕ → ℕ) → ℕ → List ℕ → Config → Config
+with_line_glyphs r rows columns width k glyphs config =
+    if has_horizontal config r rows then with_over r (over_line (line_place config columns width) k glyphs) config else config

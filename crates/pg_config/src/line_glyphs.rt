@@ -1,0 +1,140 @@
+//! Characters over the glyphs of a row line, and where they stand.
+
+ghost use Rattle.std.specs.Prelude.{◌≡◌, ◌+◌, ◌&&◌, nat_lt, OnOk, IfOk};
+ghost use Rattle.pg_config.specs.Config.{has_vertical};
+ghost use Rattle.pg_config.specs.LineGlyphs.{line_place, over_line, with_glyph, with_crossing, with_glyphs, with_line_crossings};
+ghost use Rattle.pg_config.specs.Overrides.{HasColumns};
+
+use crate::lines::put_crossing;
+use crate::noted_places::NotedPlaces;
+use crate::offsets::GlyphPlace;
+use crate::spanned::SpannedConfig;
+use pg_layout::{Dimension, Position};
+use std::alloc::{AllocError, Allocator};
+
+/// What one column of a row line is.
+#[derive(Debug, Clone, Copy, PartialEq, Eq)]
+pub enum LinePlace {
+    /// The glyph of the horizontal of this column with this number, counted from the left.
+    Glyph(usize, usize),
+    /// The crossing with this column line.
+    Crossing(usize),
+}
+
+// What column `first + i` of a row line is, in a table of so many columns.
+#[tactic(auto, unfolding(crate::specs::LineGlyphs::line_place))]
+fn place_over<A: Allocator, D: Dimension>(
+    config: &SpannedConfig<A>,
+    columns: usize,
+    dimension: &D,
+    first: usize,
+    i: usize,
+) -> Option<LinePlace>
+    ensures { result ≡ line_place config.now columns (D.width dimension.now) (first + i) }
+{
+    let k = first.checked_add(i)?;
+    line_place(config, columns, dimension, k)
+}
+
+// What column `k` of a row line is, counted from the first glyph of column 0.
+fn line_place<A: Allocator, D: Dimension>(
+    config: &SpannedConfig<A>,
+    columns: usize,
+    dimension: &D,
+    k: usize,
+) -> Option<LinePlace>
+    ensures { result ≡ line_place config.now columns (D.width dimension.now) k }
+{
+    let mut rest = k;
+    for column in 0..columns {
+        let line = usize::from(has_line_before(config, columns, column));
+        if rest < line {
+            return Some(LinePlace::Crossing(column));
+        }
+        let number = rest - line;
+        let width = dimension.get_width(column);
+        if number < width {
+            return Some(LinePlace::Glyph(column, number));
+        }
+        rest = number - width;
+    }
+    None
+}
+
+// Whether a column line stands between this column and the one before it.
+fn has_line_before<A: Allocator>(config: &SpannedConfig<A>, columns: usize, column: usize) -> bool
+    ensures { result ≡ (nat_lt 0 column && has_vertical config.now column columns) }
+{
+    0 < column && config.has_vertical(column, columns)
+}
+
+// These characters, each with its place, the first one at column `first` of a row line.
+pub(crate) fn over_line<A: Allocator + Copy, D: Dimension>(
+    alloc: A,
+    config: &SpannedConfig<A>,
+    columns: usize,
+    dimension: &D,
+    first: usize,
+    glyphs: &[char],
+) -> Result<Vec<(Option<LinePlace>, char), A>, AllocError>
+    ensures over { IfOk result (λ over. over.items ≡ over_line (line_place config.now columns (D.width dimension.now)) first glyphs.now) }
+{
+    let mut over = Vec::new(alloc);
+    for glyph in glyphs {
+        let place = place_over(config, columns, dimension, first, over.len());
+        over.push((place, *glyph))?;
+    }
+    Ok(over)
+}
+
+// Puts the characters at their places in a row line, or some of them where memory is refused.
+//
+// Each column of a crossing is listed, as in all `Overrides`.
+pub(crate) fn put_over<A: Allocator + Clone>(
+    glyphs: &mut NotedPlaces<GlyphPlace, char, A>,
+    crossings: &mut NotedPlaces<Position, char, A>,
+    columns: &mut NotedPlaces<usize, (), A>,
+    row: usize,
+    over: &[(Option<LinePlace>, char)],
+) -> Result<(), AllocError>
+    requires has_columns { HasColumns columns.old.now crossings.old.now }
+    ensures glyphs { OnOk result (glyphs.new.now ≡ with_glyphs row over.now glyphs.old.now) }
+    ensures crossings { OnOk result (crossings.new.now ≡ with_line_crossings row over.now crossings.old.now) }
+    ensures has_columns { OnOk result (HasColumns columns.new.now crossings.new.now) }
+    ensures before { glyphs.new.before ≡ glyphs.old.before }
+    ensures before_crossings { crossings.new.before ≡ crossings.old.before }
+    ensures before_columns { columns.new.before ≡ columns.old.before }
+{
+    for (place, glyph) in over {
+        put_one(glyphs, crossings, columns, row, *place, *glyph)?;
+    }
+    Ok(())
+}
+
+// Puts a character at its place in a row line, if it has one.
+fn put_one<A: Allocator + Clone>(
+    glyphs: &mut NotedPlaces<GlyphPlace, char, A>,
+    crossings: &mut NotedPlaces<Position, char, A>,
+    columns: &mut NotedPlaces<usize, (), A>,
+    row: usize,
+    place: Option<LinePlace>,
+    glyph: char,
+) -> Result<(), AllocError>
+    requires has_columns { HasColumns columns.old.now crossings.old.now }
+    ensures glyphs { OnOk result (glyphs.new.now ≡ with_glyph row place glyph glyphs.old.now) }
+    ensures crossings { OnOk result (crossings.new.now ≡ with_crossing row place glyph crossings.old.now) }
+    ensures has_columns { OnOk result (HasColumns columns.new.now crossings.new.now) }
+    ensures before { glyphs.new.before ≡ glyphs.old.before }
+    ensures before_crossings { crossings.new.before ≡ crossings.old.before }
+    ensures before_columns { columns.new.before ≡ columns.old.before }
+{
+    match place {
+        Some(LinePlace::Glyph(col, number)) => {
+            glyphs.put(GlyphPlace::new(Position { row, col }, number), Some(glyph))
+        }
+        Some(LinePlace::Crossing(col)) => {
+            put_crossing(crossings, columns, Position { row, col }, Some(glyph))
+        }
+        None => Ok(()),
+    }
+}
