@@ -1,11 +1,12 @@
 #!/usr/bin/env python3
-"""Random texts, and what becomes of them within widths by an implementation of its own.
+"""Random texts and tables within widths, and what becomes of them by an implementation of its own.
 
-    oracles/fitting.py 10000 > texts      sections of crates/pg_fit_cases
+    oracles/fitting.py texts 10000 > texts      sections of crates/pg_fit_cases
+    oracles/fitting.py tables 1000 > tables     sections of crates/pg_grid_cases
 
 `(cd crates/pg_fit_cases && rt try < ../../texts)` then makes each of them by the library, and tells what is
-otherwise. A second argument is the seed. Characters as a reader counts them are those of the package `regex`,
-widths are worked out here, from the Unicode data of Python.
+otherwise; of tables likewise, in `crates/pg_grid_cases`. A third argument is the seed. Characters as a reader
+counts them are those of the package `regex`, widths are worked out here, from the Unicode data of Python.
 """
 import random
 import sys
@@ -163,6 +164,100 @@ def texts(count):
         tell(visible(text))
 
 
+def narrowed(room, ranges):
+    """Widths within a room: the greatest level at which they fit, and what is left to the first narrowed ones."""
+    def share(level, r):
+        return max(r[0], min(r[1], level))
+
+    level = max((r[1] for r in ranges), default=0)
+    while level > 0 and sum(share(level, r) for r in ranges) > room:
+        level -= 1
+    widths = [share(level, r) for r in ranges]
+    left = max(0, room - sum(widths))
+    for k, r in enumerate(ranges):
+        if left > 0 and widths[k] < r[1] and share(level + 1, r) > widths[k]:
+            widths[k] += 1
+            left -= 1
+    return widths
+
+
+def block_width(text):
+    return max(width(line) for line in text.split("\n"))
+
+
+def shown(rows, widths, heights, sides):
+    """The picture of a table with ASCII borders."""
+    edge = "+" + "".join("-" * w + "+" for w in widths)
+    lines = [edge]
+    for row, height in zip(rows, heights):
+        for k in range(height):
+            line = "|"
+            for text, w in zip(row, widths):
+                parts = text.split("\n")
+                part = parts[k] if k < len(parts) else ""
+                line += " " * sides + part + " " * (w - sides - width(part)) + "|"
+            lines.append(line)
+        lines.append(edge)
+    return lines
+
+
+def tables(count):
+    global PIECES
+    # what joins with a neighbour, or is a control character, is tried by texts alone
+    PIECES = [p for p in PIECES if not any(unicodedata.category(c) == "Cc" and c != "\n" or c in LAM + ALEF for c in p)]
+    for n in range(count):
+        columns, sides = random.randrange(1, 4), random.randrange(3)
+        rows = [[random_text(10) for _ in range(columns)] for _ in range(random.randrange(1, 4))]
+        total = random.randrange(30)
+        how = random.choice(["anywhere", "words", "cut …", "cut ..."])
+        limits = [random.randrange(1, 20) for _ in range(random.randrange(columns + 1))]
+
+        def narrowest(text):
+            if how.startswith("cut"):
+                return min(block_width(text), width(how[4:]))
+            return min(block_width(text), least(text, how == "words"))
+
+        ranges = []
+        for k in range(columns):
+            low = 2 * sides + max(narrowest(row[k]) for row in rows)
+            natural = 2 * sides + max(block_width(row[k]) for row in rows)
+            limit = limits[k] if k < len(limits) else natural
+            ranges.append((low, max(low, min(natural, limit))))
+        beside = columns + 1
+        widths = narrowed(max(0, total - beside), ranges)
+
+        def fitted(text, w):
+            room = max(0, w - 2 * sides)
+            if block_width(text) <= room:
+                return text
+            if how.startswith("cut"):
+                return "\n".join(cut(text, room, how[4:]))
+            return "\n".join(wrap(text, room, how == "words"))
+
+        rows = [[(text, fitted(text, w)) for text, w in zip(row, widths)] for row in rows]
+        made = [[cell[1] for cell in row] for row in rows]
+        final = [2 * sides + max(block_width(row[k]) for row in made) for k in range(columns)]
+        heights = [max(len(text.split("\n")) for text in row) for row in made]
+        print(f": table {n}\nnatural {final} {heights}")
+        for row in rows:
+            print("|" + "|".join(written_cell(cell[0]) for cell in row) + "|")
+        for line in shown(made, final, heights, sides):
+            print("= " + line.replace(" ", "␣"))
+        print(f"borders ascii\npadding all {sides} {sides} 0 0")
+        if limits:
+            print("limits " + " ".join(map(str, limits)))
+        print(f"within {total} {how}")
+        print(f"least {sum(r[0] for r in least_ranges(rows, sides, narrowest)) + beside}")
+
+
+def least_ranges(rows, sides, narrowest):
+    return [(2 * sides + max(narrowest(row[k][0]) for row in rows),) for k in range(len(rows[0]))]
+
+
+def written_cell(text):
+    return text.replace("\n", "␊").replace(" ", "␣")
+
+
 if __name__ == "__main__":
-    random.seed(int(sys.argv[2]) if len(sys.argv) > 2 else 1)
-    texts(int(sys.argv[1]))
+    random.seed(int(sys.argv[3]) if len(sys.argv) > 3 else 1)
+    {"texts": texts, "tables": tables}[sys.argv[1]](int(sys.argv[2]))

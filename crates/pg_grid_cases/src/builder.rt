@@ -44,6 +44,12 @@ impl<'a> Case<'a> {
                 table.set_header_line(line)?;
                 Ok(table)
             }
+            Step::SpanCrossings(borders) => Ok(table.with_span_crossings(self.alloc, borders)?),
+            Step::SetSpanCrossings(borders) => {
+                let mut table = table;
+                table.set_span_crossings(self.alloc, borders)?;
+                Ok(table)
+            }
             Step::Config => Ok(table.with_config(self.take_config())),
             Step::Colors => Ok(table.with_colors(self.take_colors())),
         }

@@ -4,6 +4,7 @@ use crate::compact;
 use crate::fault::Fault;
 use crate::grid::Grid;
 use crate::refusal::Refusal;
+use crate::within::Within;
 use pg_config::{CompactConfig, SpannedConfig};
 use pg_layout::{ColorsMap, ConstantDimension};
 use pg_table::Table;
@@ -35,6 +36,14 @@ pub(crate) struct Case<'a> {
     pub(crate) grids: Vec<Grid>,
     /// The builder that was called.
     pub(crate) table: Option<Table<String>>,
+    /// The width within which the table is drawn, where a line told it.
+    pub(crate) within: Option<Within<'a>>,
+    /// The greatest widths of its first columns.
+    pub(crate) limits: Vec<usize>,
+    /// The least width of a line, where it is told: none where it is no number.
+    pub(crate) least: Option<Option<usize>>,
+    /// Whether no text changes.
+    pub(crate) is_unchanged: bool,
     /// Whether this way told what the table gives. Before it did, that is what the way before it told.
     is_answered: bool,
     /// The picture, or its first lines where it goes on and on.
@@ -64,6 +73,10 @@ impl<'a> Case<'a> {
             colors: ColorsMap::new(alloc),
             grids: Vec::new(alloc),
             table: None,
+            within: None,
+            limits: Vec::new(alloc),
+            least: None,
+            is_unchanged: false,
             is_answered: false,
             picture: None,
             again: None,
@@ -118,6 +131,10 @@ impl<'a> Case<'a> {
         self.colors = ColorsMap::new(self.alloc);
         self.grids = Vec::new(self.alloc);
         self.table = None;
+        self.within = None;
+        self.limits = Vec::new(self.alloc);
+        self.least = None;
+        self.is_unchanged = false;
         self.is_answered = false;
         self.is_spanned = false;
     }
@@ -166,6 +183,7 @@ impl<'a> Case<'a> {
             }
             "natural" => self.natural = Some(rest),
             "table" => self.call(rest, report)?,
+            "within" | "limits" | "least" | "unchanged" => self.push_within(word, rest)?,
             "by" => self.push_grids(rest)?,
             "color" => tell_color_of_cell(&mut self.colors, self.alloc, rest)?,
             "compact" => self.compact = compact::told(self.compact, rest)?,

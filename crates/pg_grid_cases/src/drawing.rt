@@ -90,7 +90,8 @@ impl<'a> Case<'a> {
             (None, None, Some(refusal)) => self.draw_refusal(drawn, refusal, report)?,
             _ => return Err(Fault::Untold),
         }
-        Ok(self.list_sizes(drawn, report)?)
+        self.list_sizes(drawn, report)?;
+        Ok(self.look_within(drawn, report)?)
     }
 
     /// The number of the line and the name of the section that lines on faults tell.

@@ -59,8 +59,11 @@ impl Drawn<'_> {
 }
 
 impl Case<'_> {
-    /// What the test of the table answers. A builder with rows of its own has none.
+    /// What the test of the table answers. A builder with rows of its own has none, but within a width.
     pub(crate) fn fits(&self, drawn: Drawn<'_>) -> Option<Result<(), Refusal>> {
+        if let Some(within) = self.within {
+            return Some(self.fits_within(drawn, within));
+        }
         let (config, dimension, colors) = (&self.config, &self.dimension, &self.colors);
         let tested = match drawn {
             Drawn::Grid(Grid::Peekable, records) => {
@@ -92,6 +95,9 @@ impl Case<'_> {
         drawn: Drawn<'_>,
         buf: &mut String<B>,
     ) -> Result<(), Refusal> {
+        if let Some(within) = self.within {
+            return self.print_within(memory, drawn, within, buf);
+        }
         match drawn {
             Drawn::Grid(grid, records) => { Ok(self.print_by_grid(memory, grid, records, buf)?) }
             Drawn::Lent(records) => {
@@ -130,6 +136,9 @@ impl Case<'_> {
         memory: A,
         drawn: Drawn<'_>,
     ) -> Result<String<A>, Refusal> {
+        if let Some(within) = self.within {
+            return self.text_within(memory, drawn, within);
+        }
         match drawn {
             Drawn::Grid(grid, records) => Ok(self.text_by_grid(memory, grid, records)?),
             Drawn::Lent(records) => {
@@ -167,6 +176,9 @@ impl Case<'_> {
         memory: A,
         drawn: Drawn<'_>,
     ) -> Option<Result<ConstantDimension<A>, Refusal>> {
+        if let Some(within) = self.within {
+            return Some(self.sizes_within(memory, drawn, within));
+        }
         let listed = match drawn {
             Drawn::Grid(_, _) => return None,
             Drawn::Lent(records) => {

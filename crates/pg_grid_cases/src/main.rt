@@ -60,15 +60,20 @@
 //!   `</r>`, and so are `green` and `blue`; `empty` is a colour of two empty texts.
 //! - `table with_borders psql` is the next call of a builder of natural sizes. Its other calls are
 //!   `with_padding 1 1 1:* 0`, `with_alignment right`, `with_header_line` and `set_header_line` (`psql`,
-//!   `sharp`, `markdown`, or the one glyph of a line without crossings and ends); and `with_config` and
+//!   `sharp`, `markdown`, or the one glyph of a line without crossings and ends); `with_span_crossings` and
+//!   `set_span_crossings`, with borders; and `with_config` and
 //!   `with_colors`, which take the settings and the colours that were told since the last one. `table`
 //!   alone makes one, and calls nothing.
+//! - `within 44 words` narrows a table at its natural sizes to so many columns, or to `any` number of them:
+//!   `words` and `anywhere` tell where lines are broken, and `cut …` the tail of lines that are cut. `limits
+//!   any 2` are the greatest widths of its first columns. `natural` then tells the sizes of what became of
+//!   it. `least 16` is the least width of a line, or `none`, and `unchanged` tells that no text changes.
 //! - `or` begins another way to draw the same texts, in the same sizes unless others are told, with
 //!   settings, grids or a builder of its own, and the same picture or refusal unless it tells another.
 //!
 //! At the end of each way the table is drawn by each of its grids. At natural sizes it is drawn by the
 //! builder that was called, or, without a line `table`, by one that is lent all of it and then by one with
-//! rows of its own, by `with_config` and `with_colors`. The latter two have no test.
+//! rows of its own, by `with_config` and `with_colors`. The latter two have no test, but within a width.
 //!
 //! - A picture is drawn behind the text of a buffer and as a text of its own: four answers, of which one is
 //!   that of the test whether it fits and one whether it is printed. Then both calls are made again and
@@ -76,18 +81,20 @@
 //!   is printed into buffers that get no more memory, with room for each number of bytes up to its length:
 //!   three answers, each of which tells the first thing that is wrong. A beginning of the picture stands
 //!   where memory was refused, and else all of it. The streaming grid asks once for memory of its own, and
-//!   a table at its natural sizes twice, or more often where cells span others; where there are no rows or
-//!   no columns nothing asks for any. Of a
+//!   a table at its natural sizes twice, or more often where cells span others or texts are fitted to a
+//!   width; where there are no rows or no columns nothing asks for any. Of a
 //!   picture of more than 200 bytes only the last two rooms are tried, and of a table of more than 100 rows
 //!   only the rooms: one answer.
 //! - A picture that goes on and on is begun seven times, each time with more memory, and each time what the
 //!   buffer gains is a beginning of it: 29 answers, of which the last one tells that there is no text.
 //! - A refusal is what the test answers, and why both calls are refused. The buffer stays as it was, and no
-//!   request for memory comes, but for natural sizes one in each call unless spans don't fit: five answers,
-//!   or four where none is refused. Rows of several lengths are refused by the records and by the
+//!   request for memory comes, but for natural sizes one in each call unless spans don't fit, and within a
+//!   width none: five answers, or four where none is refused. Rows of several lengths are refused by the records and by the
 //!   builder with rows of its own: two answers.
 //! - Natural sizes that are told are listed, without spans with no more requests for memory than there are
 //!   lists that aren't empty, and then while each of them is refused: two answers.
+//! - The least width of a line is asked where it is told, and a table of which no text changes is fitted while
+//!   all memory is refused: an answer each.
 //! - A line below a header is also told, by either call, to a table in memory that is refused, which stays
 //!   as it was: two answers.
 //!
@@ -109,6 +116,7 @@ mod refusal;
 mod refused;
 mod sizes;
 mod step;
+mod within;
 
 use std::process::ExitCode;
 

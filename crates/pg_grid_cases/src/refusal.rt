@@ -97,16 +97,18 @@ impl Case<'_> {
         if self.has_memory {
             return Ok(());
         }
-        let requests = requests_of(drawn, refusal);
+        let requests = self.requests_of(drawn, refusal);
         report.compare(place, drawn.text_call(), memory.requests(), requests)
     }
-}
 
-// How many requests come where a table is refused so: that of the buffer; and where it is drawn at its
-// natural sizes, one for these in each of two calls, but where spans are refused, which are looked at first.
-fn requests_of(drawn: Drawn<'_>, refusal: Refusal) -> u64 {
-    match (drawn, refusal) {
-        (Drawn::Grid(_, _), _) | (_, Refusal::Spans) => 1,
-        _ => 3,
+    // How many requests come where the table is refused so: that of the buffer; and where it is drawn at
+    // its natural sizes, one for these in each of two calls, but where spans are refused, which are looked
+    // at first. Within a width totals are, too.
+    fn requests_of(&self, drawn: Drawn<'_>, refusal: Refusal) -> u64 {
+        match (drawn, refusal) {
+            _ if self.within.is_some() => 1,
+            (Drawn::Grid(_, _), _) | (_, Refusal::Spans) => 1,
+            _ => 3,
+        }
     }
 }

@@ -17,8 +17,8 @@ const SPANS: &str = "spans";
 
 impl Case<'_> {
     /// Lists the natural sizes, where they are told, with no more requests for memory than there are
-    /// lists: one for each that isn't empty, and none where there are no sizes. With spans there may be
-    /// more. Then refuses each.
+    /// lists: one for each that isn't empty, and none where there are no sizes. With spans or within a
+    /// width there may be more. Then refuses each.
     pub(crate) fn list_sizes(
         &self,
         drawn: Drawn<'_>,
@@ -46,10 +46,10 @@ impl Case<'_> {
         }
     }
 
-    /// How many requests the listing of natural sizes makes, where there are any: with spans those that
-    /// come, else one for each list.
+    /// How many requests the listing of natural sizes makes, where there are any: with spans or within a
+    /// width those that come, else one for each list.
     pub(crate) fn requests_of_sizes(&self, drawn: Drawn<'_>) -> u64 {
-        if !self.is_spanned || self.lists() == 0 {
+        if self.lists() == 0 || (!self.is_spanned && self.within.is_none()) {
             return self.lists();
         }
         let memory = Refusing::from_on(self.alloc, u64::MAX);

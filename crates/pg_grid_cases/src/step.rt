@@ -19,6 +19,10 @@ pub(crate) enum Step {
     HeaderLine(HorizontalLine<char>),
     /// `set_header_line`.
     SetHeaderLine(HorizontalLine<char>),
+    /// `with_span_crossings`.
+    SpanCrossings(Borders<char>),
+    /// `set_span_crossings`.
+    SetSpanCrossings(Borders<char>),
     /// `with_config`.
     Config,
     /// `with_colors`.
@@ -37,6 +41,8 @@ impl Step {
             "with_alignment" => Ok(Step::Alignment(words.last_horizontal()?)),
             "with_header_line" => Ok(Step::HeaderLine(line_of(rest)?)),
             "set_header_line" => Ok(Step::SetHeaderLine(line_of(rest)?)),
+            "with_span_crossings" => Ok(Step::SpanCrossings(words.last_borders()?)),
+            "set_span_crossings" => Ok(Step::SetSpanCrossings(words.last_borders()?)),
             "with_config" if rest.is_empty() => Ok(Step::Config),
             "with_colors" if rest.is_empty() => Ok(Step::Colors),
             _ => Err(Fault::Unknown),

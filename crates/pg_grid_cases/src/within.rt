@@ -1,0 +1,173 @@
+//! Tables within a width.
+
+use crate::case::Case;
+use crate::drawn::Drawn;
+use crate::fault::Fault;
+use crate::refusal::Refusal;
+use pg_layout::{ColorsMap, ConstantDimension, VecRecords};
+use pg_table::{Breaking, FittedTable, NaturalTable, Overflow};
+use pg_testing::refusing::Refusing;
+use pg_told::report::Report;
+use std::alloc::{AllocError, Allocator, Global};
+
+/// What stands for no limit.
+const ANY: &str = "any";
+
+/// What a line `within` says.
+#[derive(Debug, Clone, Copy)]
+pub(crate) struct Within<'a> {
+    width: usize,
+    how: Overflow<'a>,
+}
+
+impl<'a> Within<'a> {
+    /// What a line says, as `44 words`.
+    pub(crate) fn told(line: &'a str) -> Result<Within<'a>, Fault> {
+        let Some((width, how)) = line.split_once(' ') else {
+            return Err(Fault::Unknown);
+        };
+        Ok(Within {
+            width: limit_told(width)?,
+            how: overflow_told(how)?,
+        })
+    }
+}
+
+// How many columns a word says, or that any number will do.
+fn limit_told(word: &str) -> Result<usize, Fault> {
+    if word == ANY {
+        return Ok(usize::MAX);
+    }
+    word.parse::<usize>().map_err(|_| Fault::Unknown)
+}
+
+// What becomes of texts that are too wide.
+fn overflow_told(words: &str) -> Result<Overflow<'_>, Fault> {
+    match words {
+        "anywhere" => Ok(Overflow::Wrap(Breaking::Anywhere)),
+        "words" => Ok(Overflow::Wrap(Breaking::BetweenWords)),
+        _ => {
+            let tail = words.strip_prefix("cut ").ok_or(Fault::Unknown)?;
+            Ok(Overflow::Cut(tail))
+        }
+    }
+}
+
+/// The limits of columns that words tell.
+pub(crate) fn limits_told(alloc: Global, words: &str) -> Result<Vec<usize>, Fault> {
+    let mut limits = Vec::new(alloc);
+    for word in words.split(' ') {
+        limits.push(limit_told(word)?)?;
+    }
+    Ok(limits)
+}
+
+impl<'a> Case<'a> {
+    // The table within a width. A grid draws none.
+    fn fitted<'c, A: Allocator + Copy>(
+        &'c self,
+        memory: A,
+        drawn: Drawn<'c>,
+        within: Within<'a>,
+    ) -> Result<FittedTable<'c, &'c VecRecords<String>, ColorsMap, Global, A>, Refusal> {
+        let limits = self.limits.as_slice();
+        let fitted = match drawn {
+            Drawn::Owned(table) => table.within_limits(memory, within.width, limits, within.how),
+            Drawn::Lent(records) | Drawn::Grid(_, records) => {
+                NaturalTable::new(records, &self.config, &self.colors).within_limits(
+                    memory,
+                    within.width,
+                    limits,
+                    within.how,
+                )
+            }
+        };
+        fitted.map_err(Refusal::from)
+    }
+
+    /// What the test of the table within a width answers.
+    pub(crate) fn fits_within(&self, drawn: Drawn<'_>, within: Within<'a>) -> Result<(), Refusal> {
+        let fitted = self.fitted(self.alloc, drawn, within)?;
+        Ok(fitted.fits(self.alloc)?)
+    }
+
+    /// Appends the table within a width, with `memory` for all but the buffer.
+    pub(crate) fn print_within<A: Allocator + Copy, B: Allocator>(
+        &self,
+        memory: A,
+        drawn: Drawn<'_>,
+        within: Within<'a>,
+        buf: &mut String<B>,
+    ) -> Result<(), Refusal> {
+        let fitted = self.fitted(memory, drawn, within)?;
+        Ok(fitted.print(memory, buf)?)
+    }
+
+    /// The text of the table within a width, whose memory, and all other, is `memory`.
+    pub(crate) fn text_within<A: Allocator + Copy>(
+        &self,
+        memory: A,
+        drawn: Drawn<'_>,
+        within: Within<'a>,
+    ) -> Result<String<A>, Refusal> {
+        let fitted = self.fitted(memory, drawn, within)?;
+        Ok(fitted.to_string(memory)?)
+    }
+
+    /// The sizes of the table within a width.
+    pub(crate) fn sizes_within<A: Allocator + Copy>(
+        &self,
+        memory: A,
+        drawn: Drawn<'_>,
+        within: Within<'a>,
+    ) -> Result<ConstantDimension<A>, Refusal> {
+        let fitted = self.fitted(memory, drawn, within)?;
+        Ok(fitted.natural_dimension(memory)?)
+    }
+
+    // The least width of a line.
+    fn least_width(&self, drawn: Drawn<'_>, within: Within<'a>) -> Option<usize> {
+        match drawn {
+            Drawn::Owned(table) => table.least_width(within.how),
+            Drawn::Lent(records) | Drawn::Grid(_, records) => {
+                NaturalTable::new(records, &self.config, &self.colors).least_width(within.how)
+            }
+        }
+    }
+
+    /// Asks for the least width of a line, where it is told, and where nothing changes for the table
+    /// while all memory is refused.
+    pub(crate) fn look_within(
+        &self,
+        drawn: Drawn<'_>,
+        report: &mut Report,
+    ) -> Result<(), AllocError> {
+        let Some(within) = self.within else {
+            return Ok(());
+        };
+        if let Some(told) = self.least {
+            let least = self.least_width(drawn, within);
+            report.compare(self.place(), "least_width", least, told)?;
+        }
+        if self.is_unchanged {
+            let memory = Refusing::from_on(self.alloc, 0);
+            let refused = self.fitted(&memory, drawn, within).err();
+            report.compare(self.place(), "within", refused, None)?;
+        }
+        Ok(())
+    }
+
+    /// Takes what a line says of a table within a width: `within`, `limits`, `least` or `unchanged`.
+    pub(crate) fn push_within(&mut self, word: &str, rest: &'a str) -> Result<(), Fault> {
+        if self.natural.is_none() {
+            return Err(Fault::Unknown);
+        }
+        match word {
+            "within" => self.within = Some(Within::told(rest)?),
+            "limits" => self.limits = limits_told(self.alloc, rest)?,
+            "least" => self.least = Some(rest.parse::<usize>().ok()),
+            _ => self.is_unchanged = true,
+        }
+        Ok(())
+    }
+}
