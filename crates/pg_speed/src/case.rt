@@ -274,6 +274,22 @@ const SQUARES400: Table = Table {
     ..SQUARES100
 };
 
+const SQUARES1000: Table = Table {
+    rows: 1000,
+    columns: 1000,
+    ..SQUARES100
+};
+
+const CROSSED100: Table = Table {
+    telling: Telling::Crossings,
+    ..SQUARES100
+};
+
+const CROSSED400: Table = Table {
+    telling: Telling::Crossings,
+    ..SQUARES400
+};
+
 const TALL_CELLS160: Table = Table {
     height: 160,
     ..TALL_CELLS
@@ -290,7 +306,7 @@ pub(crate) const COMMON: usize = 29;
 
 /// All cases, as they are listed. Behind the common ones stand tables of other sizes, some of which take
 /// long, and tables that are printed by other calls.
-pub(crate) static CASES: [Case; 57] = [
+pub(crate) static CASES: [Case; 62] = [
     Case("peek_basic", Grid::Peekable, BASIC),
     Case("peek_spans", Grid::Peekable, SPANS),
     Case("peek_colored", Grid::Colored, COLORED),
@@ -356,6 +372,11 @@ pub(crate) static CASES: [Case; 57] = [
     Case("told_borders100000", Grid::Told, BORDERS1000),
     Case("told_rows100000", Grid::Told, ROWS1000),
     Case("told_spans160000", Grid::Told, SQUARES400),
+    Case("told_crossings10000", Grid::Told, CROSSED100),
+    Case("told_crossings160000", Grid::Told, CROSSED400),
+    Case("table_spans10000", Grid::Natural, SQUARES100),
+    Case("table_spans160000", Grid::Natural, SQUARES400),
+    Case("table_spans1000000", Grid::Natural, SQUARES1000),
     Case("peek_tallcells160", Grid::Peekable, TALL_CELLS160),
     Case("iter_tallcells160", Grid::Iter, TALL_CELLS160),
     Case("peek_box209", Grid::Peekable, BOX209),

@@ -62,6 +62,8 @@ pub(crate) enum Telling {
     Borders,
     /// An alignment of each cell, row by row, and then one of each row.
     RowsAfterCells,
+    /// The crossings on the edges of cells that span others, in ASCII.
+    Crossings,
 }
 
 impl Dimension for Table {

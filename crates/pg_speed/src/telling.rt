@@ -3,7 +3,7 @@
 use crate::settings::color_cell;
 use crate::table::{Table, Telling};
 use pg_config::SpannedConfig;
-use pg_layout::{AlignmentHorizontal, Border, ColorsMap, Entity, Indent, Position, Sides};
+use pg_layout::{AlignmentHorizontal, Border, Borders, ColorsMap, Entity, Indent, Position, Sides};
 use std::alloc::{AllocError, Global};
 
 /// How many cells on the next one is that is told of, where they are scattered. It has no divisor in
@@ -23,6 +23,10 @@ pub(crate) fn tell(
         Telling::RowsAfterCells => {
             align_cells(config, table)?;
             align_rows(config, table.rows)
+        }
+        Telling::Crossings => {
+            let size = (table.rows, table.columns);
+            config.set_span_crossings(alloc, size, Borders::ascii())
         }
         _ => tell_cells(alloc, table, config, colors),
     }
