@@ -1,9 +1,11 @@
 //! The arguments of the program.
 
+use clap::error::ErrorKind;
 use clap::{Arg, ArgAction, ArgMatches, Command};
 use pg_layout::AlignmentHorizontal;
 use ruled_view::{Bounds, Breaking, Format, Look, Options, Overflow};
 use std::alloc::{AllocError, Global};
+use std::env::VarError;
 use std::{env, io};
 
 static LOOKS: [&str; 9] = [
@@ -144,11 +146,24 @@ fn with_bounds<'a>(alloc: Global, command: Command<'a>) -> Result<Command<'a>, A
     command.arg(width)?.arg(limits)?.arg(wrap)?.arg(cut)
 }
 
+// The command with the form in which records are shown.
+fn with_form<'a>(alloc: Global, command: Command<'a>) -> Result<Command<'a>, AllocError> {
+    let vertical = flag(
+        alloc,
+        "vertical",
+        "Each record is a block of its own, with a row for each field: its name and its text",
+    )
+    .conflicts_with("no-header")?
+    .conflicts_with("markdown")?;
+    command.arg(vertical)
+}
+
 fn command<'a>(alloc: Global) -> Result<Command<'a>, AllocError> {
     let command = Command::new(alloc, "ruled")
         .about("Shows rows of separated values or JSON as a table")
         .version("0.1.0");
-    with_bounds(alloc, with_shown(alloc, with_input(alloc, command)?)?)
+    let command = with_shown(alloc, with_input(alloc, command)?)?;
+    with_form(alloc, with_bounds(alloc, command)?)
 }
 
 // The look of this name.
@@ -300,6 +315,7 @@ fn table_of(
         columns: names_of(alloc, found.get_strs("columns"))?,
         sides: sides_of(alloc, found.get_strs("align"))?,
         head: found.get_one::<u32>("head"),
+        is_vertical: found.get_flag("vertical"),
         bounds: bounds_of(alloc, found, columns)?,
         is_raw: found.get_flag("raw"),
         is_markdown,
@@ -308,9 +324,12 @@ fn table_of(
 }
 
 // How many columns the terminal has, by the variable that says it.
-fn columns_told(rt: &HostRuntime) -> Option<u32> {
-    let told = env::var(rt, "COLUMNS").ok()?;
-    told.parse::<u32>().ok()
+fn columns_told(rt: &HostRuntime) -> io::Result<Option<u32>> {
+    match env::var(rt, "COLUMNS") {
+        Ok(told) => Ok(told.parse::<u32>().ok()),
+        Err(VarError::OutOfMemory) => Err(io::ErrorKind::OutOfMemory.into()),
+        Err(_) => Ok(None),
+    }
 }
 
 /// Reads the arguments, and tells what clap has to say of them.
@@ -319,13 +338,16 @@ pub(crate) fn read_arguments(rt: &HostRuntime) -> io::Result<Asked> {
     let command = command(rt.alloc())?;
     let found = match command.try_get_matches_from(words.as_slice()) {
         Ok(found) => found,
+        Err(error) if matches!(error.kind(), ErrorKind::OutOfMemory) => {
+            return Err(io::ErrorKind::OutOfMemory.into());
+        }
         Err(error) => {
             error.print(rt)?;
             return Ok(Asked::Told(error.exit_code() as u8));
         }
     };
     match format_asked(&found) {
-        Ok(format) => Ok(Asked::Table(table_of(rt.alloc(), &found, format, columns_told(rt))?)),
+        Ok(format) => Ok(Asked::Table(table_of(rt.alloc(), &found, format, columns_told(rt)?)?)),
         Err(told) => {
             eprintln!(rt; "ruled: {told}")?;
             Ok(Asked::Told(2))

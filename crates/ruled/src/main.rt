@@ -39,6 +39,10 @@ fn main(rt: HostRuntime) -> ExitCode {
     let status = match read_arguments(&rt) {
         Ok(Asked::Table(wanted)) => show(&rt, &wanted),
         Ok(Asked::Told(status)) => status,
+        Err(error) if error.kind() == ErrorKind::OutOfMemory => {
+            let _ = eprintln!(rt; "ruled: out of memory");
+            4
+        }
         Err(_) => {
             let _ = eprintln!(rt; "ruled: the arguments can't be read");
             2

@@ -28,6 +28,7 @@ impl Case {
             columns: Vec::new(alloc),
             sides: Vec::new(alloc),
             head: None,
+            is_vertical: false,
             bounds: Bounds {
                 width: None,
                 limits: Vec::new(alloc),

@@ -51,6 +51,7 @@ pub(crate) fn set_option(
     match name {
         "no-header" => options.has_header = false,
         "raw" => options.is_raw = true,
+        "vertical" => options.is_vertical = true,
         "markdown" => {
             options.look = Look::Markdown;
             options.is_markdown = true;

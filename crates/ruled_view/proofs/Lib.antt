@@ -1,5 +1,6 @@
 mod Even
 mod Fields
+mod MoreBlocks
 mod MoreColumns
 mod Shown
 mod Tables

@@ -1,3 +1,4 @@
+pub mod Blocks
 pub mod Bounds
 pub mod Columns
 pub mod Escapes

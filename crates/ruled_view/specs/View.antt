@@ -9,6 +9,7 @@ use Rattle.pg_layout.specs.declared.sides.Indent.{Indent}
 use Rattle.pg_config.specs.Config.{Config, default_config}
 use Rattle.pg_config.specs.Settings.{with_setting}
 use Rattle.pg_fit.specs.Controls.{visible_text}
+use Rattle.ruled_view.specs.Blocks.{blocks_fault, blocks_of}
 use Rattle.ruled_view.specs.Escapes.{escaped_text}
 use Rattle.ruled_view.specs.Columns.{column_fault, places_of}
 use Rattle.ruled_view.specs.Input.{input_fault, rows_in}
@@ -70,13 +71,17 @@ sided_config options rows =
     let config : Config = look_config options.look in
     record config { alignment_horizontal = with_sides (side_of options.has_header options.sides.items rows) (columns_of rows) config.alignment_horizontal }
 
--- the text of the rows that are shown: their table
+-- the text of the rows that are shown: their table, or a block for each record
 abbrev pub text_of : Options → List (List Text) → Text
-text_of options rows = text_with options.bounds (sided_config options rows) (line_in options) rows
+text_of options rows =
+    if options.is_vertical then blocks_of options.bounds (look_config options.look) rows
+    else text_with options.bounds (sided_config options rows) (line_in options) rows
 
 -- what is wrong with its sizes
 abbrev pub totals_fault : Options → List (List Text) → Option Fault
-totals_fault options rows = fault_with options.bounds (sided_config options rows) (line_in options) rows
+totals_fault options rows =
+    if options.is_vertical then blocks_fault options.bounds (look_config options.look) rows
+    else fault_with options.bounds (sided_config options rows) (line_in options) rows
 
 -- ---- bytes
 

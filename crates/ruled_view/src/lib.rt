@@ -1,6 +1,7 @@
 //! Rows of separated values as a table: bytes in, the picture of the rows that they hold out.
 #![tactic(auto)]
 
+mod blocks;
 mod bounds;
 mod columns;
 mod escapes;

@@ -73,7 +73,10 @@ pub struct Options {
     pub sides: Vec<Option<AlignmentHorizontal>>,
     /// How many rows are shown at most, besides a header.
     pub head: Option<u32>,
-    /// How wide the table may be.
+    /// Whether each row below row 0 is shown as a block of its own: a table with a row for each field, of
+    /// its name in row 0 and its text, both at the left, and an empty line below it.
+    pub is_vertical: bool,
+    /// How wide the table may be, or each block.
     pub bounds: Bounds,
     /// Whether control characters are sent as they are.
     pub is_raw: bool,

@@ -11,6 +11,7 @@ ghost use Rattle.ruled_view.specs.View.{line_in, look_config, sided_config, text
 ghost use Rattle.ruled_view.specs.declared.fault.Fault.{Fault};
 ghost use Rattle.pg_table.specs.declared.fault.TableFault.{TableFault};
 
+use crate::blocks::blocks_of;
 use crate::bounds::Bounds;
 use crate::columns::places_of;
 use crate::fault::Fault;
@@ -23,8 +24,8 @@ use pg_layout::{Entity, HorizontalLine, Indent, Sides};
 use pg_table::{Table, TableFault};
 use std::alloc::{AllocError, Global};
 
-// What a table looks like, but for the line below its header.
-fn look_config(alloc: Global, look: Look) -> Result<SpannedConfig, AllocError>
+/// What a table looks like, but for the line below its header.
+pub(crate) fn look_config(alloc: Global, look: Look) -> Result<SpannedConfig, AllocError>
     ensures { IfOk result (λ config. config ≡ look_config look) }
 {
     let (beside, none) = (Indent::spaced(1), Indent::zero());
@@ -97,8 +98,8 @@ fn picture_of(alloc: Global, bounds: &Bounds, table: &Table<String>) -> Result<S
     Ok(text)
 }
 
-// The text of the table of rows of equal length, with this line below row 0, within its bounds.
-fn text_with(
+/// The text of the table of rows of equal length, with this line below row 0, within its bounds.
+pub(crate) fn text_with(
     alloc: Global,
     bounds: &Bounds,
     config: SpannedConfig,
@@ -125,6 +126,9 @@ fn text_of(alloc: Global, options: &Options, rows: Vec<Vec<String>>) -> Result<S
     ensures text { IfOk result (λ text. string_bytes text ≡ text_of options.now (map (λ row. map string_bytes row.items) rows.items)) }
     ensures fault { Tells (totals_fault options.now (map (λ row. map string_bytes row.items) rows.items)) result }
 {
+    if options.is_vertical {
+        return blocks_of(alloc, &options.bounds, options.look, &rows);
+    }
     let config = sided_config(alloc, options, &rows)?;
     text_with(alloc, &options.bounds, config, line_in(options), rows)
 }

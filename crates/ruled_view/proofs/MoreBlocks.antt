@@ -1,0 +1,44 @@
+-- The blocks of one record more.
+use Rattle.std.proofs.Common.{◌≡◌, ◌<◌, ◌+◌, ◌∙◌, ◌∷◌, ◌++◌, ℕ, List, Option, None, Result, map, drop, length, get_or, append_assoc, sym, ap, subst}
+use Rattle.std.specs.List.{flat_map}
+use Rattle.std.specs.Option.{option_or}
+use Rattle.std.proofs.lemmas.List.{drop_more}
+use Rattle.pg_layout.specs.Text.{Text}
+use Rattle.pg_config.specs.Config.{Config}
+use Rattle.ruled_view.specs.Blocks.{block_fault, blocks_in_fault}
+use Rattle.ruled_view.specs.Faults.{Tells}
+use Rattle.ruled_view.specs.declared.bounds.Bounds.{Bounds}
+use Rattle.ruled_view.specs.declared.fault.Fault.{Fault}
+
+drop_next : {X : Type 0} (xs : List X) (i : ℕ) (x : X) → i < length xs → x ≡ get_or xs i x → drop i xs ≡ x ∷ drop (i + 1) xs
+drop_next {X} xs i x within is = drop_more xs i x within ∙ ap (λ (y : X). y ∷ drop (i + 1) xs) (sym is)
+
+-- a text with one block more
+pub text_on : {Y : Type 0} (f : List Text → Text) (view : Y → List Text) (rows : List Y) (i : ℕ) (row : Y) (text block all : Text) → i < length rows → row ≡ get_or rows i row
+    → block ≡ f (view row) → text ++ flat_map f (map view (drop i rows)) ≡ all → (text ++ block) ++ flat_map f (map view (drop (i + 1) rows)) ≡ all
+text_on {Y} f view rows i row text block all within is made before =
+    append_assoc text block (flat_map f (map view (drop (i + 1) rows)))
+    ∙ ap (λ (made : Text). text ++ (made ++ flat_map f (map view (drop (i + 1) rows)))) made
+    ∙ ap (λ (ys : List Y). text ++ flat_map f (map view ys)) (sym (drop_next rows i row within is))
+    ∙ before
+
+module _ (bounds : Bounds) (config : Config) (names : List Text) where
+  -- what is wrong from a record on is what is wrong with its block, or else with those behind it
+  fault_from : {Y : Type 0} (view : Y → List Text) (rows : List Y) (i : ℕ) (row : Y) → i < length rows → row ≡ get_or rows i row
+      → blocks_in_fault bounds config names (map view (drop i rows)) ≡ option_or (block_fault bounds config names (view row)) (blocks_in_fault bounds config names (map view (drop (i + 1) rows)))
+  fault_from {Y} view rows i row within is = ap (λ (ys : List Y). blocks_in_fault bounds config names (map view ys)) (drop_next rows i row within is)
+
+  -- where its block is right, that is what is wrong behind it
+  pub fault_on : {Y : Type 0} (view : Y → List Text) (rows : List Y) (i : ℕ) (row : Y) (all : Option Fault) → i < length rows → row ≡ get_or rows i row
+      → block_fault bounds config names (view row) ≡ None → blocks_in_fault bounds config names (map view (drop i rows)) ≡ all
+      → blocks_in_fault bounds config names (map view (drop (i + 1) rows)) ≡ all
+  fault_on view rows i row all within is none before =
+      sym (fault_from view rows i row within is ∙ ap (λ (f : Option Fault). option_or f (blocks_in_fault bounds config names (map view (drop (i + 1) rows)))) none)
+      ∙ before
+
+  -- and else what is wrong with it
+  pub fault_here : {Y Z : Type 0} (view : Y → List Text) (rows : List Y) (i : ℕ) (row : Y) (all : Option Fault) (result : Result Z Fault) → i < length rows → row ≡ get_or rows i row
+      → Tells (option_or (block_fault bounds config names (view row)) (blocks_in_fault bounds config names (map view (drop (i + 1) rows)))) result
+      → blocks_in_fault bounds config names (map view (drop i rows)) ≡ all → Tells all result
+  fault_here view rows i row all result within is told before =
+      subst (λ (f : Option Fault). Tells f result) (sym (fault_from view rows i row within is) ∙ before) told
