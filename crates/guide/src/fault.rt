@@ -1,8 +1,8 @@
 //! Why the program ends early.
 
 use pg_layout::RecordsFault;
-use pg_picture::PrintFault;
 use pg_picture::fits::Misfit;
+use pg_picture::{PrintFault, WholeFault};
 use pg_stream::StreamFault;
 use pg_table::TableFault;
 use std::alloc::{AllocError, AllocFailed};
@@ -17,6 +17,8 @@ pub(crate) enum Fault {
     Table(TableFault),
     /// A grid isn't printed.
     Print(PrintFault),
+    /// A grid isn't printed whole.
+    Whole(WholeFault),
     /// A row isn't printed.
     Stream(StreamFault),
     /// Memory was refused.
@@ -40,6 +42,12 @@ impl From<TableFault> for Fault {
 impl From<PrintFault> for Fault {
     fn from(fault: PrintFault) -> Fault {
         Fault::Print(fault)
+    }
+}
+
+impl From<WholeFault> for Fault {
+    fn from(fault: WholeFault) -> Fault {
+        Fault::Whole(fault)
     }
 }
 

@@ -12,6 +12,7 @@ mod price_list;
 mod record_blocks;
 mod streamed_rows;
 mod timetable;
+mod told_widths;
 mod word_counts;
 
 use crate::fault::Fault;
@@ -25,6 +26,7 @@ fn main(rt: HostRuntime) -> Result<(), Fault> {
     show(&rt, "timetable", &timetable::week(alloc)?)?;
     show(&rt, "streamed_rows", &streamed_rows::lists(alloc)?)?;
     show(&rt, "compact_list", &compact_list::list(alloc)?)?;
+    show(&rt, "told_widths", &told_widths::errands(alloc)?)?;
     show(&rt, "grid_calls", &grid_calls::tables(alloc)?)?;
     println!(rt; "== word_counts")?;
     word_counts::print_counts(&rt, alloc, rt.stdin())
