@@ -1,9 +1,12 @@
-//! A price list: rows with a header, printed as wide as they are.
+//! A price list: rows with a header, printed as wide as they are, the numbers at the right.
 //!
-//! All settings of a configuration are settings of a table: here the numbers stand at the right.
+//! Its contracts say that all lines are equally wide: what each function does to a table keeps its
+//! glyphs and fills one column wide.
 
-use pg_config::SpannedConfig;
-use pg_layout::{AlignmentHorizontal, Borders, Entity, HorizontalLine, Indent, Sides};
+ghost use Rattle.std.specs.Prelude.{IfOk, string_bytes};
+ghost use Rattle.pg_table.specs.Even.{IsEvenText, IsNarrowLook};
+
+use pg_layout::{AlignmentHorizontal, Borders, HorizontalLine, Indent, Sides};
 use pg_table::{Table, TableFault};
 use std::alloc::{AllocError, Global};
 
@@ -13,25 +16,53 @@ const PRICES: [[&str; 3]; 3] = [
     ["rye bread\n(sliced)", "1", "14.20"],
 ];
 
-// Borders and a space at both sides of each text; quantities and prices at the right.
-fn look(alloc: Global) -> Result<SpannedConfig, AllocError> {
-    let (space, none) = (Indent::spaced(1), Indent::zero());
-    let mut config = SpannedConfig::new(alloc);
-    config.set_borders(Borders::sharp());
-    config.set_padding(Entity::Global, Sides::new(space, space, none, none))?;
-    config.set_alignment_horizontal(Entity::Column(1), AlignmentHorizontal::Right)?;
-    config.set_alignment_horizontal(Entity::Column(2), AlignmentHorizontal::Right)?;
-    Ok(config)
+/// The table of the prices, with a line below its header.
+pub(crate) fn prices(alloc: Global) -> Result<String, TableFault>
+    ensures even { IfOk result (λ text. IsEvenText (string_bytes text)) }
+{
+    let table = with_numbers_right(spaced(framed(alloc)?))?;
+    table
+        .with_header_line(HorizontalLine::sharp())?
+        .to_string(alloc)
 }
 
-/// The table of the prices, with a line below its header.
-pub(crate) fn prices(alloc: Global) -> Result<String, TableFault> {
+// The prices between borders.
+fn framed(alloc: Global) -> Result<Table<&'static str>, TableFault>
+    ensures narrow { IfOk result (λ table. IsNarrowLook table.config) }
+{
+    Ok(Table::new(alloc, rows(alloc)?)?.with_borders(Borders::sharp()))
+}
+
+// The prices, row by row.
+fn rows(alloc: Global) -> Result<Vec<Vec<&'static str>>, AllocError> {
     let mut rows = Vec::new(alloc);
     for row in PRICES {
         rows.push(row.to_vec(alloc)?)?;
     }
-    let table = Table::new(alloc, rows)?.with_config(look(alloc)?);
+    Ok(rows)
+}
+
+// A space at both sides of each text.
+fn spaced(table: Table<&'static str>) -> Table<&'static str>
+    requires narrow { IsNarrowLook table.config }
+    ensures narrow { IsNarrowLook result.config }
+{
+    let beside = Indent { size: 1, fill: ' ' };
+    let above = Indent { size: 0, fill: ' ' };
+    table.with_padding(Sides {
+        left: beside,
+        right: beside,
+        top: above,
+        bottom: above,
+    })
+}
+
+// Quantities and prices at the right.
+fn with_numbers_right(table: Table<&'static str>) -> Result<Table<&'static str>, TableFault>
+    requires narrow { IsNarrowLook table.config }
+    ensures narrow { IfOk result (λ table. IsNarrowLook table.config) }
+{
     table
-        .with_header_line(HorizontalLine::sharp())?
-        .to_string(alloc)
+        .with_column_alignment(1, AlignmentHorizontal::Right)?
+        .with_column_alignment(2, AlignmentHorizontal::Right)
 }
