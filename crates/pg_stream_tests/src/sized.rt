@@ -14,10 +14,10 @@ use std::test::Fail;
 
 /// Rows of heights 1, 0 and 3 between ASCII borders, and what each appends. The first five lines of the body
 /// have a blank margin.
-const ROWS: [(usize, [&str; 2], &str); 3] = [
-    (1, ["a", "b"], " +-+-+\n |a|b|"),
-    (0, ["c", "d"], "\n +-+-+"),
-    (3, ["e\nf", "g"], "\n +-+-+\n |e|g|\n*|f| |\n*| | |"),
+const ROWS: [(usize, &[&str], &str); 3] = [
+    (1, &["a", "b"], " +-+-+\n |a|b|"),
+    (0, &["c", "d"], "\n +-+-+"),
+    (3, &["e\nf", "g"], "\n +-+-+\n |e|g|\n*|f| |\n*| | |"),
 ];
 
 // A stream of two columns, or a failure.
