@@ -155,6 +155,7 @@ pub struct TextFacts {
 
 impl TextFacts {
     /// The facts of a text, whose lines are read once.
+    #[inline(always)]
     pub fn of_text(text: &str, formatting: Formatting) -> TextFacts
         ensures { result ≡ facts_of formatting text.now }
     {

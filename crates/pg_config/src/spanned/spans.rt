@@ -94,6 +94,7 @@ impl<A: Allocator> SpannedConfig<A> {
     /// The rectangle that holds a place and has its left column there, found by one search in the
     /// order of the spans. Where the rectangles share no place it is the place's own, if the place
     /// is in its owner's left column.
+    #[inline(always)]
     pub fn left_span(&self, pos: Position) -> Option<Span>
         ensures { result ≡ left_span self.now.spans pos.row pos.col }
     {
