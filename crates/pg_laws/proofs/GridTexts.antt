@@ -10,10 +10,10 @@ use Rattle.pg_stream.specs.Printing.{hint_of}
 use Rattle.pg_layout.specs.declared.records.Records as records
 use Rattle.pg_layout.specs.declared.dimension.Dimension as dimension
 use Rattle.pg_layout.specs.declared.colors.Colors as colors
-use Rattle.pg_stream.specs.declared.grid.IterGrid.{IterGrid}
+use Rattle.pg_iter.specs.declared.grid.IterGrid.{IterGrid}
 use Rattle.pg_peekable.specs.declared.grid.PeekableGrid.{PeekableGrid}
 use Rattle.pg_peekable.specs.Grids.{drawn}
-use Rattle.pg_stream.specs.IterGrids.{streamed}
+use Rattle.pg_iter.specs.IterGrids.{streamed}
 use Rattle.pg_laws.specs.GridLaws.{KnowsMargins, HaveSameParts, TextsAreOne}
 
 -- the hint matters to no margin

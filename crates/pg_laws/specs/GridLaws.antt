@@ -8,10 +8,10 @@ use Rattle.pg_picture.specs.Table.{Table, Known}
 use Rattle.pg_layout.specs.declared.records.Records as records
 use Rattle.pg_layout.specs.declared.dimension.Dimension as dimension
 use Rattle.pg_layout.specs.declared.colors.Colors as colors
-use Rattle.pg_stream.specs.declared.grid.IterGrid.{IterGrid}
+use Rattle.pg_iter.specs.declared.grid.IterGrid.{IterGrid}
 use Rattle.pg_peekable.specs.declared.grid.PeekableGrid.{PeekableGrid}
 use Rattle.pg_peekable.specs.Grids.{drawn, peekable_parts}
-use Rattle.pg_stream.specs.IterGrids.{iter_parts, streamed, told}
+use Rattle.pg_iter.specs.IterGrids.{iter_parts, streamed, told}
 
 -- the number of rows is given, or no side margin has an offset that counts from the end
 abbrev pub KnowsMargins : Table → Option ℕ → Type 0

@@ -42,7 +42,6 @@ pub mod RowsOfCells
 pub mod StreamedRows
 pub mod StreamedRuns
 pub mod StreamedResults
-pub mod IterTables
 pub mod LiveRows
 pub mod LentRows
 pub mod OwnRows

@@ -8,6 +8,5 @@ pub mod Streams
 pub mod LiveStreams
 pub mod SizedStreams
 pub mod Faults
-pub mod IterGrids
 pub mod ShownRows
 pub mod Inside

@@ -8,7 +8,6 @@ mod conditions;
 mod drawing;
 mod fault;
 mod frame;
-mod grid;
 mod held_rows;
 mod laws;
 mod lent_rows;
@@ -28,11 +27,9 @@ mod single_rows;
 mod sized_stream;
 mod table_end;
 mod turns;
-mod whole;
 
 pub use crate::conditions::printer_fits;
 pub use crate::fault::{RowFault, RowsFault, StreamFault};
-pub use crate::grid::IterGrid;
 pub use crate::laws::{
     live_rows_make_the_picture, rows_count_their_lines, rows_make_the_picture,
     sized_rows_make_the_picture, tables_that_fit_may_be_printed,

@@ -20,7 +20,7 @@ where
     ghost use Rattle.pg_picture.specs.Shown.{unshown_of, unless_unshown};
     ghost use Rattle.pg_picture.specs.Table.{is_empty};
     ghost use Rattle.pg_picture.specs.Whole.{PrintsWholeOrNothing};
-    ghost use Rattle.pg_stream.specs.IterGrids.{MayBeRead, streamed, told};
+    ghost use Rattle.pg_iter.specs.IterGrids.{MayBeRead, streamed, told};
 
     /// Whether the table fits, and shows each line of its texts: else the first thing that doesn't fit, as
     /// `fits` answers it, and where all fits the first cell that isn't high enough for its lines below

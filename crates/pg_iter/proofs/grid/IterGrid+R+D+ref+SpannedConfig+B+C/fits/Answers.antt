@@ -1,8 +1,8 @@
 use Rattle.std.proofs.Common.{None, ap, ◌∙◌, subst, IsOk}
 use Rattle.pg_picture.specs.Sizes.{unless_misfit}
-use Rattle.pg_stream.specs.IterGrids.{streamed}
+use Rattle.pg_iter.specs.IterGrids.{streamed}
 use Rattle.pg_picture.proofs.FittingGrids.{misfit-any_colors, none-if-ok}
-use Rattle.pg_stream.proofs.grid.IterGrid+R+D+ref+SpannedConfig+B+C.fits.Goals as goal
+use Rattle.pg_iter.proofs.grid.IterGrid+R+D+ref+SpannedConfig+B+C.fits.Goals as goal
 
 pub returns-clause-exact : goal.returns-clause-exact
 returns-clause-exact g c = c.table_fits.ensures ∙ ap unless_misfit (misfit-any_colors (streamed g.R.Records g.D.Dimension g.C.Colors c.args.self.now) (λ p. None))

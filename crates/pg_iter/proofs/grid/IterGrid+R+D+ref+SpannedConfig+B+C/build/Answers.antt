@@ -7,10 +7,10 @@ use Rattle.pg_picture.specs.Picture.{picture}
 use Rattle.pg_picture.proofs.Appending.{Appends-text, Gained-none, Gained-all}
 use Rattle.pg_picture.proofs.Pictures.{picture-none}
 use Rattle.pg_stream.specs.Printing.{hint_of}
-use Rattle.pg_stream.specs.IterGrids.{streamed}
+use Rattle.pg_iter.specs.IterGrids.{streamed}
 use Rattle.pg_stream.proofs.RowsInTurn.{no-row}
-use Rattle.pg_stream.proofs.IterTables.{begun, some-cells}
-use Rattle.pg_stream.proofs.grid.IterGrid+R+D+ref+SpannedConfig+B+C.build.Goals as goal
+use Rattle.pg_iter.proofs.IterTables.{begun, some-cells}
+use Rattle.pg_iter.proofs.grid.IterGrid+R+D+ref+SpannedConfig+B+C.build.Goals as goal
 
 pub returns-in_default-clause-appends : goal.returns-in_default-clause-appends
 returns-in_default-clause-appends g c =

@@ -1,8 +1,8 @@
 use Rattle.std.proofs.Common.{None, ap, ◌∙◌, subst, IsOk}
 use Rattle.pg_picture.specs.Shown.{unless_unshown}
-use Rattle.pg_stream.specs.IterGrids.{streamed}
+use Rattle.pg_iter.specs.IterGrids.{streamed}
 use Rattle.pg_picture.proofs.ShownGrids.{unshown-any_colors, nothing-if-ok, shown-fits}
-use Rattle.pg_stream.proofs.whole.IterGrid+R+D+ref+SpannedConfig+B+C.shows_all.Goals as goal
+use Rattle.pg_iter.proofs.whole.IterGrid+R+D+ref+SpannedConfig+B+C.shows_all.Goals as goal
 
 pub returns-clause-exact : goal.returns-clause-exact
 returns-clause-exact g c = c.table_shows_all.ensures ∙ ap unless_unshown (unshown-any_colors (streamed g.R.Records g.D.Dimension g.C.Colors c.args.self.now) (λ p. None))

@@ -7,7 +7,7 @@ use Rattle.pg_layout.specs.declared.records.Records as records
 use Rattle.pg_layout.specs.declared.dimension.Dimension as dimension
 use Rattle.pg_layout.specs.declared.colors.Colors as colors
 use Rattle.pg_picture.specs.Grids.{table_of_parts}
-use Rattle.pg_stream.specs.declared.grid.IterGrid.{IterGrid}
+use Rattle.pg_iter.specs.declared.grid.IterGrid.{IterGrid}
 
 -- the table of a streaming grid: of what its records, its dimension and its colours stand for
 abbrev pub streamed : {R Cell Columns Rows D C Color : Type 0} → records.Ghosts R Cell Columns Rows → dimension.Ghosts D → colors.Ghosts C Color → IterGrid R D (Bor Config) C → Table

@@ -2,7 +2,7 @@ use Rattle.std.proofs.Common.{◌∙◌, sym, ap, is_ok}
 use Rattle.std.proofs.lemmas.Bool.{false≢true}
 use Rattle.pg_picture.specs.Shown.{unless_unshown}
 use Rattle.pg_picture.proofs.ShownGrids.{unshown-empty}
-use Rattle.pg_stream.proofs.whole.IterGrid+R+D+ref+SpannedConfig+B+C.print_whole.Goals as goal
+use Rattle.pg_iter.proofs.whole.IterGrid+R+D+ref+SpannedConfig+B+C.print_whole.Goals as goal
 
 -- a table without cells shows all
 pub returns-in_err-shows_all-clause-empty : goal.returns-in_err-shows_all-clause-empty

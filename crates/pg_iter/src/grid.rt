@@ -1,10 +1,10 @@
 //! The streaming grid: it reads its records once, row by row, and draws cells over several rows.
 
-use crate::row_printer::RowPrinter;
 use pg_config::SpannedConfig;
 use pg_layout::{Colors, Dimension, ExactRecords, PeekableRecords, Records};
 use pg_picture::PrintFault;
 use pg_picture::fits::{Misfit, table_fits};
+use pg_stream::RowPrinter;
 use std::alloc::{AllocError, Allocator};
 
 /// A table printer over records that are read once, a dimension that gives the sizes of columns and
@@ -22,7 +22,7 @@ pub struct IterGrid<R, D, G, C> {
 
 impl<R, D, G, C> IterGrid<R, D, G, C> {
     ghost use Rattle.std.specs.Prelude.{◌≡◌};
-    ghost use Rattle.pg_stream.specs.IterGrids.{iter_parts};
+    ghost use Rattle.pg_iter.specs.IterGrids.{iter_parts};
 
     /// A grid of these parts.
     pub fn new(records: R, config: G, dimension: D, colors: C) -> IterGrid<R, D, G, C>
@@ -50,7 +50,7 @@ where
     ghost use Rattle.pg_picture.specs.Straight.{IsStraight};
     ghost use Rattle.pg_picture.specs.Picture.{picture};
     ghost use Rattle.pg_picture.specs.Table.{is_empty};
-    ghost use Rattle.pg_stream.specs.IterGrids.{MayBeRead, streamed, told};
+    ghost use Rattle.pg_iter.specs.IterGrids.{MayBeRead, streamed, told};
 
     /// Appends the picture of the table, which fits and whose records may be read (all records in memory
     /// may): of records in memory [`IterGrid::fits`] is the test, and [`IterGrid::print`] the call that
@@ -125,7 +125,7 @@ where
     ghost use Rattle.pg_picture.specs.Sizes.{unless_misfit};
     ghost use Rattle.pg_picture.specs.Picture.{picture};
     ghost use Rattle.pg_picture.specs.Table.{is_empty};
-    ghost use Rattle.pg_stream.specs.IterGrids.{MayBeRead, streamed, told};
+    ghost use Rattle.pg_iter.specs.IterGrids.{MayBeRead, streamed, told};
     ghost use Rattle.pg_picture.specs.Printed.{PrintsOrNothing};
 
     /// Whether the table fits: its spans, its totals, and in each cell the text's widest line, the side
