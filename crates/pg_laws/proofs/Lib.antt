@@ -23,6 +23,7 @@ mod RowsPieces
 mod RowsPlain
 mod RowsSpans
 mod RowsCrossings
+mod RowsLineGlyphs
 mod RowsColors
 mod RowsMargins
 mod RowsCompact

@@ -19,6 +19,7 @@ use std::marker::Model;
 mod crossings;
 mod rows;
 mod settings;
+mod title;
 
 /// Rows of texts, drawn at their natural sizes: each column as wide as its widest cell, and each row
 /// as high as its highest one, a cell being its text with the paddings round it. What a cell with a

@@ -1,0 +1,139 @@
+//! Titles over the lines of a table.
+
+ghost use Rattle.std.specs.Prelude.{◌≡◌, ◌==◌, ◌&&◌, not, ℕ, map, chars, encode_utf8, length, Some, None, Err, OnOk, OnErr, IfOk, if◌then◌else◌};
+ghost use Rattle.pg_layout.specs.Records.{columns_of};
+ghost use Rattle.pg_layout.specs.Text.{width_of};
+ghost use Rattle.pg_table.specs.Printing.{sizes_fault};
+ghost use Rattle.pg_table.specs.Titles.{title_glyph, title_room, title_start, with_title, with_title_glyphs};
+
+use crate::fault::TableFault;
+use crate::table::Table;
+use pg_config::SpannedConfig;
+use pg_layout::{AlignmentHorizontal, ConstantDimension, get_line_width};
+use pg_picture::calculate_indent;
+use std::alloc::{AllocError, Allocator};
+use std::convert::AsStr;
+
+impl<T: AsStr + Drop, A: Allocator + Copy> Table<T, A> {
+    /// Puts a title over the glyphs of row line `row`, as 0 for the line above row 0, between the first
+    /// column line and the last one: at the left, at the right or in the middle of them, where the
+    /// columns are as wide as they are now. What is longer is cut there.
+    ///
+    /// A line feed, and a character that doesn't take one column, is shown as `�`. A line that isn't
+    /// there gets no title, and what a merged cell hides of a line stays hidden. The title is told
+    /// last: a text or a setting that is told later moves none of it.
+    ///
+    /// An error where the natural sizes aren't told ([`Table::natural_dimension`]) or memory is
+    /// refused; then nothing changes.
+    ///
+    /// ```text
+    /// table.set_title(alloc, 0, "Orders", AlignmentHorizontal::Center)?; // ╭─Orders─╮
+    /// ```
+    pub fn set_title(
+        &mut self,
+        alloc: A,
+        row: usize,
+        title: &str,
+        side: AlignmentHorizontal,
+    ) -> Result<(), TableFault>
+        ensures ok { OnOk result (self.new ≡ record self.old { config = with_title row side title.now (map (λ row. map T.text row) self.old.rows) (columns_of self.old.rows) self.old.config }) }
+        ensures err { OnErr result (self.new ≡ self.old) }
+        ensures fault { (fault : TableFault) → sizes_fault self.old.config (map (λ row. map T.text row) self.old.rows) (columns_of self.old.rows) ≡ Some fault → result ≡ Err fault }
+        ensures memory { (fault : TableFault) → sizes_fault self.old.config (map (λ row. map T.text row) self.old.rows) (columns_of self.old.rows) ≡ None → result ≡ Err fault → fault ≡ TableFault.Memory }
+    {
+        let dimension = self.natural_dimension(alloc)?;
+        let glyphs = title_glyphs(alloc, title)?;
+        match self.set_title_glyphs(alloc, row, side, &dimension, &glyphs) {
+            Ok(()) => Ok(()),
+            Err(error) => Err(error.into()),
+        }
+    }
+
+    // Puts the glyphs of a title over row line `row`, where the columns have these widths.
+    fn set_title_glyphs(
+        &mut self,
+        alloc: A,
+        row: usize,
+        side: AlignmentHorizontal,
+        dimension: &ConstantDimension<A>,
+        glyphs: &[char],
+    ) -> Result<(), AllocError>
+        ensures ok { OnOk result (self.new ≡ record self.old { config = with_title_glyphs row side glyphs.now dimension.now.0.items (length self.old.rows) (columns_of self.old.rows) self.old.config }) }
+        ensures err { OnErr result (self.new ≡ self.old) }
+    {
+        let size = self.size();
+        let start = title_start(&self.config, size.1, &dimension.0, side, glyphs.len());
+        self.config
+            .set_line_glyphs(alloc, row, size, dimension, start, glyphs)
+    }
+
+    /// The same table with a title over row line `row` ([`Table::set_title`]). Where there is an error
+    /// the table is let go.
+    ///
+    /// ```text
+    /// let table = table.with_title(alloc, 0, "Orders", AlignmentHorizontal::Left)?;
+    /// ```
+    pub fn with_title(
+        mut self,
+        alloc: A,
+        row: usize,
+        title: &str,
+        side: AlignmentHorizontal,
+    ) -> Result<Table<T, A>, TableFault>
+        ensures ok { IfOk result (λ table. table ≡ record self { config = with_title row side title.now (map (λ row. map T.text row) self.rows) (columns_of self.rows) self.config }) }
+        ensures fault { (fault : TableFault) → sizes_fault self.config (map (λ row. map T.text row) self.rows) (columns_of self.rows) ≡ Some fault → result ≡ Err fault }
+        ensures memory { (fault : TableFault) → sizes_fault self.config (map (λ row. map T.text row) self.rows) (columns_of self.rows) ≡ None → result ≡ Err fault → fault ≡ TableFault.Memory }
+    {
+        match self.set_title(alloc, row, title, side) {
+            Ok(()) => Ok(self),
+            Err(fault) => Err(fault),
+        }
+    }
+}
+
+// What stands for a character of a title.
+fn title_glyph(c: char) -> char
+    ensures { result ≡ title_glyph c }
+{
+    let mut bytes = [0; 4];
+    if c != '\n' && get_line_width(c.encode_utf8(&mut bytes)) == 1 {
+        c
+    } else {
+        '�'
+    }
+}
+
+// What stands for the characters of a title.
+fn title_glyphs<A: Allocator>(alloc: A, title: &str) -> Result<Vec<char, A>, AllocError>
+    ensures { IfOk result (λ glyphs. glyphs.items ≡ map title_glyph (chars title.now)) }
+{
+    let glyphs = title.chars().map(|c| title_glyph(c)).collect(alloc)?;
+    Ok(glyphs)
+}
+
+// How many columns a row line has between the first column line and the last one, at most
+// `usize::MAX`.
+fn title_room<A: Allocator>(config: &SpannedConfig<A>, columns: usize, widths: &[usize]) -> usize
+    ensures { result ≡ title_room config.now widths.now columns }
+{
+    let mut room = config.count_verticals(1, columns.saturating_sub(1), columns);
+    for width in widths {
+        room = room.saturating_add(*width);
+    }
+    room
+}
+
+// How many of these columns stand left of a title of so many characters.
+fn title_start<A: Allocator>(
+    config: &SpannedConfig<A>,
+    columns: usize,
+    widths: &[usize],
+    side: AlignmentHorizontal,
+    count: usize,
+) -> usize
+    ensures { result ≡ title_start side count (title_room config.now widths.now columns) }
+{
+    let room = title_room(config, columns, widths);
+    let (left, _) = calculate_indent(side, count.min(room), room);
+    left
+}
