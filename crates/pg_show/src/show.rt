@@ -6,7 +6,6 @@ ghost use Rattle.pg_picture.specs.Table.{is_empty};
 ghost use Rattle.pg_script.specs.Script.{told_of_script};
 ghost use Rattle.pg_show.specs.Show.{fault_of_print, fault_of_table, misfit_in, natural_config, table_of_told, text_in, Prints, Shows};
 ghost use Rattle.pg_show.specs.declared.mode.Mode.TheVariants as mode;
-ghost use Rattle.pg_show.specs.declared.mode.Mode.TheVariants.{Iter, Table};
 ghost use Rattle.pg_show.specs.declared.show.ShowFault.TheVariants.{Memory};
 ghost use Rattle.pg_show.specs.declared.show.ShowFault.TheVariants as variants;
 
@@ -58,7 +57,7 @@ impl From<TableFault> for ShowFault {
 /// A table that doesn't fit is refused, also where memory is, and the buffer stays as it was.
 /// Where memory is refused the buffer has gained a beginning of the table's text. `alloc` gives the
 /// memory that a printer keeps cells in, or the sizes of columns and rows; only [`Mode::Iter`] and
-/// [`Mode::Table`] take any. Of a table with no rows or no columns neither does, and the buffer stays
+/// [`Mode::Table`] take any. A table with no rows or no columns is never refused, and the buffer stays
 /// as it was.
 pub fn print_script<C: Allocator + Copy, A: Allocator, B: Allocator>(
     alloc: C,
@@ -69,8 +68,7 @@ pub fn print_script<C: Allocator + Copy, A: Allocator, B: Allocator>(
     ensures misfit { (m : _) → (result ≡ Err (ShowFault.Misfit m)) ↔ (misfit_in mode (told_of_script script.now) ≡ Some m) }
     ensures kept { (m : _) → result ≡ Err (ShowFault.Misfit m) → buf.new ≡ buf.old }
     ensures printed { misfit_in mode (told_of_script script.now) ≡ None → Prints mode buf.old buf.new result (text_in mode (told_of_script script.now)) }
-    ensures empty_streamed { mode ≡ Iter → is_empty (table_of_told (told_of_script script.now)) ≡ true → IsOk result × (buf.new ≡ buf.old) }
-    ensures empty_natural { mode ≡ Table → is_empty (table_of_told (told_of_script script.now)) ≡ true → IsOk result × (buf.new ≡ buf.old) }
+    ensures empty { is_empty (table_of_told (told_of_script script.now)) ≡ true → IsOk result × (buf.new ≡ buf.old) }
 {
     match mode {
         Mode::Compact => print_compact(script, buf),
@@ -85,7 +83,8 @@ fn print_compact<A: Allocator, B: Allocator>(
     script: &Script<A>,
     buf: &mut String<B>,
 ) -> Result<(), ShowFault>
-    ensures { Shows mode.Compact (told_of_script script.now) buf.old buf.new result }
+    ensures shows { Shows mode.Compact (told_of_script script.now) buf.old buf.new result }
+    ensures empty { is_empty (table_of_told (told_of_script script.now)) ≡ true → IsOk result × (buf.new ≡ buf.old) }
 {
     let (dimension, colors) = (&script.dimension, &script.colors);
     CompactGrid::new(&script.records, &script.compact, dimension, colors).print(buf)?;
@@ -111,7 +110,8 @@ fn print_peekable<A: Allocator, B: Allocator>(
     script: &Script<A>,
     buf: &mut String<B>,
 ) -> Result<(), ShowFault>
-    ensures { Shows mode.Peek (told_of_script script.now) buf.old buf.new result }
+    ensures shows { Shows mode.Peek (told_of_script script.now) buf.old buf.new result }
+    ensures empty { is_empty (table_of_told (told_of_script script.now)) ≡ true → IsOk result × (buf.new ≡ buf.old) }
 {
     let (dimension, colors) = (&script.dimension, &script.colors);
     PeekableGrid::new(&script.records, &script.config, dimension, colors).print(buf)?;
