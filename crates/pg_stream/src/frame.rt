@@ -59,6 +59,25 @@ impl<'a, D: Dimension, C: Colors, B: Allocator> Frame<'a, D, C, B> {
         }
     }
 
+    // The style that all cells have, once more.
+    #[inline(always)]
+    pub(crate) fn style_of_all(&self) -> Option<CellStyle<'_, B>>
+        ensures { ForSome result (λ style. IsStyleOfAll self.now.config.now (style_of style)) }
+    {
+        match &self.all {
+            Some(style) => Some(CellStyle {
+                formatting: style.formatting,
+                padding: style.padding,
+                padding_color: style.padding_color,
+                alignment_horizontal: style.alignment_horizontal,
+                alignment_vertical: style.alignment_vertical,
+                justification: style.justification,
+                justification_color: style.justification_color,
+            }),
+            None => None,
+        }
+    }
+
     // Where a text stands in the cell at a place, which has so many columns and lines.
     pub(crate) fn place_of_text(
         &self,

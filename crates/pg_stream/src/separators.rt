@@ -30,6 +30,7 @@ where
 {
     // The separator above a row, where it is there, as line `index` of the body; answers the index of
     // the line below.
+    #[inline(always)]
     pub(crate) fn push_above<S: AsStr + Drop, A: Allocator, W: Allocator>(
         self,
         opened: &mut OpenCells<S, A>,
@@ -107,6 +108,7 @@ where
 
     // The separator above a row: the one that is kept, or a new one, which is kept where those above
     // all rows but the first are equal.
+    #[inline(never)]
     fn push_kept_separator<W: Allocator>(
         &self,
         kept: &mut SeparatorKeeper<'_>,

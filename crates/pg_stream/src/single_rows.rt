@@ -92,7 +92,9 @@ where
         self.push_vertical(buf, Position::new(row, self.columns()), 0)
     }
 
-    // A cell of the row: the vertical left of it, and its line.
+    // A cell of the row: the vertical left of it, and its line. What draws it in the style of all cells
+    // stands in the loop over the columns.
+    #[inline(always)]
     fn push_single_cell<W: Allocator>(
         self,
         buf: &mut String<W>,
@@ -103,11 +105,21 @@ where
         self.push_vertical(buf, cell.pos, 0)?;
         match &self.frame.all {
             Some(style) => self.push_single_text(buf, style, cell),
-            None => {
-                let style = CellStyle::of(self.frame.config, cell.pos);
-                self.push_single_text(buf, &style, cell)
-            }
+            None => self.push_own_text(buf, cell),
         }
+    }
+
+    // The one line of a cell whose style is looked up.
+    #[inline(never)]
+    fn push_own_text<W: Allocator>(
+        self,
+        buf: &mut String<W>,
+        cell: &SingleCell<'_, T>,
+    ) -> Result<(), AllocError>
+        ensures { Appends buf.old buf.new result (written (block_line (style_at T.told.config cell.now.pos) (T.told.color cell.now.pos) cell.now.text.now (T.told.width cell.now.pos.col) 1 0)) }
+    {
+        let style = CellStyle::of(self.frame.config, cell.pos);
+        self.push_single_text(buf, &style, cell)
     }
 
     // The one line of a cell, which has this style.

@@ -16,7 +16,6 @@ use crate::row_printer::RowPrinter;
 use crate::row_sizes::RowSizes;
 use pg_config::SpannedConfig;
 use pg_layout::{Colors, Dimension};
-use pg_picture::CellStyle;
 use pg_picture::fits::Misfit;
 use std::alloc::{Allocator, Global};
 use std::convert::AsStr;
@@ -207,7 +206,7 @@ impl<'a, D: Dimension, C: Colors, B: Allocator> Frame<'a, D, C, B> {
             hint: self.hint,
             width: self.width,
             height: self.height,
-            all: CellStyle::of_all(self.config),
+            all: self.style_of_all(),
             draws_verticals: self.draws_verticals,
         }
     }

@@ -24,4 +24,4 @@ returns-in-None g c =
     let t = frame_of g.T.Drawn.told in
     let p = c.args.cell.now.pos in
     Appends-text (part-text t p.row p.col p (style_at t.config p) (t.color p) (t.width p.col) c.args.cell.now.text.now refl refl refl refl)
-    (c.in_ok-push_vertical.ensures then c.push_single_text-in-None.ensures)
+    (c.in_ok-push_vertical.ensures then c.push_own_text.ensures)
