@@ -8,10 +8,12 @@ mod compact_list;
 mod fault;
 mod grid_calls;
 mod invoice;
+mod levels;
 mod price_list;
 mod record_blocks;
 mod streamed_rows;
 mod timetable;
+mod titled;
 mod told_widths;
 mod word_counts;
 
@@ -22,7 +24,9 @@ fn main(rt: HostRuntime) -> Result<(), Fault> {
     let alloc = rt.alloc();
     show(&rt, "price_list", &price_list::prices(alloc)?)?;
     show(&rt, "invoice", &invoice::invoice(alloc)?)?;
+    show(&rt, "titled", &titled::stock(alloc)?)?;
     show(&rt, "record_blocks", &record_blocks::blocks(alloc)?)?;
+    show(&rt, "levels", &levels::log(alloc)?)?;
     show(&rt, "timetable", &timetable::week(alloc)?)?;
     show(&rt, "streamed_rows", &streamed_rows::lists(alloc)?)?;
     show(&rt, "compact_list", &compact_list::list(alloc)?)?;
