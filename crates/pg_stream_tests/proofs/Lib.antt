@@ -1,4 +1,0 @@
--- Lemmas of this crate.
-mod Alike
-mod Columns
-mod Counting
