@@ -12,7 +12,7 @@ pub(crate) enum Fault {
     Unknown,
     /// Neither a picture nor a refusal is told.
     Untold,
-    /// A table of natural sizes doesn't take the rows, or a line below their header.
+    /// A table of natural sizes doesn't take the rows, a line below their header, or a title.
     Table(Refusal),
     /// Memory was refused.
     Memory,

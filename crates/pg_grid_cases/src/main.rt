@@ -61,8 +61,8 @@
 //! - `table with_borders psql` is the next call of a builder of natural sizes. Its other calls are
 //!   `with_padding 1 1 1:* 0`, `with_alignment right`, `with_header_line` and `set_header_line` (`psql`,
 //!   `sharp`, `markdown`, or the one glyph of a line without crossings and ends); `with_span_crossings` and
-//!   `set_span_crossings`, with borders; and `with_config` and
-//!   `with_colors`, which take the settings and the colours that were told since the last one. `table`
+//!   `set_span_crossings`, with borders; `with_title 0 right Stock` and `set_title`, with the row line, the
+//!   side and all that is left as the title; and `with_config` and `with_colors`, which take the settings and the colours that were told since the last one. `table`
 //!   alone makes one, and calls nothing.
 //! - `within 44 words` narrows a table at its natural sizes to so many columns, or to `any` number of them:
 //!   `words` and `anywhere` tell where lines are broken, and `cut …` the tail of lines that are cut. `limits
@@ -95,8 +95,8 @@
 //!   lists that aren't empty, and then while each of them is refused: two answers.
 //! - The least width of a line is asked where it is told, and a table of which no text changes is fitted while
 //!   all memory is refused: an answer each.
-//! - A line below a header is also told, by either call, to a table in memory that is refused, which stays
-//!   as it was: two answers.
+//! - A line below a header and a title are also told, by either call, to a table in memory that is refused,
+//!   which stays as it was: two answers.
 //!
 //! A way that tells none of these is told as wrong, and so is one that tells two of them, and a line that
 //! isn't of this list. The last line counts the ways and the answers, and the exit status is 1 where
@@ -114,6 +114,7 @@ mod grid;
 mod reading;
 mod refusal;
 mod refused;
+mod refused_calls;
 mod sizes;
 mod step;
 mod within;
