@@ -83,6 +83,7 @@ const NO_SPANS: Spans = Spans {
     size: (1, 1),
     apart: (0, 0),
     is_shifted: false,
+    is_layered: false,
 };
 
 /// A cell of two rows and three columns in each fourth row, its text in the middle.
@@ -90,6 +91,7 @@ const BLOCKS: Spans = Spans {
     size: (2, 3),
     apart: (4, usize::MAX),
     is_shifted: true,
+    is_layered: false,
 };
 
 /// A cell of two rows and three columns in each tenth column of each tenth row.
@@ -97,6 +99,7 @@ const TILES: Spans = Spans {
     size: (2, 3),
     apart: (10, 10),
     is_shifted: false,
+    is_layered: false,
 };
 
 /// A cell of two rows and two columns in each second column of each second row, so that no cell is
@@ -105,6 +108,15 @@ const SQUARES: Spans = Spans {
     size: (2, 2),
     apart: (2, 2),
     is_shifted: false,
+    is_layered: false,
+};
+
+/// Cells of one column in row 0, of two in row 1, and so on, the last one of a row of what is left.
+const LAYERS: Spans = Spans {
+    size: (1, 1),
+    apart: (1, 1),
+    is_shifted: false,
+    is_layered: true,
 };
 
 /// The first cell, down to the last of 1,000 rows.
@@ -112,6 +124,7 @@ const TALL: Spans = Spans {
     size: (1000, 1),
     apart: (usize::MAX, usize::MAX),
     is_shifted: false,
+    is_layered: false,
 };
 
 const BASIC: Table = Table {
@@ -280,6 +293,18 @@ const SQUARES1000: Table = Table {
     ..SQUARES100
 };
 
+const LAYERS100: Table = Table {
+    columns: 100,
+    spans: LAYERS,
+    ..BASIC
+};
+
+const LAYERS400: Table = Table {
+    rows: 400,
+    columns: 400,
+    ..LAYERS100
+};
+
 const CROSSED100: Table = Table {
     telling: Telling::Crossings,
     ..SQUARES100
@@ -306,7 +331,7 @@ pub(crate) const COMMON: usize = 29;
 
 /// All cases, as they are listed. Behind the common ones stand tables of other sizes, some of which take
 /// long, and tables that are printed by other calls.
-pub(crate) static CASES: [Case; 62] = [
+pub(crate) static CASES: [Case; 64] = [
     Case("peek_basic", Grid::Peekable, BASIC),
     Case("peek_spans", Grid::Peekable, SPANS),
     Case("peek_colored", Grid::Colored, COLORED),
@@ -377,6 +402,8 @@ pub(crate) static CASES: [Case; 62] = [
     Case("table_spans10000", Grid::Natural, SQUARES100),
     Case("table_spans160000", Grid::Natural, SQUARES400),
     Case("table_spans1000000", Grid::Natural, SQUARES1000),
+    Case("table_layers10000", Grid::Natural, LAYERS100),
+    Case("table_layers160000", Grid::Natural, LAYERS400),
     Case("peek_tallcells160", Grid::Peekable, TALL_CELLS160),
     Case("iter_tallcells160", Grid::Iter, TALL_CELLS160),
     Case("peek_box209", Grid::Peekable, BOX209),

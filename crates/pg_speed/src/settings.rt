@@ -28,7 +28,11 @@ fn span(config: &mut SpannedConfig, table: &Table) -> Result<(), AllocError> {
         return Ok(());
     }
     for row in (0..table.rows).step_by(below) {
-        span_in_row(config, table, row)?;
+        if table.spans.is_layered {
+            layer_row(config, table.columns, row)?;
+        } else {
+            span_in_row(config, table, row)?;
+        }
     }
     Ok(())
 }
@@ -49,6 +53,16 @@ fn span_in_row(config: &mut SpannedConfig, table: &Table, row: usize) -> Result<
             config.set_alignment_horizontal(cell, AlignmentHorizontal::Center)?;
             config.set_alignment_vertical(cell, AlignmentVertical::Center)?;
         }
+    }
+    Ok(())
+}
+
+// Lets each cell of a row take one column more than those of the row above, and the last one what is left.
+fn layer_row(config: &mut SpannedConfig, columns: usize, row: usize) -> Result<(), AllocError> {
+    let taken = row.saturating_add(1);
+    for column in (0..columns).step_by(taken) {
+        let left = columns.saturating_sub(column);
+        config.set_column_span(Position::new(row, column), taken.min(left))?;
     }
     Ok(())
 }

@@ -45,6 +45,8 @@ pub(crate) struct Spans {
     /// Whether the first one of a row stands in column 0, 3 and 6 by turns, and the texts of all in the
     /// middle.
     pub(crate) is_shifted: bool,
+    /// Whether cells take all columns of a row instead, each one more than those of the row above.
+    pub(crate) is_layered: bool,
 }
 
 /// What a table that is told anew is told of single cells and rows.
