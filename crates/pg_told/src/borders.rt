@@ -63,7 +63,8 @@ pub(crate) fn tell_border<A: Allocator + Copy>(
     mut words: Words<'_>,
 ) -> Result<(), ToldFault> {
     let pos = words.place()?;
-    Ok(config.set_border(pos, glyphs_told(Border::empty(), words)?)?)
+    let border = glyphs_told(Border::empty(), words)?;
+    config.set_border(pos, border).map_err(ToldFault::from)
 }
 
 /// Tells of the colours round a cell.
@@ -73,7 +74,10 @@ pub(crate) fn tell_border_color<A: Allocator + Copy>(
     mut words: Words<'_>,
 ) -> Result<(), ToldFault> {
     let pos = words.place()?;
-    Ok(config.set_border_color(pos, colors_told(Border::empty(), alloc, words)?)?)
+    let border = colors_told(Border::empty(), alloc, words)?;
+    config
+        .set_border_color(pos, border)
+        .map_err(ToldFault::from)
 }
 
 /// Tells of the glyphs of a row line, by its row and the number of columns.
@@ -81,10 +85,11 @@ pub(crate) fn tell_row_line<A: Allocator + Copy>(
     config: &mut SpannedConfig<A>,
     mut words: Words<'_>,
 ) -> Result<(), ToldFault> {
-    let row = words.number()?;
-    let columns = words.number()?;
+    let (row, columns) = words.two_numbers()?;
     let line = glyphs_told(HorizontalLine::new(None, None, None, None), words)?;
-    Ok(config.set_row_line(row, columns, line)?)
+    config
+        .set_row_line(row, columns, line)
+        .map_err(ToldFault::from)
 }
 
 /// Tells of the crossings on the edges of cells with a span, by the rows and the columns of a table.
@@ -93,9 +98,11 @@ pub(crate) fn tell_span_crossings<A: Allocator + Copy>(
     alloc: A,
     mut words: Words<'_>,
 ) -> Result<(), ToldFault> {
-    let rows = words.number()?;
-    let columns = words.number()?;
-    Ok(config.set_span_crossings(alloc, (rows, columns), words.last_borders()?)?)
+    let size = words.two_numbers()?;
+    let borders = words.last_borders()?;
+    config
+        .set_span_crossings(alloc, size, borders)
+        .map_err(ToldFault::from)
 }
 
 /// Tells of characters over the glyphs of a row line, by the row line, the rows of a table, the widths of
@@ -105,8 +112,7 @@ pub(crate) fn tell_line_glyphs<A: Allocator + Copy>(
     alloc: A,
     mut words: Words<'_>,
 ) -> Result<(), ToldFault> {
-    let row = words.number()?;
-    let rows = words.number()?;
+    let (row, rows) = words.two_numbers()?;
     let mut widths = Vec::new(alloc);
     for width in words.word()?.split(',') {
         widths.push(Words::new(width).last_number()?)?;
@@ -118,5 +124,6 @@ pub(crate) fn tell_line_glyphs<A: Allocator + Copy>(
     for glyph in words.last()?.chars() {
         glyphs.push(glyph)?;
     }
-    Ok(config.set_line_glyphs(alloc, row, size, &dimension, first, &glyphs)?)
+    let told = config.set_line_glyphs(alloc, row, size, &dimension, first, &glyphs);
+    told.map_err(ToldFault::from)
 }

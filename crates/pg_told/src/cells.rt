@@ -13,16 +13,16 @@ pub(crate) fn tell_cell<A: Allocator + Copy>(
     mut words: Words<'_>,
 ) -> Result<(), ToldFault> {
     let entity = words.entity()?;
-    match name {
-        "padding" => config.set_padding(entity, words.last_indents()?)?,
+    let told = match name {
+        "padding" => config.set_padding(entity, words.last_indents()?),
         "alignment_horizontal" => {
-            config.set_alignment_horizontal(entity, words.last_horizontal()?)?
+            config.set_alignment_horizontal(entity, words.last_horizontal()?)
         }
-        "alignment_vertical" => config.set_alignment_vertical(entity, words.last_vertical()?)?,
-        "justification" => config.set_justification(entity, words.last_fill()?)?,
+        "alignment_vertical" => config.set_alignment_vertical(entity, words.last_vertical()?),
+        "justification" => config.set_justification(entity, words.last_fill()?),
         _ => return Err(ToldFault::Unknown),
-    }
-    Ok(())
+    };
+    told.map_err(ToldFault::from)
 }
 
 /// Tells what is trimmed, or whether lines are aligned one by one.
@@ -33,12 +33,12 @@ pub(crate) fn tell_switch<A: Allocator + Copy>(
 ) -> Result<(), ToldFault> {
     let entity = words.entity()?;
     let is_on = words.last_switch()?;
-    match name {
-        "trim_horizontal" => config.set_trim_horizontal(entity, is_on)?,
-        "trim_vertical" => config.set_trim_vertical(entity, is_on)?,
-        _ => config.set_line_alignment(entity, is_on)?,
-    }
-    Ok(())
+    let told = match name {
+        "trim_horizontal" => config.set_trim_horizontal(entity, is_on),
+        "trim_vertical" => config.set_trim_vertical(entity, is_on),
+        _ => config.set_line_alignment(entity, is_on),
+    };
+    told.map_err(ToldFault::from)
 }
 
 /// Tells of the colours of paddings or of justifications.
@@ -49,12 +49,12 @@ pub(crate) fn tell_color<A: Allocator + Copy>(
     mut words: Words<'_>,
 ) -> Result<(), ToldFault> {
     let entity = words.entity()?;
-    if name == "padding_color" {
-        config.set_padding_color(entity, words.last_colors(alloc)?)?;
+    let told = if name == "padding_color" {
+        config.set_padding_color(entity, words.last_colors(alloc)?)
     } else {
-        config.set_justification_color(entity, words.last_color(alloc)?)?;
-    }
-    Ok(())
+        config.set_justification_color(entity, words.last_color(alloc)?)
+    };
+    told.map_err(ToldFault::from)
 }
 
 /// Tells the colour of a cell: its place and what stands before and after its text, as `0 1 <red>|</red>`.
@@ -66,6 +66,6 @@ pub fn tell_color_of_cell<A: Allocator + Copy>(
 ) -> Result<(), ToldFault> {
     let mut words = Words::new(text);
     let pos = words.place()?;
-    let color = words.last_color(alloc)?.ok_or(ToldFault::Unknown)?;
-    Ok(colors.set(pos, color)?)
+    let color = words.last_color_there(alloc)?;
+    colors.set(pos, color).map_err(ToldFault::from)
 }

@@ -4,7 +4,7 @@ use crate::fault::ToldFault;
 use std::alloc::Global;
 
 /// A line of a file of sections, without its mark.
-#[derive(Debug, Clone, Copy)]
+#[derive(Clone, Copy)]
 pub enum Line<'a> {
     /// It is empty, or begins with `#`.
     Comment,
@@ -39,13 +39,9 @@ impl<'a> Line<'a> {
 
 /// The texts of a row, which has a bar behind each of them.
 pub fn texts_of_row(alloc: Global, row: &str) -> Result<Vec<&str>, ToldFault> {
-    let mut texts = Vec::new(alloc);
     if row.is_empty() {
-        return Ok(texts);
+        return Ok(Vec::new(alloc));
     }
     let row = row.strip_suffix('|').ok_or(ToldFault::Unknown)?;
-    for text in row.split('|') {
-        texts.push(text)?;
-    }
-    Ok(texts)
+    Ok(row.split('|').collect(alloc)?)
 }

@@ -1,7 +1,7 @@
 //! Lines of an input, with pictures of what can't be seen in them.
 
 use std::alloc::{AllocError, Global};
-use std::io::{self, BufRead, BufReader, Read};
+use std::io::{self, Read};
 
 // What a character of a line stands for.
 fn meant(c: char) -> char {
@@ -23,12 +23,18 @@ fn meaning(alloc: Global, line: &str) -> Result<String, AllocError> {
     Ok(text)
 }
 
+// What lines stand for.
+fn meanings(alloc: Global, text: &str) -> Result<Vec<String>, AllocError> {
+    let mut lines = Vec::new(alloc);
+    for line in text.lines() {
+        lines.push(meaning(alloc, line)?)?;
+    }
+    Ok(lines)
+}
+
 /// The lines of an input. In each of them `␊` is a line feed, `␍` a carriage return, `␛` an escape and
 /// `␣` a space.
 pub fn read_lines<R: Read + Drop>(alloc: Global, input: R) -> io::Result<Vec<String>> {
-    let mut lines = Vec::new(alloc);
-    for line in BufReader::new(alloc, input)?.lines(alloc) {
-        lines.push(meaning(alloc, &line?)?)?;
-    }
-    Ok(lines)
+    let text = io::read_to_string(alloc, input)?;
+    Ok(meanings(alloc, &text)?)
 }

@@ -13,12 +13,12 @@ pub(crate) fn tell_span<A: Allocator + Copy>(
 ) -> Result<(), ToldFault> {
     let pos = words.place()?;
     let size = words.last_number()?;
-    if name == "column_span" {
-        config.set_column_span(pos, size)?;
+    let told = if name == "column_span" {
+        config.set_column_span(pos, size)
     } else {
-        config.set_row_span(pos, size)?;
-    }
-    Ok(())
+        config.set_row_span(pos, size)
+    };
+    told.map_err(ToldFault::from)
 }
 
 /// Tells of a single glyph.
@@ -30,12 +30,12 @@ pub(crate) fn tell_glyph<A: Allocator + Copy>(
     let pos = words.place()?;
     let offset = words.offset()?;
     let glyph = words.last_fill()?;
-    if name == "horizontal_char" {
-        config.set_horizontal_char(pos, offset, glyph)?;
+    let told = if name == "horizontal_char" {
+        config.set_horizontal_char(pos, offset, glyph)
     } else {
-        config.set_vertical_char(pos, offset, glyph)?;
-    }
-    Ok(())
+        config.set_vertical_char(pos, offset, glyph)
+    };
+    told.map_err(ToldFault::from)
 }
 
 /// Tells of the colour of a single glyph.
@@ -47,11 +47,11 @@ pub(crate) fn tell_color<A: Allocator + Copy>(
 ) -> Result<(), ToldFault> {
     let pos = words.place()?;
     let offset = words.offset()?;
-    let color = words.last_color(alloc)?.ok_or(ToldFault::Unknown)?;
-    if name == "horizontal_color" {
-        config.set_horizontal_color(pos, offset, color)?;
+    let color = words.last_color_there(alloc)?;
+    let told = if name == "horizontal_color" {
+        config.set_horizontal_color(pos, offset, color)
     } else {
-        config.set_vertical_color(pos, offset, color)?;
-    }
-    Ok(())
+        config.set_vertical_color(pos, offset, color)
+    };
+    told.map_err(ToldFault::from)
 }

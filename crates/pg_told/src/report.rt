@@ -5,7 +5,7 @@ use std::fmt::Debug;
 use std::io::{self, Write};
 
 /// What is counted, and the lines on all that is wrong.
-#[derive(Debug, Drop)]
+#[derive(Drop)]
 pub struct Report {
     // How many cases there were.
     cases: u64,
@@ -84,17 +84,18 @@ impl Report {
     pub fn write<W: Write>(&self, out: &mut W, (tables, drawn): (&str, &str)) -> io::Result<bool> {
         out.write_all(self.lines.as_bytes())?;
         let (cases, answers, faults) = (self.cases, self.answers, self.faults);
-        if faults == 0 {
+        let counted = if faults == 0 {
             writeln!(
                 out,
                 "{cases} {tables} are {drawn} as told, by {answers} answers"
-            )?;
+            )
         } else {
             writeln!(
                 out,
                 "{faults} faults in {cases} {tables}, among {answers} answers"
-            )?;
-        }
+            )
+        };
+        counted?;
         out.flush()?;
         Ok(faults == 0)
     }

@@ -12,7 +12,7 @@ use std::alloc::Allocator;
 /// What is left of a line that is read word by word. Words are parted by single spaces.
 ///
 /// What ends a line is read by value: a word that is left behind it is an error.
-#[derive(Debug, Clone, Copy)]
+#[derive(Clone, Copy)]
 pub struct Words<'a> {
     // Nothing is left behind the last word.
     rest: Option<&'a str>,
@@ -64,28 +64,33 @@ impl<'a> Words<'a> {
 
     /// The next word as a number.
     pub fn number(&mut self) -> Result<usize, ToldFault> {
-        number_of(self.word()?)
+        self.word().and_then(number_of)
     }
 
     /// The last word as a number.
     pub fn last_number(self) -> Result<usize, ToldFault> {
-        number_of(self.last()?)
+        self.last().and_then(number_of)
     }
 
     /// The next two words as a row and a column.
     pub fn place(&mut self) -> Result<Position, ToldFault> {
-        let row = self.number()?;
-        let col = self.number()?;
+        let (row, col) = self.two_numbers()?;
         Ok(Position::new(row, col))
+    }
+
+    /// The next two words as numbers.
+    pub(crate) fn two_numbers(&mut self) -> Result<(usize, usize), ToldFault> {
+        let first = self.number()?;
+        Ok((first, self.number()?))
     }
 
     /// The next words as all cells, a row, a column or a cell.
     pub fn entity(&mut self) -> Result<Entity, ToldFault> {
         match self.word()? {
             "all" => Ok(Entity::Global),
-            "row" => Ok(Entity::Row(self.number()?)),
-            "col" => Ok(Entity::Column(self.number()?)),
-            "cell" => Ok(Entity::from(self.place()?)),
+            "row" => self.number().map(Entity::Row),
+            "col" => self.number().map(Entity::Column),
+            "cell" => self.place().map(Entity::from),
             _ => Err(ToldFault::Unknown),
         }
     }
@@ -93,8 +98,8 @@ impl<'a> Words<'a> {
     /// The next two words as a place that is counted from the start or from the end.
     pub fn offset(&mut self) -> Result<Offset, ToldFault> {
         match self.word()? {
-            "start" => Ok(Offset::Start(self.number()?)),
-            "end" => Ok(Offset::End(self.number()?)),
+            "start" => self.number().map(Offset::Start),
+            "end" => self.number().map(Offset::End),
             _ => Err(ToldFault::Unknown),
         }
     }
@@ -113,7 +118,7 @@ impl<'a> Words<'a> {
 
     /// The last word as a glyph, or `None` for none.
     pub fn last_glyph(self) -> Result<Option<char>, ToldFault> {
-        glyph_of(self.last()?)
+        self.last().and_then(glyph_of)
     }
 
     /// The last word as a glyph that is there.
@@ -127,6 +132,14 @@ impl<'a> Words<'a> {
         let (left, right) = (indent_of(words.left)?, indent_of(words.right)?);
         let (top, bottom) = (indent_of(words.top)?, indent_of(words.bottom)?);
         Ok(Sides::new(left, right, top, bottom))
+    }
+
+    /// The last word as a colour that is there.
+    pub(crate) fn last_color_there<A: Allocator + Copy>(
+        self,
+        alloc: A,
+    ) -> Result<ANSIBuf<A>, ToldFault> {
+        self.last_color(alloc)?.ok_or(ToldFault::Unknown)
     }
 
     /// The last word as a colour, or `None` for none.
@@ -187,5 +200,5 @@ impl<'a> Words<'a> {
 
 // The number that a word writes.
 fn number_of(word: &str) -> Result<usize, ToldFault> {
-    word.parse::<usize>().map_err(|_| ToldFault::Unknown)
+    word.parse::<usize>().ok().ok_or(ToldFault::Unknown)
 }
