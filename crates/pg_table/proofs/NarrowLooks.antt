@@ -1,7 +1,7 @@
 -- Looks, lines below a header and paddings that take one column a glyph.
 use Rattle.std.proofs.Common.{◌≡◌, ℕ, zero, suc, ◌+◌, ◌<◌, ◌≤◌, ◌==◌, ◌&&◌, nat_lt, Bool, true, false, List, [], ◌∷◌, Option, Some, None, IfSome, if◌then◌else◌, encode_utf8, arith, refl, subst, inl, inr}
 use Rattle.std.specs.List.{list_all, range_with_len}
-use Rattle.std.specs.Prelude.{Result, Ok, Err, IsOk, OnOk}
+use Rattle.std.specs.Prelude.{Result, Ok, Err, IsOk, OnErr, OnOk}
 use Rattle.std.proofs.lemmas.Bool.{and_parts, cases_Bool, false≢true}
 use Rattle.std.proofs.lemmas.Bool.Decides.{nat_tests}
 use Rattle.unicode_width.proofs.Computing.{unicode_width}
@@ -157,15 +157,19 @@ module _ (config : Config) (look : IsNarrowLook config) where
         margins = look.margins;
       }
 
-  pub told-header : (line : HorizontalLine ℕ) (rows columns : ℕ) → is_of_line_glyphs line ≡ true → IsNarrowLook (with_header_line line rows columns config)
+  pub told-line : (line : HorizontalLine ℕ) (columns : ℕ) → is_of_line_glyphs line ≡ true → IsNarrowLook (record config { overrides = with_row_line 1 columns line config.overrides })
   unfolding with_row_line
+  told-line line columns h =
+      elim (cases_Bool (columns == 0)) [
+        | inl none ↦ rw none look
+        | inr wide ↦ rw wide (row-line columns line h)
+      ]
+
+  pub told-header : (line : HorizontalLine ℕ) (rows columns : ℕ) → is_of_line_glyphs line ≡ true → IsNarrowLook (with_header_line line rows columns config)
   told-header line rows columns h =
       elim (cases_Bool (nat_lt 1 rows)) [
         | inr few ↦ rw few look
-        | inl some ↦ elim (cases_Bool (columns == 0)) [
-          | inl none ↦ rw (some, none) look
-          | inr wide ↦ rw (some, wide) (row-line columns line h)
-        ]
+        | inl some ↦ rw some (told-line line columns h)
       ]
 
 -- ---- paddings and sides of texts
@@ -212,6 +216,11 @@ module _ (config : Config) (look : IsNarrowLook config) where
 pub where-ok : {V E P : Type 0} (r : Result V E) → IsOk r → OnOk r P → P
 where-ok (Ok value) ok is = is
 where-ok (Err error) ok is = absurd (false≢true ok)
+
+-- a configuration that is told, or stays where memory is refused
+pub told-or-same : {V E : Type 0} (r : Result V E) (new told old : Config) → OnOk r (new ≡ told) → OnErr r (new ≡ old) → IsNarrowLook told → IsNarrowLook old → IsNarrowLook new
+told-or-same (Ok value) new told old is same told-narrow was = rw is told-narrow
+told-or-same (Err error) new told old is same told-narrow was = rw same was
 
 -- ---- a configuration that was told ASCII borders alone
 

@@ -157,7 +157,7 @@ where
     ghost use Rattle.pg_picture.specs.Straight.{IsStraight};
     ghost use Rattle.pg_picture.specs.Table.{Known, is_empty};
     ghost use Rattle.pg_table.specs.Fitted.{drawn_fitted, sizes_fitted, sizes_fault_fitted};
-    ghost use Rattle.pg_table.specs.Even.{IsEven};
+    ghost use Rattle.pg_table.specs.Even.{IsEven, IsEvenText, IsNarrowLook};
     ghost use Rattle.pg_table.specs.Printing.{fault_of, is_spanned, CanFail, Prints};
     ghost use Rattle.pg_table.specs.declared.sizes.Axis.TheVariants.{Columns, Rows};
 
@@ -212,6 +212,7 @@ where
     /// with no rows or no columns asks for no memory.
     pub fn to_string<D: Allocator + Copy>(&self, alloc: D) -> Result<String<D>, TableFault>
         ensures text { IfOk result (λ text. string_bytes text ≡ picture Known (drawn_fitted R.texts R.columns C.color self.now)) }
+        ensures even { IsNarrowLook self.now.config.now → IfOk result (λ text. IsEvenText (string_bytes text)) }
         ensures ok { IsOk result → fault_of (drawn_fitted R.texts R.columns C.color self.now) ≡ None }
         ensures fault { (fault : TableFault) → result ≡ Err fault → CanFail (drawn_fitted R.texts R.columns C.color self.now) fault }
         ensures empty { is_empty (drawn_fitted R.texts R.columns C.color self.now) ≡ true → IsOk result }

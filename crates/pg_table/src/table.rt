@@ -168,6 +168,7 @@ impl<T: AsStr + Drop, A: Allocator> Table<T, A> {
         ensures err { OnErr result (self.new ≡ self.old) }
         ensures few { length self.old.rows < 2 → IsOk result }
         ensures nothing { has_glyph (columns_of self.old.rows) line ≡ false → IsOk result }
+        ensures narrow { IsNarrowLook self.old.config → is_of_line_glyphs line ≡ true → IsNarrowLook self.new.config }
     {
         let (rows, columns) = self.size();
         if rows < 2 {

@@ -2,6 +2,7 @@
 
 ghost use Rattle.std.specs.Prelude.{◌≡◌, ◌++◌, ◌∷◌, [], ℕ, length, None, Some, Err, OnErr, OnOk};
 ghost use Rattle.pg_layout.specs.Records.{columns_of, ragged_row};
+ghost use Rattle.pg_table.specs.Even.{IsNarrowLook};
 
 use crate::fault::TableFault;
 use crate::table::Table;
@@ -24,6 +25,7 @@ impl<T: Drop, A: Allocator> Table<T, A> {
     pub fn push_row(&mut self, row: Vec<T, A>) -> Result<(), TableFault>
         ensures ok { OnOk result (self.new ≡ record self.old { rows = self.old.rows ++ row.items ∷ [] }) }
         ensures err { OnErr result (self.new ≡ self.old) }
+        ensures narrow { IsNarrowLook self.old.config → IsNarrowLook self.new.config }
         ensures ragged { (number : ℕ) → ragged_row (self.old.rows ++ row.items ∷ []) ≡ Some number → result ≡ Err (TableFault.Ragged number) }
         ensures memory { (fault : TableFault) → ragged_row (self.old.rows ++ row.items ∷ []) ≡ None → result ≡ Err fault → fault ≡ TableFault.Memory }
     {

@@ -1,8 +1,8 @@
 //! The settings of a table: what it was told, and how it is told by reference.
 
-ghost use Rattle.std.specs.Prelude.{◌≡◌, Err, IfOk, IsOk, OnErr, OnOk};
+ghost use Rattle.std.specs.Prelude.{◌≡◌, true, Err, IfOk, IsOk, OnErr, OnOk};
 ghost use Rattle.pg_config.specs.Settings.{with_setting, HasRoom};
-ghost use Rattle.pg_table.specs.Even.{IsNarrowLook};
+ghost use Rattle.pg_table.specs.Even.{IsNarrowLook, are_line_glyphs, are_line_fills};
 
 use crate::fault::TableFault;
 use crate::table::Table;
@@ -28,7 +28,8 @@ impl<T, A: Allocator> Table<T, A> {
     /// Tells the table all that this configuration was told, in place of all that it was told itself
     /// ([`Table::with_config`]). Takes no memory.
     pub fn set_config(&mut self, config: SpannedConfig<A>)
-        ensures { self.new ≡ record self.old { config = config } }
+        ensures table { self.new ≡ record self.old { config = config } }
+        ensures narrow { IsNarrowLook config → IsNarrowLook self.new.config }
     {
         self.config = config;
     }
@@ -36,14 +37,16 @@ impl<T, A: Allocator> Table<T, A> {
     /// Gives the cells these colours, in place of all colours that they had ([`Table::with_colors`]).
     /// Takes no memory.
     pub fn set_colors(&mut self, colors: ColorsMap<A>)
-        ensures { self.new ≡ record self.old { colors = colors } }
+        ensures table { self.new ≡ record self.old { colors = colors } }
+        ensures narrow { IsNarrowLook self.old.config → IsNarrowLook self.new.config }
     {
         self.colors = colors;
     }
 
     /// Gives the table these borders ([`Table::with_borders`]). Takes no memory.
     pub fn set_borders(&mut self, borders: Borders<char>)
-        ensures { self.new ≡ record self.old { config = record self.old.config { borders = borders } } }
+        ensures table { self.new ≡ record self.old { config = record self.old.config { borders = borders } } }
+        ensures narrow { IsNarrowLook self.old.config → are_line_glyphs borders ≡ true → IsNarrowLook self.new.config }
     {
         self.config.set_borders(borders);
     }
@@ -52,7 +55,8 @@ impl<T, A: Allocator> Table<T, A> {
     pub fn set_padding(&mut self, padding: Sides<Indent>)
     where
         A: Clone,
-        ensures { self.new ≡ record self.old { config = record self.old.config { padding = with_setting Entity.Global padding self.old.config.padding } } }
+        ensures table { self.new ≡ record self.old { config = record self.old.config { padding = with_setting Entity.Global padding self.old.config.padding } } }
+        ensures narrow { IsNarrowLook self.old.config → are_line_fills padding ≡ true → IsNarrowLook self.new.config }
     {
         self.config.set_padding(Entity::Global, padding).unwrap();
     }
@@ -61,7 +65,8 @@ impl<T, A: Allocator> Table<T, A> {
     pub fn set_alignment(&mut self, alignment: AlignmentHorizontal)
     where
         A: Clone,
-        ensures { self.new ≡ record self.old { config = record self.old.config { alignment_horizontal = with_setting Entity.Global alignment self.old.config.alignment_horizontal } } }
+        ensures table { self.new ≡ record self.old { config = record self.old.config { alignment_horizontal = with_setting Entity.Global alignment self.old.config.alignment_horizontal } } }
+        ensures narrow { IsNarrowLook self.old.config → IsNarrowLook self.new.config }
     {
         self.config
             .set_alignment_horizontal(Entity::Global, alignment)
@@ -84,6 +89,7 @@ impl<T, A: Allocator> Table<T, A> {
         ensures ok { OnOk result (self.new ≡ record self.old { config = record self.old.config { alignment_horizontal = with_setting (Entity.Column column) alignment self.old.config.alignment_horizontal } }) }
         ensures err { OnErr result (self.new ≡ self.old) }
         ensures again { HasRoom (Entity.Column column) self.old.config.alignment_horizontal → IsOk result }
+        ensures narrow { IsNarrowLook self.old.config → IsNarrowLook self.new.config }
     {
         self.config
             .set_alignment_horizontal(Entity::Column(column), alignment)
