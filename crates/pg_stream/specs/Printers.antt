@@ -7,7 +7,7 @@ use Rattle.pg_picture.specs.Fits.{spans_fit}
 use Rattle.pg_picture.specs.Marks.{marks_above}
 use Rattle.pg_picture.specs.Table.{Table, full_width, table_body}
 use Rattle.pg_stream.specs.Conditions.{PrinterFits}
-use Rattle.pg_stream.specs.Open.{open_before}
+use Rattle.pg_stream.specs.Open.{Slot, open_before}
 use Rattle.pg_stream.specs.Placed.{Placed, slots_of, AllOpen, IsPlaced}
 use Rattle.pg_stream.specs.Printing.{Printing, table_known}
 use Rattle.pg_stream.specs.declared.frame.Frame.{Frame}
@@ -23,7 +23,7 @@ pub record Printer (D C : Type 0) : Type 0 where
   pub rows : ℕ
   pub lines : ℕ
   pub is_ended : Bool
-  pub cells : List (Option Placed)
+  pub slots : List (Option Slot)
 
 -- a printer that was told this, and has printed so much
 abbrev pub printer_of : {D C B S A : Type 0} → Frame D C B → Progress S A → Printer D C
@@ -36,7 +36,7 @@ printer_of frame progress = record {
   rows = progress.rows;
   lines = progress.lines;
   is_ended = progress.is_ended;
-  cells = progress.cells;
+  slots = slots_of progress.cells;
 }
 
 -- what it stands for, by what its dimension and its colours stand for
@@ -51,7 +51,7 @@ printing width height color p = record {
   rows = p.rows;
   lines = p.lines;
   is_ended = p.is_ended;
-  slots = slots_of p.cells;
+  slots = p.slots;
 }
 
 -- Between its calls: its conditions hold; the total width and, where the number of rows is known, the number of the
