@@ -36,6 +36,7 @@ pub mod SingleCells
 pub mod FittingCells
 pub mod LineStyles
 pub mod EqualRowLines
+pub mod UnruledRows
 pub mod RowsInTurn
 pub mod MakingPrinters
 pub mod RowsOfCells

@@ -6,6 +6,7 @@ pub mod SingleRows
 pub mod Styles
 pub mod Told
 pub mod Frames
+pub mod RowLines
 pub mod Held
 pub mod Sized
 pub mod OpenCells

@@ -84,6 +84,9 @@ where
     pub(crate) fn has_horizontal(self, row: usize, rows: usize) -> bool
         ensures { result ≡ has_horizontal T.told.config row rows }
     {
+        if !self.frame.draws_separators {
+            return false;
+        }
         self.frame.config.has_horizontal(row, rows)
     }
 

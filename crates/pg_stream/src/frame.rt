@@ -8,6 +8,7 @@ ghost use Rattle.pg_picture.specs.Inside.Cells.{style_of};
 ghost use Rattle.pg_picture.specs.Fits.{cell_fits};
 ghost use Rattle.pg_picture.specs.Pieces.{style_at};
 ghost use Rattle.pg_picture.specs.Styles.{IsStyleOfAll};
+ghost use Rattle.pg_stream.specs.Inside.RowLines.{may_have_row_lines};
 ghost use Rattle.pg_stream.specs.Inside.Styles.{DrawsAs};
 ghost use Rattle.pg_stream.specs.Inside.Turns.{place_in};
 
@@ -35,6 +36,9 @@ pub(crate) struct Frame<'a, D, C, B: Allocator = Global> {
     /// Whether some column line is there: else no vertical has a glyph.
     pub(crate) draws_verticals: bool,
     ghost is_lined: { draws_verticals ≡ has_column_lines config.now },
+    /// Whether some row line may be there: else no row has a separator.
+    pub(crate) draws_separators: bool,
+    ghost is_ruled: { draws_separators ≡ may_have_row_lines config.now },
 }
 
 impl<'a, D: Dimension, C: Colors, B: Allocator> Frame<'a, D, C, B> {
@@ -124,4 +128,16 @@ impl<'a, D: Dimension, C: Colors, B: Allocator> Frame<'a, D, C, B> {
         let facts = TextFacts::of_text(text, style.formatting);
         CellPlace::of(facts, style, width, height)
     }
+}
+
+// Whether a row line may be there: the borders have one, or something was set for row lines by its place.
+#[tactic(auto, unfolding(crate::specs::Inside::RowLines::may_have_row_lines))]
+pub(crate) fn may_have_row_lines<B: Allocator>(config: &SpannedConfig<B>) -> bool
+    ensures { result ≡ may_have_row_lines config.now }
+{
+    let borders = config.get_borders();
+    borders.has_top()
+        || borders.has_bottom()
+        || borders.has_horizontal()
+        || !config.has_equal_row_lines()
 }

@@ -12,7 +12,7 @@ ghost use Rattle.pg_stream.specs.Placed.{slots_of};
 ghost use Rattle.pg_stream.specs.Printers.{printing};
 ghost use Rattle.pg_stream.specs.Printing.{printer, row_text, finish_text, after_row};
 
-use crate::frame::Frame;
+use crate::frame::{Frame, may_have_row_lines};
 use crate::open_cells::OpenCells;
 use crate::progress::Progress;
 use pg_config::SpannedConfig;
@@ -107,6 +107,7 @@ impl<'a, S: AsStr + Drop, D: Dimension, C: Colors, B: Allocator, A: Allocator> R
                 height,
                 all: CellStyle::of_all(config),
                 draws_verticals: config.has_column_lines(),
+                draws_separators: may_have_row_lines(config),
             },
             progress: Progress {
                 cells,

@@ -208,6 +208,7 @@ impl<'a, D: Dimension, C: Colors, B: Allocator> Frame<'a, D, C, B> {
             height: self.height,
             all: self.style_of_all(),
             draws_verticals: self.draws_verticals,
+            draws_separators: self.draws_separators,
         }
     }
 }

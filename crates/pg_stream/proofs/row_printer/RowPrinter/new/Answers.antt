@@ -22,7 +22,7 @@ height_of_body-height-requires g c =
     heights-fit s c.requires
 
 pub invariant_of-result : goal.invariant_of-result
-invariant_of-result g c = record { is_of_all = c.of_all.ensures.of; is_lined = c.has_column_lines.ensures }
+invariant_of-result g c = record { is_of_all = c.of_all.ensures.of; is_lined = c.has_column_lines.ensures; is_ruled = c.may_have_row_lines.ensures }
 
 pub invariant_of-result-2 : goal.invariant_of-result-2
 unfolding printer
