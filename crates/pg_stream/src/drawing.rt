@@ -158,6 +158,7 @@ where
 
     // What stands before a line of the body: its line feed, unless the line is the picture's first,
     // and its left margin.
+    #[inline(always)]
     pub(crate) fn push_start<W: Allocator>(
         self,
         buf: &mut String<W>,

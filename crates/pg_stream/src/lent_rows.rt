@@ -123,6 +123,7 @@ impl<S: AsStr + Drop, A: Allocator> Progress<'_, S, A> {
     }
 
     // Whether these cells may be lent as the next row, and then whether each text is known to be plain.
+    #[inline(always)]
     pub(crate) fn lent_plainness<X, D, C, B>(
         &self,
         frame: &Frame<'_, D, C, B>,

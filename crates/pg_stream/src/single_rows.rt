@@ -49,6 +49,7 @@ where
 
     // The one line of a row of these cells, as line `index` of the body. Texts that are known to be plain
     // aren't read for it.
+    #[inline(always)]
     pub(crate) fn push_single_row<S: AsStr + Drop, I: Iterator<Item = S>, W: Allocator>(
         self,
         buf: &mut String<W>,
@@ -67,6 +68,7 @@ where
     }
 
     // The cells of the row, one after the other, and the vertical behind the last one.
+    #[inline(always)]
     fn push_single_cells<S: AsStr + Drop, I: Iterator<Item = S>, W: Allocator>(
         self,
         buf: &mut String<W>,
@@ -105,21 +107,33 @@ where
         self.push_vertical(buf, cell.pos, 0)?;
         match &self.frame.all {
             Some(style) => self.push_single_text(buf, style, cell),
-            None => self.push_own_text(buf, cell),
+            None => self.push_own_text(buf, cell.pos, cell.text, cell.is_plain),
         }
     }
 
-    // The one line of a cell whose style is looked up.
+    // The one line of a cell whose style is looked up. It is told by its parts: a cell that were lent here
+    // would stand in memory for each column.
     #[inline(never)]
     fn push_own_text<W: Allocator>(
         self,
         buf: &mut String<W>,
-        cell: &SingleCell<'_, T>,
+        pos: Position,
+        text: &str,
+        is_plain: bool,
     ) -> Result<(), AllocError>
-        ensures { Appends buf.old buf.new result (written (block_line (style_at T.told.config cell.now.pos) (T.told.color cell.now.pos) cell.now.text.now (T.told.width cell.now.pos.col) 1 0)) }
+        requires single { IsSingle T.told pos.row }
+        requires known { is_plain ≡ true → list_all is_plain_byte text.now ≡ true }
+        requires room { HasRoom (frame_of T.told) pos text.now }
+        ensures { Appends buf.old buf.new result (written (block_line (style_at T.told.config pos) (T.told.color pos) text.now (T.told.width pos.col) 1 0)) }
     {
-        let style = CellStyle::of(self.frame.config, cell.pos);
-        self.push_single_text(buf, &style, cell)
+        let style = CellStyle::of(self.frame.config, pos);
+        let cell = SingleCell {
+            pos,
+            text,
+            is_plain,
+            of: PhantomData,
+        };
+        self.push_single_text(buf, &style, &cell)
     }
 
     // The one line of a cell, which has this style.
