@@ -8,7 +8,6 @@ use pg_testing::streams::{FailingReader, FailingWriter};
 use std::alloc::Global;
 use std::fmt::Debug;
 use std::process::Abort;
-use std::test::Fail;
 
 // What is given is what is wanted.
 fn assert_same<T: PartialEq + Debug + Drop>(rt: &impl Abort, given: T, wanted: T) {
@@ -23,138 +22,148 @@ struct Run {
     err: Vec<u8>,
 }
 
-// The program prints this text of this input.
-fn assert_shown(rt: &impl Abort, alloc: Global, input: &str, text: &str) {
-    let (mut out, mut err) = (Vec::new(alloc), Vec::new(alloc));
-    let status = exit_status(run(alloc, input.as_bytes(), &mut out, &mut err));
-    assert_same(rt, status, 0);
-    assert_same(rt, out.as_slice(), text.as_bytes());
-    assert_same(rt, err.len(), 0);
-}
-
-// The program refuses this input as bad, in this line.
-fn assert_refused(rt: &impl Abort, alloc: Global, input: &[u8], line: &str) {
-    let (mut out, mut err) = (Vec::new(alloc), Vec::new(alloc));
-    let status = exit_status(run(alloc, input, &mut out, &mut err));
-    assert_same(rt, status, 2);
-    assert_same(rt, out.len(), 0);
-    assert_same(rt, err.as_slice(), line.as_bytes());
-}
-
-#[test]
-fn no_rows_print_nothing(rt: HostRuntime) {
-    assert_shown(&rt, rt.alloc(), "", "");
-}
-
-#[test]
-fn a_line_is_below_a_header_alone(rt: HostRuntime) {
-    let text = "\
-| a |  |
-|---|--|
-";
-    assert_shown(&rt, rt.alloc(), "a,\n", text);
-    assert_shown(&rt, rt.alloc(), "\u{feff}\"a\",\"\"", text);
-}
-
-#[test]
-fn lines_end_in_three_ways(rt: HostRuntime) {
-    let text = "\
-| a  | b |
-|----|---|
-| cd | e |
-";
-    assert_shown(&rt, rt.alloc(), "a,b\ncd,e\n", text);
-    assert_shown(&rt, rt.alloc(), "a,b\ncd,e", text);
-    assert_shown(&rt, rt.alloc(), "a,b\r\n\"cd\",\"e\"\r\n", text);
-}
-
-#[test]
-fn quotes_hold_commas_line_feeds_and_quotes(rt: HostRuntime) {
-    let input = "\
-a,\"b,\nc\"
-\",\"\"\",d\"e\"
-\"\r\n\",\"\"
-";
-    let text = "\
+/// Inputs, and what is written of them: a table, or the line that tells of a bad row.
+const CASES: [(&[u8], &str, &str); 18] = [
+    // No rows.
+    (b"", "", ""),
+    // A header alone has a line below it, also behind a byte order mark.
+    (b"a,\n", HEADER, ""),
+    (b"\xef\xbb\xbf\"a\",\"\"", HEADER, ""),
+    // Lines end in three ways.
+    (b"a,b\ncd,e\n", TWO_LINES, ""),
+    (b"a,b\ncd,e", TWO_LINES, ""),
+    (b"a,b\r\n\"cd\",\"e\"\r\n", TWO_LINES, ""),
+    // Quotes hold commas, line feeds and quotes.
+    (
+        b"a,\"b,\nc\"\n\",\"\"\",d\"e\"\n\"\r\n\",\"\"\n",
+        "\
 | a  | b,   |
 |    | c    |
 |----|------|
 | ,\" | d\"e\" |
 |    |      |
 |    |      |
-";
-    assert_shown(&rt, rt.alloc(), input, text);
-}
-
-#[test]
-fn wide_characters_take_two_columns(rt: HostRuntime) {
-    let text = "\
+",
+        "",
+    ),
+    // Wide characters take two columns.
+    (
+        b"\xe8\x8c\xb6,\xc3\xa9\nabcd,x\n",
+        "\
 | 茶   | é |
 |------|---|
 | abcd | x |
-";
-    assert_shown(&rt, rt.alloc(), "茶,é\nabcd,x\n", text);
-}
-
-#[test]
-fn columns_of_numbers_stand_right(rt: HostRuntime) {
-    let input = "\
-number,text,blank
-1,1,
--22.5,x,
-,22,
-";
-    let text = "\
+",
+        "",
+    ),
+    // Columns of numbers stand right.
+    (
+        b"number,text,blank\n1,1,\n-22.5,x,\n,22,\n",
+        "\
 | number | text | blank |
 |--------|------|-------|
 |      1 | 1    |       |
 |  -22.5 | x    |       |
 |        | 22   |       |
+",
+        "",
+    ),
+    // Control characters have a column.
+    (
+        b"a\tb,\x1b[1m,\0\x1f\x7f,\xc2\x9b\n",
+        "\
+| a b | ␛[1m | ␀␟␡ | � |
+|-----|------|-----|---|
+",
+        "",
+    ),
+    // Bad rows are named by their first line.
+    (
+        b"a,b,c\n1,2,3\n1,2,3\n1,2\n1",
+        "",
+        "line 4: 2 fields, and the header has 3\n",
+    ),
+    (
+        b"a\n1\n1,2\n",
+        "",
+        "line 3: 2 fields, and the header has 1\n",
+    ),
+    (
+        b"a,b\n\"1\n\",2\n\n",
+        "",
+        "line 4: 1 field, and the header has 2\n",
+    ),
+    (
+        b"a,b\n1,2\n1,\"2\n\n3",
+        "",
+        "line 3: a quote isn't closed\n",
+    ),
+    (b"\"", "", "line 1: a quote isn't closed\n"),
+    (
+        b"a\n\"1\n2\"3\n",
+        "",
+        "line 2: text behind a closing quote\n",
+    ),
+    (b"a\n\xff\n", "", "line 2: not UTF-8\n"),
+    (b"a\n\"1\n\xe8\x8c\n", "", "line 2: not UTF-8\n"),
+];
+
+/// The table of a header alone, whose second column has no name.
+const HEADER: &str = "\
+| a |  |
+|---|--|
 ";
-    assert_shown(&rt, rt.alloc(), input, text);
+
+/// The table of two rows of two fields.
+const TWO_LINES: &str = "\
+| a  | b |
+|----|---|
+| cd | e |
+";
+
+// What a run of this input leaves.
+fn run_on(alloc: Global, input: &[u8]) -> Run {
+    let (mut out, mut err) = (Vec::new(alloc), Vec::new(alloc));
+    let status = exit_status(run(alloc, input, &mut out, &mut err));
+    Run { status, out, err }
 }
+
+#[test]
+fn inputs_are_answered(rt: HostRuntime) {
+    for (input, text, line) in CASES {
+        let run = run_on(rt.alloc(), input);
+        assert_same(&rt, run.status, if line.is_empty() { 0 } else { 2 });
+        assert_same(&rt, run.out.as_slice(), text.as_bytes());
+        assert_same(&rt, run.err.as_slice(), line.as_bytes());
+    }
+}
+
+/// Texts, and whether they are numbers.
+const NUMBERS: [(&str, bool); 18] = [
+    ("0", true),
+    ("007", true),
+    ("+1", true),
+    ("-1", true),
+    ("3.50", true),
+    ("-.5", true),
+    ("5.", true),
+    ("", false),
+    ("+", false),
+    (".", false),
+    ("-.", false),
+    ("1e3", false),
+    ("1.2.3", false),
+    ("--1", false),
+    ("1-", false),
+    (" 1", false),
+    ("1,0", false),
+    ("٣", false),
+];
 
 #[test]
 fn numbers_have_a_digit(rt: HostRuntime) {
-    for text in ["0", "007", "+1", "-1", "3.50", "-.5", "5."] {
-        assert!(&rt; is_number(text), "{text}");
-    }
-    for text in [
-        "", "+", ".", "-.", "1e3", "1.2.3", "--1", "1-", " 1", "1,0", "٣",
-    ] {
-        assert!(&rt; !is_number(text), "{text}");
-    }
-}
-
-#[test]
-fn control_characters_have_a_column(rt: HostRuntime) {
-    let text = "\
-| a b | ␛[1m | ␀␟␡ | � |
-|-----|------|-----|---|
-";
-    assert_shown(&rt, rt.alloc(), "a\tb,\x1b[1m,\0\x1f\x7f,\u{9b}\n", text);
-}
-
-#[test]
-fn bad_rows_are_named_by_their_first_line(rt: HostRuntime) {
-    let cases: [(&[u8], &str); 8] = [
-        (
-            b"a,b,c\n1,2,3\n1,2,3\n1,2\n1",
-            "line 4: 2 fields, and the header has 3\n",
-        ),
-        (b"a\n1\n1,2\n", "line 3: 2 fields, and the header has 1\n"),
-        (
-            b"a,b\n\"1\n\",2\n\n",
-            "line 4: 1 field, and the header has 2\n",
-        ),
-        (b"a,b\n1,2\n1,\"2\n\n3", "line 3: a quote isn't closed\n"),
-        (b"\"", "line 1: a quote isn't closed\n"),
-        (b"a\n\"1\n2\"3\n", "line 2: text behind a closing quote\n"),
-        (b"a\n\xff\n", "line 2: not UTF-8\n"),
-        (b"a\n\"1\n\xe8\x8c\n", "line 2: not UTF-8\n"),
-    ];
-    for (input, line) in cases {
-        assert_refused(&rt, rt.alloc(), input, line);
+    for (text, is) in NUMBERS {
+        assert_same(&rt, (text, is_number(text)), (text, is));
     }
 }
 
