@@ -1,0 +1,74 @@
+-- What is known of a database that was opened, and of a statement that has shown its rows.
+use Rattle.std.proofs.Common.{◌≡◌, ◌∙◌, ℕ, [], List, IsTrue, true, Option, None, Some, Result, Ok, sym, ap, subst, subst₂}
+use Rattle.std.specs.Prelude.{unwrap_or}
+use Rattle.std.proofs.lemmas.Bool.{and_from}
+use Rattle.sqlite_value.specs.Order.{Row}
+use Rattle.sqlite_disk.specs.declared.Disk.{Ghosts}
+use Rattle.sqlite_pool.specs.Pool.{files}
+use Rattle.sqlite_pool.proofs.StateLemmas.{clean_is}
+use Rattle.sqlite_store.specs.declared.store.FileStore.{FileStore}
+use Rattle.sqlite_trees.proofs.Doubt.{no_doubt}
+use Rattle.sqlite_schema.specs.declared.command.Returning.{Returning}
+use Rattle.sqlite_resolve.specs.declared.compiled.Compiled.{Compiled}
+use Rattle.sqlite_resolve.specs.declared.error.CompileError.{CompileError}
+use Rattle.sqlite.specs.Does.{Does}
+use Rattle.sqlite.specs.Effect.{Database}
+use Rattle.sqlite.specs.Files.{AreFoundIn, file_state}
+use Rattle.sqlite.specs.Held.{Held}
+use Rattle.sqlite.specs.Listing.{IsSourceOf, reads_listing, understood}
+use Rattle.sqlite.specs.Outline.{Outline}
+use Rattle.sqlite.specs.Start.{FindsIn}
+use Rattle.sqlite.specs.State.{HasCleanDisk, IsLive, IsUnchanged, Opens, Shown, ShowsRows, State, mode_of, text_of}
+use Rattle.sqlite.specs.Steps.{Outlines, column_names}
+use Rattle.ruled_sql.specs.Answers.{IsAnswer, IsHeld, Shows, image_of}
+
+-- ---- databases
+
+-- over files that are always clean so is a connection
+pub stays_clean : {D : Type 0} {g : Ghosts D} → ((file : D) → g.is_clean file ≡ true) → (c : Held (FileStore D g)) → HasCleanDisk (file_state c)
+stays_clean clean c =
+    let both = files c.store.pool in
+    no_doubt _ (subst IsTrue (sym (clean_is c.store.pool)) (and_from _ _ (clean both.0) (clean both.1)))
+
+-- the image of two files, of which the log is empty
+pub found_in : (log db bytes : List ℕ) → log ≡ [] → db ≡ bytes → (s : State) → FindsIn (record { log = log; db = db }) s → FindsIn (image_of bytes) s
+found_in log db bytes empty is s found =
+    subst₂ (λ (l d : List ℕ). FindsIn (record { log = l; db = d }) s) empty is found
+
+pub held : (bytes : List ℕ) (s : State) → Opens s → IsLive s → FindsIn (image_of bytes) s → IsHeld bytes s.now
+held bytes s opens live found = record {
+  found = subst (λ (db : Database). AreFoundIn (image_of bytes) db.trees) (sym opens.clean) found.reads;
+  alone = λ trees holds. ap (λ (db : Database). db.trees) opens.clean ∙ found.holds trees holds;
+  sound = (live opens.is_open).0;
+}
+
+-- ---- answers
+
+named_as : (known : Result Compiled CompileError) (c : Compiled) (it : Outline) → known ≡ Ok c → Outlines known it → it.columns ≡ column_names c
+named_as known c it is outlines = let known : Outlines (Ok c) it = subst (λ k. Outlines k it) is outlines in known.2
+
+module _ (query : List ℕ) (old mid new : State) (rows : List Row) where
+  shows : Opens old → old.step_limit ≡ None → IsUnchanged old mid → mid.step_limit ≡ old.step_limit → new.changes ≡ 0 → (c : Compiled) (params : Row) (returning : Option Returning)
+      → ShowsRows mid new query c params rows returning → Shows query old.now c params rows returning
+  shows opens unlimited same limit none c params None h =
+      (h.0, subst (λ (db : Database). IsSourceOf (reads_listing db.schema query) db h.0) same.0.now_is h.1, h.2)
+  shows opens unlimited same limit none c params (Some what) h =
+      let w = h.1 in
+      let before : mid.changes ≡ 0 = same.1.changes ∙ opens.uncounted.0 in
+      let counted : unwrap_or w.tally.rows 0 ≡ 0 = ap (unwrap_or w.tally.rows) (sym before) ∙ sym w.changes ∙ none in
+      let changed = subst₂ (λ (most : Option ℕ) (db : Database). Does most (mode_of mid) params db (text_of query c) (Some what) c.command (Ok (w.tally, new.now))) (limit ∙ unlimited) same.0.now_is w.changed in
+      (w.tally, new.now, changed, counted, h.2)
+
+  pub answers : (it : Outline) → Opens old → old.step_limit ≡ None → IsUnchanged old mid → mid.step_limit ≡ old.step_limit → it.text ≡ query → Outlines (understood old.now.schema query) it
+      → Shown it.text [] mid new rows → new.changes ≡ 0 → IsAnswer query old.now it.columns rows
+  unfolding Shown
+  answers it opens unlimited same limit text outlines shown none =
+      let h = subst (λ (sql : List ℕ). Shown sql [] mid new rows) text shown in
+      let is : understood old.now.schema query ≡ Ok h.0 = subst (λ (db : Database). understood db.schema query ≡ Ok h.0) same.0.now_is h.1.is in
+      record {
+        statement = h.0;
+        means = record { is = is; whole = h.1.whole; bare = sym h.1.given };
+        time = h.1.now;
+        shows = shows opens unlimited same limit none h.0 _ h.0.returning h.2;
+        named = named_as (understood old.now.schema query) h.0 it is outlines;
+      }

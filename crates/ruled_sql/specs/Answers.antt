@@ -1,0 +1,91 @@
+-- The rows that a query answers of the database that bytes hold.
+use Rattle.std.specs.Prelude.{◌≡◌, ◌≤◌, ◌==◌, ◌++◌, ℕ, Bool, false, List, [], ◌∷◌, length, map, codes, slice_index_or, Option, Some, None, unwrap_or, Ok}
+use Rattle.std.specs.Fmt.{signed_decimal}
+use Rattle.hex.specs.Hex.{encode_lower}
+use Rattle.sqlite_value.specs.Order.{Row}
+use Rattle.sqlite_value.specs.declared.value.Value.{Value}
+use Rattle.sqlite_value.specs.declared.value.Value.TheVariants.{Null, Int, Real, Text, Blob}
+use Rattle.sqlite_sql.specs.Spelling.{spelled}
+use Rattle.sqlite_trees.specs.Tree.{Trees}
+use Rattle.sqlite_wal.specs.Recovery.{Image}
+use Rattle.sqlite_schema.specs.declared.command.Returning.{Returning}
+use Rattle.sqlite_schema.specs.declared.schema.Keys.TheVariants.{Enforced}
+use Rattle.sqlite_resolve.specs.declared.compiled.Compiled.{Compiled}
+use Rattle.sqlite.specs.Clock.{timed}
+use Rattle.sqlite.specs.Does.{Does, Tally}
+use Rattle.sqlite.specs.Effect.{Database, IsDatabase, Reads}
+use Rattle.sqlite.specs.Files.{AreFoundIn, HoldsDatabase}
+use Rattle.sqlite.specs.Listing.{IsSourceOf, reads_listing, understood}
+use Rattle.sqlite.specs.State.{text_of}
+use Rattle.sqlite.specs.Steps.{column_names}
+
+-- ---- the database
+
+-- the bytes of a database file, with no log beside it
+abbrev pub image_of : List ℕ → Image
+image_of bytes = record { log = []; db = bytes }
+
+-- its rows are those that the bytes stand for, and its schema is the one that they list, which they obey
+pub record IsHeld (bytes : List ℕ) (db : Database) : Type 0 where
+  pub found : AreFoundIn (image_of bytes) db.trees
+  pub alone : (trees : Trees) → HoldsDatabase (image_of bytes) trees → db.trees ≡ trees
+  pub sound : IsDatabase db
+
+-- they hold no database that is understood
+abbrev pub HoldsNone : List ℕ → Type 0
+HoldsNone bytes = (trees : Trees) → ¬ HoldsDatabase (image_of bytes) trees
+
+-- ---- the answer
+
+-- the query is one statement, which means this, and has no parameters
+pub record Means (query : List ℕ) (db : Database) (c : Compiled) : Type 0 where
+  pub is : understood db.schema query ≡ Ok c
+  pub whole : length query ≤ c.tail
+  pub bare : length c.names ≡ 0
+
+module _ (query : List ℕ) (db : Database) (c : Compiled) (params : Row) (rows : List Row) where
+  -- the rows are what a statement reads; or what one that changes no row returns
+  abbrev pub Shows : Option Returning → Type 0
+  Shows None = (source : Database) × IsSourceOf (reads_listing db.schema query) db source × Reads c.command source params rows
+  Shows (Some what) =
+      (tally : Tally) × (after : Database)
+      × Does None (record { keys = Enforced; in_doubt = false; may_wait = false }) params db (text_of query c) (Some what) c.command (Ok (tally, after))
+      × (unwrap_or tally.rows 0 ≡ 0) × (rows ≡ tally.shown)
+
+-- the names of its columns, and its rows
+pub record IsAnswer (query : List ℕ) (db : Database) (names : List (List ℕ)) (rows : List Row) : Type 0 where
+  pub statement : Compiled
+  pub means : Means query db statement
+  -- in milliseconds, where the statement reads the time
+  pub time : ℕ
+  pub shows : Shows query db statement (timed [] statement.formats time) rows statement.returning
+  pub named : names ≡ column_names statement
+
+-- ---- texts
+
+-- a value as a text: nothing for NULL, numbers as SQLite writes them, and bytes that are no text as a literal of SQL
+abbrev pub shown_text : Value → List ℕ
+shown_text Null = []
+shown_text (Int n) = signed_decimal n
+shown_text (Real x) = spelled x
+shown_text (Text bytes) = bytes
+shown_text (Blob bytes) = codes "x'" ++ (encode_lower bytes ++ codes "'")
+
+-- rows of texts, of which the names are row 0
+abbrev pub shown_rows : List (List ℕ) → List Row → List (List (List ℕ))
+shown_rows names rows = names ∷ map (map shown_text) rows
+
+-- the rows that a query answers of the database that bytes hold
+pub record AreAnswered (bytes query : List ℕ) (rows : List (List (List ℕ))) : Type 0 where
+  pub database : Database
+  pub held : IsHeld bytes database
+  pub names : List (List ℕ)
+  pub answer : List Row
+  pub is : IsAnswer query database names answer
+  pub shown : rows ≡ shown_rows names answer
+
+-- ---- logs
+
+-- the bytes are those of a database that keeps a log beside its file
+abbrev pub keeps_log : List ℕ → Bool
+keeps_log bytes = slice_index_or bytes 18 0 == 2

@@ -1,0 +1,89 @@
+//! A database over bytes in memory.
+
+ghost use Rattle.std.specs.Prelude.{◌≡◌, None, Err, IfOk, IsTrue};
+ghost use Rattle.sqlite.specs.Files.{IsOpened, file_state};
+ghost use Rattle.sqlite.specs.Held.{IsNew, state};
+ghost use Rattle.sqlite.specs.Start.{FindsIn};
+ghost use Rattle.sqlite.specs.State.{HasCleanDisk, Opens};
+ghost use Rattle.sqlite.specs.declared.error.Error.TheVariants.{SqliteFailure};
+ghost use Rattle.sqlite.specs.declared.error.ErrorCode.TheVariants.{NotADatabase};
+ghost use Rattle.sqlite_disk.specs.Memory.{memory_bytes, memory_is_usable};
+ghost use Rattle.ruled_sql.specs.Answers as spec;
+ghost use Rattle.ruled_sql.specs.Answers.{HoldsNone, IsAnswer, image_of};
+ghost use Rattle.ruled_sql.specs.declared.fault.SqlFault.{SqlFault};
+
+use crate::fault::{QueryFault, SqlFault};
+use sqlite::{Alter, Connection, Error, ErrorCode, FileStore, Files, Options, Row, Statement};
+use sqlite_disk::{Disk, Memory};
+use std::alloc::Global;
+
+/// Whether these are the bytes of a database in WAL mode, whose latest rows may stand in a log beside
+/// its file.
+pub fn keeps_log(bytes: &[u8]) -> bool
+    ensures { result ≡ spec.keeps_log bytes.now }
+{
+    matches!(bytes.get(18), Some(2))
+}
+
+// A copy of bytes, as a file in memory.
+fn copy_of(alloc: Global, bytes: &[u8]) -> Result<Memory, SqlFault>
+    ensures bytes { IfOk result (λ copy. memory_bytes copy ≡ bytes.now) }
+    ensures usable { IfOk result (λ copy. IsTrue (memory_is_usable copy)) }
+    ensures memory { (fault : SqlFault) → result ≡ Err fault → fault ≡ SqlFault.Memory }
+{
+    let mut copy = Memory::new(alloc);
+    match copy.write_at(0, bytes) {
+        Ok(()) => Ok(copy),
+        Err(_) => Err(SqlFault::Memory),
+    }
+}
+
+// Why a file in memory can't be opened. Of one that can, nothing but memory fails.
+fn fault_of(error: Error) -> SqlFault
+    ensures none { result ≡ SqlFault.Database → error ≡ SqliteFailure NotADatabase }
+{
+    match error {
+        Error::SqliteFailure(ErrorCode::NotADatabase) => SqlFault::Database,
+        Error::SqliteFailure(ErrorCode::DatabaseCorrupt) => SqlFault::Damage,
+        _ => SqlFault::Memory,
+    }
+}
+
+/// The database of these bytes.
+pub(crate) fn open(alloc: Global, bytes: &[u8]) -> Result<Connection<FileStore<Memory>>, SqlFault>
+    ensures opened { IfOk result (λ c. IsOpened c) }
+    ensures found { IfOk result (λ c. FindsIn (image_of bytes.now) (file_state c)) }
+    ensures fresh { IfOk result IsNew }
+    ensures none { result ≡ Err SqlFault.Database → HoldsNone bytes.now }
+{
+    let db = copy_of(alloc, bytes)?;
+    let log = Memory::new(alloc);
+    match Connection::open_files(alloc, Files { log, db }, Options::new(1)) {
+        Ok(connection) => Ok(connection),
+        Err((error, _)) => Err(fault_of(error)),
+    }
+}
+
+/// What a query answers.
+#[derive(Drop)]
+pub(crate) struct Answer {
+    /// The query, which has the names of the columns.
+    pub(crate) statement: Statement,
+    pub(crate) rows: Vec<Row>,
+}
+
+/// What a query answers over a connection that was just opened.
+pub(crate) fn answer_of<S: Alter>(
+    connection: &mut Connection<S>,
+    query: &str,
+) -> Result<Answer, QueryFault>
+    ensures { HasCleanDisk (state S.Store connection.new) → Opens (state S.Store connection.old) → connection.old.step_limit ≡ None
+        → IfOk result (λ it. IsAnswer query.now (state S.Store connection.old).now it.statement.columns it.rows.items) }
+{
+    let statement = connection.prepare(query)?;
+    let rows = statement.query_all(connection, &[])?;
+    if connection.changes() > 0 {
+        return Err(QueryFault::Change);
+    }
+    Ok(Answer { statement, rows })
+}

@@ -1,0 +1,98 @@
+//! Why a query answers no rows.
+
+ghost use Rattle.std.specs.Prelude.{◌≡◌};
+ghost use Rattle.ruled_sql.specs.declared.fault.SqlFault.TheVariants.{Query};
+
+use sqlite::{Error, ErrorCode};
+use std::alloc::{AllocError, AllocFailed};
+use std::fmt;
+use std::fmt::Display;
+
+/// Why a query answers no rows over a database.
+#[derive(Clone, Copy)]
+pub enum QueryFault {
+    /// It isn't understood, or fails, for what this error tells.
+    Refused(Error),
+    /// It changes the database.
+    Change,
+    /// This row, of which the names are row 0, has a text that isn't UTF-8.
+    Encoding(usize),
+    /// Memory was refused.
+    Memory,
+}
+
+/// Why there are no rows.
+#[derive(Clone, Copy)]
+pub enum SqlFault {
+    /// The bytes hold no database, or one of a kind that isn't understood.
+    Database,
+    /// The bytes hold a database that is damaged, or of a kind that isn't understood.
+    Damage,
+    /// The query answers none.
+    Query(QueryFault),
+    /// Memory was refused, before the query was read.
+    Memory,
+}
+
+impl From<AllocError> for QueryFault {
+    fn from(_error: AllocError) -> QueryFault {
+        QueryFault::Memory
+    }
+}
+
+impl<T: Drop> From<AllocFailed<T>> for QueryFault {
+    fn from(_error: AllocFailed<T>) -> QueryFault {
+        QueryFault::Memory
+    }
+}
+
+impl From<Error> for QueryFault {
+    fn from(error: Error) -> QueryFault {
+        match error {
+            Error::SqliteFailure(ErrorCode::OutOfMemory) => QueryFault::Memory,
+            _ => QueryFault::Refused(error),
+        }
+    }
+}
+
+impl From<QueryFault> for SqlFault {
+    ghost from_gives = { λ found fault. fault ≡ Query found };
+
+    fn from(fault: QueryFault) -> SqlFault {
+        SqlFault::Query(fault)
+    }
+}
+
+/// Writes what is wrong.
+impl Display for QueryFault {
+    fn fmt<W: fmt::Write>(&self, f: &mut fmt::Formatter<W>) -> fmt::Result {
+        match self {
+            QueryFault::Refused(Error::SqlInputError(error)) => {
+                write!(
+                    f,
+                    "the query isn't understood, or names what isn't there: {error}"
+                )
+            }
+            QueryFault::Refused(error) => write!(f, "the query fails: {error}"),
+            QueryFault::Change => f.write_str("the query changes the database"),
+            QueryFault::Encoding(row) => write!(f, "row {row}: not UTF-8"),
+            QueryFault::Memory => f.write_str("out of memory"),
+        }
+    }
+}
+
+/// Writes what is wrong.
+impl Display for SqlFault {
+    fn fmt<W: fmt::Write>(&self, f: &mut fmt::Formatter<W>) -> fmt::Result {
+        match self {
+            SqlFault::Database => f.write_str(
+                "no database of SQLite, or one that is encrypted or of a kind that isn't understood",
+            ),
+            SqlFault::Damage => f.write_str(
+                "a database that is damaged, or of a kind that isn't understood",
+            ),
+            SqlFault::Query(fault) => fault.fmt(f),
+            SqlFault::Memory => f.write_str("out of memory"),
+        }
+    }
+}

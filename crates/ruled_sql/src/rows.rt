@@ -1,0 +1,111 @@
+//! The rows of an answer, as texts.
+
+ghost use Rattle.std.specs.Prelude.{◌≡◌, ◌++◌, ◌∷◌, [], codes, map, string_bytes, Err, IfOk, OnOk};
+ghost use Rattle.hex.specs.Hex.{encode_lower};
+ghost use Rattle.csv.specs.Records.{fields_of};
+ghost use Rattle.sqlite_value.specs.Value.{owned};
+ghost use Rattle.ruled_sql.specs.Answers.{AreAnswered, HoldsNone, shown_rows, shown_text};
+ghost use Rattle.ruled_sql.specs.declared.fault.SqlFault.TheVariants.{Database};
+
+use crate::database::{answer_of, open};
+use crate::fault::{QueryFault, SqlFault};
+use csv::StringRecord;
+use sqlite::Row;
+use sqlite_sql::spelling::{of_float, of_integer};
+use sqlite_value::value::{Bytes, ValueRef};
+use std::alloc::{AllocError, Global};
+
+// Bytes as a literal of SQL.
+fn literal_of(alloc: Global, bytes: &[u8]) -> Result<String, AllocError>
+    ensures { IfOk result (λ text. string_bytes text ≡ codes "x'" ++ (encode_lower bytes.now ++ codes "'")) }
+{
+    let mut text = String::from_str(alloc, "x'")?;
+    let digits = hex::encode(alloc, bytes)?;
+    text.push_str(&digits)?;
+    text.push_str("'")?;
+    Ok(text)
+}
+
+// Appends a text, of this row.
+fn push_text(fields: &mut StringRecord, row: usize, bytes: &[u8]) -> Result<(), QueryFault>
+    ensures { OnOk result (fields_of fields.new ≡ fields_of fields.old ++ bytes.now ∷ []) }
+{
+    match str::from_utf8(bytes) {
+        Ok(text) => Ok(fields.push_field(text)?),
+        Err(_) => Err(QueryFault::Encoding(row)),
+    }
+}
+
+// Appends a value, of this row.
+fn push_value(
+    alloc: Global,
+    fields: &mut StringRecord,
+    row: usize,
+    value: ValueRef<'_>,
+) -> Result<(), QueryFault>
+    ensures { OnOk result (fields_of fields.new ≡ fields_of fields.old ++ shown_text (owned value.entry) ∷ []) }
+{
+    match value {
+        ValueRef::Null => Ok(fields.push_field("")?),
+        ValueRef::Int(number) => push_text(fields, row, of_integer(number).as_slice()),
+        ValueRef::Real(number) => push_text(fields, row, of_float(number).as_slice()),
+        ValueRef::Text(bytes) => push_text(fields, row, bytes),
+        ValueRef::Blob(bytes) => {
+            let text = literal_of(alloc, bytes)?;
+            Ok(fields.push_field(&text)?)
+        }
+    }
+}
+
+// The names of the columns.
+fn header_of(alloc: Global, names: &[Bytes]) -> Result<StringRecord, QueryFault>
+    ensures { IfOk result (λ fields. fields_of fields ≡ names.now) }
+{
+    let mut fields = StringRecord::new(alloc);
+    for name in names {
+        push_text(&mut fields, 0, name.as_slice())?;
+    }
+    Ok(fields)
+}
+
+// The values of a row.
+fn fields_in(alloc: Global, row: usize, values: &Row) -> Result<StringRecord, QueryFault>
+    ensures { IfOk result (λ fields. fields_of fields ≡ map shown_text values.now) }
+{
+    let mut fields = StringRecord::new(alloc);
+    for at in 0..values.column_count() {
+        let value = values.get_ref(at)?;
+        push_value(alloc, &mut fields, row, value)?;
+    }
+    Ok(fields)
+}
+
+// The rows of an answer, with the names of the columns as row 0.
+fn rows_in(alloc: Global, names: &[Bytes], answer: &[Row]) -> Result<Vec<StringRecord>, QueryFault>
+    ensures { IfOk result (λ rows. map fields_of rows.items ≡ shown_rows names.now answer.now) }
+{
+    let mut rows = Vec::new(alloc);
+    let header = header_of(alloc, names)?;
+    rows.push(header)?;
+    for values in answer {
+        let fields = fields_in(alloc, rows.len(), values)?;
+        rows.push(fields)?;
+    }
+    Ok(rows)
+}
+
+/// The rows that a query answers of the database that the bytes of its file hold, with the names of the
+/// columns as row 0.
+///
+/// A text is shown as it is, a number as SQLite writes it (`12`, `1.0`, `1.5e+20`), `NULL` as an empty
+/// text, and a blob as `x'00ff'`. The query is one statement without parameters that changes nothing.
+/// What stands in a log beside the file isn't seen: [`crate::keeps_log`] tells whether there may be one.
+pub fn query_rows(alloc: Global, bytes: &[u8], query: &str) -> Result<Vec<StringRecord>, SqlFault>
+    ensures rows { IfOk result (λ rows. AreAnswered bytes.now query.now (map fields_of rows.items)) }
+    ensures none { result ≡ Err Database → HoldsNone bytes.now }
+{
+    let mut connection = open(alloc, bytes)?;
+    let answer = answer_of(&mut connection, query)?;
+    let rows = rows_in(alloc, answer.statement.column_names(), &answer.rows)?;
+    Ok(rows)
+}
