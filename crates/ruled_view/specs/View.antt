@@ -83,15 +83,20 @@ totals_fault options rows =
     if options.is_vertical then blocks_fault options.bounds (look_config options.look) rows
     else fault_with options.bounds (sided_config options rows) (line_in options) rows
 
--- ---- bytes
+-- ---- the text of all rows, and of bytes
+
+-- the picture of what is shown of rows
+abbrev pub table_text : Options → List (List Text) → Text
+table_text options rows = text_of options (shown_rows options rows)
+
+-- why there is none: the names of columns, or the sizes
+abbrev pub table_fault : Options → List (List Text) → Option Fault
+table_fault options rows = option_or (column_fault options.columns.items rows) (totals_fault options (shown_rows options rows))
 
 -- the picture of the rows that bytes hold
 unfoldable pub view_text : Options → List ℕ → Text
-view_text options bytes = text_of options (shown_rows options (rows_in options bytes))
+view_text options bytes = table_text options (rows_in options bytes)
 
--- why there is none: the rows, the names of columns, or the sizes
+-- why there is none: the rows, or their table
 unfoldable pub view_fault : Options → List ℕ → Option Fault
-view_fault options bytes =
-    option_or (input_fault options bytes)
-    (option_or (column_fault options.columns.items (rows_in options bytes))
-    (totals_fault options (shown_rows options (rows_in options bytes))))
+view_fault options bytes = option_or (input_fault options bytes) (table_fault options (rows_in options bytes))

@@ -85,8 +85,9 @@ impl Fault {
         }
     }
 
-    // Writes the line that tells of it, in the columns' names. An error is the writer's.
-    pub(crate) fn tell<W: Write>(self, columns: &[String], err: &mut W) -> io::Result<()> {
+    /// Writes the line that tells of it, in the names that [`crate::Options::columns`] lists. An error is
+    /// the writer's.
+    pub fn tell<W: Write>(self, columns: &[String], err: &mut W) -> io::Result<()> {
         write!(err, "ruled: ")?;
         match self {
             Fault::Rows(fault) => writeln!(err, "{fault}")?,

@@ -19,6 +19,6 @@ pub use crate::bounds::Bounds;
 pub use crate::fault::Fault;
 pub use crate::formats::Format;
 pub use crate::options::{Look, Options};
-pub use crate::program::{Ending, run};
-pub use crate::table::view;
+pub use crate::program::{Ending, read_whole, run, write_text};
+pub use crate::table::{view, view_rows};
 pub use pg_table::{Breaking, Overflow};

@@ -32,8 +32,8 @@ impl Ending {
     }
 }
 
-// All that the input gives.
-fn read_whole<R: Read>(alloc: Global, input: &mut R) -> Result<Vec<u8>, Fault>
+/// All that an input gives, or that it can't be read.
+pub fn read_whole<R: Read>(alloc: Global, input: &mut R) -> Result<Vec<u8>, Fault>
     ensures whole { IfOk result (λ bytes. IfSome (R.remaining input.old) (λ given. bytes.items ≡ given)) }
     ensures failed { (fault : Fault) → result ≡ Err fault → is_failure fault ≡ true }
     ensures unwritten { (fault : Fault) → result ≡ Err fault → is_of_write fault ≡ false }
@@ -56,8 +56,8 @@ fn fault_of_write(error: io::Error) -> Fault
     }
 }
 
-// Writes a text, all of it.
-fn write_text<W: Write>(text: &str, out: &mut W) -> Result<(), Fault>
+/// Writes a text, all of it, or tells which fault a failed write is.
+pub fn write_text<W: Write>(text: &str, out: &mut W) -> Result<(), Fault>
     ensures written { OnOk result (Appends (W.contents out.old) (W.contents out.new) text.now) }
     ensures failed { (fault : Fault) → result ≡ Err fault → is_of_write fault ≡ true }
 {

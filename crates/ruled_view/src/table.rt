@@ -1,13 +1,14 @@
 //! The text of the table that bytes hold.
 
 ghost use Rattle.std.specs.Prelude.{◌≡◌, ◌∷◌, ◌++◌, [], map, string_bytes, IfOk, is_none, if◌then◌else◌, ◌⊎◌, Some, None, Err};
+ghost use Rattle.csv.specs.Records.{fields_of};
 ghost use Rattle.pg_layout.specs.Records.{ragged_row};
 ghost use Rattle.pg_picture.specs.Picture.{picture};
 ghost use Rattle.pg_picture.specs.Table.{Known};
 ghost use Rattle.ruled_view.specs.Bounds.{bounded_rows, rows_fault};
 ghost use Rattle.ruled_view.specs.Faults.{Tells};
 ghost use Rattle.ruled_view.specs.Tables.{fault_with, table_parts, text_with};
-ghost use Rattle.ruled_view.specs.View.{line_in, look_config, sided_config, text_of, totals_fault, view_fault, view_text};
+ghost use Rattle.ruled_view.specs.View.{line_in, look_config, sided_config, table_fault, table_text, text_of, totals_fault, view_fault, view_text};
 ghost use Rattle.ruled_view.specs.declared.fault.Fault.{Fault};
 ghost use Rattle.pg_table.specs.declared.fault.TableFault.{TableFault};
 
@@ -19,6 +20,7 @@ use crate::input::rows_in;
 use crate::options::{Look, Options};
 use crate::rows::shown_rows;
 use crate::sides::set_sides;
+use csv::StringRecord;
 use pg_config::SpannedConfig;
 use pg_layout::{Entity, HorizontalLine, Indent, Sides};
 use pg_table::{Table, TableFault};
@@ -133,6 +135,20 @@ fn text_of(alloc: Global, options: &Options, rows: Vec<Vec<String>>) -> Result<S
     text_with(alloc, &options.bounds, config, line_in(options), rows)
 }
 
+/// The text of the table of these rows, of which the first is row 0, and a line feed behind it; of no
+/// rows the empty text.
+///
+/// The fault is that of the names of columns, or of the sizes of the table, in this order, or want of
+/// memory.
+pub fn view_rows(alloc: Global, options: &Options, rows: Vec<StringRecord>) -> Result<String, Fault>
+    ensures text { IfOk result (λ text. string_bytes text ≡ table_text options.now (map fields_of rows.items)) }
+    ensures fault { Tells (table_fault options.now (map fields_of rows.items)) result }
+{
+    let places = places_of(alloc, &options.columns, &rows)?;
+    let shown = shown_rows(alloc, options, &places, rows)?;
+    text_of(alloc, options, shown)
+}
+
 /// The text of the table of the rows that bytes hold, and a line feed behind it; of
 /// no rows the empty text.
 ///
@@ -142,8 +158,6 @@ pub fn view(alloc: Global, options: &Options, bytes: &[u8]) -> Result<String, Fa
     ensures text { IfOk result (λ text. string_bytes text ≡ view_text options.now bytes.now) }
     ensures fault { Tells (view_fault options.now bytes.now) result }
 {
-    let all = rows_in(alloc, options, bytes)?;
-    let places = places_of(alloc, &options.columns, &all)?;
-    let rows = shown_rows(alloc, options, &places, all)?;
-    text_of(alloc, options, rows)
+    let rows = rows_in(alloc, options, bytes)?;
+    view_rows(alloc, options, rows)
 }

@@ -1,4 +1,4 @@
-use Rattle.std.proofs.Common.{◌≡◌, ◌∙◌, List, map, length, string_bytes, refl, sym, ap}
+use Rattle.std.proofs.Common.{◌∙◌, List, map, length, string_bytes, refl, sym, ap}
 use Rattle.std.specs.List.{range_with_len}
 use Rattle.std.proofs.lemmas.List.{length-map}
 use Rattle.pg_layout.specs.Text.{Text}

@@ -1,4 +1,4 @@
-use Rattle.std.proofs.Common.{◌≡◌, ◌≤◌, ◌+◌, ◌∙◌, [], List, None, drop, length, length-drop, map, string_bytes, append-nil, sym, ap, arith, rules}
+use Rattle.std.proofs.Common.{◌≡◌, ◌≤◌, ◌+◌, ◌∙◌, [], List, None, drop, length, length-drop, map, string_bytes, append-nil, sym, arith, rules}
 use Rattle.std.proofs.lemmas.List.{nil_from_length}
 use Rattle.pg_layout.specs.Text.{Text}
 use Rattle.ruled_view.specs.Blocks.{block_fault, block_of, blocks_in, blocks_in_fault}

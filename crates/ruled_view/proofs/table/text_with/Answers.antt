@@ -2,7 +2,7 @@ use Rattle.std.proofs.Common.{◌≡◌, ◌∙◌, ◌∷◌, ◌++◌, [], len
 use Rattle.std.specs.Prelude.{◌==◌, IfOk, Some, None, Option, is_none, if◌then◌else◌}
 use Rattle.pg_layout.specs.Text.{Text}
 use Rattle.pg_picture.specs.Picture.{picture}
-use Rattle.pg_picture.specs.Table.{Known, Table}
+use Rattle.pg_picture.specs.Table.{Known}
 use Rattle.pg_table.specs.declared.fault.TableFault.{TableFault}
 use Rattle.ruled_view.specs.Bounds.{bounded_rows, rows_fault}
 use Rattle.ruled_view.specs.Faults.{Tells}
