@@ -3,6 +3,7 @@
 use clap::error::ErrorKind;
 use clap::{Arg, ArgAction, ArgMatches, Command};
 use pg_layout::AlignmentHorizontal;
+use ruled_run::{Log, Request};
 use ruled_view::{Bounds, Breaking, Format, Look, Options, Overflow};
 use std::alloc::{AllocError, Global};
 use std::env::VarError;
@@ -12,7 +13,7 @@ static LOOKS: [&str; 9] = [
     "sharp", "rounded", "modern", "extended", "ascii", "dots", "psql", "markdown", "blank",
 ];
 
-static FORMATS: [&str; 4] = ["csv", "tsv", "json", "jsonl"];
+static FORMATS: [&str; 5] = ["csv", "tsv", "json", "jsonl", "sqlite"];
 
 static SIDES: [&str; 5] = ["auto", "left", "right", "centre", "center"];
 
@@ -21,7 +22,7 @@ static SIDES: [&str; 5] = ["auto", "left", "right", "centre", "center"];
 pub(crate) struct Wanted {
     /// The file that is read, or `None` for standard input.
     pub(crate) file: Option<String>,
-    pub(crate) options: Options,
+    pub(crate) request: Request,
 }
 
 /// What the arguments ask for.
@@ -59,7 +60,7 @@ fn with_input<'a>(alloc: Global, command: Command<'a>) -> Result<Command<'a>, Al
         alloc,
         "format",
         "FORMAT",
-        "How rows are written: separated by commas or tabs, as one value of JSON, or as lines of JSON; else the ending of the file's name tells it, or else its first bytes",
+        "How rows are written: separated by commas or tabs, as one value of JSON, as lines of JSON, or in a database of SQLite; else the ending of the file's name tells it, or else its first bytes",
     )
     .value_parser(FORMATS.as_slice());
     let delimiter = option(
@@ -68,8 +69,19 @@ fn with_input<'a>(alloc: Global, command: Command<'a>) -> Result<Command<'a>, Al
         "C",
         "What stands between two fields: a character, or the word tab",
     );
+    let query = option(
+        alloc,
+        "query",
+        "SQL",
+        "The rows of a database of SQLite that are shown: a statement that changes nothing",
+    );
     let bare = flag(alloc, "no-header", "Row 0 is no header");
-    command.arg(file)?.arg(format)?.arg(delimiter)?.arg(bare)
+    command
+        .arg(file)?
+        .arg(format)?
+        .arg(query)?
+        .arg(delimiter)?
+        .arg(bare)
 }
 
 // The command with what is shown.
@@ -160,7 +172,7 @@ fn with_form<'a>(alloc: Global, command: Command<'a>) -> Result<Command<'a>, All
 
 fn command<'a>(alloc: Global) -> Result<Command<'a>, AllocError> {
     let command = Command::new(alloc, "ruled")
-        .about("Shows rows of separated values or JSON as a table")
+        .about("Shows rows of separated values, JSON or a database of SQLite as a table")
         .version("0.1.0");
     let command = with_shown(alloc, with_input(alloc, command)?)?;
     with_form(alloc, with_bounds(alloc, command)?)
@@ -230,6 +242,40 @@ fn format_asked(found: &ArgMatches) -> Result<Option<Format>, &'static str> {
     }
 }
 
+// Whether files of this name are databases, where its ending tells it.
+fn is_named_database(name: &str) -> Option<bool> {
+    match name.rsplit_once('.') {
+        Some((_, "db" | "sqlite" | "sqlite3")) => Some(true),
+        _ => None,
+    }
+}
+
+// Whether the input is a database, where that is told: by the format or a query, or else by the file's
+// name. `format` is what is known of another format.
+fn database_asked(
+    found: &ArgMatches,
+    format: Option<Format>,
+) -> Result<Option<bool>, &'static str> {
+    let is_separated = found.get_str("delimiter").is_some();
+    let has_query = found.get_str("query").is_some();
+    let told = found.get_str("format").map(|word| word == "sqlite");
+    match told {
+        Some(true) | None if has_query && !is_separated => Ok(Some(true)),
+        Some(true) if is_separated => Err("a database has no delimiter"),
+        _ if has_query => Err("only a database takes a query"),
+        Some(told) => Ok(Some(told)),
+        None if format.is_some() => Ok(Some(false)),
+        None => Ok(name_in(found).and_then(is_named_database)),
+    }
+}
+
+// The format that is asked for, and whether the input is a database, or why there is none.
+fn input_asked(found: &ArgMatches) -> Result<(Option<Format>, Option<bool>), &'static str> {
+    let format = format_asked(found)?;
+    let is_database = database_asked(found, format)?;
+    Ok((format, is_database))
+}
+
 // The names that were listed.
 fn names_of(alloc: Global, words: Option<&[&str]>) -> Result<Vec<String>, AllocError> {
     let mut names = Vec::new(alloc);
@@ -291,17 +337,22 @@ fn bounds_of(
     Ok(bounds)
 }
 
+// A copy of a text, where there is one.
+fn copy_of(alloc: Global, text: Option<&str>) -> Result<Option<String>, AllocError> {
+    match text {
+        Some(text) => Ok(Some(String::from_str(alloc, text)?)),
+        None => Ok(None),
+    }
+}
+
 // What was asked for.
 fn table_of(
     alloc: Global,
     found: &ArgMatches,
     format: Option<Format>,
+    is_database: Option<bool>,
     columns: Option<u32>,
 ) -> Result<Wanted, AllocError> {
-    let file = match name_in(found) {
-        Some(name) => Some(String::from_str(alloc, name)?),
-        None => None,
-    };
     let is_markdown = found.get_flag("markdown");
     let look = if is_markdown {
         Look::Markdown
@@ -320,7 +371,16 @@ fn table_of(
         is_raw: found.get_flag("raw"),
         is_markdown,
     };
-    Ok(Wanted { file, options })
+    let request = Request {
+        options,
+        is_database,
+        query: copy_of(alloc, found.get_str("query"))?,
+        log: Log::Unknown,
+    };
+    Ok(Wanted {
+        file: copy_of(alloc, name_in(found))?,
+        request,
+    })
 }
 
 // How many columns the terminal has, by the variable that says it.
@@ -346,8 +406,11 @@ pub(crate) fn read_arguments(rt: &HostRuntime) -> io::Result<Asked> {
             return Ok(Asked::Told(error.exit_code() as u8));
         }
     };
-    match format_asked(&found) {
-        Ok(format) => Ok(Asked::Table(table_of(rt.alloc(), &found, format, columns_told(rt)?)?)),
+    match input_asked(&found) {
+        Ok((format, is_database)) => {
+            let columns = columns_told(rt)?;
+            Ok(Asked::Table(table_of(rt.alloc(), &found, format, is_database, columns)?))
+        }
         Err(told) => {
             eprintln!(rt; "ruled: {told}")?;
             Ok(Asked::Told(2))

@@ -1,11 +1,14 @@
-//! The program `ruled`: it shows rows of separated values or JSON, from a file or from standard input, as a
-//! table. `docs/RULED.md` is its manual.
+//! The program `ruled`: it shows rows of separated values, JSON or a database of SQLite, from a file or from
+//! standard input, as a table. `docs/RULED.md` is its manual.
 #![tactic(auto)]
 
 mod arguments;
+mod logs;
 
 use crate::arguments::{Asked, Wanted, read_arguments};
-use ruled_view::run;
+use crate::logs::log_beside;
+use ruled_run::{Request, run};
+use std::fs::File;
 use std::io::{ErrorKind, Write};
 use std::process::ExitCode;
 use std::{fs, io};
@@ -19,26 +22,41 @@ fn words_of(error: &io::Error) -> &'static str {
     }
 }
 
-// Shows the table that is wanted, and answers the exit status.
-fn show(rt: &HostRuntime, wanted: &Wanted) -> u8 {
+// Opens the file of this name, once it is known what stands in the logs beside it.
+fn open(rt: &HostRuntime, name: &str, request: &mut Request) -> io::Result<File> {
+    request.log = log_beside(rt, name)?;
+    fs::open(rt, name)
+}
+
+// Shows the table that is wanted, and answers the exit status. An error is want of memory.
+fn show(rt: &HostRuntime, wanted: Wanted) -> io::Result<u8> {
     let (mut out, mut err) = (rt.stdout(), rt.stderr());
+    let mut request = wanted.request;
     let Some(name) = &wanted.file else {
         let mut input = rt.stdin();
-        return run(rt.alloc(), &wanted.options, &mut input, &mut out, &mut err).status();
+        return Ok(run(rt.alloc(), &request, &mut input, &mut out, &mut err).status());
     };
-    match fs::open(rt, name.as_str()) {
-        Ok(mut file) => run(rt.alloc(), &wanted.options, &mut file, &mut out, &mut err).status(),
+    match open(rt, name.as_str(), &mut request) {
+        Ok(mut file) => Ok(run(rt.alloc(), &request, &mut file, &mut out, &mut err).status()),
+        Err(error) if error.kind() == ErrorKind::OutOfMemory => Err(error),
         Err(error) => {
             let _ = writeln!(err, "ruled: {name}: {}", words_of(&error));
-            5
+            Ok(5)
         }
     }
 }
 
+// Does what the arguments ask for, and answers the exit status.
+fn answer(rt: &HostRuntime) -> io::Result<u8> {
+    match read_arguments(rt)? {
+        Asked::Table(wanted) => show(rt, wanted),
+        Asked::Told(status) => Ok(status),
+    }
+}
+
 fn main(rt: HostRuntime) -> ExitCode {
-    let status = match read_arguments(&rt) {
-        Ok(Asked::Table(wanted)) => show(&rt, &wanted),
-        Ok(Asked::Told(status)) => status,
+    let status = match answer(&rt) {
+        Ok(status) => status,
         Err(error) if error.kind() == ErrorKind::OutOfMemory => {
             let _ = eprintln!(rt; "ruled: out of memory");
             4
