@@ -17,7 +17,6 @@ use pg_layout::{Colors, Dimension};
 use std::alloc::{Allocator, Global};
 use std::convert::AsStr;
 use std::marker::{Brand, Model};
-use std::vec::IntoIter;
 
 /// Prints a table whose rows come one at a time, each when it is pushed: none is held until the next one
 /// is there.
@@ -130,15 +129,8 @@ impl<'a, S: AsStr + Drop, D: Dimension, C: Colors, B: Allocator, A: Allocator> L
             return Err(StreamFault::Row(self.progress.rows));
         };
         self.is_lost = true;
-        let cells = cells.into_iter();
         self.progress
-            .push_row::<Brand, D, C, B, IntoIter<S, V>, W>(
-                &self.frame,
-                cells,
-                are_plain,
-                false,
-                buf,
-            )?;
+            .push_cells::<Brand, D, C, B, V, W>(&self.frame, cells, are_plain, false, buf)?;
         self.is_lost = false;
         Ok(())
     }

@@ -23,6 +23,7 @@ use pg_picture::{SEPARATOR_ROOM, SeparatorKeeper};
 use std::alloc::{AllocError, Allocator, Global};
 use std::convert::AsStr;
 use std::marker::PhantomData;
+use std::slice::Iter;
 use std::vec::IntoIter;
 
 /// What a row changes of a printer: the cells that go on below, the text of the separators above all rows
@@ -116,9 +117,52 @@ impl<S: AsStr + Drop, A: Allocator> Progress<'_, S, A> {
         let Some(are_plain) = self.plainness(frame, &cells, is_last) else {
             return Err(StreamFault::Row(self.rows));
         };
-        let cells = cells.into_iter();
-        self.push_row::<T, D, C, B, IntoIter<S, V>, W>(frame, cells, are_plain, is_last, buf)?;
+        self.push_cells::<T, D, C, B, V, W>(frame, cells, are_plain, is_last, buf)?;
         Ok(())
+    }
+
+    // Prints the next row of the table of a frame, as `push_row` does. Where its cells are drawn as they
+    // come, they are only lent.
+    #[inline(always)]
+    pub(crate) fn push_cells<'f, T, D, C, B, V, W>(
+        &mut self,
+        frame: &'f Frame<'f, D, C, B>,
+        cells: Vec<S, V>,
+        are_plain: bool,
+        is_last: bool,
+        buf: &mut String<W>,
+    ) -> Result<(), AllocError>
+    where
+        T: Drawn,
+        D: Dimension,
+        C: Colors,
+        B: Allocator,
+        V: Allocator,
+        W: Allocator,
+        requires is { told_of D.width D.height C.color frame.now ≡ T.told }
+        requires sound { IsSoundAt T.told frame.now self.old }
+        requires fits { RowFits (now_of T.told self.old) (map S.text cells.items) is_last }
+        requires plain { are_plain ≡ true → ArePlain T.told.columns (map S.text cells.items) }
+        ensures sound { OnOk result (IsSoundAt T.told frame.now self.new) }
+        ensures appends { Appends buf.old buf.new result (row_text (now_of T.told self.old) (map S.text cells.items) is_last) }
+        ensures after { OnOk result (now_of T.told self.new ≡ after_row (now_of T.told self.old) (map S.text cells.items) is_last) }
+    {
+        let drawing: Drawing<'_, T, D, C, B> = Drawing {
+            frame,
+            of: PhantomData,
+        };
+        let height = drawing.height_of(self.rows);
+        if drawing.draws_at_once(height) {
+            return self.push_single::<T, D, C, B, &S, Iter<'_, S>, W>(
+                frame,
+                cells.iter(),
+                are_plain,
+                is_last,
+                buf,
+            );
+        }
+        let cells = cells.into_iter();
+        self.push_row::<T, D, C, B, IntoIter<S, V>, W>(frame, cells, are_plain, is_last, buf)
     }
 
     // The same, with this room for a separator, and none that is kept.

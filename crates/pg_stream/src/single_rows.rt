@@ -67,8 +67,9 @@ where
         self.push_end(buf, index)
     }
 
-    // The cells of the row, one after the other, and the vertical behind the last one.
-    #[inline(always)]
+    // The cells of the row, one after the other, and the vertical behind the last one. They stand out of
+    // line, so that what is round them stands in the loop over the rows.
+    #[inline(never)]
     fn push_single_cells<S: AsStr + Drop, I: Iterator<Item = S>, W: Allocator>(
         self,
         buf: &mut String<W>,

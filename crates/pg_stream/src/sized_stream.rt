@@ -20,7 +20,6 @@ use pg_picture::fits::Misfit;
 use std::alloc::{Allocator, Global};
 use std::convert::AsStr;
 use std::marker::{Brand, Model};
-use std::vec::IntoIter;
 
 /// Prints a table whose rows come one at a time, each with its height, and each when it is pushed.
 ///
@@ -148,9 +147,8 @@ impl<'a, S: AsStr + Drop, D: Dimension, C: Colors, B: Allocator, A: Allocator> S
             return Err(StreamFault::Row(self.progress.rows));
         };
         self.is_lost = true;
-        let cells = cells.into_iter();
         self.progress
-            .push_row::<Brand, RowSizes<'_, D>, C, B, IntoIter<S, V>, W>(
+            .push_cells::<Brand, RowSizes<'_, D>, C, B, V, W>(
                 &frame, cells, are_plain, false, buf,
             )?;
         self.above += height;

@@ -1,5 +1,5 @@
 use Rattle.pg_stream.specs.Inside.Told.{told_of}
 use Rattle.pg_stream.proofs.live_stream.LiveStream.push.Given as goal
 
-abbrev pub ghosts-push_row : goal.ghosts-push_row
-ghosts-push_row g a = record { told = told_of g.D.Dimension.width g.D.Dimension.height g.C.Colors.color a.frame.now }
+abbrev pub ghosts-push_cells : goal.ghosts-push_cells
+ghosts-push_cells g a = record { told = told_of g.D.Dimension.width g.D.Dimension.height g.C.Colors.color a.frame.now }

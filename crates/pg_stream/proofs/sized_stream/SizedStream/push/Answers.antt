@@ -1,9 +1,6 @@
 use Rattle.std.proofs.Common.{◌≡◌, false, List, map, Some, refl, ap, arith, length}
-use Rattle.std.specs.Vec.Iter.{into_iter_len}
 use Rattle.std.proofs.lemmas.Bool.{false≢true}
-use Rattle.std.proofs.lemmas.Iterator.Adapters.{YieldsList-from_vec}
 use Rattle.std.proofs.lemmas.Result.{err_from_is_err_and}
-use Rattle.pg_layout.proofs.Given.{given-items}
 use Rattle.pg_layout.specs.Text.{Text}
 use Rattle.pg_picture.proofs.Appending.{Appends-text}
 use Rattle.pg_stream.specs.LiveStreams.{Living}
@@ -16,8 +13,8 @@ pub plainness-requires : goal.plainness-requires
 plainness-requires g c =
     record { sound = sound-told g.D.Dimension.width g.D.Dimension.height g.C.Colors.color c.self.inside.frame c.self.inside.progress c.self.inside.above (c.self.invariant c.if-self.false) c.args.height _ c.with_sizes-frame.ensures.told c.with_sizes-frame.result c.with_sizes-frame.ensures.width c.with_sizes-frame.ensures.height }
 
-pub push_row-requires-clause-sound : goal.push_row-requires-clause-sound
-push_row-requires-clause-sound g c =
+pub push_cells-requires-clause-sound : goal.push_cells-requires-clause-sound
+push_cells-requires-clause-sound g c =
     sound-told g.D.Dimension.width g.D.Dimension.height g.C.Colors.color c.self.inside.frame c.self.inside.progress c.self.inside.above (c.self.invariant c.if-self.false) c.args.height _ c.with_sizes-frame.ensures.told c.with_sizes-frame.result c.with_sizes-frame.ensures.width c.with_sizes-frame.ensures.height
 
 pub returns-in_default-clause-prints : goal.returns-in_default-clause-prints
@@ -28,28 +25,22 @@ returns-in_default-clause-prints g c =
     row-misfits _ _ _ (λ fits.
     false≢true (c.in_default.ensures.fits.1 (rw c.deref.ensures.value (fits-told g.D.Dimension.width g.D.Dimension.height g.C.Colors.color c.self.inside.frame c.self.inside.progress c.self.inside.above sized c.args.height _ c.with_sizes-frame.ensures.told heights next texts fits)))))
 
-pub push_row-requires-clause-fits : goal.push_row-requires-clause-fits
-push_row-requires-clause-fits g c =
-    let len : into_iter_len c.into_iter-cells.result ≡ length c.args.cells.items = omega (arith, c.into_iter-cells.ensures.len, c.args.cells.ok) in
-    let fits = (rw c.deref.ensures.value at (c.in-Some.ensures.fits.0 refl)) in (
-      map g.S.AsStr.text c.args.cells.items,
-      given-items _ g.S.AsStr.text (λ x y. g.S.AsStr.text x ≡ y) (λ x. refl) (YieldsList-from_vec c.args.cells.items c.into_iter-cells.ensures.rest len),
-      fits,
-      λ known. rw c.deref.ensures.value at (c.in-Some.ensures.plain (ap Some known)),
-    )
+pub push_cells-requires-clause-fits : goal.push_cells-requires-clause-fits
+push_cells-requires-clause-fits g c = (rw c.deref.ensures.value at (c.in-Some.ensures.fits.0 refl))
 
-pub returns-in_err-push_row-clause-prints : goal.returns-in_err-push_row-clause-prints
-returns-in_err-push_row-clause-prints g c =
+pub push_cells-requires-clause-plain : goal.push_cells-requires-clause-plain
+push_cells-requires-clause-plain g c = λ known. rw c.deref.ensures.value at (c.in-Some.ensures.plain (ap Some known))
+
+pub returns-in_err-push_cells-clause-prints : goal.returns-in_err-push_cells-clause-prints
+returns-in_err-push_cells-clause-prints g c =
     let texts : List Text = map g.S.AsStr.text c.args.cells.items in
-    let len : into_iter_len c.into_iter-cells.result ≡ length c.args.cells.items = omega (arith, c.into_iter-cells.ensures.len, c.args.cells.ok) in
-    let given = given-items _ g.S.AsStr.text (λ x y. g.S.AsStr.text x ≡ y) (λ x. refl) (YieldsList-from_vec c.args.cells.items c.into_iter-cells.ensures.rest len) in
     let fits = (rw c.deref.ensures.value at (c.in-Some.ensures.fits.0 refl)) in
     let p = err_from_is_err_and c.from_residual.result c.from_residual.ensures.1 in
     let sized = c.self.invariant c.if-self.false in
     rw (p.1, p.2, ← c.self.view_is) (λ heights next lives.
     row-refused
     (told-fits g.D.Dimension.width g.D.Dimension.height g.C.Colors.color c.self.inside.frame c.self.inside.progress c.self.inside.above sized c.args.height _ c.with_sizes-frame.ensures.told heights next texts fits)
-    (Appends-text (text-told g.D.Dimension.width g.D.Dimension.height g.C.Colors.color c.self.inside.frame c.self.inside.progress c.self.inside.above sized c.args.height _ c.with_sizes-frame.ensures.told heights next texts) (c.in_err-push_row.ensures.appends texts given)))
+    (Appends-text (text-told g.D.Dimension.width g.D.Dimension.height g.C.Colors.color c.self.inside.frame c.self.inside.progress c.self.inside.above sized c.args.height _ c.with_sizes-frame.ensures.told heights next texts) (c.in_err-push_cells.ensures.appends)))
 
 pub overflow_add-self : goal.overflow_add-self
 overflow_add-self g c =
@@ -60,39 +51,31 @@ overflow_add-self g c =
 pub invariant_of-self-2 : goal.invariant_of-self-2
 invariant_of-self-2 g c =
     let texts : List Text = map g.S.AsStr.text c.args.cells.items in
-    let len : into_iter_len c.into_iter-cells.result ≡ length c.args.cells.items = omega (arith, c.into_iter-cells.ensures.len, c.args.cells.ok) in
-    let given = given-items _ g.S.AsStr.text (λ x y. g.S.AsStr.text x ≡ y) (λ x. refl) (YieldsList-from_vec c.args.cells.items c.into_iter-cells.ensures.rest len) in
     λ lives.
-    sized-told g.D.Dimension.width g.D.Dimension.height g.C.Colors.color c.self.inside.frame c.self.inside.progress c.self.inside.above (c.self.invariant c.if-self.false) c.args.height _ c.with_sizes-frame.ensures.told texts c.push_row.new.self c.with_sizes-frame.result c.with_sizes-frame.ensures.width c.with_sizes-frame.ensures.height
-    (c.in_ok-push_row.ensures.after texts given) c.in_ok-push_row.ensures.sound
+    sized-told g.D.Dimension.width g.D.Dimension.height g.C.Colors.color c.self.inside.frame c.self.inside.progress c.self.inside.above (c.self.invariant c.if-self.false) c.args.height _ c.with_sizes-frame.ensures.told texts c.push_cells.new.self c.with_sizes-frame.result c.with_sizes-frame.ensures.width c.with_sizes-frame.ensures.height
+    c.in_ok-push_cells.ensures.after c.in_ok-push_cells.ensures.sound
 
 pub returns-clause-prints : goal.returns-clause-prints
 returns-clause-prints g c =
     let texts : List Text = map g.S.AsStr.text c.args.cells.items in
-    let len : into_iter_len c.into_iter-cells.result ≡ length c.args.cells.items = omega (arith, c.into_iter-cells.ensures.len, c.args.cells.ok) in
-    let given = given-items _ g.S.AsStr.text (λ x y. g.S.AsStr.text x ≡ y) (λ x. refl) (YieldsList-from_vec c.args.cells.items c.into_iter-cells.ensures.rest len) in
     let fits = (rw c.deref.ensures.value at (c.in-Some.ensures.fits.0 refl)) in
     let sized = c.self.invariant c.if-self.false in
     rw (← c.self.view_is) (λ heights next lives.
     row-printed tt
     (told-fits g.D.Dimension.width g.D.Dimension.height g.C.Colors.color c.self.inside.frame c.self.inside.progress c.self.inside.above sized c.args.height _ c.with_sizes-frame.ensures.told heights next texts fits)
-    (Appends-text (text-told g.D.Dimension.width g.D.Dimension.height g.C.Colors.color c.self.inside.frame c.self.inside.progress c.self.inside.above sized c.args.height _ c.with_sizes-frame.ensures.told heights next texts) (c.in_ok-push_row.ensures.appends texts given)))
+    (Appends-text (text-told g.D.Dimension.width g.D.Dimension.height g.C.Colors.color c.self.inside.frame c.self.inside.progress c.self.inside.above sized c.args.height _ c.with_sizes-frame.ensures.told heights next texts) (c.in_ok-push_cells.ensures.appends)))
 
 pub returns-clause-appends : goal.returns-clause-appends
 returns-clause-appends g c =
     let texts : List Text = map g.S.AsStr.text c.args.cells.items in
-    let len : into_iter_len c.into_iter-cells.result ≡ length c.args.cells.items = omega (arith, c.into_iter-cells.ensures.len, c.args.cells.ok) in
-    let given = given-items _ g.S.AsStr.text (λ x y. g.S.AsStr.text x ≡ y) (λ x. refl) (YieldsList-from_vec c.args.cells.items c.into_iter-cells.ensures.rest len) in
     let sized = c.self.invariant c.if-self.false in
     rw (← c.self.view_is) (λ heights next.
-    (Appends-text (text-told g.D.Dimension.width g.D.Dimension.height g.C.Colors.color c.self.inside.frame c.self.inside.progress c.self.inside.above sized c.args.height _ c.with_sizes-frame.ensures.told heights next texts) (c.in_ok-push_row.ensures.appends texts given)).ok)
+    (Appends-text (text-told g.D.Dimension.width g.D.Dimension.height g.C.Colors.color c.self.inside.frame c.self.inside.progress c.self.inside.above sized c.args.height _ c.with_sizes-frame.ensures.told heights next texts) (c.in_ok-push_cells.ensures.appends)).ok)
 
 pub returns-clause-after : goal.returns-clause-after
 returns-clause-after g c =
     let texts : List Text = map g.S.AsStr.text c.args.cells.items in
-    let len : into_iter_len c.into_iter-cells.result ≡ length c.args.cells.items = omega (arith, c.into_iter-cells.ensures.len, c.args.cells.ok) in
-    let given = given-items _ g.S.AsStr.text (λ x y. g.S.AsStr.text x ≡ y) (λ x. refl) (YieldsList-from_vec c.args.cells.items c.into_iter-cells.ensures.rest len) in
     let lives : Printing → Living = λ p. record { printed = p; is_lost = false } in
     let sized = c.self.invariant c.if-self.false in
     rw (← c.self.view_is) (λ heights next.
-    ap lives (after-told g.D.Dimension.width g.D.Dimension.height g.C.Colors.color c.self.inside.frame c.self.inside.progress c.self.inside.above sized c.args.height _ c.with_sizes-frame.ensures.told heights next texts c.push_row.new.self (c.in_ok-push_row.ensures.after texts given)))
+    ap lives (after-told g.D.Dimension.width g.D.Dimension.height g.C.Colors.color c.self.inside.frame c.self.inside.progress c.self.inside.above sized c.args.height _ c.with_sizes-frame.ensures.told heights next texts c.push_cells.new.self (c.in_ok-push_cells.ensures.after)))
