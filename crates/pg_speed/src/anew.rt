@@ -9,7 +9,7 @@ use anyhow::Result;
 use pg_config::SpannedConfig;
 use pg_grid::{IterGrid, PeekableGrid};
 use pg_layout::{ColorsMap, ConstantDimension, NoColors, VecRecords};
-use pg_stream::RowStream;
+use pg_stream::{LiveStream, RowStream, SizedStream};
 use std::alloc::{AllocError, Global};
 
 /// The text of a table whose rows are made anew, built so many times; empty where it isn't printed.
@@ -26,6 +26,9 @@ pub(crate) fn text_of_rows(
         match grid {
             Grid::Rows => push_rows(alloc, table, config, &mut text)?,
             Grid::Results => print_rows(alloc, table, config, &mut text)?,
+            Grid::Live => push_live(alloc, table, config, &mut text)?,
+            Grid::Lent => push_lent(alloc, table, config, &mut text)?,
+            Grid::Sized => push_sized(alloc, table, config, &mut text)?,
             _ => print_vectors(alloc, grid, table, config, &mut text)?,
         }
     }
@@ -56,6 +59,55 @@ fn print_rows(
     let stream = RowStream::new(alloc, config, table, &NoColors, table.columns, None)?;
     let rows = (0..table.rows).map(|_| row_of(alloc, table));
     Ok(stream.print_results(rows, text)?)
+}
+
+// Appends all rows of a table, each of which is shown at once.
+fn push_live(
+    alloc: Global,
+    table: &Table,
+    config: &SpannedConfig,
+    text: &mut String,
+) -> Result<()> {
+    let mut stream = LiveStream::new(alloc, config, table, &NoColors, table.columns)?;
+    for _ in 0..table.rows {
+        stream.push(row_of(alloc, table)?, text)?;
+    }
+    Ok(stream.finish(text)?)
+}
+
+// The same of one row, which is lent each time.
+fn push_lent(
+    alloc: Global,
+    table: &Table,
+    config: &SpannedConfig,
+    text: &mut String,
+) -> Result<()> {
+    let row = row_of(alloc, table)?;
+    let mut stream: LiveStream<'_, &str, Table, NoColors> = LiveStream::new(
+        alloc,
+        config,
+        table,
+        &NoColors,
+        table.columns,
+    )?;
+    for _ in 0..table.rows {
+        stream.push_lent(&row, text)?;
+    }
+    Ok(stream.finish(text)?)
+}
+
+// Appends all rows of a table, each of which brings its height.
+fn push_sized(
+    alloc: Global,
+    table: &Table,
+    config: &SpannedConfig,
+    text: &mut String,
+) -> Result<()> {
+    let mut stream = SizedStream::new(alloc, config, table, &NoColors, table.columns)?;
+    for _ in 0..table.rows {
+        stream.push(table.height, row_of(alloc, table)?, text)?;
+    }
+    Ok(stream.finish(text)?)
 }
 
 // A row of a table.

@@ -30,6 +30,12 @@ pub(crate) enum Grid {
     Rows,
     /// The same stream, handed an iterator that makes the rows.
     Results,
+    /// A stream that shows each row at once, which is made when it is pushed.
+    Live,
+    /// The same stream, to which one row is lent each time.
+    Lent,
+    /// A stream of rows that bring their heights, each of which is made when it is pushed.
+    Sized,
     /// Rows that are made as vectors in each build, and are let go.
     Vectors,
     /// The same rows; a stream prints them, each behind its test.
@@ -331,7 +337,7 @@ pub(crate) const COMMON: usize = 29;
 
 /// All cases, as they are listed. Behind the common ones stand tables of other sizes, some of which take
 /// long, and tables that are printed by other calls.
-pub(crate) static CASES: [Case; 64] = [
+pub(crate) static CASES: [Case; 67] = [
     Case("peek_basic", Grid::Peekable, BASIC),
     Case("peek_spans", Grid::Peekable, SPANS),
     Case("peek_colored", Grid::Colored, COLORED),
@@ -370,6 +376,9 @@ pub(crate) static CASES: [Case; 64] = [
     Case("rows_tall1000000", Grid::Rows, TALL1000000),
     Case("results_tall", Grid::Results, TALL_TABLE),
     Case("results_tall1000000", Grid::Results, TALL1000000),
+    Case("live_tall", Grid::Live, TALL_TABLE),
+    Case("lent_tall", Grid::Lent, TALL_TABLE),
+    Case("sized_tall", Grid::Sized, TALL_TABLE),
     Case("peek_tested", Grid::Tested, BASIC),
     Case("vectors_tall", Grid::Vectors, TALL_TABLE),
     Case("vectors_tall_streamed", Grid::VectorsStreamed, TALL_TABLE),
