@@ -51,96 +51,96 @@ fn flag<'a>(alloc: Global, name: &'a str, help: &'a str) -> Arg<'a> {
         .action(ArgAction::SetTrue)
 }
 
-// The command with what is read.
+// The command with what is read. Each argument is made where it is given, so that no other one is to be let
+// go where memory is refused.
 fn with_input<'a>(alloc: Global, command: Command<'a>) -> Result<Command<'a>, AllocError> {
-    let file = Arg::new(alloc, "file").value_name("FILE").help(
-        "The file that is read; without one, or as -, standard input",
-    );
-    let format = option(
-        alloc,
-        "format",
-        "FORMAT",
-        "How rows are written: separated by commas or tabs, as one value of JSON, as lines of JSON, or in a database of SQLite; else the ending of the file's name tells it, or else its first bytes",
-    )
-    .value_parser(FORMATS.as_slice());
-    let delimiter = option(
-        alloc,
-        "delimiter",
-        "C",
-        "What stands between two fields: a character, or the word tab",
-    );
-    let query = option(
-        alloc,
-        "query",
-        "SQL",
-        "The rows of a database of SQLite that are shown: a statement that changes nothing",
-    );
-    let bare = flag(alloc, "no-header", "Row 0 is no header");
     command
-        .arg(file)?
-        .arg(format)?
-        .arg(query)?
-        .arg(delimiter)?
-        .arg(bare)
+        .arg(
+            Arg::new(alloc, "file").value_name("FILE").help(
+                "The file that is read; without one, or as -, standard input",
+            ),
+        )?
+        .arg(option(
+            alloc,
+            "format",
+            "FORMAT",
+            "How rows are written: separated by commas or tabs, as one value of JSON, as lines of JSON, or in a database of SQLite; else the ending of the file's name tells it, or else its first bytes",
+        )
+        .value_parser(FORMATS.as_slice()))?
+        .arg(option(
+            alloc,
+            "query",
+            "SQL",
+            "The rows of a database of SQLite that are shown: a statement that changes nothing",
+        ))?
+        .arg(option(
+            alloc,
+            "delimiter",
+            "C",
+            "What stands between two fields: a character, or the word tab",
+        ))?
+        .arg(flag(alloc, "no-header", "Row 0 is no header"))
 }
 
 // The command with what is shown.
 fn with_shown<'a>(alloc: Global, command: Command<'a>) -> Result<Command<'a>, AllocError> {
-    let columns = option(
-        alloc,
-        "columns",
-        "NAMES",
-        "The columns that are shown, in this order, by their names in row 0",
-    )
-    .value_delimiter(',');
-    let head = option(
-        alloc,
-        "head",
-        "N",
-        "How many rows are shown at most, besides the header",
-    )
-    .value_parser(clap::value_parser!(u32));
-    let look = option(alloc, "look", "LOOK", "What the table looks like")
-        .value_parser(LOOKS.as_slice())
-        .default_value("sharp");
-    let align = option(
-        alloc,
-        "align",
-        "SIDES",
-        "The side of each column that is shown: left, right, centre, or auto, which is right where all texts below the header are numbers; one word alone is for all",
-    )
-    .value_parser(SIDES.as_slice())
-    .value_delimiter(',');
-    let raw = flag(
-        alloc,
-        "raw",
-        "Control characters are sent as they are, and not made visible",
-    );
-    let markdown = flag(
-        alloc,
-        "markdown",
-        "A table of Markdown, in which bars, backslashes and line feeds of fields are escaped",
-    );
     command
-        .arg(columns)?
-        .arg(head)?
-        .arg(look)?
-        .arg(align)?
-        .arg(markdown)?
-        .arg(raw)
+        .arg(option(
+            alloc,
+            "columns",
+            "NAMES",
+            "The columns that are shown, in this order, by their names in row 0",
+        )
+        .value_delimiter(','))?
+        .arg(option(
+            alloc,
+            "head",
+            "N",
+            "How many rows are shown at most, besides the header",
+        )
+        .value_parser(clap::value_parser!(u32)))?
+        .arg(
+            option(alloc, "look", "LOOK", "What the table looks like")
+                .value_parser(LOOKS.as_slice())
+                .default_value("sharp"),
+        )?
+        .arg(
+            option(
+                alloc,
+                "align",
+                "SIDES",
+                "The side of each column that is shown: left, right, centre, or auto, which is right where all texts below the header are numbers; one word alone is for all",
+            )
+            .value_parser(SIDES.as_slice())
+            .value_delimiter(','),
+        )?
+        .arg(flag(
+            alloc,
+            "markdown",
+            "A table of Markdown, in which bars, backslashes and line feeds of fields are escaped",
+        ))?
+        .arg(flag(
+            alloc,
+            "raw",
+            "Control characters are sent as they are, and not made visible",
+        ))
 }
 
-// The command with how wide a table may be.
-fn with_bounds<'a>(alloc: Global, command: Command<'a>) -> Result<Command<'a>, AllocError> {
-    let width = option(
+// How wide a table may be.
+fn width<'a>(alloc: Global) -> Result<Arg<'a>, AllocError> {
+    option(
         alloc,
         "width",
         "N",
         "How many columns of the terminal a line takes at most; 0 is no limit. Without it the variable COLUMNS says it, where it is there",
     )
     .value_parser(clap::value_parser!(u32))
-    .conflicts_with("markdown")?;
-    let limits = option(
+    .conflicts_with("markdown")
+}
+
+// How wide its columns may be.
+fn limits<'a>(alloc: Global) -> Result<Arg<'a>, AllocError> {
+    option(
         alloc,
         "max-column-width",
         "N",
@@ -148,14 +148,20 @@ fn with_bounds<'a>(alloc: Global, command: Command<'a>) -> Result<Command<'a>, A
     )
     .value_parser(clap::value_parser!(u32))
     .value_delimiter(',')
-    .conflicts_with("markdown")?;
-    let wrap = flag(
-        alloc,
-        "wrap",
-        "Texts that are too wide go on in further lines, as they do without a word",
-    );
-    let cut = flag(alloc, "cut", "Texts that are too wide end with …").conflicts_with("wrap")?;
-    command.arg(width)?.arg(limits)?.arg(wrap)?.arg(cut)
+    .conflicts_with("markdown")
+}
+
+// The command with how wide a table may be.
+fn with_bounds<'a>(alloc: Global, command: Command<'a>) -> Result<Command<'a>, AllocError> {
+    command
+        .arg(width(alloc)?)?
+        .arg(limits(alloc)?)?
+        .arg(flag(
+            alloc,
+            "wrap",
+            "Texts that are too wide go on in further lines, as they do without a word",
+        ))?
+        .arg(flag(alloc, "cut", "Texts that are too wide end with …").conflicts_with("wrap")?)
 }
 
 // The command with the form in which records are shown.

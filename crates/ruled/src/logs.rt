@@ -4,15 +4,15 @@ use ruled_run::Log;
 use std::io::{ErrorKind, Read};
 use std::{fs, io};
 
-// The first byte of the file of this name, where there is one.
-fn first_byte(rt: &HostRuntime, name: &str) -> io::Result<Option<u8>> {
-    let mut file = match fs::open(rt, name) {
-        Ok(file) => file,
-        Err(error) if error.kind() == ErrorKind::NotFound => return Ok(None),
+// The first byte of the file at this path with this ending behind it, where there is one.
+fn first_byte(rt: &HostRuntime, path: &str, ending: &str) -> io::Result<Option<u8>> {
+    let name = format!(in rt.alloc(); "{path}{ending}")?;
+    let mut byte = [0u8; 1];
+    let count = match fs::open(rt, name.as_str()) {
+        Ok(mut file) => file.read(&mut byte)?,
+        Err(error) if error.kind() == ErrorKind::NotFound => 0,
         Err(error) => return Err(error),
     };
-    let mut byte = [0u8; 1];
-    let count = file.read(&mut byte)?;
     Ok(if count == 0 { None } else { Some(byte[0]) })
 }
 
@@ -21,9 +21,9 @@ fn first_byte(rt: &HostRuntime, name: &str) -> io::Result<Option<u8>> {
 fn has_rows(rt: &HostRuntime, name: &str) -> io::Result<bool> {
     let path = fs::canonicalize(rt, name)?;
     let path = path.as_path().as_str();
-    let log = first_byte(rt, &format!(in rt.alloc(); "{path}-wal")?)?;
-    let journal = first_byte(rt, &format!(in rt.alloc(); "{path}-journal")?)?;
-    Ok(log.is_some() || journal.is_some_and(|byte| byte != 0))
+    let log = first_byte(rt, path, "-wal")?;
+    let journal = first_byte(rt, path, "-journal")?;
+    Ok(log.is_some() || matches!(journal, Some(1..=255)))
 }
 
 /// What is known of the logs beside the file of this name. Of one that can't be read it isn't known that
