@@ -1,6 +1,6 @@
 -- Where quotes may stand: a quote at the start of a field opens it, the next one that isn't doubled closes it, and behind
 -- that one the field ends. Elsewhere a quote stands for itself.
-use Rattle.std.specs.Prelude.{ℕ, ◌+◌, ◌-◌, ◌^◌, min, ◌==◌, ◌||◌, Bool, List, fold, Option, Some, None, if◌then◌else◌}
+use Rattle.std.specs.Prelude.{ℕ, ◌+◌, ◌-◌, ◌^◌, min, ◌==◌, ◌||◌, Bool, true, false, List, fold, Option, Some, None, if◌then◌else◌}
 use Rattle.csv.specs.Reading.{strip_bom}
 use Rattle.ruled_csv.specs.declared.fault.RowsFault.{RowsFault}
 use Rattle.ruled_csv.specs.declared.fault.RowsFault.TheVariants.{OpenQuote, BehindQuote}
@@ -62,3 +62,21 @@ walk_fault walk = fault_at walk.place walk.line walk.opened
 -- what is wrong with the quotes of these bytes, without a byte order mark at their front
 unfoldable pub quote_fault : ℕ → List ℕ → Option RowsFault
 quote_fault delimiter bytes = walk_fault (fold (walk_after delimiter) walk_start (strip_bom bytes))
+
+-- ---- line by line
+
+-- a quote is open
+abbrev pub is_quoted : Place → Bool
+is_quoted Start = false
+is_quoted Plain = false
+is_quoted Quoted = true
+is_quoted Closing = false
+is_quoted Behind = false
+
+-- what stands in front of a line, by whether a quote is open there
+abbrev pub place_behind : Bool → Place
+place_behind is_open = if is_open then Quoted else Start
+
+-- whether a quote is open behind a line
+unfoldable pub leaves_open : ℕ → Bool → List ℕ → Bool
+leaves_open delimiter is_open line = is_quoted (fold (place_after delimiter) (place_behind is_open) line)

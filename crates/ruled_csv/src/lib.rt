@@ -6,5 +6,5 @@ mod quotes;
 mod records;
 
 pub use crate::fault::RowsFault;
-pub use crate::quotes::without_mark;
+pub use crate::quotes::{leaves_open, without_mark};
 pub use crate::records::read_rows;

@@ -3,7 +3,7 @@
 ghost use Rattle.std.specs.Prelude.{◌≡◌, ◌||◌, ◌==◌};
 ghost use Rattle.csv.specs.Reading.{strip_bom};
 ghost use Rattle.ruled_csv.specs.Faults.{Tells};
-ghost use Rattle.ruled_csv.specs.Quotes.{ends_field, place_after, walk_after, walk_fault, walk_start, quote_fault};
+ghost use Rattle.ruled_csv.specs.Quotes.{ends_field, is_quoted, leaves_open, place_after, place_behind, walk_after, walk_fault, walk_start, quote_fault};
 
 use crate::fault::RowsFault;
 
@@ -40,6 +40,13 @@ fn ends_field(delimiter: u8, byte: u8) -> bool
 }
 
 impl Place {
+    // Whether a quote is open.
+    fn is_quoted(self) -> bool
+        ensures { result ≡ is_quoted self }
+    {
+        matches!(self, Place::Quoted)
+    }
+
     // What stands in front of the byte behind this one.
     fn after(self, delimiter: u8, byte: u8) -> Place
         ensures { result ≡ place_after delimiter self byte }
@@ -123,6 +130,24 @@ pub(crate) fn check_quotes(delimiter: u8, bytes: &[u8]) -> Result<(), RowsFault>
         walk = walk.after(delimiter, *byte);
     }
     walk.fault()
+}
+
+// What stands in front of a line.
+fn place_behind(is_open: bool) -> Place
+    ensures { result ≡ place_behind is_open }
+{
+    if is_open { Place::Quoted } else { Place::Start }
+}
+
+/// Whether a quote is open behind a line, of which it is told whether one is open in front of it.
+pub fn leaves_open(delimiter: u8, is_open: bool, line: &[u8]) -> bool
+    ensures { result ≡ leaves_open delimiter is_open line.now }
+{
+    let mut place = place_behind(is_open);
+    for byte in line {
+        place = place.after(delimiter, *byte);
+    }
+    place.is_quoted()
 }
 
 /// Bytes of separated values.
