@@ -11,7 +11,7 @@ use Rattle.ruled_sql.specs.declared.fault.SqlFault.TheVariants as sql
 use Rattle.ruled_view.specs.Faults.{but_line, is_failure, is_of_write}
 use Rattle.ruled_view.specs.View.{table_fault, view_fault}
 use Rattle.ruled_view.specs.declared.fault.Fault.{Fault}
-use Rattle.ruled_view.specs.declared.fault.Fault.TheVariants.{Rows, Json, Column, Totals, Memory, Read, Closed, Write}
+use Rattle.ruled_view.specs.declared.fault.Fault.TheVariants.{Rows, Json, Column, Stream, Totals, Memory, Read, Closed, Write}
 use Rattle.ruled_run.specs.Runs.{AreAsked, Caused, CausedAs, fault_of_sql, is_database}
 use Rattle.ruled_run.specs.declared.fault.RunFault.{RunFault}
 use Rattle.ruled_run.specs.declared.fault.RunFault.TheVariants.{View}
@@ -58,6 +58,7 @@ pub write_fails : (fault : Fault) → is_of_write fault ≡ true → is_failure 
 write_fails (Rows fault) e = cc
 write_fails (Json fault) e = cc
 write_fails (Column name) e = cc
+write_fails (Stream fault) e = cc
 write_fails Totals e = cc
 write_fails Memory e = refl
 write_fails Read e = refl

@@ -1,7 +1,14 @@
 mod Even
 mod Fields
+mod LatePieces
+mod LinesRead
 mod MoreBlocks
 mod MoreColumns
+mod PiecesRead
+mod SheetRows
+mod SheetSizes
+mod SheetTexts
 mod Shown
+mod StreamedRows
 mod Tables
 mod Views

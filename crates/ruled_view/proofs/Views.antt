@@ -9,7 +9,7 @@ use Rattle.ruled_csv.specs.declared.fault.RowsFault.TheVariants as rows
 use Rattle.ruled_csv.specs.Faults as csv
 use Rattle.ruled_view.specs.Faults.{Tells, but_line, fault_of_rows, is_failure, is_of_write}
 use Rattle.ruled_view.specs.declared.fault.Fault.{Fault}
-use Rattle.ruled_view.specs.declared.fault.Fault.TheVariants.{Rows, Json, Column, Totals, Memory, Read, Closed, Write}
+use Rattle.ruled_view.specs.declared.fault.Fault.TheVariants.{Rows, Json, Column, Stream, Totals, Memory, Read, Closed, Write}
 
 -- where the reading of rows fails, that is told
 pub rows_told : {X : Type 0} (found : RowsFault) (right : Option RowsFault) (result : Result X Fault) → (found ≢ rows.Memory → right ≡ Some (csv.but_line found))
@@ -36,11 +36,16 @@ write_fails : (fault : Fault) → is_of_write fault ≡ true → is_failure faul
 write_fails (Rows fault) e = cc
 write_fails (Json fault) e = cc
 write_fails (Column name) e = cc
+write_fails (Stream fault) e = cc
 write_fails Totals e = cc
 write_fails Memory e = refl
 write_fails Read e = refl
 write_fails Closed e = refl
 write_fails Write e = refl
+
+-- so it isn't what is wrong with rows
+pub write_stops : (fault : Fault) → is_of_write fault ≡ true → is_failure fault ≡ false → fault ≡ Totals
+write_stops fault e soft = absurd (true≢false (sym (write_fails fault e) ∙ soft))
 
 -- where there is no fault, none is told but that of a write
 pub written : {U : Type 0} (right : Option Fault) (result : Result U Fault) → right ≡ None → ((fault : Fault) → result ≡ Err fault → is_of_write fault ≡ true) → Tells right result

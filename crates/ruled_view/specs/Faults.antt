@@ -7,13 +7,14 @@ use Rattle.ruled_json.specs.declared.fault.JsonFault.{JsonFault}
 use Rattle.ruled_json.specs.declared.fault.JsonFault.TheVariants as json_faults
 use Rattle.ruled_json.specs.Faults as json
 use Rattle.ruled_view.specs.declared.fault.Fault.{Fault}
-use Rattle.ruled_view.specs.declared.fault.Fault.TheVariants.{Rows, Json, Column, Totals, Memory, Read, Closed, Write}
+use Rattle.ruled_view.specs.declared.fault.Fault.TheVariants.{Rows, Json, Column, Stream, Totals, Memory, Read, Closed, Write}
 
 -- the exit status that tells of a fault: 0 where nobody reads what is written
 abbrev pub status_of : Fault → ℕ
 status_of (Rows fault) = 2
 status_of (Json fault) = 2
 status_of (Column name) = 2
+status_of (Stream fault) = 2
 status_of Totals = 3
 status_of Memory = 4
 status_of Read = 5
@@ -30,6 +31,7 @@ abbrev pub is_failure : Fault → Bool
 is_failure (Rows fault) = false
 is_failure (Json fault) = false
 is_failure (Column name) = false
+is_failure (Stream fault) = false
 is_failure Totals = false
 is_failure Memory = true
 is_failure Read = true
@@ -41,6 +43,7 @@ abbrev pub is_of_write : Fault → Bool
 is_of_write (Rows fault) = false
 is_of_write (Json fault) = false
 is_of_write (Column name) = false
+is_of_write (Stream fault) = false
 is_of_write Totals = false
 is_of_write Memory = false
 is_of_write Read = false
@@ -52,6 +55,7 @@ abbrev pub but_line : Fault → Fault
 but_line (Rows fault) = Rows (csv.but_line fault)
 but_line (Json fault) = Json (json.but_line fault)
 but_line (Column name) = Column name
+but_line (Stream fault) = Stream fault
 but_line Totals = Totals
 but_line Memory = Memory
 but_line Read = Read

@@ -43,3 +43,18 @@ format_seen bytes = format_from (first_sign bytes) bytes
 abbrev pub format_in : Option Format → List ℕ → Format
 format_in (Some format) bytes = format
 format_in None bytes = format_seen (strip_bom bytes)
+
+-- ---- rows that are shown one after another
+
+-- what begins with an opening brace has a value on each line
+abbrev pub format_from_line : Option ℕ → List ℕ → Format
+format_from_line None line = Separated (delimiter_seen line)
+format_from_line (Some sign) line =
+    if sign == 91 then Json
+    else if sign == 123 then JsonLines
+    else Separated (delimiter_seen line)
+
+-- the format that is told, or else the one that the first line shows
+abbrev pub format_of_line : Option Format → List ℕ → Format
+format_of_line (Some format) line = format
+format_of_line None line = format_from_line (first_sign (strip_bom line)) (strip_bom line)

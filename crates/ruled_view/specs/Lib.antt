@@ -5,8 +5,12 @@ pub mod Escapes
 pub mod Faults
 pub mod Formats
 pub mod Input
+pub mod LateRows
 pub mod Look
 pub mod Numbers
+pub mod Pieces
+pub mod Sheet
 pub mod Sides
+pub mod Stream
 pub mod Tables
 pub mod View

@@ -37,15 +37,15 @@ fn limit_of(columns: Option<u32>) -> usize
 }
 
 impl Bounds {
-    // Whether there are any.
-    fn are_told(&self) -> bool
+    /// Whether there are any.
+    pub(crate) fn are_told(&self) -> bool
         ensures { result ≡ spec.are_told self.now }
     {
         self.width.is_some() || !self.limits.is_empty()
     }
 
-    // The greatest width of a line.
-    fn width(&self) -> usize
+    /// The greatest width of a line.
+    pub(crate) fn width(&self) -> usize
         ensures { result ≡ spec.width_of self.now.width }
     {
         match self.width {
@@ -54,8 +54,8 @@ impl Bounds {
         }
     }
 
-    // The greatest width of each of so many columns.
-    fn limits(&self, alloc: Global, columns: usize) -> Result<Vec<usize>, AllocError>
+    /// The greatest width of each of so many columns.
+    pub(crate) fn limits(&self, alloc: Global, columns: usize) -> Result<Vec<usize>, AllocError>
         ensures { IfOk result (λ limits. limits.items ≡ spec.limits_of self.now.limits.items columns) }
     {
         let mut limits = Vec::with_capacity(alloc, columns)?;

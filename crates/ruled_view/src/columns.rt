@@ -31,8 +31,8 @@ pub(crate) fn field_at(fields: &StringRecord, place: usize) -> &str
     }
 }
 
-// The first column of this name.
-fn column_of(header: &StringRecord, name: &str) -> Option<usize>
+/// The first column of this name.
+pub(crate) fn column_of(header: &StringRecord, name: &str) -> Option<usize>
     ensures { result ≡ column_of (fields_of header.now) name.now }
 {
     (0..header.len()).find(|place| field_at(header, *place) == name)

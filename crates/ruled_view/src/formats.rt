@@ -73,6 +73,21 @@ fn format_seen(alloc: Global, bytes: &[u8]) -> Result<Format, AllocError>
     }
 }
 
+/// The format of rows that are shown one after another: that which is told, or else that which the first line
+/// shows, where what begins with an opening brace has a value of JSON on each line.
+pub(crate) fn format_of_line(told: Option<Format>, line: &[u8]) -> Format
+    ensures { result ≡ spec.format_of_line told line.now }
+{
+    match told {
+        Some(format) => format,
+        None => match first_sign(without_mark(line)) {
+            Some(b'[') => Format::Json,
+            Some(b'{') => Format::JsonLines,
+            _ => Format::Separated(delimiter_seen(without_mark(line))),
+        },
+    }
+}
+
 /// The format of bytes: that which is told, or else that which they show.
 pub(crate) fn format_in(
     alloc: Global,

@@ -13,8 +13,12 @@ use ruled_csv::{read_rows, without_mark};
 use ruled_json::read_line_rows;
 use std::alloc::Global;
 
-// The rows that bytes of this format hold.
-fn rows_of(alloc: Global, format: Format, bytes: &[u8]) -> Result<Vec<StringRecord>, Fault>
+/// The rows that bytes of this format hold.
+pub(crate) fn rows_of(
+    alloc: Global,
+    format: Format,
+    bytes: &[u8],
+) -> Result<Vec<StringRecord>, Fault>
     ensures rows { IfOk result (λ rows. map fields_of rows.items ≡ rows_of format bytes.now) }
     ensures fault { Tells (format_fault format bytes.now) result }
 {

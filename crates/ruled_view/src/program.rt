@@ -2,6 +2,7 @@
 
 ghost use Rattle.std.specs.Prelude.{◌≡◌, Bool, true, false, Some, None, Err, IfOk, IfSome, OnOk};
 ghost use Rattle.std.specs.Io.KnownBytes.{Appends, Keeps};
+ghost use Rattle.std.specs.Result.{result_err};
 ghost use Rattle.ruled_view.specs.Faults.{Tells, but_line, is_failure, is_of_write, status_after};
 ghost use Rattle.ruled_view.specs.View.{view_fault, view_text};
 ghost use Rattle.ruled_view.specs.declared.fault.Fault.{Fault};
@@ -46,8 +47,8 @@ pub fn read_whole<R: Read>(alloc: Global, input: &mut R) -> Result<Vec<u8>, Faul
     }
 }
 
-// What an error of a writer tells.
-fn fault_of_write(error: io::Error) -> Fault
+/// What an error of a writer tells.
+pub(crate) fn fault_of_write(error: io::Error) -> Fault
     ensures { is_of_write result ≡ true }
 {
     match error.kind() {
@@ -81,6 +82,28 @@ fn show<R: Read, W: Write>(
     write_text(&text, out)
 }
 
+/// How a run ended that answered this; its fault is told, except where nobody reads what is written.
+pub(crate) fn ending_of<W: Write>(
+    answer: Result<(), Fault>,
+    options: &Options,
+    err: &mut W,
+) -> Ending
+    ensures fault { result.fault ≡ result_err answer }
+    ensures silent { result.fault ≡ None → Keeps (W.contents err.old) (W.contents err.new) }
+    ensures closed { result.fault ≡ Some Fault.Closed → Keeps (W.contents err.old) (W.contents err.new) }
+{
+    match answer {
+        Ok(()) => Ending { fault: None },
+        Err(Fault::Closed) => Ending {
+            fault: Some(Fault::Closed),
+        },
+        Err(fault) => {
+            let _ = fault.tell(&options.columns, err);
+            Ending { fault: Some(fault) }
+        }
+    }
+}
+
 /// Shows the table of the rows that the bytes of `input` hold, or tells why there is none.
 ///
 /// All of `input` is read before anything is written. The text of the table is then written to `out`
@@ -101,14 +124,5 @@ pub fn run<R: Read, W1: Write, W2: Write>(
     ensures silent { result.fault ≡ None → Keeps (W2.contents err.old) (W2.contents err.new) }
     ensures closed { result.fault ≡ Some Fault.Closed → Keeps (W2.contents err.old) (W2.contents err.new) }
 {
-    match show(alloc, options, input, out) {
-        Ok(()) => Ending { fault: None },
-        Err(Fault::Closed) => Ending {
-            fault: Some(Fault::Closed),
-        },
-        Err(fault) => {
-            let _ = fault.tell(&options.columns, err);
-            Ending { fault: Some(fault) }
-        }
-    }
+    ending_of(show(alloc, options, input, out), options, err)
 }

@@ -32,8 +32,8 @@ fn shown_text(alloc: Global, options: &Options, text: &str) -> Result<String, Al
     Ok(seen)
 }
 
-// A row as it is shown: its fields at these places.
-fn shown_row(
+/// A row as it is shown: its fields at these places.
+pub(crate) fn shown_row(
     alloc: Global,
     options: &Options,
     places: &[usize],
@@ -47,6 +47,23 @@ fn shown_row(
         row.push(text)?;
     }
     Ok(row)
+}
+
+/// Rows as they are shown.
+pub(crate) fn texts_of(
+    alloc: Global,
+    options: &Options,
+    places: &[usize],
+    records: &[StringRecord],
+) -> Result<Vec<Vec<String>>, AllocError>
+    ensures { IfOk result (λ texts. map (λ row. map string_bytes row.items) texts.items ≡ map (shown_row options.now places.now) (map fields_of records.now)) }
+{
+    let mut texts = Vec::with_capacity(alloc, records.len())?;
+    for fields in records {
+        let row = shown_row(alloc, options, places, fields)?;
+        texts.push(row)?;
+    }
+    Ok(texts)
 }
 
 // How many rows are shown at most, where that is told.

@@ -75,8 +75,8 @@ fn set_side(
     }
 }
 
-// How many columns the rows have.
-fn columns_of(rows: &[Vec<String>]) -> usize
+/// How many columns the rows have.
+pub(crate) fn columns_of(rows: &[Vec<String>]) -> usize
     ensures { result ≡ columns_of (map (λ row. row.items) rows.now) }
 {
     match rows {

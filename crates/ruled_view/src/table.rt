@@ -37,8 +37,8 @@ pub(crate) fn look_config(alloc: Global, look: Look) -> Result<SpannedConfig, Al
     Ok(config)
 }
 
-// The line below a header, where the table has one.
-fn line_in(options: &Options) -> Option<HorizontalLine<char>>
+/// The line below a header, where the table has one.
+pub(crate) fn line_in(options: &Options) -> Option<HorizontalLine<char>>
     ensures { result ≡ line_in options.now }
 {
     if options.has_header {
@@ -48,8 +48,8 @@ fn line_in(options: &Options) -> Option<HorizontalLine<char>>
     }
 }
 
-// What the table of these rows looks like, but for that line.
-fn sided_config(
+/// What the table of these rows looks like, but for that line.
+pub(crate) fn sided_config(
     alloc: Global,
     options: &Options,
     rows: &[Vec<String>],
@@ -79,8 +79,8 @@ fn table_with(
     }
 }
 
-// Why a table isn't printed.
-fn fault_in(fault: TableFault) -> Fault
+/// Why a table isn't printed.
+pub(crate) fn fault_in(fault: TableFault) -> Fault
     ensures two { result ≡ Fault.Memory ⊎ result ≡ Fault.Totals }
     ensures memory { fault ≡ TableFault.Memory → result ≡ Fault.Memory }
 {

@@ -1,0 +1,75 @@
+use Rattle.std.proofs.Common.{◌≡◌, ◌∙◌, ◌∷◌, ◌++◌, ◌-◌, [], ℕ, List, map, length, take, drop, slice_index_or, string_bytes, None, sym, ap, subst, arith, rules}
+use Rattle.std.proofs.lemmas.List.{length-map, nil_from_length}
+use Rattle.csv.specs.Records.{Row, fields_of}
+use Rattle.pg_layout.specs.Text.{Text}
+use Rattle.pg_layout.specs.Records.{ragged_row}
+use Rattle.pg_config.specs.Config.{Config}
+use Rattle.ruled_view.specs.Columns.{column_fault, places_of}
+use Rattle.ruled_view.specs.Faults.{Tells}
+use Rattle.ruled_view.specs.LateRows.{are_bad, late_rows}
+use Rattle.ruled_view.specs.Pieces.{pieces_of}
+use Rattle.ruled_view.specs.Sheet.{sheet_config, widths_of}
+use Rattle.ruled_view.specs.Stream.{Draws, Streams, cells_of, config_in, first_fault, places_in, texts_in, width_in}
+use Rattle.ruled_view.specs.View.{shown_row}
+use Rattle.ruled_view.proofs.Even.{even_rows, ragged_same}
+use Rattle.ruled_view.proofs.StreamedRows.{first-and-others, if_more, streams, without-rows}
+use Rattle.ruled_view.proofs.stream.write_table.Goals as goal
+
+pub returns-in_default : goal.returns-in_default
+returns-in_default g c =
+    let options = c.args.options.now in
+    let format = c.args.format in
+    let old = g.W.Write.contents c.args.out.now in
+    let r = c.end_without_rows.result in
+    let none : c.args.records.now ≡ [] = nil_from_length c.args.records.now (omega (arith, c.in_default.len_below)) in
+    if_more (g.R.Read.remaining c.args.reader.now) (λ left. Tells (first_fault options [] (pieces_of format left)) r) (λ left. Streams options format (map fields_of c.args.records.now) (pieces_of format left) old old r)
+    (λ left told. subst (λ (rows : List Row). Streams options format (map fields_of rows) (pieces_of format left) old old r) (sym none) (without-rows options format (pieces_of format left) old r told))
+    (c.end_without_rows.ensures options)
+
+pub sizes_of_rows-requires : goal.sizes_of_rows-requires
+sizes_of_rows-requires g c =
+    let places = c.deref-2.result.now in
+    record {
+      even =
+          ragged_same (λ row. row.items) (λ row. map string_bytes row.items) (λ row. sym (length-map row.items string_bytes)) c.in_ok-rows.rows.items
+          ∙ ap ragged_row c.in_ok-rows.ensures
+          ∙ even_rows (shown_row c.args.options.now places) (length places) (λ row. length-map places _) (map fields_of c.args.records.now);
+    }
+
+pub returns : goal.returns
+returns g c =
+    let options = c.args.options.now in
+    let format = c.args.format in
+    let records : List Row = c.args.records.now in
+    let item : Row = c.header-item.result in
+    let others : List Row = take (length records - 1) (drop 1 records) in
+    let header : List Text = fields_of item in
+    let rows : List (List Text) = map fields_of others in
+    let first : map fields_of records ≡ header ∷ rows = ap (map fields_of) (first-and-others records item c.in-len1-up.len_at_least c.header-item.is) in
+    let names : c.deref.result.now ≡ options.columns.items = search rules in
+    let told : c.in_ok-places.places.items ≡ places_in options (header ∷ rows) = (rw names at c.in_ok-places.ensures.places) ∙ ap (places_of options.columns.items) first in
+    let none : column_fault options.columns.items (header ∷ rows) ≡ None = ap (column_fault options.columns.items) (sym first) ∙ (rw names at c.in_ok-places.ensures.fault) in
+    let at : List ℕ = places_in options (header ∷ rows) in
+    let texts : List (List Text) = texts_in options (header ∷ rows) in
+    let shown : map (λ row. map string_bytes row.items) c.in_ok-rows.rows.items ≡ texts =
+    c.in_ok-rows.ensures
+    ∙ ap (λ (places : List ℕ). map (shown_row options places) (map fields_of records)) (c.deref-2.ensures.value ∙ told)
+    ∙ ap (map (shown_row options at)) first
+    in
+    let config : c.in_ok-config.config ≡ config_in options (header ∷ rows) = c.in_ok-config.ensures ∙ ap (λ given. sheet_config options (map (λ row. map string_bytes row.items) given)) c.deref-3.ensures.value ∙ ap (sheet_config options) shown in
+    let width : ℕ → ℕ = λ column. slice_index_or c.in_ok-widths.widths.0.items column 0 in
+    let wide : width ≡ width_in options (header ∷ rows) =
+    c.in_ok-widths.ensures.widths
+    ∙ ap (λ (config : Config). widths_of options.bounds config (map (λ row. map string_bytes row.items) c.in_ok-rows.rows.items)) config
+    ∙ ap (widths_of options.bounds (config_in options (header ∷ rows))) shown
+    in
+    let places : List ℕ = c.deref-4.result.now in
+    let are : places ≡ at = c.deref-4.ensures.value ∙ told in
+    let old = g.W.Write.contents c.args.out.now in
+    let new = g.W.Write.contents c.write_sheet.new.out in
+    let r = c.write_sheet.result in
+    if_more (g.R.Read.remaining c.args.reader.now)
+    (λ left. Draws c.in_ok-config.config (length places) width (cells_of options places width (header ∷ (rows ++ late_rows format header (pieces_of format left)))) (are_bad format header (pieces_of format left)) old new r)
+    (λ left. Streams options format (map fields_of records) (pieces_of format left) old new r)
+    (λ left draws. subst (λ (fields : List (List Text)). Streams options format fields (pieces_of format left) old new r) (sym first) (streams options format header rows (pieces_of format left) places c.in_ok-config.config width old new r are config wide none draws))
+    c.write_sheet.ensures
