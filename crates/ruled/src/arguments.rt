@@ -23,6 +23,8 @@ pub(crate) struct Wanted {
     /// The file that is read, or `None` for standard input.
     pub(crate) file: Option<String>,
     pub(crate) request: Request,
+    /// How many rows the widths are taken from, where each is shown when it comes.
+    pub(crate) stream: Option<u32>,
 }
 
 /// What the arguments ask for.
@@ -164,6 +166,24 @@ fn with_bounds<'a>(alloc: Global, command: Command<'a>) -> Result<Command<'a>, A
         .arg(flag(alloc, "cut", "Texts that are too wide end with …").conflicts_with("wrap")?)
 }
 
+// The command with whether rows are shown one after another.
+fn with_stream<'a>(alloc: Global, command: Command<'a>) -> Result<Command<'a>, AllocError> {
+    let stream = option(
+        alloc,
+        "stream",
+        "ROWS",
+        "Each row is shown when it comes, at the widths of the header and the first ROWS rows below it, or the first 1000",
+    )
+    .num_args(0..=1)
+    .require_equals(true)
+    .default_missing_value("1000")
+    .value_parser(clap::value_parser!(u32))
+    .conflicts_with("head")?
+    .conflicts_with("vertical")?
+    .conflicts_with("markdown")?;
+    command.arg(stream)
+}
+
 // The command with the form in which records are shown.
 fn with_form<'a>(alloc: Global, command: Command<'a>) -> Result<Command<'a>, AllocError> {
     let vertical = flag(
@@ -181,7 +201,8 @@ fn command<'a>(alloc: Global) -> Result<Command<'a>, AllocError> {
         .about("Shows rows of separated values, JSON or a database of SQLite as a table")
         .version("0.1.0");
     let command = with_shown(alloc, with_input(alloc, command)?)?;
-    with_form(alloc, with_bounds(alloc, command)?)
+    let command = with_form(alloc, with_bounds(alloc, command)?)?;
+    with_stream(alloc, command)
 }
 
 // The look of this name.
@@ -279,6 +300,9 @@ fn database_asked(
 fn input_asked(found: &ArgMatches) -> Result<(Option<Format>, Option<bool>), &'static str> {
     let format = format_asked(found)?;
     let is_database = database_asked(found, format)?;
+    if is_database == Some(true) && found.get_one::<u32>("stream").is_some() {
+        return Err("a database can't be streamed");
+    }
     Ok((format, is_database))
 }
 
@@ -386,6 +410,7 @@ fn table_of(
     Ok(Wanted {
         file: copy_of(alloc, name_in(found))?,
         request,
+        stream: found.get_one::<u32>("stream"),
     })
 }
 

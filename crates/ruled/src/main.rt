@@ -8,8 +8,9 @@ mod logs;
 use crate::arguments::{Asked, Wanted, read_arguments};
 use crate::logs::log_beside;
 use ruled_run::{Request, run};
+use ruled_view::run_stream;
 use std::fs::File;
-use std::io::{ErrorKind, Write};
+use std::io::{ErrorKind, Read, Write};
 use std::process::ExitCode;
 use std::{fs, io};
 
@@ -28,19 +29,34 @@ fn open(rt: &HostRuntime, name: &str, request: &mut Request) -> io::Result<File>
     fs::open(rt, name)
 }
 
+// Shows the table of an input, all at once or row by row, and answers the exit status.
+fn show_input<R: Read + Drop>(
+    rt: &HostRuntime,
+    request: &Request,
+    stream: Option<u32>,
+    mut input: R,
+) -> u8 {
+    let (mut out, mut err) = (rt.stdout(), rt.stderr());
+    match stream {
+        Some(rows) => {
+            let (options, rows) = (&request.options, rows.max(1) as usize);
+            run_stream(rt.alloc(), options, rows, input, &mut out, &mut err).status()
+        }
+        None => run(rt.alloc(), request, &mut input, &mut out, &mut err).status(),
+    }
+}
+
 // Shows the table that is wanted, and answers the exit status. An error is want of memory.
 fn show(rt: &HostRuntime, wanted: Wanted) -> io::Result<u8> {
-    let (mut out, mut err) = (rt.stdout(), rt.stderr());
     let mut request = wanted.request;
     let Some(name) = &wanted.file else {
-        let mut input = rt.stdin();
-        return Ok(run(rt.alloc(), &request, &mut input, &mut out, &mut err).status());
+        return Ok(show_input(rt, &request, wanted.stream, rt.stdin()));
     };
     match open(rt, name.as_str(), &mut request) {
-        Ok(mut file) => Ok(run(rt.alloc(), &request, &mut file, &mut out, &mut err).status()),
+        Ok(file) => Ok(show_input(rt, &request, wanted.stream, file)),
         Err(error) if error.kind() == ErrorKind::OutOfMemory => Err(error),
         Err(error) => {
-            let _ = writeln!(err, "ruled: {name}: {}", words_of(&error));
+            let _ = writeln!(rt.stderr(), "ruled: {name}: {}", words_of(&error));
             Ok(5)
         }
     }

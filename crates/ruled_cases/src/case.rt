@@ -1,7 +1,7 @@
 //! Cases of a file.
 
 use crate::words::{push_input, set_option, split_times};
-use ruled_view::{Bounds, Breaking, Format, Look, Options, Overflow, run};
+use ruled_view::{Bounds, Breaking, Format, Look, Options, Overflow, run, run_stream};
 use std::alloc::{AllocError, Global};
 use std::io;
 
@@ -10,6 +10,8 @@ use std::io;
 pub(crate) struct Case {
     name: String,
     options: Options,
+    // From how many rows widths are taken, where each row is shown when it comes.
+    stream: Option<usize>,
     input: Vec<u8>,
     // What is shown of a table.
     shown: String,
@@ -40,6 +42,7 @@ impl Case {
         Ok(Case {
             name: String::from_str(alloc, name)?,
             options,
+            stream: None,
             input: Vec::new(alloc),
             shown: String::new(alloc),
             status: 0,
@@ -52,7 +55,7 @@ impl Case {
         let (mark, text) = line.split_once(' ').unwrap_or((line, ""));
         match mark {
             "" | "#" => Ok(true),
-            "@" => set_option(alloc, &mut self.options, text),
+            "@" => self.set_option(alloc, text),
             ">" => {
                 push_input(&mut self.input, text)?;
                 Ok(true)
@@ -65,6 +68,17 @@ impl Case {
             "!" => self.set_told(text),
             ">*" | "=*" => self.push_times(mark, text),
             _ => Ok(false),
+        }
+    }
+
+    // Takes an option and its value.
+    fn set_option(&mut self, alloc: Global, text: &str) -> Result<bool, AllocError> {
+        match text.strip_prefix("stream ") {
+            Some(rows) => {
+                self.stream = rows.parse().ok();
+                Ok(self.stream.is_some())
+            }
+            None => set_option(alloc, &mut self.options, text),
         }
     }
 
@@ -109,8 +123,12 @@ impl Case {
     /// Runs the case, and answers whether it answers as told. Another answer is printed.
     pub(crate) fn is_as_told(&self, rt: &HostRuntime) -> io::Result<bool> {
         let (mut out, mut err) = (Vec::new(rt.alloc()), Vec::new(rt.alloc()));
-        let mut input = self.input.as_slice();
-        let status = run(rt.alloc(), &self.options, &mut input, &mut out, &mut err).status();
+        let (options, mut input) = (&self.options, self.input.as_slice());
+        let ending = match self.stream {
+            Some(rows) => run_stream(rt.alloc(), options, rows, input, &mut out, &mut err),
+            None => run(rt.alloc(), options, &mut input, &mut out, &mut err),
+        };
+        let status = ending.status();
         let is_right = status == self.status
             && out.as_slice() == self.shown.as_bytes()
             && err.as_slice() == self.told.as_bytes();

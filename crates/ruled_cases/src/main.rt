@@ -1,5 +1,6 @@
-//! The program `ruled_cases`: it runs the cases of a file on standard input by [`ruled_view::run`], and
-//! tells which of them answer otherwise than the file says.
+//! The program `ruled_cases`: it runs the cases of a file on standard input by [`ruled_view::run`], or by
+//! [`ruled_view::run_stream`] where the option `stream` has a number of rows, and tells which of them
+//! answer otherwise than the file says.
 //!
 //! ```text
 //! # The text is all that follows one space.
