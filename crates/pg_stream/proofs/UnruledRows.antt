@@ -1,6 +1,6 @@
 -- Where no row line may be there, none is.
-use Rattle.std.proofs.Common.{◌≡◌, ℕ, Bool, true, false, not, ◌||◌, ◌==◌, [], inl, inr, refl, sym, arith}
-use Rattle.std.proofs.lemmas.Bool.{and_parts, cases_Bool, false≢true, or_parts}
+use Rattle.std.proofs.Common.{◌≡◌, ℕ, Bool, true, false, not, ◌||◌, [], refl, sym, arith}
+use Rattle.std.proofs.lemmas.Bool.{and_parts, false≢true, or_parts}
 use Rattle.std.proofs.lemmas.Bool.Decides.{nat_tests}
 use Rattle.pg_layout.specs.Borders.{has_top, has_bottom, has_inner_horizontal, has_side}
 use Rattle.pg_config.specs.Overrides.{sets_rows, overrides_row}
