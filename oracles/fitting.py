@@ -3,6 +3,7 @@
 
     oracles/fitting.py texts 10000 > texts      sections of crates/pg_fit_cases
     oracles/fitting.py tables 1000 > tables     sections of crates/pg_grid_cases
+    oracles/fitting.py spans 1000 > tables      the same, of tables with cells that span others
 
 `(cd crates/pg_fit_cases && rt try < ../../texts)` then makes each of them by the library, and tells what is
 otherwise; of tables likewise, in `crates/pg_grid_cases`. A third argument is the seed. Characters as a reader
@@ -250,6 +251,122 @@ def tables(count):
         print(f"least {sum(r[0] for r in least_ranges(rows, sides, narrowest)) + beside}")
 
 
+def shares(lacking, count):
+    """What can't be divided goes to the first ones, one each."""
+    return [lacking // count + (1 if j < lacking % count else 0) for j in range(count)]
+
+
+def widened(sizes, needs):
+    """Sizes with room for (first, count, size): layer by layer, and in each the greatest share."""
+    for count in sorted({n[1] for n in needs}):
+        wider = list(sizes)
+        for first, _, size in (n for n in needs if n[1] == count):
+            lacking = max(0, size - sum(sizes[first:first + count]))
+            for j, share in enumerate(shares(lacking, count)):
+                wider[first + j] = max(wider[first + j], sizes[first + j] + share)
+        sizes = wider
+    return sizes
+
+
+def random_spans(rows, columns):
+    """Rectangles that share no place, as (row, column, rows, columns)."""
+    found = []
+    for _ in range(random.randrange(1, 4)):
+        r, c = random.randrange(rows), random.randrange(columns)
+        h, w = random.randrange(1, rows - r + 1), random.randrange(1, columns - c + 1)
+        apart = all(r + h <= s[0] or s[0] + s[2] <= r or c + w <= s[1] or s[1] + s[3] <= c for s in found)
+        if apart and (h, w) != (1, 1):
+            found.append((r, c, h, w))
+    return found
+
+
+def painted(cells, widths, heights, sides):
+    """The picture of a table with ASCII borders: its lines first, and then its cells over them."""
+    xs = [sum(widths[:c]) + c for c in range(len(widths) + 1)]
+    ys = [sum(heights[:r]) + r for r in range(len(heights) + 1)]
+    lines = []
+    for y in range(ys[-1] + 1):
+        edge = y in ys
+        lines.append([("+" if edge else "|") if x in xs else ("-" if edge else " ") for x in range(xs[-1] + 1)])
+    for (r, c, h, w), text in cells:
+        parts = text.split("\n")
+        for k, y in enumerate(range(ys[r] + 1, ys[r + h])):
+            lines[y][xs[c] + 1:xs[c + w]] = [" "] * (xs[c + w] - xs[c] - 1)
+            part, x = parts[k] if k < len(parts) else "", xs[c] + 1 + sides
+            if part:
+                # each column has one entry: a text that takes none goes with what stands before it
+                taken = width(part)
+                if taken:
+                    lines[y][x:x + taken] = [part] + [""] * (taken - 1)
+                else:
+                    lines[y][x - 1] += part
+    return ["".join(line) for line in lines]
+
+
+def spanned(count):
+    global PIECES
+    PIECES = [p for p in PIECES if not any(unicodedata.category(c) == "Cc" and c != "\n" or c in LAM + ALEF for c in p)]
+    made = 0
+    while made < count:
+        height, columns, sides = random.randrange(1, 5), random.randrange(1, 5), random.randrange(2)
+        spans = random_spans(height, columns)
+        if not spans:
+            continue
+        rows = [[random_text(9) for _ in range(columns)] for _ in range(height)]
+        total = random.choice([random.randrange(40), 10 ** 6])
+        how = random.choice(["anywhere", "words", "cut …", "cut ..."])
+        limits = [random.randrange(1, 20) for _ in range(random.choice([0, 0, random.randrange(columns + 1)]))]
+        taken = {(y, x) for r, c, h, w in spans for y in range(r, r + h) for x in range(c, c + w)}
+        alone = [(r, c, 1, 1) for r in range(height) for c in range(columns) if (r, c) not in taken]
+
+        def narrowest(text):
+            if how.startswith("cut"):
+                return min(block_width(text), width(how[4:]))
+            return min(block_width(text), least(text, how == "words"))
+
+        def across(size, texts):
+            singles = [max([2 * sides + size(texts[r][c]) for r, c, _, _ in alone if c == k], default=0) for k in range(columns)]
+            return widened(singles, [(c, w, max(0, 2 * sides + size(texts[r][c]) - (w - 1))) for r, c, h, w in spans])
+
+        natural, low = across(block_width, rows), across(narrowest, rows)
+        beside = columns + 1
+        bound = [limits[k] if k < len(limits) else 10 ** 9 for k in range(columns)]
+        if all(natural[k] <= bound[k] for k in range(columns)) and sum(natural) <= max(0, total - beside):
+            widths = natural
+        else:
+            widths = narrowed(max(0, total - beside), [(low[k], max(low[k], min(natural[k], bound[k]))) for k in range(columns)])
+
+        def fitted(text, room):
+            if block_width(text) <= room:
+                return text
+            if how.startswith("cut"):
+                return "\n".join(cut(text, room, how[4:]))
+            return "\n".join(wrap(text, room, how == "words"))
+
+        cells = []
+        for rect in alone + spans:
+            r, c, h, w = rect
+            cells.append((rect, fitted(rows[r][c], max(0, sum(widths[c:c + w]) + w - 1 - 2 * sides))))
+        tall = [max([len(t.split("\n")) for (r, _, _, _), t in cells[:len(alone)] if r == k], default=0) for k in range(height)]
+        tall = widened(tall, [(r, h, max(0, len(t.split("\n")) - (h - 1))) for (r, _, h, _), t in cells[len(alone):]])
+        print(f": table {made} with spans\nnatural {widths} {tall}")
+        for row in rows:
+            print("|" + "|".join(written_cell(text) for text in row) + "|")
+        for line in painted(cells, widths, tall, sides):
+            print("= " + line.replace(" ", "␣"))
+        print(f"borders ascii\npadding all {sides} {sides} 0 0")
+        for r, c, h, w in spans:
+            if w > 1:
+                print(f"column_span {r} {c} {w}")
+            if h > 1:
+                print(f"row_span {r} {c} {h}")
+        if limits:
+            print("limits " + " ".join(map(str, limits)))
+        print(f"within {total} {how}")
+        print(f"least {sum(low) + beside}")
+        made += 1
+
+
 def least_ranges(rows, sides, narrowest):
     return [(2 * sides + max(narrowest(row[k][0]) for row in rows),) for k in range(len(rows[0]))]
 
@@ -260,4 +377,4 @@ def written_cell(text):
 
 if __name__ == "__main__":
     random.seed(int(sys.argv[3]) if len(sys.argv) > 3 else 1)
-    {"texts": texts, "tables": tables}[sys.argv[1]](int(sys.argv[2]))
+    {"texts": texts, "tables": tables, "spans": spanned}[sys.argv[1]](int(sys.argv[2]))

@@ -5,7 +5,7 @@ use crate::drawn::Drawn;
 use crate::fault::Fault;
 use crate::refusal::Refusal;
 use pg_layout::{ColorsMap, ConstantDimension, VecRecords};
-use pg_table::{Breaking, FittedTable, NaturalTable, Overflow};
+use pg_table::{Breaking, FittedTable, NaturalTable, Overflow, TableFault};
 use pg_testing::refusing::Refusing;
 use pg_told::report::Report;
 use std::alloc::{AllocError, Allocator, Global};
@@ -125,12 +125,19 @@ impl<'a> Case<'a> {
         Ok(fitted.natural_dimension(memory)?)
     }
 
-    // The least width of a line.
-    fn least_width(&self, drawn: Drawn<'_>, within: Within<'a>) -> Option<usize> {
+    // The least width of a line, with `memory` for that of a table that keeps spans.
+    fn least_width<A: Allocator + Copy>(
+        &self,
+        memory: A,
+        drawn: Drawn<'_>,
+        within: Within<'a>,
+    ) -> Result<usize, TableFault> {
         match drawn {
-            Drawn::Owned(table) => table.least_width(within.how),
+            Drawn::Owned(table) => table.least_width(memory, within.how),
             Drawn::Lent(records) | Drawn::Grid(_, records) => {
-                NaturalTable::new(records, &self.config, &self.colors).least_width(within.how)
+                NaturalTable::new(records, &self.config, &self.colors).least_width(
+                    memory, within.how,
+                )
             }
         }
     }
@@ -146,7 +153,7 @@ impl<'a> Case<'a> {
             return Ok(());
         };
         if let Some(told) = self.least {
-            let least = self.least_width(drawn, within);
+            let least = self.least_width(self.alloc, drawn, within).ok();
             report.compare(self.place(), "least_width", least, told)?;
         }
         if self.is_unchanged {

@@ -19,10 +19,10 @@ use Rattle.pg_picture.specs.Pieces.{widest}
 use Rattle.pg_picture.specs.Table.{full_width}
 use Rattle.pg_table.specs.declared.overflow.Overflow.{Overflow}
 use Rattle.pg_table.specs.declared.sizes.Axis.TheVariants.{Columns}
-use Rattle.pg_table.specs.Natural.{paddings, cell_size, natural_size, natural_sizes}
-use Rattle.pg_table.specs.Inside.Fitting.{HasPlainWidths}
+use Rattle.pg_table.specs.Natural.{paddings, cell_size, natural_size, natural_sizes, natural_table}
+use Rattle.pg_table.specs.Inside.Fitting.{HasPlainWidths, plain_full_width}
 use Rattle.pg_table.specs.Inside.Sizes.{plain_size}
-use Rattle.pg_table.specs.Fitted.{overflowed, fitted_text, least_text_width, least_column_width, beside_columns, least_full_width, limit_of, column_range, column_ranges, column_widths, fitted_at, fitted_texts, fitted_table}
+use Rattle.pg_table.specs.Fitted.{overflowed, fitted_text, least_text_width, least_column_width, beside_columns, limit_of, column_range, column_ranges, column_widths, fitted_at, column_texts}
 use Rattle.pg_table.proofs.ListedSizes.{size-at}
 use Rattle.pg_table.proofs.NaturalRoom.{full_width-is}
 use Rattle.pg_table.proofs.PlainCells.{cell-below}
@@ -53,7 +53,7 @@ same-listed f g a (suc n) each =
     ∙ ap (λ xs. g a ∷ xs) (same-listed f g (a + 1) n (λ k l h. each k (omega (arith, l)) (omega (arith, h))))
 
 -- the sum of a list, by its places
-sum-places : (f : ℕ → ℕ) (xs : List ℕ) (a : ℕ) → ((i : ℕ) → i < length xs → f (a + i) ≡ get_or xs i 0) → sum_by f (range_with_len a (length xs)) ≡ sum xs
+pub sum-places : (f : ℕ → ℕ) (xs : List ℕ) (a : ℕ) → ((i : ℕ) → i < length xs → f (a + i) ≡ get_or xs i 0) → sum_by f (range_with_len a (length xs)) ≡ sum xs
 sum-places f [] a each = refl
 sum-places f (x ∷ xs) a each =
     let first : f a ≡ x = (let none : a ≡ a + 0 = omega arith in ap f none ∙ each 0 (omega arith)) in
@@ -146,8 +146,8 @@ module _ (how : Overflow) (total : ℕ) (limits : List ℕ) (config : Config) (t
       ap (λ n. sum_by (λ k. slice_index widths k) (range_with_len 0 n)) (sym length-widths)
       ∙ sum-places (λ k. slice_index widths k) widths 0 (λ i l. ap (λ k. slice_index widths k) (zero-add i))
 
-  widths-narrow : sum_by (λ k. slice_index widths k) (range_with_len 0 columns) + beside_columns config columns ≤ max total (least_full_width how config texts columns)
-  unfolding column_widths least_full_width
+  widths-narrow : sum_by (λ k. slice_index widths k) (range_with_len 0 columns) + beside_columns config columns ≤ max total (plain_full_width how config texts columns)
+  unfolding column_widths plain_full_width
   widths-narrow = omega (arith, sum-widths, fills room ranges, least-total 0 columns)
 
   -- ---- the table at the fitted texts
@@ -156,14 +156,14 @@ module _ (how : Overflow) (total : ℕ) (limits : List ℕ) (config : Config) (t
   HasRooms = (p : Position) → p.row < length texts → p.col < columns → paddings Columns config p + widest (get_formatting config p) (fitted_at how total limits config texts columns p) ≤ slice_index widths p.col
 
   abbrev fitted : List (List Text)
-  fitted = fitted_texts how total limits config texts columns
+  fitted = column_texts how total limits config texts columns
 
-  length-fitted : length fitted ≡ length texts
-  unfolding fitted_texts
+  pub length-fitted : length fitted ≡ length texts
+  unfolding column_texts
   length-fitted = length-map-range_with_len (λ r. map (λ c. fitted_at how total limits config texts columns (at r c)) (range_with_len 0 columns)) 0 (length texts)
 
   fitted-at : (r c : ℕ) → r < length texts → c < columns → text_at fitted (at r c) ≡ fitted_at how total limits config texts columns (at r c)
-  unfolding fitted_texts
+  unfolding column_texts
   fitted-at r c h k =
       ap (λ row. get_or row c []) (get_or-map-range_with_len (λ i. map (λ j. fitted_at how total limits config texts columns (at i j)) (range_with_len 0 columns)) 0 (length texts) r r [] h (omega arith))
       ∙ get_or-map-range_with_len (λ j. fitted_at how total limits config texts columns (at r j)) 0 columns c c [] k (omega arith)
@@ -184,7 +184,7 @@ module _ (how : Overflow) (total : ℕ) (limits : List ℕ) (config : Config) (t
   size-below plain rooms k h =
       omega (arith, ap (λ n. natural_size Columns config (text_at fitted) n columns k) length-fitted, plain (text_at fitted) k h, plain-below rooms k h)
 
-  pub lines-narrow : Plain → HasRooms → (color : Position → Option Color) → full_width (fitted_table how total limits config texts columns color) ≤ max total (least_full_width how config texts columns)
+  pub lines-narrow : Plain → HasRooms → (color : Position → Option Color) → full_width (natural_table config (column_texts how total limits config texts columns) columns color) ≤ max total (plain_full_width how config texts columns)
   lines-narrow plain rooms color =
       omega (
         arith,

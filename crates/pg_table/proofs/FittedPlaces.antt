@@ -19,8 +19,8 @@ use Rattle.pg_picture.specs.Table.{Table as Drawn, full_width}
 use Rattle.pg_table.specs.declared.overflow.Overflow.{Overflow}
 use Rattle.pg_table.specs.declared.sizes.Axis.TheVariants.{Columns}
 use Rattle.pg_table.specs.Natural.{paddings, natural_sizes, natural_table}
-use Rattle.pg_table.specs.Fitted.{limit_of, least_text_width, least_column_width, least_full_width, fitted_table, column_widths, text_room, fitted_at, fitted_texts, HasPlainTail}
-use Rattle.pg_table.specs.Inside.Fitting.{HasPlainWidths, fitted_to, HasRoomAt, FitsColumn, AreFittedBelow}
+use Rattle.pg_table.specs.Fitted.{limit_of, least_text_width, least_column_width, column_widths, text_room, fitted_at, column_texts, HasPlainTail}
+use Rattle.pg_table.specs.Inside.Fitting.{HasPlainWidths, plain_full_width, fitted_to, HasRoomAt, FitsColumn, AreFittedBelow}
 use Rattle.pg_table.proofs.LeastColumns.{cell-least}
 use Rattle.pg_table.proofs.FittedColumns.{least-narrowed, fitted_text-stays, cell-wide, same-listed, lines-narrow, columns-narrow}
 use Rattle.pg_table.proofs.NaturalRoom.{width-at}
@@ -163,8 +163,8 @@ module _ (how : Overflow) (total : ℕ) (limits : List ℕ) (config : Config) (t
   }
 
 -- the records with these texts have the fitted texts
-pub overlaid-fitted : {R Z : Type 0} (f : R → List (List Text)) (g : R → ℕ) (o : Overlay R Z) (how : Overflow) (total : ℕ) (limits : List ℕ) (config : Config) → AreFittedBelow how total limits config (f o.records) (g o.records) (g o.records) (other_text o.others (f o.records)) → overlaid f g o ≡ fitted_texts how total limits config (f o.records) (g o.records)
-unfolding fitted_texts
+pub overlaid-fitted : {R Z : Type 0} (f : R → List (List Text)) (g : R → ℕ) (o : Overlay R Z) (how : Overflow) (total : ℕ) (limits : List ℕ) (config : Config) → AreFittedBelow how total limits config (f o.records) (g o.records) (g o.records) (other_text o.others (f o.records)) → overlaid f g o ≡ column_texts how total limits config (f o.records) (g o.records)
+unfolding column_texts
 overlaid-fitted f g o how total limits config below =
     let rows : length (f o.records) - 0 ≡ length (f o.records) = omega arith in
     let columns : g o.records - 0 ≡ g o.records = omega arith in
@@ -178,15 +178,15 @@ module _ {R Z : Type 0} (f : R → List (List Text)) (g : R → ℕ) (o : Overla
   abbrev drawn : Drawn
   drawn = natural_table config (overlaid f g o) (g o.records) color
 
-  texts-are : overlaid f g o ≡ fitted_texts how total limits config (f r) (g r)
+  pub texts-are : overlaid f g o ≡ column_texts how total limits config (f r) (g r)
   texts-are =
       ap (λ (x : R). overlaid f g (record { records = x; others = o.others })) is
       ∙ overlaid-fitted f g (record { records = r; others = o.others }) how total limits config below
 
-  pub table-is : drawn ≡ fitted_table how total limits config (f r) (g r) color
+  pub table-is : drawn ≡ natural_table config (column_texts how total limits config (f r) (g r)) (g r) color
   table-is = λ i. natural_table config (texts-are i) (g (is i)) color
 
-  pub table-narrow : HasPlainTail how → full_width drawn ≤ max total (least_full_width how config (f r) (g r))
+  pub table-narrow : HasPlainTail how → full_width drawn ≤ max total (plain_full_width how config (f r) (g r))
   table-narrow plain = omega (arith, ap full_width table-is, lines-narrow how total limits config (f r) (g r) spanless (λ p h k. below.room plain p h k) color)
 
   pub columns-limited : HasPlainTail how → (k : ℕ) → k < g r → drawn.width k ≤ max (least_column_width how config (text_at (f r)) (length (f r)) k) (limit_of limits k)
@@ -194,6 +194,6 @@ module _ {R Z : Type 0} (f : R → List (List Text)) (g : R → ℕ) (o : Overla
       omega (
         arith,
         ap (λ (t : Drawn). t.width k) table-is,
-        width-at config (fitted_texts how total limits config (f r) (g r)) (g r) color k h,
+        width-at config (column_texts how total limits config (f r) (g r)) (g r) color k h,
         columns-narrow how total limits config (f r) (g r) spanless (λ p i j. below.room plain p i j) k h,
       )

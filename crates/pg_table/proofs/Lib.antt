@@ -24,5 +24,16 @@ pub mod PlainWidths
 pub mod FittedColumns
 pub mod FittedPlaces
 pub mod FitFaults
+pub mod SingleCells
+pub mod SpannedCells
+pub mod WidthsFor
+pub mod ToldRooms
+pub mod ToldTables
+pub mod RaisedWidths
+pub mod SpannedWidths
+pub mod LeastWidths
+pub mod SpannedTexts
+pub mod FittedTables
+pub mod LeastFaults
 pub mod NaturalHeights
 pub mod NarrowLooks

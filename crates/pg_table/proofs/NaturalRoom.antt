@@ -38,7 +38,7 @@ use Rattle.pg_table.proofs.Sums.{sum-same}
 use Rattle.pg_table.proofs.Widenings.{widened-stays}
 
 -- a cell at least as wide as its paddings and its text, and at least as high as its top padding
-has_room : (style : Style) (text : Text) (w h : ℕ) → (style.padding.left.size + style.padding.right.size) + widest style.formatting text ≤ w → style.padding.top.size ≤ h → cell_fits style text w h ≡ true
+pub has_room : (style : Style) (text : Text) (w h : ℕ) → (style.padding.left.size + style.padding.right.size) + widest style.formatting text ≤ w → style.padding.top.size ≤ h → cell_fits style text w h ≡ true
 unfolding cell_fits
 has_room style text w h wide high =
     let across : nat_le ((style.padding.left.size + style.padding.right.size) + widest style.formatting text) w ≡ true = grind (arith, nat_tests, wide) in
@@ -52,7 +52,7 @@ pub record Inside (rows columns : ℕ) (s : Span) : Type 0 where
   pub columns_end : s.0.col + s.1.columns ≤ columns
   pub rows_end : s.0.row + s.1.rows ≤ rows
 
-inside-of : (rows columns : ℕ) (s : Span) → span_fits rows columns s ≡ true → Inside rows columns s
+pub inside-of : (rows columns : ℕ) (s : Span) → span_fits rows columns s ≡ true → Inside rows columns s
 inside-of rows columns s h = record { some_rows = grind (arith, nat_tests, h); some_columns = grind (arith, nat_tests, h); columns_end = grind (arith, nat_tests, h); rows_end = grind (arith, nat_tests, h) }
 
 module _ (config : Config) (texts : List (List Text)) (columns : ℕ) (color : Position → Option Color) where
@@ -125,7 +125,7 @@ module _ (config : Config) (texts : List (List Text)) (columns : ℕ) (color : P
     has_cells Columns s m = omega (arith, (inside s m).some_rows, (inside s m).rows_end)
     has_cells Rows s m = omega (arith, (inside s m).some_columns, (inside s m).columns_end)
 
-    span_room : (axis : Axis) (s : Span) → Among config.spans s
+    pub span_room : (axis : Axis) (s : Span) → Among config.spans s
         → (need_of axis config (text_at texts) (count axis (length texts) columns) s).size
         ≤ sum_by (size axis) (range_with_len (need_of axis config (text_at texts) (count axis (length texts) columns) s).first (need_of axis config (text_at texts) (count axis (length texts) columns) s).count)
     span_room axis s m =

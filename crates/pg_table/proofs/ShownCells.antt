@@ -215,7 +215,7 @@ module _ (config : Config) (text : Position → Text) (rows columns : ℕ) where
         | inr past ↦ absurd (false≢true (sym (cell-past r c h l shown past) ∙ all))
       ]
 
-  sized-size : (axis : Axis) (p : Position) → is_sized config text p ≡ true → cell_size axis config text p < 2 ^ 64
+  pub sized-size : (axis : Axis) (p : Position) → is_sized config text p ≡ true → cell_size axis config text p < 2 ^ 64
   sized-size Columns p sized = (let w : nat_lt (cell_size Columns config text p) (2 ^ 64) ≡ true = (and_parts (nat_lt (cell_size Columns config text p) (2 ^ 64)) (nat_lt (cell_size Rows config text p) (2 ^ 64)) sized).0 in grind (arith, nat_tests, w))
   sized-size Rows p sized = (let w : nat_lt (cell_size Rows config text p) (2 ^ 64) ≡ true = (and_parts (nat_lt (cell_size Columns config text p) (2 ^ 64)) (nat_lt (cell_size Rows config text p) (2 ^ 64)) sized).1 in grind (arith, nat_tests, w))
 

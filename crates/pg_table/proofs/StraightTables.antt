@@ -63,6 +63,18 @@ glyphs t narrow fills = record {
 
 -- ---- tables that are printed
 
+-- a table of which each cell has room
+module _ (t : Table) (cells : 0 < t.rows → 0 < t.columns → CellsFit t) where
+  pub straight-of : IsStraight t
+  straight-of h k narrow whole = columns_are_straight t (cells h k) narrow whole
+
+  pub even-of : IsEven t
+  even-of look h k =
+      let whole = missing_glyph_fills_gaps t look.lines.has_missing in
+      let narrow = glyphs t look.lines look.fills in
+      let margins : HasNarrowMargins t = record { left = look.margins.left; right = look.margins.right; top = look.margins.top; bottom = look.margins.bottom } in
+      (columns_are_straight t (cells h k) narrow whole, margins_are_straight Known t (cells h k) narrow whole margins)
+
 module _ (config : Config) (texts : List (List Text)) (columns : ℕ) (color : Position → Option Color) (none : fault_of (natural_table config texts columns color) ≡ None) where
   abbrev table : Table
   table = natural_table config texts columns color
@@ -76,14 +88,10 @@ module _ (config : Config) (texts : List (List Text)) (columns : ℕ) (color : P
       record { spans = fitting.spans; rooms = fitting.rooms }
 
   pub straight : IsStraight table
-  straight h k narrow whole = columns_are_straight table (cells h k) narrow whole
+  straight = straight-of table cells
 
   pub even : IsEven table
-  even look h k =
-      let whole = missing_glyph_fills_gaps table look.lines.has_missing in
-      let narrow = glyphs table look.lines look.fills in
-      let margins : HasNarrowMargins table = record { left = look.margins.left; right = look.margins.right; top = look.margins.top; bottom = look.margins.bottom } in
-      (columns_are_straight table (cells h k) narrow whole, margins_are_straight Known table (cells h k) narrow whole margins)
+  even = even-of table cells
 
 -- the text of a table whose lines are equally wide
 pub even-text : {A E : Type 0} (r : Result (String A) E) (t : Table) → IfOk r (λ text. string_bytes text ≡ picture Known t) → (IsOk r → HasEvenLines t) → IfOk r (λ text. IsEvenText (string_bytes text))

@@ -1,77 +1,37 @@
 -- A table within a width: columns narrowed to it, and the texts that are too wide for them wrapped or cut.
-use Rattle.std.specs.Prelude.{◌≡◌, ℕ, ◌+◌, ◌-◌, ◌^◌, ◌<◌, ◌≤◌, min, max, nat_lt, nat_le, true, not, ◌&&◌, ◌||◌, ◌==◌, List, map, length, sum_by, slice_index, slice_index_or, chars, Option, Some, None, ⊤, if◌then◌else◌}
+use Rattle.std.specs.Prelude.{ℕ, Bool, ◌+◌, ◌-◌, ◌^◌, ◌<◌, ◌≤◌, max, nat_lt, not, ◌&&◌, ◌||◌, ◌==◌, List, map, length, sum_by, slice_index, Option, Some, None, if◌then◌else◌}
 use Rattle.std.specs.Borrow.{Bor}
-use Rattle.std.specs.List.{range_with_len, list_all}
-use Rattle.pg_layout.specs.declared.alignment.Formatting.{Formatting}
+use Rattle.std.specs.List.{range_with_len}
 use Rattle.pg_layout.specs.declared.position.Position.{Position}
 use Rattle.pg_layout.specs.Colors.{Color}
 use Rattle.pg_layout.specs.Position.{at}
 use Rattle.pg_layout.specs.Records.{text_at, columns_of}
 use Rattle.pg_layout.specs.ColorsMap.{color_at}
-use Rattle.pg_layout.specs.Text.{Text, width_of, greatest}
-use Rattle.pg_config.specs.Config.{Config, get_formatting, count_vertical}
+use Rattle.pg_layout.specs.Text.{Text, greatest}
+use Rattle.pg_config.specs.Config.{Config, get_formatting}
 use Rattle.pg_fit.specs.declared.narrowing.ColumnRange.{ColumnRange}
-use Rattle.pg_fit.specs.Cutting.{cut_text}
-use Rattle.pg_fit.specs.Laws.{is_tail_character}
 use Rattle.pg_fit.specs.Narrowing.{limited, narrowed}
 use Rattle.pg_fit.specs.Overlaid.{overlaid}
-use Rattle.pg_fit.specs.Wrapping.{least_width, wrapped}
-use Rattle.pg_picture.specs.Pieces.{widest}
+use Rattle.pg_picture.specs.Fits.{spans_fit}
 use Rattle.pg_picture.specs.Table.{Table as Drawn}
-use Rattle.pg_table.specs.Natural.{paddings, natural_sizes, natural_table, all_fit}
+use Rattle.pg_table.specs.Natural.{paddings, natural_sizes, all_fit}
+unfoldable pub use Rattle.pg_table.specs.Overflowing.{fitted_text}
+pub use Rattle.pg_table.specs.Overflowing.{overflowed, least_overflowed, least_text_width, HasPlainTail, beside_columns, limit_of}
 use Rattle.pg_table.specs.Printing.{Parts, sizes_fault}
+use Rattle.pg_table.specs.Spanning.{keeps_spans, widths_from, table_from, spanned_least_width, spanned_widths, spanned_texts}
 use Rattle.pg_table.specs.declared.fault.TableFault.{TableFault}
 use Rattle.pg_table.specs.declared.fault.TableFault.TheVariants.{Spans, Totals}
 use Rattle.pg_table.specs.declared.fitted.FittedTable.{FittedTable}
 use Rattle.pg_table.specs.declared.overflow.Overflow.{Overflow}
-use Rattle.pg_table.specs.declared.overflow.Overflow.TheVariants.{Wrap, Cut}
 use Rattle.pg_table.specs.declared.sizes.Axis.{Axis}
-use Rattle.pg_table.specs.declared.sizes.Axis.TheVariants.{Columns}
+use Rattle.pg_table.specs.declared.sizes.Axis.TheVariants.{Columns, Rows}
 
--- ---- texts
-
--- a text that is too wide for so many columns, wrapped or cut to them
-abbrev pub overflowed : Overflow → ℕ → Text → Text
-overflowed (Wrap breaking) width text = wrapped breaking width text
-overflowed (Cut tail) width text = cut_text width tail.now text
-
--- a text that is shown within so many columns stays, and any other is wrapped or cut to them
-unfoldable pub fitted_text : Overflow → Formatting → ℕ → Text → Text
-fitted_text how formatting width text = if nat_le (widest formatting text) width then text else overflowed how width text
-
--- how narrow a text becomes where it is wrapped: as its widest character; where it is cut, its tail has room
-abbrev pub least_overflowed : Overflow → Text → ℕ
-least_overflowed (Wrap breaking) text = least_width breaking text
-least_overflowed (Cut tail) text = width_of tail.now
-
--- what the text of a cell takes at least
-abbrev pub least_text_width : Overflow → Config → (Position → Text) → Position → ℕ
-least_text_width how config text p = min (widest (get_formatting config p) (text p)) (least_overflowed how (text p))
-
--- A tail of printable ASCII and ellipses: it joins no character before it.
-abbrev pub HasPlainTail : Overflow → Type 0
-HasPlainTail (Wrap breaking) = ⊤
-HasPlainTail (Cut tail) = list_all is_tail_character (chars tail.now) ≡ true
-
--- ---- columns
+-- ---- columns of cells without a span
 
 -- the least width of column k of so many cells: that of its widest cell, made as narrow as it can be, and where it has none the paddings alone
 unfoldable pub least_column_width : Overflow → Config → (Position → Text) → ℕ → ℕ → ℕ
 least_column_width how config text rows k =
     max (paddings Columns config (at 0 k)) (greatest (map (λ r. paddings Columns config (at r k) + least_text_width how config text (at r k)) (range_with_len 0 rows)))
-
--- what a line takes besides the columns: its verticals and the side margins
-abbrev pub beside_columns : Config → ℕ → ℕ
-beside_columns config columns = count_vertical config columns + (config.margin.left.size + config.margin.right.size)
-
--- the width of a line whose columns are as narrow as they can be
-unfoldable pub least_full_width : Overflow → Config → List (List Text) → ℕ → ℕ
-least_full_width how config texts columns =
-    sum_by (least_column_width how config (text_at texts) (length texts)) (range_with_len 0 columns) + beside_columns config columns
-
--- the greatest width of column k, where the first columns are told theirs: none is told as the greatest number
-abbrev pub limit_of : List ℕ → ℕ → ℕ
-limit_of limits k = slice_index_or limits k (2 ^ 64 - 1)
 
 module _ (how : Overflow) (total : ℕ) (limits : List ℕ) (config : Config) (texts : List (List Text)) (columns : ℕ) where
   -- how narrow column k may be, and its natural width, lowered to its limit
@@ -96,35 +56,61 @@ module _ (how : Overflow) (total : ℕ) (limits : List ℕ) (config : Config) (t
   fitted_at p = fitted_text how (get_formatting config p) (text_room p) (text_at texts p)
 
   -- all texts
-  unfoldable pub fitted_texts : List (List Text)
-  fitted_texts = map (λ r. map (λ c. fitted_at (at r c)) (range_with_len 0 columns)) (range_with_len 0 (length texts))
+  unfoldable pub column_texts : List (List Text)
+  column_texts = map (λ r. map (λ c. fitted_at (at r c)) (range_with_len 0 columns)) (range_with_len 0 (length texts))
 
-  -- the table, at the natural sizes of these texts
+-- ---- texts and columns of a table
+
+-- how narrow column k may be
+unfoldable pub least_width_at : Overflow → Config → List (List Text) → ℕ → ℕ → ℕ
+least_width_at how config texts columns k =
+    if keeps_spans config texts columns then spanned_least_width how config texts columns k
+    else least_column_width how config (text_at texts) (length texts) k
+
+-- the width of a line whose columns are as narrow as they can be
+unfoldable pub least_full_width : Overflow → Config → List (List Text) → ℕ → ℕ
+least_full_width how config texts columns = sum_by (least_width_at how config texts columns) (range_with_len 0 columns) + beside_columns config columns
+
+module _ (how : Overflow) (total : ℕ) (limits : List ℕ) (config : Config) (texts : List (List Text)) (columns : ℕ) where
+  -- the texts, fitted to all columns of their cells where a span is kept, and else to their column
+  unfoldable pub fitted_texts : List (List Text)
+  fitted_texts = if keeps_spans config texts columns then spanned_texts how (spanned_widths how total limits config texts columns) config texts columns else column_texts how total limits config texts columns
+
+  -- the table, at the natural sizes of these texts; where a span is kept its columns are as wide as they were narrowed to
   abbrev pub fitted_table : (Position → Option Color) → Drawn
-  fitted_table color = natural_table config fitted_texts columns color
+  fitted_table color = table_from (spanned_widths how total limits config texts columns) config fitted_texts columns color
 
 -- nothing is too wide: each column at its natural width is within its limit, and a line of them within the total
 pub record IsNarrow (total : ℕ) (limits : List ℕ) (config : Config) (texts : List (List Text)) (columns : ℕ) : Type 0 where
   pub each : (k : ℕ) → k < columns → slice_index (natural_sizes Columns config texts columns) k ≤ limit_of limits k
   pub line : sum_by (λ k. slice_index (natural_sizes Columns config texts columns) k) (range_with_len 0 columns) + beside_columns config columns ≤ total
 
--- why a table with cells isn't fitted: a span is kept, or its columns can't be counted, or the natural width of one is no number of 64 bits
+-- why a table with cells isn't fitted: one that keeps a span where its natural sizes aren't told; any other one where its columns can't be
+-- counted, or the natural width of one is no number of 64 bits
 unfoldable pub fit_fault : Config → List (List Text) → ℕ → Option TableFault
 fit_fault config texts columns =
     if (length texts == 0) || (columns == 0) then None
-    else if not (length config.spans == 0) then Some Spans
+    else if not (length config.spans == 0) then sizes_fault config texts columns
     else if not (nat_lt columns (2 ^ 64 - 1) && all_fit (natural_sizes Columns config texts columns)) then Some Totals
+    else None
+
+-- why the least width of a line isn't told: its spans don't fit, or its columns can't be counted, or it is no number of 64 bits
+unfoldable pub least_fault : Overflow → Config → List (List Text) → ℕ → Option TableFault
+least_fault how config texts columns =
+    if keeps_spans config texts columns && not (spans_fit config.spans (length texts) columns) then Some Spans
+    else if not (nat_lt columns (2 ^ 64 - 1) && nat_lt (least_full_width how config texts columns) (2 ^ 64)) then Some Totals
     else None
 
 -- ---- tables
 
 -- what a fitted table draws, by what its records and its colours tell
 abbrev pub drawn_fitted : {R C B A : Type 0} → (R → List (List Text)) → (R → ℕ) → (C → Position → Option Color) → FittedTable R C B A → Drawn
-drawn_fitted texts columns color t = natural_table t.config.now (overlaid texts columns t.records) (columns t.records.records) (color t.colors.now)
+drawn_fitted texts columns color t = table_from t.widths.items t.config.now (overlaid texts columns t.records) (columns t.records.records) (color t.colors.now)
 
 -- its natural sizes
 abbrev pub sizes_fitted : {R C B A : Type 0} → (R → List (List Text)) → (R → ℕ) → Axis → FittedTable R C B A → List ℕ
-sizes_fitted texts columns axis t = natural_sizes axis t.config.now (overlaid texts columns t.records) (columns t.records.records)
+sizes_fitted texts columns Columns t = widths_from t.widths.items t.config.now (overlaid texts columns t.records) (columns t.records.records)
+sizes_fitted texts columns Rows t = natural_sizes Rows t.config.now (overlaid texts columns t.records) (columns t.records.records)
 
 -- and why they aren't told
 abbrev pub sizes_fault_fitted : {R C B A : Type 0} → (R → List (List Text)) → (R → ℕ) → FittedTable R C B A → Option TableFault
@@ -143,10 +129,13 @@ abbrev pub IsNarrowOf : {R C : Type 0} → ℕ → List ℕ → (R → List (Lis
 IsNarrowOf total limits texts columns (records, config, colors) = IsNarrow total limits config (texts records) (columns records)
 
 abbrev pub least_at : {R C : Type 0} → Overflow → (R → List (List Text)) → (R → ℕ) → R × Config × C → ℕ → ℕ
-least_at how texts columns (records, config, colors) k = least_column_width how config (text_at (texts records)) (length (texts records)) k
+least_at how texts columns (records, config, colors) k = least_width_at how config (texts records) (columns records) k
 
 abbrev pub least_width_of : {R C : Type 0} → Overflow → (R → List (List Text)) → (R → ℕ) → R × Config × C → ℕ
 least_width_of how texts columns (records, config, colors) = least_full_width how config (texts records) (columns records)
+
+abbrev pub least_fault_of : {R C : Type 0} → Overflow → (R → List (List Text)) → (R → ℕ) → R × Config × C → Option TableFault
+least_fault_of how texts columns (records, config, colors) = least_fault how config (texts records) (columns records)
 
 -- the same of a table with rows of its own, by the texts of its cells; and what it draws, fitted, over these rows
 abbrev pub fitted_rows : {T : Type 0} → Overflow → ℕ → List ℕ → (T → Text) → Parts T → Drawn
@@ -161,8 +150,14 @@ IsNarrowRows total limits text t = IsNarrow total limits t.config (map (λ row. 
 abbrev pub least_width_rows : {T : Type 0} → Overflow → (T → Text) → Parts T → ℕ
 least_width_rows how text t = least_full_width how t.config (map (λ row. map text row) t.rows) (columns_of t.rows)
 
+abbrev pub least_fault_rows : {T : Type 0} → Overflow → (T → Text) → Parts T → Option TableFault
+least_fault_rows how text t = least_fault how t.config (map (λ row. map text row) t.rows) (columns_of t.rows)
+
+abbrev pub keeps_spans_rows : {T : Type 0} → (T → Text) → Parts T → Bool
+keeps_spans_rows text t = keeps_spans t.config (map (λ row. map text row) t.rows) (columns_of t.rows)
+
 abbrev pub least_at_rows : {T : Type 0} → Overflow → (T → Text) → Parts T → ℕ → ℕ
-least_at_rows how text t k = least_column_width how t.config (text_at (map (λ row. map text row) t.rows)) (length (map (λ row. map text row) t.rows)) k
+least_at_rows how text t k = least_width_at how t.config (map (λ row. map text row) t.rows) (columns_of t.rows) k
 
 abbrev pub drawn_rows : {T B A : Type 0} → (T → Text) → FittedTable (Bor (List (List T))) (List (Position × Color)) B A → Drawn
 drawn_rows text t = drawn_fitted (λ r. map (λ row. map text row) r.now) (λ r. columns_of r.now) (λ colors place. color_at place colors) t

@@ -5,17 +5,20 @@ use crate::fault::TableFault;
 use crate::natural::NaturalTable;
 use crate::overflow::Overflow;
 use crate::sizes::plus;
+use crate::told::ToldTable;
 use pg_config::SpannedConfig;
 use pg_fit::OverlaidRecords;
 use pg_layout::{Colors, ConstantDimension, ExactRecords, PeekableRecords};
 use std::alloc::{Allocator, Global};
 
 /// A table whose columns were narrowed ([`NaturalTable::within`]), at the natural sizes of its texts, of
-/// which those that were too wide are wrapped or cut. Only these take memory: records, settings and
-/// colours are lent.
+/// which those that were too wide are wrapped or cut. Where it keeps spans, its columns have the widths
+/// that they were narrowed to. Only these and the other texts take memory: records, settings and colours
+/// are lent.
 #[derive(Debug)]
 pub struct FittedTable<'a, R, C, B: Allocator = Global, A: Allocator = Global> {
     records: OverlaidRecords<R, A>,
+    widths: Vec<usize, A>,
     config: &'a SpannedConfig<B>,
     colors: &'a C,
 }
@@ -25,10 +28,11 @@ impl<'a, R: Drop, C, B: Allocator, A: Allocator> Drop for FittedTable<'a, R, C, 
     fn drop(self) {
         let FittedTable {
             records,
+            widths,
             config: _,
             colors: _,
         } = self;
-        drop(records);
+        drop((records, widths));
     }
 }
 
@@ -38,19 +42,40 @@ where
     C: Colors,
     B: Allocator,
 {
-    ghost use Rattle.std.specs.Prelude.{◌≡◌, ℕ, [], length, ◌-◌, ◌^◌, ◌<◌, ◌≤◌, max, nat_lt, true, Some, None, Err, IfOk, IsOk, OnOk, if◌then◌else◌};
+    ghost use Rattle.std.specs.Prelude.{◌≡◌, ◌⊎◌, ℕ, [], length, ◌<◌, ◌≤◌, ◌-◌, ◌^◌, max, nat_lt, true, false, Some, None, Err, IfOk, IsOk, OnOk, if◌then◌else◌};
     ghost use Rattle.pg_fit.specs.Overlaid.{other_text};
     ghost use Rattle.pg_picture.specs.Sizes.{if_fits};
     ghost use Rattle.pg_picture.specs.Table.{full_width, is_empty};
-    ghost use Rattle.pg_table.specs.Fitted.{HasPlainTail, limit_of, drawn_fitted, fitted_of, fit_fault_of, least_at, least_width_of, IsNarrowOf};
-    ghost use Rattle.pg_table.specs.Inside.Fitting.{HasPlainWidths, AreFittedBelow};
+    ghost use Rattle.pg_table.specs.Fitted.{HasPlainTail, limit_of, drawn_fitted, fitted_of, fit_fault_of, least_at, least_width_of, least_fault_of, IsNarrowOf};
+    ghost use Rattle.pg_table.specs.Spanning.{keeps_spans};
+    ghost use Rattle.pg_table.specs.Inside.Fitting.{HasPlainWidths, AreFittedBelow, IsFitted, plain_full_width};
     ghost use Rattle.pg_table.specs.Printing.{drawn_of, natural_parts};
 
     /// The width of a line, in terminal columns, where each column is as narrow as wrapping or cutting
-    /// can make it, the side margins and the column lines among it: no width below it can be had. None
-    /// where it passes `usize::MAX` or the columns are too many to count.
-    pub fn least_width(&self, how: Overflow) -> Option<usize>
-        ensures { result ≡ (if nat_lt (R.columns self.now.records) (2 ^ 64 - 1) then if_fits (least_width_of how.entry R.texts R.columns (natural_parts self.now)) else None) }
+    /// can make it, the side margins and the column lines among it: no width below it can be had.
+    ///
+    /// `Totals` comes where it passes `usize::MAX` or the columns are too many to count. A table that
+    /// keeps spans takes memory for it: `Spans` comes where these don't fit, and `Memory` where memory is
+    /// refused.
+    pub fn least_width<A: Allocator + Copy>(
+        &self,
+        alloc: A,
+        how: Overflow,
+    ) -> Result<usize, TableFault>
+        ensures width { IfOk result (λ width. width ≡ least_width_of how.entry R.texts R.columns (natural_parts self.now)) }
+        ensures ok { IsOk result → least_fault_of how.entry R.texts R.columns (natural_parts self.now) ≡ None }
+        ensures fault { (fault : TableFault) → result ≡ Err fault → (least_fault_of how.entry R.texts R.columns (natural_parts self.now) ≡ Some fault) ⊎ ((fault ≡ TableFault.Memory) × (keeps_spans self.now.config.now (R.texts self.now.records) (R.columns self.now.records) ≡ true)) }
+    {
+        if self.keeps_spans() {
+            return self.spanned_least_width(alloc, how);
+        }
+        self.plain_least_width(how).ok_or(TableFault::Totals)
+    }
+
+    // The same of a table that keeps no spans, or None where it passes `usize::MAX` or the columns are too
+    // many to count.
+    fn plain_least_width(&self, how: Overflow) -> Option<usize>
+        ensures { result ≡ (if nat_lt (R.columns self.now.records) (2 ^ 64 - 1) then if_fits (plain_full_width how.entry self.now.config.now (R.texts self.now.records) (R.columns self.now.records)) else None) }
     {
         let columns = self.records.count_columns();
         if columns == usize::MAX {
@@ -67,8 +92,8 @@ where
     /// are wider than their column are wrapped or cut.
     ///
     /// Its lines are at most so wide, or as wide as [`NaturalTable::least_width`] tells, where a tail is
-    /// of printable ASCII and ellipses. Where nothing is too wide it takes no memory, and draws the same
-    /// table. Errors as those of [`NaturalTable::within_limits`].
+    /// of printable ASCII and ellipses. Where nothing is too wide it draws the same table, and takes no
+    /// memory, if no span is kept. Errors as those of [`NaturalTable::within_limits`].
     pub fn within<A: Allocator + Copy>(
         &self,
         alloc: A,
@@ -80,7 +105,7 @@ where
         ensures fault { (fault : TableFault) → fit_fault_of R.texts R.columns (natural_parts self.now) ≡ Some fault → result ≡ Err fault }
         ensures memory { (fault : TableFault) → fit_fault_of R.texts R.columns (natural_parts self.now) ≡ None → result ≡ Err fault → fault ≡ TableFault.Memory }
         ensures empty { is_empty (drawn_of R.texts R.columns C.color (natural_parts self.now)) ≡ true → IsOk result }
-        ensures narrow { fit_fault_of R.texts R.columns (natural_parts self.now) ≡ None → IsNarrowOf width [] R.texts R.columns (natural_parts self.now) → IsOk result }
+        ensures narrow { fit_fault_of R.texts R.columns (natural_parts self.now) ≡ None → self.now.config.now.spans ≡ [] → IsNarrowOf width [] R.texts R.columns (natural_parts self.now) → IsOk result }
     {
         self.within_limits(alloc, width, &[], how)
     }
@@ -89,10 +114,13 @@ where
     /// `limits[0]` is the greatest width of column 0, `usize::MAX` is no limit, and columns behind the
     /// last have none. With a width of `usize::MAX` the limits alone count.
     ///
-    /// A table that keeps a span is answered by `Spans`; one of which the natural width of a column
-    /// passes `usize::MAX`, or whose columns are too many to count, by `Totals`; both come before any
-    /// memory is taken. `Memory` comes where memory is refused, but not where nothing is too wide. A table
-    /// without cells is answered by none of them.
+    /// A table of which the natural width of a column passes `usize::MAX`, or whose columns are too many
+    /// to count, is answered by `Totals`, before any memory is taken. `Memory` comes where memory is
+    /// refused, but not where nothing is too wide. A table without cells is answered by neither.
+    ///
+    /// Where the table keeps spans, a cell is wrapped or cut to the width of its columns together, and the
+    /// columns are drawn as wide as they were narrowed to. `Spans` and `Totals` then come as those of
+    /// [`NaturalTable::natural_dimension`], and memory is taken for widths, too.
     pub fn within_limits<A: Allocator + Copy>(
         &self,
         alloc: A,
@@ -106,18 +134,20 @@ where
         ensures fault { (fault : TableFault) → fit_fault_of R.texts R.columns (natural_parts self.now) ≡ Some fault → result ≡ Err fault }
         ensures memory { (fault : TableFault) → fit_fault_of R.texts R.columns (natural_parts self.now) ≡ None → result ≡ Err fault → fault ≡ TableFault.Memory }
         ensures empty { is_empty (drawn_of R.texts R.columns C.color (natural_parts self.now)) ≡ true → IsOk result }
-        ensures narrow { fit_fault_of R.texts R.columns (natural_parts self.now) ≡ None → IsNarrowOf width limits.now R.texts R.columns (natural_parts self.now) → IsOk result }
+        ensures narrow { fit_fault_of R.texts R.columns (natural_parts self.now) ≡ None → self.now.config.now.spans ≡ [] → IsNarrowOf width limits.now R.texts R.columns (natural_parts self.now) → IsOk result }
     {
         let mut records = OverlaidRecords::new(alloc, self.records);
-        self.fit(alloc, width, limits, how, &mut records)?;
+        let widths = self.fit(alloc, width, limits, how, &mut records)?;
         Ok(FittedTable {
             records,
+            widths,
             config: self.config,
             colors: self.colors,
         })
     }
 
-    // Sets other texts for the cells whose texts are too wide for their columns.
+    // Sets other texts for the cells whose texts are too wide for their columns, and answers how wide
+    // these are; of a table that keeps no spans nothing.
     fn fit<A: Allocator + Copy>(
         &self,
         alloc: A,
@@ -125,8 +155,33 @@ where
         limits: &[usize],
         how: Overflow,
         records: &mut OverlaidRecords<R, A>,
-    ) -> Result<(), TableFault>
+    ) -> Result<Vec<usize, A>, TableFault>
         requires { records.old.others ≡ [] }
+        ensures fault { (fault : TableFault) → fit_fault_of R.texts R.columns (natural_parts self.now) ≡ Some fault → result ≡ Err fault }
+        ensures memory { (fault : TableFault) → fit_fault_of R.texts R.columns (natural_parts self.now) ≡ None → result ≡ Err fault → fault ≡ TableFault.Memory }
+        ensures empty { is_empty (drawn_of R.texts R.columns C.color (natural_parts self.now)) ≡ true → IsOk result }
+        ensures narrow { fit_fault_of R.texts R.columns (natural_parts self.now) ≡ None → self.now.config.now.spans ≡ [] → IsNarrowOf width limits.now R.texts R.columns (natural_parts self.now) → IsOk result }
+        ensures records { records.new.records ≡ records.old.records }
+        ensures fits { IfOk result (λ widths. IsFitted how.entry width limits.now self.now.config.now (R.texts self.now.records) (R.columns self.now.records) widths.items (other_text records.new.others (R.texts self.now.records))) }
+    {
+        if self.keeps_spans() {
+            return self.fit_spanned(alloc, width, limits, how, records);
+        }
+        self.fit_plain(alloc, width, limits, how, records)?;
+        Ok(Vec::new(alloc))
+    }
+
+    // The same of a table that keeps no spans.
+    fn fit_plain<A: Allocator + Copy>(
+        &self,
+        alloc: A,
+        width: usize,
+        limits: &[usize],
+        how: Overflow,
+        records: &mut OverlaidRecords<R, A>,
+    ) -> Result<(), TableFault>
+        requires own { records.old.others ≡ [] }
+        requires plain { keeps_spans self.now.config.now (R.texts self.now.records) (R.columns self.now.records) ≡ false }
         ensures fault { (fault : TableFault) → fit_fault_of R.texts R.columns (natural_parts self.now) ≡ Some fault → result ≡ Err fault }
         ensures memory { (fault : TableFault) → fit_fault_of R.texts R.columns (natural_parts self.now) ≡ None → result ≡ Err fault → fault ≡ TableFault.Memory }
         ensures empty { is_empty (drawn_of R.texts R.columns C.color (natural_parts self.now)) ≡ true → IsOk result }
@@ -137,9 +192,6 @@ where
     {
         if self.is_empty() {
             return Ok(());
-        }
-        if !self.config.spans().is_empty() {
-            return Err(TableFault::Spans);
         }
         self.sizes().fit_texts(alloc, how, width, limits, records)
     }
@@ -156,7 +208,9 @@ where
     ghost use Rattle.pg_picture.specs.Picture.{picture};
     ghost use Rattle.pg_picture.specs.Straight.{IsStraight};
     ghost use Rattle.pg_picture.specs.Table.{Known, is_empty};
+    ghost use Rattle.pg_fit.specs.Overlaid.{overlaid};
     ghost use Rattle.pg_table.specs.Fitted.{drawn_fitted, sizes_fitted, sizes_fault_fitted};
+    ghost use Rattle.pg_table.specs.Spanning.{keeps_spans};
     ghost use Rattle.pg_table.specs.Even.{IsEven, IsEvenText, IsNarrowLook};
     ghost use Rattle.pg_table.specs.Printing.{fault_of, is_spanned, CanFail, Prints};
     ghost use Rattle.pg_table.specs.declared.sizes.Axis.TheVariants.{Columns, Rows};
@@ -170,6 +224,26 @@ where
         NaturalTable::new(&self.records, self.config, self.colors)
     }
 
+    // The same, with columns of at least the widths that they were narrowed to.
+    fn told(&self) -> ToldTable<'_, &OverlaidRecords<R, A>, C, B>
+        ensures records { result.table.records.now ≡ self.now.records }
+        ensures config { result.table.config.now ≡ self.now.config.now }
+        ensures colors { result.table.colors.now ≡ self.now.colors.now }
+        ensures widths { result.widths.now ≡ self.now.widths.items }
+    {
+        ToldTable {
+            table: self.natural(),
+            widths: &self.widths,
+        }
+    }
+
+    // Whether a table with cells keeps a span.
+    fn keeps_spans(&self) -> bool
+        ensures { result ≡ keeps_spans self.now.config.now (overlaid R.texts R.columns self.now.records) (R.columns self.now.records.records) }
+    {
+        self.natural().keeps_spans()
+    }
+
     /// The widths of the columns and the heights of the rows at the fitted texts, in terminal columns
     /// and lines; errors as those of [`NaturalTable::natural_dimension`].
     pub fn natural_dimension<D: Allocator + Copy>(
@@ -181,6 +255,9 @@ where
         ensures widths { IfOk result (λ d. d.0.items ≡ sizes_fitted R.texts R.columns Columns self.now) }
         ensures heights { IfOk result (λ d. d.1.items ≡ sizes_fitted R.texts R.columns Rows self.now) }
     {
+        if self.keeps_spans() {
+            return self.told().natural_dimension(alloc);
+        }
         self.natural().natural_dimension(alloc)
     }
 
@@ -189,6 +266,9 @@ where
         ensures ok { IsOk result → fault_of (drawn_fitted R.texts R.columns C.color self.now) ≡ None }
         ensures fault { (fault : TableFault) → result ≡ Err fault → CanFail (drawn_fitted R.texts R.columns C.color self.now) fault }
     {
+        if self.keeps_spans() {
+            return self.told().fits(alloc);
+        }
         self.natural().fits(alloc)
     }
 
@@ -205,6 +285,9 @@ where
         ensures straight { IsOk result → IsStraight (drawn_fitted R.texts R.columns C.color self.now) }
         ensures even { IsOk result → IsEven (drawn_fitted R.texts R.columns C.color self.now) }
     {
+        if self.keeps_spans() {
+            return self.told().print(alloc, buf);
+        }
         self.natural().print(alloc, buf)
     }
 
@@ -217,6 +300,8 @@ where
         ensures fault { (fault : TableFault) → result ≡ Err fault → CanFail (drawn_fitted R.texts R.columns C.color self.now) fault }
         ensures empty { is_empty (drawn_fitted R.texts R.columns C.color self.now) ≡ true → IsOk result }
     {
-        self.natural().to_string(alloc)
+        let mut text = String::new(alloc);
+        self.print(alloc, &mut text)?;
+        Ok(text)
     }
 }

@@ -11,8 +11,10 @@ mod natural;
 mod needs;
 mod overflow;
 mod sizes;
+mod spanning;
 mod style;
 mod table;
+mod told;
 
 pub use crate::fault::TableFault;
 pub use crate::fitted::FittedTable;

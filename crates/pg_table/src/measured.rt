@@ -9,7 +9,8 @@ ghost use Rattle.pg_picture.specs.Fits.{span_fits, spans_fit};
 ghost use Rattle.pg_picture.specs.Sizes.{if_fits};
 ghost use Rattle.pg_table.specs.Natural.{all_fit, text_size, cell_size, single_size, is_single, is_sized, cells_fit, size_of_singles, need_of, natural_sizes};
 ghost use Rattle.pg_table.specs.Inside.Sizes.{count_of, cells_of};
-ghost use Rattle.pg_table.specs.Inside.Measuring.{most, IsHuge, HasHugeIn, HasHuge, high, wide};
+ghost use Rattle.pg_table.specs.Inside.Measuring.{most, IsHuge, HasHugeIn, HasHuge, high, wide, with_room};
+ghost use Rattle.pg_table.specs.Spanning.{keeps_spans, widths_from};
 ghost use Rattle.pg_table.specs.declared.sizes.Axis.TheVariants.{Columns, Rows};
 
 use crate::needs::{Need, widened};
@@ -34,6 +35,16 @@ fn both_are_numbers<A: Allocator>(sizes: &ConstantDimension<A>)
 {
     are_numbers(&sizes.0);
     are_numbers(&sizes.1);
+}
+
+// Raises sizes to those that they are to have at least.
+fn raise(sizes: &mut [usize], least: &[usize])
+    ensures same { length sizes.new ≡ length sizes.old }
+    ensures raised { (k : ℕ) → k < length sizes.old → slice_index sizes.new k ≡ max (slice_index least.now k) (slice_index sizes.old k) }
+{
+    for k in 0..sizes.len() {
+        sizes[k] = sizes[k].max(least.get(k).copied().unwrap_or(0));
+    }
 }
 
 impl<'a, R: PeekableRecords + ExactRecords, B: Allocator> NaturalSizes<'a, R, B> {
@@ -225,29 +236,26 @@ impl<'a, R: PeekableRecords + ExactRecords, B: Allocator> NaturalSizes<'a, R, B>
         sizes: &mut [usize],
         needs: &mut [Need],
     ) -> Result<Vec<usize, A>, AllocError>
-        requires some { 0 < cells_of R.texts R.columns self.now axis }
         requires fit { spans_fit self.now.config.now.spans (length (R.texts self.now.records)) (R.columns self.now.records) ≡ true }
-        requires sizes { sizes.old ≡ map (size_of_singles axis self.now.config.now (text_at (R.texts self.now.records)) (cells_of R.texts R.columns self.now axis)) (range_with_len 0 (count_of R.texts R.columns self.now axis)) }
+        requires long { length sizes.old ≡ count_of R.texts R.columns self.now axis }
         requires needs { needs.old ≡ map (need_of axis self.now.config.now (text_at (R.texts self.now.records)) (count_of R.texts R.columns self.now axis)) self.now.config.now.spans }
-        ensures { IfOk result (λ room. room.items ≡ natural_sizes axis self.now.config.now (R.texts self.now.records) (R.columns self.now.records)) }
+        ensures { IfOk result (λ room. room.items ≡ with_room axis self.now.config.now (R.texts self.now.records) (R.columns self.now.records) sizes.old) }
     {
         widened(alloc, sizes, needs)
     }
 
-    // The natural sizes, from those by cells without a span; None where a size of a cell with a span
-    // passes `usize::MAX`.
+    // The sizes from these, with room for cells with a span; None where a size of one passes
+    // `usize::MAX`.
     fn with_spans<A: Allocator + Copy>(
         &self,
         alloc: A,
         mut singles: ConstantDimension<A>,
     ) -> Result<Option<ConstantDimension<A>>, AllocError>
-        requires rows { 0 < length (R.texts self.now.records) }
-        requires columns { 0 < R.columns self.now.records }
         requires fit { spans_fit self.now.config.now.spans (length (R.texts self.now.records)) (R.columns self.now.records) ≡ true }
-        requires widths { singles.0.items ≡ map (size_of_singles Columns self.now.config.now (text_at (R.texts self.now.records)) (length (R.texts self.now.records))) (range_with_len 0 (R.columns self.now.records)) }
-        requires heights { singles.1.items ≡ map (size_of_singles Rows self.now.config.now (text_at (R.texts self.now.records)) (R.columns self.now.records)) (range_with_len 0 (length (R.texts self.now.records))) }
-        ensures widths { IfOk result (λ o. IfSome o (λ d. d.0.items ≡ natural_sizes Columns self.now.config.now (R.texts self.now.records) (R.columns self.now.records))) }
-        ensures heights { IfOk result (λ o. IfSome o (λ d. d.1.items ≡ natural_sizes Rows self.now.config.now (R.texts self.now.records) (R.columns self.now.records))) }
+        requires widths { length singles.0.items ≡ R.columns self.now.records }
+        requires heights { length singles.1.items ≡ length (R.texts self.now.records) }
+        ensures widths { IfOk result (λ o. IfSome o (λ d. d.0.items ≡ with_room Columns self.now.config.now (R.texts self.now.records) (R.columns self.now.records) singles.0.items)) }
+        ensures heights { IfOk result (λ o. IfSome o (λ d. d.1.items ≡ with_room Rows self.now.config.now (R.texts self.now.records) (R.columns self.now.records) singles.1.items)) }
         ensures sized { IfOk result (λ o. is_some o ≡ list_all (λ s. is_sized self.now.config.now (text_at (R.texts self.now.records)) (corner s)) self.now.config.now.spans) }
     {
         match self.needs(alloc)? {
@@ -280,6 +288,30 @@ impl<'a, R: PeekableRecords + ExactRecords, B: Allocator> NaturalSizes<'a, R, B>
                     return Ok(Some(singles));
                 }
                 self.with_spans(alloc, singles)
+            }
+            None => Ok(None),
+        }
+    }
+
+    /// The same, with columns that are at least so wide.
+    pub(crate) fn measured_from<A: Allocator + Copy>(
+        &self,
+        alloc: A,
+        least: &[usize],
+    ) -> Result<Option<ConstantDimension<A>>, AllocError>
+        requires kept { keeps_spans self.now.config.now (R.texts self.now.records) (R.columns self.now.records) ≡ true }
+        requires fit { spans_fit self.now.config.now.spans (length (R.texts self.now.records)) (R.columns self.now.records) ≡ true }
+        ensures widths { IfOk result (λ o. IfSome o (λ d. d.0.items ≡ widths_from least.now self.now.config.now (R.texts self.now.records) (R.columns self.now.records))) }
+        ensures heights { IfOk result (λ o. IfSome o (λ d. d.1.items ≡ natural_sizes Rows self.now.config.now (R.texts self.now.records) (R.columns self.now.records))) }
+        ensures sized { IfOk result (λ o. is_some o ≡ cells_fit self.now.config.now (text_at (R.texts self.now.records)) (length (R.texts self.now.records)) (R.columns self.now.records)) }
+    {
+        // Shows that the spans stand in order.
+        let _spans = self.config.spans();
+        match self.singles(alloc)? {
+            Some(mut sizes) => {
+                both_are_numbers(&sizes);
+                raise(&mut sizes.0, least);
+                self.with_spans(alloc, sizes)
             }
             None => Ok(None),
         }

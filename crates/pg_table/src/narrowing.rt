@@ -21,8 +21,8 @@ use pg_fit::{ColumnRange, OverlaidRecords, narrow};
 use pg_layout::{ExactRecords, PeekableRecords, Position};
 use std::alloc::{AllocError, Allocator};
 
-// The greatest width of a column, where the first columns are told theirs.
-fn limit_of(limits: &[usize], column: usize) -> usize
+/// The greatest width of a column, where the first columns are told theirs.
+pub(crate) fn limit_of(limits: &[usize], column: usize) -> usize
     ensures { result ≡ limit_of limits.now column }
 {
     limits.get(column).copied().unwrap_or(usize::MAX)
@@ -45,8 +45,8 @@ pub(crate) fn room_of<B: Allocator>(
 }
 
 impl<'a, R: PeekableRecords + ExactRecords, B: Allocator> NaturalSizes<'a, R, B> {
-    // How wide a cell is at least, or None where it passes `usize::MAX`.
-    fn least_cell(&self, how: Overflow, pos: Position) -> Option<usize>
+    /// How wide a cell is at least, or None where it passes `usize::MAX`.
+    pub(crate) fn least_cell(&self, how: Overflow, pos: Position) -> Option<usize>
         requires row { pos.row < rows_of R.texts R.columns self.now }
         requires column { pos.col < R.columns self.now.records }
         ensures { result ≡ if_fits (paddings Columns self.now.config.now pos + least_text_width how.entry self.now.config.now (text_of R.texts R.columns self.now) pos) }
@@ -146,8 +146,8 @@ impl<'a, R: PeekableRecords + ExactRecords, B: Allocator> NaturalSizes<'a, R, B>
         Ok(widths)
     }
 
-    // Sets another text for a cell where its text is too wide for a column of so many columns.
-    fn fit_cell<A: Allocator + Copy>(
+    /// Sets another text for a cell where its text is too wide for so many columns.
+    pub(crate) fn fit_cell<A: Allocator + Copy>(
         &self,
         alloc: A,
         how: Overflow,

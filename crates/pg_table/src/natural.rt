@@ -56,6 +56,7 @@ where
     ghost use Rattle.pg_picture.specs.Table.{Known, full_width, is_empty};
     ghost use Rattle.pg_picture.specs.Sizes.{if_fits};
     ghost use Rattle.pg_table.specs.Even.{IsEven};
+    ghost use Rattle.pg_table.specs.Spanning.{keeps_spans};
     ghost use Rattle.pg_table.specs.Printing.{fault_of, is_spanned, drawn_of, natural_parts, sizes_of, sizes_fault_of, CanFail, Prints};
     ghost use Rattle.pg_table.specs.declared.sizes.Axis.TheVariants.{Columns, Rows};
 
@@ -215,8 +216,8 @@ where
         totals_fit(self.config, dimension, rows, columns)
     }
 
-    // Whether its spans fit, which stand in their order.
-    fn spans_fit(&self) -> bool
+    /// Whether its spans fit, which stand in their order.
+    pub(crate) fn spans_fit(&self) -> bool
         ensures ascending { IsAscending by_columns self.now.config.now.spans }
         ensures fit { result ≡ spans_fit self.now.config.now.spans (length (R.texts self.now.records)) (R.columns self.now.records) }
     {
@@ -239,6 +240,13 @@ where
         ensures { result ≡ is_empty (drawn_of R.texts R.columns C.color (natural_parts self.now)) }
     {
         self.records.count_rows() == 0 || self.records.count_columns() == 0
+    }
+
+    /// Whether a table with cells keeps a span.
+    pub(crate) fn keeps_spans(&self) -> bool
+        ensures { result ≡ keeps_spans self.now.config.now (R.texts self.now.records) (R.columns self.now.records) }
+    {
+        !self.is_empty() && !self.config.spans().is_empty()
     }
 
     // Whether the rows and columns can be counted, and the totals of a table with cells and without a

@@ -142,14 +142,13 @@ impl<T, A: Allocator> Table<T, A> {
 }
 
 impl<T: AsStr + Drop, A: Allocator> Table<T, A> {
-    ghost use Rattle.std.specs.Prelude.{ℕ, [], ◌-◌, ◌^◌, ◌<◌, ◌≤◌, max, nat_lt, if◌then◌else◌, ◌≡◌, length, OnErr, ◌&&◌, ◌++◌, true, false, map, Some, None, Err, IfOk, IsOk, OnOk, string_bytes};
+    ghost use Rattle.std.specs.Prelude.{ℕ, [], ◌<◌, ◌≤◌, ◌⊎◌, max, ◌≡◌, length, OnErr, ◌&&◌, ◌++◌, true, false, map, Some, None, Err, IfOk, IsOk, OnOk, string_bytes};
     ghost use Rattle.pg_layout.specs.Records.{columns_of};
     ghost use Rattle.pg_config.specs.Overrides.{has_glyph};
     ghost use Rattle.pg_picture.specs.Straight.{IsStraight};
     ghost use Rattle.pg_picture.specs.Picture.{picture};
-    ghost use Rattle.pg_picture.specs.Sizes.{if_fits};
     ghost use Rattle.pg_picture.specs.Table.{Known, full_width, is_empty};
-    ghost use Rattle.pg_table.specs.Fitted.{HasPlainTail, limit_of, drawn_rows, fitted_rows, fit_fault_rows, least_at_rows, least_width_rows, IsNarrowRows};
+    ghost use Rattle.pg_table.specs.Fitted.{HasPlainTail, limit_of, drawn_rows, fitted_rows, fit_fault_rows, keeps_spans_rows, least_at_rows, least_fault_rows, least_width_rows, IsNarrowRows};
     ghost use Rattle.pg_table.specs.Natural.{natural_sizes};
     ghost use Rattle.pg_table.specs.Even.{IsEven, IsEvenText, IsNarrowLook, is_of_line_glyphs};
     ghost use Rattle.pg_table.specs.Printing.{fault_of, is_spanned, sizes_fault, drawn, with_header_line, CanFail, Prints};
@@ -249,12 +248,18 @@ impl<T: AsStr + Drop, A: Allocator> Table<T, A> {
     }
 
     /// The width of a line, in terminal columns, where each column is as narrow as wrapping or cutting
-    /// can make it ([`NaturalTable::least_width`]). None where it passes `usize::MAX` or the columns are
-    /// too many to count.
-    pub fn least_width(&self, how: Overflow) -> Option<usize>
-        ensures { result ≡ (if nat_lt (columns_of self.now.rows) (2 ^ 64 - 1) then if_fits (least_width_rows how.entry T.text self.now) else None) }
+    /// can make it; errors as those of [`NaturalTable::least_width`]. Only a table that keeps spans takes
+    /// memory for it.
+    pub fn least_width<B: Allocator + Copy>(
+        &self,
+        alloc: B,
+        how: Overflow,
+    ) -> Result<usize, TableFault>
+        ensures width { IfOk result (λ width. width ≡ least_width_rows how.entry T.text self.now) }
+        ensures ok { IsOk result → least_fault_rows how.entry T.text self.now ≡ None }
+        ensures fault { (fault : TableFault) → result ≡ Err fault → (least_fault_rows how.entry T.text self.now ≡ Some fault) ⊎ ((fault ≡ TableFault.Memory) × (keeps_spans_rows T.text self.now ≡ true)) }
     {
-        self.natural().least_width(how)
+        self.natural().least_width(alloc, how)
     }
 
     /// The table within so many terminal columns, the side margins and the column lines among them:
@@ -262,8 +267,8 @@ impl<T: AsStr + Drop, A: Allocator> Table<T, A> {
     /// column are wrapped or cut.
     ///
     /// Its lines are at most so wide, or as wide as [`Table::least_width`] tells, where a tail is of
-    /// printable ASCII and ellipses. Where nothing is too wide it takes no memory, and draws the same
-    /// table. Errors as those of [`NaturalTable::within_limits`].
+    /// printable ASCII and ellipses. Where nothing is too wide it draws the same table, and takes no
+    /// memory, if no span is kept. Errors as those of [`NaturalTable::within_limits`].
     ///
     /// ```text
     /// let how = Overflow::Wrap(Breaking::BetweenWords);
@@ -280,7 +285,7 @@ impl<T: AsStr + Drop, A: Allocator> Table<T, A> {
         ensures fault { (fault : TableFault) → fit_fault_rows T.text self.now ≡ Some fault → result ≡ Err fault }
         ensures memory { (fault : TableFault) → fit_fault_rows T.text self.now ≡ None → result ≡ Err fault → fault ≡ TableFault.Memory }
         ensures empty { is_empty (drawn T.text self.now) ≡ true → IsOk result }
-        ensures narrow { fit_fault_rows T.text self.now ≡ None → IsNarrowRows width [] T.text self.now → IsOk result }
+        ensures narrow { fit_fault_rows T.text self.now ≡ None → self.now.config.spans ≡ [] → IsNarrowRows width [] T.text self.now → IsOk result }
     {
         self.natural().within(alloc, width, how)
     }
@@ -299,7 +304,7 @@ impl<T: AsStr + Drop, A: Allocator> Table<T, A> {
         ensures fault { (fault : TableFault) → fit_fault_rows T.text self.now ≡ Some fault → result ≡ Err fault }
         ensures memory { (fault : TableFault) → fit_fault_rows T.text self.now ≡ None → result ≡ Err fault → fault ≡ TableFault.Memory }
         ensures empty { is_empty (drawn T.text self.now) ≡ true → IsOk result }
-        ensures narrow { fit_fault_rows T.text self.now ≡ None → IsNarrowRows width limits.now T.text self.now → IsOk result }
+        ensures narrow { fit_fault_rows T.text self.now ≡ None → self.now.config.spans ≡ [] → IsNarrowRows width limits.now T.text self.now → IsOk result }
     {
         self.natural().within_limits(alloc, width, limits, how)
     }

@@ -1,13 +1,20 @@
 -- Cells whose texts are fitted to the widths of their columns, as the code holds them.
-use Rattle.std.specs.Prelude.{◌≡◌, ℕ, ◌+◌, ◌-◌, ◌<◌, ◌≤◌, List, length, slice_index, sum_by}
+use Rattle.std.specs.Prelude.{◌≡◌, ◌⊎◌, ℕ, ◌+◌, ◌-◌, ◌^◌, ◌<◌, ◌≤◌, true, false, List, length, slice_index, sum_by, Option}
 use Rattle.std.specs.List.{range_with_len}
 use Rattle.pg_layout.specs.declared.position.Position.{Position}
+use Rattle.pg_layout.specs.Colors.{Color}
+use Rattle.pg_layout.specs.Keys.{by_columns}
+use Rattle.pg_layout.specs.Places.{IsAscending}
 use Rattle.pg_layout.specs.Position.{at}
 use Rattle.pg_layout.specs.Records.{text_at}
 use Rattle.pg_layout.specs.Text.{Text}
 use Rattle.pg_config.specs.Config.{Config, get_formatting}
 use Rattle.pg_picture.specs.Pieces.{widest}
+use Rattle.pg_picture.specs.Table.{Table}
+use Rattle.pg_config.specs.Spans.{is_visible}
+use Rattle.pg_picture.specs.Fits.{spans_fit}
 use Rattle.pg_table.specs.Natural.{paddings, natural_size, natural_sizes}
+use Rattle.pg_table.specs.Spanning.{keeps_spans, table_from, least_cell_width, cell_room, spanned_text, spanned_widths}
 use Rattle.pg_table.specs.Fitted.{fitted_text, least_text_width, least_column_width, beside_columns, limit_of, column_widths, fitted_at, HasPlainTail}
 use Rattle.pg_table.specs.declared.overflow.Overflow.{Overflow}
 use Rattle.pg_table.specs.declared.sizes.Axis.TheVariants.{Columns}
@@ -63,3 +70,56 @@ pub record AreFittedBelow (how : Overflow) (total : ℕ) (limits : List ℕ) (co
   pub others : (p : Position) → k ≤ p.col → now p ≡ text_at texts p
   pub room : HasPlainTail how → (p : Position) → p.row < length texts → p.col < k
       → paddings Columns config p + widest (get_formatting config p) (fitted_at how total limits config texts columns p) ≤ slice_index (column_widths how total limits config texts columns) p.col
+
+-- the width of a line whose columns are as narrow as they can be, by cells without a span
+unfoldable pub plain_full_width : Overflow → Config → List (List Text) → ℕ → ℕ
+plain_full_width how config texts columns =
+    sum_by (least_column_width how config (text_at texts) (length texts)) (range_with_len 0 columns) + beside_columns config columns
+
+-- ---- where spans are kept
+
+-- The least width of a shown cell is no number of 64 bits.
+pub record IsHugeLeast (how : Overflow) (config : Config) (texts : List (List Text)) (columns : ℕ) (p : Position) : Type 0 where
+  pub row : p.row < length texts
+  pub column : p.col < columns
+  pub shown : is_visible config.spans p ≡ true
+  pub huge : 2 ^ 64 ≤ least_cell_width how config (text_at texts) p
+
+abbrev pub HasHugeLeast : Overflow → Config → List (List Text) → ℕ → Type 0
+HasHugeLeast how config texts columns = (p : Position) × IsHugeLeast how config texts columns p
+
+-- the table of lent parts whose columns are at least so wide
+abbrev pub told_of : {R C : Type 0} → (R → List (List Text)) → (R → ℕ) → (C → Position → Option Color) → List ℕ → R × Config × C → Table
+told_of texts columns color told (records, config, colors) = table_from told config (texts records) (columns records) (color colors)
+
+-- p stands before this place, row by row
+abbrev pub IsBefore : ℕ → ℕ → Position → Type 0
+IsBefore row col p = (p.row < row) ⊎ ((p.row ≡ row) × (p.col < col))
+
+-- The text of a shown cell is within the room that it has, where its least width is.
+abbrev pub HasRoomTogether : Overflow → List ℕ → Config → List (List Text) → ℕ → Position → Type 0
+HasRoomTogether how widths config texts columns p =
+    HasPlainTail how → is_visible config.spans p ≡ true → least_cell_width how config (text_at texts) p ≤ cell_room widths config (length texts) columns p
+    → paddings Columns config p + widest (get_formatting config p) (spanned_text how widths config texts columns p) ≤ cell_room widths config (length texts) columns p
+
+-- The texts of the cells before this place are fitted to columns of these widths; the others are as they were.
+pub record AreFittedTo (how : Overflow) (widths : List ℕ) (config : Config) (texts : List (List Text)) (columns row col : ℕ) (now : Position → Text) : Type 0 where
+  pub fitted : (p : Position) → p.row < length texts → p.col < columns → IsBefore row col p → now p ≡ spanned_text how widths config texts columns p
+  pub others : (p : Position) → (IsBefore row col p → ⊥) → now p ≡ text_at texts p
+  pub room : (p : Position) → p.row < length texts → p.col < columns → IsBefore row col p → HasRoomTogether how widths config texts columns p
+
+-- Where spans are kept these fit, the columns have such widths, and the texts of all cells are fitted to them.
+pub record AreFittedTogether (how : Overflow) (total : ℕ) (limits : List ℕ) (config : Config) (texts : List (List Text)) (columns : ℕ) (widths : List ℕ) (now : Position → Text) : Type 0 where
+  pub ascending : IsAscending by_columns config.spans
+  pub spans : spans_fit config.spans (length texts) columns ≡ true
+  pub widths_are : widths ≡ spanned_widths how total limits config texts columns
+  pub all : AreFittedTo how widths config texts columns (length texts) 0 now
+
+-- Where none is kept they are fitted to their columns.
+pub record AreFittedAlone (how : Overflow) (total : ℕ) (limits : List ℕ) (config : Config) (texts : List (List Text)) (columns : ℕ) (now : Position → Text) : Type 0 where
+  pub plain : HasPlainWidths config (length texts) columns
+  pub fits : AreFittedBelow how total limits config texts columns columns now
+
+pub record IsFitted (how : Overflow) (total : ℕ) (limits : List ℕ) (config : Config) (texts : List (List Text)) (columns : ℕ) (widths : List ℕ) (now : Position → Text) : Type 0 where
+  pub alone : keeps_spans config texts columns ≡ false → AreFittedAlone how total limits config texts columns now
+  pub together : keeps_spans config texts columns ≡ true → AreFittedTogether how total limits config texts columns widths now

@@ -1,109 +1,44 @@
-use Rattle.std.proofs.Common.{Ok, OnOk, Err, ◌≡◌, ℕ, ◌<◌, ◌-◌, ◌^◌, ◌==◌, ◌&&◌, ◌||◌, true, false, not, nat_lt, length, sym, ap, ◌∙◌, arith, inl, inr}
-use Rattle.std.proofs.lemmas.Bool.{cases_Bool}
-use Rattle.std.proofs.lemmas.Bool.Decides.{nat_tests}
+use Rattle.std.proofs.Common.{◌==◌, ◌||◌, ℕ, List, length, not, Ok, Err, IfOk, sym, ap, ◌∙◌}
+use Rattle.std.proofs.lemmas.Bool.{false≢true}
+use Rattle.pg_config.specs.Spans.{Span}
 use Rattle.pg_fit.specs.Overlaid.{other_text}
-use Rattle.pg_table.specs.Natural.{natural_sizes, all_fit}
-use Rattle.pg_table.specs.Inside.Fitting.{HasPlainWidths}
-use Rattle.pg_table.specs.declared.fault.TableFault.TheVariants.{Spans, Totals}
-use Rattle.pg_table.specs.declared.sizes.Axis.TheVariants.{Columns}
-use Rattle.pg_table.proofs.FitFaults.{same-fault, not-both, fault-empty, fault-spans, fault-totals, fault-none}
-use Rattle.pg_table.proofs.FittedPlaces.{none-there}
-use Rattle.pg_table.proofs.PlainWidths.{no-spans, plain-widths, empty-widths}
+use Rattle.pg_table.specs.Inside.Fitting.{AreFittedTogether, IsFitted}
+use Rattle.pg_table.proofs.FitFaults.{kept-parts}
 use Rattle.pg_table.proofs.natural.NaturalTable.fit.Goals as goal
 
-pub returns-then-is_empty-clause-fault : goal.returns-then-is_empty-clause-fault
-returns-then-is_empty-clause-fault g c = λ fault h.
-    let self = c.args.self.now in
-    let none = fault-empty self.config.now (g.R.Records.texts self.records) (g.R.Records.columns self.records) (sym c.is_empty.ensures ∙ c.if-is_empty.true) in
-    cc
-
-pub returns-then-is_empty-clause-fits : goal.returns-then-is_empty-clause-fits
-returns-then-is_empty-clause-fits g c =
-    let self = c.args.self.now in
-    let texts = g.R.Records.texts self.records in
-    let columns : ℕ = g.R.Records.columns self.records in
-    let empty : ((length texts == 0) || (columns == 0)) ≡ true = sym c.is_empty.ensures ∙ c.if-is_empty.true in
-    none-there c.args.how c.args.width c.args.limits.now self.config.now texts columns (other_text c.args.records.now.others texts) (λ p. ap (λ o. other_text o texts p) c.requires)
-    (λ p h k. let low : 0 < length texts = omega (arith, h) in let wide : 0 < columns = omega (arith, k) in grind (arith, nat_tests, empty, low, wide))
-
-pub returns-then-is_empty-clause-plain : goal.returns-then-is_empty-clause-plain
-returns-then-is_empty-clause-plain g c =
-    let self = c.args.self.now in
-    empty-widths self.config.now (length (g.R.Records.texts self.records)) (g.R.Records.columns self.records) (sym c.is_empty.ensures ∙ c.if-is_empty.true)
-
-pub returns-clause-plain : goal.returns-clause-plain
-returns-clause-plain g c =
-    let self = c.args.self.now in
-    let same : c.is_empty-2.result ≡ (length self.config.now.spans == 0) = rw c.spans.ensures.all at c.is_empty-2.ensures in
-    let none : (length self.config.now.spans == 0) ≡ true = grind (arith, same, c.if-not-is_empty.false) in
-    let plain : HasPlainWidths self.config.now (length (g.R.Records.texts self.records)) (g.R.Records.columns self.records) = plain-widths self.config.now (length (g.R.Records.texts self.records)) (g.R.Records.columns self.records) (no-spans self.config.now.spans none) in
-    elim c.fit_texts.result as (λ r. OnOk r (HasPlainWidths self.config.now (length (g.R.Records.texts self.records)) (g.R.Records.columns self.records))) [ Ok u ↦ plain | Err e ↦ tt ]
-
-pub returns-then-not-is_empty-clause-fault : goal.returns-then-not-is_empty-clause-fault
-returns-then-not-is_empty-clause-fault g c = λ fault h.
-    let self = c.args.self.now in
-    let same : c.is_empty-2.result ≡ (length self.config.now.spans == 0) = rw c.spans.ensures.all at c.is_empty-2.ensures in
-    let kept : not (length self.config.now.spans == 0) ≡ true = ap not (sym same ∙ c.if-not-is_empty.true) in
-    let is = fault-spans self.config.now (g.R.Records.texts self.records) (g.R.Records.columns self.records) (sym c.is_empty.ensures ∙ c.if-is_empty.false) kept in
-    cc
-
-pub returns-then-not-is_empty-clause-memory : goal.returns-then-not-is_empty-clause-memory
-returns-then-not-is_empty-clause-memory g c = λ fault h.
-    let self = c.args.self.now in
-    let same : c.is_empty-2.result ≡ (length self.config.now.spans == 0) = rw c.spans.ensures.all at c.is_empty-2.ensures in
-    let kept : not (length self.config.now.spans == 0) ≡ true = ap not (sym same ∙ c.if-not-is_empty.true) in
-    let is = fault-spans self.config.now (g.R.Records.texts self.records) (g.R.Records.columns self.records) (sym c.is_empty.ensures ∙ c.if-is_empty.false) kept in
-    λ e. cc
-
-pub returns-clause-fault : goal.returns-clause-fault
-returns-clause-fault g c = λ fault h.
-    let self = c.args.self.now in
-    let texts = g.R.Records.texts self.records in
-    let columns : ℕ = g.R.Records.columns self.records in
-    let some = sym c.is_empty.ensures ∙ c.if-is_empty.false in
-    let same : c.is_empty-2.result ≡ (length self.config.now.spans == 0) = rw c.spans.ensures.all at c.is_empty-2.ensures in
-    let none : not (length self.config.now.spans == 0) ≡ false = ap not (sym same ∙ c.if-not-is_empty.false) in
-    let told = rw (c.sizes.ensures.records, c.sizes.ensures.config) at c.fit_texts.ensures.totals in
-    elim (cases_Bool (nat_lt columns (2 ^ 64 - 1) && all_fit (natural_sizes Columns self.config.now texts columns))) [
-      | inl held ↦ absurd (not-both _ fault (fault-none self.config.now texts columns some none held) h)
-      | inr past ↦ told past ∙ ap (λ f. Err f) (same-fault Totals fault (sym (fault-totals self.config.now texts columns some none past) ∙ h))
-    ]
-
-pub returns-clause-memory : goal.returns-clause-memory
-returns-clause-memory g c = λ fault h e.
-    let self = c.args.self.now in
-    let texts = g.R.Records.texts self.records in
-    let columns : ℕ = g.R.Records.columns self.records in
-    let some = sym c.is_empty.ensures ∙ c.if-is_empty.false in
-    let same : c.is_empty-2.result ≡ (length self.config.now.spans == 0) = rw c.spans.ensures.all at c.is_empty-2.ensures in
-    let none : not (length self.config.now.spans == 0) ≡ false = ap not (sym same ∙ c.if-not-is_empty.false) in
-    let told = rw (c.sizes.ensures.records, c.sizes.ensures.config) at c.fit_texts.ensures.memory in
-    elim (cases_Bool (nat_lt columns (2 ^ 64 - 1) && all_fit (natural_sizes Columns self.config.now texts columns))) [
-      | inl held ↦ told held fault e
-      | inr past ↦ absurd (not-both _ Totals h (fault-totals self.config.now texts columns some none past))
-    ]
-
 pub returns-clause-fits : goal.returns-clause-fits
-returns-clause-fits g c = rw (c.sizes.ensures.records, c.sizes.ensures.config) at c.fit_texts.ensures.fits
+returns-clause-fits g c =
+    let unkept = sym c.keeps_spans.ensures ∙ c.if-keeps_spans.false in
+    record {
+      alone = λ _. record { plain = c.in_ok-fit_plain.ensures.plain; fits = c.in_ok-fit_plain.ensures.fits };
+      together = λ kept. absurd (false≢true (sym unkept ∙ kept));
+    }
 
-pub returns-then-not-is_empty-clause-narrow : goal.returns-then-not-is_empty-clause-narrow
-returns-then-not-is_empty-clause-narrow g c = λ none w.
+pub returns-then-keeps_spans-clause-fits : goal.returns-then-keeps_spans-clause-fits
+returns-then-keeps_spans-clause-fits g c =
     let self = c.args.self.now in
-    let same : c.is_empty-2.result ≡ (length self.config.now.spans == 0) = rw c.spans.ensures.all at c.is_empty-2.ensures in
-    let kept : not (length self.config.now.spans == 0) ≡ true = ap not (sym same ∙ c.if-not-is_empty.true) in
-    let is = fault-spans self.config.now (g.R.Records.texts self.records) (g.R.Records.columns self.records) (sym c.is_empty.ensures ∙ c.if-is_empty.false) kept in
-    absurd (not-both _ Spans none is)
+    let texts = g.R.Records.texts self.records in
+    let columns = g.R.Records.columns self.records in
+    let kept = sym c.keeps_spans.ensures ∙ c.if-keeps_spans.true in
+    let now = other_text c.fit_spanned.new.records.others texts in
+    elim c.fit_spanned.result as (λ r. IfOk r (λ ws. AreFittedTogether c.args.how c.args.width c.args.limits.now self.config.now texts columns ws.items now) → IfOk r (λ ws. IsFitted c.args.how c.args.width c.args.limits.now self.config.now texts columns ws.items now)) [
+      | Ok ws ↦ λ fits. record { alone = λ unkept. absurd (false≢true (sym unkept ∙ kept)); together = λ _. fits }
+      | Err e ↦ λ _. tt
+    ] c.fit_spanned.ensures.fits
 
-pub returns-clause-narrow : goal.returns-clause-narrow
-returns-clause-narrow g c = λ none w.
+pub returns-then-keeps_spans-clause-empty : goal.returns-then-keeps_spans-clause-empty
+returns-then-keeps_spans-clause-empty g c = λ empty.
     let self = c.args.self.now in
     let texts = g.R.Records.texts self.records in
     let columns : ℕ = g.R.Records.columns self.records in
-    let some = sym c.is_empty.ensures ∙ c.if-is_empty.false in
-    let same : c.is_empty-2.result ≡ (length self.config.now.spans == 0) = rw c.spans.ensures.all at c.is_empty-2.ensures in
-    let plain : not (length self.config.now.spans == 0) ≡ false = ap not (sym same ∙ c.if-not-is_empty.false) in
-    let told = rw (c.sizes.ensures.records, c.sizes.ensures.config) at c.fit_texts.ensures.narrow in
-    elim (cases_Bool (nat_lt columns (2 ^ 64 - 1) && all_fit (natural_sizes Columns self.config.now texts columns))) [
-      | inl held ↦ told held w
-      | inr past ↦ absurd (not-both _ Totals none (fault-totals self.config.now texts columns some plain past))
-    ]
+    let kept = sym c.keeps_spans.ensures ∙ c.if-keeps_spans.true in
+    absurd (false≢true (sym (kept-parts ((length texts == 0) || (columns == 0)) (not (length self.config.now.spans == 0)) kept).0 ∙ empty))
+
+pub returns-then-keeps_spans-clause-narrow : goal.returns-then-keeps_spans-clause-narrow
+returns-then-keeps_spans-clause-narrow g c = λ none spanless w.
+    let self = c.args.self.now in
+    let texts = g.R.Records.texts self.records in
+    let columns : ℕ = g.R.Records.columns self.records in
+    let kept = sym c.keeps_spans.ensures ∙ c.if-keeps_spans.true in
+    let plain = ap (λ (spans : List Span). not (length spans == 0)) spanless in
+    absurd (false≢true (sym plain ∙ (kept-parts ((length texts == 0) || (columns == 0)) (not (length self.config.now.spans == 0)) kept).1))

@@ -1,25 +1,39 @@
-use Rattle.std.proofs.Common.{◌≡◌, ◌-◌, ◌^◌, ℕ, true, cond, nat_lt, None, sum_by, length, sym, ap, ◌∙◌, arith}
-use Rattle.std.specs.List.{range_with_len}
-use Rattle.std.proofs.lemmas.Bool.Decides.{nat_tests}
-use Rattle.pg_layout.specs.declared.sides.Indent.{Indent}
-use Rattle.pg_layout.specs.declared.sides.Sides.{Sides}
-use Rattle.pg_layout.specs.Records.{text_at}
-use Rattle.pg_config.specs.Config.{count_vertical}
+use Rattle.std.proofs.Common.{ℕ, ◌-◌, ◌^◌, cond, nat_lt, None, [], sym, ap, ◌∙◌, inl, inr}
 use Rattle.pg_picture.specs.Sizes.{if_fits}
-use Rattle.pg_table.specs.Fitted.{least_column_width, least_full_width}
+use Rattle.pg_table.proofs.FittedTables.{full-plain}
+use Rattle.pg_table.proofs.LeastFaults.{unkept-passes, told-width, told-ok, told-fault}
 use Rattle.pg_table.proofs.natural.NaturalTable.least_width.Goals as goal
 
-pub returns : goal.returns
-unfolding least_full_width
-returns g c =
+pub returns-then-keeps_spans-clause-fault : goal.returns-then-keeps_spans-clause-fault
+returns-then-keeps_spans-clause-fault g c = λ fault e.
+    elim (c.spanned_least_width.ensures.fault fault e) [
+      | inl told ↦ inl told
+      | inr memory ↦ inr (memory, sym c.keeps_spans.ensures ∙ c.if-keeps_spans.true)
+    ]
+
+pub returns-clause-width : goal.returns-clause-width
+returns-clause-width g c =
     let self = c.args.self.now in
     let texts = g.R.Records.texts self.records in
     let columns : ℕ = g.R.Records.columns self.records in
-    let sum : ℕ = sum_by (λ k. least_column_width c.args.how self.config.now (text_at texts) (length texts) k) (range_with_len 0 columns) in
-    let left = ap (λ (s : Sides Indent). s.left.size) c.get_margin-margin.ensures in
-    let right = ap (λ (s : Sides Indent). s.right.size) c.get_margin-margin.ensures in
-    let total : c.least_total.result ≡ if_fits sum = rw (c.sizes.ensures.records, c.sizes.ensures.config) at c.least_total.ensures in
-    let verticals : c.count_vertical-verticals.result ≡ count_vertical self.config.now columns = rw c.count_columns-columns.ensures.value at c.count_vertical-verticals.ensures in
-    let yes : nat_lt columns (2 ^ 64 - 1) ≡ true = grind (arith, nat_tests, c.count_columns-columns.ensures.value) in
-    let all : ℕ = least_full_width c.args.how self.config.now texts columns in
-    c.plus-2.ensures _ (c.plus.ensures _ (c.plus-inner.ensures sum total)) ∙ ap (λ n. if_fits n) (omega (arith, verticals, left, right)) ∙ sym (ap (λ b. cond b (if_fits all) None) yes)
+    let unkept = sym c.keeps_spans.ensures ∙ c.if-keeps_spans.false in
+    let line = c.plain_least_width.ensures ∙ ap (λ n. cond (nat_lt columns (2 ^ 64 - 1)) (if_fits n) None) (sym (full-plain c.args.how 0 [] self.config.now texts columns unkept)) in
+    rw c.ok_or.ensures.value (told-width c.args.how self.config.now texts columns c.plain_least_width.result line)
+
+pub returns-clause-ok : goal.returns-clause-ok
+returns-clause-ok g c = λ ok.
+    let self = c.args.self.now in
+    let texts = g.R.Records.texts self.records in
+    let columns : ℕ = g.R.Records.columns self.records in
+    let unkept = sym c.keeps_spans.ensures ∙ c.if-keeps_spans.false in
+    let line = c.plain_least_width.ensures ∙ ap (λ n. cond (nat_lt columns (2 ^ 64 - 1)) (if_fits n) None) (sym (full-plain c.args.how 0 [] self.config.now texts columns unkept)) in
+    told-ok c.args.how self.config.now texts columns (unkept-passes _ _ unkept) c.plain_least_width.result line (rw c.ok_or.ensures.value at ok)
+
+pub returns-clause-fault : goal.returns-clause-fault
+returns-clause-fault g c = λ fault e.
+    let self = c.args.self.now in
+    let texts = g.R.Records.texts self.records in
+    let columns : ℕ = g.R.Records.columns self.records in
+    let unkept = sym c.keeps_spans.ensures ∙ c.if-keeps_spans.false in
+    let line = c.plain_least_width.ensures ∙ ap (λ n. cond (nat_lt columns (2 ^ 64 - 1)) (if_fits n) None) (sym (full-plain c.args.how 0 [] self.config.now texts columns unkept)) in
+    inl (told-fault c.args.how self.config.now texts columns (unkept-passes _ _ unkept) c.plain_least_width.result line fault (sym c.ok_or.ensures.value ∙ e))

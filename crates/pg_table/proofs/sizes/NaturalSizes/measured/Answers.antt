@@ -1,12 +1,13 @@
-use Rattle.std.proofs.Common.{◌≡◌, ◌==◌, ℕ, Bool, List, [], length, is_some, IfOk, subst, sym, ap, ◌∙◌}
+use Rattle.std.proofs.Common.{◌≡◌, ◌==◌, ℕ, Bool, List, [], length, is_some, IfOk, IfSome, subst, sym, ap, ◌∙◌}
 use Rattle.std.specs.List.{list_all}
+use Rattle.std.proofs.lemmas.List.FromFn.{length-map-range_with_len}
 use Rattle.pg_layout.specs.Records.{text_at}
 use Rattle.pg_config.specs.Spans.{Span, corner}
 use Rattle.pg_picture.proofs.OwnersOfPlaces.{InOrder}
-use Rattle.pg_table.specs.Natural.{is_sized, all_fit}
+use Rattle.pg_table.specs.Natural.{is_sized, all_fit, size_of_singles}
 use Rattle.pg_table.specs.declared.sizes.Axis.TheVariants.{Columns, Rows}
 use Rattle.pg_table.proofs.Faults.{no_spans}
-use Rattle.pg_table.proofs.RoomOfNeeds.{plain_sizes}
+use Rattle.pg_table.proofs.RoomOfNeeds.{plain_sizes, widened_sizes}
 use Rattle.pg_table.proofs.ShownCells.{cells-sized, corners-decide, huge-past, singles-sized}
 use Rattle.pg_table.proofs.sizes.NaturalSizes.measured.Goals as goal
 
@@ -32,6 +33,34 @@ returns-then-is_empty-clause-sized g c =
     let high = ap (λ xs. all_fit xs) (sym (rw c.in-Some.is at c.in_ok-singles.ensures.heights)) ∙ c.both_are_numbers.ensures.heights in
     sym (cells-sized self.config.now (text_at texts) (length texts) columns (singles-sized self.config.now (text_at texts) (length texts) columns wide high)
     (ap (λ spans. list_all (λ s. is_sized self.config.now (text_at texts) (corner s)) spans) none))
+
+pub with_spans-requires-clause-widths : goal.with_spans-requires-clause-widths
+with_spans-requires-clause-widths g c =
+    let self = c.args.self.now in
+    let texts = g.R.Records.texts self.records in
+    let columns : ℕ = g.R.Records.columns self.records in
+    ap length (rw c.in-Some.is at c.in_ok-singles.ensures.widths) ∙ length-map-range_with_len (size_of_singles Columns self.config.now (text_at texts) (length texts)) 0 columns
+
+pub with_spans-requires-clause-heights : goal.with_spans-requires-clause-heights
+with_spans-requires-clause-heights g c =
+    let self = c.args.self.now in
+    let texts = g.R.Records.texts self.records in
+    let columns : ℕ = g.R.Records.columns self.records in
+    ap length (rw c.in-Some.is at c.in_ok-singles.ensures.heights) ∙ length-map-range_with_len (size_of_singles Rows self.config.now (text_at texts) columns) 0 (length texts)
+
+pub returns-else-is_empty-clause-widths : goal.returns-else-is_empty-clause-widths
+returns-else-is_empty-clause-widths g c =
+    let self = c.args.self.now in
+    subst (λ (xs : List ℕ). IfOk c.with_spans.result (λ o. IfSome o (λ d. d.0.items ≡ xs)))
+    (widened_sizes Columns self.config.now (g.R.Records.texts self.records) (g.R.Records.columns self.records) c.requires.fit c.requires.rows _ (rw c.in-Some.is at c.in_ok-singles.ensures.widths))
+    c.with_spans.ensures.widths
+
+pub returns-else-is_empty-clause-heights : goal.returns-else-is_empty-clause-heights
+returns-else-is_empty-clause-heights g c =
+    let self = c.args.self.now in
+    subst (λ (xs : List ℕ). IfOk c.with_spans.result (λ o. IfSome o (λ d. d.1.items ≡ xs)))
+    (widened_sizes Rows self.config.now (g.R.Records.texts self.records) (g.R.Records.columns self.records) c.requires.fit c.requires.columns _ (rw c.in-Some.is at c.in_ok-singles.ensures.heights))
+    c.with_spans.ensures.heights
 
 pub returns-else-is_empty-clause-sized : goal.returns-else-is_empty-clause-sized
 returns-else-is_empty-clause-sized g c =

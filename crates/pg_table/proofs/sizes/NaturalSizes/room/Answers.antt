@@ -1,10 +1,10 @@
-use Rattle.std.proofs.Common.{◌≡◌, ℕ, ◌+◌, ◌<◌, ◌≤◌, List, length, All, IfOk, subst, sym, ap, ◌∙◌, None}
-use Rattle.std.proofs.lemmas.List.FromFn.{length-map-range_with_len}
-use Rattle.pg_layout.specs.Records.{text_at}
-use Rattle.pg_table.specs.Natural.{count, count_cells, size_of_singles}
+use Rattle.std.proofs.Common.{◌≡◌, ℕ, ◌+◌, ◌<◌, ◌≤◌, List, length, map, slice_index, All, IfOk, subst, sym, None}
+use Rattle.std.specs.List.{range_with_len}
+use Rattle.pg_table.specs.Inside.Measuring.{with_room}
+use Rattle.pg_table.specs.Natural.{count}
+use Rattle.pg_table.specs.Widening.{widened}
 use Rattle.pg_table.specs.declared.needs.Need.{Need}
 use Rattle.pg_table.proofs.NaturalRoom.{needs_some, needs_inside}
-use Rattle.pg_table.proofs.RoomOfNeeds.{widened_sizes}
 use Rattle.pg_table.proofs.sizes.NaturalSizes.room.Goals as goal
 
 pub widened-requires-clause-some : goal.widened-requires-clause-some
@@ -17,13 +17,15 @@ widened-requires-clause-inside g c =
     let self = c.args.self.now in
     let texts = g.R.Records.texts self.records in
     let columns : ℕ = g.R.Records.columns self.records in
-    let long : length c.args.sizes.now ≡ count c.args.axis (length texts) columns = ap length c.requires.sizes ∙ length-map-range_with_len (size_of_singles c.args.axis self.config.now (text_at texts) (count_cells c.args.axis (length texts) columns)) 0 (count c.args.axis (length texts) columns) in
-    subst (λ m. All (λ (need : Need). need.first + need.count ≤ m) c.args.needs.now) (sym long)
+    subst (λ m. All (λ (need : Need). need.first + need.count ≤ m) c.args.needs.now) (sym c.requires.long)
     (subst (λ xs. All (λ (need : Need). need.first + need.count ≤ count c.args.axis (length texts) columns) xs) (sym c.requires.needs) (needs_inside self.config.now texts columns (λ p. None) c.requires.fit c.args.axis))
 
 pub returns : goal.returns
+unfolding with_room
 returns g c =
     let self = c.args.self.now in
-    subst (λ (xs : List ℕ). IfOk c.widened.result (λ room. room.items ≡ xs))
-    (widened_sizes c.args.axis self.config.now (g.R.Records.texts self.records) (g.R.Records.columns self.records) c.requires.fit c.requires.some c.args.sizes.now c.args.needs.now c.requires.sizes c.requires.needs)
-    c.widened.ensures
+    let texts = g.R.Records.texts self.records in
+    let columns : ℕ = g.R.Records.columns self.records in
+    let n : ℕ = count c.args.axis (length texts) columns in
+    subst (λ (ns : List Need). IfOk c.widened.result (λ room. room.items ≡ map (widened (slice_index c.args.sizes.now) ns n) (range_with_len 0 n))) c.requires.needs
+    (subst (λ (m : ℕ). IfOk c.widened.result (λ room. room.items ≡ map (widened (slice_index c.args.sizes.now) c.args.needs.now m) (range_with_len 0 m))) c.requires.long c.widened.ensures)
