@@ -1,9 +1,8 @@
 -- The rows behind the first ones, as they are read and written.
-use Rattle.std.proofs.Common.{◌≡◌, ◌≢◌, ℕ, Bool, true, false, List, [], ◌∷◌, ◌++◌, map, Option, Some, None, IfSome, Result, Ok, Err, OnOk, refl, sym, ap, ◌∙◌, subst}
+use Rattle.std.proofs.Common.{◌≡◌, ℕ, Bool, true, false, List, [], ◌∷◌, ◌++◌, map, Option, Some, None, IfSome, Result, Ok, Err, OnOk, refl, sym, ap, ◌∙◌, subst}
 use Rattle.std.specs.Io.KnownBytes.{Appends}
 use Rattle.std.specs.Result.{IsErrAnd}
 use Rattle.std.proofs.KnownBytes.{Appends-trans}
-use Rattle.std.proofs.lemmas.Bool.{false≢true}
 use Rattle.std.proofs.lemmas.List.{map-append}
 use Rattle.pg_layout.specs.Text.{Text}
 use Rattle.pg_stream.specs.Printing.{Printing, finish_text}

@@ -1,11 +1,11 @@
 -- What is written of a table row by row, and its end, are its picture.
-use Rattle.std.proofs.Common.{◌≡◌, ℕ, zero, suc, ◌+◌, ◌<◌, false, true, ◌==◌, nat_lt, List, [], ◌∷◌, ◌++◌, map, length, slice_index_or, get_or, Option, Some, None, All, refl, sym, ap, ap₂, ◌∙◌, subst, append-nil, append_assoc, add-zero, zero-add, arith}
-use Rattle.std.specs.Prelude.{⊤, max}
+use Rattle.std.proofs.Common.{◌≡◌, ℕ, zero, suc, ◌+◌, ◌<◌, false, true, ◌==◌, List, [], ◌∷◌, ◌++◌, map, length, slice_index_or, get_or, None, All, refl, sym, ap, ap₂, ◌∙◌, append-nil, append_assoc, add-zero, zero-add, arith}
+use Rattle.std.specs.Prelude.{⊤}
 use Rattle.std.specs.List.{range_with_len}
 use Rattle.std.proofs.lemmas.Bool.Decides.{nat_tests}
 use Rattle.pg_layout.specs.Position.{at}
 use Rattle.pg_layout.specs.Records.{text_at}
-use Rattle.pg_layout.specs.Text.{Text, lines_of as lines_in}
+use Rattle.pg_layout.specs.Text.{Text}
 use Rattle.pg_config.specs.Config.{Config}
 use Rattle.pg_fit.specs.Rows.{row_height}
 use Rattle.pg_fit.proofs.LawsOfTexts.{lines_of-some}

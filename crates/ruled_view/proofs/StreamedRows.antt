@@ -1,11 +1,11 @@
 -- How rows that are written one after another end: as a table's rows from its row 0 on, and as those that bytes hold.
-use Rattle.std.proofs.Common.{◌≡◌, ◌≢◌, ℕ, zero, suc, ◌+◌, ◌<◌, ◌==◌, nat_lt, Bool, true, false, List, [], ◌∷◌, ◌++◌, map, length, slice_index_or, get_or, Option, Some, None, IfSome, All, Result, Ok, Err, inl, inr, refl, sym, ap, ap₂, ◌∙◌, subst, append_assoc, arith}
-use Rattle.std.specs.Prelude.{⊤, ◌⊎◌, ◌↔◌, ◌≤◌, ◌-◌, take, drop, not, ◌&&◌, if◌then◌else◌}
+use Rattle.std.proofs.Common.{◌≡◌, ℕ, zero, suc, ◌+◌, ◌<◌, ◌==◌, nat_lt, Bool, true, false, List, [], ◌∷◌, ◌++◌, map, length, slice_index_or, get_or, Option, Some, None, IfSome, Result, Ok, Err, inl, inr, refl, sym, ap, ap₂, ◌∙◌, subst, append_assoc, arith}
+use Rattle.std.specs.Prelude.{⊤, ◌↔◌, ◌≤◌, ◌-◌, take, drop, if◌then◌else◌}
 use Rattle.std.specs.Option.{option_or}
 use Rattle.std.specs.Result.{IsErrAnd}
 use Rattle.std.specs.declared.io.buffered.BufReader.{BufReader}
 use Rattle.std.specs.Io.Buffered.{reader_buffer, reader_capacity, reader_inner, reader_remaining}
-use Rattle.std.specs.Io.KnownBytes.{Appends, Keeps, prepend_known}
+use Rattle.std.specs.Io.KnownBytes.{Appends, prepend_known}
 use Rattle.std.proofs.KnownBytes.{Appends-nil, Appends-trans, Keeps-refl}
 use Rattle.std.proofs.lemmas.Bool.{cases_Bool}
 use Rattle.std.proofs.lemmas.Bool.Decides.{nat_tests}

@@ -1,5 +1,5 @@
 -- A table whose rows are written one after another, at widths that were told before.
-use Rattle.std.specs.Prelude.{◌≡◌, ℕ, ⊤, ◌+◌, ◌-◌, ◌==◌, ◌&&◌, nat_le, nat_lt, Bool, false, List, [], ◌∷◌, ◌++◌, length, slice_index_or, Option, Some, None, if◌then◌else◌}
+use Rattle.std.specs.Prelude.{◌≡◌, ℕ, ⊤, ◌+◌, ◌-◌, ◌==◌, nat_le, false, List, [], ◌∷◌, ◌++◌, length, slice_index_or, None, if◌then◌else◌}
 use Rattle.pg_layout.specs.Records.{columns_of}
 use Rattle.pg_layout.specs.Text.{Text, text_width_of}
 use Rattle.pg_layout.specs.declared.colors.NoColors.{NoColors}

@@ -1,4 +1,4 @@
-use Rattle.std.proofs.Common.{◌≡◌, ◌∙◌, ◌==◌, ◌||◌, ◌&&◌, ◌-◌, not, ℕ, Bool, List, length, length-drop, take, drop, true, false, Ok, refl, sym, ap, arith, rules}
+use Rattle.std.proofs.Common.{◌≡◌, ◌∙◌, ◌==◌, ◌||◌, ◌&&◌, ◌-◌, not, ℕ, Bool, List, length, length-drop, take, drop, true, false, Ok, sym, ap, arith, rules}
 use Rattle.std.proofs.lemmas.List.{take_all}
 use Rattle.ruled_view.specs.Pieces.{goes_on, is_blank, is_open}
 use Rattle.ruled_view.proofs.PiecesRead.{going-begin, going-on, going-over, going-last, going-none}

@@ -1,5 +1,5 @@
-use Rattle.std.proofs.Common.{◌≡◌, ◌∙◌, ◌+◌, ◌-◌, ◌++◌, ℕ, suc, List, true, false, Ok, refl, sym, ap, subst, arith}
-use Rattle.ruled_view.proofs.PiecesRead.{Reads, reads-begin, reads-more, reads-all, reads-end}
+use Rattle.std.proofs.Common.{◌≡◌, ◌∙◌, ◌+◌, ◌-◌, ◌++◌, ℕ, suc, List, Ok, sym, ap, subst, arith}
+use Rattle.ruled_view.proofs.PiecesRead.{Reads, reads-more, reads-all, reads-end}
 use Rattle.ruled_view.proofs.pieces.read_pieces.Goals as goal
 
 pub returns-then-not-branch-clause-read : goal.returns-then-not-branch-clause-read

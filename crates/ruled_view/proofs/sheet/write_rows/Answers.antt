@@ -1,4 +1,4 @@
-use Rattle.std.proofs.Common.{◌≡◌, ◌∙◌, ℕ, List, [], ◌∷◌, map, string_bytes, slice_index_or, sym, subst}
+use Rattle.std.proofs.Common.{◌∙◌, List, ◌∷◌, map, string_bytes, slice_index_or, sym, subst}
 use Rattle.std.specs.Vec.Iter.{into_iter_items}
 use Rattle.std.proofs.lemmas.List.{nil_from_length}
 use Rattle.pg_layout.specs.Text.{Text}

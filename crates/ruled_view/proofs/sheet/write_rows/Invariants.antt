@@ -1,4 +1,4 @@
-use Rattle.std.proofs.Common.{◌≡◌, ℕ, [], List, map, string_bytes, slice_index_or}
+use Rattle.std.proofs.Common.{◌≡◌, ℕ, [], map, string_bytes, slice_index_or}
 use Rattle.std.specs.Vec.Iter.{into_iter_items}
 use Rattle.pg_stream.specs.SizedStreams.{CountsLines}
 use Rattle.ruled_view.specs.Sheet.{AreHeights, row_within, state_of}

@@ -1,10 +1,9 @@
-use Rattle.std.proofs.Common.{◌≡◌, ◌∙◌, ℕ, List, map, true, false, None, Option, sym, ap, subst}
-use Rattle.std.specs.Prelude.{⊤, IfSome}
+use Rattle.std.proofs.Common.{◌≡◌, ◌∙◌, ℕ, List, map, true, false, None, Option, sym, ap}
+use Rattle.std.specs.Prelude.{⊤}
 use Rattle.csv.specs.Records.{fields_of}
 use Rattle.pg_layout.specs.Text.{Text}
 use Rattle.ruled_view.specs.Input.{format_fault, rows_of}
-use Rattle.ruled_view.specs.Pieces.{pieces_of}
-use Rattle.ruled_view.specs.Stream.{Streams, is_one_value}
+use Rattle.ruled_view.specs.Stream.{is_one_value}
 use Rattle.ruled_view.proofs.StreamedRows.{if_some, streams-bytes, value-refused}
 use Rattle.ruled_view.proofs.stream.show_rows.Goals as goal
 

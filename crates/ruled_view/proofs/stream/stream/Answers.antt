@@ -1,4 +1,4 @@
-use Rattle.std.proofs.Common.{◌≡◌, ◌∙◌, [], ℕ, List, drop, Some, Ok, Option, sym, ap, subst}
+use Rattle.std.proofs.Common.{◌≡◌, ◌∙◌, ℕ, List, drop, Some, Ok, Option, ap}
 use Rattle.std.specs.Fmt.{option_append}
 use Rattle.std.specs.Io.Buffered.{reader_remaining}
 use Rattle.ruled_view.specs.Formats.{format_of_line}

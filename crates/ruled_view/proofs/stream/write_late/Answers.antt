@@ -1,4 +1,4 @@
-use Rattle.std.proofs.Common.{◌≡◌, ◌∙◌, ℕ, List, map, true, false, Ok, Err, refl, sym, ap, subst}
+use Rattle.std.proofs.Common.{◌≡◌, ◌∙◌, ℕ, List, map, false, Ok, Err, refl, sym, ap, subst}
 use Rattle.std.specs.Prelude.{⊤}
 use Rattle.std.proofs.lemmas.Bool.{true≢false}
 use Rattle.std.specs.Io.KnownBytes.{Appends}
@@ -12,7 +12,7 @@ use Rattle.ruled_view.specs.Stream.{cells_by, width_by}
 use Rattle.ruled_view.specs.View.{shown_row}
 use Rattle.ruled_view.specs.declared.fault.Fault.TheVariants.{Read}
 use Rattle.ruled_view.specs.declared.stream.Columns.{Columns}
-use Rattle.ruled_view.proofs.LatePieces.{HasPiece, late-begin, late-next, late-bad, late-fails, late-ends}
+use Rattle.ruled_view.proofs.LatePieces.{late-begin, late-next, late-bad, late-fails, late-ends}
 use Rattle.ruled_view.proofs.stream.write_late.Goals as goal
 
 abbrev shown : Columns → List Text → List Text

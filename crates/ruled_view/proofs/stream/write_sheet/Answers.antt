@@ -1,4 +1,4 @@
-use Rattle.std.proofs.Common.{◌≡◌, ◌∷◌, ◌++◌, ℕ, List, map, length, slice_index_or, None, Ok, sym, ap}
+use Rattle.std.proofs.Common.{◌∷◌, ◌++◌, ℕ, List, map, length, slice_index_or, None, Ok, sym, ap}
 use Rattle.csv.specs.Records.{fields_of}
 use Rattle.pg_layout.specs.Text.{Text}
 use Rattle.pg_stream.specs.LiveStreams.{Living}
