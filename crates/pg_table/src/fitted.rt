@@ -52,7 +52,8 @@ where
     ghost use Rattle.pg_table.specs.Printing.{drawn_of, natural_parts};
 
     /// The width of a line, in terminal columns, where each column is as narrow as wrapping or cutting
-    /// can make it, the side margins and the column lines among it: no width below it can be had.
+    /// can make it, the side margins and the column lines among it. Of a table that keeps no spans no
+    /// width below it can be had.
     ///
     /// `Totals` comes where it passes `usize::MAX` or the columns are too many to count. A table that
     /// keeps spans takes memory for it: `Spans` comes where these don't fit, and `Memory` where memory is
