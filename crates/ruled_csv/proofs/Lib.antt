@@ -1,3 +1,3 @@
-mod AllRecords
 mod Marks
+mod Scans
 mod TextRows

@@ -1,3 +1,4 @@
 pub mod Rows
 pub mod Faults
 pub mod Quotes
+pub mod Inside

@@ -4,6 +4,7 @@
 mod fault;
 mod quotes;
 mod records;
+mod scanner;
 
 pub use crate::fault::RowsFault;
 pub use crate::quotes::{leaves_open, without_mark};

@@ -1,46 +1,32 @@
 //! Rows, read from bytes.
 
-ghost use Rattle.std.specs.Prelude.{◌≡◌, map, Some, Err, IfOk};
+ghost use Rattle.std.specs.Prelude.{◌≡◌, map, IfOk};
 ghost use Rattle.csv.specs.Records.{fields_of};
-ghost use Rattle.csv.specs.Reading.{Ready, reader_config, reader_state, reader_trim, source_of, strip_bom};
-ghost use Rattle.csv.specs.declared.parser.State.TheVariants as st;
-ghost use Rattle.csv.specs.declared.reader.Trim.TheVariants as trim;
-ghost use Rattle.ruled_csv.specs.Rows.{columns_of, config_of, rows_of};
+ghost use Rattle.ruled_csv.specs.Rows.{columns_of, rows_of};
 ghost use Rattle.ruled_csv.specs.Faults.{Tells, first_fault, row_fault, rows_fault};
-ghost use Rattle.ruled_csv.specs.declared.fault.RowsFault.{RowsFault};
 
 use crate::fault::RowsFault;
-use crate::quotes::{Source, check_quotes};
-use csv::{ByteRecord, Reader, ReaderBuilder, StringRecord};
-use std::alloc::Global;
+use crate::quotes::{Source, check_quotes, without_mark};
+use crate::scanner::Scanner;
+use csv::{ByteRecord, StringRecord};
+use std::alloc::{AllocError, Global};
 
-// A reader of all records, the first one too, whatever their lengths.
-fn reader_of<'a>(alloc: Global, delimiter: u8, bytes: &'a [u8]) -> Reader<&'a [u8]>
-    ensures config { reader_config result ≡ config_of delimiter }
-    ensures trim { reader_trim result ≡ trim.None }
-    ensures ready { Ready result }
-    ensures start { reader_state result ≡ st.StartRecord }
-    ensures source { source_of (λ s. Some s.now) result ≡ Some (strip_bom bytes.now) }
+// All records.
+fn all_records(alloc: Global, delimiter: u8, bytes: &[u8]) -> Result<Vec<ByteRecord>, AllocError>
+    ensures { IfOk result (λ records. map fields_of records.items ≡ rows_of delimiter bytes.now) }
 {
-    let mut builder = ReaderBuilder::new();
-    builder
-        .has_headers(false)
-        .flexible(true)
-        .delimiter(delimiter)
-        .from_reader(alloc, bytes)
-}
-
-// All records. Bytes in memory are always read, so that nothing but memory is refused.
-fn all_records(alloc: Global, delimiter: u8, bytes: &[u8]) -> Result<Vec<ByteRecord>, RowsFault>
-    ensures records { IfOk result (λ records. map fields_of records.items ≡ rows_of delimiter bytes.now) }
-    ensures memory { (fault : RowsFault) → result ≡ Err fault → fault ≡ RowsFault.Memory }
-{
-    let reader = reader_of(alloc, delimiter, bytes);
+    let mut scanner = Scanner::new(alloc, delimiter);
     let mut records = Vec::new(alloc);
-    for record in reader.into_byte_records() {
-        let record = record.map_err(|_| RowsFault::Memory)?;
-        records.push(record)?;
+    for byte in without_mark(bytes) {
+        if !scanner.read(*byte)? {
+            continue;
+        }
+        records.push(scanner.take()?)?;
     }
+    if !scanner.end()? {
+        return Ok(records);
+    }
+    records.push(scanner.take()?)?;
     Ok(records)
 }
 

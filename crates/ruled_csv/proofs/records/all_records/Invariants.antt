@@ -1,13 +1,12 @@
-use Rattle.std.proofs.Common.{◌≡◌, ◌<◌, ℕ, List, Some, map}
-use Rattle.csv.specs.Reading.{Reached, Ready, source_of, strip_bom}
-use Rattle.csv.specs.Records.{fields_of}
-use Rattle.csv.specs.declared.parser.State.TheVariants as st
-use Rattle.csv.specs.declared.reader.Trim.TheVariants as trim
-use Rattle.ruled_csv.specs.Rows.{config_of}
+use Rattle.std.proofs.Common.{◌≡◌, [], drop, map}
+use Rattle.csv.specs.Reading.{strip_bom}
+use Rattle.csv.specs.Records.{fields_of, partial_of}
+use Rattle.ruled_csv.specs.Inside.{next_row}
+use Rattle.ruled_csv.specs.Rows.{rows_of}
+use Rattle.ruled_csv.proofs.Scans.{Scans}
 use Rattle.ruled_csv.proofs.records.all_records.Given as goal
 
-abbrev pub invariant-loop-record : goal.invariant-loop-record
-invariant-loop-record l =
-    (l.record-iterator.rdr.trim ≡ trim.None) × Ready l.record-iterator.rdr × (0 < l.record-iterator.left) × (l.record-iterator.rdr.config ≡ config_of l.fn.delimiter)
-    × (y : List ℕ) × (source_of (λ s. Some s.now) l.record-iterator.rdr ≡ Some y)
-    × Reached (config_of l.fn.delimiter) st.StartRecord (strip_bom l.fn.bytes) (map fields_of l.records.items) l.record-iterator.rdr.state y
+abbrev pub invariant-loop-byte : goal.invariant-loop-byte
+invariant-loop-byte l =
+    (partial_of l.scanner.row ≡ []) × (l.scanner.delimiter ≡ l.delimiter)
+    × Scans l.delimiter (map fields_of l.records.items) (next_row l.scanner (drop l.byte-index (strip_bom l.bytes))) (drop l.byte-index (strip_bom l.bytes)) (rows_of l.delimiter l.bytes)

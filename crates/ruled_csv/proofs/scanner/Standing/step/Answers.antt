@@ -1,0 +1,9 @@
+use Rattle.std.proofs.Common.{◌∙◌, sym, ap}
+use Rattle.csv.specs.Machine.{step}
+use Rattle.ruled_csv.specs.Inside.{state_of}
+use Rattle.ruled_csv.specs.Rows.{config_of}
+use Rattle.ruled_csv.specs.declared.scanner.Standing.{Standing}
+use Rattle.ruled_csv.proofs.scanner.Standing.step.Goals as goal
+
+pub returns-in-Quoted : goal.returns-in-Quoted
+returns-in-Quoted c = c.quoted_step.ensures c.args.delimiter ∙ ap (λ (s : Standing). step (config_of c.args.delimiter) (state_of s) c.args.byte) (sym c.in-Quoted.is)
