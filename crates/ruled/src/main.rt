@@ -10,7 +10,7 @@ use crate::logs::log_beside;
 use ruled_run::{Request, run};
 use ruled_view::run_stream;
 use std::fs::File;
-use std::io::{ErrorKind, Read, Write};
+use std::io::{BufWriter, ErrorKind, Read, Write};
 use std::process::ExitCode;
 use std::{fs, io};
 
@@ -29,31 +29,41 @@ fn open(rt: &HostRuntime, name: &str, request: &mut Request) -> io::Result<File>
     fs::open(rt, name)
 }
 
+// Shows the table of an input row by row, at the widths of so many first ones, and answers the exit status.
+fn show_stream<R: Read + Drop>(
+    rt: &HostRuntime,
+    request: &Request,
+    rows: u32,
+    input: R,
+) -> io::Result<u8> {
+    let mut out = BufWriter::new(rt.alloc(), rt.stdout())?;
+    let (options, rows) = (&request.options, rows.max(1) as usize);
+    let ending = run_stream(rt.alloc(), options, rows, input, &mut out, &mut rt.stderr());
+    Ok(ending.status())
+}
+
 // Shows the table of an input, all at once or row by row, and answers the exit status.
 fn show_input<R: Read + Drop>(
     rt: &HostRuntime,
     request: &Request,
     stream: Option<u32>,
     mut input: R,
-) -> u8 {
-    let (mut out, mut err) = (rt.stdout(), rt.stderr());
-    match stream {
-        Some(rows) => {
-            let (options, rows) = (&request.options, rows.max(1) as usize);
-            run_stream(rt.alloc(), options, rows, input, &mut out, &mut err).status()
-        }
-        None => run(rt.alloc(), request, &mut input, &mut out, &mut err).status(),
+) -> io::Result<u8> {
+    if let Some(rows) = stream {
+        return show_stream(rt, request, rows, input);
     }
+    let (mut out, mut err) = (rt.stdout(), rt.stderr());
+    Ok(run(rt.alloc(), request, &mut input, &mut out, &mut err).status())
 }
 
 // Shows the table that is wanted, and answers the exit status. An error is want of memory.
 fn show(rt: &HostRuntime, wanted: Wanted) -> io::Result<u8> {
     let mut request = wanted.request;
     let Some(name) = &wanted.file else {
-        return Ok(show_input(rt, &request, wanted.stream, rt.stdin()));
+        return show_input(rt, &request, wanted.stream, rt.stdin());
     };
     match open(rt, name.as_str(), &mut request) {
-        Ok(file) => Ok(show_input(rt, &request, wanted.stream, file)),
+        Ok(file) => show_input(rt, &request, wanted.stream, file),
         Err(error) if error.kind() == ErrorKind::OutOfMemory => Err(error),
         Err(error) => {
             let _ = writeln!(rt.stderr(), "ruled: {name}: {}", words_of(&error));

@@ -1,12 +1,12 @@
 -- What a run shows of an input, whichever its format.
-use Rattle.std.specs.Prelude.{◌≡◌, ◌++◌, ◌∷◌, [], ℕ, Bool, true, false, List, codes, nat_eq, Option, Some, None, String, string_bytes}
-use Rattle.std.specs.List.{starts_with}
+use Rattle.std.specs.Prelude.{◌≡◌, ℕ, Bool, true, false, List, Option, Some, None, String, string_bytes}
 use Rattle.pg_layout.specs.Text.{Text}
 use Rattle.ruled_sql.specs.Answers.{AreAnswered, HoldsNone, keeps_log}
 use Rattle.ruled_sql.specs.declared.fault.QueryFault.TheVariants as query
 use Rattle.ruled_sql.specs.declared.fault.SqlFault.{SqlFault}
 use Rattle.ruled_sql.specs.declared.fault.SqlFault.TheVariants as sql
 use Rattle.ruled_view.specs.Faults as view
+use Rattle.ruled_view.specs.Formats as formats
 use Rattle.ruled_view.specs.View.{table_fault, table_text, view_fault, view_text}
 use Rattle.ruled_view.specs.declared.fault.Fault.TheVariants.{Memory}
 use Rattle.ruled_run.specs.declared.fault.RunFault.{RunFault}
@@ -17,14 +17,10 @@ use Rattle.ruled_run.specs.declared.request.Request.{Request}
 
 -- ---- formats
 
--- what the file of a database of SQLite begins with
-abbrev pub mark : List ℕ
-mark = codes "SQLite format 3" ++ 0 ∷ []
-
 -- the input is a database: that is told, or the first bytes show it
 abbrev pub is_database : Option Bool → List ℕ → Bool
 is_database (Some told) bytes = told
-is_database None bytes = starts_with nat_eq bytes mark
+is_database None bytes = formats.is_database bytes
 
 -- rows of a database may stand in a log beside its file
 abbrev pub hides_rows : logs.Log → List ℕ → Bool

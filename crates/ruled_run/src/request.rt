@@ -4,7 +4,7 @@ ghost use Rattle.std.specs.Prelude.{◌≡◌};
 ghost use Rattle.ruled_run.specs.Runs as spec;
 
 use ruled_sql::keeps_log;
-use ruled_view::Options;
+use ruled_view::{Options, is_database};
 
 /// What is known of the logs beside the file of a database.
 #[derive(Clone, Copy)]
@@ -51,7 +51,7 @@ impl Request {
     {
         match self.is_database {
             Some(told) => told,
-            None => bytes.starts_with(b"SQLite format 3\0"),
+            None => is_database(bytes),
         }
     }
 }

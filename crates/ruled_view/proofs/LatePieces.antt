@@ -1,21 +1,22 @@
 -- The rows behind the first ones, as they are read and written.
-use Rattle.std.proofs.Common.{◌≡◌, ℕ, Bool, true, false, List, [], ◌∷◌, ◌++◌, map, Option, Some, None, IfSome, Result, Ok, Err, OnOk, refl, sym, ap, ◌∙◌, subst}
+use Rattle.std.proofs.Common.{◌≡◌, ℕ, Bool, true, false, List, [], ◌∷◌, ◌++◌, map, Option, Some, None, IfSome, Result, Ok, Err, OnOk, inl, inr, refl, sym, ap, ◌∙◌, subst}
 use Rattle.std.specs.Io.KnownBytes.{Appends}
 use Rattle.std.specs.Result.{IsErrAnd}
 use Rattle.std.proofs.KnownBytes.{Appends-trans}
+use Rattle.std.proofs.lemmas.Bool.{true≢false}
 use Rattle.std.proofs.lemmas.List.{map-append}
 use Rattle.pg_layout.specs.Text.{Text}
+use Rattle.pg_stream.specs.LiveStreams.{MayEnd}
 use Rattle.pg_stream.specs.Printing.{Printing, finish_text}
 use Rattle.pg_stream.specs.SizedStreams.{CountsLines}
 use Rattle.ruled_view.specs.Faults.{is_failure}
 use Rattle.ruled_view.specs.LateRows.{are_bad, is_bad, late_rows, rows_in_piece}
 use Rattle.ruled_view.specs.Pieces.{pieces_of}
-use Rattle.ruled_view.specs.Sheet.{AreHeights, after_rows, ended, lines_of}
+use Rattle.ruled_view.specs.Sheet.{AreHeights, TellsNoEnd, TellsRooms, after_rows, ended, lines_of}
 use Rattle.ruled_view.specs.Stream.{Ends}
 use Rattle.ruled_view.specs.declared.fault.Fault.{Fault}
-use Rattle.ruled_view.specs.declared.fault.Fault.TheVariants.{Totals}
 use Rattle.ruled_view.specs.declared.formats.Format.{Format}
-use Rattle.ruled_view.proofs.SheetRows.{Goes, goes-begin, goes-rows, goes-lines, goes-after, heights-parts}
+use Rattle.ruled_view.proofs.SheetRows.{Goes, goes-begin, goes-rows, goes-lines, goes-after, goes-short, heights-parts}
 
 -- a piece was read
 abbrev pub HasPiece : Format → Option (List ℕ) → Option (List ℕ) → List ℕ → Type 0
@@ -95,7 +96,7 @@ late-next format header shown within first (Some bytes) old left later mid new s
 bad-ends : {X : Type 0} (first : Printing) (wrong : Bool) (all : List (List Text)) (old new : Option (List ℕ)) (found : Fault) (r : Result X Fault) → (is_failure found ≡ false → (wrong ≡ true) × Appends old new (lines_of first all))
     → IsErrAnd r (λ fault. fault ≡ found) → Ends first all wrong old new r
 bad-ends first wrong all old new found (Ok x) told is = absurd is
-bad-ends first wrong all old new found (Err fault) told is = λ soft other. told (sym (ap is_failure is) ∙ soft)
+bad-ends first wrong all old new found (Err fault) told is = λ soft. inl (told (sym (ap is_failure is) ∙ soft))
 
 pub late-bad : (format : Format) (header : List Text) (shown within : List Text → List Text) (first : Printing) (given old left later mid : Option (List ℕ)) (s : Printing) (piece : List ℕ) {X : Type 0} (found : Fault) (r : Result X Fault)
     → Late format header shown within first given old left s mid → HasPiece format left later piece → (is_failure found ≡ false → is_bad format header piece ≡ true) → IsErrAnd r (λ fault. fault ≡ found)
@@ -111,32 +112,55 @@ late-bad format header shown within first (Some bytes) old left later mid s piec
       goes-lines first all s old mid (subst (λ (xs : List (List Text)). Goes first all s xs old mid) (bad format header shown within first given old rest piece (pieces_of format behind) pieces-are (wrong soft)) (goes counts heights)),
     )) is
 
--- memory, a read or a write failed, or a row has no room
-fails-ends : {X : Type 0} (first : Printing) (all : List (List Text)) (wrong : Bool) (old new : Option (List ℕ)) (found : Fault) (r : Result X Fault) → (is_failure found ≡ false → found ≡ Totals) → IsErrAnd r (λ fault. fault ≡ found) → Ends first all wrong old new r
-fails-ends first all wrong old new found (Ok x) stops is = absurd is
-fails-ends first all wrong old new found (Err fault) stops is = λ soft other. absurd (other (is ∙ stops (sym (ap is_failure is) ∙ soft)))
+-- a row of a piece that has no room
+short-ends : {X : Type 0} (Y : Type 0) (first : Printing) (wrong : Bool) (all : List (List Text)) (s : Printing) (xs ys : List (List Text)) (old mid new : Option (List ℕ)) (found : Fault) (r : Result X Fault) → Goes first all s (xs ++ ys) old mid → TellsRooms {X = Y} s xs mid new (Err found)
+    → IsErrAnd r (λ fault. fault ≡ found) → Ends first all wrong old new r
+short-ends Y first wrong all s xs ys old mid new found (Ok x) p told is = absurd is
+short-ends Y first wrong all s xs ys old mid new found (Err fault) p told is = λ soft.
+    let (total, short) = told (sym (ap is_failure is) ∙ soft) in inr (is ∙ total, inl (goes-short first all s xs ys old mid new p short))
 
-pub late-fails : (format : Format) (header : List Text) (shown within : List Text → List Text) (first : Printing) (given old new : Option (List ℕ)) {X : Type 0} (found : Fault) (r : Result X Fault) → (is_failure found ≡ false → found ≡ Totals) → IsErrAnd r (λ fault. fault ≡ found)
+pub late-short : (format : Format) (header : List Text) (shown within : List Text → List Text) (first : Printing) (given old left later mid new : Option (List ℕ)) (s : Printing) (piece : List ℕ) {X : Type 0} (Y : Type 0) (found : Fault) (r : Result X Fault)
+    → Late format header shown within first given old left s mid → HasPiece format left later piece → is_bad format header piece ≡ false
+    → (CountsLines s → AreHeights s (cells format header shown within first given old (rows_in_piece format header piece)) → TellsRooms {X = Y} s (cells format header shown within first given old (rows_in_piece format header piece)) mid new (Err found))
+    → IsErrAnd r (λ fault. fault ≡ found) → Over format header shown within first given old new r
+late-short format header shown within first None old left later mid new s piece Y found r going read fine told is = tt
+late-short format header shown within first (Some bytes) old left later mid new s piece Y found r (rest, left-is, same, goes) read fine told is =
+    let (behind, later-is, pieces-are) = subst (λ (l : Option (List ℕ)). HasPiece format l later piece) left-is read in
+    let given : Option (List ℕ) = Some bytes in
+    let rows = cells format header shown within first given old (rows_in_piece format header piece) in
+    let others = late format header shown within first given old behind in
+    let all = late format header shown within first given old bytes in
+    λ counts heights.
+    let p : Goes first all s (rows ++ others) old mid = subst (λ (xs : List (List Text)). Goes first all s xs old mid) (good format header shown within first given old rest piece (pieces_of format behind) pieces-are fine) (goes counts heights) in
+    short-ends Y first (are_bad format header (pieces_of format bytes)) all s rows others old mid new found r p (told p.counts (heights-parts s rows others p.heights).0) is
+
+-- memory, a read or a write failed
+fails-ends : {X : Type 0} (first : Printing) (all : List (List Text)) (wrong : Bool) (old new : Option (List ℕ)) (found : Fault) (r : Result X Fault) → is_failure found ≡ true → IsErrAnd r (λ fault. fault ≡ found) → Ends first all wrong old new r
+fails-ends first all wrong old new found (Ok x) fails is = absurd is
+fails-ends first all wrong old new found (Err fault) fails is = λ soft. absurd (true≢false (sym (ap is_failure is ∙ fails) ∙ soft))
+
+pub late-fails : (format : Format) (header : List Text) (shown within : List Text → List Text) (first : Printing) (given old new : Option (List ℕ)) {X : Type 0} (found : Fault) (r : Result X Fault) → is_failure found ≡ true → IsErrAnd r (λ fault. fault ≡ found)
     → Over format header shown within first given old new r
-late-fails format header shown within first None old new found r stops is = tt
-late-fails format header shown within first (Some bytes) old new found r stops is = λ counts heights.
-    fails-ends first (late format header shown within first (Some bytes) old bytes) (are_bad format header (pieces_of format bytes)) old new found r stops is
+late-fails format header shown within first None old new found r fails is = tt
+late-fails format header shown within first (Some bytes) old new found r fails is = λ counts heights.
+    fails-ends first (late format header shown within first (Some bytes) old bytes) (are_bad format header (pieces_of format bytes)) old new found r fails is
 
 -- the table's end
 ends-with : {X : Type 0} (first s : Printing) (all : List (List Text)) (wrong : Bool) (old mid new : Option (List ℕ)) (r : Result X Fault) → Goes first all s [] old mid → wrong ≡ false
-    → OnOk r (Appends mid new (ended (finish_text s))) → ((fault : Fault) → r ≡ Err fault → is_failure fault ≡ false → fault ≡ Totals) → Ends first all wrong old new r
-ends-with first s all wrong old mid new (Ok x) goes fine wrote stops =
+    → OnOk r (Appends mid new (ended (finish_text s))) → TellsNoEnd s r → Ends first all wrong old new r
+ends-with first s all wrong old mid new (Ok x) goes fine wrote told =
     (fine, Appends-trans old mid new _ _ (goes-lines first all s old mid goes) (subst (λ (t : Printing). Appends mid new (ended (finish_text t))) (goes-after first all s old mid goes) wrote))
-ends-with first s all wrong old mid new (Err fault) goes fine wrote stops = λ soft other. absurd (other (stops fault refl soft))
+ends-with first s all wrong old mid new (Err fault) goes fine wrote told = λ soft.
+    let (total, none) = told soft in inr (total, inr (subst (λ (t : Printing). ¬ (MayEnd t)) (goes-after first all s old mid goes) none))
 
 pub late-ends : (format : Format) (header : List Text) (shown within : List Text → List Text) (first : Printing) (given old left later mid new : Option (List ℕ)) (s : Printing) {X : Type 0} (r : Result X Fault)
     → Late format header shown within first given old left s mid → HasNoPiece format left later → (CountsLines s → OnOk r (Appends mid new (ended (finish_text s))))
-    → ((fault : Fault) → r ≡ Err fault → is_failure fault ≡ false → fault ≡ Totals) → Over format header shown within first given old new r
-late-ends format header shown within first None old left later mid new s r going read wrote stops = tt
-late-ends format header shown within first (Some bytes) old left later mid new s r (rest, left-is, same, goes) read wrote stops =
+    → (CountsLines s → TellsNoEnd s r) → Over format header shown within first given old new r
+late-ends format header shown within first None old left later mid new s r going read wrote told = tt
+late-ends format header shown within first (Some bytes) old left later mid new s r (rest, left-is, same, goes) read wrote told =
     let (behind, later-is, no-pieces, after) = subst (λ (l : Option (List ℕ)). HasNoPiece format l later) left-is read in
     let given : Option (List ℕ) = Some bytes in
     let all = late format header shown within first given old bytes in
     λ counts heights.
     let p : Goes first all s [] old mid = subst (λ (xs : List (List Text)). Goes first all s xs old mid) (none format header shown within first given old rest no-pieces) (goes counts heights) in
-    ends-with first s all (are_bad format header (pieces_of format bytes)) old mid new r p (same ∙ none_bad format header shown within first given old rest no-pieces) (wrote p.counts) stops
+    ends-with first s all (are_bad format header (pieces_of format bytes)) old mid new r p (same ∙ none_bad format header shown within first given old rest no-pieces) (wrote p.counts) (told p.counts)

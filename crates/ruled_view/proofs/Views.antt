@@ -32,7 +32,7 @@ pub then_told : {X : Type 0} (first later : Option Fault) (result : Result X Fau
 then_told first later result none told = rw none told
 
 -- a write that failed is a failure
-write_fails : (fault : Fault) → is_of_write fault ≡ true → is_failure fault ≡ true
+pub write_fails : (fault : Fault) → is_of_write fault ≡ true → is_failure fault ≡ true
 write_fails (Rows fault) e = cc
 write_fails (Json fault) e = cc
 write_fails (Column name) e = cc

@@ -1,6 +1,6 @@
 -- The format of bytes, where none is told.
-use Rattle.std.specs.Prelude.{ℕ, ◌==◌, ◌&&◌, not, List, find, take, position, Bool, Option, Some, None, if◌then◌else◌}
-use Rattle.std.specs.List.{list_any}
+use Rattle.std.specs.Prelude.{ℕ, ◌==◌, ◌&&◌, ◌++◌, ◌∷◌, [], not, codes, nat_eq, List, find, take, position, Bool, Option, Some, None, if◌then◌else◌}
+use Rattle.std.specs.List.{list_any, starts_with}
 use Rattle.std.specs.Option.{option_map_or}
 use Rattle.csv.specs.Reading.{strip_bom}
 use Rattle.json.specs.Word.{is_space}
@@ -43,6 +43,13 @@ format_seen bytes = format_from (first_sign bytes) bytes
 abbrev pub format_in : Option Format → List ℕ → Format
 format_in (Some format) bytes = format
 format_in None bytes = format_seen (strip_bom bytes)
+
+-- what the file of a database of SQLite begins with
+abbrev pub mark : List ℕ
+mark = codes "SQLite format 3" ++ 0 ∷ []
+
+abbrev pub is_database : List ℕ → Bool
+is_database bytes = starts_with nat_eq bytes mark
 
 -- ---- rows that are shown one after another
 

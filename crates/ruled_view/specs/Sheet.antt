@@ -1,5 +1,7 @@
 -- A table whose rows are written one after another, at widths that were told before.
-use Rattle.std.specs.Prelude.{◌≡◌, ℕ, ⊤, ◌+◌, ◌-◌, ◌==◌, nat_le, false, List, [], ◌∷◌, ◌++◌, length, slice_index_or, None, if◌then◌else◌}
+use Rattle.std.specs.Prelude.{◌≡◌, ◌≢◌, ℕ, ⊤, ◌+◌, ◌-◌, ◌==◌, nat_le, false, List, [], ◌∷◌, ◌++◌, length, slice_index_or, Option, Some, None, Result, Ok, Err, if◌then◌else◌}
+use Rattle.std.specs.Io.KnownBytes.{Appends, Keeps}
+use Rattle.std.specs.Option.{option_or}
 use Rattle.pg_layout.specs.Records.{columns_of}
 use Rattle.pg_layout.specs.Text.{Text, text_width_of}
 use Rattle.pg_layout.specs.declared.colors.NoColors.{NoColors}
@@ -8,13 +10,19 @@ use Rattle.pg_config.specs.Config.{Config}
 use Rattle.pg_fit.specs.Cutting.{cut_text}
 use Rattle.pg_fit.specs.Rows.{row_height}
 use Rattle.pg_fit.specs.Wrapping.{wrapped}
-use Rattle.pg_stream.specs.LiveStreams.{Live, Living, living}
+use Rattle.pg_stream.specs.Conditions.{RowFits}
+use Rattle.pg_stream.specs.LiveStreams.{Live, Living, MayEnd, living}
 use Rattle.pg_stream.specs.Printing.{Printing, after_row, row_text}
 use Rattle.pg_stream.specs.declared.fault.StreamFault.{StreamFault}
 use Rattle.pg_stream.specs.declared.fault.StreamFault.TheVariants as stream
+use Rattle.pg_table.specs.Fitted.{fit_fault, fitted_texts}
+use Rattle.pg_table.specs.Printing.{sizes_fault}
+use Rattle.pg_table.specs.declared.fault.TableFault.{TableFault}
+use Rattle.pg_table.specs.declared.fault.TableFault.TheVariants as table
 use Rattle.pg_table.specs.declared.overflow.Overflow.{Overflow}
 use Rattle.pg_table.specs.declared.overflow.Overflow.TheVariants.{Wrap, Cut}
-use Rattle.ruled_view.specs.Bounds.{bounded_table}
+use Rattle.ruled_view.specs.Bounds.{are_told, bounded_table, limits_of, width_of}
+use Rattle.ruled_view.specs.Faults.{is_failure}
 use Rattle.ruled_view.specs.Tables.{with_line}
 use Rattle.ruled_view.specs.View.{line_in, sided_config}
 use Rattle.ruled_view.specs.declared.bounds.Bounds.{Bounds}
@@ -31,6 +39,15 @@ sheet_config options rows = with_line (line_in options) (length rows) (columns_o
 -- the widths of the columns that the table of these rows has
 abbrev pub widths_of : Bounds → Config → List (List Text) → ℕ → ℕ
 widths_of bounds config rows = (bounded_table bounds config rows (columns_of rows) (λ place. None)).width
+
+-- why the sizes of a table of so many columns aren't told: within bounds those of the texts that are fitted to them
+abbrev pub sizes_fault_in : Bounds → Config → List (List Text) → ℕ → Option TableFault
+sizes_fault_in bounds config rows columns =
+    if are_told bounds then option_or (fit_fault config rows columns) (sizes_fault config (fitted_texts bounds.overflow (width_of bounds.width) (limits_of bounds.limits.items columns) config rows columns) columns)
+    else sizes_fault config rows columns
+
+abbrev pub widths_fault : Bounds → Config → List (List Text) → Option TableFault
+widths_fault bounds config rows = sizes_fault_in bounds config rows (columns_of rows)
 
 -- ---- texts within their columns
 
@@ -83,7 +100,40 @@ AreHeights s (cells ∷ rows) = (s.height s.rows ≡ row_height cells) × AreHei
 abbrev pub heights_of : List (List Text) → ℕ → ℕ
 heights_of rows row = row_height (slice_index_or rows row [])
 
+-- ---- rows without room
+
+-- a row that has no room below those above it
+pub record NoRoom (s : Printing) (rows above : List (List Text)) : Type 0 where
+  pub row : List Text
+  pub behind : List (List Text)
+  pub are : rows ≡ above ++ row ∷ behind
+  pub refused : ¬ (RowFits (after_rows s above) row false)
+
+-- the lines of these rows are written up to such a row
+abbrev pub FallsShort : Printing → List (List Text) → Option (List ℕ) → Option (List ℕ) → Type 0
+FallsShort s rows old new = (above : List (List Text)) × NoRoom s rows above × Appends old new (lines_of s above)
+
 -- ---- as contracts see it
+
+-- a fault, but that memory or a write failed, says that a row has no room, and nothing is written
+abbrev pub TellsRoom : {X : Type 0} → Printing → List Text → Option (List ℕ) → Option (List ℕ) → Result X Fault → Type 0
+TellsRoom s cells old new (Ok x) = ⊤
+TellsRoom s cells old new (Err fault) = is_failure fault ≡ false → (fault ≡ Totals) × (¬ (RowFits s cells false)) × Keeps old new
+
+-- the same of rows, of which those above it are written
+abbrev pub TellsRooms : {X : Type 0} → Printing → List (List Text) → Option (List ℕ) → Option (List ℕ) → Result X Fault → Type 0
+TellsRooms s rows old new (Ok x) = ⊤
+TellsRooms s rows old new (Err fault) = is_failure fault ≡ false → (fault ≡ Totals) × FallsShort s rows old new
+
+-- or that the table can't end
+abbrev pub TellsNoEnd : {X : Type 0} → Printing → Result X Fault → Type 0
+TellsNoEnd s (Ok x) = ⊤
+TellsNoEnd s (Err fault) = is_failure fault ≡ false → (fault ≡ Totals) × (¬ (MayEnd s))
+
+-- an answer is the fault of a table, or tells that memory was refused
+abbrev pub TellsTable : {X : Type 0} → Option TableFault → Result X TableFault → Type 0
+TellsTable right (Ok x) = right ≡ None
+TellsTable right (Err fault) = fault ≢ table.Memory → right ≡ Some fault
 
 -- what the rows that are written stand for
 abbrev pub state_of : {A : Type 0} → (ℕ → ℕ) → Live (ConstantDimension A) NoColors → Living

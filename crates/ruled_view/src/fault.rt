@@ -17,6 +17,8 @@ use std::{fmt, io};
 pub enum StreamedFault {
     /// One value of JSON holds all rows.
     Value,
+    /// The input is a database.
+    Database,
     /// The first pieces of the input have no row.
     NoRow,
     /// The object on this line, counted from 1, has a member that none of the first ones has.
@@ -89,6 +91,7 @@ impl fmt::Display for StreamedFault {
     fn fmt<W: fmt::Write>(&self, f: &mut fmt::Formatter<W>) -> fmt::Result {
         match self {
             StreamedFault::Value => write!(f, "one value of JSON can't be streamed"),
+            StreamedFault::Database => write!(f, "a database can't be streamed"),
             StreamedFault::NoRow => write!(f, "the first lines have no row"),
             StreamedFault::Member { line } => write!(
                 f,

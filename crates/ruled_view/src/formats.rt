@@ -28,8 +28,8 @@ fn first_sign(bytes: &[u8]) -> Option<u8>
         .find(|byte| !matches!(*byte, b' ' | b'\t' | b'\n' | b'\r'))
 }
 
-// Where a line feed stands first.
-fn feed_of(bytes: &[u8]) -> Option<usize>
+/// Where a line feed stands first.
+pub(crate) fn feed_of(bytes: &[u8]) -> Option<usize>
     ensures place { result ≡ position (λ byte. byte == 10) bytes.now }
     ensures within { IfSome result (λ feed. feed < length bytes.now) }
 {
@@ -56,6 +56,13 @@ fn delimiter_seen(bytes: &[u8]) -> u8
     } else {
         b','
     }
+}
+
+/// Whether bytes begin as the file of a database of SQLite does.
+pub fn is_database(bytes: &[u8]) -> bool
+    ensures { result ≡ spec.is_database bytes.now }
+{
+    bytes.starts_with(b"SQLite format 3\0")
 }
 
 // The format that bytes without a byte order mark show.

@@ -21,7 +21,7 @@ mod table;
 
 pub use crate::bounds::Bounds;
 pub use crate::fault::{Fault, StreamedFault};
-pub use crate::formats::Format;
+pub use crate::formats::{Format, is_database};
 pub use crate::options::{Look, Options};
 pub use crate::program::{Ending, read_whole, run, write_text};
 pub use crate::stream::run_stream;

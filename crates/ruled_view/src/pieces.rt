@@ -7,11 +7,24 @@ ghost use Rattle.ruled_view.specs.Faults.{is_failure, is_of_write};
 ghost use Rattle.ruled_view.specs.Pieces as spec;
 
 use crate::fault::Fault;
-use crate::formats::Format;
+use crate::formats::{Format, feed_of};
 use ruled_csv::leaves_open;
 use std::alloc::Global;
 use std::io;
-use std::io::{BufRead, ErrorKind};
+use std::io::{BufRead, BufReader, Chain, Cursor, ErrorKind, Read};
+
+/// A reader that may have read more than it gave.
+pub(crate) trait Ahead {
+    /// Bytes that it gives next without another read.
+    fn ahead(&self) -> &[u8];
+}
+
+impl<R: Read> Ahead for Chain<Cursor<Vec<u8>>, BufReader<R>> {
+    fn ahead(&self) -> &[u8] {
+        let (_, reader) = self.get_ref();
+        reader.buffer()
+    }
+}
 
 // What an error of a reader tells.
 fn fault_of_read(error: io::Error) -> Fault
@@ -78,6 +91,15 @@ fn goes_on(format: Format, was_open: bool, opens: bool, line: &[u8]) -> bool
     ensures { result ≡ (opens || (not was_open && spec.is_blank format line.now)) }
 {
     opens || !was_open && is_blank(format, line)
+}
+
+/// Whether bytes begin with a line with which a row ends.
+pub(crate) fn has_row(format: Format, bytes: &[u8]) -> bool {
+    let Some(feed) = feed_of(bytes) else {
+        return false;
+    };
+    let line = &bytes[..feed];
+    !goes_on(format, false, is_open(format, false, line), line)
 }
 
 /// Reads the next piece, and tells whether there was one.

@@ -1,16 +1,18 @@
 //! A table whose rows are written one after another, each when it is there.
 
-ghost use Rattle.std.specs.Prelude.{◌≡◌, ◌++◌, ◌∷◌, ◌-◌, ℕ, [], map, length, slice_index_or, string_bytes, false, true, Ok, Err, Some, None, IfOk, OnOk};
+ghost use Rattle.std.specs.Prelude.{◌≡◌, ◌++◌, ◌∷◌, ◌-◌, ℕ, [], map, length, slice_index_or, string_bytes, false, true, Ok, Err, Some, None, is_none, if◌then◌else◌, IfOk, OnOk};
 ghost use Rattle.std.specs.Io.KnownBytes.{Appends};
+ghost use Rattle.std.specs.Option.{option_or};
 ghost use Rattle.pg_layout.specs.Records.{columns_of, ragged_row};
 ghost use Rattle.pg_stream.specs.Printing.{after_row, finish_text, row_text};
 ghost use Rattle.pg_stream.specs.SizedStreams.{CountsLines, IsNextHeight};
 ghost use Rattle.pg_fit.specs.Rows.{row_height};
-ghost use Rattle.pg_table.specs.Fitted.{fitted_table};
+ghost use Rattle.pg_table.specs.Fitted.{fit_fault, fitted_table, fitted_texts};
 ghost use Rattle.pg_table.specs.Natural.{natural_sizes};
+ghost use Rattle.pg_table.specs.Printing.{sizes_fault};
 ghost use Rattle.pg_table.specs.declared.sizes.Axis.TheVariants.{Columns};
 ghost use Rattle.ruled_view.specs.Bounds.{bounded_table, limits_of, width_of};
-ghost use Rattle.ruled_view.specs.Faults.{is_failure, is_of_write};
+ghost use Rattle.ruled_view.specs.Faults.{Tells, is_of_write};
 ghost use Rattle.ruled_view.specs.Sheet as spec;
 ghost use Rattle.ruled_view.specs.Tables.{with_line};
 ghost use Rattle.ruled_view.specs.declared.fault.Fault.{Fault};
@@ -77,7 +79,8 @@ fn natural_sizes(
     config: &SpannedConfig,
     records: &VecRecords<String>,
 ) -> Result<ConstantDimension, TableFault>
-    ensures { IfOk result (λ sizes. sizes.0.items ≡ natural_sizes Columns config.now (map (λ row. map string_bytes row) records.now) (columns_of records.now)) }
+    ensures widths { IfOk result (λ sizes. sizes.0.items ≡ natural_sizes Columns config.now (map (λ row. map string_bytes row) records.now) (columns_of records.now)) }
+    ensures fault { spec.TellsTable (sizes_fault config.now (map (λ row. map string_bytes row) records.now) (columns_of records.now)) result }
 {
     NaturalTable::new(records, config, &NoColors).natural_dimension(alloc)
 }
@@ -89,7 +92,8 @@ fn fitted_sizes(
     config: &SpannedConfig,
     records: &VecRecords<String>,
 ) -> Result<ConstantDimension, TableFault>
-    ensures { IfOk result (λ sizes. (λ column. slice_index_or sizes.0.items column 0) ≡ (fitted_table bounds.now.overflow (width_of bounds.now.width) (limits_of bounds.now.limits.items (columns_of records.now)) config.now (map (λ row. map string_bytes row) records.now) (columns_of records.now) (λ place. None)).width) }
+    ensures fault { spec.TellsTable (option_or (fit_fault config.now (map (λ row. map string_bytes row) records.now) (columns_of records.now)) (sizes_fault config.now (fitted_texts bounds.now.overflow (width_of bounds.now.width) (limits_of bounds.now.limits.items (columns_of records.now)) config.now (map (λ row. map string_bytes row) records.now) (columns_of records.now)) (columns_of records.now))) result }
+    ensures widths { IfOk result (λ sizes. (λ column. slice_index_or sizes.0.items column 0) ≡ (fitted_table bounds.now.overflow (width_of bounds.now.width) (limits_of bounds.now.limits.items (columns_of records.now)) config.now (map (λ row. map string_bytes row) records.now) (columns_of records.now) (λ place. None)).width) }
 {
     let limits = bounds.limits(alloc, records.count_columns())?;
     let table = NaturalTable::new(records, config, &NoColors);
@@ -104,7 +108,8 @@ fn sizes_of(
     config: &SpannedConfig,
     records: &VecRecords<String>,
 ) -> Result<ConstantDimension, TableFault>
-    ensures { IfOk result (λ sizes. (λ column. slice_index_or sizes.0.items column 0) ≡ (bounded_table bounds.now config.now (map (λ row. map string_bytes row) records.now) (columns_of records.now) (λ place. None)).width) }
+    ensures widths { IfOk result (λ sizes. (λ column. slice_index_or sizes.0.items column 0) ≡ (bounded_table bounds.now config.now (map (λ row. map string_bytes row) records.now) (columns_of records.now) (λ place. None)).width) }
+    ensures fault { spec.TellsTable (spec.sizes_fault_in bounds.now config.now (map (λ row. map string_bytes row) records.now) (columns_of records.now)) result }
 {
     if bounds.are_told() {
         return fitted_sizes(alloc, bounds, config, records);
@@ -121,7 +126,7 @@ pub(crate) fn sizes_of_rows(
 ) -> Result<ConstantDimension, Fault>
     requires even { ragged_row (map (λ row. row.items) rows.items) ≡ None }
     ensures widths { IfOk result (λ sizes. (λ column. slice_index_or sizes.0.items column 0) ≡ spec.widths_of bounds.now config.now (map (λ row. map string_bytes row.items) rows.items)) }
-    ensures stops { (fault : Fault) → result ≡ Err fault → is_failure fault ≡ false → fault ≡ Fault.Totals }
+    ensures fault { Tells (if is_none (spec.widths_fault bounds.now config.now (map (λ row. map string_bytes row.items) rows.items)) then None else Some Fault.Totals) result }
 {
     // Rows of equal length are always taken.
     let Ok(records) = VecRecords::new(rows) else {
@@ -188,8 +193,7 @@ fn write_ended<W: Write>(lines: &str, out: &mut W) -> Result<(), Fault>
     ensures failed { (fault : Fault) → result ≡ Err fault → is_of_write fault ≡ true }
 {
     out.write_all(lines.as_bytes()).map_err(fault_of_write)?;
-    out.write_all(b"\n").map_err(fault_of_write)?;
-    out.flush().map_err(fault_of_write)
+    out.write_all(b"\n").map_err(fault_of_write)
 }
 
 // Writes the lines that a call of the sheet appended: but for the first ones each stands behind its line feed,
@@ -218,7 +222,7 @@ fn write_row<W: Write>(
     ensures written { (heights : ℕ → ℕ) → IsNextHeight (spec.state_of heights sheet.old).printed (row_height (map string_bytes cells.items)) → OnOk result (Appends (W.contents out.old) (W.contents out.new) (spec.ended (row_text (spec.state_of heights sheet.old).printed (map string_bytes cells.items) false))) }
     ensures after { (heights : ℕ → ℕ) → IsNextHeight (spec.state_of heights sheet.old).printed (row_height (map string_bytes cells.items)) → OnOk result ((spec.state_of heights sheet.new).printed ≡ after_row (spec.state_of heights sheet.old).printed (map string_bytes cells.items) false) }
     ensures empty { OnOk result (string_bytes buf.new ≡ []) }
-    ensures stops { (fault : Fault) → result ≡ Err fault → is_failure fault ≡ false → fault ≡ Fault.Totals }
+    ensures room { (heights : ℕ → ℕ) → IsNextHeight (spec.state_of heights sheet.old).printed (row_height (map string_bytes cells.items)) → spec.TellsRoom (spec.state_of heights sheet.old).printed (map string_bytes cells.items) (W.contents out.old) (W.contents out.new) result }
 {
     let height = row_height(&cells);
     sheet.push(height, cells, buf)?;
@@ -236,7 +240,7 @@ pub(crate) fn write_first_row<W: Write>(
 ) -> Result<(), Fault>
     ensures written { (heights : ℕ → ℕ) → IsNextHeight (spec.state_of heights sheet.old).printed (row_height (map string_bytes cells.items)) → OnOk result (Appends (W.contents out.old) (W.contents out.new) (row_text (spec.state_of heights sheet.old).printed (map string_bytes cells.items) false ++ 10 ∷ [])) }
     ensures after { (heights : ℕ → ℕ) → IsNextHeight (spec.state_of heights sheet.old).printed (row_height (map string_bytes cells.items)) → OnOk result ((spec.state_of heights sheet.new).printed ≡ after_row (spec.state_of heights sheet.old).printed (map string_bytes cells.items) false) }
-    ensures stops { (fault : Fault) → result ≡ Err fault → is_failure fault ≡ false → fault ≡ Fault.Totals }
+    ensures room { (heights : ℕ → ℕ) → IsNextHeight (spec.state_of heights sheet.old).printed (row_height (map string_bytes cells.items)) → spec.TellsRoom (spec.state_of heights sheet.old).printed (map string_bytes cells.items) (W.contents out.old) (W.contents out.new) result }
 {
     let height = row_height(&cells);
     let mut buf = String::new(alloc);
@@ -255,7 +259,7 @@ pub(crate) fn write_rows<W: Write>(
 ) -> Result<(), Fault>
     ensures written { (heights : ℕ → ℕ) → CountsLines (spec.state_of heights sheet.old).printed → spec.AreHeights (spec.state_of heights sheet.old).printed (map (spec.row_within overflow.entry (λ column. slice_index_or widths.now.0.items column 0)) (map (λ row. map string_bytes row.items) rows.items)) → OnOk result (Appends (W.contents out.old) (W.contents out.new) (spec.lines_of (spec.state_of heights sheet.old).printed (map (spec.row_within overflow.entry (λ column. slice_index_or widths.now.0.items column 0)) (map (λ row. map string_bytes row.items) rows.items)))) }
     ensures after { (heights : ℕ → ℕ) → CountsLines (spec.state_of heights sheet.old).printed → spec.AreHeights (spec.state_of heights sheet.old).printed (map (spec.row_within overflow.entry (λ column. slice_index_or widths.now.0.items column 0)) (map (λ row. map string_bytes row.items) rows.items)) → OnOk result ((spec.state_of heights sheet.new).printed ≡ spec.after_rows (spec.state_of heights sheet.old).printed (map (spec.row_within overflow.entry (λ column. slice_index_or widths.now.0.items column 0)) (map (λ row. map string_bytes row.items) rows.items))) }
-    ensures stops { (fault : Fault) → result ≡ Err fault → is_failure fault ≡ false → fault ≡ Fault.Totals }
+    ensures rooms { (heights : ℕ → ℕ) → CountsLines (spec.state_of heights sheet.old).printed → spec.AreHeights (spec.state_of heights sheet.old).printed (map (spec.row_within overflow.entry (λ column. slice_index_or widths.now.0.items column 0)) (map (λ row. map string_bytes row.items) rows.items)) → spec.TellsRooms (spec.state_of heights sheet.old).printed (map (spec.row_within overflow.entry (λ column. slice_index_or widths.now.0.items column 0)) (map (λ row. map string_bytes row.items) rows.items)) (W.contents out.old) (W.contents out.new) result }
 {
     let mut buf = String::new(alloc);
     for row in rows {
@@ -268,7 +272,7 @@ pub(crate) fn write_rows<W: Write>(
 /// Ends the table.
 pub(crate) fn write_end<W: Write>(alloc: Global, sheet: Sheet<'_>, out: &mut W) -> Result<(), Fault>
     ensures written { (heights : ℕ → ℕ) → CountsLines (spec.state_of heights sheet.entry).printed → OnOk result (Appends (W.contents out.old) (W.contents out.new) (spec.ended (finish_text (spec.state_of heights sheet.entry).printed))) }
-    ensures stops { (fault : Fault) → result ≡ Err fault → is_failure fault ≡ false → fault ≡ Fault.Totals }
+    ensures end { (heights : ℕ → ℕ) → CountsLines (spec.state_of heights sheet.entry).printed → spec.TellsNoEnd (spec.state_of heights sheet.entry).printed result }
 {
     let mut buf = String::new(alloc);
     sheet.finish(&mut buf)?;

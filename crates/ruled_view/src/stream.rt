@@ -1,27 +1,27 @@
 //! A run of the program that shows each row when it comes.
 
-ghost use Rattle.std.specs.Prelude.{◌≡◌, ◌≢◌, ◌⊎◌, ◌++◌, ◌∷◌, ℕ, [], map, length, true, false, None, Some, Err, IfOk, IfSome, OnOk};
+ghost use Rattle.std.specs.Prelude.{◌≡◌, ◌⊎◌, ◌++◌, ◌∷◌, ℕ, [], map, length, true, false, None, Some, Err, IfOk, IfSome, OnOk};
 ghost use Rattle.std.specs.Io.KnownBytes.{Appends, Keeps};
 ghost use Rattle.csv.specs.Records.{fields_of};
 ghost use Rattle.pg_fit.specs.Rows.{row_height};
 ghost use Rattle.pg_stream.specs.Printing.{after_row, row_text};
 ghost use Rattle.pg_stream.specs.SizedStreams.{CountsLines, IsNextHeight};
-ghost use Rattle.ruled_view.specs.Faults.{Tells, but_line, is_failure};
+ghost use Rattle.ruled_view.specs.Faults.{Tells, but_line, is_failure, is_of_write};
 ghost use Rattle.ruled_view.specs.LateRows.{TellsBad, are_bad, is_bad, late_rows, rows_in_piece};
 ghost use Rattle.ruled_view.specs.Pieces.{pieces_of};
-ghost use Rattle.ruled_view.specs.Sheet.{AreHeights, after_rows, lines_of, state_of};
-ghost use Rattle.ruled_view.specs.Stream.{Draws, Ends, Streams, StreamsBytes, Writes, cells_by, count_of, first_fault, is_cut_short, is_one_value, row_by, streamed_fault, streamed_lines, streamed_text, width_by};
+ghost use Rattle.ruled_view.specs.Sheet.{AreHeights, TellsRoom, TellsRooms, after_rows, lines_of, state_of};
+ghost use Rattle.ruled_view.specs.Stream.{Draws, Ends, StreamStops, Streams, StreamsBytes, Writes, cells_by, count_of, first_fault, is_cut_short, is_one_value, row_by, shows_database, streamed_fault, streamed_lines, streamed_text, width_by};
 ghost use Rattle.ruled_view.specs.declared.fault.Fault.{Fault};
 ghost use Rattle.ruled_view.specs.declared.options.Options.{Options};
 
 use crate::columns::places_of;
 use crate::fault::{Fault, StreamedFault};
-use crate::formats::{Format, format_of_line};
+use crate::formats::{Format, format_of_line, is_database};
 use crate::input::rows_of;
 use crate::late_rows::rows_in_piece;
 use crate::options::Options;
-use crate::pieces::{read_line, read_piece, read_pieces};
-use crate::program::{Ending, ending_of};
+use crate::pieces::{Ahead, has_row, read_line, read_piece, read_pieces};
+use crate::program::{Ending, ending_of, fault_of_write};
 use crate::rows::{shown_row, texts_of};
 use crate::sheet::{
     Sheet, row_within, sheet_config, sizes_of_rows, write_end, write_first_row, write_rows,
@@ -57,7 +57,7 @@ fn write_header<W: Write>(
 ) -> Result<(), Fault>
     ensures written { (heights : ℕ → ℕ) → IsNextHeight (state_of heights sheet.old).printed (row_height (row_by columns.now (fields_of columns.now.header.now))) → OnOk result (Appends (W.contents out.old) (W.contents out.new) (row_text (state_of heights sheet.old).printed (row_by columns.now (fields_of columns.now.header.now)) false ++ 10 ∷ [])) }
     ensures after { (heights : ℕ → ℕ) → IsNextHeight (state_of heights sheet.old).printed (row_height (row_by columns.now (fields_of columns.now.header.now))) → OnOk result ((state_of heights sheet.new).printed ≡ after_row (state_of heights sheet.old).printed (row_by columns.now (fields_of columns.now.header.now)) false) }
-    ensures stops { (fault : Fault) → result ≡ Err fault → is_failure fault ≡ false → fault ≡ Fault.Totals }
+    ensures room { (heights : ℕ → ℕ) → IsNextHeight (state_of heights sheet.old).printed (row_height (row_by columns.now (fields_of columns.now.header.now))) → TellsRoom (state_of heights sheet.old).printed (row_by columns.now (fields_of columns.now.header.now)) (W.contents out.old) (W.contents out.new) result }
 {
     let row = shown_row(alloc, columns.options, columns.places, columns.header)?;
     let overflow = columns.options.bounds.overflow;
@@ -65,17 +65,33 @@ fn write_header<W: Write>(
     write_first_row(alloc, sheet, cells, out)
 }
 
-// Writes rows.
-fn write_records<W: Write>(
+// Shows what was written, where the next row isn't there yet.
+fn show_before_read<R: Ahead, W: Write>(
+    format: Format,
+    reader: &R,
+    out: &mut W,
+) -> Result<(), Fault>
+    ensures kept { Keeps (W.contents out.old) (W.contents out.new) }
+    ensures failed { (fault : Fault) → result ≡ Err fault → is_of_write fault ≡ true }
+{
+    if has_row(format, reader.ahead()) {
+        return Ok(());
+    }
+    out.flush().map_err(fault_of_write)
+}
+
+// Writes rows, and shows them before the next one is waited for.
+fn write_records<R: Ahead, W: Write>(
     alloc: Global,
     columns: &Columns<'_>,
     sheet: &mut Sheet<'_>,
     records: &[StringRecord],
+    reader: &R,
     out: &mut W,
 ) -> Result<(), Fault>
     ensures written { (heights : ℕ → ℕ) → CountsLines (state_of heights sheet.old).printed → AreHeights (state_of heights sheet.old).printed (cells_by columns.now (map fields_of records.now)) → OnOk result (Appends (W.contents out.old) (W.contents out.new) (lines_of (state_of heights sheet.old).printed (cells_by columns.now (map fields_of records.now)))) }
     ensures after { (heights : ℕ → ℕ) → CountsLines (state_of heights sheet.old).printed → AreHeights (state_of heights sheet.old).printed (cells_by columns.now (map fields_of records.now)) → OnOk result ((state_of heights sheet.new).printed ≡ after_rows (state_of heights sheet.old).printed (cells_by columns.now (map fields_of records.now))) }
-    ensures stops { (fault : Fault) → result ≡ Err fault → is_failure fault ≡ false → fault ≡ Fault.Totals }
+    ensures rooms { (heights : ℕ → ℕ) → CountsLines (state_of heights sheet.old).printed → AreHeights (state_of heights sheet.old).printed (cells_by columns.now (map fields_of records.now)) → TellsRooms (state_of heights sheet.old).printed (cells_by columns.now (map fields_of records.now)) (W.contents out.old) (W.contents out.new) result }
 {
     let rows = texts_of(alloc, columns.options, columns.places, records)?;
     write_rows(
@@ -85,7 +101,8 @@ fn write_records<W: Write>(
         sheet,
         rows,
         out,
-    )
+    )?;
+    show_before_read(columns.format, reader, out)
 }
 
 // The rows of a piece that stands behind so many lines.
@@ -103,7 +120,7 @@ fn rows_behind(
 }
 
 // Writes the rows of the pieces that are left, which stand behind so many lines, and ends the table.
-fn write_late<R: BufRead, W: Write>(
+fn write_late<R: BufRead + Ahead, W: Write>(
     alloc: Global,
     columns: &Columns<'_>,
     mut sheet: Sheet<'_>,
@@ -119,14 +136,14 @@ fn write_late<R: BufRead, W: Write>(
             return write_end(alloc, sheet, out);
         }
         let records = rows_behind(alloc, columns, lines, &piece)?;
-        write_records(alloc, columns, &mut sheet, &records, out)?;
+        write_records(alloc, columns, &mut sheet, &records, reader, out)?;
         lines = lines.saturating_add(feeds_in(&piece));
     }
     Err(Fault::Read)
 }
 
 // Writes the table of row 0, of these rows below it and of those of the pieces that are left.
-fn write_sheet<R: BufRead, W: Write>(
+fn write_sheet<R: BufRead + Ahead, W: Write>(
     alloc: Global,
     columns: &Columns<'_>,
     config: &SpannedConfig,
@@ -140,7 +157,7 @@ fn write_sheet<R: BufRead, W: Write>(
     let count = columns.places.len();
     let mut sheet = SizedStream::new(alloc, config, columns.widths, &NoColors, count)?;
     write_header(alloc, columns, &mut sheet, out)?;
-    write_records(alloc, columns, &mut sheet, records, out)?;
+    write_records(alloc, columns, &mut sheet, records, reader, out)?;
     write_late(alloc, columns, sheet, lines, reader, out)
 }
 
@@ -155,7 +172,7 @@ fn end_without_rows<R: BufRead>(alloc: Global, format: Format, reader: &mut R) -
 }
 
 // Writes the table whose first rows are these, which so many lines hold.
-fn write_table<R: BufRead, W: Write>(
+fn write_table<R: BufRead + Ahead, W: Write>(
     alloc: Global,
     options: &Options,
     format: Format,
@@ -191,7 +208,7 @@ fn is_one_value(format: Format) -> bool
 }
 
 // Shows the rows of an input in this format.
-fn show_rows<R: BufRead, W: Write>(
+fn show_rows<R: BufRead + Ahead, W: Write>(
     alloc: Global,
     options: &Options,
     format: Format,
@@ -228,6 +245,23 @@ fn count_of(options: &Options, count: usize) -> usize
     }
 }
 
+// Whether the first line is that of a database, where no format is told.
+fn shows_database(options: &Options, line: &[u8]) -> bool
+    ensures { result ≡ shows_database options.now line.now }
+{
+    options.format.is_none() && is_database(line)
+}
+
+// Shows what was written, behind which there is no more, whatever the answer is.
+fn show_to_end<W: Write>(answer: Result<(), Fault>, out: &mut W) -> Result<(), Fault>
+    ensures kept { Keeps (W.contents out.old) (W.contents out.new) }
+    ensures fine { OnOk result (answer ≡ result) }
+    ensures told { (fault : Fault) → result ≡ Err fault → is_failure fault ≡ false → answer ≡ result }
+{
+    out.flush().map_err(fault_of_write)?;
+    answer
+}
+
 // Shows the rows of an input.
 fn stream<R: Read + Drop, W: Write>(
     alloc: Global,
@@ -236,17 +270,21 @@ fn stream<R: Read + Drop, W: Write>(
     input: R,
     out: &mut W,
 ) -> Result<(), Fault>
-    ensures { IfSome (R.remaining input) (λ bytes. Writes (streamed_fault options.now count bytes) (is_cut_short options.now count bytes) (streamed_text options.now count bytes) (streamed_lines options.now count bytes) (W.contents out.old) (W.contents out.new) result) }
+    ensures { IfSome (R.remaining input) (λ bytes. Writes (streamed_fault options.now count bytes) (is_cut_short options.now count bytes) (streamed_text options.now count bytes) (streamed_lines options.now count bytes) (StreamStops options.now count bytes) (W.contents out.old) (W.contents out.new) result) }
 {
     let Ok(mut reader) = BufReader::new(alloc, input) else {
         return Err(Fault::Memory);
     };
     let mut first = Vec::new(alloc);
     read_line(&mut reader, &mut first)?;
+    if shows_database(options, &first) {
+        return Err(Fault::Stream(StreamedFault::Database));
+    }
     let format = format_of_line(options.format, &first);
     let mut reader = Cursor::new(first).chain(reader);
     let count = count_of(options, count);
-    show_rows(alloc, options, format, count, &mut reader, out)
+    let answer = show_rows(alloc, options, format, count, &mut reader, out);
+    show_to_end(answer, out)
 }
 
 /// Shows the rows that the bytes of `input` hold one after another, each when it comes.
@@ -257,8 +295,9 @@ fn stream<R: Read + Drop, W: Write>(
 /// that are wider than their column wrapped or cut, and `out` is flushed. Memory is that of the first rows,
 /// of one row and of buffers, whatever the input.
 ///
-/// A fault of the first rows is told before anything is written. A later one ends the table behind the
-/// rows above it.
+/// A fault of the first rows, `Totals` among them, is told before anything is written. A later one ends the
+/// table behind the rows above it, and so does `Totals` of a row that has no room below them, whose lines can't
+/// be counted.
 pub fn run_stream<R: Read + Drop, W1: Write, W2: Write>(
     alloc: Global,
     options: &Options,
@@ -269,7 +308,7 @@ pub fn run_stream<R: Read + Drop, W1: Write, W2: Write>(
 ) -> Ending
     ensures shown { result.fault ≡ None → IfSome (R.remaining input) (λ bytes. Appends (W1.contents out.old) (W1.contents out.new) (streamed_text options.now count bytes)) }
     ensures faultless { result.fault ≡ None → IfSome (R.remaining input) (λ bytes. (streamed_fault options.now count bytes ≡ None) × (is_cut_short options.now count bytes ≡ false)) }
-    ensures refused { (fault : Fault) → result.fault ≡ Some fault → is_failure fault ≡ false → fault ≢ Fault.Totals → IfSome (R.remaining input) (λ bytes. ((streamed_fault options.now count bytes ≡ Some (but_line fault)) × Keeps (W1.contents out.old) (W1.contents out.new)) ⊎ ((streamed_fault options.now count bytes ≡ None) × (is_cut_short options.now count bytes ≡ true) × Appends (W1.contents out.old) (W1.contents out.new) (streamed_lines options.now count bytes))) }
+    ensures refused { (fault : Fault) → result.fault ≡ Some fault → is_failure fault ≡ false → IfSome (R.remaining input) (λ bytes. ((streamed_fault options.now count bytes ≡ Some (but_line fault)) × Keeps (W1.contents out.old) (W1.contents out.new)) ⊎ ((streamed_fault options.now count bytes ≡ None) × (is_cut_short options.now count bytes ≡ true) × Appends (W1.contents out.old) (W1.contents out.new) (streamed_lines options.now count bytes)) ⊎ ((streamed_fault options.now count bytes ≡ None) × (fault ≡ Fault.Totals) × StreamStops options.now count bytes (W1.contents out.old) (W1.contents out.new))) }
     ensures silent { result.fault ≡ None → Keeps (W2.contents err.old) (W2.contents err.new) }
     ensures closed { result.fault ≡ Some Fault.Closed → Keeps (W2.contents err.old) (W2.contents err.new) }
 {

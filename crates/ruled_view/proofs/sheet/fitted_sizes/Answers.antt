@@ -1,14 +1,46 @@
-use Rattle.std.proofs.Common.{◌≡◌, ◌∙◌, ℕ, List, map, string_bytes, None, ap}
+use Rattle.std.proofs.Common.{◌≡◌, ◌∙◌, Bor, Global, ℕ, List, map, String, string_bytes, None, Ok, Option, ap}
 use Rattle.pg_layout.specs.Records.{columns_of}
 use Rattle.pg_layout.specs.Text.{Text}
 use Rattle.pg_picture.specs.Table.{Table}
-use Rattle.pg_table.specs.Fitted.{fitted_of, fitted_table}
+use Rattle.pg_fit.specs.Overlaid.{overlaid}
+use Rattle.pg_table.specs.Fitted.{fit_fault, fit_fault_of, fitted_of, fitted_table, fitted_texts}
+use Rattle.pg_table.specs.Printing.{sizes_fault}
+use Rattle.pg_table.specs.Spanning.{spanned_widths}
+use Rattle.pg_table.specs.declared.fault.TableFault.{TableFault}
 use Rattle.ruled_view.specs.Bounds.{limits_of, width_of}
-use Rattle.ruled_view.proofs.SheetSizes.{widths-are}
+use Rattle.ruled_view.proofs.SheetSizes.{drawn-sizes-fault, later-table-told, table-told, widths-are}
 use Rattle.ruled_view.proofs.sheet.fitted_sizes.Goals as goal
 
-pub returns : goal.returns
-returns c =
+abbrev texts_of : Bor (List (List (String Global))) → List (List Text)
+texts_of records = map (λ row. map string_bytes row) records.now
+
+abbrev columns_in : Bor (List (List (String Global))) → ℕ
+columns_in records = columns_of records.now
+
+pub returns-clause-fault : goal.returns-clause-fault
+returns-clause-fault c =
+    let bounds = c.args.bounds.now in
+    let config = c.args.config.now in
+    let records = c.args.records.now in
+    let texts : List (List Text) = map (λ row. map string_bytes row) records in
+    let columns : ℕ = columns_of records in
+    let fitted = c.in_ok-fitted.fitted in
+    let table : ℕ → List ℕ → Table = λ width limits. fitted_table bounds.overflow width limits config texts columns (λ place. None) in
+    let limits : c.deref.result.now ≡ limits_of bounds.limits.items columns = c.deref.ensures.value ∙ c.in_ok-limits.ensures ∙ ap (limits_of bounds.limits.items) c.count_columns.ensures.value in
+    let drawn =
+    c.in_ok-fitted.ensures.table
+    ∙ ap (λ parts. fitted_of bounds.overflow c.width.result c.deref.result.now (λ r. map (λ row. map string_bytes row) r.now) (λ r. columns_of r.now) (λ colors place. None) parts) c.new-table.ensures
+    ∙ ap (λ (n : ℕ). table n c.deref.result.now) c.width.ensures
+    ∙ ap (table (width_of bounds.width)) limits
+    in
+    let all : List ℕ = limits_of bounds.limits.items columns in
+    let later : Option TableFault = sizes_fault config (fitted_texts bounds.overflow (width_of bounds.width) all config texts columns) columns in
+    let same = drawn-sizes-fault fitted.widths.items (spanned_widths bounds.overflow (width_of bounds.width) all config texts columns) fitted.config.now config (overlaid texts_of columns_in fitted.records) (fitted_texts bounds.overflow (width_of bounds.width) all config texts columns) (columns_in fitted.records.records) columns (λ place. None) (λ place. None) drawn in
+    let none = table-told (fit_fault config texts columns) _ (Ok fitted) (ap (λ parts. fit_fault_of texts_of columns_in parts) c.new-table.ensures) c.in_ok-fitted.ensures.fault c.in_ok-fitted.ensures.memory in
+    later-table-told (fit_fault config texts columns) later c.natural_dimension.result none (table-told later _ c.natural_dimension.result same c.natural_dimension.ensures.fault c.natural_dimension.ensures.memory)
+
+pub returns-clause-widths : goal.returns-clause-widths
+returns-clause-widths c =
     let bounds = c.args.bounds.now in
     let config = c.args.config.now in
     let records = c.args.records.now in

@@ -1,18 +1,18 @@
-use Rattle.std.proofs.Common.{◌≡◌, ◌∙◌, ◌∷◌, ◌++◌, ◌-◌, [], ℕ, List, map, length, take, drop, slice_index_or, string_bytes, None, sym, ap, subst, arith, rules}
+use Rattle.std.proofs.Common.{◌≡◌, ◌∙◌, ◌∷◌, ◌++◌, ◌-◌, [], ℕ, List, map, length, take, drop, slice_index_or, string_bytes, false, Some, None, sym, ap, subst, arith, rules}
 use Rattle.std.proofs.lemmas.List.{length-map, nil_from_length}
 use Rattle.csv.specs.Records.{Row, fields_of}
 use Rattle.pg_layout.specs.Text.{Text}
 use Rattle.pg_layout.specs.Records.{ragged_row}
 use Rattle.pg_config.specs.Config.{Config}
 use Rattle.ruled_view.specs.Columns.{column_fault, places_of}
-use Rattle.ruled_view.specs.Faults.{Tells}
+use Rattle.ruled_view.specs.Faults.{Tells, but_line, is_failure}
 use Rattle.ruled_view.specs.LateRows.{are_bad, late_rows}
 use Rattle.ruled_view.specs.Pieces.{pieces_of}
-use Rattle.ruled_view.specs.Sheet.{sheet_config, widths_of}
+use Rattle.ruled_view.specs.Sheet.{sheet_config, widths_fault, widths_of}
 use Rattle.ruled_view.specs.Stream.{Draws, Streams, cells_of, config_in, first_fault, places_in, texts_in, width_in}
 use Rattle.ruled_view.specs.View.{shown_row}
 use Rattle.ruled_view.proofs.Even.{even_rows, ragged_same}
-use Rattle.ruled_view.proofs.StreamedRows.{first-and-others, if_more, streams, without-rows}
+use Rattle.ruled_view.proofs.StreamedRows.{first-and-others, if_more, if_some, name-refused, none-told, streams, wide-refused, without-rows}
 use Rattle.ruled_view.proofs.stream.write_table.Goals as goal
 
 pub returns-in_default : goal.returns-in_default
@@ -35,6 +35,50 @@ sizes_of_rows-requires g c =
           ∙ ap ragged_row c.in_ok-rows.ensures
           ∙ even_rows (shown_row c.args.options.now places) (length places) (λ row. length-map places _) (map fields_of c.args.records.now);
     }
+
+-- the first rows, by their parts
+abbrev others : List Row → List Row
+others records = take (length records - 1) (drop 1 records)
+
+pub returns-in_err-places : goal.returns-in_err-places
+returns-in_err-places g c =
+    let options = c.args.options.now in
+    let format = c.args.format in
+    let records : List Row = c.args.records.now in
+    let item : Row = c.header-item.result in
+    let old = g.W.Write.contents c.args.out.now in
+    let r = c.from_residual.result in
+    let found = c.in_err-places.field-0.0 in
+    let first : map fields_of records ≡ fields_of item ∷ map fields_of (others records) = ap (map fields_of) (first-and-others records item c.in-len1-up.len_at_least c.header-item.is) in
+    let names : c.deref.result.now ≡ options.columns.items = search rules in
+    let told = subst (λ (rows : List (List Text)). is_failure found ≡ false → column_fault options.columns.items rows ≡ Some (but_line found)) first (rw names at c.in_err-places.ensures.fault) in
+    if_some (g.R.Read.remaining c.args.reader.now) _ (λ left. subst (λ (fields : List (List Text)). Streams options format fields (pieces_of format left) old old r) (sym first) (name-refused options format (fields_of item) (map fields_of (others records)) (pieces_of format left) old found r told c.from_residual.ensures.1))
+
+pub returns-in_err-widths : goal.returns-in_err-widths
+returns-in_err-widths g c =
+    let options = c.args.options.now in
+    let format = c.args.format in
+    let records : List Row = c.args.records.now in
+    let item : Row = c.header-item.result in
+    let header : List Text = fields_of item in
+    let rows : List (List Text) = map fields_of (others records) in
+    let old = g.W.Write.contents c.args.out.now in
+    let found = c.in_err-widths.field-0.0 in
+    let r = c.from_residual-in_err-widths.result in
+    let first : map fields_of records ≡ header ∷ rows = ap (map fields_of) (first-and-others records item c.in-len1-up.len_at_least c.header-item.is) in
+    let names : c.deref.result.now ≡ options.columns.items = search rules in
+    let told : c.in_ok-places.places.items ≡ places_in options (header ∷ rows) = (rw names at c.in_ok-places.ensures.places) ∙ ap (places_of options.columns.items) first in
+    let none : column_fault options.columns.items (header ∷ rows) ≡ None = ap (column_fault options.columns.items) (sym first) ∙ (rw names at c.in_ok-places.ensures.fault) in
+    let texts : List (List Text) = map (λ row. map string_bytes row.items) c.in_ok-rows.rows.items in
+    let shown : texts ≡ texts_in options (header ∷ rows) =
+    c.in_ok-rows.ensures
+    ∙ ap (λ (places : List ℕ). map (shown_row options places) (map fields_of records)) (c.deref-2.ensures.value ∙ told)
+    ∙ ap (map (shown_row options (places_in options (header ∷ rows)))) first
+    in
+    let config : c.in_ok-config.config ≡ config_in options (header ∷ rows) = c.in_ok-config.ensures ∙ ap (λ given. sheet_config options (map (λ row. map string_bytes row.items) given)) c.deref-3.ensures.value ∙ ap (sheet_config options) shown in
+    if_some (g.R.Read.remaining c.args.reader.now) _ (λ left.
+    subst (λ (fields : List (List Text)). Streams options format fields (pieces_of format left) old old r) (sym first)
+    (wide-refused options format header rows (pieces_of format left) c.in_ok-config.config texts old found r config shown none c.in_err-widths.ensures.fault c.from_residual-in_err-widths.ensures.1))
 
 pub returns : goal.returns
 returns g c =
@@ -63,6 +107,11 @@ returns g c =
     ∙ ap (λ (config : Config). widths_of options.bounds config (map (λ row. map string_bytes row.items) c.in_ok-rows.rows.items)) config
     ∙ ap (widths_of options.bounds (config_in options (header ∷ rows))) shown
     in
+    let sized : widths_fault options.bounds (config_in options (header ∷ rows)) texts ≡ None =
+    ap (λ (config : Config). widths_fault options.bounds config texts) (sym config)
+    ∙ ap (widths_fault options.bounds c.in_ok-config.config) (sym shown)
+    ∙ none-told (widths_fault options.bounds c.in_ok-config.config (map (λ row. map string_bytes row.items) c.in_ok-rows.rows.items)) c.in_ok-widths.ensures.fault
+    in
     let places : List ℕ = c.deref-4.result.now in
     let are : places ≡ at = c.deref-4.ensures.value ∙ told in
     let old = g.W.Write.contents c.args.out.now in
@@ -71,5 +120,5 @@ returns g c =
     if_more (g.R.Read.remaining c.args.reader.now)
     (λ left. Draws c.in_ok-config.config (length places) width (cells_of options places width (header ∷ (rows ++ late_rows format header (pieces_of format left)))) (are_bad format header (pieces_of format left)) old new r)
     (λ left. Streams options format (map fields_of records) (pieces_of format left) old new r)
-    (λ left draws. subst (λ (fields : List (List Text)). Streams options format fields (pieces_of format left) old new r) (sym first) (streams options format header rows (pieces_of format left) places c.in_ok-config.config width old new r are config wide none draws))
+    (λ left draws. subst (λ (fields : List (List Text)). Streams options format fields (pieces_of format left) old new r) (sym first) (streams options format header rows (pieces_of format left) places c.in_ok-config.config width old new r are config wide none sized draws))
     c.write_sheet.ensures
