@@ -1,5 +1,5 @@
 -- What a compact table is told.
-use Rattle.std.specs.Prelude.{ℕ, [], option_map}
+use Rattle.std.specs.Prelude.{ℕ, [], option_map, unwrap_or}
 use Rattle.pg_layout.specs.declared.borders.Borders.{Borders}
 use Rattle.pg_layout.specs.declared.sides.Indent.{Indent}
 use Rattle.pg_layout.specs.declared.sides.Sides.{Sides}
@@ -8,7 +8,7 @@ use Rattle.pg_layout.specs.declared.alignment.AlignmentHorizontal.TheVariants as
 use Rattle.pg_layout.specs.declared.colors.ANSIStr.{ANSIStr}
 use Rattle.pg_layout.specs.Borders.{no_borders}
 use Rattle.pg_layout.specs.Colors.{Color, str_color}
-use Rattle.pg_config.specs.Config.{filled, no_indents}
+use Rattle.pg_config.specs.Config.{Config, filled, no_indents}
 use Rattle.pg_config.specs.declared.compact.CompactConfig.{CompactConfig}
 
 pub record CompactSettings : Type 0 where
@@ -70,4 +70,13 @@ default_compact = record {
   padding = no_indents;
   padding_color = filled empty_color;
   alignment = across.Left;
+}
+
+-- what a configuration tells of a compact table, which has no cells of its own and borrows its colours
+abbrev pub compact_of : Config → CompactSettings
+compact_of config = record default_compact {
+  borders = config.borders;
+  margin = config.margin;
+  padding = unwrap_or config.padding.base no_indents;
+  alignment = unwrap_or config.alignment_horizontal.base across.Left;
 }

@@ -4,6 +4,7 @@ pub mod Offsets
 pub mod GlyphOrder
 pub mod Spans
 pub mod Config
+pub mod Cells
 pub mod Crossings
 pub mod LineGlyphs
 pub mod CompactConfig

@@ -1,9 +1,11 @@
 //! What a compact table is told.
 
 ghost use Rattle.std.specs.Prelude.{◌≡◌};
-ghost use Rattle.pg_config.specs.CompactConfig.{settings_of, border_colors, side_colors, default_compact};
+ghost use Rattle.pg_config.specs.CompactConfig.{settings_of, border_colors, side_colors, default_compact, compact_of};
 
+use crate::spanned::SpannedConfig;
 use pg_layout::{ANSIStr, AlignmentHorizontal, Borders, Indent, Sides};
+use std::alloc::Allocator;
 
 /// What a compact table is told: borders, margins and one padding and one alignment for all cells,
 /// and their colours.
@@ -41,6 +43,24 @@ impl CompactConfig {
             padding: Sides::filled(Indent::zero()),
             padding_color: Sides::filled(ANSIStr::default()),
             alignment: AlignmentHorizontal::Left,
+        }
+    }
+
+    /// What a configuration tells of a compact table: its borders and its margin, and the padding and
+    /// the alignment that it was last told of all cells, whatever it was told of some. No colour is
+    /// taken along, since a compact table borrows them.
+    #[tactic(auto, unfolding(crate::specs::CompactConfig::default_compact))]
+    pub fn of<A: Allocator>(config: &SpannedConfig<A>) -> CompactConfig
+        ensures { settings_of result ≡ compact_of config.now }
+    {
+        let padding = config.cells.padding.base();
+        let alignment = config.cells.alignment_horizontal.base();
+        CompactConfig {
+            borders: *config.get_borders(),
+            margin: config.get_margin(),
+            padding: padding.unwrap_or(Sides::filled(Indent::zero())),
+            alignment: alignment.unwrap_or(AlignmentHorizontal::Left),
+            ..CompactConfig::new()
         }
     }
 

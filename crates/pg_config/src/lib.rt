@@ -18,5 +18,5 @@ pub use crate::compact::CompactConfig;
 pub use crate::crossings::{Arms, Side};
 pub use crate::entity_colors::EntityColors;
 pub use crate::line_glyphs::LinePlace;
-pub use crate::spanned::SpannedConfig;
+pub use crate::spanned::{CellStyle, SpannedConfig};
 pub use crate::spans::{Span, SpanSize, Spans};

@@ -67,6 +67,15 @@ impl<V, A: Allocator> Settings<V, A> {
         self.find(pos)
     }
 
+    // What was set for all places, last of all or before some of them.
+    pub(crate) fn base(&self) -> Option<V>
+    where
+        V: Copy,
+        ensures { result ≡ self.now.base }
+    {
+        self.base
+    }
+
     // Whether nothing was set but for all places.
     #[inline(always)]
     pub(crate) fn is_for_all(&self) -> bool

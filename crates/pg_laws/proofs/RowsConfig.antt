@@ -14,6 +14,7 @@ use Rattle.pg_config.specs.Overrides.{Overrides, no_overrides, with_border, hori
 use Rattle.pg_config.specs.Offsets.{Offsets, no_offsets, with_offset, lookup_offset}
 use Rattle.pg_config.specs.Spans.{Span, with_column_span, with_row_span, get_column_span, get_row_span, has_column_spans, has_row_spans, owner, is_covered_by_column, is_covered_by_row, is_covered_by_both, is_visible}
 use Rattle.pg_config.specs.Config.{Config, default_config, filled, get_padding, get_padding_color, get_alignment_horizontal, get_alignment_vertical, get_formatting, get_justification, get_justification_color, has_horizontal, has_vertical, count_horizontal, count_vertical, get_horizontal, get_vertical, get_intersection, get_horizontal_color, is_overridden_horizontal, has_offset_chars, has_padding_color, has_justification}
+use Rattle.pg_config.specs.CompactConfig.{compact_of, default_compact}
 use Rattle.pg_config.proofs.Computing.{config_words}
 
 -- ---- told nothing: for every place
@@ -501,6 +502,29 @@ justification_by_spaces_is_a_setting = refl
 no_justification_colour_is_a_setting : has_justification (record default_config { justification_color = with_setting (Row 0) None no_settings }) ≡ true
 unfolding config_words
 no_justification_colour_is_a_setting = refl
+
+-- ---- what a configuration tells of a compact table
+
+-- of the alignments the last one of all cells, whatever was told of some before it and after it, and of paddings none where none was told of all
+abbrev told_of_some_cells : Config
+told_of_some_cells = record default_config {
+  alignment_horizontal = with_setting (Row 0) across.Left (with_setting Global across.Right (with_setting (Cell 0 0) across.Center no_settings));
+  padding = with_setting (Column 0) (filled (record { size = 1; fill = 46 })) no_settings;
+}
+
+a_compact_table_takes_what_was_told_of_all_cells : compact_of told_of_some_cells ≡ record default_compact { alignment = across.Right }
+unfolding config_words default_compact
+a_compact_table_takes_what_was_told_of_all_cells = refl
+
+a_compact_table_takes_borders_and_margins_without_their_colours :
+    compact_of (record default_config {
+      borders = record no_borders { top = Some 45 };
+      border_colors = record no_borders { top = Some (record { prefix = 1 ∷ []; suffix = [] }) };
+      margin = filled (record { size = 2; fill = 46 });
+    })
+    ≡ record default_compact { borders = record no_borders { top = Some 45 }; margin = filled (record { size = 2; fill = 46 }) }
+unfolding config_words default_compact
+a_compact_table_takes_borders_and_margins_without_their_colours = refl
 
 -- ---- the six tests of a set of borders
 

@@ -2,13 +2,13 @@
 
 ghost use Rattle.std.specs.Prelude.{◌≡◌, ◌<◌, true, false};
 ghost use Rattle.std.specs.Option.{ForSome};
+ghost use Rattle.pg_config.specs.Cells.{IsStyleOfAll};
 ghost use Rattle.pg_config.specs.Config.{has_horizontal};
 ghost use Rattle.pg_config.specs.Spans.{left_span, span_above};
 ghost use Rattle.pg_layout.specs.Colors.{lent_color};
 ghost use Rattle.pg_picture.specs.Inside.Cells.{style_of};
 ghost use Rattle.pg_picture.specs.Grids.{table_of_parts};
 ghost use Rattle.pg_picture.specs.Pieces.{style_at};
-ghost use Rattle.pg_picture.specs.Styles.{IsStyleOfAll};
 ghost use Rattle.pg_picture.specs.Table.{Table};
 ghost use Rattle.pg_peekable.specs.Inside.Drawn.{no_table, ArePartsOf, IsShapeOf, CanDraw, IsBasic, HasNoSpans};
 ghost use Rattle.pg_peekable.specs.Inside.DrawnProps.{IsAscending-prop};

@@ -43,7 +43,6 @@ pub mod StraightColumns
 pub mod PlainPictures
 pub mod EqualSeparators
 pub mod KeptTexts
-pub mod OneStyle
 pub mod FittingGrids
 pub mod ShownLines
 pub mod FirstPlaces

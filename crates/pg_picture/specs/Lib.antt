@@ -5,7 +5,6 @@ pub mod Table
 pub mod CompactLines
 pub mod Fits
 pub mod Joined
-pub mod Styles
 pub mod Sizes
 pub mod Fitting
 pub mod Straight

@@ -1,9 +1,6 @@
 -- Pieces of a line, the block of a cell, and how colours are opened and closed along a separator.
 use Rattle.std.specs.Prelude.{ℕ, zero, suc, ◌+◌, ◌-◌, ◌*◌, ◌/◌, Bool, true, false, nat_lt, min, List, [], ◌∷◌, ◌++◌, map, flat_map, sum_by, length, replicate, slice_index_or, Option, Some, None, encode_utf8, if◌then◌else◌}
 use Rattle.std.specs.Str.{trim}
-use Rattle.pg_layout.specs.declared.position.Position.{Position}
-use Rattle.pg_layout.specs.declared.sides.Indent.{Indent}
-use Rattle.pg_layout.specs.declared.sides.Sides.{Sides}
 use Rattle.pg_layout.specs.declared.alignment.Formatting.{Formatting}
 use Rattle.pg_layout.specs.declared.alignment.AlignmentHorizontal.{AlignmentHorizontal}
 use Rattle.pg_layout.specs.declared.alignment.AlignmentHorizontal.TheVariants as across
@@ -11,7 +8,8 @@ use Rattle.pg_layout.specs.declared.alignment.AlignmentVertical.{AlignmentVertic
 use Rattle.pg_layout.specs.declared.alignment.AlignmentVertical.TheVariants as down
 use Rattle.pg_layout.specs.Text.{Text, lines_of, width_of, greatest, without_blank_ends}
 use Rattle.pg_layout.specs.Colors.{Color, same_color}
-use Rattle.pg_config.specs.Config.{Config, get_padding, get_padding_color, get_alignment_horizontal, get_alignment_vertical, get_formatting, get_justification, get_justification_color}
+pub use Rattle.pg_config.specs.Cells.{Style}
+unfoldable pub use Rattle.pg_config.specs.Cells.{style_at}
 
 -- ---- pieces
 
@@ -53,28 +51,6 @@ fill c (suc k) color = run c (suc k) color ∷ []
 abbrev pub glyph_piece : Option ℕ → Option Color → List Piece
 glyph_piece None color = []
 glyph_piece (Some g) color = fill g 1 color
-
--- ---- the style of a cell: what the getters answer at its place
-
-pub record Style : Type 0 where
-  pub formatting : Formatting
-  pub padding : Sides Indent
-  pub padding_color : Sides (Option Color)
-  pub across : AlignmentHorizontal
-  pub down : AlignmentVertical
-  pub justification : ℕ
-  pub justification_color : Option Color
-
-unfoldable pub style_at : Config → Position → Style
-style_at config p = record {
-  formatting = get_formatting config p;
-  padding = get_padding config p;
-  padding_color = get_padding_color config p;
-  across = get_alignment_horizontal config p;
-  down = get_alignment_vertical config p;
-  justification = get_justification config p;
-  justification_color = get_justification_color config p;
-}
 
 -- ---- shown lines, and shares
 

@@ -6,16 +6,26 @@ ghost use Rattle.pg_layout.specs.Colors.{lent_color};
 ghost use Rattle.pg_layout.specs.Text.{lines_of, width_of, is_plain_byte};
 ghost use Rattle.pg_picture.specs.Appending.{Appends};
 ghost use Rattle.pg_picture.specs.Pieces.{written, fill, repeated, widest, trimmed_if, inner_width, line_with, block_line};
-ghost use Rattle.pg_picture.specs.Inside.Cells.{style_of, facts_of, place_of, share_of, line_if, line_parts, placed_line};
+ghost use Rattle.pg_picture.specs.Inside.Cells.{style_of, facts_of, place_of, share_of, line_if, line_parts, placed_line, shows_texts_whole};
 
 use crate::facts::{TextFacts, single_line_width, trim_if};
 use crate::fill::push_repeated;
 use crate::piece::{push_fill, push_words};
 use crate::place::CellPlace;
 use crate::share::calculate_indent;
-use crate::style::CellStyle;
+use pg_config::CellStyle;
 use pg_layout::{ANSIBuf, ANSIFmt, Indent, get_line, get_line_width};
 use std::alloc::{AllocError, Allocator};
+
+// How many of a cell's columns the side paddings leave. The cell has room for them.
+#[inline(always)]
+#[tactic(auto, unfolding(crate::specs::Pieces::inner_width))]
+pub(crate) fn inner_width<A: Allocator>(style: &CellStyle<'_, A>, width: usize) -> usize
+    requires { style.now.padding.left.size + style.now.padding.right.size ≤ width }
+    ensures { result ≡ inner_width (style_of style.now) width }
+{
+    width - (style.padding.left.size + style.padding.right.size)
+}
 
 /// Appends a line of text between its cell's side paddings: the left padding, `left` columns of
 /// justification or else the line's own left share, the line in its colour, what is left of the
@@ -56,7 +66,7 @@ fn push_line_of_width<C: ANSIFmt, B: Allocator, A: Allocator>(
     requires room { style.now.padding.left.size + style.now.padding.right.size + share_of (style_of style.now) left width line_width + line_width ≤ width }
     ensures { Appends buf.old buf.new result (written (line_with (style_of style.now) (lent_color C.color_of color.entry) width (share_of (style_of style.now) left width (width_of line.now)) line.now)) }
 {
-    let inner = style.inner_width(width);
+    let inner = inner_width(style, width);
     let share = columns_left(style, left, line_width, width);
     push_parts(buf, style, color, line, share, inner - share - line_width)
 }
@@ -76,7 +86,7 @@ fn columns_left<B: Allocator>(
     match left {
         Some(share) => share,
         None => {
-            let inner = style.inner_width(width);
+            let inner = inner_width(style, width);
             calculate_indent(style.alignment_horizontal, line_width, inner).0
         }
     }
@@ -256,6 +266,15 @@ fn line_if(text: &str, line: Option<usize>) -> &str
     }
 }
 
+// Whether line 0 of a cell is line 0 of its text, as it is.
+#[inline(always)]
+fn shows_texts_whole<A: Allocator>(style: &CellStyle<'_, A>) -> bool
+    ensures { result ≡ shows_texts_whole (style_of style.now) }
+{
+    let formatting = style.formatting;
+    !formatting.horizontal_trim && !formatting.vertical_trim && style.padding.top.size == 0
+}
+
 /// Appends the one line of a cell of so many columns and height 1. A text that is told to be plain
 /// isn't read for it: it is ASCII without line feeds, which [`pg_layout::is_plain`] tells.
 ///
@@ -276,7 +295,7 @@ pub fn push_single_line<C: ANSIFmt, B: Allocator, A: Allocator>(
     requires plain { is_plain ≡ true → list_all is_plain_byte text.now ≡ true }
     ensures { Appends buf.old buf.new result (written (block_line (style_of style.now) (lent_color C.color_of color.entry) text.now width 1 0)) }
 {
-    if style.shows_texts_whole() {
+    if shows_texts_whole(style) {
         if let Some(line_width) = single_line_width(text, is_plain) {
             return push_line_of_width(buf, style, color, text, line_width, None, width);
         }

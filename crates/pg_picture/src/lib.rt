@@ -18,7 +18,6 @@ mod run;
 mod separator_keeper;
 mod share;
 pub mod shown;
-mod style;
 mod table_margins;
 mod vertical;
 mod whole_fault;
@@ -36,9 +35,9 @@ pub use crate::place::CellPlace;
 pub use crate::run::Run;
 pub use crate::separator_keeper::{SEPARATOR_ROOM, SeparatorKeeper};
 pub use crate::share::{calculate_indent, indent_from_top};
-pub use crate::style::CellStyle;
 pub use crate::table_margins::{
     push_bottom_margin, push_left_margin, push_right_margin, push_top_margin,
 };
 pub use crate::vertical::{push_vertical, push_vertical_at};
 pub use crate::whole_fault::WholeFault;
+pub use pg_config::CellStyle;

@@ -3,9 +3,10 @@
 ghost use Rattle.std.specs.Prelude.{◌≡◌, ◌+◌, ◌≤◌};
 ghost use Rattle.pg_picture.specs.Inside.Cells.{style_of, shared_left, place_of, text_line_at};
 
+use crate::cell::inner_width;
 use crate::facts::TextFacts;
 use crate::share::{calculate_indent, indent_from_top};
-use crate::style::CellStyle;
+use pg_config::CellStyle;
 use std::alloc::Allocator;
 
 /// Where the lines of a text stand in their cell, which may be drawn over many rows.
@@ -79,6 +80,6 @@ fn shared_left<A: Allocator>(style: &CellStyle<'_, A>, widest: usize, width: usi
     if style.formatting.allow_lines_alignment {
         return None;
     }
-    let inner = style.inner_width(width);
+    let inner = inner_width(style, width);
     Some(calculate_indent(style.alignment_horizontal, widest, inner).0)
 }

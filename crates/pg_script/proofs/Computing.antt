@@ -2,8 +2,7 @@
 use Rattle.std.specs.Fmt.{digits}
 use Rattle.std.specs.Str.{is_utf8}
 use Rattle.pg_config.proofs.Computing.{config_words}
-use Rattle.pg_config.specs.CompactConfig.{default_compact}
 
 unfoldable pub script_words : Unit {0}
-unfolding config_words default_compact digits is_utf8
+unfolding config_words digits is_utf8
 script_words = tt

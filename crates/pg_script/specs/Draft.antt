@@ -1,7 +1,6 @@
 -- What was told so far.
 use Rattle.std.specs.Prelude.{List, map, Option, option_map, string_bytes}
 use Rattle.pg_layout.specs.Text.{Text}
-use Rattle.pg_config.specs.CompactConfig.{settings_of}
 use Rattle.pg_script.specs.Script.{Drafted}
 use Rattle.pg_script.specs.Told.{Told}
 use Rattle.pg_script.specs.declared.cell_texts.CellTexts.{CellTexts}
@@ -19,7 +18,6 @@ told_of_draft draft = record {
   texts = texts_of draft.texts;
   colors = draft.colors;
   config = draft.config;
-  compact = settings_of draft.compact;
 }
 
 -- the size of the table and what was told of it, once its size was

@@ -1,7 +1,6 @@
 -- Tables for worked examples.
 use Rattle.std.specs.Prelude.{ℕ}
 use Rattle.pg_layout.specs.declared.sides.Indent.{Indent}
-use Rattle.pg_config.specs.CompactConfig.{CompactSettings}
 use Rattle.pg_config.specs.Config.{Config}
 use Rattle.pg_script.specs.Told.{Told, told_nothing}
 
@@ -9,9 +8,9 @@ use Rattle.pg_script.specs.Told.{Told, told_nothing}
 abbrev pub two_by_three : Told
 two_by_three = told_nothing (record { rows = 2; columns = 3 })
 
--- the same with settings, and with those of a compact table
-abbrev pub with_settings : Config → CompactSettings → Told
-with_settings config compact = record two_by_three { config = config; compact = compact }
+-- the same with settings
+abbrev pub with_settings : Config → Told
+with_settings config = record two_by_three { config = config }
 
 -- so many of this character
 abbrev pub indent : ℕ → ℕ → Indent

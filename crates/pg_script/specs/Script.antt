@@ -3,7 +3,6 @@ use Rattle.std.specs.Prelude.{ℕ, ◌+◌, List, [], ◌∷◌, ◌++◌, map, 
 use Rattle.std.specs.Str.{bytes_eq, is_utf8}
 use Rattle.std.specs.Str.Lines.{lines}
 use Rattle.pg_layout.specs.Text.{Text}
-use Rattle.pg_config.specs.CompactConfig.{settings_of}
 use Rattle.pg_script.specs.Told.{Told, told_nothing}
 use Rattle.pg_script.specs.Statement.{size_said, line_said}
 use Rattle.pg_script.specs.Words.{Word, words_of, behind_word}
@@ -62,7 +61,6 @@ told_of_script script = record {
   texts = map (λ row. map string_bytes row) script.records;
   colors = script.colors;
   config = script.config;
-  compact = settings_of script.compact;
 }
 
 -- the words for why a script tells of no table

@@ -14,7 +14,7 @@ use Rattle.pg_layout.specs.declared.sides.Sides.{Sides}
 use Rattle.pg_layout.specs.declared.sides.Indent.{Indent}
 use Rattle.pg_config.specs.Settings.{with_setting}
 use Rattle.pg_config.specs.Spans.{with_column_span, with_row_span}
-use Rattle.pg_script.specs.Told.{Told, tell_text, tell_color, tell_setting, tell_compact, tell_compact_of, terminal_color, indents}
+use Rattle.pg_script.specs.Told.{Told, tell_text, tell_color, tell_setting, terminal_color, indents}
 use Rattle.pg_script.specs.Words.{Word, words_of, behind_word, read_on, end_of, first_as, first_number, first_numbers, first_sizes, first_place, first_entity, char_of, text_of}
 use Rattle.pg_script.specs.declared.statement.Size.{Size}
 use Rattle.pg_script.specs.declared.statement.Statement.{Statement}
@@ -35,7 +35,7 @@ FitsSize size (Margin margin) = ⊤
 FitsSize size (Color place color) = (place.row < size.rows) × (place.col < size.columns)
 FitsSize size (Span place rows columns) = ⊤
 
--- ---- what changes by a statement; borders, margins, and alignments and paddings of all cells count in compact tables too
+-- ---- what changes by a statement
 
 abbrev pub set_widths : List ℕ → Told → Told
 set_widths widths told = record told { widths = widths }
@@ -44,19 +44,16 @@ abbrev pub set_heights : List ℕ → Told → Told
 set_heights heights told = record told { heights = heights }
 
 abbrev pub set_borders : BorderGlyphs ℕ → Told → Told
-set_borders borders told =
-    tell_compact (λ compact. record compact { borders = borders }) (tell_setting (λ config. record config { borders = borders }) told)
+set_borders borders = tell_setting (λ config. record config { borders = borders })
 
 abbrev pub set_horizontal : Entity → AlignmentHorizontal → Told → Told
-set_horizontal entity alignment told =
-    tell_compact_of entity (λ compact. record compact { alignment = alignment }) (tell_setting (λ config. record config { alignment_horizontal = with_setting entity alignment config.alignment_horizontal }) told)
+set_horizontal entity alignment = tell_setting (λ config. record config { alignment_horizontal = with_setting entity alignment config.alignment_horizontal })
 
 abbrev pub set_vertical : Entity → AlignmentVertical → Told → Told
 set_vertical entity alignment = tell_setting (λ config. record config { alignment_vertical = with_setting entity alignment config.alignment_vertical })
 
 abbrev pub set_padding : Entity → Sides Indent → Told → Told
-set_padding entity padding told =
-    tell_compact_of entity (λ compact. record compact { padding = padding }) (tell_setting (λ config. record config { padding = with_setting entity padding config.padding }) told)
+set_padding entity padding = tell_setting (λ config. record config { padding = with_setting entity padding config.padding })
 
 abbrev pub set_trims : Entity → Bool → Bool → Told → Told
 set_trims entity horizontal vertical = tell_setting (λ config. record config { trim_horizontal = with_setting entity horizontal config.trim_horizontal; trim_vertical = with_setting entity vertical config.trim_vertical })
@@ -65,8 +62,7 @@ abbrev pub set_line_alignment : Entity → Bool → Told → Told
 set_line_alignment entity aligns = tell_setting (λ config. record config { line_alignment = with_setting entity aligns config.line_alignment })
 
 abbrev pub set_margin : Sides Indent → Told → Told
-set_margin margin told =
-    tell_compact (λ compact. record compact { margin = margin }) (tell_setting (λ config. record config { margin = margin }) told)
+set_margin margin = tell_setting (λ config. record config { margin = margin })
 
 abbrev pub set_span : Position → ℕ → ℕ → Told → Told
 set_span place rows columns = tell_setting (λ config. record config { spans = with_column_span place columns (with_row_span place rows config.spans) })

@@ -5,24 +5,19 @@ use Rattle.pg_layout.specs.Text.{Text}
 use Rattle.pg_layout.specs.Colors.{Color}
 use Rattle.pg_layout.specs.Keys.{by_place}
 use Rattle.pg_layout.specs.Places.{with_place}
-use Rattle.pg_layout.specs.declared.position.Entity.{Entity}
-use Rattle.pg_layout.specs.declared.position.Entity.TheVariants.{Global, Row, Column, Cell}
 use Rattle.pg_layout.specs.declared.position.Position.{Position}
 use Rattle.pg_layout.specs.declared.sides.Indent.{Indent}
 use Rattle.pg_layout.specs.declared.sides.Sides.{Sides}
 use Rattle.pg_config.specs.Config.{Config, default_config}
-use Rattle.pg_config.specs.CompactConfig.{CompactSettings, default_compact}
 use Rattle.pg_script.specs.declared.statement.Size.{Size}
 
--- the widths of all columns, the heights of all rows, the texts of all cells, row by row, the colours, the settings, and
--- the settings of a compact table
+-- the widths of all columns, the heights of all rows, the texts of all cells, row by row, the colours and the settings
 pub record Told : Type 0 where
   pub widths : List ℕ
   pub heights : List ℕ
   pub texts : List (List Text)
   pub colors : List (Position × Color)
   pub config : Config
-  pub compact : CompactSettings
 
 -- a table of which the size alone is told: empty cells, of width 0 and height 1 each
 abbrev pub told_nothing : Size → Told
@@ -32,7 +27,6 @@ told_nothing size = record {
   texts = replicate size.rows (replicate size.columns []);
   colors = [];
   config = default_config;
-  compact = default_compact;
 }
 
 -- the rows of texts with this text at a place
@@ -49,17 +43,6 @@ tell_color place color told = record told { colors = with_place by_place place c
 -- a setting is changed
 abbrev pub tell_setting : (Config → Config) → Told → Told
 tell_setting change told = record told { config = change told.config }
-
--- a setting of a compact table is changed
-abbrev pub tell_compact : (CompactSettings → CompactSettings) → Told → Told
-tell_compact change told = record told { compact = change told.compact }
-
--- what is told of an entity is told of a compact table only if the entity is all cells
-abbrev pub tell_compact_of : Entity → (CompactSettings → CompactSettings) → Told → Told
-tell_compact_of Global change told = tell_compact change told
-tell_compact_of (Row row) change told = told
-tell_compact_of (Column col) change told = told
-tell_compact_of (Cell row col) change told = told
 
 -- the colour that a terminal knows by this number: the escape byte, `[`, the number and `m`
 abbrev pub terminal_color : ℕ → Color

@@ -5,10 +5,8 @@ ghost use Rattle.std.specs.Prelude.{◌≡◌};
 use crate::cell_texts::CellTexts;
 use crate::script::Script;
 use crate::statement::{Size, Statement};
-use pg_config::{CompactConfig, SpannedConfig};
-use pg_layout::{
-    AlignmentHorizontal, Borders, ColorsMap, ConstantDimension, Entity, Indent, Sides,
-};
+use pg_config::SpannedConfig;
+use pg_layout::{ColorsMap, ConstantDimension};
 use std::alloc::{AllocError, Allocator};
 
 /// A table as far as a script has told of it.
@@ -19,7 +17,6 @@ pub(crate) struct Draft<A: Allocator> {
     dimension: ConstantDimension<A>,
     colors: ColorsMap<A>,
     config: SpannedConfig<A>,
-    compact: CompactConfig,
     ghost sized: { texts.size ≡ size },
 }
 
@@ -27,11 +24,11 @@ impl<A: Allocator + Copy> Draft<A> {
     ghost use Rattle.std.specs.Prelude.{◌≡◌, IfOk, OnOk};
     ghost use Rattle.pg_script.specs.Draft.{told_of_draft};
     ghost use Rattle.pg_script.specs.Script.{told_of_script};
-    ghost use Rattle.pg_script.specs.Statement.{FitsSize, change_of, set_borders, set_horizontal, set_margin, set_padding};
+    ghost use Rattle.pg_script.specs.Statement.{FitsSize, change_of};
     ghost use Rattle.pg_script.specs.Told.{told_nothing};
 
     /// A table of empty cells, of width 0 and height 1 each.
-    #[tactic(auto, unfolding(pg_config::specs::Config::default_config, pg_config::specs::CompactConfig::default_compact))]
+    #[tactic(auto, unfolding(pg_config::specs::Config::default_config))]
     pub(crate) fn new(alloc: A, size: Size) -> Result<Draft<A>, AllocError>
         ensures size { IfOk result (λ draft. draft.size ≡ size) }
         ensures told { IfOk result (λ draft. told_of_draft draft ≡ told_nothing size) }
@@ -45,7 +42,6 @@ impl<A: Allocator + Copy> Draft<A> {
             ),
             colors: ColorsMap::new(alloc),
             config: SpannedConfig::new(alloc),
-            compact: CompactConfig::new(),
         })
     }
 
@@ -59,69 +55,25 @@ impl<A: Allocator + Copy> Draft<A> {
             Statement::Widths(widths) => self.dimension.0 = widths,
             Statement::Heights(heights) => self.dimension.1 = heights,
             Statement::Cell(place, text) => self.texts.set(place, text),
-            Statement::Borders(borders) => self.set_borders(borders),
+            Statement::Borders(borders) => self.config.set_borders(borders),
             Statement::HorizontalAlignment(entity, alignment) => {
-                self.set_horizontal(entity, alignment)?;
+                self.config.set_alignment_horizontal(entity, alignment)?;
             }
             Statement::VerticalAlignment(entity, alignment) => {
                 self.config.set_alignment_vertical(entity, alignment)?;
             }
-            Statement::Padding(entity, padding) => self.set_padding(entity, padding)?,
+            Statement::Padding(entity, padding) => self.config.set_padding(entity, padding)?,
             Statement::Trim(entity, horizontal, vertical) => {
                 self.config.set_trim_horizontal(entity, horizontal)?;
                 self.config.set_trim_vertical(entity, vertical)?;
             }
             Statement::Lines(entity, aligns) => self.config.set_line_alignment(entity, aligns)?,
-            Statement::Margin(margin) => self.set_margin(margin),
+            Statement::Margin(margin) => self.config.set_margin(margin),
             Statement::Color(place, color) => self.colors.set(place, color)?,
             Statement::Span(place, rows, columns) => {
                 self.config.set_row_span(place, rows)?;
                 self.config.set_column_span(place, columns)?;
             }
-        }
-        Ok(())
-    }
-
-    fn set_borders(&mut self, borders: Borders<char>)
-        ensures size { self.new.size ≡ self.old.size }
-        ensures told { told_of_draft self.new ≡ set_borders borders (told_of_draft self.old) }
-    {
-        self.config.set_borders(borders);
-        self.compact = self.compact.set_borders(borders);
-    }
-
-    fn set_margin(&mut self, margin: Sides<Indent>)
-        ensures size { self.new.size ≡ self.old.size }
-        ensures told { told_of_draft self.new ≡ set_margin margin (told_of_draft self.old) }
-    {
-        self.config.set_margin(margin);
-        self.compact = self.compact.set_margin(margin);
-    }
-
-    // A compact table has one alignment, that of all cells.
-    fn set_horizontal(
-        &mut self,
-        entity: Entity,
-        alignment: AlignmentHorizontal,
-    ) -> Result<(), AllocError>
-        ensures size { self.new.size ≡ self.old.size }
-        ensures told { OnOk result (told_of_draft self.new ≡ set_horizontal entity alignment (told_of_draft self.old)) }
-    {
-        self.config.set_alignment_horizontal(entity, alignment)?;
-        if let Entity::Global = entity {
-            self.compact = self.compact.set_alignment_horizontal(alignment);
-        }
-        Ok(())
-    }
-
-    // A compact table has one padding, that of all cells.
-    fn set_padding(&mut self, entity: Entity, padding: Sides<Indent>) -> Result<(), AllocError>
-        ensures size { self.new.size ≡ self.old.size }
-        ensures told { OnOk result (told_of_draft self.new ≡ set_padding entity padding (told_of_draft self.old)) }
-    {
-        self.config.set_padding(entity, padding)?;
-        if let Entity::Global = entity {
-            self.compact = self.compact.set_padding(padding);
         }
         Ok(())
     }
@@ -135,7 +87,6 @@ impl<A: Allocator + Copy> Draft<A> {
             dimension: self.dimension,
             colors: self.colors,
             config: self.config,
-            compact: self.compact,
         }
     }
 }

@@ -10,7 +10,6 @@ ghost use Rattle.pg_layout.specs.declared.alignment.AlignmentVertical.TheVariant
 ghost use Rattle.pg_layout.specs.declared.position.Entity.TheVariants.{Cell, Column, Global, Row};
 ghost use Rattle.pg_layout.specs.declared.sides.Indent.{Indent};
 ghost use Rattle.pg_layout.specs.declared.sides.Sides.{Sides};
-ghost use Rattle.pg_config.specs.CompactConfig.{default_compact};
 ghost use Rattle.pg_config.specs.Config.{default_config};
 ghost use Rattle.pg_config.specs.Settings.{no_settings, with_setting};
 ghost use Rattle.pg_config.specs.Spans.{with_column_span, with_row_span};
@@ -21,7 +20,7 @@ ghost use Rattle.pg_script.specs.Told.{told_nothing};
 /// The size is first the rows, then the columns. Cells are empty, of width 0 and height 1 each, and nothing
 /// else is told. There are at most 1000 rows, and at most 1000 columns.
 pub fn a_size_is_rows_and_columns()
-    ensures small { told_by (codes "size 2 3") ≡ Ok (record { widths = 0 ∷ 0 ∷ 0 ∷ []; heights = 1 ∷ 1 ∷ []; texts = ([] ∷ [] ∷ [] ∷ []) ∷ ([] ∷ [] ∷ [] ∷ []) ∷ []; colors = []; config = default_config; compact = default_compact }) }
+    ensures small { told_by (codes "size 2 3") ≡ Ok (record { widths = 0 ∷ 0 ∷ 0 ∷ []; heights = 1 ∷ 1 ∷ []; texts = ([] ∷ [] ∷ [] ∷ []) ∷ ([] ∷ [] ∷ [] ∷ []) ∷ []; colors = []; config = default_config }) }
     ensures most_rows { told_by (codes "size 1000 0") ≡ Ok (told_nothing (record { rows = 1000; columns = 0 })) }
     ensures most_columns { told_by (codes "size 0 1000") ≡ Ok (told_nothing (record { rows = 0; columns = 1000 })) }
     ensures more_rows { told_by (codes "size 1001 0") ≡ Err 1 }
@@ -55,9 +54,9 @@ pub fn spaces_belong_to_a_text()
     ensures nothing { told_by (codes "size 2 3\ncell 0 1 a\ncell 0 1") ≡ Ok two_by_three }
 {}
 
-/// ASCII borders at all places, or none. They are those of the compact table, too.
+/// ASCII borders at all places, or none.
 pub fn borders_are_told_by_name()
-    ensures all { told_by (codes "size 2 3\nborders ascii") ≡ Ok (with_settings (record default_config { borders = ascii }) (record default_compact { borders = ascii })) }
+    ensures all { told_by (codes "size 2 3\nborders ascii") ≡ Ok (with_settings (record default_config { borders = ascii })) }
     ensures none { told_by (codes "size 2 3\nborders ascii\nborders none") ≡ Ok two_by_three }
     ensures others { told_by (codes "size 2 3\nborders modern") ≡ Err 2 }
     ensures two_names { told_by (codes "size 2 3\nborders ascii none") ≡ Err 2 }
@@ -65,70 +64,70 @@ pub fn borders_are_told_by_name()
 
 /// Behind the place of a span stand its rows, then its columns. The place may lie anywhere.
 pub fn a_span_is_rows_and_columns()
-    ensures inside { told_by (codes "size 2 3\nspan 0 1 2 3") ≡ Ok (with_settings (record default_config { spans = with_column_span (at 0 1) 3 (with_row_span (at 0 1) 2 []) }) default_compact) }
-    ensures outside { told_by (codes "size 2 3\nspan 7 8 0 9") ≡ Ok (with_settings (record default_config { spans = with_column_span (at 7 8) 9 (with_row_span (at 7 8) 0 []) }) default_compact) }
+    ensures inside { told_by (codes "size 2 3\nspan 0 1 2 3") ≡ Ok (with_settings (record default_config { spans = with_column_span (at 0 1) 3 (with_row_span (at 0 1) 2 []) })) }
+    ensures outside { told_by (codes "size 2 3\nspan 7 8 0 9") ≡ Ok (with_settings (record default_config { spans = with_column_span (at 7 8) 9 (with_row_span (at 7 8) 0 []) })) }
     ensures three_sizes { told_by (codes "size 2 3\nspan 0 1 2 3 1") ≡ Err 2 }
 {}
 
 /// A setting is told of all cells, of a row, of a column, or of the cell of a row and a column.
 pub fn a_setting_is_told_of_an_entity()
-    ensures all { told_by (codes "size 2 3\nlines all on") ≡ Ok (with_settings (record default_config { line_alignment = with_setting Global true no_settings }) default_compact) }
-    ensures row { told_by (codes "size 2 3\nlines row 1 on") ≡ Ok (with_settings (record default_config { line_alignment = with_setting (Row 1) true no_settings }) default_compact) }
-    ensures column { told_by (codes "size 2 3\nlines col 2 off") ≡ Ok (with_settings (record default_config { line_alignment = with_setting (Column 2) false no_settings }) default_compact) }
-    ensures cell { told_by (codes "size 2 3\nlines cell 1 2 off") ≡ Ok (with_settings (record default_config { line_alignment = with_setting (Cell 1 2) false no_settings }) default_compact) }
-    ensures outside { told_by (codes "size 2 3\nlines cell 7 8 on") ≡ Ok (with_settings (record default_config { line_alignment = with_setting (Cell 7 8) true no_settings }) default_compact) }
+    ensures all { told_by (codes "size 2 3\nlines all on") ≡ Ok (with_settings (record default_config { line_alignment = with_setting Global true no_settings })) }
+    ensures row { told_by (codes "size 2 3\nlines row 1 on") ≡ Ok (with_settings (record default_config { line_alignment = with_setting (Row 1) true no_settings })) }
+    ensures column { told_by (codes "size 2 3\nlines col 2 off") ≡ Ok (with_settings (record default_config { line_alignment = with_setting (Column 2) false no_settings })) }
+    ensures cell { told_by (codes "size 2 3\nlines cell 1 2 off") ≡ Ok (with_settings (record default_config { line_alignment = with_setting (Cell 1 2) false no_settings })) }
+    ensures outside { told_by (codes "size 2 3\nlines cell 7 8 on") ≡ Ok (with_settings (record default_config { line_alignment = with_setting (Cell 7 8) true no_settings })) }
     ensures none { told_by (codes "size 2 3\nlines 1 on") ≡ Err 2 }
     ensures two_names { told_by (codes "size 2 3\nlines all on off") ≡ Err 2 }
 {}
 
-/// Where texts stand between left and right. A compact table has only what is told of all cells.
+/// Where texts stand between left and right.
 pub fn texts_stand_left_or_right()
-    ensures all { told_by (codes "size 2 3\nhalign all center") ≡ Ok (with_settings (record default_config { alignment_horizontal = with_setting Global across.Center no_settings }) (record default_compact { alignment = across.Center })) }
-    ensures row { told_by (codes "size 2 3\nhalign row 1 right") ≡ Ok (with_settings (record default_config { alignment_horizontal = with_setting (Row 1) across.Right no_settings }) default_compact) }
-    ensures cell { told_by (codes "size 2 3\nhalign cell 1 2 left") ≡ Ok (with_settings (record default_config { alignment_horizontal = with_setting (Cell 1 2) across.Left no_settings }) default_compact) }
+    ensures all { told_by (codes "size 2 3\nhalign all center") ≡ Ok (with_settings (record default_config { alignment_horizontal = with_setting Global across.Center no_settings })) }
+    ensures row { told_by (codes "size 2 3\nhalign row 1 right") ≡ Ok (with_settings (record default_config { alignment_horizontal = with_setting (Row 1) across.Right no_settings })) }
+    ensures cell { told_by (codes "size 2 3\nhalign cell 1 2 left") ≡ Ok (with_settings (record default_config { alignment_horizontal = with_setting (Cell 1 2) across.Left no_settings })) }
     ensures top { told_by (codes "size 2 3\nhalign all top") ≡ Err 2 }
     ensures two_names { told_by (codes "size 2 3\nhalign all left right") ≡ Err 2 }
 {}
 
-/// Where texts stand between top and bottom. A compact table has none of it.
+/// Where texts stand between top and bottom.
 pub fn texts_stand_above_or_below()
-    ensures all { told_by (codes "size 2 3\nvalign all center") ≡ Ok (with_settings (record default_config { alignment_vertical = with_setting Global down.Center no_settings }) default_compact) }
-    ensures row { told_by (codes "size 2 3\nvalign row 1 bottom") ≡ Ok (with_settings (record default_config { alignment_vertical = with_setting (Row 1) down.Bottom no_settings }) default_compact) }
-    ensures cell { told_by (codes "size 2 3\nvalign cell 1 2 top") ≡ Ok (with_settings (record default_config { alignment_vertical = with_setting (Cell 1 2) down.Top no_settings }) default_compact) }
+    ensures all { told_by (codes "size 2 3\nvalign all center") ≡ Ok (with_settings (record default_config { alignment_vertical = with_setting Global down.Center no_settings })) }
+    ensures row { told_by (codes "size 2 3\nvalign row 1 bottom") ≡ Ok (with_settings (record default_config { alignment_vertical = with_setting (Row 1) down.Bottom no_settings })) }
+    ensures cell { told_by (codes "size 2 3\nvalign cell 1 2 top") ≡ Ok (with_settings (record default_config { alignment_vertical = with_setting (Cell 1 2) down.Top no_settings })) }
     ensures left { told_by (codes "size 2 3\nvalign all left") ≡ Err 2 }
     ensures two_names { told_by (codes "size 2 3\nvalign all top bottom") ≡ Err 2 }
 {}
 
-/// Spaces at the left, at the right, above and below. A compact table has only what is told of all cells.
+/// Spaces at the left, at the right, above and below.
 pub fn a_row_is_padded()
     ensures row { let padding : Sides Indent = record { left = indent 1 32; right = indent 2 32; top = indent 3 32; bottom = indent 4 32 } in
-        told_by (codes "size 2 3\npad row 1 1 2 3 4") ≡ Ok (with_settings (record default_config { padding = with_setting (Row 1) padding no_settings }) default_compact) }
+        told_by (codes "size 2 3\npad row 1 1 2 3 4") ≡ Ok (with_settings (record default_config { padding = with_setting (Row 1) padding no_settings })) }
     ensures all { let padding : Sides Indent = record { left = indent 1 32; right = indent 2 32; top = indent 3 32; bottom = indent 4 32 } in
-        told_by (codes "size 2 3\npad all 1 2 3 4") ≡ Ok (with_settings (record default_config { padding = with_setting Global padding no_settings }) (record default_compact { padding = padding })) }
+        told_by (codes "size 2 3\npad all 1 2 3 4") ≡ Ok (with_settings (record default_config { padding = with_setting Global padding no_settings })) }
     ensures three_sizes { told_by (codes "size 2 3\npad all 1 2 3") ≡ Err 2 }
     ensures five_sizes { told_by (codes "size 2 3\npad all 1 2 3 4 5") ≡ Err 2 }
 {}
 
 /// Each name switches both trims, that of the sides of lines and that of blank lines.
 pub fn trims_are_told_by_name()
-    ensures both { told_by (codes "size 2 3\ntrim all hv") ≡ Ok (with_settings (record default_config { trim_horizontal = with_setting Global true no_settings; trim_vertical = with_setting Global true no_settings }) default_compact) }
-    ensures sides { told_by (codes "size 2 3\ntrim row 1 h") ≡ Ok (with_settings (record default_config { trim_horizontal = with_setting (Row 1) true no_settings; trim_vertical = with_setting (Row 1) false no_settings }) default_compact) }
-    ensures blank_lines { told_by (codes "size 2 3\ntrim col 2 v") ≡ Ok (with_settings (record default_config { trim_horizontal = with_setting (Column 2) false no_settings; trim_vertical = with_setting (Column 2) true no_settings }) default_compact) }
-    ensures none { told_by (codes "size 2 3\ntrim cell 1 2 none") ≡ Ok (with_settings (record default_config { trim_horizontal = with_setting (Cell 1 2) false no_settings; trim_vertical = with_setting (Cell 1 2) false no_settings }) default_compact) }
+    ensures both { told_by (codes "size 2 3\ntrim all hv") ≡ Ok (with_settings (record default_config { trim_horizontal = with_setting Global true no_settings; trim_vertical = with_setting Global true no_settings })) }
+    ensures sides { told_by (codes "size 2 3\ntrim row 1 h") ≡ Ok (with_settings (record default_config { trim_horizontal = with_setting (Row 1) true no_settings; trim_vertical = with_setting (Row 1) false no_settings })) }
+    ensures blank_lines { told_by (codes "size 2 3\ntrim col 2 v") ≡ Ok (with_settings (record default_config { trim_horizontal = with_setting (Column 2) false no_settings; trim_vertical = with_setting (Column 2) true no_settings })) }
+    ensures none { told_by (codes "size 2 3\ntrim cell 1 2 none") ≡ Ok (with_settings (record default_config { trim_horizontal = with_setting (Cell 1 2) false no_settings; trim_vertical = with_setting (Cell 1 2) false no_settings })) }
     ensures two_names { told_by (codes "size 2 3\ntrim all h v") ≡ Err 2 }
 {}
 
 /// Margins at the left, at the right, above and below, with one fill: a character, or the names of a space and a
-/// backslash. They are those of the compact table, too.
+/// backslash.
 pub fn a_margin_has_one_fill()
     ensures sign { let margin : Sides Indent = record { left = indent 1 35; right = indent 2 35; top = indent 3 35; bottom = indent 4 35 } in
-        told_by (codes "size 2 3\nmargin 1 2 3 4 #") ≡ Ok (with_settings (record default_config { margin = margin }) (record default_compact { margin = margin })) }
+        told_by (codes "size 2 3\nmargin 1 2 3 4 #") ≡ Ok (with_settings (record default_config { margin = margin })) }
     ensures space { let margin : Sides Indent = record { left = indent 1 32; right = indent 2 32; top = indent 3 32; bottom = indent 4 32 } in
-        told_by (codes "size 2 3\nmargin 1 2 3 4 \\s") ≡ Ok (with_settings (record default_config { margin = margin }) (record default_compact { margin = margin })) }
+        told_by (codes "size 2 3\nmargin 1 2 3 4 \\s") ≡ Ok (with_settings (record default_config { margin = margin })) }
     ensures backslash { let margin : Sides Indent = record { left = indent 1 92; right = indent 2 92; top = indent 3 92; bottom = indent 4 92 } in
-        told_by (codes "size 2 3\nmargin 1 2 3 4 \\\\") ≡ Ok (with_settings (record default_config { margin = margin }) (record default_compact { margin = margin })) }
+        told_by (codes "size 2 3\nmargin 1 2 3 4 \\\\") ≡ Ok (with_settings (record default_config { margin = margin })) }
     ensures two_bytes { let margin : Sides Indent = record { left = indent 1 233; right = indent 2 233; top = indent 3 233; bottom = indent 4 233 } in
-        told_by (codes "size 2 3\nmargin 1 2 3 4 " ++ 195 ∷ 169 ∷ []) ≡ Ok (with_settings (record default_config { margin = margin }) (record default_compact { margin = margin })) }
+        told_by (codes "size 2 3\nmargin 1 2 3 4 " ++ 195 ∷ 169 ∷ []) ≡ Ok (with_settings (record default_config { margin = margin })) }
     ensures two_characters { told_by (codes "size 2 3\nmargin 1 2 3 4 ##") ≡ Err 2 }
     ensures two_fills { told_by (codes "size 2 3\nmargin 1 2 3 4 # #") ≡ Err 2 }
     ensures one_backslash { told_by (codes "size 2 3\nmargin 1 2 3 4 \\") ≡ Err 2 }
@@ -151,8 +150,8 @@ pub fn the_latest_line_counts()
     ensures widths { told_by (codes "size 2 3\nwidths 1 2 3\nwidths 4 5 6") ≡ Ok (record two_by_three { widths = 4 ∷ 5 ∷ 6 ∷ [] }) }
     ensures texts { told_by (codes "size 2 3\ncell 0 1 a\ncell 0 1 b") ≡ Ok (record two_by_three { texts = ([] ∷ codes "b" ∷ [] ∷ []) ∷ ([] ∷ [] ∷ [] ∷ []) ∷ [] }) }
     ensures colors { told_by (codes "size 2 3\ncolor 1 2 30\ncolor 1 2 31") ≡ Ok (record two_by_three { colors = (at 1 2, record { prefix = 27 ∷ codes "[31m"; suffix = 27 ∷ codes "[0m" }) ∷ [] }) }
-    ensures settings { told_by (codes "size 2 3\nhalign row 1 right\nhalign all center") ≡ Ok (with_settings (record default_config { alignment_horizontal = with_setting Global across.Center (with_setting (Row 1) across.Right no_settings) }) (record default_compact { alignment = across.Center })) }
-    ensures compact_settings { told_by (codes "size 2 3\nhalign all right\nhalign all center") ≡ Ok (with_settings (record default_config { alignment_horizontal = with_setting Global across.Center no_settings }) (record default_compact { alignment = across.Center })) }
+    ensures settings { told_by (codes "size 2 3\nhalign row 1 right\nhalign all center") ≡ Ok (with_settings (record default_config { alignment_horizontal = with_setting Global across.Center (with_setting (Row 1) across.Right no_settings) })) }
+    ensures of_all { told_by (codes "size 2 3\nhalign all right\nhalign all center") ≡ Ok (with_settings (record default_config { alignment_horizontal = with_setting Global across.Center no_settings })) }
 {}
 
 /// A number has 1 to 20 decimal digits, and is one of 64 bits.

@@ -4,7 +4,7 @@ ghost use Rattle.std.specs.Prelude.{◌≡◌, Some};
 ghost use Rattle.pg_script.specs.Script.{script_fault_text};
 ghost use Rattle.pg_script.specs.declared.script.ScriptFault.TheVariants.{Memory};
 
-use pg_config::{CompactConfig, SpannedConfig};
+use pg_config::SpannedConfig;
 use pg_layout::{ColorsMap, ConstantDimension, VecRecords};
 use std::alloc::{AllocError, Allocator, Global};
 use std::error::Error;
@@ -50,8 +50,8 @@ pub struct Script<A: Allocator = Global> {
     pub dimension: ConstantDimension<A>,
     /// The colours of the cells.
     pub colors: ColorsMap<A>,
-    /// The settings of the table.
+    /// The settings of the table; a compact one has those of [`CompactConfig::of`].
+    ///
+    /// [`CompactConfig::of`]: pg_config::CompactConfig::of
     pub config: SpannedConfig<A>,
-    /// The settings of the table as a compact one.
-    pub compact: CompactConfig,
 }

@@ -32,7 +32,7 @@ module _ (told : Told) where
   one_fault : ((fault_of t ≡ None) × (misfit_of t ≡ None)) ⊎ ((fault_of t ≡ Some Totals) × (misfit_of t ≡ Some misfits.Totals))
   unfolding fault_of default_config spans_fit
   one_fault =
-      let room = natural_tables_have_room (natural_config told.compact) told.texts (columns_of told.texts) (λ place. None) in
+      let room = natural_tables_have_room (natural_config told.config) told.texts (columns_of told.texts) (λ place. None) in
       elim (cases_Bool (is_empty t)) [
         | inl y ↦ inl (rw y refl, room ∙ rw y refl)
         | inr n ↦ elim (cases_Bool (totals_fit t)) [

@@ -5,7 +5,7 @@ use Rattle.pg_layout.specs.Colors.{Color}
 use Rattle.pg_layout.specs.declared.position.Position.{Position}
 use Rattle.pg_layout.specs.Records.{columns_of}
 use Rattle.pg_layout.specs.Text.{Text}
-use Rattle.pg_config.specs.CompactConfig.{CompactSettings, settings_of}
+use Rattle.pg_config.specs.CompactConfig.{CompactSettings, compact_of}
 use Rattle.pg_picture.specs.CompactLines.{compact_full_width, compact_width}
 use Rattle.pg_picture.specs.CompactSizes.{compact_sized}
 use Rattle.pg_picture.specs.Fits.{compact_misfit_of}
@@ -32,15 +32,15 @@ pub table-script : {A : Type 0} (script : Script A) → table_with script.config
 table-script script =
     ap (λ columns. table_with script.config script.dimension.0.items script.dimension.1.items (map (λ row. map string_bytes row) script.records) columns script.colors) (columns_of-map string_bytes script.records)
 
-pub compact_table-script : {A : Type 0} (script : Script A) → compact_table_with (settings_of script.compact) script.dimension.0.items (map (λ row. map string_bytes row) script.records) (columns_of script.records) script.colors ≡ compact_table_of_told (told_of_script script)
-compact_table-script script =
-    ap (λ columns. compact_table_with (settings_of script.compact) script.dimension.0.items (map (λ row. map string_bytes row) script.records) columns script.colors) (columns_of-map string_bytes script.records)
+pub compact_table-script : {A : Type 0} (script : Script A) (config : CompactSettings) → config ≡ compact_of script.config → compact_table_with config script.dimension.0.items (map (λ row. map string_bytes row) script.records) (columns_of script.records) script.colors ≡ compact_table_of_told (told_of_script script)
+compact_table-script script config told =
+    rw told (ap (λ columns. compact_table_with (compact_of script.config) script.dimension.0.items (map (λ row. map string_bytes row) script.records) columns script.colors) (columns_of-map string_bytes script.records))
 
-pub natural_table-script : {A : Type 0} (script : Script A) → natural_table (natural_config (settings_of script.compact)) (map (λ row. map string_bytes row) script.records) (columns_of script.records) (λ place. None) ≡ natural_table_of_told (told_of_script script)
+pub natural_table-script : {A : Type 0} (script : Script A) → natural_table (natural_config script.config) (map (λ row. map string_bytes row) script.records) (columns_of script.records) (λ place. None) ≡ natural_table_of_told (told_of_script script)
 natural_table-script script =
-    ap (λ columns. natural_table (natural_config (settings_of script.compact)) (map (λ row. map string_bytes row) script.records) columns (λ place. None)) (columns_of-map string_bytes script.records)
+    ap (λ columns. natural_table (natural_config script.config) (map (λ row. map string_bytes row) script.records) columns (λ place. None)) (columns_of-map string_bytes script.records)
 
 -- what doesn't fit in a compact table with rows: its texts and colours don't matter
 pub compact_misfit-told : (told : Told) → compact_misfit (compact_table_of_told told) ≡ misfit_in Compact told
 compact_misfit-told told =
-    ap (λ found. if length told.texts == 0 then None else found) (misfit_of-compact_table_with told.compact told.widths told.texts (columns_of told.texts) told.colors)
+    ap (λ found. if length told.texts == 0 then None else found) (misfit_of-compact_table_with (compact_of told.config) told.widths told.texts (columns_of told.texts) told.colors)

@@ -8,7 +8,7 @@ use Rattle.pg_layout.specs.declared.position.Position.{Position}
 use Rattle.pg_layout.specs.Records.{columns_of, text_at}
 use Rattle.pg_layout.specs.declared.position.Entity.TheVariants.{Global}
 use Rattle.pg_config.specs.Config.{Config, default_config}
-use Rattle.pg_config.specs.CompactConfig.{CompactSettings}
+use Rattle.pg_config.specs.CompactConfig.{CompactSettings, compact_of}
 use Rattle.pg_config.specs.Settings.{with_setting}
 use Rattle.pg_picture.specs.Appending.{Appends, AppendsOrNothing}
 use Rattle.pg_picture.specs.CompactLines.{CompactTable}
@@ -55,21 +55,21 @@ compact_table_with config widths texts columns colors = record {
 abbrev pub table_of_told : Told → Table
 table_of_told told = table_with told.config told.widths told.heights told.texts (columns_of told.texts) told.colors
 
--- the compact table of it: no heights are used, and no settings but its own
+-- the compact table of it: no heights are used, and of the settings those that a compact table has
 abbrev pub compact_table_of_told : Told → CompactTable
-compact_table_of_told told = compact_table_with told.compact told.widths told.texts (columns_of told.texts) told.colors
+compact_table_of_told told = compact_table_with (compact_of told.config) told.widths told.texts (columns_of told.texts) told.colors
 
 -- what a table at its natural sizes is told: ASCII borders, and the padding and the alignment that were told of all cells
-abbrev pub natural_config : CompactSettings → Config
+abbrev pub natural_config : Config → Config
 natural_config told = record default_config {
   borders = ascii;
-  padding = with_setting Global told.padding default_config.padding;
-  alignment_horizontal = with_setting Global told.alignment default_config.alignment_horizontal;
+  padding = with_setting Global (compact_of told).padding default_config.padding;
+  alignment_horizontal = with_setting Global (compact_of told).alignment default_config.alignment_horizontal;
 }
 
 -- the texts at their natural sizes, without colours
 abbrev pub natural_table_of_told : Told → Table
-natural_table_of_told told = natural_table (natural_config told.compact) told.texts (columns_of told.texts) (λ place. None)
+natural_table_of_told told = natural_table (natural_config told.config) told.texts (columns_of told.texts) (λ place. None)
 
 -- what doesn't fit in the table, as a mode prints it; a compact table with no rows fits
 abbrev pub misfit_in : Mode → Told → Option Misfit

@@ -1,7 +1,6 @@
 //! The table of a script, printed.
 
 ghost use Rattle.std.specs.Prelude.{◌≡◌, ◌↔◌, true, Some, None, Err, IsOk};
-ghost use Rattle.pg_config.specs.CompactConfig.{settings_of};
 ghost use Rattle.pg_picture.specs.Table.{is_empty};
 ghost use Rattle.pg_script.specs.Script.{told_of_script};
 ghost use Rattle.pg_show.specs.Show.{fault_of_print, fault_of_table, misfit_in, natural_config, table_of_told, text_in, Prints, Shows};
@@ -87,7 +86,8 @@ fn print_compact<A: Allocator, B: Allocator>(
     ensures empty { is_empty (table_of_told (told_of_script script.now)) ≡ true → IsOk result × (buf.new ≡ buf.old) }
 {
     let (dimension, colors) = (&script.dimension, &script.colors);
-    CompactGrid::new(&script.records, &script.compact, dimension, colors).print(buf)?;
+    let config = CompactConfig::of(&script.config);
+    CompactGrid::new(&script.records, &config, dimension, colors).print(buf)?;
     Ok(())
 }
 
@@ -127,16 +127,20 @@ fn print_natural<C: Allocator + Copy, A: Allocator, B: Allocator>(
     ensures shows { Shows mode.Table (told_of_script script.now) buf.old buf.new result }
     ensures empty { is_empty (table_of_told (told_of_script script.now)) ≡ true → IsOk result × (buf.new ≡ buf.old) }
 {
-    let config = natural_config(alloc, &script.compact);
+    let config = natural_config(alloc, &script.config);
     NaturalTable::new(&script.records, &config, &NoColors).print(alloc, buf)?;
     Ok(())
 }
 
 // What a table at its natural sizes is told. Takes no memory.
-fn natural_config<C: Allocator + Copy>(alloc: C, told: &CompactConfig) -> SpannedConfig<C>
-    ensures { result ≡ natural_config (settings_of told.now) }
+fn natural_config<C: Allocator + Copy, A: Allocator>(
+    alloc: C,
+    told: &SpannedConfig<A>,
+) -> SpannedConfig<C>
+    ensures { result ≡ natural_config told.now }
 {
-    let (padding, alignment) = (told.get_padding(), told.get_alignment_horizontal());
+    let of_all = CompactConfig::of(told);
+    let (padding, alignment) = (of_all.get_padding(), of_all.get_alignment_horizontal());
     let mut config = SpannedConfig::new(alloc);
     config.set_borders(Borders::ascii());
     config.set_padding(Entity::Global, padding).unwrap();

@@ -2,18 +2,18 @@
 
 ghost use Rattle.std.specs.Prelude.{◌≡◌, ◌+◌, ◌≤◌, true, length};
 ghost use Rattle.std.specs.Option.{ForSome};
+ghost use Rattle.pg_config.specs.Cells.{IsStyleOfAll};
 ghost use Rattle.pg_config.specs.Config.{has_column_lines};
 ghost use Rattle.pg_layout.specs.Text.{lines_of};
 ghost use Rattle.pg_picture.specs.Inside.Cells.{style_of};
 ghost use Rattle.pg_picture.specs.Fits.{cell_fits};
 ghost use Rattle.pg_picture.specs.Pieces.{style_at};
-ghost use Rattle.pg_picture.specs.Styles.{IsStyleOfAll};
 ghost use Rattle.pg_stream.specs.Inside.RowLines.{may_have_row_lines};
 ghost use Rattle.pg_stream.specs.Inside.Styles.{DrawsAs};
 ghost use Rattle.pg_stream.specs.Inside.Turns.{place_in};
 
 use pg_config::SpannedConfig;
-use pg_layout::{AlignmentHorizontal, AlignmentVertical, Colors, Dimension, Position};
+use pg_layout::{Colors, Dimension, Position};
 use pg_picture::{CellPlace, CellStyle, TextFacts};
 use std::alloc::{Allocator, Global};
 
@@ -45,40 +45,12 @@ impl<'a, D: Dimension, C: Colors, B: Allocator> Frame<'a, D, C, B> {
     // The style of a cell, as its lines need it: where all of them have one left share, its alignments
     // say no more, and aren't looked up.
     #[inline(always)]
-    #[tactic(auto, unfolding(pg_picture::specs::Pieces::style_at))]
     pub(crate) fn style_of_lines(&self, left: Option<usize>, pos: Position) -> CellStyle<'a, B>
         ensures { DrawsAs left (style_of result) (style_at self.now.config.now pos) }
     {
-        if left.is_none() {
-            return CellStyle::of(self.config, pos);
-        }
-        CellStyle {
-            formatting: self.config.get_formatting(pos),
-            padding: self.config.get_padding(pos),
-            padding_color: self.config.get_padding_color(pos),
-            alignment_horizontal: AlignmentHorizontal::Left,
-            alignment_vertical: AlignmentVertical::Top,
-            justification: self.config.get_justification(pos),
-            justification_color: self.config.get_justification_color(pos),
-        }
-    }
-
-    // The style that all cells have, once more.
-    #[inline(always)]
-    pub(crate) fn style_of_all(&self) -> Option<CellStyle<'_, B>>
-        ensures { ForSome result (λ style. IsStyleOfAll self.now.config.now (style_of style)) }
-    {
-        match &self.all {
-            Some(style) => Some(CellStyle {
-                formatting: style.formatting,
-                padding: style.padding,
-                padding_color: style.padding_color,
-                alignment_horizontal: style.alignment_horizontal,
-                alignment_vertical: style.alignment_vertical,
-                justification: style.justification,
-                justification_color: style.justification_color,
-            }),
-            None => None,
+        match left {
+            Some(_) => CellStyle::unaligned(self.config, pos),
+            None => CellStyle::of(self.config, pos),
         }
     }
 

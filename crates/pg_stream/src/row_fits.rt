@@ -21,7 +21,8 @@ use crate::row_printer::RowPrinter;
 use pg_config::{Span, SpannedConfig};
 use pg_layout::{Colors, Dimension, Position};
 use pg_picture::fits::{
-    begins_above, cell_fits, columns_of, height_of_rows, spans_fit, width_of_columns,
+    begins_above, cell_fits, columns_of, height_of_rows, plainness_in_style, spans_fit,
+    width_of_columns,
 };
 use std::alloc::Allocator;
 use std::convert::AsStr;
@@ -231,7 +232,7 @@ impl<'a, D: Dimension, C: Colors, B: Allocator> Frame<'a, D, C, B> {
         ensures plain { result ≡ Some true → list_all is_plain_byte text.now ≡ true }
     {
         if let Some(style) = &self.all {
-            return style.plainness_with_room(text, width, height);
+            return plainness_in_style(text, style, width, height);
         }
         if cell_fits(text, self.config, pos, width, height) {
             return Some(false);

@@ -204,7 +204,7 @@ impl<'a, D: Dimension, C: Colors, B: Allocator> Frame<'a, D, C, B> {
             hint: self.hint,
             width: self.width,
             height: self.height,
-            all: self.style_of_all(),
+            all: self.all,
             draws_verticals: self.draws_verticals,
             draws_separators: self.draws_separators,
         }

@@ -12,7 +12,6 @@ mod needs;
 mod overflow;
 mod sizes;
 mod spanning;
-mod style;
 mod table;
 mod told;
 

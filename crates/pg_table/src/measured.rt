@@ -66,8 +66,7 @@ impl<'a, R: PeekableRecords + ExactRecords, B: Allocator> NaturalSizes<'a, R, B>
         ensures wide { result.0 ≡ if_fits (cell_size Columns self.now.config.now (text_at (R.texts self.now.records)) pos) }
         ensures high { result.1 ≡ if_fits (cell_size Rows self.now.config.now (text_at (R.texts self.now.records)) pos) }
     {
-        let style = self.style(pos);
-        let facts = TextFacts::of_records(&self.records, pos, style.formatting);
+        let facts = TextFacts::of_records(&self.records, pos, self.formatting(pos));
         let wide = self.with_text(Axis::Columns, pos, facts.widest);
         let high = self.with_text(Axis::Rows, pos, facts.shown);
         (wide, high)

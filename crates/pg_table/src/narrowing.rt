@@ -163,7 +163,7 @@ impl<'a, R: PeekableRecords + ExactRecords, B: Allocator> NaturalSizes<'a, R, B>
         ensures others { OnOk result ((q : Position) → same by_place pos q ≡ false → other_text fitted.new.others (R.texts self.now.records) q ≡ other_text fitted.old.others (R.texts self.now.records) q) }
         ensures room { OnOk result (HasRoomAt how.entry self.now.config.now (text_of R.texts R.columns self.now) width pos) }
     {
-        let padding = self.style(pos).padding;
+        let padding = self.padding(pos);
         let room = width
             .saturating_sub(padding.left.size)
             .saturating_sub(padding.right.size);

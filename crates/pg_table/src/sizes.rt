@@ -4,14 +4,16 @@ ghost use Rattle.std.specs.Prelude.{◌≡◌, ℕ, ◌+◌, ◌<◌, IfOk, leng
 ghost use Rattle.std.specs.List.{range_with_len};
 ghost use Rattle.std.specs.Option.{ForSome};
 ghost use Rattle.pg_layout.specs.Records.{text_at};
+ghost use Rattle.pg_config.specs.Cells.{IsStyleOfAll, style_of};
+ghost use Rattle.pg_config.specs.Config.{get_formatting, get_padding};
 ghost use Rattle.pg_picture.specs.Sizes.{if_fits};
 ghost use Rattle.pg_table.specs.Natural.{paddings, text_size, cell_size, cell_at, all_fit};
 ghost use Rattle.pg_table.specs.declared.sizes.Axis.TheVariants.{Columns, Rows};
-ghost use Rattle.pg_table.specs.Inside.Styles.{IsStyleAt, IsStyleOfAll};
 
-use crate::style::SizeStyle;
-use pg_config::SpannedConfig;
-use pg_layout::{ConstantDimension, ExactRecords, PeekableRecords, Position};
+use pg_config::{CellStyle, SpannedConfig};
+use pg_layout::{
+    ConstantDimension, ExactRecords, Formatting, Indent, PeekableRecords, Position, Sides,
+};
 use pg_picture::{TextFacts, text_width};
 use std::alloc::{AllocError, Allocator};
 
@@ -48,8 +50,9 @@ impl Axis {
 pub(crate) struct NaturalSizes<'a, R, B: Allocator> {
     pub(crate) records: R,
     pub(crate) config: &'a SpannedConfig<B>,
-    all: Option<SizeStyle>,
-    ghost is_of_all: { ForSome all (IsStyleOfAll config.now) },
+    // The style that all cells have, where no setting is for some of them.
+    all: Option<CellStyle<'a, B>>,
+    ghost is_of_all: { ForSome all (λ style. IsStyleOfAll config.now (style_of style)) },
 }
 
 impl<'a, R: PeekableRecords + ExactRecords, B: Allocator> NaturalSizes<'a, R, B> {
@@ -63,7 +66,7 @@ impl<'a, R: PeekableRecords + ExactRecords, B: Allocator> NaturalSizes<'a, R, B>
         NaturalSizes {
             records,
             config,
-            all: SizeStyle::of_all(config),
+            all: CellStyle::of_all(config),
         }
     }
 
@@ -87,14 +90,25 @@ impl<'a, R: PeekableRecords + ExactRecords, B: Allocator> NaturalSizes<'a, R, B>
         }
     }
 
-    // The style of a cell: that of all cells, or its own.
+    // The padding of a cell: that of all cells, or its own.
     #[inline(always)]
-    pub(crate) fn style(&self, pos: Position) -> SizeStyle
-        ensures { IsStyleAt self.now.config.now pos result }
+    pub(crate) fn padding(&self, pos: Position) -> Sides<Indent>
+        ensures { result ≡ get_padding self.now.config.now pos }
     {
         match self.all {
-            Some(style) => style,
-            None => SizeStyle::of(self.config, pos),
+            Some(style) => style.padding,
+            None => self.config.get_padding(pos),
+        }
+    }
+
+    // How its text is read, likewise.
+    #[inline(always)]
+    pub(crate) fn formatting(&self, pos: Position) -> Formatting
+        ensures { result ≡ get_formatting self.now.config.now pos }
+    {
+        match self.all {
+            Some(style) => style.formatting,
+            None => self.config.get_formatting(pos),
         }
     }
 
@@ -103,7 +117,7 @@ impl<'a, R: PeekableRecords + ExactRecords, B: Allocator> NaturalSizes<'a, R, B>
     pub(crate) fn paddings(&self, axis: Axis, pos: Position) -> Option<usize>
         ensures { result ≡ if_fits (paddings axis self.now.config.now pos) }
     {
-        let padding = self.style(pos).padding;
+        let padding = self.padding(pos);
         match axis {
             Axis::Columns => padding.left.size.checked_add(padding.right.size),
             Axis::Rows => padding.top.size.checked_add(padding.bottom.size),
@@ -117,7 +131,7 @@ impl<'a, R: PeekableRecords + ExactRecords, B: Allocator> NaturalSizes<'a, R, B>
         requires column { pos.col < R.columns self.now.records }
         ensures { result ≡ text_size axis self.now.config.now (text_at (R.texts self.now.records)) pos }
     {
-        let formatting = self.style(pos).formatting;
+        let formatting = self.formatting(pos);
         match axis {
             Axis::Columns if formatting.horizontal_trim => {
                 text_width(self.records.get_text(pos), true)

@@ -23,7 +23,7 @@ impl<A: Allocator + Copy> SpannedConfig<A> {
         self.horizontal_colors = Offsets::new(alloc);
         self.vertical_colors = Offsets::new(alloc);
         self.margin_color = no_colors();
-        self.padding_color = Settings::new(alloc);
-        self.justification_color = Settings::new(alloc);
+        self.cells.padding_color = Settings::new(alloc);
+        self.cells.justification_color = Settings::new(alloc);
     }
 }

@@ -1,13 +1,13 @@
 -- What is known of a cell before its lines are written: the facts of its text, its style, its text's place.
-use Rattle.std.specs.Prelude.{ℕ, ◌+◌, ◌-◌, ◌==◌, nat_lt, min, Bool, true, false, not, ◌&&◌, List, [], ◌++◌, length, slice_index_or, Option, Some, None, option_map, unwrap_or, if◌then◌else◌}
+use Rattle.std.specs.Prelude.{ℕ, ◌+◌, ◌-◌, ◌==◌, nat_lt, min, Bool, true, false, not, ◌&&◌, List, [], ◌++◌, length, slice_index_or, Option, Some, None, unwrap_or, if◌then◌else◌}
 use Rattle.pg_layout.specs.Text.{Text, lines_of, width_of, blank_top, blank_bottom, without_blank_ends}
 use Rattle.pg_layout.specs.declared.alignment.Formatting.{Formatting}
 use Rattle.pg_layout.specs.Colors.{Color}
+pub use Rattle.pg_config.specs.Cells.{style_of}
 use Rattle.pg_picture.specs.Pieces.{Style, Piece, shown, widest, shares, lines_above, inner_width, trimmed_if, line_with, fill, written, in_color}
 use Rattle.pg_picture.specs.declared.facts.BlankEnds.{BlankEnds}
 use Rattle.pg_picture.specs.declared.facts.TextFacts.{TextFacts}
 use Rattle.pg_picture.specs.declared.place.CellPlace.{CellPlace}
-use Rattle.pg_picture.specs.declared.style.CellStyle.{CellStyle}
 
 -- ---- the facts of a text
 
@@ -31,18 +31,6 @@ facts_of f text = record {
 }
 
 -- ---- the style of a cell
-
--- the style that a value stands for
-abbrev pub style_of : {A : Type 0} → CellStyle A → Style
-style_of s = record {
-  formatting = s.formatting;
-  padding = s.padding;
-  padding_color = s.padding_color.now;
-  across = s.alignment_horizontal;
-  down = s.alignment_vertical;
-  justification = s.justification;
-  justification_color = option_map (λ c. c.now) s.justification_color;
-}
 
 -- line 0 of a cell is line 0 of its text, as it is
 abbrev pub shows_texts_whole : Style → Bool

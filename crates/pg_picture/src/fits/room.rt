@@ -5,9 +5,10 @@ ghost use Rattle.std.specs.List.{list_all};
 ghost use Rattle.pg_layout.specs.Text.{lines_of, width_of, greatest, is_plain_byte};
 ghost use Rattle.pg_picture.specs.Pieces.{Style, style_at, trimmed_if};
 ghost use Rattle.pg_picture.specs.Fits.{cell_fits};
+ghost use Rattle.pg_picture.specs.Inside.Cells.{style_of};
 
 use crate::facts::text_width;
-use pg_config::SpannedConfig;
+use pg_config::{CellStyle, SpannedConfig};
 use pg_layout::{Indent, Position, Sides, is_plain};
 use std::alloc::Allocator;
 
@@ -45,11 +46,11 @@ fn has_columns(padding: &Sides<Indent>, columns: usize, width: usize, height: us
     }
 }
 
-/// Whether a cell of so many columns and lines has room for a text with these paddings, whose lines
-/// are trimmed or not, and then whether the text is known to be plain and isn't trimmed.
+// Whether a cell of so many columns and lines has room for a text with these paddings, whose lines
+// are trimmed or not, and then whether the text is known to be plain and isn't trimmed.
 #[inline(always)]
 #[tactic(auto, unfolding(crate::specs::Fits::cell_fits, crate::specs::Pieces::widest))]
-pub(crate) fn plainness_with_room(
+fn plainness_with_room(
     text: &str,
     padding: &Sides<Indent>,
     trim: bool,
@@ -74,7 +75,7 @@ pub(crate) fn plainness_with_room(
 /// line, and for its top padding. A cell of height 0 needs none, and its text isn't read.
 ///
 /// Takes no memory.
-#[tactic(auto, unfolding(crate::specs::Pieces::style_at))]
+#[tactic(auto, unfolding(pg_config::specs::Cells::style_at))]
 pub fn cell_fits<A: Allocator>(
     text: &str,
     config: &SpannedConfig<A>,
@@ -87,4 +88,21 @@ pub fn cell_fits<A: Allocator>(
     let padding = config.get_padding(pos);
     let trim = config.get_formatting(pos).horizontal_trim;
     plainness_with_room(text, &padding, trim, width, height).is_some()
+}
+
+/// Whether a cell of so many columns and lines has room for a text in this style, as [`cell_fits`] says
+/// it of a place, and then whether the text is known to be plain ([`pg_layout::is_plain`]). None is
+/// known to be where lines are trimmed, or the cell has none.
+#[inline(always)]
+pub fn plainness_in_style<A: Allocator>(
+    text: &str,
+    style: &CellStyle<'_, A>,
+    width: usize,
+    height: usize,
+) -> Option<bool>
+    ensures room { is_some result ≡ cell_fits (style_of style.now) text.now width height }
+    ensures plain { result ≡ Some true → list_all is_plain_byte text.now ≡ true }
+{
+    let trim = style.formatting.horizontal_trim;
+    plainness_with_room(text, &style.padding, trim, width, height)
 }

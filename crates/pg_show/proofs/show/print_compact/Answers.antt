@@ -16,7 +16,7 @@ returns-in_err-print-clause-shows g c =
     let script = c.args.script.now in
     let drawn =
     ap (λ parts. compact_table_with (settings_of parts.2.now) parts.1.now.0.items (map (λ row. map string_bytes row) parts.0.now) (columns_of parts.0.now) parts.3.now) c.new.ensures.parts
-    ∙ compact_table-script script in
+    ∙ compact_table-script script _ c.of-config.ensures in
     Shows-stopped mode.Compact (told_of_script script) c.args.buf.now c.print.new.buf _ _ _ c.from_residual.result (ap compact_misfit drawn ∙ compact_misfit-told (told_of_script script)) (rw (ap compact_picture drawn) at c.in_err-print.ensures.prints) c.from_residual.ensures.1
 
 pub returns-clause-shows : goal.returns-clause-shows
@@ -24,7 +24,7 @@ returns-clause-shows g c =
     let script = c.args.script.now in
     let drawn =
     ap (λ parts. compact_table_with (settings_of parts.2.now) parts.1.now.0.items (map (λ row. map string_bytes row) parts.0.now) (columns_of parts.0.now) parts.3.now) c.new.ensures.parts
-    ∙ compact_table-script script in
+    ∙ compact_table-script script _ c.of-config.ensures in
     Shows-appended mode.Compact (told_of_script script) c.args.buf.now c.print.new.buf _ _ _ (ap compact_misfit drawn ∙ compact_misfit-told (told_of_script script)) (rw (ap compact_picture drawn) at c.in_ok-print.ensures.prints)
 
 -- a table without cells fits, and takes no room
@@ -32,7 +32,7 @@ pub returns-in_err-print-clause-empty : goal.returns-in_err-print-clause-empty
 returns-in_err-print-clause-empty g c = λ none.
     let drawn =
     ap (λ parts. has_no_cells (compact_table_with (settings_of parts.2.now) parts.1.now.0.items (map (λ row. map string_bytes row) parts.0.now) (columns_of parts.0.now) parts.3.now)) c.new.ensures.parts
-    ∙ ap has_no_cells (compact_table-script c.args.script.now) in
+    ∙ ap has_no_cells (compact_table-script c.args.script.now _ c.of-config.ensures) in
     let ended = c.in_err-print.ensures.empty (drawn ∙ none) in
     absurd (false≢true ended.0)
 
@@ -40,5 +40,5 @@ pub returns-clause-empty : goal.returns-clause-empty
 returns-clause-empty g c = λ none.
     let drawn =
     ap (λ parts. has_no_cells (compact_table_with (settings_of parts.2.now) parts.1.now.0.items (map (λ row. map string_bytes row) parts.0.now) (columns_of parts.0.now) parts.3.now)) c.new.ensures.parts
-    ∙ ap has_no_cells (compact_table-script c.args.script.now) in
+    ∙ ap has_no_cells (compact_table-script c.args.script.now _ c.of-config.ensures) in
     c.in_ok-print.ensures.empty (drawn ∙ none)

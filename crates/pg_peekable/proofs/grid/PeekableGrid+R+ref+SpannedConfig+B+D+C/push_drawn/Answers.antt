@@ -2,7 +2,7 @@ use Rattle.std.proofs.Common.{ap, subst}
 use Rattle.std.specs.Option.{ForSome}
 use Rattle.pg_config.specs.Config.{Config}
 use Rattle.pg_picture.specs.Inside.Cells.{style_of}
-use Rattle.pg_picture.specs.Styles.{IsStyleOfAll}
+use Rattle.pg_config.specs.Cells.{IsStyleOfAll}
 use Rattle.pg_picture.specs.Table.{Table}
 use Rattle.pg_peekable.proofs.grid.PeekableGrid+R+ref+SpannedConfig+B+D+C.push_drawn.Goals as goal
 

@@ -16,8 +16,8 @@ pub returns-in_ok-set-clause-here : goal.returns-in_ok-set-clause-here
 returns-in_ok-set-clause-here g c =
     let self = c.args.self.now in
     let texts = g.R.Records.texts self.records in
-    let left = ap (λ (s : Sides Indent). s.left.size) c.style.ensures.padding in
-    let right = ap (λ (s : Sides Indent). s.right.size) c.style.ensures.padding in
+    let left = ap (λ (s : Sides Indent). s.left.size) c.padding-padding.ensures in
+    let right = ap (λ (s : Sides Indent). s.right.size) c.padding-padding.ensures in
     let room : c.saturating_sub-room.result ≡ c.args.width - paddings Columns self.config.now c.args.pos = omega (arith, left, right) in
     let wide : c.args.width - paddings Columns self.config.now c.args.pos < widest (get_formatting self.config.now c.args.pos) (text_at texts c.args.pos) = omega (arith, room, c.text_size.ensures) in
     ap (λ o. other_text o.others texts c.args.pos) c.in_ok-set.ensures.ok
@@ -37,8 +37,8 @@ returns-in_ok-set-clause-room g c = λ plain least.
     let self = c.args.self.now in
     let texts = g.R.Records.texts self.records in
     let formatting = get_formatting self.config.now c.args.pos in
-    let left = ap (λ (s : Sides Indent). s.left.size) c.style.ensures.padding in
-    let right = ap (λ (s : Sides Indent). s.right.size) c.style.ensures.padding in
+    let left = ap (λ (s : Sides Indent). s.left.size) c.padding-padding.ensures in
+    let right = ap (λ (s : Sides Indent). s.right.size) c.padding-padding.ensures in
     let room : c.saturating_sub-room.result ≡ c.args.width - paddings Columns self.config.now c.args.pos = omega (arith, left, right) in
     let wide : c.args.width - paddings Columns self.config.now c.args.pos < widest formatting (text_at texts c.args.pos) = omega (arith, room, c.text_size.ensures) in
     let low = c.in_ok-text.ensures.room plain (rw c.get_text.ensures (omega (arith, room, wide, least))) formatting in
@@ -53,8 +53,8 @@ pub returns-else-text_size-room-clause-here : goal.returns-else-text_size-room-c
 returns-else-text_size-room-clause-here g c =
     let self = c.args.self.now in
     let texts = g.R.Records.texts self.records in
-    let left = ap (λ (s : Sides Indent). s.left.size) c.style.ensures.padding in
-    let right = ap (λ (s : Sides Indent). s.right.size) c.style.ensures.padding in
+    let left = ap (λ (s : Sides Indent). s.left.size) c.padding-padding.ensures in
+    let right = ap (λ (s : Sides Indent). s.right.size) c.padding-padding.ensures in
     let low : widest (get_formatting self.config.now c.args.pos) (text_at texts c.args.pos) ≤ c.args.width - paddings Columns self.config.now c.args.pos = omega (arith, left, right, c.text_size.ensures) in
     c.requires.own ∙ sym (fitted_text-stays c.args.how (get_formatting self.config.now c.args.pos) (c.args.width - paddings Columns self.config.now c.args.pos) (text_at texts c.args.pos) low)
 
@@ -63,7 +63,7 @@ returns-else-text_size-room-clause-room g c = λ plain least.
     let self = c.args.self.now in
     let texts = g.R.Records.texts self.records in
     let formatting = get_formatting self.config.now c.args.pos in
-    let left = ap (λ (s : Sides Indent). s.left.size) c.style.ensures.padding in
-    let right = ap (λ (s : Sides Indent). s.right.size) c.style.ensures.padding in
+    let left = ap (λ (s : Sides Indent). s.left.size) c.padding-padding.ensures in
+    let right = ap (λ (s : Sides Indent). s.right.size) c.padding-padding.ensures in
     let low : widest formatting (text_at texts c.args.pos) ≤ c.args.width - paddings Columns self.config.now c.args.pos = omega (arith, left, right, c.text_size.ensures) in
     omega (arith, least, low, ap (widest formatting) (fitted_text-stays c.args.how formatting (c.args.width - paddings Columns self.config.now c.args.pos) (text_at texts c.args.pos) low))

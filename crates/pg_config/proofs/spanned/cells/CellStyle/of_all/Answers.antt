@@ -1,7 +1,7 @@
 use Rattle.std.proofs.Common.{◌≡◌, ◌∙◌, sym, ap}
-use Rattle.pg_picture.specs.Inside.Cells.{style_of}
-use Rattle.pg_picture.proofs.OneStyle.{one_style}
-use Rattle.pg_picture.proofs.style.CellStyle.of_all.Goals as goal
+use Rattle.pg_config.specs.Cells.{style_of}
+use Rattle.pg_config.proofs.OneStyle.{one_style}
+use Rattle.pg_config.proofs.spanned.cells.CellStyle.of_all.Goals as goal
 
 pub returns-clause-of : goal.returns-clause-of
 returns-clause-of g c = λ style is p.
