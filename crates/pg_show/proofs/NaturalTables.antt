@@ -1,6 +1,6 @@
 -- A script's table at its natural sizes: what its printing answers shows it.
 use Rattle.std.proofs.Common.{◌≡◌, ◌⊎◌, false, Some, None, Result, Ok, Err, String, inl, inr, refl, sym, ap, subst, ◌∙◌}
-use Rattle.std.specs.Result.{is_err, IsErrAnd}
+use Rattle.std.specs.Result.{is_err}
 use Rattle.std.proofs.lemmas.Bool.{cases_Bool, false≢true}
 use Rattle.pg_layout.specs.Records.{columns_of}
 use Rattle.pg_config.specs.Config.{default_config}
@@ -8,6 +8,8 @@ use Rattle.pg_picture.specs.Fits.{misfit_of, spans_fit, totals_fit}
 use Rattle.pg_picture.specs.Picture.{picture}
 use Rattle.pg_picture.proofs.Appending.{appended-as, refused-as}
 use Rattle.pg_picture.specs.Table.{Table, Known, is_empty}
+use Rattle.pg_picture.specs.declared.fault.PrintFault.{PrintFault}
+use Rattle.pg_picture.specs.declared.fault.PrintFault.TheVariants as print
 use Rattle.pg_picture.specs.declared.fits.Misfit.TheVariants as misfits
 use Rattle.pg_table.specs.Printing.{fault_of, is_spanned, Prints}
 use Rattle.pg_table.specs.declared.fault.TableFault.{TableFault}
@@ -17,8 +19,6 @@ use Rattle.pg_show.specs.Show.{natural_config, natural_table_of_told, fault_of_t
 use Rattle.pg_script.specs.Told.{Told}
 use Rattle.pg_show.proofs.PrintedGrids.{some≢none}
 use Rattle.pg_show.specs.declared.mode.Mode.TheVariants as mode
-use Rattle.pg_show.specs.declared.show.ShowFault.{ShowFault}
-use Rattle.pg_show.specs.declared.show.ShowFault.TheVariants as show
 
 -- what is printed of a table is printed of each that is the same
 pub Prints-same : {Z U : Type 0} {s t : Table} (same : s ≡ t) (old new : String Z) (result : Result U TableFault) → Prints (is_spanned s) (fault_of s) old new result (picture Known s) → Prints (is_spanned t) (fault_of t) old new result (picture Known t)
@@ -59,13 +59,12 @@ module _ (told : Told) where
       ]
 
   -- a fault is the misfit of the table, or want of memory
-  pub Shows-refused : (U : Type 0) {Z V : Type 0} (old new : String Z) (fault : TableFault) (result : Result V ShowFault) → Prints {U = U} (is_spanned t) (fault_of t) old new (Err fault) (picture Known t) → IsErrAnd result (λ shown. shown ≡ fault_of_table fault) → Shows mode.Table told old new result
-  Shows-refused U old new fault (Ok v) prints is = absurd is
-  Shows-refused U old new fault (Err e) prints is =
+  pub Shows-refused : (U : Type 0) {Z V : Type 0} (old new : String Z) (fault : TableFault) (e : PrintFault) → e ≡ fault_of_table fault → Prints {U = U} (is_spanned t) (fault_of t) old new (Err fault) (picture Known t) → Shows {U = V} mode.Table told old new (Err e)
+  Shows-refused U old new fault e is prints =
       elim one_fault [
         | inl none ↦
             let refused = rw none.0 at prints in
-            let memory : e ≡ show.Memory = is ∙ ap fault_of_table (refused.1 fault refl) in
+            let memory : e ≡ print.Memory = is ∙ ap fault_of_table (refused.1 fault refl) in
             record {
               misfit = λ m. (λ same. cc, λ found. absurd (some≢none m (sym found ∙ none.1)));
               kept = λ m same. cc;
@@ -74,7 +73,7 @@ module _ (told : Told) where
         | inr past ↦
             let refused = rw past.0 at prints in
             let totals : fault ≡ Totals = elim refused.0 [ inl same ↦ cc | inr memory ↦ absurd (false≢true (sym no_span ∙ memory.2)) ] in
-            let told_totals : e ≡ show.Misfit misfits.Totals = is ∙ ap fault_of_table totals in
+            let told_totals : e ≡ print.Misfit misfits.Totals = is ∙ ap fault_of_table totals in
             record {
               misfit = λ m. (λ same. cc, λ found. cc);
               kept = λ m same. refused.1;

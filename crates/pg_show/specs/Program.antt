@@ -1,6 +1,8 @@
 -- What the program answers.
 use Rattle.std.specs.Prelude.{◌≡◌, ◌≢◌, ℕ, ◌==◌, Bool, true, false, ◌||◌, List, [], ◌∷◌, ◌++◌, Option, Some, None, Result, Ok, Err, String, string_bytes, codes, decimal}
 use Rattle.pg_layout.specs.Text.{Text}
+use Rattle.pg_picture.specs.declared.fault.PrintFault.{PrintFault}
+use Rattle.pg_picture.specs.declared.fault.PrintFault.TheVariants as print
 use Rattle.pg_picture.specs.declared.fits.Misfit.{Misfit as WhatMisfits}
 use Rattle.pg_picture.specs.Fits.{misfit_text}
 use Rattle.pg_show.specs.Mode.{mode_of}
@@ -12,8 +14,6 @@ use Rattle.pg_show.specs.declared.fault.Fault.TheVariants.{Usage, Bad, Misfit, M
 use Rattle.pg_show.specs.declared.mode.Mode.{Mode}
 use Rattle.pg_script.specs.declared.script.ScriptFault.{ScriptFault}
 use Rattle.pg_script.specs.declared.script.ScriptFault.TheVariants as script
-use Rattle.pg_show.specs.declared.show.ShowFault.{ShowFault}
-use Rattle.pg_show.specs.declared.show.ShowFault.TheVariants as show
 
 -- the exit status that tells of a fault
 abbrev pub status_of : Fault → ℕ
@@ -60,9 +60,9 @@ fault_of_script (script.Bad line) = Bad line
 fault_of_script script.Memory = Memory
 
 -- the program's fault where the printing of a table ends in one
-abbrev pub fault_of_show : ShowFault → Fault
-fault_of_show (show.Misfit misfit) = Misfit misfit
-fault_of_show show.Memory = Memory
+abbrev pub fault_of_print : PrintFault → Fault
+fault_of_print (print.Misfit misfit) = Misfit misfit
+fault_of_print print.Memory = Memory
 
 -- ---- what is right to answer: a text to write, or a fault to tell
 

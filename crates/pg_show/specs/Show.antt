@@ -21,8 +21,6 @@ use Rattle.pg_table.specs.Natural.{natural_table}
 use Rattle.pg_script.specs.Told.{Told}
 use Rattle.pg_show.specs.declared.mode.Mode.{Mode}
 use Rattle.pg_show.specs.declared.mode.Mode.TheVariants as mode
-use Rattle.pg_show.specs.declared.show.ShowFault.{ShowFault}
-use Rattle.pg_show.specs.declared.show.ShowFault.TheVariants as show
 use Rattle.pg_picture.specs.declared.fault.PrintFault.{PrintFault}
 use Rattle.pg_picture.specs.declared.fault.PrintFault.TheVariants as print
 use Rattle.pg_table.specs.declared.fault.TableFault.{TableFault}
@@ -95,19 +93,14 @@ Prints mode.Table old new result text = AppendsOrNothing old new result text
 
 -- The table of what was told is shown, as a mode prints it: what doesn't fit is answered, and the buffer is as it was, or else the
 -- buffer gains the text.
-pub record Shows {Z U : Type 0} (mode : Mode) (told : Told) (old new : String Z) (result : Result U ShowFault) : Type 0 where
-  pub misfit : (m : Misfit) → (result ≡ Err (show.Misfit m)) ↔ (misfit_in mode told ≡ Some m)
-  pub kept : (m : Misfit) → result ≡ Err (show.Misfit m) → new ≡ old
+pub record Shows {Z U : Type 0} (mode : Mode) (told : Told) (old new : String Z) (result : Result U PrintFault) : Type 0 where
+  pub misfit : (m : Misfit) → (result ≡ Err (print.Misfit m)) ↔ (misfit_in mode told ≡ Some m)
+  pub kept : (m : Misfit) → result ≡ Err (print.Misfit m) → new ≡ old
   pub printed : misfit_in mode told ≡ None → Prints mode old new result (text_in mode told)
 
 -- the fault of a script's table at its natural sizes; the rows of a script are of one length
-abbrev pub fault_of_table : TableFault → ShowFault
-fault_of_table table.Spans = show.Misfit Spans
-fault_of_table table.Totals = show.Misfit Totals
-fault_of_table (table.Ragged row) = show.Misfit Totals
-fault_of_table table.Memory = show.Memory
-
--- the fault of a script's table that a grid prints
-abbrev pub fault_of_print : PrintFault → ShowFault
-fault_of_print (print.Misfit misfit) = show.Misfit misfit
-fault_of_print print.Memory = show.Memory
+abbrev pub fault_of_table : TableFault → PrintFault
+fault_of_table table.Spans = print.Misfit Spans
+fault_of_table table.Totals = print.Misfit Totals
+fault_of_table (table.Ragged row) = print.Misfit Totals
+fault_of_table table.Memory = print.Memory

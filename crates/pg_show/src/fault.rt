@@ -3,10 +3,10 @@
 ghost use Rattle.std.specs.Prelude.{◌≡◌, ◌≢◌, OnOk, Some};
 ghost use Rattle.std.specs.Io.KnownBytes.{Appends};
 ghost use Rattle.std.specs.IoError.{error_kind};
-ghost use Rattle.pg_show.specs.Program.{status_of, line_of, fault_text, fault_of_script, fault_of_show};
+ghost use Rattle.pg_show.specs.Program.{status_of, line_of, fault_text, fault_of_print, fault_of_script};
 ghost use Rattle.pg_show.specs.declared.fault.Fault.TheVariants.{Memory};
 
-use crate::show::ShowFault;
+use pg_picture::PrintFault;
 use pg_picture::fits::Misfit;
 use pg_script::ScriptFault;
 use std::alloc::AllocError;
@@ -50,13 +50,13 @@ impl From<ScriptFault> for Fault {
     }
 }
 
-impl From<ShowFault> for Fault {
-    ghost from_gives = { λ found fault. fault ≡ fault_of_show found };
+impl From<PrintFault> for Fault {
+    ghost from_gives = { λ found fault. fault ≡ fault_of_print found };
 
-    fn from(fault: ShowFault) -> Fault {
+    fn from(fault: PrintFault) -> Fault {
         match fault {
-            ShowFault::Misfit(misfit) => Fault::Misfit(misfit),
-            ShowFault::Memory => Fault::Memory,
+            PrintFault::Misfit(misfit) => Fault::Misfit(misfit),
+            PrintFault::Memory => Fault::Memory,
         }
     }
 }
@@ -112,14 +112,3 @@ impl fmt::Display for Fault {
 }
 
 impl Error for Fault {}
-
-/// Writes what the program says of it.
-impl fmt::Display for ShowFault {
-    ghost output = { λ fault. Some (fault_text (fault_of_show fault)) };
-
-    fn fmt<W: fmt::Write>(&self, f: &mut fmt::Formatter<W>) -> fmt::Result {
-        write!(f, "{}", Fault::from(*self))
-    }
-}
-
-impl Error for ShowFault {}

@@ -10,5 +10,6 @@ mod show;
 pub use crate::fault::Fault;
 pub use crate::mode::Mode;
 pub use crate::program::{Ending, run};
-pub use crate::show::{ShowFault, print_script};
+pub use crate::show::print_script;
+pub use pg_picture::PrintFault;
 pub use pg_script::{Script, ScriptFault, parse_script};

@@ -3,10 +3,9 @@
 ghost use Rattle.std.specs.Prelude.{◌≡◌, ◌↔◌, true, Some, None, Err, IsOk};
 ghost use Rattle.pg_picture.specs.Table.{is_empty};
 ghost use Rattle.pg_script.specs.Script.{told_of_script};
-ghost use Rattle.pg_show.specs.Show.{fault_of_print, fault_of_table, misfit_in, natural_config, table_of_told, text_in, Prints, Shows};
+ghost use Rattle.pg_picture.specs.declared.fault.PrintFault.{PrintFault};
+ghost use Rattle.pg_show.specs.Show.{fault_of_table, misfit_in, natural_config, table_of_told, text_in, Prints, Shows};
 ghost use Rattle.pg_show.specs.declared.mode.Mode.TheVariants as mode;
-ghost use Rattle.pg_show.specs.declared.show.ShowFault.TheVariants.{Memory};
-ghost use Rattle.pg_show.specs.declared.show.ShowFault.TheVariants as variants;
 
 use crate::mode::Mode;
 use pg_config::{CompactConfig, SpannedConfig};
@@ -17,39 +16,6 @@ use pg_picture::fits::Misfit;
 use pg_script::Script;
 use pg_table::{NaturalTable, TableFault};
 use std::alloc::Allocator;
-
-/// Why a table isn't printed.
-#[derive(Debug, Clone, Copy, PartialEq, Eq)]
-pub enum ShowFault {
-    /// The table doesn't fit, and nothing is appended.
-    Misfit(Misfit),
-    /// Memory was refused.
-    Memory,
-}
-
-impl From<PrintFault> for ShowFault {
-    ghost from_gives = { λ found fault. fault ≡ fault_of_print found };
-
-    fn from(fault: PrintFault) -> ShowFault {
-        match fault {
-            PrintFault::Misfit(misfit) => ShowFault::Misfit(misfit),
-            PrintFault::Memory => ShowFault::Memory,
-        }
-    }
-}
-
-impl From<TableFault> for ShowFault {
-    ghost from_gives = { λ found fault. fault ≡ fault_of_table found };
-
-    fn from(fault: TableFault) -> ShowFault {
-        match fault {
-            TableFault::Memory => ShowFault::Memory,
-            TableFault::Spans => ShowFault::Misfit(Misfit::Spans),
-            // The rows of a script are of one length.
-            TableFault::Totals | TableFault::Ragged(_) => ShowFault::Misfit(Misfit::Totals),
-        }
-    }
-}
 
 /// Appends the table of a script, as the printer of the mode prints it.
 ///
@@ -63,9 +29,9 @@ pub fn print_script<C: Allocator + Copy, A: Allocator, B: Allocator>(
     script: &Script<A>,
     mode: Mode,
     buf: &mut String<B>,
-) -> Result<(), ShowFault>
-    ensures misfit { (m : _) → (result ≡ Err (ShowFault.Misfit m)) ↔ (misfit_in mode (told_of_script script.now) ≡ Some m) }
-    ensures kept { (m : _) → result ≡ Err (ShowFault.Misfit m) → buf.new ≡ buf.old }
+) -> Result<(), PrintFault>
+    ensures misfit { (m : _) → (result ≡ Err (PrintFault.Misfit m)) ↔ (misfit_in mode (told_of_script script.now) ≡ Some m) }
+    ensures kept { (m : _) → result ≡ Err (PrintFault.Misfit m) → buf.new ≡ buf.old }
     ensures printed { misfit_in mode (told_of_script script.now) ≡ None → Prints mode buf.old buf.new result (text_in mode (told_of_script script.now)) }
     ensures empty { is_empty (table_of_told (told_of_script script.now)) ≡ true → IsOk result × (buf.new ≡ buf.old) }
 {
@@ -81,14 +47,13 @@ pub fn print_script<C: Allocator + Copy, A: Allocator, B: Allocator>(
 fn print_compact<A: Allocator, B: Allocator>(
     script: &Script<A>,
     buf: &mut String<B>,
-) -> Result<(), ShowFault>
+) -> Result<(), PrintFault>
     ensures shows { Shows mode.Compact (told_of_script script.now) buf.old buf.new result }
     ensures empty { is_empty (table_of_told (told_of_script script.now)) ≡ true → IsOk result × (buf.new ≡ buf.old) }
 {
     let (dimension, colors) = (&script.dimension, &script.colors);
     let config = CompactConfig::of(&script.config);
-    CompactGrid::new(&script.records, &config, dimension, colors).print(buf)?;
-    Ok(())
+    CompactGrid::new(&script.records, &config, dimension, colors).print(buf)
 }
 
 // Appends the table of a script, its rows read once, if it fits.
@@ -96,26 +61,24 @@ fn print_streamed<C: Allocator, A: Allocator, B: Allocator>(
     alloc: C,
     script: &Script<A>,
     buf: &mut String<B>,
-) -> Result<(), ShowFault>
+) -> Result<(), PrintFault>
     ensures shows { Shows mode.Iter (told_of_script script.now) buf.old buf.new result }
     ensures empty { is_empty (table_of_told (told_of_script script.now)) ≡ true → IsOk result × (buf.new ≡ buf.old) }
 {
     let (dimension, colors) = (&script.dimension, &script.colors);
-    IterGrid::new(&script.records, &script.config, dimension, colors).print(alloc, buf)?;
-    Ok(())
+    IterGrid::new(&script.records, &script.config, dimension, colors).print(alloc, buf)
 }
 
 // Appends the table of a script, its texts looked up, if it fits.
 fn print_peekable<A: Allocator, B: Allocator>(
     script: &Script<A>,
     buf: &mut String<B>,
-) -> Result<(), ShowFault>
+) -> Result<(), PrintFault>
     ensures shows { Shows mode.Peek (told_of_script script.now) buf.old buf.new result }
     ensures empty { is_empty (table_of_told (told_of_script script.now)) ≡ true → IsOk result × (buf.new ≡ buf.old) }
 {
     let (dimension, colors) = (&script.dimension, &script.colors);
-    PeekableGrid::new(&script.records, &script.config, dimension, colors).print(buf)?;
-    Ok(())
+    PeekableGrid::new(&script.records, &script.config, dimension, colors).print(buf)
 }
 
 // Appends the texts of a script at their natural sizes, if these fit.
@@ -123,13 +86,26 @@ fn print_natural<C: Allocator + Copy, A: Allocator, B: Allocator>(
     alloc: C,
     script: &Script<A>,
     buf: &mut String<B>,
-) -> Result<(), ShowFault>
+) -> Result<(), PrintFault>
     ensures shows { Shows mode.Table (told_of_script script.now) buf.old buf.new result }
     ensures empty { is_empty (table_of_told (told_of_script script.now)) ≡ true → IsOk result × (buf.new ≡ buf.old) }
 {
     let config = natural_config(alloc, &script.config);
-    NaturalTable::new(&script.records, &config, &NoColors).print(alloc, buf)?;
-    Ok(())
+    match NaturalTable::new(&script.records, &config, &NoColors).print(alloc, buf) {
+        Ok(()) => Ok(()),
+        Err(fault) => Err(fault_of_table(fault)),
+    }
+}
+
+// The fault of a script's table at its natural sizes. The rows of a script are of one length.
+fn fault_of_table(fault: TableFault) -> PrintFault
+    ensures { result ≡ fault_of_table fault }
+{
+    match fault {
+        TableFault::Memory => PrintFault::Memory,
+        TableFault::Spans => PrintFault::Misfit(Misfit::Spans),
+        TableFault::Totals | TableFault::Ragged(_) => PrintFault::Misfit(Misfit::Totals),
+    }
 }
 
 // What a table at its natural sizes is told. Takes no memory.

@@ -1,7 +1,7 @@
 //! Scripts read and printed while memory is refused.
 
 use crate::same::{assert_same, assert_same_at};
-use pg_show::{Mode, Script, ScriptFault, ShowFault, parse_script, print_script};
+use pg_show::{Mode, PrintFault, Script, ScriptFault, parse_script, print_script};
 use pg_testing::refusing::Refusing;
 use std::alloc::Global;
 use std::process::Abort;
@@ -93,7 +93,7 @@ fn is_printed(
 ) -> bool {
     let mut buf = String::new(memory);
     let fault = print_script(memory, script, mode, &mut buf).err();
-    let wanted = memory.has_refused().then_some(ShowFault::Memory);
+    let wanted = memory.has_refused().then_some(PrintFault::Memory);
     assert_same(rt, fault, wanted);
     assert!(rt; text.starts_with(buf.as_str()));
     assert_same(rt, text == buf.as_str(), !memory.has_refused());
@@ -157,7 +157,7 @@ fn assert_asks(
     match print_script(&memory, &parsed, mode, &mut buf) {
         Ok(()) => assert!(rt; is_printed, "{script}"),
         Err(fault) => assert!(rt;
-            !is_printed && matches!(fault, ShowFault::Misfit(_)),
+            !is_printed && matches!(fault, PrintFault::Misfit(_)),
             "{script}"
         ),
     }
