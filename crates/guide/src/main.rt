@@ -18,25 +18,27 @@ mod told_widths;
 mod word_counts;
 
 use crate::fault::Fault;
-use std::io;
 
 fn main(rt: HostRuntime) -> Result<(), Fault> {
     let alloc = rt.alloc();
-    show(&rt, "price_list", &price_list::prices(alloc)?)?;
-    show(&rt, "invoice", &invoice::invoice(alloc)?)?;
-    show(&rt, "titled", &titled::stock(alloc)?)?;
-    show(&rt, "record_blocks", &record_blocks::blocks(alloc)?)?;
-    show(&rt, "levels", &levels::log(alloc)?)?;
-    show(&rt, "timetable", &timetable::week(alloc)?)?;
-    show(&rt, "streamed_rows", &streamed_rows::lists(alloc)?)?;
-    show(&rt, "compact_list", &compact_list::list(alloc)?)?;
-    show(&rt, "told_widths", &told_widths::errands(alloc)?)?;
-    show(&rt, "grid_calls", &grid_calls::tables(alloc)?)?;
+    show(&rt, "price_list", price_list::prices(alloc))?;
+    show(&rt, "invoice", invoice::invoice(alloc))?;
+    show(&rt, "titled", titled::stock(alloc))?;
+    show(&rt, "record_blocks", record_blocks::blocks(alloc))?;
+    show(&rt, "levels", levels::log(alloc))?;
+    show(&rt, "timetable", timetable::week(alloc))?;
+    show(&rt, "streamed_rows", streamed_rows::lists(alloc))?;
+    show(&rt, "compact_list", compact_list::list(alloc))?;
+    show(&rt, "told_widths", told_widths::errands(alloc))?;
+    show(&rt, "grid_calls", grid_calls::tables(alloc))?;
     println!(rt; "== word_counts")?;
     word_counts::print_counts(&rt, alloc, rt.stdin())
 }
 
-// Prints a text behind a line with its name.
-fn show(rt: &impl Print, name: &str, text: &str) -> io::Result<()> {
-    println!(rt; "== {name}\n{text}")
+// Prints a text behind a line with its name, if it was made.
+fn show<E: Into<Fault>>(rt: &impl Print, name: &str, text: Result<String, E>) -> Result<(), Fault> {
+    match text {
+        Ok(text) => Ok(println!(rt; "== {name}\n{text}")?),
+        Err(fault) => Err(fault.into()),
+    }
 }
