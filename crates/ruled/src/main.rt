@@ -39,6 +39,8 @@ fn show_stream<R: Read + Drop>(
     let mut out = BufWriter::new(rt.alloc(), rt.stdout())?;
     let (options, rows) = (&request.options, rows.max(1) as usize);
     let ending = run_stream(rt.alloc(), options, rows, input, &mut out, &mut rt.stderr());
+    // What a write that failed has left isn't written once more.
+    let _parts = out.into_parts();
     Ok(ending.status())
 }
 
