@@ -51,7 +51,7 @@ impl Arms {
 }
 
 // The marks of all merged cells in a table of `size` rows and columns.
-pub fn marks_of<A: Allocator + Copy>(
+pub(crate) fn marks_of<A: Allocator + Copy>(
     alloc: A,
     spans: &Spans<A>,
     size: (usize, usize),
@@ -160,7 +160,7 @@ fn mark<A: Allocator + Clone>(
 }
 
 // The glyphs of the marked crossings in a table of `size` rows and columns.
-pub fn glyphs_of<A: Allocator + Copy>(
+pub(crate) fn glyphs_of<A: Allocator + Copy>(
     alloc: A,
     config: &SpannedConfig<A>,
     marks: &Places<Position, Sides<bool>, A>,

@@ -236,7 +236,7 @@ fn push_padding<B: Allocator, A: Allocator>(
 /// The cell has room for the side paddings and the widest line, which [`crate::fits::cell_fits`]
 /// tells of a cell with a line. An error comes only where the buffer's room is too small; the buffer
 /// then holds a beginning.
-pub fn push_block_line<C: ANSIFmt, B: Allocator, A: Allocator>(
+pub(crate) fn push_block_line<C: ANSIFmt, B: Allocator, A: Allocator>(
     buf: &mut String<A>,
     style: &CellStyle<'_, B>,
     color: Option<&C>,

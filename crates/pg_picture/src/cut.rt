@@ -13,7 +13,7 @@ use std::alloc::{AllocError, Allocator};
 /// first one and the prefix of the next.
 #[inline(always)]
 #[tactic(auto, unfolding(crate::specs::Pieces::cut))]
-pub fn push_cut<C: ANSIFmt, D: ANSIFmt, A: Allocator>(
+pub(crate) fn push_cut<C: ANSIFmt, D: ANSIFmt, A: Allocator>(
     buf: &mut String<A>,
     before: Option<&C>,
     after: Option<&D>,
@@ -29,7 +29,7 @@ pub fn push_cut<C: ANSIFmt, D: ANSIFmt, A: Allocator>(
 
 /// Appends what stands between two colours, and then a character `count` times.
 #[inline(always)]
-pub fn push_after_cut<C: ANSIFmt, D: ANSIFmt, A: Allocator>(
+pub(crate) fn push_after_cut<C: ANSIFmt, D: ANSIFmt, A: Allocator>(
     buf: &mut String<A>,
     before: Option<&C>,
     c: char,
@@ -43,7 +43,7 @@ pub fn push_after_cut<C: ANSIFmt, D: ANSIFmt, A: Allocator>(
 }
 
 /// Appends what opens a colour, and nothing where there is none.
-pub fn push_prefix<C: ANSIFmt, A: Allocator>(
+pub(crate) fn push_prefix<C: ANSIFmt, A: Allocator>(
     buf: &mut String<A>,
     color: Option<&C>,
 ) -> Result<(), AllocError>
@@ -56,7 +56,7 @@ pub fn push_prefix<C: ANSIFmt, A: Allocator>(
 }
 
 /// Appends what closes a colour, and nothing where there is none.
-pub fn push_suffix<C: ANSIFmt, A: Allocator>(
+pub(crate) fn push_suffix<C: ANSIFmt, A: Allocator>(
     buf: &mut String<A>,
     color: Option<&C>,
 ) -> Result<(), AllocError>

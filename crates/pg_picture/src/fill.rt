@@ -40,7 +40,7 @@ pub fn push_char<A: Allocator>(buf: &mut String<A>, c: char) -> Result<(), Alloc
 /// An `Err` comes only where the buffer has no room for all of them and gets no more memory; then
 /// some of their bytes may stand in it.
 #[inline(always)]
-pub fn push_repeated<A: Allocator>(
+pub(crate) fn push_repeated<A: Allocator>(
     buf: &mut String<A>,
     c: char,
     count: usize,

@@ -53,7 +53,7 @@ pub(crate) fn push_colored_run<C: ANSIFmt, A: Allocator>(
 ///
 /// An error comes only where the buffer's room is too small; the buffer then holds a beginning.
 #[inline(always)]
-pub fn push_words<C: ANSIFmt, A: Allocator>(
+pub(crate) fn push_words<C: ANSIFmt, A: Allocator>(
     buf: &mut String<A>,
     text: &str,
     color: Option<&C>,

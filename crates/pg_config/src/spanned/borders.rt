@@ -296,7 +296,7 @@ impl<A: Allocator> SpannedConfig<A> {
 
 // The value of a horizontal in row line `row` of a table of `rows` rows.
 #[tactic(auto, unfolding(pg_layout::specs::Borders::horizontal_glyph))]
-pub fn horizontal_glyph<G>(borders: &Borders<G>, row: usize, rows: usize) -> Option<&G>
+pub(crate) fn horizontal_glyph<G>(borders: &Borders<G>, row: usize, rows: usize) -> Option<&G>
     ensures { option_map (λ x. x.now) result ≡ horizontal_glyph borders.now row rows }
 {
     if row == 0 {
@@ -311,7 +311,7 @@ pub fn horizontal_glyph<G>(borders: &Borders<G>, row: usize, rows: usize) -> Opt
 // The value of a vertical in column line `column` of a table of `columns` columns.
 #[tactic(auto, unfolding(pg_layout::specs::Borders::vertical_glyph))]
 #[inline(always)]
-pub fn vertical_glyph<G>(borders: &Borders<G>, column: usize, columns: usize) -> Option<&G>
+pub(crate) fn vertical_glyph<G>(borders: &Borders<G>, column: usize, columns: usize) -> Option<&G>
     ensures { option_map (λ x. x.now) result ≡ vertical_glyph borders.now column columns }
 {
     if column == 0 {
