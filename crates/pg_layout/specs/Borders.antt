@@ -2,12 +2,48 @@
 use Rattle.std.specs.Prelude.{ℕ, Bool, ◌&&◌, ◌||◌, ◌==◌, nat_lt, Option, None, is_some, if◌then◌else◌}
 use Rattle.pg_layout.specs.declared.borders.Borders.{Borders}
 use Rattle.pg_layout.specs.declared.borders.Border.{Border}
+use Rattle.pg_layout.specs.declared.borders.HorizontalLine.{HorizontalLine}
 
 abbrev pub no_borders : {G : Type 0} → Borders G
 no_borders = record { top = None; top_left = None; top_right = None; top_intersection = None; bottom = None; bottom_left = None; bottom_right = None; bottom_intersection = None; horizontal = None; left_intersection = None; right_intersection = None; intersection = None; left = None; right = None; vertical = None }
 
 abbrev pub no_border : {G : Type 0} → Border G
 no_border = record { top = None; bottom = None; left = None; right = None; top_left = None; top_right = None; bottom_left = None; bottom_right = None }
+
+-- ---- lines
+
+-- the first line of borders, one through the cells of a row, one between two rows, and the last one
+abbrev pub top_line : {G : Type 0} → Borders G → HorizontalLine G
+top_line b = record { main = b.top; intersection = b.top_intersection; left = b.top_left; right = b.top_right }
+
+abbrev pub cell_line : {G : Type 0} → Borders G → HorizontalLine G
+cell_line b = record { main = None; intersection = b.vertical; left = b.left; right = b.right }
+
+abbrev pub inner_line : {G : Type 0} → Borders G → HorizontalLine G
+inner_line b = record { main = b.horizontal; intersection = b.intersection; left = b.left_intersection; right = b.right_intersection }
+
+abbrev pub bottom_line : {G : Type 0} → Borders G → HorizontalLine G
+bottom_line b = record { main = b.bottom; intersection = b.bottom_intersection; left = b.bottom_left; right = b.bottom_right }
+
+-- the borders of these four, whatever stands in the cells
+abbrev pub of_lines : {G : Type 0} → HorizontalLine G → HorizontalLine G → HorizontalLine G → HorizontalLine G → Borders G
+of_lines top cells inner bottom = record {
+  top = top.main;
+  top_left = top.left;
+  top_right = top.right;
+  top_intersection = top.intersection;
+  bottom = bottom.main;
+  bottom_left = bottom.left;
+  bottom_right = bottom.right;
+  bottom_intersection = bottom.intersection;
+  horizontal = inner.main;
+  left_intersection = inner.left;
+  right_intersection = inner.right;
+  intersection = inner.intersection;
+  left = cells.left;
+  right = cells.right;
+  vertical = cells.intersection;
+}
 
 -- one of four values is set
 abbrev pub any_of : {G : Type 0} → Option G → Option G → Option G → Option G → Bool

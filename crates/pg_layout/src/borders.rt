@@ -1,7 +1,7 @@
 //! The glyphs of a table's borders, or their colours.
 
 ghost use Rattle.std.specs.Prelude.{◌≡◌, Bool, Option, Some, None, ◌&&◌, is_none};
-ghost use Rattle.pg_layout.specs.Borders.{no_borders, no_border, has_top, has_bottom, has_left, has_right, has_inner_horizontal, has_inner_vertical};
+ghost use Rattle.pg_layout.specs.Borders.{no_borders, no_border, top_line, cell_line, inner_line, bottom_line, of_lines, has_top, has_bottom, has_left, has_right, has_inner_horizontal, has_inner_vertical};
 
 /// One optional value for each kind of place on a table's border lines.
 ///
@@ -53,6 +53,37 @@ impl<T> Borders<T> {
             left: None,
             right: None,
             vertical: None,
+        }
+    }
+
+    // The borders of these lines: the first one, one through the cells of a row, one between two rows, and the
+    // last one. What stands in the cells is let go.
+    pub(crate) fn of_lines(
+        top: HorizontalLine<T>,
+        cells: HorizontalLine<T>,
+        inner: HorizontalLine<T>,
+        bottom: HorizontalLine<T>,
+    ) -> Borders<T>
+    where
+        T: Drop,
+        ensures { result ≡ of_lines top cells inner bottom }
+    {
+        Borders {
+            top: top.main,
+            top_left: top.left,
+            top_right: top.right,
+            top_intersection: top.intersection,
+            bottom: bottom.main,
+            bottom_left: bottom.left,
+            bottom_right: bottom.right,
+            bottom_intersection: bottom.intersection,
+            horizontal: inner.main,
+            left_intersection: inner.left,
+            right_intersection: inner.right,
+            intersection: inner.intersection,
+            left: cells.left,
+            right: cells.right,
+            vertical: cells.intersection,
         }
     }
 

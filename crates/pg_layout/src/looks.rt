@@ -1,9 +1,24 @@
 //! Borders by name, and the lines below a header that belong to them.
 
-ghost use Rattle.std.specs.Prelude.{◌≡◌};
-ghost use Rattle.pg_layout.specs.Looks.{ascii, modern, sharp, rounded, extended, dots, blank, psql, markdown, sharp_line, psql_line, markdown_line};
+ghost use Rattle.std.specs.Prelude.{◌≡◌, ◌∷◌, []};
+ghost use Rattle.pg_layout.specs.Looks.{drawn_line, ascii, modern, sharp, rounded, extended, dots, blank, psql, markdown, sharp_line, psql_line, markdown_line};
 
 use crate::borders::{Borders, HorizontalLine};
+
+// A line that isn't there.
+const NO_LINE: HorizontalLine<char> = HorizontalLine {
+    main: None,
+    intersection: None,
+    left: None,
+    right: None,
+};
+
+// A line of a drawing: what stands at its left end, in a column, between two columns and at its right end.
+fn line(left: char, main: char, intersection: char, right: char) -> HorizontalLine<char>
+    ensures { result ≡ drawn_line (left ∷ main ∷ intersection ∷ right ∷ []) }
+{
+    HorizontalLine::new(Some(main), Some(intersection), Some(left), Some(right))
+}
 
 /// Looks of whole tables. Each drawing shows two rows and two columns. A look without lines between rows takes
 /// a line below a header from [`HorizontalLine`].
@@ -20,23 +35,8 @@ impl Borders<char> {
     pub fn ascii() -> Borders<char>
         ensures { result ≡ ascii }
     {
-        Borders {
-            top: Some('-'),
-            top_left: Some('+'),
-            top_right: Some('+'),
-            top_intersection: Some('+'),
-            bottom: Some('-'),
-            bottom_left: Some('+'),
-            bottom_right: Some('+'),
-            bottom_intersection: Some('+'),
-            horizontal: Some('-'),
-            left_intersection: Some('+'),
-            right_intersection: Some('+'),
-            intersection: Some('+'),
-            left: Some('|'),
-            right: Some('|'),
-            vertical: Some('|'),
-        }
+        let ruled = line('+', '-', '+', '+');
+        Borders::of_lines(ruled, line('|', ' ', '|', '|'), ruled, ruled)
     }
 
     /// Single lines at all fifteen places.
@@ -51,23 +51,12 @@ impl Borders<char> {
     pub fn modern() -> Borders<char>
         ensures { result ≡ modern }
     {
-        Borders {
-            top: Some('─'),
-            top_left: Some('┌'),
-            top_right: Some('┐'),
-            top_intersection: Some('┬'),
-            bottom: Some('─'),
-            bottom_left: Some('└'),
-            bottom_right: Some('┘'),
-            bottom_intersection: Some('┴'),
-            horizontal: Some('─'),
-            left_intersection: Some('├'),
-            right_intersection: Some('┤'),
-            intersection: Some('┼'),
-            left: Some('│'),
-            right: Some('│'),
-            vertical: Some('│'),
-        }
+        Borders::of_lines(
+            line('┌', '─', '┬', '┐'),
+            line('│', ' ', '│', '│'),
+            line('├', '─', '┼', '┤'),
+            line('└', '─', '┴', '┘'),
+        )
     }
 
     /// Single lines round the table and between columns, and none between rows. The line below its header is
@@ -102,13 +91,12 @@ impl Borders<char> {
     pub fn rounded() -> Borders<char>
         ensures { result ≡ rounded }
     {
-        Borders {
-            top_left: Some('╭'),
-            top_right: Some('╮'),
-            bottom_left: Some('╰'),
-            bottom_right: Some('╯'),
-            ..Borders::sharp()
-        }
+        Borders::of_lines(
+            line('╭', '─', '┬', '╮'),
+            line('│', ' ', '│', '│'),
+            NO_LINE,
+            line('╰', '─', '┴', '╯'),
+        )
     }
 
     /// Double lines at all fifteen places.
@@ -123,23 +111,12 @@ impl Borders<char> {
     pub fn extended() -> Borders<char>
         ensures { result ≡ extended }
     {
-        Borders {
-            top: Some('═'),
-            top_left: Some('╔'),
-            top_right: Some('╗'),
-            top_intersection: Some('╦'),
-            bottom: Some('═'),
-            bottom_left: Some('╚'),
-            bottom_right: Some('╝'),
-            bottom_intersection: Some('╩'),
-            horizontal: Some('═'),
-            left_intersection: Some('╠'),
-            right_intersection: Some('╣'),
-            intersection: Some('╬'),
-            left: Some('║'),
-            right: Some('║'),
-            vertical: Some('║'),
-        }
+        Borders::of_lines(
+            line('╔', '═', '╦', '╗'),
+            line('║', ' ', '║', '║'),
+            line('╠', '═', '╬', '╣'),
+            line('╚', '═', '╩', '╝'),
+        )
     }
 
     /// Dots at all fifteen places.
@@ -154,23 +131,13 @@ impl Borders<char> {
     pub fn dots() -> Borders<char>
         ensures { result ≡ dots }
     {
-        Borders {
-            top: Some('.'),
-            top_left: Some('.'),
-            top_right: Some('.'),
-            top_intersection: Some('.'),
-            bottom: Some('.'),
-            bottom_left: Some(':'),
-            bottom_right: Some(':'),
-            bottom_intersection: Some(':'),
-            horizontal: Some('.'),
-            left_intersection: Some(':'),
-            right_intersection: Some(':'),
-            intersection: Some(':'),
-            left: Some(':'),
-            right: Some(':'),
-            vertical: Some(':'),
-        }
+        let ruled = line(':', '.', ':', ':');
+        Borders::of_lines(
+            line('.', '.', '.', '.'),
+            line(':', ' ', ':', ':'),
+            ruled,
+            ruled,
+        )
     }
 
     /// One space between columns, and no further line.
@@ -212,11 +179,7 @@ impl Borders<char> {
     pub fn markdown() -> Borders<char>
         ensures { result ≡ markdown }
     {
-        Borders {
-            left: Some('|'),
-            right: Some('|'),
-            ..Borders::psql()
-        }
+        Borders::of_lines(NO_LINE, line('|', ' ', '|', '|'), NO_LINE, NO_LINE)
     }
 }
 

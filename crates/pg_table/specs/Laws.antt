@@ -1,6 +1,6 @@
 -- What natural sizes give a table.
 use Rattle.std.specs.List.{range_with_len, list_all}
-use Rattle.std.specs.Prelude.{◌≡◌, ℕ, ◌<◌, ◌&&◌, true, not, List, [], ◌∷◌, map, length, Option, Some, None, if◌then◌else◌}
+use Rattle.std.specs.Prelude.{◌≡◌, ℕ, ◌<◌, ◌&&◌, true, not, List, [], map, length, Option, Some, None, if◌then◌else◌}
 use Rattle.pg_layout.specs.declared.position.Position.{Position}
 use Rattle.pg_layout.specs.declared.position.Entity.TheVariants.{Global}
 use Rattle.pg_layout.specs.declared.borders.Borders.{Borders}
@@ -8,7 +8,7 @@ use Rattle.pg_layout.specs.declared.borders.HorizontalLine.{HorizontalLine}
 use Rattle.pg_layout.specs.declared.sides.Indent.{Indent}
 use Rattle.pg_layout.specs.declared.sides.Sides.{Sides}
 use Rattle.pg_layout.specs.Colors.{Color}
-use Rattle.pg_layout.specs.Looks.{ascii, modern, sharp, rounded, extended, dots, blank, psql, markdown, sharp_line, psql_line, markdown_line}
+use Rattle.pg_layout.specs.Looks.{all_looks, all_header_lines}
 use Rattle.pg_layout.specs.Text.{Text, greatest}
 use Rattle.pg_config.specs.Config.{Config}
 use Rattle.pg_config.specs.Settings.{with_setting}
@@ -55,5 +55,5 @@ pub record LooksAreNarrow : Type 0 where
   pub borders : (config : Config) (b : Borders ℕ) → are_line_glyphs b ≡ true → IsNarrowLook config → IsNarrowLook (record config { borders = b })
   pub header : (config : Config) (line : HorizontalLine ℕ) (rows columns : ℕ) → is_of_line_glyphs line ≡ true → IsNarrowLook config → IsNarrowLook (with_header_line line rows columns config)
   pub padding : (config : Config) (sides : Sides Indent) → are_line_fills sides ≡ true → IsNarrowLook config → IsNarrowLook (record config { padding = with_setting Global sides config.padding })
-  pub looks : list_all are_line_glyphs (ascii ∷ modern ∷ sharp ∷ rounded ∷ extended ∷ dots ∷ blank ∷ psql ∷ markdown ∷ []) ≡ true
-  pub lines : list_all is_of_line_glyphs (sharp_line ∷ psql_line ∷ markdown_line ∷ []) ≡ true
+  pub looks : list_all are_line_glyphs all_looks ≡ true
+  pub lines : list_all is_of_line_glyphs all_header_lines ≡ true
