@@ -1,5 +1,8 @@
 -- Where nothing was set by its place for row lines, and no cell spans rows or columns, the separators between two rows are equal.
-use Rattle.std.proofs.Common.{◌≡◌, ℕ, ◌+◌, true, nat_lt, List, [], ◌∷◌, ◌++◌, map, Option, Some, None, refl, ap, ap₂, ◌∙◌, if◌then◌else◌}
+use Rattle.std.proofs.Common.{◌≡◌, ℕ, ◌+◌, Bool, true, false, ◌&&◌, ◌==◌, nat_lt, List, [], ◌∷◌, ◌++◌, length, map, Option, Some, None, refl, sym, ap, ap₂, ◌∙◌, arith, if◌then◌else◌}
+use Rattle.std.proofs.lemmas.Bool.{and_parts, false≢true}
+use Rattle.std.proofs.lemmas.Bool.Decides.{nat_tests}
+use Rattle.pg_config.specs.Spans.{Span}
 use Rattle.std.specs.List.{range_with_len}
 use Rattle.pg_layout.specs.Position.{at}
 use Rattle.pg_config.specs.Config.{Config, has_equal_row_lines, get_horizontal, get_horizontal_color}
@@ -8,6 +11,10 @@ use Rattle.pg_picture.specs.Pieces.{Item}
 use Rattle.pg_picture.specs.Table.{Table, border_glyph, border_items, crossing_at, column_items, separator_part, separator_items}
 use Rattle.pg_picture.proofs.PlainPictures.{flat_map-same}
 use Rattle.pg_picture.proofs.PlainTables.{crossing_plain, covered_plain}
+
+pub no-span : (spans : List Span) → (length spans == 0) ≡ true → spans ≡ []
+no-span [] none = refl
+no-span (s ∷ ss) none = let some : (length (s ∷ ss) == 0) ≡ false = grind (arith, nat_tests) in absurd (false≢true (sym some ∙ none))
 
 map-each : {X Y : Type 0} (f g : X → Y) → ((x : X) → f x ≡ g x) → (xs : List X) → map f xs ≡ map g xs
 map-each f g same [] = refl
@@ -47,3 +54,9 @@ module _ (t : Table) (none : t.config.spans ≡ []) (equal : has_equal_row_lines
   pub equal_separators : separator_items t r ≡ separator_items t s
   unfolding separator_items
   equal_separators = flat_map-same (separator_part t r) (separator_part t s) 0 (t.columns + 1) (λ x from to. separator_part-same x)
+
+-- where a configuration says that they are
+pub equal_when : (config : Config) {is : Bool} → is ≡ ((length config.spans == 0) && has_equal_row_lines config) → is ≡ true → (config.spans ≡ []) × (has_equal_row_lines config ≡ true)
+equal_when config said is =
+    let parts = and_parts (length config.spans == 0) (has_equal_row_lines config) (sym said ∙ is) in
+    (no-span config.spans parts.0, parts.1)

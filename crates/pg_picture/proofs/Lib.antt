@@ -47,3 +47,4 @@ pub mod FittingGrids
 pub mod ShownLines
 pub mod FirstPlaces
 pub mod ShownGrids
+pub mod UnruledRows

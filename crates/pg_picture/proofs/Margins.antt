@@ -1,5 +1,5 @@
 -- The texts of margins: a line of a top or bottom one, and a side margin.
-use Rattle.std.proofs.Common.{◌≡◌, ℕ, ◌+◌, ◌-◌, ◌<◌, true, false, inl, inr, [], nat_lt, min, Option, Some, None, ◌++◌, refl, sym, ap, ◌∙◌, arith}
+use Rattle.std.proofs.Common.{◌≡◌, ℕ, ◌+◌, ◌-◌, ◌<◌, ◌||◌, true, false, inl, inr, [], nat_lt, min, Option, Some, None, ◌++◌, refl, sym, ap, ◌∙◌, arith}
 use Rattle.std.proofs.lemmas.Bool.{cases_Bool}
 use Rattle.std.proofs.lemmas.Bool.Decides.{nat_tests}
 use Rattle.pg_layout.specs.declared.sides.Indent.{Indent}
@@ -51,6 +51,13 @@ written-side_none height indent offset color i none =
       | inl blank ↦ ap (λ n. repeated 32 n) (sym none) ∙ written-side_blank height indent offset color i blank
       | inr filled ↦ ap (λ n. written (fill indent.fill n color)) (sym none) ∙ written-side_filled height indent offset color i filled
     ]
+
+-- neither side margin has columns
+pub no_sides : (left right : ℕ) → (nat_lt 0 left || nat_lt 0 right) ≡ false → (left ≡ 0) × (right ≡ 0)
+no_sides left right none =
+    let l : left ≡ 0 = grind (arith, nat_tests, none) in
+    let r : right ≡ 0 = grind (arith, nat_tests, none) in
+    (l, r)
 
 -- where the height isn't known, a side margin is the same for each height that has the line
 pub side_margin-unknown : (indent : Indent) (offset : Offset) (color : Option Color) (i h : ℕ) → i < h

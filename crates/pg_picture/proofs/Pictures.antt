@@ -28,7 +28,7 @@ length-top t = length-replicate t.config.margin.top.size _
 
 pub picture-text : (hint : Hint) (t : Table) (height : ℕ) → height ≡ length (table_body t)
     → continued 0 (top_lines t)
-    ++ (body_text hint t (lines_before (t.config.margin.top.size == 0)) 0 (table_body t)
+    ++ (body_text hint t t.config.margin.top.size 0 (table_body t)
     ++ continued (lines_before ((t.config.margin.top.size == 0) && (height == 0))) (bottom_lines t))
     ≡ joined (picture_lines hint t)
 unfolding picture_lines body_text continued
@@ -38,8 +38,8 @@ picture-text hint t height is =
     let n : ℕ = t.config.margin.top.size in
     let before : length top ≡ n = length-top t in
     let drawn : length lines ≡ height = length-body_lines hint t 0 (table_body t) ∙ sym is in
-    let body_is : continued (lines_before (n == 0) + 0) lines ≡ continued (0 + length top) lines =
-    ap (λ k. continued k lines) (add-zero (lines_before (n == 0))) ∙ sym (continued-any (0 + length top) (n == 0) lines (ap (λ k. k == 0) (sym before ∙ sym (zero-add (length top))))) in
+    let body_is : continued (n + 0) lines ≡ continued (0 + length top) lines =
+    ap (λ k. continued k lines) (add-zero n ∙ sym before ∙ sym (zero-add (length top))) in
     let bottom_is : continued (lines_before ((n == 0) && (height == 0))) (bottom_lines t) ≡ continued ((0 + length top) + length lines) (bottom_lines t) =
     sym (continued-any ((0 + length top) + length lines) ((n == 0) && (height == 0)) (bottom_lines t)
     (none-of-two n height ∙ ap (λ k. k == 0) (ap₂ (λ a b. a + b) (sym before ∙ sym (zero-add (length top))) (sym drawn)))) in
@@ -51,15 +51,15 @@ picture-text hint t height is =
 pub picture-parts : (hint : Hint) (t : Table) (width height : ℕ) {is_first is_last : Bool} → width ≡ full_width t → height ≡ length (table_body t)
     → is_first ≡ (t.config.margin.top.size == 0) → is_last ≡ (is_first && (height == 0))
     → continued 0 (replicate t.config.margin.top.size (written (margin_line t.config.margin.top t.config.margin_offset.top t.config.margin_color.top width)))
-    ++ (body_text hint t (lines_before is_first) 0 (table_body t)
+    ++ (body_text hint t t.config.margin.top.size 0 (table_body t)
     ++ continued (lines_before is_last) (replicate t.config.margin.bottom.size (written (margin_line t.config.margin.bottom t.config.margin_offset.bottom t.config.margin_color.bottom width))))
     ≡ joined (picture_lines hint t)
 unfolding top_lines bottom_lines margin_lines
 picture-parts hint t width height {is_first} {is_last} wide high first last =
     let top = λ (w : ℕ). replicate t.config.margin.top.size (written (margin_line t.config.margin.top t.config.margin_offset.top t.config.margin_color.top w)) in
     let bottom = λ (w : ℕ). replicate t.config.margin.bottom.size (written (margin_line t.config.margin.bottom t.config.margin_offset.bottom t.config.margin_color.bottom w)) in
-    ap (λ w. continued 0 (top w) ++ (body_text hint t (lines_before is_first) 0 (table_body t) ++ continued (lines_before is_last) (bottom w))) wide
-    ∙ ap₂ (λ a b. continued 0 (top_lines t) ++ (body_text hint t (lines_before a) 0 (table_body t) ++ continued (lines_before b) (bottom_lines t))) first (last ∙ ap (λ a. a && (height == 0)) first)
+    ap (λ w. continued 0 (top w) ++ (body_text hint t t.config.margin.top.size 0 (table_body t) ++ continued (lines_before is_last) (bottom w))) wide
+    ∙ ap (λ b. continued 0 (top_lines t) ++ (body_text hint t t.config.margin.top.size 0 (table_body t) ++ continued (lines_before b) (bottom_lines t))) (last ∙ ap (λ a. a && (height == 0)) first)
     ∙ picture-text hint t height high
 
 pub picture-none : (hint : Hint) (t : Table) → ((t.rows == 0) || (t.columns == 0)) ≡ true → picture hint t ≡ []

@@ -1,13 +1,15 @@
 -- The glyph of a vertical, where there is one and where there is none.
-use Rattle.std.proofs.Common.{◌≡◌, ℕ, [], Option, Some, None, refl}
+use Rattle.std.proofs.Common.{◌≡◌, ℕ, Bool, false, List, [], ◌∷◌, Option, Some, None, is_some, refl, sym, if◌then◌else◌}
+use Rattle.std.proofs.lemmas.Bool.{or_parts, false≢true}
 use Rattle.std.specs.Prelude.{unwrap_or}
 use Rattle.std.specs.Option.{option_or}
 use Rattle.pg_layout.specs.declared.position.Position.{Position}
 use Rattle.std.specs.Borrow.{Bor}
 use Rattle.pg_layout.specs.Colors.{Color, lent_color}
-use Rattle.pg_config.specs.Config.{Config, get_vertical, get_vertical_color}
-use Rattle.pg_config.specs.Offsets.{lookup_offset}
-use Rattle.pg_picture.specs.Pieces.{fill, written}
+use Rattle.pg_config.specs.Settings.{has_some}
+use Rattle.pg_config.specs.Config.{Config, has_offset_chars, get_vertical, get_vertical_color}
+use Rattle.pg_config.specs.Offsets.{Offsets, has_offsets, lookup_offset}
+use Rattle.pg_picture.specs.Pieces.{fill, glyph_piece, written}
 use Rattle.pg_picture.specs.Table.{vertical_at}
 use Rattle.pg_picture.proofs.PiecesOfLines.{written-nil}
 
@@ -21,6 +23,22 @@ offset_glyph : (o : Option ℕ) (g : ℕ) (color : Option Color) → fill (unwra
 offset_glyph (Some o) g color = refl
 offset_glyph None g color = refl
 
+-- nothing is found where nothing was set
+no_entries : {V : Type 0} (xs : List V) → has_some xs ≡ false → xs ≡ []
+no_entries [] none = refl
+no_entries (x ∷ xs) none = absurd (false≢true (sym none))
+
+lookup-none : {V : Type 0} (o : Offsets V) → has_offsets o ≡ false → (p : Position) (i w : ℕ) → lookup_offset o p i w ≡ None
+unfolding has_offsets lookup_offset
+lookup-none o none p i w =
+    let parts = or_parts (has_some o.from_start) (has_some o.from_end) none in
+    rw (no_entries o.from_start parts.0, no_entries o.from_end parts.1) refl
+
+border-alone : (border : Option ℕ) (own : Option Color) → (if is_some border then fill (unwrap_or (option_or None border) 0) 1 (option_or own None) else []) ≡ glyph_piece border own
+border-alone None own = refl
+border-alone (Some g) None = refl
+border-alone (Some g) (Some color) = refl
+
 module _ (config : Config) (columns h : ℕ) (p : Position) (i : ℕ) where
   pub vertical_at-none : get_vertical config p columns ≡ None → written (vertical_at config columns h p i) ≡ []
   unfolding vertical_at
@@ -31,3 +49,13 @@ module _ (config : Config) (columns h : ℕ) (p : Position) (i : ℕ) where
       ≡ fill (unwrap_or (lookup_offset config.vertical_chars p i h) g) 1 (option_or (get_vertical_color config p columns) (lookup_offset config.vertical_colors p i h))
   unfolding vertical_at
   vertical_at-some g some = rw some (offset_glyph (lookup_offset config.vertical_chars p i h) g (option_or (get_vertical_color config p columns) (lookup_offset config.vertical_colors p i h)))
+
+  -- where no glyph and no colour was set for a part of a line
+  pub vertical_at-border : has_offset_chars config ≡ false → vertical_at config columns h p i ≡ glyph_piece (get_vertical config p columns) (get_vertical_color config p columns)
+  unfolding vertical_at has_offset_chars
+  vertical_at-border none =
+      let parts = or_parts _ _ none in
+      let chars : has_offsets config.vertical_chars ≡ false = (or_parts _ _ parts.0).1 in
+      let colors : has_offsets config.vertical_colors ≡ false = (or_parts _ _ parts.1).1 in
+      rw (lookup-none config.vertical_chars chars p i h, lookup-none config.vertical_colors colors p i h)
+      (border-alone (get_vertical config p columns) (get_vertical_color config p columns))

@@ -6,3 +6,5 @@ pub mod Rectangles
 pub mod SpansByColumns
 pub mod Following
 pub mod Walks
+pub mod RowLines
+pub mod Sheets

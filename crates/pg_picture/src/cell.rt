@@ -141,6 +141,9 @@ fn push_right_side<B: Allocator, A: Allocator>(
 {
     let right = style.padding.right;
     let color = &style.padding_color.right;
+    if rest == 0 {
+        return push_padding(buf, right.fill, right.size, color);
+    }
     if let Some(size) = columns_together(style, right, color, rest) {
         return push_columns(buf, right.fill, size);
     }

@@ -12,11 +12,13 @@ mod fault;
 mod fill;
 pub mod fits;
 mod margin;
+mod pen;
 mod piece;
 mod place;
 mod run;
 mod separator_keeper;
 mod share;
+mod sheet;
 pub mod shown;
 mod table_margins;
 mod vertical;
@@ -30,11 +32,13 @@ pub use crate::facts::{TextFacts, count_empty_lines, text_width};
 pub use crate::fault::PrintFault;
 pub use crate::fill::{push_char, push_text};
 pub use crate::margin::{push_feed, push_margin_lines, push_side_margin};
+pub use crate::pen::{Drawn, Pen};
 pub use crate::piece::push_fill;
 pub use crate::place::CellPlace;
 pub use crate::run::Run;
 pub use crate::separator_keeper::{SEPARATOR_ROOM, SeparatorKeeper};
 pub use crate::share::{calculate_indent, indent_from_top};
+pub use crate::sheet::Sheet;
 pub use crate::table_margins::{
     push_bottom_margin, push_left_margin, push_right_margin, push_top_margin,
 };

@@ -1,0 +1,117 @@
+//! What a table is drawn by, whatever its cells come from.
+
+ghost use Rattle.std.specs.Prelude.{◌≡◌, ◌||◌, ◌==◌, nat_lt};
+ghost use Rattle.std.specs.Option.{ForSome};
+ghost use Rattle.pg_config.specs.Config.{has_column_lines, has_offset_chars};
+ghost use Rattle.pg_picture.specs.Inside.RowLines.{may_have_row_lines};
+ghost use Rattle.pg_config.specs.Cells.{IsStyleOfAll, style_of};
+
+use pg_config::{CellStyle, SpannedConfig};
+use std::alloc::{Allocator, Global};
+
+/// What a table is drawn by: its configuration, its sizes and its colours, and what of these is the same
+/// for all of its lines.
+///
+/// It is for who draws pieces of a table by themselves.
+#[derive(Drop)]
+pub struct Sheet<'a, D, C, B: Allocator = Global> {
+    pub config: &'a SpannedConfig<B>,
+    pub dimension: &'a D,
+    pub colors: &'a C,
+    pub columns: usize,
+    /// How many terminal columns a line has, its side margins among them.
+    pub width: usize,
+    /// How many lines the body has, where that is known.
+    pub height: Option<usize>,
+    /// The style that all cells have, where no setting is for some of them.
+    pub all: Option<CellStyle<'a, B>>,
+    ghost is_of_all: { ForSome all (λ style. IsStyleOfAll config.now (style_of style)) },
+    /// Whether some column line is there: else no vertical has a glyph.
+    pub draws_verticals: bool,
+    ghost is_lined: { draws_verticals ≡ has_column_lines config.now },
+    /// Whether a glyph or a colour was set for a part of a line.
+    pub has_single_glyphs: bool,
+    ghost is_single: { has_single_glyphs ≡ has_offset_chars config.now },
+    /// Whether some row line may be there: else there is no separator.
+    pub draws_separators: bool,
+    ghost is_ruled: { draws_separators ≡ may_have_row_lines config.now },
+    /// Whether a margin stands left or right of the lines.
+    pub has_sides: bool,
+    ghost is_sided: { has_sides ≡ (nat_lt 0 config.now.margin.left.size || nat_lt 0 config.now.margin.right.size) },
+    /// Whether the picture's first line is one of the body: there is no top margin.
+    pub begins_with_body: bool,
+    ghost is_begun: { begins_with_body ≡ (config.now.margin.top.size == 0) },
+}
+
+impl<'a, D, C, B: Allocator> Sheet<'a, D, C, B> {
+    /// A sheet of these parts, for a table of so many columns, whose lines are so wide; `height` is the
+    /// number of its body's lines, where that is known.
+    pub fn new(
+        config: &'a SpannedConfig<B>,
+        dimension: &'a D,
+        colors: &'a C,
+        columns: usize,
+        width: usize,
+        height: Option<usize>,
+    ) -> Sheet<'a, D, C, B>
+        ensures config { result.config.now ≡ config.now }
+        ensures dimension { result.dimension.now ≡ dimension.now }
+        ensures colors { result.colors.now ≡ colors.now }
+        ensures columns { result.columns ≡ columns }
+        ensures width { result.width ≡ width }
+        ensures height { result.height ≡ height }
+    {
+        let margin = config.get_margin();
+        Sheet {
+            config,
+            dimension,
+            colors,
+            columns,
+            width,
+            height,
+            all: CellStyle::of_all(config),
+            draws_verticals: config.has_column_lines(),
+            has_single_glyphs: config.has_offset_chars(),
+            draws_separators: may_have_row_lines(config),
+            has_sides: margin.left.size > 0 || margin.right.size > 0,
+            begins_with_body: margin.top.size == 0,
+        }
+    }
+
+    /// The same with other sizes; how wide its lines are, and how many the body has, stays as it was told.
+    pub fn with_dimension<'s, E>(&'s self, dimension: &'s E) -> Sheet<'s, E, C, B>
+        ensures config { result.config.now ≡ self.now.config.now }
+        ensures dimension { result.dimension.now ≡ dimension.now }
+        ensures colors { result.colors.now ≡ self.now.colors.now }
+        ensures columns { result.columns ≡ self.now.columns }
+        ensures width { result.width ≡ self.now.width }
+        ensures height { result.height ≡ self.now.height }
+    {
+        Sheet {
+            config: self.config,
+            dimension,
+            colors: self.colors,
+            columns: self.columns,
+            width: self.width,
+            height: self.height,
+            all: self.all,
+            draws_verticals: self.draws_verticals,
+            has_single_glyphs: self.has_single_glyphs,
+            draws_separators: self.draws_separators,
+            has_sides: self.has_sides,
+            begins_with_body: self.begins_with_body,
+        }
+    }
+}
+
+// Whether a row line may be there: the borders have one, or something was set for row lines by its place.
+#[tactic(auto, unfolding(crate::specs::Inside::RowLines::may_have_row_lines))]
+fn may_have_row_lines<B: Allocator>(config: &SpannedConfig<B>) -> bool
+    ensures { result ≡ may_have_row_lines config.now }
+{
+    let borders = config.get_borders();
+    borders.has_top()
+        || borders.has_bottom()
+        || borders.has_horizontal()
+        || !config.has_equal_row_lines()
+}
