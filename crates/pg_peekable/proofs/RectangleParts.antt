@@ -1,5 +1,5 @@
 -- The size of a rectangle as the calls answer it, and the lines above a row as a loop adds them up.
-use Rattle.std.proofs.Common.{◌≡◌, ℕ, ◌+◌, ◌-◌, ◌^◌, ◌<◌, ◌≤◌, cond, true, nat_lt, Option, None, Some, refl, sym, ap, ◌∙◌, arith, subst, if◌then◌else◌}
+use Rattle.std.proofs.Common.{◌≡◌, ℕ, ◌+◌, ◌-◌, ◌^◌, ◌<◌, ◌≤◌, cond, true, nat_lt, Option, None, Some, refl, sym, ap, ap₂, ◌∙◌, arith, subst, if◌then◌else◌}
 use Rattle.pg_layout.specs.declared.position.Position.{Position}
 use Rattle.pg_config.specs.Config.{has_horizontal}
 use Rattle.pg_config.specs.Spans.{Span, corner, left_span, rect_rows}
@@ -13,7 +13,7 @@ use Rattle.pg_picture.proofs.SumsOfSizes.{sum_by-from_more}
 use Rattle.pg_picture.proofs.FittingTables.{RectInside, rect_width-sized, rect_height_fits, width_answer, height_answer}
 use Rattle.pg_picture.proofs.OwnersOfPlaces.{InOrder}
 use Rattle.pg_picture.proofs.DrawnRectangles.{rect_of, rows_height-fits, line_place, line_inside, sep_place, sep_inside, corner_owns, corner_from, corner_to, corner_inside}
-use Rattle.pg_peekable.specs.Inside.Drawn.{ArePartsOf, CanDraw}
+use Rattle.pg_peekable.specs.Inside.Drawn.{CanDraw}
 use Rattle.pg_peekable.specs.Inside.Kept.{IsRectangle}
 use Rattle.pg_peekable.specs.Inside.Walks.{OwnsRow}
 use Rattle.pg_peekable.proofs.CanDraw.{in_order}
@@ -23,12 +23,12 @@ module _ (t : Table) (can : CanDraw t) where
   owner_inside p o = rect_of t (in_order t can) p o
 
   -- what the calls answer that add up widths and heights of the table's parts
-  module _ (u : Table) (parts : ArePartsOf t u) (p : Position) (o : IsOwner t p) where
+  module _ (u : Table) (same : u ≡ t) (p : Position) (o : IsOwner t p) where
     pub width-answer : (columns : ℕ) → columns ≡ t.columns → (answer : Option ℕ)
         → ((rows : ℕ) → answer ≡ if_fits (rect_width (sized u.config u.width u.height rows columns) p)) → answer ≡ Some (rect_width t p)
     width-answer columns is answer answers =
         answers t.rows
-        ∙ (λ i. if_fits (rect_width (sized (parts.config i) (λ x. parts.width x i) (λ r. parts.height r i) t.rows (is i)) p))
+        ∙ ap₂ (λ (s : Table) (n : ℕ). if_fits (rect_width (sized s.config s.width s.height t.rows n) p)) same is
         ∙ ap if_fits (rect_width-sized t p)
         ∙ width_answer t p can.fits.totals (owner_inside p o)
 
@@ -36,7 +36,7 @@ module _ (t : Table) (can : CanDraw t) where
         → answer ≡ (if nat_lt (p.row + rect_rows u.config.spans p) (2 ^ 64) then if_fits (height_of_rect u.config u.height p) else None) → answer ≡ Some (rect_height t p)
     height-answer answer answers =
         answers
-        ∙ (λ i. if nat_lt (p.row + rect_rows (parts.config i).spans p) (2 ^ 64) then if_fits (height_of_rect (parts.config i) (λ r. parts.height r i) p) else None)
+        ∙ ap (λ (s : Table). if nat_lt (p.row + rect_rows s.config.spans p) (2 ^ 64) then if_fits (height_of_rect s.config s.height p) else None) same
         ∙ height_answer t p can.fits.totals (owner_inside p o)
 
   -- one row more

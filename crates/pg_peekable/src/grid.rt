@@ -1,11 +1,10 @@
 //! The looked-up grid: it reads its records at any place.
 
-use crate::drawing::{Drawing, Drawn};
-use crate::path::Path;
+use crate::drawing::Drawing;
 use pg_config::SpannedConfig;
 use pg_layout::{Colors, Dimension, ExactRecords, PeekableRecords};
 use pg_picture::fits::{Misfit, body_height, full_width, table_fits};
-use pg_picture::{CellStyle, PrintFault, push_bottom_margin, push_top_margin};
+use pg_picture::{Drawn, PrintFault, Sheet, push_bottom_margin, push_top_margin};
 use std::alloc::{AllocError, Allocator};
 use std::marker::{Brand, PhantomData};
 
@@ -49,7 +48,8 @@ where
     ghost use Rattle.std.specs.Prelude.{◌≡◌, ◌++◌, ◌↔◌, true, Some, None, Err, IsOk, IfOk, OnOk, string_bytes};
     ghost use Rattle.pg_picture.specs.Appending.{Appends};
     ghost use Rattle.pg_picture.specs.Fits.{misfit_of};
-    ghost use Rattle.pg_picture.specs.Inside.Following.{lines_before, body_text};
+    ghost use Rattle.pg_picture.specs.Grids.{table_of_parts};
+    ghost use Rattle.pg_picture.specs.Inside.Following.{body_text};
     ghost use Rattle.pg_picture.specs.Joined.{joined};
     ghost use Rattle.pg_picture.specs.Picture.{picture, picture_lines};
     ghost use Rattle.pg_picture.specs.Printed.{Prints};
@@ -146,43 +146,44 @@ where
         requires full { IsFull (drawn R.Records D.Dimension C.Colors self.now) rows columns }
         ensures { Appends buf.old buf.new result (joined (picture_lines Known (drawn R.Records D.Dimension C.Colors self.now))) }
     {
-        let path = self.path(!self.config.spans().is_empty());
+        // Shows that the spans stand in order.
+        let _spans = self.config.spans();
         let width = full_width(self.config, &self.dimension, columns).unwrap();
         let height = body_height(self.config, &self.dimension, rows).unwrap();
         let is_first = self.config.get_margin().top.size == 0;
         push_top_margin(buf, self.config, width)?;
-        self.push_drawn::<Brand, A>(buf, rows, columns, height, path, is_first)?;
+        let sheet = Sheet::new(
+            self.config,
+            &self.dimension,
+            &self.colors,
+            columns,
+            width,
+            Some(height),
+        );
+        self.push_drawn::<Brand, A>(buf, sheet, rows)?;
         push_bottom_margin(buf, self.config, width, is_first && height == 0)
     }
 
-    // The lines of the body, of which there are so many, in this table; `is_first` tells whether no
-    // line stands before them.
+    // The lines of the body in the table of a sheet, which has so many rows.
     fn push_drawn<T: Drawn, A: Allocator>(
         &self,
         buf: &mut String<A>,
+        sheet: Sheet<'_, D, C, B>,
         rows: usize,
-        columns: usize,
-        height: usize,
-        path: Path,
-        is_first: bool,
     ) -> Result<(), AllocError>
-        requires is { drawn R.Records D.Dimension C.Colors self.now ≡ T.table }
-        requires shape { IsShapeOf T.table rows columns height path }
+        requires is { table_of_parts R.texts R.columns D.width D.height C.color self.now.records sheet.config.now sheet.dimension.now sheet.colors.now ≡ T.table }
+        requires shape { IsShapeOf T.table rows sheet.columns sheet.height }
         requires can { CanDraw T.table }
-        ensures { Appends buf.old buf.new result (body_text Known T.table (lines_before is_first) 0 (table_body T.table)) }
+        ensures { Appends buf.old buf.new result (body_text Known T.table T.table.config.margin.top.size 0 (table_body T.table)) }
     {
         let drawing: Drawing<'_, T, R, D, C, B> = Drawing {
             records: &self.records,
-            config: self.config,
-            dimension: &self.dimension,
-            colors: &self.colors,
             rows,
-            columns,
-            height,
-            path,
-            all: CellStyle::of_all(self.config),
+            is_colored: !sheet.colors.is_empty(),
+            is_spanned: !sheet.config.spans().is_empty(),
+            sheet,
             of: PhantomData,
         };
-        drawing.push_kept_body(buf, is_first)
+        drawing.push_kept_body(buf)
     }
 }

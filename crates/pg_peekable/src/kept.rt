@@ -7,9 +7,8 @@ ghost use Rattle.pg_picture.specs.Inside.Cells.{line_if};
 ghost use Rattle.pg_peekable.specs.Inside.Kept.{Reads, IsReading, IsKept, IsRectangle, IsSeparator, AllSlots};
 ghost use Rattle.std.proofs.Props.{props};
 
-use crate::drawing::Drawn;
 use pg_layout::{LineCursor, Position};
-use pg_picture::{CellPlace, SeparatorKeeper};
+use pg_picture::{CellPlace, Drawn, SeparatorKeeper};
 use std::alloc::{AllocError, Allocator};
 use std::marker::PhantomData;
 

@@ -6,7 +6,6 @@ mod drawing;
 mod grid;
 mod kept;
 mod lines;
-mod path;
 mod rows;
 mod separators;
 mod slots;

@@ -3,7 +3,7 @@
 ghost use Rattle.pg_peekable.specs.Inside.Lines.{IsLine, IsSeparatorLine};
 ghost use Rattle.std.proofs.Props.{props};
 
-use crate::drawing::Drawn;
+use pg_picture::Drawn;
 use std::marker::PhantomData;
 
 /// A line of a row: the row, and the line's number in it.

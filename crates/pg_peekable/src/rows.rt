@@ -12,14 +12,11 @@ ghost use Rattle.pg_peekable.specs.Inside.Kept.{IsReading};
 ghost use Rattle.pg_peekable.specs.Inside.Lines.{IsCellLine};
 ghost use Rattle.std.proofs.Props.{props};
 
-use crate::drawing::{Drawing, Drawn};
+use crate::drawing::Drawing;
 use crate::kept::{KeptCells, Reading};
 use crate::lines::RowLine;
 use pg_layout::{Colors, Dimension, PeekableRecords, Position};
-use pg_picture::{
-    CellPlace, CellStyle, TextFacts, push_block_line_of, push_single_line, push_vertical,
-    push_vertical_at,
-};
+use pg_picture::{CellPlace, CellStyle, Drawn, TextFacts, push_block_line_of, push_single_line};
 use std::alloc::{AllocError, Allocator};
 use std::marker::PhantomData;
 
@@ -67,10 +64,10 @@ where
     ) -> Result<(), AllocError>
         ensures { Appends buf.old buf.new result (written (flat_map (row_part T.table line.now.row line.now.number) (range_with_len 0 T.table.columns))) }
     {
-        if self.is_spanned() {
+        if self.is_spanned {
             return self.push_spanned_parts(buf, kept, line);
         }
-        for column in 0..self.columns {
+        for column in 0..self.sheet.columns {
             self.push_part(buf, kept, line, column)?;
         }
         Ok(())
@@ -88,8 +85,8 @@ where
         requires cell { IsCellLine T.table (at line.now.row column) (T.table.width column) (T.table.height line.now.row) line.now.number }
         ensures { Appends buf.old buf.new result (written (vertical T.table line.now.row line.now.number column) ++ written (cell_line T.table line.now.row column line.now.number)) }
     {
-        let height = self.height_of(line.row);
-        let width = self.width_of(column);
+        let height = self.pen().height_of(line.row);
+        let width = self.pen().width_of(column);
         let pos = Position::new(line.row, column);
         self.push_vertical(buf, line, column)?;
         self.push_cell(buf, kept, pos, width, height, line.number)
@@ -103,11 +100,10 @@ where
     ) -> Result<(), AllocError>
         ensures { Appends buf.old buf.new result (written (row_part T.table line.now.row line.now.number T.table.columns)) }
     {
-        self.push_vertical(buf, line, self.columns)
+        self.push_vertical(buf, line, self.sheet.columns)
     }
 
-    // A vertical, on a line of its row. Tables of the basic path have no glyphs and colours of single
-    // lines, which aren't looked up there.
+    // A vertical, on a line of its row.
     #[inline(always)]
     pub(super) fn push_vertical<A: Allocator>(
         &self,
@@ -118,13 +114,7 @@ where
         ensures { Appends buf.old buf.new result (written (vertical T.table line.now.row line.now.number column)) }
     {
         let pos = Position::new(line.row, column);
-        if self.is_basic() {
-            let glyph = self.config.get_vertical(pos, self.columns);
-            let color = self.config.get_vertical_color(pos, self.columns);
-            return push_vertical(buf, glyph, color);
-        }
-        let height = self.height_of(line.row);
-        push_vertical_at(buf, self.config, self.columns, height, pos, line.number)
+        self.pen().push_vertical(buf, pos, line.number)
     }
 
     // A line of a cell of so many columns and lines, which has room for its text.
@@ -141,7 +131,7 @@ where
         requires cell { IsCellLine T.table pos width height number }
         ensures { Appends buf.old buf.new result (written (line_of_cell T.table pos width height number)) }
     {
-        match &self.all {
+        match &self.sheet.all {
             Some(style) => {
                 let line = CellLine {
                     pos,
@@ -211,7 +201,7 @@ where
         ensures { Appends buf.old buf.new result (written (line_of_cell T.table line.entry.pos line.entry.width line.entry.height line.entry.number)) }
     {
         let text = self.text_of(line.pos);
-        let color = self.color_of(line.pos);
+        let color = self.pen().color_of(line.pos);
         push_single_line(buf, line.style, color, text, false, line.width)
     }
 
@@ -229,7 +219,7 @@ where
         let place = reading.place;
         let shown = reading.line_if(text, place.text_line_at(line.number));
         kept.keep_reading(line.pos, line.width, line.height, reading);
-        let color = self.color_of(line.pos);
+        let color = self.pen().color_of(line.pos);
         push_block_line_of(
             buf,
             line.style,

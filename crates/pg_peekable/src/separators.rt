@@ -9,11 +9,11 @@ ghost use Rattle.pg_picture.specs.Inside.Following.{items_after, last_color};
 ghost use Rattle.pg_picture.specs.Table.{separator_items, separator_part, crossing_at, border_items};
 ghost use Rattle.pg_peekable.specs.Inside.Lines.{IsInner};
 
-use crate::drawing::{Drawing, Drawn};
+use crate::drawing::Drawing;
 use crate::kept::KeptCells;
 use crate::lines::Separator;
 use pg_layout::{ANSIBuf, Colors, Dimension, PeekableRecords, Position};
-use pg_picture::{Run, push_text};
+use pg_picture::{Drawn, Run, push_text};
 use std::alloc::{AllocError, Allocator};
 
 impl<'g, T, R, D, C, B> Drawing<'g, T, R, D, C, B>
@@ -56,7 +56,7 @@ where
         }
         let from = buf.len();
         self.push_new_separator(buf, kept, separator)?;
-        if !self.is_spanned() && self.config.has_equal_row_lines() {
+        if self.pen().has_equal_separators() {
             kept.keep_separator(buf, from);
         }
         Ok(())
@@ -77,20 +77,20 @@ where
     }
 
     // What all columns add to a separator: from rectangle to rectangle where cells span others.
-    fn push_columns<A: Allocator>(
-        &self,
-        mut run: Run<'g, ANSIBuf<B>>,
+    fn push_columns<'s, A: Allocator>(
+        &'s self,
+        mut run: Run<'s, ANSIBuf<B>>,
         buf: &mut String<A>,
         kept: &mut KeptCells<'_, T>,
         separator: &Separator<T>,
-    ) -> Result<Run<'g, ANSIBuf<B>>, AllocError>
+    ) -> Result<Run<'s, ANSIBuf<B>>, AllocError>
         ensures appends { Appends buf.old buf.new result (items_after run.entry (flat_map (separator_part T.table separator.now.row) (range_with_len 0 T.table.columns))) }
         ensures color { IfOk result (λ after. after ≡ last_color run.entry (flat_map (separator_part T.table separator.now.row) (range_with_len 0 T.table.columns))) }
     {
-        if self.is_spanned() {
+        if self.is_spanned {
             return self.push_spanned_columns(run, buf, kept, separator);
         }
-        for column in 0..self.columns {
+        for column in 0..self.sheet.columns {
             run = self.push_column(run, buf, Position::new(separator.row, column))?;
         }
         Ok(run)
@@ -98,44 +98,43 @@ where
 
     // The crossing left of a column, and the column's horizontal.
     #[inline(always)]
-    pub(super) fn push_column<A: Allocator>(
-        &self,
-        run: Run<'g, ANSIBuf<B>>,
+    pub(super) fn push_column<'s, A: Allocator>(
+        &'s self,
+        run: Run<'s, ANSIBuf<B>>,
         buf: &mut String<A>,
         pos: Position,
-    ) -> Result<Run<'g, ANSIBuf<B>>, AllocError>
+    ) -> Result<Run<'s, ANSIBuf<B>>, AllocError>
         ensures appends { Appends buf.old buf.new result (items_after run.entry (crossing_at T.table.config T.table.rows T.table.columns pos ++ border_items T.table.config pos T.table.rows (T.table.width pos.col) (get_horizontal T.table.config pos T.table.rows))) }
         ensures color { IfOk result (λ after. after ≡ last_color run.entry (crossing_at T.table.config T.table.rows T.table.columns pos ++ border_items T.table.config pos T.table.rows (T.table.width pos.col) (get_horizontal T.table.config pos T.table.rows))) }
     {
-        let width = self.width_of(pos.col);
         let run = self.push_crossing(run, buf, pos)?;
-        run.border(buf, self.config, pos, width, self.rows)
+        self.pen().push_border(run, buf, pos, self.rows)
     }
 
     // The crossing at a place.
     #[inline(always)]
-    pub(super) fn push_crossing<A: Allocator>(
-        &self,
-        run: Run<'g, ANSIBuf<B>>,
+    pub(super) fn push_crossing<'s, A: Allocator>(
+        &'s self,
+        run: Run<'s, ANSIBuf<B>>,
         buf: &mut String<A>,
         pos: Position,
-    ) -> Result<Run<'g, ANSIBuf<B>>, AllocError>
+    ) -> Result<Run<'s, ANSIBuf<B>>, AllocError>
         ensures appends { Appends buf.old buf.new result (items_after run.entry (crossing_at T.table.config T.table.rows T.table.columns pos)) }
         ensures color { IfOk result (λ after. after ≡ last_color run.entry (crossing_at T.table.config T.table.rows T.table.columns pos)) }
     {
-        run.crossing(buf, self.config, pos, (self.rows, self.columns))
+        self.pen().push_crossing(run, buf, pos, self.rows)
     }
 
     // The crossing behind the last column.
-    fn push_last_crossing<A: Allocator>(
-        &self,
-        run: Run<'g, ANSIBuf<B>>,
+    fn push_last_crossing<'s, A: Allocator>(
+        &'s self,
+        run: Run<'s, ANSIBuf<B>>,
         buf: &mut String<A>,
         row: usize,
-    ) -> Result<Run<'g, ANSIBuf<B>>, AllocError>
+    ) -> Result<Run<'s, ANSIBuf<B>>, AllocError>
         ensures appends { Appends buf.old buf.new result (items_after run.entry (separator_part T.table row T.table.columns)) }
         ensures color { IfOk result (λ after. after ≡ last_color run.entry (separator_part T.table row T.table.columns)) }
     {
-        self.push_crossing(run, buf, Position::new(row, self.columns))
+        self.push_crossing(run, buf, Position::new(row, self.sheet.columns))
     }
 }

@@ -2,13 +2,13 @@
 
 ghost use Rattle.std.specs.Prelude.{◌≡◌};
 ghost use Rattle.pg_picture.specs.Appending.{Appends};
-ghost use Rattle.pg_picture.specs.Inside.Following.{lines_before, body_text};
+ghost use Rattle.pg_picture.specs.Inside.Following.{body_text};
 ghost use Rattle.pg_picture.specs.Table.{Known, table_body};
 
-use crate::drawing::{Drawing, Drawn};
+use crate::drawing::Drawing;
 use crate::kept::{KeptCell, KeptCells, KeptRectangle, no_slots};
 use pg_layout::{Colors, Dimension, PeekableRecords};
-use pg_picture::SEPARATOR_ROOM;
+use pg_picture::{Drawn, SEPARATOR_ROOM};
 use std::alloc::{AllocError, Allocator};
 
 /// How many columns a table has at most that needs few slots.
@@ -30,15 +30,11 @@ where
 {
     // The lines of the body, with as many slots as its columns need. Many slots cost more than they
     // save where each cell has one line.
-    pub(super) fn push_kept_body<A: Allocator>(
-        &self,
-        buf: &mut String<A>,
-        is_first: bool,
-    ) -> Result<(), AllocError>
-        ensures { Appends buf.old buf.new result (body_text Known T.table (lines_before is_first) 0 (table_body T.table)) }
+    pub(super) fn push_kept_body<A: Allocator>(&self, buf: &mut String<A>) -> Result<(), AllocError>
+        ensures { Appends buf.old buf.new result (body_text Known T.table T.table.config.margin.top.size 0 (table_body T.table)) }
     {
         let mut separator = [0; SEPARATOR_ROOM];
-        if self.columns <= FEW || !self.may_have_tall_cells() {
+        if self.sheet.columns <= FEW || !self.may_have_tall_cells() {
             let mut cells: [Option<KeptCell>; FEW] = no_slots();
             let mut rectangles: [Option<KeptRectangle<T>>; FEW] = no_slots();
             let mut kept: KeptCells<'_, T> = KeptCells::new(
@@ -46,9 +42,9 @@ where
                 &mut rectangles,
                 &mut separator,
             );
-            return self.push_body(buf, &mut kept, is_first);
+            return self.push_body(buf, &mut kept);
         }
-        if self.columns <= SOME {
+        if self.sheet.columns <= SOME {
             let mut cells: [Option<KeptCell>; SOME] = no_slots();
             let mut rectangles: [Option<KeptRectangle<T>>; SOME] = no_slots();
             let mut kept: KeptCells<'_, T> = KeptCells::new(
@@ -56,7 +52,7 @@ where
                 &mut rectangles,
                 &mut separator,
             );
-            return self.push_body(buf, &mut kept, is_first);
+            return self.push_body(buf, &mut kept);
         }
         let mut cells: [Option<KeptCell>; MANY] = no_slots();
         let mut rectangles: [Option<KeptRectangle<T>>; MANY] = no_slots();
@@ -65,16 +61,16 @@ where
             &mut rectangles,
             &mut separator,
         );
-        self.push_body(buf, &mut kept, is_first)
+        self.push_body(buf, &mut kept)
     }
 
     // Whether a cell may have more lines than one.
     fn may_have_tall_cells(&self) -> bool {
-        if self.is_spanned() {
+        if self.is_spanned {
             return true;
         }
         for row in 0..self.rows {
-            if self.height_of(row) > 1 {
+            if self.pen().height_of(row) > 1 {
                 return true;
             }
         }

@@ -14,13 +14,13 @@ ghost use Rattle.pg_picture.specs.Rectangles.{IsOwner};
 ghost use Rattle.pg_picture.specs.Inside.Rectangles.{rows_height};
 ghost use Rattle.pg_peekable.specs.Inside.Walks.{BeginsHere, BeginsAbove, OwnsRow, IsRowFrom};
 
-use crate::drawing::{Drawing, Drawn};
+use crate::drawing::Drawing;
 use crate::kept::{KeptCells, KeptRectangle};
 use crate::lines::{RowLine, Separator};
 use pg_config::Span;
 use pg_layout::{ANSIBuf, Colors, Dimension, PeekableRecords, Position};
-use pg_picture::Run;
 use pg_picture::fits::{columns_of, height_of_rows, width_of_columns};
+use pg_picture::{Drawn, Run};
 use std::alloc::{AllocError, Allocator};
 use std::marker::PhantomData;
 
@@ -42,7 +42,7 @@ where
         ensures { Appends buf.old buf.new result (written (flat_map (row_part T.table line.now.row line.now.number) (range_with_len 0 T.table.columns))) }
     {
         let mut column = 0;
-        while column < self.columns {
+        while column < self.sheet.columns {
             let span = self.left_span(Position::new(line.row, column));
             self.push_spanned_part(buf, kept, line, column, span)?;
             column += columns_of(span);
@@ -86,18 +86,18 @@ where
     }
 
     // What all columns add to a separator, from rectangle to rectangle from above.
-    pub(super) fn push_spanned_columns<A: Allocator>(
-        &self,
-        mut run: Run<'g, ANSIBuf<B>>,
+    pub(super) fn push_spanned_columns<'s, A: Allocator>(
+        &'s self,
+        mut run: Run<'s, ANSIBuf<B>>,
         buf: &mut String<A>,
         kept: &mut KeptCells<'_, T>,
         separator: &Separator<T>,
-    ) -> Result<Run<'g, ANSIBuf<B>>, AllocError>
+    ) -> Result<Run<'s, ANSIBuf<B>>, AllocError>
         ensures appends { Appends buf.old buf.new result (items_after run.entry (flat_map (separator_part T.table separator.now.row) (range_with_len 0 T.table.columns))) }
         ensures color { IfOk result (λ after. after ≡ last_color run.entry (flat_map (separator_part T.table separator.now.row) (range_with_len 0 T.table.columns))) }
     {
         let mut column = 0;
-        while column < self.columns {
+        while column < self.sheet.columns {
             let span = self.span_above(Position::new(separator.row, column));
             run = self.push_spanned_column(run, buf, kept, separator, column, span)?;
             column += columns_of(span);
@@ -106,15 +106,15 @@ where
     }
 
     // A crossing, and the rectangle's line or the horizontal behind it.
-    fn push_spanned_column<A: Allocator>(
-        &self,
-        run: Run<'g, ANSIBuf<B>>,
+    fn push_spanned_column<'s, A: Allocator>(
+        &'s self,
+        run: Run<'s, ANSIBuf<B>>,
         buf: &mut String<A>,
         kept: &mut KeptCells<'_, T>,
         separator: &Separator<T>,
         column: usize,
         span: Option<Span>,
-    ) -> Result<Run<'g, ANSIBuf<B>>, AllocError>
+    ) -> Result<Run<'s, ANSIBuf<B>>, AllocError>
         requires begins { BeginsAbove T.table separator.now.row column span }
         ensures appends { Appends buf.old buf.new result (items_after run.entry (separator_part T.table separator.now.row column)) }
         ensures color { IfOk result (λ after. after ≡ last_color run.entry (separator_part T.table separator.now.row column)) }
@@ -126,15 +126,15 @@ where
     }
 
     // A crossing, and the line of the rectangle behind it, with no colour open.
-    fn push_block<A: Allocator>(
-        &self,
-        run: Run<'g, ANSIBuf<B>>,
+    fn push_block<'s, A: Allocator>(
+        &'s self,
+        run: Run<'s, ANSIBuf<B>>,
         buf: &mut String<A>,
         kept: &mut KeptCells<'_, T>,
         separator: &Separator<T>,
         column: usize,
         span: Span,
-    ) -> Result<Run<'g, ANSIBuf<B>>, AllocError>
+    ) -> Result<Run<'s, ANSIBuf<B>>, AllocError>
         requires span { span_above T.table.config.spans separator.now.row column ≡ Some span }
         ensures appends { Appends buf.old buf.new result (items_after run.entry (crossing_at T.table.config T.table.rows T.table.columns (at separator.now.row column) ++ block (block_at T.table (corner span) (sep separator.now.row)) ∷ [])) }
         ensures color { IfOk result (λ after. after ≡ last_color run.entry (crossing_at T.table.config T.table.rows T.table.columns (at separator.now.row column) ++ block (block_at T.table (corner span) (sep separator.now.row)) ∷ [])) }
@@ -181,15 +181,16 @@ where
         ensures corner { result.corner ≡ corner }
         ensures row { result.row ≡ corner.row }
     {
-        let (rows, columns) = self.config.rect_size(corner);
+        let (rows, columns) = self.sheet.config.rect_size(corner);
         let width = width_of_columns(
-            self.config,
-            self.dimension,
+            self.sheet.config,
+            self.sheet.dimension,
             corner,
             columns,
-            self.columns,
-        ).unwrap();
-        let height = height_of_rows(self.config, self.dimension, corner, rows).unwrap();
+            self.sheet.columns,
+        )
+        .unwrap();
+        let height = height_of_rows(self.sheet.config, self.sheet.dimension, corner, rows).unwrap();
         KeptRectangle {
             corner,
             width,
@@ -208,7 +209,7 @@ where
     {
         let mut lines = known.above;
         for above in known.row..row {
-            lines += self.height_of(above) + self.separators_at(above + 1);
+            lines += self.pen().height_of(above) + self.separators_at(above + 1);
         }
         lines
     }
@@ -217,7 +218,7 @@ where
     fn separators_at(&self, row: usize) -> usize
         ensures { result ≡ cond (has_horizontal T.table.config row T.table.rows) 1 0 }
     {
-        if self.has_horizontal(row) { 1 } else { 0 }
+        if self.has_separator(row) { 1 } else { 0 }
     }
 
     // Line `number` of a rectangle.

@@ -1,4 +1,4 @@
-use Rattle.std.proofs.Common.{◌≡◌, ◌++◌, List, refl}
+use Rattle.std.proofs.Common.{ℕ, ◌++◌, List, refl, sym, ap}
 use Rattle.pg_config.specs.Config.{get_horizontal}
 use Rattle.pg_picture.specs.Pieces.{Item}
 use Rattle.pg_picture.specs.Inside.Following.{items_after, last_color}
@@ -19,15 +19,15 @@ returns-clause-appends g c =
     let t = g.T.Drawn.table in
     let self = c.args.self.now in
     let crossing = crossing_at t.config t.rows t.columns c.args.pos in
-    let border : List Item = border_items self.config.now c.args.pos self.rows c.width_of-width.result (get_horizontal self.config.now c.args.pos self.rows) in
-    let is : crossing ++ border_items t.config c.args.pos t.rows (t.width c.args.pos.col) (get_horizontal t.config c.args.pos t.rows) ≡ crossing ++ border = rw (self.is.config, self.shape.rows, c.width_of-width.ensures) refl in
-    Appends-text (items_after-two c.args.run crossing border is c.in_ok-run.ensures.color) (c.in_ok-run.ensures.appends then c.border.ensures.appends)
+    let border : ℕ → List Item = λ rows. border_items t.config c.args.pos rows (t.width c.args.pos.col) (get_horizontal t.config c.args.pos rows) in
+    let is = ap (λ rows. crossing ++ border rows) (sym self.shape.rows) in
+    Appends-text (items_after-two c.args.run crossing (border self.rows) is c.in_ok-run.ensures.color) (c.in_ok-run.ensures.appends then c.push_border.ensures.appends)
 
 pub returns-clause-color : goal.returns-clause-color
 returns-clause-color g c =
     let t = g.T.Drawn.table in
     let self = c.args.self.now in
     let crossing = crossing_at t.config t.rows t.columns c.args.pos in
-    let border : List Item = border_items self.config.now c.args.pos self.rows c.width_of-width.result (get_horizontal self.config.now c.args.pos self.rows) in
-    let is : crossing ++ border_items t.config c.args.pos t.rows (t.width c.args.pos.col) (get_horizontal t.config c.args.pos t.rows) ≡ crossing ++ border = rw (self.is.config, self.shape.rows, c.width_of-width.ensures) refl in
-    IfOk-same (last_color-two c.args.run crossing border is c.in_ok-run.ensures.color) c.border.result c.border.ensures.color
+    let border : ℕ → List Item = λ rows. border_items t.config c.args.pos rows (t.width c.args.pos.col) (get_horizontal t.config c.args.pos rows) in
+    let is = ap (λ rows. crossing ++ border rows) (sym self.shape.rows) in
+    IfOk-same (last_color-two c.args.run crossing (border self.rows) is c.in_ok-run.ensures.color) c.push_border.result c.push_border.ensures.color

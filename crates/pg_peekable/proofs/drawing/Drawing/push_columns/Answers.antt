@@ -19,7 +19,7 @@ returns-in_err-run-clause-appends g c =
     let row = c.args.separator.now.row in
     let col = c.loop-column.column in
     let place = ap (λ (p : Position). crossing_at t.config t.rows t.columns p ++ border_items t.config p t.rows (t.width p.col) (get_horizontal t.config p t.rows)) c.new.ensures in
-    let items = sym (column-items t (c.is_spanned.ensures c.if-is_spanned.false) t.rows t.columns (t.width col) (at row col) refl refl refl here) in
+    let items = sym (column-items t (c.args.self.now.is_alone c.if-self.false) t.rows t.columns (t.width col) (at row col) refl refl refl here) in
     let is = place ∙ items in
     refused _ (items_after-columns_cut c.args.run (separator_part t row) col t.columns c.loop-column.invariant.color here) c.from_residual.ensures.0 c.loop-column.invariant.gained (Appends-text (ap (items_after c.loop-column.run) is) c.in_err-run.ensures.appends)
 
@@ -30,7 +30,7 @@ loop-column-preserved g c =
     let row = c.args.separator.now.row in
     let col = c.loop-column.column in
     let place = ap (λ (p : Position). crossing_at t.config t.rows t.columns p ++ border_items t.config p t.rows (t.width p.col) (get_horizontal t.config p t.rows)) c.new.ensures in
-    let items = sym (column-items t (c.is_spanned.ensures c.if-is_spanned.false) t.rows t.columns (t.width col) (at row col) refl refl refl here) in
+    let items = sym (column-items t (c.args.self.now.is_alone c.if-self.false) t.rows t.columns (t.width col) (at row col) refl refl refl here) in
     let is = place ∙ items in
     record {
       gained = Gained-text (sym (items_after-columns c.args.run (separator_part t row) col c.loop-column.invariant.color)) (Gained-more c.loop-column.invariant.gained (Appends-text (ap (items_after c.loop-column.run) is) c.in_ok-run.ensures.appends));

@@ -1,8 +1,7 @@
-use Rattle.std.proofs.Common.{◌≡◌, true, List, ℕ, Option, IfSome, subst, sym, ap, ◌∙◌}
+use Rattle.std.proofs.Common.{List, ℕ, Option, IfSome, subst, ap, ◌∙◌}
 use Rattle.std.specs.Borrow.{Bor}
-use Rattle.pg_config.specs.Config.{has_equal_row_lines}
 use Rattle.pg_picture.specs.Pieces.{separator_text}
-use Rattle.pg_picture.proofs.EqualSeparators.{equal_separators}
+use Rattle.pg_picture.proofs.EqualSeparators.{equal_separators, equal_when}
 use Rattle.pg_picture.proofs.Appending.{Appends-text}
 use Rattle.pg_picture.proofs.KeptTexts.{text-from}
 use Rattle.pg_peekable.specs.Inside.Kept.{IsSeparator}
@@ -11,10 +10,9 @@ use Rattle.pg_peekable.proofs.drawing.Drawing.push_inner_separator.Goals as goal
 pub keep_separator-requires : goal.keep_separator-requires
 keep_separator-requires g c =
     let t = g.T.Drawn.table in
-    let none = c.is_spanned.ensures c.if-not-is_spanned.true in
-    let equal : has_equal_row_lines t.config ≡ true = ap has_equal_row_lines (sym c.args.self.now.is.config) ∙ sym c.has_equal_row_lines.ensures ∙ c.if-has_equal_row_lines.true in
+    let equal = equal_when t.config c.has_equal_separators.ensures c.if-has_equal_separators.true in
     let here = text-from c.len-from.result (c.len-from.ensures ∙ c.args.buf.now.bytes.ok.0) c.in_ok-push_new_separator.ensures in
-    record { text = λ r inner. here ∙ ap separator_text (equal_separators t none equal c.args.separator.now.row r (record { some = c.requires.inner.some; less = c.requires.inner.row }) (record { some = inner.some; less = inner.row })) }
+    record { text = λ r inner. here ∙ ap separator_text (equal_separators t equal.0 equal.1 c.args.separator.now.row r (record { some = c.requires.inner.some; less = c.requires.inner.row }) (record { some = inner.some; less = inner.row })) }
 
 pub returns-in-Some : goal.returns-in-Some
 returns-in-Some g c =

@@ -3,10 +3,10 @@ use Rattle.std.specs.List.{range_with_len}
 use Rattle.pg_picture.proofs.Appending.{Gained}
 use Rattle.pg_picture.specs.Marks.{line}
 use Rattle.pg_picture.specs.Table.{Known}
-use Rattle.pg_picture.specs.Inside.Following.{lines_before, body_text}
+use Rattle.pg_picture.specs.Inside.Following.{body_text}
 use Rattle.pg_peekable.proofs.drawing.Drawing.push_lines.Given as goal
 
 abbrev pub invariant-loop-number : goal.invariant-loop-number
 invariant-loop-number g l =
     let t = g.T.Drawn.table in
-    Gained l.fn.buf l.buf (body_text Known t (lines_before l.is_first) l.index (map (line l.row) (range_with_len 0 l.number)))
+    Gained l.fn.buf l.buf (body_text Known t t.config.margin.top.size l.index (map (line l.row) (range_with_len 0 l.number)))

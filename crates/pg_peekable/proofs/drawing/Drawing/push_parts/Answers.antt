@@ -17,7 +17,7 @@ push_part-requires g c =
     let t = g.T.Drawn.table in
     let line = c.args.line.now in
     let here : c.loop-column.column < t.columns = omega (arith, c.args.self.now.shape.columns) in
-    let room = plain_room t c.args.self.now.can (c.is_spanned.ensures c.if-is_spanned.false) (at line.row c.loop-column.column) line.is.row here in
+    let room = plain_room t c.args.self.now.can (c.args.self.now.is_alone c.if-self.false) (at line.row c.loop-column.column) line.is.row here in
     record { cell = record { row = line.is.row; column = here; room = room; line = line.is.line } }
 
 pub loop-column-preserved : goal.loop-column-preserved
@@ -25,7 +25,7 @@ loop-column-preserved g c =
     let t = g.T.Drawn.table in
     let line = c.args.line.now in
     let here : c.loop-column.column < t.columns = omega (arith, c.args.self.now.shape.columns) in
-    let text = part-text t (c.is_spanned.ensures c.if-is_spanned.false) (at line.row c.loop-column.column) line.number line.is.row here line.is.line in
+    let text = part-text t (c.args.self.now.is_alone c.if-self.false) (at line.row c.loop-column.column) line.number line.is.row here line.is.line in
     Gained-text (sym (written-columns (row_part t line.row line.number) c.loop-column.column)) (Gained-more c.loop-column.invariant (Appends-text text c.in_ok-push_part.ensures))
 
 pub returns-in_err-push_part : goal.returns-in_err-push_part
@@ -33,7 +33,7 @@ returns-in_err-push_part g c =
     let t = g.T.Drawn.table in
     let line = c.args.line.now in
     let here : c.loop-column.column < t.columns = omega (arith, c.args.self.now.shape.columns) in
-    let text = part-text t (c.is_spanned.ensures c.if-is_spanned.false) (at line.row c.loop-column.column) line.number line.is.row here line.is.line in
+    let text = part-text t (c.args.self.now.is_alone c.if-self.false) (at line.row c.loop-column.column) line.number line.is.row here line.is.line in
     refused _ (written-columns_cut (row_part t line.row line.number) c.loop-column.column t.columns here) c.from_residual.ensures.0 c.loop-column.invariant (Appends-text text c.in_err-push_part.ensures)
 
 pub returns : goal.returns

@@ -18,4 +18,4 @@ invariant-loop-column g l =
     }
 
 abbrev pub decreases-loop-column : goal.decreases-loop-column
-decreases-loop-column g l = l.self.columns - l.column
+decreases-loop-column g l = l.self.sheet.columns - l.column
