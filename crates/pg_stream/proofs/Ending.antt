@@ -22,7 +22,7 @@ use Rattle.pg_picture.proofs.Ranges.{range-more}
 use Rattle.pg_stream.specs.Inside.Drawing.{reach, open_separator_part, open_separator, below_text}
 use Rattle.pg_stream.specs.Placed.{Placed, slots_of, AllOpen}
 use Rattle.pg_stream.specs.Printers.{IsSound}
-use Rattle.pg_stream.specs.Printing.{Printing, hint_of, frame_of, text_known, table_known, lines_below, lines_printed, finish_lines, finish_text}
+use Rattle.pg_stream.specs.Printing.{Printing, hint_of, text_known, table_known, lines_below, lines_printed, finish_lines, finish_text}
 use Rattle.pg_stream.proofs.OpenLists.{all-open}
 use Rattle.pg_stream.proofs.OwnersOfCells.{columns-same}
 use Rattle.pg_stream.proofs.Reaches.{reaching}
@@ -85,9 +85,9 @@ module _ (t : Table) (m : ℕ) (f : Position → Text) (cells : List (Option Pla
 
 -- ---- after the last row
 
-module _ (s : Printing) (w : ℕ) (height : Option ℕ) (cells : List (Option Placed)) (slots : s.slots ≡ slots_of cells) (sound : IsSound s (frame_of s) w height cells) (ended : s.is_ended ≡ true) where
+module _ (s : Printing) (w : ℕ) (height : Option ℕ) (cells : List (Option Placed)) (slots : s.slots ≡ slots_of cells) (sound : IsSound s s.table w height cells) (ended : s.is_ended ≡ true) where
   abbrev t : Table
-  t = frame_of s
+  t = s.table
 
   abbrev m : ℕ
   m = s.rows
@@ -95,7 +95,7 @@ module _ (s : Printing) (w : ℕ) (height : Option ℕ) (cells : List (Option Pl
   abbrev f : Position → Text
   f = text_known s.rows s.slots []
 
-  closed : (x : ℕ) (c : Placed) → x < s.columns → get_or cells x None ≡ Some c → ⊥
+  closed : (x : ℕ) (c : Placed) → x < s.table.columns → get_or cells x None ≡ Some c → ⊥
   closed x c h here =
       let a = owner-above s w height cells slots sound x h in
       let own = a.some c here in
@@ -103,10 +103,10 @@ module _ (s : Printing) (w : ℕ) (height : Option ℕ) (cells : List (Option Pl
       let all = owners s w height cells slots sound in
       let n = all.near m x in
       let row = ap (λ (p : Position). p.row) own in
-      let mine = owner-own s.config.spans all m x in
-      let end = owner-ends s.config.spans m s.columns (apart s w height cells slots sound) (sound.ended ended) (owner s.config.spans m x).row (owner s.config.spans m x).col (omega (arith, row, above)) in
+      let mine = owner-own s.table.config.spans all m x in
+      let end = owner-ends s.table.config.spans m s.table.columns (apart s w height cells slots sound) (sound.ended ended) (owner s.table.config.spans m x).row (owner s.table.config.spans m x).col (omega (arith, row, above)) in
       let mine_row = ap (λ (p : Position). p.row) mine in
-      let mine_rows = ap (λ p. rect_rows s.config.spans p) mine in
+      let mine_rows = ap (λ p. rect_rows s.table.config.spans p) mine in
       omega (arith, end, mine_row, mine_rows, n.above)
 
   pub no_cells : (P : ℕ → Placed → Type 0) → AllOpen P cells
@@ -133,47 +133,47 @@ module _ (s : Printing) (w : ℕ) (height : Option ℕ) (cells : List (Option Pl
   unfolding mark_text
   separator-is = ap separator_text (sym (separator-bare t m f cells no_cell))
 
-  body-is : length (table_body (other t m f)) ≡ s.lines + length (only_if (has_horizontal s.config m m) (sep m))
+  body-is : length (table_body (other t m f)) ≡ s.lines + length (only_if (has_horizontal s.table.config m m) (sep m))
   unfolding table_body body
-  body-is = let e = length-append (marks_above s.config s.height m) (only_if (has_horizontal s.config m m) (sep m)) in omega (arith, e, sound.lines)
+  body-is = let e = length-append (marks_above s.table.config s.table.height m) (only_if (has_horizontal s.table.config m m) (sep m)) in omega (arith, e, sound.lines)
 
-  printed-is : 0 < m → lines_printed s ≡ s.config.margin.top.size + s.lines
+  printed-is : 0 < m → lines_printed s ≡ s.table.config.margin.top.size + s.lines
   unfolding lines_printed
   printed-is some = let e : (m == 0) ≡ false = grind (arith, nat_tests, some) in rw e refl
 
-  bottom-is : bottom_lines (other t m f) ≡ replicate s.config.margin.bottom.size (written (margin_line s.config.margin.bottom s.config.margin_offset.bottom s.config.margin_color.bottom w))
+  bottom-is : bottom_lines (other t m f) ≡ replicate s.table.config.margin.bottom.size (written (margin_line s.table.config.margin.bottom s.table.config.margin_offset.bottom s.table.config.margin_color.bottom w))
   unfolding bottom_lines margin_lines full_width total_width
   bottom-is = rw sound.full refl
 
-  bare-is : (is_first there : Bool) → is_first ≡ (s.config.margin.top.size == 0) → there ≡ has_horizontal s.config m m
-      → ((is_first && (s.lines == 0)) && not there) ≡ (((s.config.margin.top.size + s.lines) + length (only_if (has_horizontal s.config m m) (sep m))) == 0)
-  bare-is is_first there first is = ap (λ b. (is_first && (s.lines == 0)) && not b) is ∙ by_case (has_horizontal s.config m m)
+  bare-is : (is_first there : Bool) → is_first ≡ (s.table.config.margin.top.size == 0) → there ≡ has_horizontal s.table.config m m
+      → ((is_first && (s.lines == 0)) && not there) ≡ (((s.table.config.margin.top.size + s.lines) + length (only_if (has_horizontal s.table.config m m) (sep m))) == 0)
+  bare-is is_first there first is = ap (λ b. (is_first && (s.lines == 0)) && not b) is ∙ by_case (has_horizontal s.table.config m m)
     where
       and_true : (b : Bool) → (b && true) ≡ b
       and_true true = refl
       and_true false = refl
 
-      by_case : (b : Bool) → ((is_first && (s.lines == 0)) && not b) ≡ (((s.config.margin.top.size + s.lines) + length (only_if b (sep m))) == 0)
-      by_case true = and_none (is_first && (s.lines == 0)) false refl ∙ (let e : (((s.config.margin.top.size + s.lines) + 1) == 0) ≡ false = grind (arith, nat_tests) in sym e)
+      by_case : (b : Bool) → ((is_first && (s.lines == 0)) && not b) ≡ (((s.table.config.margin.top.size + s.lines) + length (only_if b (sep m))) == 0)
+      by_case true = and_none (is_first && (s.lines == 0)) false refl ∙ (let e : (((s.table.config.margin.top.size + s.lines) + 1) == 0) ≡ false = grind (arith, nat_tests) in sym e)
       by_case false =
           and_true (is_first && (s.lines == 0))
-          ∙ ap (λ b. b && (s.lines == 0)) first ∙ none-of-two s.config.margin.top.size s.lines
-          ∙ ap (λ n. n == 0) (let e : s.config.margin.top.size + s.lines ≡ (s.config.margin.top.size + s.lines) + 0 = omega arith in e)
+          ∙ ap (λ b. b && (s.lines == 0)) first ∙ none-of-two s.table.config.margin.top.size s.lines
+          ∙ ap (λ n. n == 0) (let e : s.table.config.margin.top.size + s.lines ≡ (s.table.config.margin.top.size + s.lines) + 0 = omega arith in e)
 
-  pub finish_text-is : (is_first there : Bool) → 0 < m → is_first ≡ (s.config.margin.top.size == 0) → there ≡ has_horizontal s.config m m
-      → below_text t height is_first cells m s.lines
-      ++ continued (lines_before ((is_first && (s.lines == 0)) && not there)) (replicate s.config.margin.bottom.size (written (margin_line s.config.margin.bottom s.config.margin_offset.bottom s.config.margin_color.bottom w)))
+  pub finish_text-is : (is_first there : Bool) → 0 < m → is_first ≡ (s.table.config.margin.top.size == 0) → there ≡ has_horizontal s.table.config m m
+      → below_text t height cells m s.lines
+      ++ continued (lines_before ((is_first && (s.lines == 0)) && not there)) (replicate s.table.config.margin.bottom.size (written (margin_line s.table.config.margin.bottom s.table.config.margin_offset.bottom s.table.config.margin_color.bottom w)))
       ≡ finish_text s
   unfolding finish_text finish_lines table_known lines_below
   finish_text-is is_first there some first is =
       let T : Table = other t m f in
-      let top : ℕ = s.config.margin.top.size in
-      let xs : List Mark = only_if (has_horizontal s.config m m) (sep m) in
+      let top : ℕ = s.table.config.margin.top.size in
+      let xs : List Mark = only_if (has_horizontal s.table.config m m) (sep m) in
       let X : List Text = body_lines (hint_of s.hint) T s.lines xs in
       let no_rows : (m == 0) ≡ false = grind (arith, nat_tests, some) in
       let whole = body-is in
       let count = length-body_lines (hint_of s.hint) T s.lines xs in
-      let below = below-mark (hint_of s.hint) t m f m s.lines height is_first (length (table_body T)) (knows_by s.hint sound.high sound.hinted) first cells (has_horizontal s.config m m) refl (omega (arith, whole)) refl separator-is in
+      let below = below-mark (hint_of s.hint) t m f m s.lines height (length (table_body T)) (knows_by s.hint sound.high sound.hinted) cells (has_horizontal s.table.config m m) refl (omega (arith, whole)) refl separator-is in
       sym ((rw no_rows refl)
       ∙ ap (λ n. continued n (X ++ bottom_lines T)) (printed-is some)
       ∙ continued-append (top + s.lines) X (bottom_lines T)

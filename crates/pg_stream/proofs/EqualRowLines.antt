@@ -1,18 +1,16 @@
 -- Where nothing was set by its place for row lines, and no cell is open, the separators above all rows but the first are equal.
 use Rattle.std.proofs.Common.{◌≡◌, ℕ, ◌+◌, ◌<◌, Bool, true, ◌&&◌, ◌==◌, List, [], ◌++◌, length, replicate, Option, None, sym, ap, ap₂, ◌∙◌, arith}
-use Rattle.std.proofs.lemmas.Bool.{and_parts}
 use Rattle.pg_layout.specs.Position.{at}
 use Rattle.pg_layout.specs.Text.{Text}
 use Rattle.pg_config.specs.Config.{has_equal_row_lines}
 use Rattle.pg_config.proofs.EqualLines.{SameLines, inner_lines}
 use Rattle.pg_picture.specs.Pieces.{Item, separator_text}
 use Rattle.pg_picture.specs.Table.{Table}
-use Rattle.pg_picture.proofs.EqualSeparators.{crossing_at-same, horizontal-same}
+use Rattle.pg_picture.proofs.EqualSeparators.{crossing_at-same, horizontal-same, equal_when}
 use Rattle.pg_picture.proofs.PlainPictures.{flat_map-same}
 use Rattle.pg_stream.specs.Inside.Drawing.{open_separator_part, open_separator, IsSeparator}
 use Rattle.pg_stream.specs.Placed.{Placed}
 use Rattle.pg_stream.proofs.Ending.{reach-empty}
-use Rattle.pg_stream.proofs.SingleLines.{no-span}
 use Rattle.pg_stream.proofs.Starting.{none-at}
 
 module _ (t : Table) (equal : has_equal_row_lines t.config ≡ true) (r s : ℕ) (some_r : 0 < r) (some_s : 0 < s) where
@@ -43,6 +41,5 @@ module _ (t : Table) (cells : List (Option Placed)) (row : ℕ) (some : 0 < row)
   -- and this may be kept where all of them are equal
   pub keeps : (b : Bool) → b ≡ ((length t.config.spans == 0) && has_equal_row_lines t.config) → b ≡ true → text ≡ separator_text (open_separator t (row + 1) cells row) → IsSeparator t text
   keeps b is e here =
-      let parts = and_parts (length t.config.spans == 0) (has_equal_row_lines t.config) (sym is ∙ e) in
-      let none = no-span t.config.spans parts.0 in
-      (none, λ r more. here ∙ ap (λ l. separator_text (open_separator t (row + 1) l row)) (alone none) ∙ ap separator_text (equal_separators t parts.1 row r some more))
+      let equal = equal_when t.config is e in
+      (equal.0, λ r more. here ∙ ap (λ l. separator_text (open_separator t (row + 1) l row)) (alone equal.0) ∙ ap separator_text (equal_separators t equal.1 row r some more))

@@ -36,7 +36,6 @@ pub mod SingleCells
 pub mod FittingCells
 pub mod LineStyles
 pub mod EqualRowLines
-pub mod UnruledRows
 pub mod RowsInTurn
 pub mod MakingPrinters
 pub mod RowsOfCells

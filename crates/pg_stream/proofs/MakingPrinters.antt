@@ -13,7 +13,7 @@ use Rattle.pg_picture.specs.declared.fits.Misfit.{Misfit}
 use Rattle.pg_picture.specs.declared.fits.Misfit.TheVariants.{Spans, Totals}
 use Rattle.pg_picture.proofs.FittingTables.{none_is}
 use Rattle.pg_stream.specs.Conditions.{PrinterFits, rows_misfit, printer_misfit}
-use Rattle.pg_stream.specs.Printing.{Printing, printer, frame_of}
+use Rattle.pg_stream.specs.Printing.{Printing, printer}
 use Rattle.pg_stream.specs.declared.fault.StreamFault.{StreamFault}
 
 some≢none : {m : Misfit} → Some m ≡ None → ⊥
@@ -90,14 +90,14 @@ module _ (config : Config) (columns : ℕ) (width height : ℕ → ℕ) (color :
 
 -- what is asked of the rows, where their number is known
 abbrev RowsFitHint : Printing → Option ℕ → Type 0
-RowsFitHint s hint = IfSome hint (λ rows. (spans_fit s.config.spans rows s.columns ≡ true) × (totals_fit (record (frame_of s) { rows = rows }) ≡ true))
+RowsFitHint s hint = IfSome hint (λ rows. (spans_fit s.table.config.spans rows s.table.columns ≡ true) × (totals_fit (record s.table { rows = rows }) ≡ true))
 
 rows-fit : (s : Printing) (hint : Option ℕ) → rows_misfit s hint ≡ None → RowsFitHint s hint
 rows-fit s None e = tt
 rows-fit s (Some rows) e =
-    elim (cases_Bool (spans_fit s.config.spans rows s.columns)) [
+    elim (cases_Bool (spans_fit s.table.config.spans rows s.table.columns)) [
       | inr n ↦ absurd (some≢none (rw n at e))
-      | inl y ↦ elim (cases_Bool (totals_fit (record (frame_of s) { rows = rows }))) [ inl z ↦ (y, z) | inr n ↦ absurd (some≢none (rw (y, n) at e)) ]
+      | inl y ↦ elim (cases_Bool (totals_fit (record s.table { rows = rows }))) [ inl z ↦ (y, z) | inr n ↦ absurd (some≢none (rw (y, n) at e)) ]
     ]
 
 none-of-rows : (s : Printing) (hint : Option ℕ) → RowsFitHint s hint → rows_misfit s hint ≡ None
@@ -107,11 +107,11 @@ none-of-rows s (Some rows) h = rw (h.0, h.1) refl
 fits-of-none : (s : Printing) → printer_misfit s ≡ None → PrinterFits s
 unfolding printer_misfit
 fits-of-none s e =
-    elim (cases_Bool (nat_lt 0 s.columns && nat_lt s.columns (2 ^ 64 - 1))) [
+    elim (cases_Bool (nat_lt 0 s.table.columns && nat_lt s.table.columns (2 ^ 64 - 1))) [
       | inr n ↦ absurd (some≢none (rw n at e))
-      | inl counted ↦ elim (cases_Bool (spans_fit_columns s.config.spans s.columns)) [
+      | inl counted ↦ elim (cases_Bool (spans_fit_columns s.table.config.spans s.table.columns)) [
         | inr n ↦ absurd (some≢none (rw (counted, n) at e))
-        | inl apart ↦ elim (cases_Bool (nat_lt (full_width (frame_of s)) (2 ^ 64))) [
+        | inl apart ↦ elim (cases_Bool (nat_lt (full_width s.table) (2 ^ 64))) [
           | inr n ↦ absurd (some≢none (rw (counted, apart, n) at e))
           | inl narrow ↦ record {
             some = grind (arith, nat_tests, counted);
@@ -130,8 +130,8 @@ none-of-fits s fits =
     let some = fits.some in
     let few = fits.few in
     let width = fits.width in
-    let counted : (nat_lt 0 s.columns && nat_lt s.columns (2 ^ 64 - 1)) ≡ true = grind (arith, nat_tests, some, few) in
-    let narrow : nat_lt (full_width (frame_of s)) (2 ^ 64) ≡ true = grind (arith, nat_tests, width) in
+    let counted : (nat_lt 0 s.table.columns && nat_lt s.table.columns (2 ^ 64 - 1)) ≡ true = grind (arith, nat_tests, some, few) in
+    let narrow : nat_lt (full_width s.table) (2 ^ 64) ≡ true = grind (arith, nat_tests, width) in
     rw (counted, fits.spans, narrow) (none-of-rows s s.hint fits.hint)
 
 -- ---- what the calls tell

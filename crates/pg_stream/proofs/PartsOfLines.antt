@@ -1,11 +1,11 @@
 -- The text of a line of open cells: of no column, of some and of one more, and the line between its margins.
-use Rattle.std.proofs.Common.{◌≡◌, ℕ, ◌+◌, ◌-◌, ◌<◌, Bool, ◌&&◌, ◌==◌, List, [], ◌∷◌, ◌++◌, map, flat_map, slice_index_or, Option, Some, None, refl, sym, ap, ap₂, ◌∙◌, append_assoc, zero-add, add-zero, add_assoc}
+use Rattle.std.proofs.Common.{◌≡◌, ℕ, ◌+◌, ◌-◌, ◌<◌, List, [], ◌∷◌, ◌++◌, map, flat_map, slice_index_or, Option, Some, None, refl, sym, ap, ap₂, ◌∙◌, append_assoc, zero-add, add-zero, add_assoc}
 use Rattle.std.specs.List.{range_with_len}
 use Rattle.pg_layout.specs.Text.{Text}
 use Rattle.pg_config.specs.Config.{Config}
-use Rattle.pg_picture.specs.Inside.Following.{feed_before}
+use Rattle.pg_picture.specs.Inside.Margins.{line_start, line_end}
 use Rattle.pg_picture.specs.Pieces.{Piece, written}
-use Rattle.pg_picture.specs.Table.{Table, vertical, side_margin_at}
+use Rattle.pg_picture.specs.Table.{Table, vertical}
 use Rattle.pg_picture.proofs.PiecesOfLines.{written-append, written-nil}
 use Rattle.pg_picture.proofs.Ranges.{range-more, range-cut}
 use Rattle.pg_stream.specs.Inside.Drawing.{open_part, open_line, line_at, open_line_at, open_lines}
@@ -58,14 +58,10 @@ module _ (t : Table) (cells : List (Option Placed)) (r i : ℕ) where
       ap₂ (λ m y. written (flat_map (open_part t cells r i) (range_with_len 0 m)) ++ written (vertical t r i y)) all last
       ∙ sym (written-append (flat_map (open_part t cells r i) (range_with_len 0 t.columns)) (vertical t r i t.columns))
 
--- a line of the body: what stands before its text, the text, and the right margin
-pub line_at-parts : (config : Config) (height : Option ℕ) (is_first : Bool) (i : ℕ) (text : Text)
-    → (feed_before (is_first && (i == 0)) ++ written (side_margin_at height config.margin.left config.margin_offset.left config.margin_color.left i))
-    ++ (text ++ written (side_margin_at height config.margin.right config.margin_offset.right config.margin_color.right i))
-    ≡ line_at config height is_first i text
+-- a line of the body: what stands before its text, the text, and what stands behind it
+pub line_at-parts : (config : Config) (height : Option ℕ) (i : ℕ) (text : Text) → line_start config height i ++ (text ++ line_end config height i) ≡ line_at config height i text
 unfolding line_at
-line_at-parts config height is_first i text =
-    append_assoc (feed_before (is_first && (i == 0))) (written (side_margin_at height config.margin.left config.margin_offset.left config.margin_color.left i)) (text ++ written (side_margin_at height config.margin.right config.margin_offset.right config.margin_color.right i))
+line_at-parts config height i text = refl
 
 -- ---- the lines of a row, one after another
 
@@ -79,25 +75,25 @@ drawn-more i j [] = refl
 drawn-more i j (None ∷ cells) = ap (λ l. None ∷ l) (drawn-more i j cells)
 drawn-more i j (Some cell ∷ cells) = ap₂ (λ d l. Some (record cell { drawn = d }) ∷ l) (add_assoc cell.drawn i j) (drawn-more i j cells)
 
-module _ (t : Table) (height : Option ℕ) (is_first : Bool) (cells : List (Option Placed)) (r index : ℕ) where
-  pub lines-none : [] ≡ open_lines t height is_first cells r index 0
+module _ (t : Table) (height : Option ℕ) (cells : List (Option Placed)) (r index : ℕ) where
+  pub lines-none : [] ≡ open_lines t height cells r index 0
   unfolding open_lines
   lines-none = refl
 
-  pub lines-more : (k : ℕ) → open_lines t height is_first cells r index (k + 1) ≡ open_lines t height is_first cells r index k ++ open_line_at t height is_first cells r index k
+  pub lines-more : (k : ℕ) → open_lines t height cells r index (k + 1) ≡ open_lines t height cells r index k ++ open_line_at t height cells r index k
   unfolding open_lines
   lines-more k =
-      range-more (open_line_at t height is_first cells r index) 0 k
-      ∙ ap (λ n. flat_map (open_line_at t height is_first cells r index) (range_with_len 0 k) ++ open_line_at t height is_first cells r index n) (zero-add k)
+      range-more (open_line_at t height cells r index) 0 k
+      ∙ ap (λ n. flat_map (open_line_at t height cells r index) (range_with_len 0 k) ++ open_line_at t height cells r index n) (zero-add k)
 
   pub lines-cut : (k n : ℕ) → k < n
-      → open_lines t height is_first cells r index n ≡ open_lines t height is_first cells r index k ++ (open_line_at t height is_first cells r index k ++ flat_map (open_line_at t height is_first cells r index) (range_with_len (0 + k + 1) (n - (k + 1))))
+      → open_lines t height cells r index n ≡ open_lines t height cells r index k ++ (open_line_at t height cells r index k ++ flat_map (open_line_at t height cells r index) (range_with_len (0 + k + 1) (n - (k + 1))))
   unfolding open_lines
   lines-cut k n here =
-      range-cut (open_line_at t height is_first cells r index) 0 k n here
-      ∙ ap (λ m. flat_map (open_line_at t height is_first cells r index) (range_with_len 0 k) ++ (open_line_at t height is_first cells r index m ++ flat_map (open_line_at t height is_first cells r index) (range_with_len (0 + k + 1) (n - (k + 1))))) (zero-add k)
+      range-cut (open_line_at t height cells r index) 0 k n here
+      ∙ ap (λ m. flat_map (open_line_at t height cells r index) (range_with_len 0 k) ++ (open_line_at t height cells r index m ++ flat_map (open_line_at t height cells r index) (range_with_len (0 + k + 1) (n - (k + 1))))) (zero-add k)
 
   -- a line of the cells as they are then
-  pub line-now : (k : ℕ) (now : List (Option Placed)) → now ≡ map (draw_cell k) cells → line_at t.config height is_first (index + k) (written (open_line t now r k)) ≡ open_line_at t height is_first cells r index k
+  pub line-now : (k : ℕ) (now : List (Option Placed)) → now ≡ map (draw_cell k) cells → line_at t.config height (index + k) (written (open_line t now r k)) ≡ open_line_at t height cells r index k
   unfolding open_line_at
-  line-now k now is = ap (λ l. line_at t.config height is_first (index + k) (written (open_line t l r k))) is
+  line-now k now is = ap (λ l. line_at t.config height (index + k) (written (open_line t l r k))) is

@@ -39,46 +39,46 @@ unfolding KnowsHeight
 margin-now Known indent offset color i h height l e = rw e refl
 margin-now Unknown indent offset color i h height l e = rw e (unknown_margin indent offset color i h l)
 
-line-now : (hint : Hint) (t : Table) (h : ℕ) (height : Option ℕ) (i : ℕ) (mark : Mark) (is_first : Bool) → i < h → KnowsHeight hint h height → is_first ≡ (t.config.margin.top.size == 0)
-    → feed_before ((t.config.margin.top.size + i) == 0) ++ body_line hint t h (i, mark) ≡ line_at t.config height is_first i (mark_text t mark)
+line-now : (hint : Hint) (t : Table) (h : ℕ) (height : Option ℕ) (i : ℕ) (mark : Mark) → i < h → KnowsHeight hint h height
+    → feed_before ((t.config.margin.top.size + i) == 0) ++ body_line hint t h (i, mark) ≡ line_at t.config height i (mark_text t mark)
 unfolding body_line line_at
-line-now hint t h height i mark is_first l knows first =
+line-now hint t h height i mark l knows =
     let left = margin-now hint t.config.margin.left t.config.margin_offset.left t.config.margin_color.left i h height l knows in
     let right = margin-now hint t.config.margin.right t.config.margin_offset.right t.config.margin_color.right i h height l knows in
-    let feed : ((t.config.margin.top.size + i) == 0) ≡ (is_first && (i == 0)) = sym (none-of-two t.config.margin.top.size i) ∙ ap (λ b. b && (i == 0)) (sym first) in
+    let feed = sym (none-of-two t.config.margin.top.size i) in
     rw (feed, left, right) refl
 
 -- one line, and those after it
 continued-cons : (n : ℕ) (x : Text) (xs : List Text) → continued n (x ∷ xs) ≡ (feed_before (n == 0) ++ x) ++ continued (n + 1) xs
 continued-cons n x xs = continued-append n (x ∷ []) xs ∙ ap (λ t. t ++ continued (n + 1) xs) (continued-line n x)
 
-module _ (hint : Hint) (t : Table) (m : ℕ) (f : Position → Text) (k index : ℕ) (height : Option ℕ) (is_first : Bool) (h : ℕ) (knows : KnowsHeight hint h height) (first : is_first ≡ (t.config.margin.top.size == 0)) (cells : List (Option Placed)) where
+module _ (hint : Hint) (t : Table) (m : ℕ) (f : Position → Text) (k index : ℕ) (height : Option ℕ) (h : ℕ) (knows : KnowsHeight hint h height) (cells : List (Option Placed)) where
   abbrev top : ℕ
   top = t.config.margin.top.size
 
   -- ---- the lines of row k
 
-  one_line : (a : ℕ) → mark_text (other t m f) (line k a) ≡ written (open_line t (map (draw_cell a) cells) k a) → line_at t.config height is_first (index + a) (mark_text (other t m f) (line k a)) ≡ open_line_at t height is_first cells k index a
+  one_line : (a : ℕ) → mark_text (other t m f) (line k a) ≡ written (open_line t (map (draw_cell a) cells) k a) → line_at t.config height (index + a) (mark_text (other t m f) (line k a)) ≡ open_line_at t height cells k index a
   unfolding open_line_at
-  one_line a same = ap (λ x. line_at t.config height is_first (index + a) x) same
+  one_line a same = ap (λ x. line_at t.config height (index + a) x) same
 
   lines-from : (a n : ℕ) → a + n ≤ t.height k → index + t.height k ≤ h → ((i : ℕ) → i < t.height k → mark_text (other t m f) (line k i) ≡ written (open_line t (map (draw_cell i) cells) k i))
-      → continued (top + (index + a)) (map (body_line hint (other t m f) h) (enumerate_from (index + a) (map (line k) (range_with_len a n)))) ≡ flat_map (open_line_at t height is_first cells k index) (range_with_len a n)
+      → continued (top + (index + a)) (map (body_line hint (other t m f) h) (enumerate_from (index + a) (map (line k) (range_with_len a n)))) ≡ flat_map (open_line_at t height cells k index) (range_with_len a n)
   lines-from a zero l inside same = continued-nil (top + (index + a))
   lines-from a (suc n) l inside same =
       continued-cons (top + (index + a)) (body_line hint (other t m f) h (index + a, line k a)) (map (body_line hint (other t m f) h) (enumerate_from ((index + a) + 1) (map (line k) (range_with_len (a + 1) n))))
       ∙ ap₂ (λ (x y : Text). x ++ y)
-      (line-now hint (other t m f) h height (index + a) (line k a) is_first (omega arith) knows first ∙ one_line a (same a (omega arith)))
+      (line-now hint (other t m f) h height (index + a) (line k a) (omega arith) knows ∙ one_line a (same a (omega arith)))
       (ap₂ (λ (p q : ℕ). continued p (map (body_line hint (other t m f) h) (enumerate_from q (map (line k) (range_with_len (a + 1) n)))))
       (let e : (top + (index + a)) + 1 ≡ top + (index + (a + 1)) = omega arith in e) (add_assoc index a 1)
       ∙ lines-from (a + 1) n (omega arith) inside same)
 
   pub lines-text : index + t.height k ≤ h → h ≡ length (table_body (other t m f)) → ((i : ℕ) → i < t.height k → mark_text (other t m f) (line k i) ≡ written (open_line t (map (draw_cell i) cells) k i))
-      → continued (top + index) (body_lines hint (other t m f) index (map (line k) (range_with_len 0 (t.height k)))) ≡ open_lines t height is_first cells k index (t.height k)
+      → continued (top + index) (body_lines hint (other t m f) index (map (line k) (range_with_len 0 (t.height k)))) ≡ open_lines t height cells k index (t.height k)
   unfolding body_lines open_lines
   lines-text inside all same =
       let a = lines-from 0 (t.height k) (omega arith) inside same in
-      let b : continued (top + index) (map (body_line hint (other t m f) h) (enumerate_from index (map (line k) (range_with_len 0 (t.height k))))) ≡ flat_map (open_line_at t height is_first cells k index) (range_with_len 0 (t.height k)) = (rw add-zero at a) in
+      let b : continued (top + index) (map (body_line hint (other t m f) h) (enumerate_from index (map (line k) (range_with_len 0 (t.height k))))) ≡ flat_map (open_line_at t height cells k index) (range_with_len 0 (t.height k)) = (rw add-zero at a) in
       ap (λ n. continued (top + index) (map (body_line hint (other t m f) n) (enumerate_from index (map (line k) (range_with_len 0 (t.height k)))))) (sym all) ∙ b
 
   -- ---- the separator above it
@@ -88,12 +88,12 @@ module _ (hint : Hint) (t : Table) (m : ℕ) (f : Position → Text) (k index : 
   one_separator all = continued-line (top + index) (body_line hint (other t m f) (length (table_body (other t m f))) (index, sep k)) ∙ ap (λ n. feed_before ((top + index) == 0) ++ body_line hint (other t m f) n (index, sep k)) (sym all)
 
   pub above-mark : (b : Bool) → b ≡ has_horizontal t.config k (k + 1) → index + length (only_if b (sep k)) ≤ h → h ≡ length (table_body (other t m f)) → (has_horizontal t.config k (k + 1) ≡ true → mark_text (other t m f) (sep k) ≡ separator_text (open_separator t (k + 1) cells k))
-      → continued (top + index) (body_lines hint (other t m f) index (only_if b (sep k))) ≡ above_text t height is_first cells k index
-  above-mark false is inside all same = ap (λ l. continued (top + index) l) (body_lines-nil hint (other t m f) index) ∙ continued-nil (top + index) ∙ above-absent t height is_first cells k index is refl
+      → continued (top + index) (body_lines hint (other t m f) index (only_if b (sep k))) ≡ above_text t height cells k index
+  above-mark false is inside all same = ap (λ l. continued (top + index) l) (body_lines-nil hint (other t m f) index) ∙ continued-nil (top + index) ∙ above-absent t height cells k index is refl
   above-mark true is inside all same =
-      one_separator all ∙ line-now hint (other t m f) h height index (sep k) is_first (omega arith) knows first
-      ∙ ap (λ x. line_at t.config height is_first index x) (same (sym is))
-      ∙ above-there t height is_first cells k index is refl
+      one_separator all ∙ line-now hint (other t m f) h height index (sep k) (omega arith) knows
+      ∙ ap (λ x. line_at t.config height index x) (same (sym is))
+      ∙ above-there t height cells k index is refl
 
   -- ---- the separator below the last row
 
@@ -102,12 +102,12 @@ module _ (hint : Hint) (t : Table) (m : ℕ) (f : Position → Text) (k index : 
   below-line all = continued-line (top + index) (body_line hint (other t m f) (length (table_body (other t m f))) (index, sep m)) ∙ ap (λ n. feed_before ((top + index) == 0) ++ body_line hint (other t m f) n (index, sep m)) (sym all)
 
   pub below-mark : (b : Bool) → b ≡ has_horizontal t.config m m → index + length (only_if b (sep m)) ≤ h → h ≡ length (table_body (other t m f)) → mark_text (other t m f) (sep m) ≡ separator_text (open_separator t m cells m)
-      → continued (top + index) (body_lines hint (other t m f) index (only_if b (sep m))) ≡ below_text t height is_first cells m index
-  below-mark false is inside all same = ap (λ l. continued (top + index) l) (body_lines-nil hint (other t m f) index) ∙ continued-nil (top + index) ∙ below-absent t height is_first cells m index is refl
+      → continued (top + index) (body_lines hint (other t m f) index (only_if b (sep m))) ≡ below_text t height cells m index
+  below-mark false is inside all same = ap (λ l. continued (top + index) l) (body_lines-nil hint (other t m f) index) ∙ continued-nil (top + index) ∙ below-absent t height cells m index is refl
   below-mark true is inside all same =
-      below-line all ∙ line-now hint (other t m f) h height index (sep m) is_first (omega arith) knows first
-      ∙ ap (λ x. line_at t.config height is_first index x) same
-      ∙ below-there t height is_first cells m index is refl
+      below-line all ∙ line-now hint (other t m f) h height index (sep m) (omega arith) knows
+      ∙ ap (λ x. line_at t.config height index x) same
+      ∙ below-there t height cells m index is refl
 
 -- ---- the top margin
 

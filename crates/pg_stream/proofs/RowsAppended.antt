@@ -25,7 +25,7 @@ use Rattle.pg_stream.specs.Open.{Slot, open_before}
 use Rattle.pg_stream.specs.Placed.{Placed, slots_of, AllOpen, IsPlaced}
 use Rattle.pg_stream.specs.Inside.OpenCells.{draw_cell}
 use Rattle.pg_stream.specs.Printers.{IsSound}
-use Rattle.pg_stream.specs.Printing.{Printing, hint_of, frame_of, rows_known, rows_reached, text_known, table_known, lines_at, lines_printed, row_lines, row_text, after_row}
+use Rattle.pg_stream.specs.Printing.{Printing, hint_of, rows_known, rows_reached, text_known, table_known, lines_at, lines_printed, row_lines, row_text, after_row}
 use Rattle.pg_stream.specs.Inside.Slots.{separator_height, slot_line, slot_separator}
 use Rattle.pg_stream.specs.Inside.Turns.{close_cell, cells_closed}
 use Rattle.pg_stream.proofs.Closing.{closed-is}
@@ -100,24 +100,24 @@ told : (k x : ℕ) (slots : List (Option Slot)) (texts : List Text) → text_kno
 unfolding text_known
 told k x slots texts = let e : (k == k) ≡ true = grind (arith, nat_tests) in rw e refl
 
-module _ (s : Printing) (w : ℕ) (height : Option ℕ) (cells : List (Option Placed)) (slots : s.slots ≡ slots_of cells) (sound : IsSound s (frame_of s) w height cells) (is_last : Bool) (hinted : IfSome s.hint (λ rows. (s.rows < rows) × (is_last ≡ ((s.rows + 1) == rows)))) (last : is_last ≡ true → spans_fit s.config.spans (s.rows + 1) s.columns ≡ true) where
+module _ (s : Printing) (w : ℕ) (height : Option ℕ) (cells : List (Option Placed)) (slots : s.slots ≡ slots_of cells) (sound : IsSound s s.table w height cells) (is_last : Bool) (hinted : IfSome s.hint (λ rows. (s.rows < rows) × (is_last ≡ ((s.rows + 1) == rows)))) (last : is_last ≡ true → spans_fit s.table.config.spans (s.rows + 1) s.table.columns ≡ true) where
   abbrev t : Table
-  t = frame_of s
+  t = s.table
 
   abbrev k : ℕ
   k = s.rows
 
   abbrev m : ℕ
-  m = if is_last then s.rows + 1 else unwrap_or s.hint (rows_reached s.config.spans s.rows)
+  m = if is_last then s.rows + 1 else unwrap_or s.hint (rows_reached s.table.config.spans s.rows)
 
-  fitting : (Q : ℕ → Type 0) (o : Option ℕ) → IfSome o (λ rows. (spans_fit s.config.spans rows s.columns ≡ true) × Q rows) → IfSome o (λ rows. spans_fit s.config.spans rows s.columns ≡ true)
+  fitting : (Q : ℕ → Type 0) (o : Option ℕ) → IfSome o (λ rows. (spans_fit s.table.config.spans rows s.table.columns ≡ true) × Q rows) → IfSome o (λ rows. spans_fit s.table.config.spans rows s.table.columns ≡ true)
   fitting Q None h = tt
   fitting Q (Some n) h = h.0
 
   under : k < m
   under = under_by t k is_last s.hint hinted
 
-  ends : (c : ℕ) → (owner s.config.spans k c).row + rect_rows s.config.spans (owner s.config.spans k c) ≤ m
+  ends : (c : ℕ) → (owner s.table.config.spans k c).row + rect_rows s.table.config.spans (owner s.table.config.spans k c) ≤ m
   ends = ends_by t k is_last s.hint (apart s w height cells slots sound) last (fitting (λ rows. totals_fit (record t { rows = rows }) ≡ true) s.hint sound.fits.hint) hinted
 
   module _ (texts : List Text) where
@@ -132,77 +132,77 @@ module _ (s : Printing) (w : ℕ) (height : Option ℕ) (cells : List (Option Pl
     all-slots = slots-are s w height cells slots sound m texts
 
     -- the lines that are drawn off the cells are the table's
-    line-text : (i : ℕ) → i < s.height k → mark_text (other t m f) (line k i) ≡ written (open_line t (map (draw_cell i) (cells_now s w height cells slots sound texts)) k i)
+    line-text : (i : ℕ) → i < s.table.height k → mark_text (other t m f) (line k i) ≡ written (open_line t (map (draw_cell i) (cells_now s w height cells slots sound texts)) k i)
     unfolding mark_text
     line-text i l =
         ap written (row_line-slots (other t m f) (owners s w height cells slots sound) k under ends i l
         ∙ ap (λ x. slot_line (other t m f) x k i) (sym (slots-of-row t m f k texts (λ x h. told k x s.slots texts) cells all-slots i))
         ∙ sym (open_line-slots t m f (owners s w height cells slots sound) k (map (draw_cell i) (cells_now s w height cells slots sound texts)) (owner-drawn-now s w height cells slots sound texts i) i))
 
-    separator-is : has_horizontal s.config k (k + 1) ≡ true → mark_text (other t m f) (sep k) ≡ separator_text (open_separator t (k + 1) cells k)
+    separator-is : has_horizontal s.table.config k (k + 1) ≡ true → mark_text (other t m f) (sep k) ≡ separator_text (open_separator t (k + 1) cells k)
     unfolding mark_text
     separator-is there =
         ap separator_text (separator-slots (other t m f) (owners s w height cells slots sound) k under there ends
         ∙ ap (λ x. slot_separator (other t m f) x k) (sym all-slots)
         ∙ sym (open_separator-slots t m f (owners s w height cells slots sound) k cells (owner-above s w height cells slots sound) under))
 
-    inside : s.lines + length (marks_of_row s.config s.height k) ≤ length (table_body (other t m f))
+    inside : s.lines + length (marks_of_row s.table.config s.table.height k) ≤ length (table_body (other t m f))
     unfolding table_body
-    inside = let e = row_inside_body s.config s.height k m under in omega (arith, e, sound.lines)
+    inside = let e = row_inside_body s.table.config s.table.height k m under in omega (arith, e, sound.lines)
 
-    printed-is : lines_printed s + length (if k == 0 then top_lines (other t m f) else []) ≡ s.config.margin.top.size + s.lines
+    printed-is : lines_printed s + length (if k == 0 then top_lines (other t m f) else []) ≡ s.table.config.margin.top.size + s.lines
     unfolding lines_printed marks_above
     printed-is =
         elim (cases_Bool (k == 0)) [
           | inl e ↦
-              let none : s.lines ≡ 0 = sound.lines ∙ ap (λ n. length (marks_above s.config s.height n)) (eqb-true k 0 e) in
+              let none : s.lines ≡ 0 = sound.lines ∙ ap (λ n. length (marks_above s.table.config s.table.height n)) (eqb-true k 0 e) in
               let size = length-top (other t m f) in
               rw e (omega (arith, none, size))
           | inr e ↦ rw e (omega arith)
         ]
 
-    lines-of-row : (is_first : Bool) → is_first ≡ (s.config.margin.top.size == 0)
-        → continued (s.config.margin.top.size + s.lines) (body_lines (hint_of s.hint) (other t m f) s.lines (marks_of_row s.config s.height k))
-        ≡ above_text t height is_first cells k s.lines ++ open_lines t height is_first (cells_now s w height cells slots sound texts) k (s.lines + separator_height s.config k) (s.height k)
+    lines-of-row :
+        continued (s.table.config.margin.top.size + s.lines) (body_lines (hint_of s.hint) (other t m f) s.lines (marks_of_row s.table.config s.table.height k))
+        ≡ above_text t height cells k s.lines ++ open_lines t height (cells_now s w height cells slots sound texts) k (s.lines + separator_height s.table.config k) (s.table.height k)
     unfolding marks_of_row
-    lines-of-row is_first first =
+    lines-of-row =
         let hint : Hint = hint_of s.hint in
         let T : Table = other t m f in
-        let top : ℕ = s.config.margin.top.size in
+        let top : ℕ = s.table.config.margin.top.size in
         let i : ℕ = s.lines in
-        let xs : List Mark = only_if (has_horizontal s.config k (k + 1)) (sep k) in
-        let ys : List Mark = map (line k) (range_with_len 0 (s.height k)) in
-        let count = length-separator s.config k in
-        let both = length_of_row s.config s.height k in
+        let xs : List Mark = only_if (has_horizontal s.table.config k (k + 1)) (sep k) in
+        let ys : List Mark = map (line k) (range_with_len 0 (s.table.height k)) in
+        let count = length-separator s.table.config k in
+        let both = length_of_row s.table.config s.table.height k in
         let room = inside in
         let drawn = length-body_lines hint T i xs in
         let h : ℕ = length (table_body T) in
         ap (λ l. continued (top + i) l) (body_lines-append hint T i xs ys)
         ∙ continued-append (top + i) (body_lines hint T i xs) (body_lines hint T (i + length xs) ys)
         ∙ ap₂ (λ (a b : Text). a ++ b)
-        (above-mark hint t m f k i height is_first h knows first cells (has_horizontal s.config k (k + 1)) refl (omega (arith, count, both, room)) refl separator-is)
-        (ap₂ (λ (p q : ℕ). continued p (body_lines hint T q ys)) (let e : (top + i) + length (body_lines hint T i xs) ≡ top + (i + separator_height s.config k) = omega (arith, drawn, count) in e) (ap (λ n. i + n) count)
-        ∙ lines-text hint t m f k (i + separator_height s.config k) height is_first h knows first (cells_now s w height cells slots sound texts) (omega (arith, both, room)) refl line-text)
+        (above-mark hint t m f k i height h knows cells (has_horizontal s.table.config k (k + 1)) refl (omega (arith, count, both, room)) refl separator-is)
+        (ap₂ (λ (p q : ℕ). continued p (body_lines hint T q ys)) (let e : (top + i) + length (body_lines hint T i xs) ≡ top + (i + separator_height s.table.config k) = omega (arith, drawn, count) in e) (ap (λ n. i + n) count)
+        ∙ lines-text hint t m f k (i + separator_height s.table.config k) height h knows (cells_now s w height cells slots sound texts) (omega (arith, both, room)) refl line-text)
 
     -- the text of the row
-    pub row_text-is : (is_first : Bool) → is_first ≡ (s.config.margin.top.size == 0)
-        → top_text s.config w k ++ (above_text t height is_first cells k s.lines ++ open_lines t height is_first (cells_now s w height cells slots sound texts) k (s.lines + separator_height s.config k) (s.height k)) ≡ row_text s texts is_last
+    pub row_text-is :
+        top_text s.table.config w k ++ (above_text t height cells k s.lines ++ open_lines t height (cells_now s w height cells slots sound texts) k (s.lines + separator_height s.table.config k) (s.table.height k)) ≡ row_text s texts is_last
     unfolding row_text row_lines rows_known table_known lines_at
-    row_text-is is_first first =
+    row_text-is =
         let T : Table = other t m f in
         let A : List Text = if k == 0 then top_lines T else [] in
-        let B : List Text = body_lines (hint_of s.hint) T s.lines (marks_of_row s.config s.height k) in
+        let B : List Text = body_lines (hint_of s.hint) T s.lines (marks_of_row s.table.config s.table.height k) in
         sym (continued-append (lines_printed s) A B
         ∙ ap₂ (λ (a b : Text). a ++ b) (top-margin t m f w k (lines_printed s) sound.full (printed-none s))
-        (ap (λ n. continued n B) printed-is ∙ lines-of-row is_first first))
+        (ap (λ n. continued n B) printed-is ∙ lines-of-row))
 
     -- ---- the printer after it
 
     abbrev pub cells_left : List (Option Placed)
-    cells_left = cells_closed s.config.spans k (map (draw_cell (s.height k)) (cells_now s w height cells slots sound texts))
+    cells_left = cells_closed s.table.config.spans k (map (draw_cell (s.table.height k)) (cells_now s w height cells slots sound texts))
 
     abbrev pub next : Printing
-    next = record s { rows = s.rows + 1; lines = (s.lines + separator_height s.config k) + s.height k; is_ended = is_last; slots = slots_of cells_left }
+    next = record s { rows = s.rows + 1; lines = (s.lines + separator_height s.table.config k) + s.table.height k; is_ended = is_last; slots = slots_of cells_left }
 
     slots-now : slots_of cells ≡ open_before (other t (s.rows + 1) f) k
     unfolding table_known
@@ -212,7 +212,7 @@ module _ (s : Printing) (w : ℕ) (height : Option ℕ) (cells : List (Option Pl
     unfolding after_row table_known
     after-is =
         ap₂ (λ (lines : ℕ) (slots : List (Option Slot)). record s { rows = s.rows + 1; lines = lines; is_ended = is_last; slots = slots })
-        (let both = length_of_row s.config s.height k in omega (arith, both))
+        (let both = length_of_row s.table.config s.table.height k in omega (arith, both))
         (slots-after t (s.rows + 1) f k texts (λ x h. told k x s.slots texts) cells slots-now (owners s w height cells slots sound))
 
     stands-next : Stands next
@@ -222,21 +222,21 @@ module _ (s : Printing) (w : ℕ) (height : Option ℕ) (cells : List (Option Pl
     hinted-next None h = tt
     hinted-next (Some n) h = (let l = h.0 in omega (arith, l), λ e. eqb-true (s.rows + 1) n (sym h.1 ∙ e))
 
-    pub sound-next : HaveRoom t k texts → s.rows < 2 ^ 64 - 2 → IsSound next (frame_of next) w height cells_left
+    pub sound-next : HaveRoom t k texts → s.rows < 2 ^ 64 - 2 → IsSound next next.table w height cells_left
     sound-next rooms few = record {
       fits = record { some = sound.fits.some; few = sound.fits.few; spans = sound.fits.spans; width = sound.fits.width; hint = sound.fits.hint };
       full = sound.full;
       high = sound.high;
-      whole = whole-now s w height cells slots sound texts ∙ sym (length-map (cells_now s w height cells slots sound texts) (draw_cell (s.height k))) ∙ sym (length-closed s.config.spans k (map (draw_cell (s.height k)) (cells_now s w height cells slots sound texts)));
+      whole = whole-now s w height cells slots sound texts ∙ sym (length-map (cells_now s w height cells slots sound texts) (draw_cell (s.table.height k))) ∙ sym (length-closed s.table.config.spans k (map (draw_cell (s.table.height k)) (cells_now s w height cells slots sound texts)));
       slots = stands-next.slots;
       lines = stands-next.lines;
-      placed = closed-all (IsPlaced t) s.config.spans k (map (draw_cell (s.height k)) (cells_now s w height cells slots sound texts))
-          (drawn-all (IsPlaced t) (IsPlaced t) (s.height k) (cells_now s w height cells slots sound texts) (λ x c h. record { width = h.width; place = h.place; room = h.room }) (placed-now s w height cells slots sound texts rooms));
+      placed = closed-all (IsPlaced t) s.table.config.spans k (map (draw_cell (s.table.height k)) (cells_now s w height cells slots sound texts))
+          (drawn-all (IsPlaced t) (IsPlaced t) (s.table.height k) (cells_now s w height cells slots sound texts) (λ x c h. record { width = h.width; place = h.place; room = h.room }) (placed-now s w height cells slots sound texts rooms));
       few = omega (arith, few);
       hinted = hinted-next s.hint hinted;
       ended = last;
     }
 
 -- the same lines, of cells and an index that are equal
-pub open_lines-same : (t : Table) (height : Option ℕ) (is_first : Bool) (k n : ℕ) {a b : List (Option Placed)} {i j : ℕ} → a ≡ b → i ≡ j → open_lines t height is_first a k i n ≡ open_lines t height is_first b k j n
-open_lines-same t height is_first k n e f = ap₂ (λ (x : List (Option Placed)) (i : ℕ). open_lines t height is_first x k i n) e f
+pub open_lines-same : (t : Table) (height : Option ℕ) (k n : ℕ) {a b : List (Option Placed)} {i j : ℕ} → a ≡ b → i ≡ j → open_lines t height a k i n ≡ open_lines t height b k j n
+open_lines-same t height k n e f = ap₂ (λ (x : List (Option Placed)) (i : ℕ). open_lines t height x k i n) e f

@@ -18,7 +18,7 @@ use Rattle.pg_stream.specs.Open.{drawn_before, open_before}
 use Rattle.pg_stream.specs.Placed.{Placed, slots_of, AllOpen, IsPlaced}
 use Rattle.pg_stream.specs.Inside.OpenCells.{draw_cell, IsTall, AreDrawn}
 use Rattle.pg_stream.specs.Printers.{IsSound}
-use Rattle.pg_stream.specs.Printing.{Printing, frame_of, table_known}
+use Rattle.pg_stream.specs.Printing.{Printing, table_known}
 use Rattle.pg_stream.specs.Inside.Slots.{separator_height}
 use Rattle.pg_stream.specs.Inside.Turns.{IsOwnerAbove, new_cell, begin_cell, cells_begun}
 use Rattle.pg_stream.proofs.Beginning.{begun-is, inside-columns, owner-begun}
@@ -59,9 +59,9 @@ length-separator config k = by_case (has_horizontal config k (k + 1))
     by_case true = refl
     by_case false = refl
 
-module _ (s : Printing) (w : ℕ) (height : Option ℕ) (cells : List (Option Placed)) (slots : s.slots ≡ slots_of cells) (sound : IsSound s (frame_of s) w height cells) where
+module _ (s : Printing) (w : ℕ) (height : Option ℕ) (cells : List (Option Placed)) (slots : s.slots ≡ slots_of cells) (sound : IsSound s s.table w height cells) where
   abbrev t : Table
-  t = frame_of s
+  t = s.table
 
   abbrev k : ℕ
   k = s.rows
@@ -69,29 +69,29 @@ module _ (s : Printing) (w : ℕ) (height : Option ℕ) (cells : List (Option Pl
   pub stands : Stands s
   stands = record { slots = slots ∙ sound.slots; lines = sound.lines }
 
-  pub apart : Apart s.config.spans
-  apart = apart_from s.config.spans s.columns sound.fits.spans
+  pub apart : Apart s.table.config.spans
+  apart = apart_from s.table.config.spans s.table.columns sound.fits.spans
 
-  pub owners : HasOwners s.config.spans
-  owners = owners_of s.config.spans apart
+  pub owners : HasOwners s.table.config.spans
+  owners = owners_of s.table.config.spans apart
 
   -- ---- the open cells
 
   pub slots-are : (m : ℕ) (texts : List Text) → slots_of cells ≡ open_before (table_known s m texts) k
   slots-are m texts = sym slots ∙ slots_known s stands m texts
 
-  pub owner-above : (x : ℕ) → x < s.columns → IsOwnerAbove s.config.spans k x (get_or cells x None)
+  pub owner-above : (x : ℕ) → x < s.table.columns → IsOwnerAbove s.table.config.spans k x (get_or cells x None)
   unfolding table_known
   owner-above x h = owner-open (table_known s 0 []) k cells (slots-are 0 []) x h
 
-  pub inside-now : AllOpen (λ x cell. x + rect_columns s.config.spans (at cell.begun x) ≤ s.columns) cells
-  inside-now = inside-columns s.config.spans k s.columns cells apart sound.fits.spans sound.whole (λ x c h here. (owner-above x h).some c here)
+  pub inside-now : AllOpen (λ x cell. x + rect_columns s.table.config.spans (at cell.begun x) ≤ s.table.columns) cells
+  inside-now = inside-columns s.table.config.spans k s.table.columns cells apart sound.fits.spans sound.whole (λ x c h here. (owner-above x h).some c here)
 
-  drawn-at_most : (x : ℕ) (c : Placed) → x < s.columns → get_or cells x None ≡ Some c → c.drawn ≤ s.lines
+  drawn-at_most : (x : ℕ) (c : Placed) → x < s.table.columns → get_or cells x None ≡ Some c → c.drawn ≤ s.lines
   unfolding table_known
   drawn-at_most x c h here =
       let e = (open-at (table_known s 0 []) k cells (slots-are 0 []) x c h here).drawn in
-      let l = drawn-lines s.config s.height k (at c.begun x) in
+      let l = drawn-lines s.table.config s.table.height k (at c.begun x) in
       let lines = sound.lines in
       omega (arith, e, l, lines)
 
@@ -99,46 +99,46 @@ module _ (s : Printing) (w : ℕ) (height : Option ℕ) (cells : List (Option Pl
   room-above d few = all-open (λ x cell. cell.drawn + d < 2 ^ 64) cells (λ x c h here. let l = drawn-at_most x c (omega (arith, h, sound.whole)) here in omega (arith, l, few))
 
   -- the rectangle of an owner in row k has the row's lines
-  tall-owner : (x : ℕ) (c : Placed) → owner s.config.spans k x ≡ at c.begun x → 0 < s.height k → 0 < height_of_rect s.config s.height (at c.begun x)
+  tall-owner : (x : ℕ) (c : Placed) → owner s.table.config.spans k x ≡ at c.begun x → 0 < s.table.height k → 0 < height_of_rect s.table.config s.table.height (at c.begun x)
   tall-owner x c own some =
       let p : Position = at c.begun x in
       let n = owners.near k x in
       let row = ap (λ (q : Position). q.row) own in
-      let rows = ap (λ q. rect_rows s.config.spans q) own in
-      let least = drawn-le s.config s.height (k + 1) p (omega (arith, n.above, row, rows)) in
+      let rows = ap (λ q. rect_rows s.table.config.spans q) own in
+      let least = drawn-le s.table.config s.table.height (k + 1) p (omega (arith, n.above, row, rows)) in
       elim (cases_Bool (c.begun == k)) [
-        | inl e ↦ let f = drawn-first s.config s.height k p (eqb-true c.begun k e) (omega (arith, n.above, n.below, row, rows)) in omega (arith, least, f, some)
+        | inl e ↦ let f = drawn-first s.table.config s.table.height k p (eqb-true c.begun k e) (omega (arith, n.above, n.below, row, rows)) in omega (arith, least, f, some)
         | inr e ↦
             let below = n.below in
-            let f = drawn-more s.config s.height k p (grind (arith, nat_tests, e, below, row)) (omega (arith, n.above, row, rows)) in
+            let f = drawn-more s.table.config s.table.height k p (grind (arith, nat_tests, e, below, row)) (omega (arith, n.above, row, rows)) in
             omega (arith, least, f, some)
       ]
 
-  pub tall-above : 0 < separator_height s.config k → AllOpen (IsTall t) cells
+  pub tall-above : 0 < separator_height s.table.config k → AllOpen (IsTall t) cells
   tall-above some =
       all-open (IsTall t) cells (λ x c h here.
-      let inside : x < s.columns = omega (arith, h, sound.whole) in
+      let inside : x < s.table.columns = omega (arith, h, sound.whole) in
       let own = (owner-above x inside).some c here in
       let above = (owner-above x inside).above c here in
       let n = owners.near k x in
       let row = ap (λ (q : Position). q.row) own in
-      let rows = ap (λ q. rect_rows s.config.spans q) own in
-      let least = drawn-le s.config s.height (k + 1) (at c.begun x) (omega (arith, n.above, row, rows)) in
-      let f = drawn-more s.config s.height k (at c.begun x) above (omega (arith, n.above, row, rows)) in
+      let rows = ap (λ q. rect_rows s.table.config.spans q) own in
+      let least = drawn-le s.table.config s.table.height (k + 1) (at c.begun x) (omega (arith, n.above, row, rows)) in
+      let f = drawn-more s.table.config s.table.height k (at c.begun x) above (omega (arith, n.above, row, rows)) in
       omega (arith, least, f, some))
 
-  pub drawn-above : 0 < separator_height s.config k → AreDrawn t cells
+  pub drawn-above : 0 < separator_height s.table.config k → AreDrawn t cells
   drawn-above some = record { opened = record { columns = sound.whole; inside = inside-now; placed = sound.placed }; tall = tall-above some }
 
   -- when the separator is drawn
   abbrev pub cells_above : List (Option Placed)
-  cells_above = map (draw_cell (separator_height s.config k)) cells
+  cells_above = map (draw_cell (separator_height s.table.config k)) cells
 
-  pub owner-begins : (x : ℕ) → x < s.columns → IsOwnerAbove s.config.spans k x (get_or cells_above x None)
-  owner-begins x h = subst (IsOwnerAbove s.config.spans k x) (sym (drawn-at (separator_height s.config k) cells x)) (owner-drawn s.config.spans k x (separator_height s.config k) (get_or cells x None) (owner-above x h))
+  pub owner-begins : (x : ℕ) → x < s.table.columns → IsOwnerAbove s.table.config.spans k x (get_or cells_above x None)
+  owner-begins x h = subst (IsOwnerAbove s.table.config.spans k x) (sym (drawn-at (separator_height s.table.config k) cells x)) (owner-drawn s.table.config.spans k x (separator_height s.table.config k) (get_or cells x None) (owner-above x h))
 
-  pub whole-above : s.columns ≡ length cells_above
-  whole-above = sound.whole ∙ sym (length-map cells (draw_cell (separator_height s.config k)))
+  pub whole-above : s.table.columns ≡ length cells_above
+  whole-above = sound.whole ∙ sym (length-map cells (draw_cell (separator_height s.table.config k)))
 
   -- ---- row k of these texts
 
@@ -146,13 +146,13 @@ module _ (s : Printing) (w : ℕ) (height : Option ℕ) (cells : List (Option Pl
     abbrev pub cells_now : List (Option Placed)
     cells_now = cells_begun t k texts cells_above
 
-    now-is : (x : ℕ) → get_or (partly (λ x. begin_cell t k (slice_index_or texts x []) x) 0 s.columns cells_above) x None ≡ get_or cells_now x None
-    now-is x = ap (λ l. get_or l x None) (partly-all (λ x. begin_cell t k (slice_index_or texts x []) x) 0 s.columns cells_above (omega (arith, whole-above)) ∙ begun-is t k texts cells_above)
+    now-is : (x : ℕ) → get_or (partly (λ x. begin_cell t k (slice_index_or texts x []) x) 0 s.table.columns cells_above) x None ≡ get_or cells_now x None
+    now-is x = ap (λ l. get_or l x None) (partly-all (λ x. begin_cell t k (slice_index_or texts x []) x) 0 s.table.columns cells_above (omega (arith, whole-above)) ∙ begun-is t k texts cells_above)
 
-    owner-now : (x : ℕ) → x < s.columns → IsOwner s.config.spans k x (get_or cells_now x None)
-    owner-now x h = subst (IsOwner s.config.spans k x) (now-is x) (owner-begun t owners k s.columns texts cells_above whole-above owner-begins s.columns x h h)
+    owner-now : (x : ℕ) → x < s.table.columns → IsOwner s.table.config.spans k x (get_or cells_now x None)
+    owner-now x h = subst (IsOwner s.table.config.spans k x) (now-is x) (owner-begun t owners k s.table.columns texts cells_above whole-above owner-begins s.table.columns x h h)
 
-    owner-draw : (i x : ℕ) → (cell : Option Placed) → IsOwner s.config.spans k x cell → IsOwner s.config.spans k x (draw_cell i cell)
+    owner-draw : (i x : ℕ) → (cell : Option Placed) → IsOwner s.table.config.spans k x cell → IsOwner s.table.config.spans k x (draw_cell i cell)
     owner-draw i x None h = h
     owner-draw i x (Some cell) h = record {
       none = λ e. absurd (no_cell e);
@@ -165,51 +165,51 @@ module _ (s : Printing) (w : ℕ) (height : Option ℕ) (cells : List (Option Pl
         one_cell : (c : Placed) → Some (record cell { drawn = cell.drawn + i }) ≡ Some c → record cell { drawn = cell.drawn + i } ≡ c
         one_cell c e = cc
 
-    pub owner-drawn-now : (i x : ℕ) → x < s.columns → IsOwner s.config.spans k x (get_or (map (draw_cell i) cells_now) x None)
-    owner-drawn-now i x h = subst (IsOwner s.config.spans k x) (sym (drawn-at i cells_now x)) (owner-draw i x (get_or cells_now x None) (owner-now x h))
+    pub owner-drawn-now : (i x : ℕ) → x < s.table.columns → IsOwner s.table.config.spans k x (get_or (map (draw_cell i) cells_now) x None)
+    owner-drawn-now i x h = subst (IsOwner s.table.config.spans k x) (sym (drawn-at i cells_now x)) (owner-draw i x (get_or cells_now x None) (owner-now x h))
 
-    pub whole-now : s.columns ≡ length cells_now
+    pub whole-now : s.table.columns ≡ length cells_now
     whole-now =
-        whole-above ∙ sym (partly-length (λ x. begin_cell t k (slice_index_or texts x []) x) 0 s.columns cells_above)
-        ∙ ap length (partly-all (λ x. begin_cell t k (slice_index_or texts x []) x) 0 s.columns cells_above (omega (arith, whole-above)) ∙ begun-is t k texts cells_above)
+        whole-above ∙ sym (partly-length (λ x. begin_cell t k (slice_index_or texts x []) x) 0 s.table.columns cells_above)
+        ∙ ap length (partly-all (λ x. begin_cell t k (slice_index_or texts x []) x) 0 s.table.columns cells_above (omega (arith, whole-above)) ∙ begun-is t k texts cells_above)
 
-    pub tall-now : 0 < s.height k → AllOpen (IsTall t) cells_now
+    pub tall-now : 0 < s.table.height k → AllOpen (IsTall t) cells_now
     tall-now some = all-open (IsTall t) cells_now (λ x c h here. tall-owner x c ((owner-now x (omega (arith, h, whole-now))).some c here) some)
 
-    pub begun-now : AllOpen (λ x cell. cell.begun ≤ k) (map (draw_cell (s.height k)) cells_now)
+    pub begun-now : AllOpen (λ x cell. cell.begun ≤ k) (map (draw_cell (s.table.height k)) cells_now)
     begun-now =
-        all-open (λ x cell. cell.begun ≤ k) (map (draw_cell (s.height k)) cells_now) (λ x c h here.
-        let inside : x < s.columns = omega (arith, h, whole-now, length-map cells_now (draw_cell (s.height k))) in
-        let row = ap (λ (p : Position). p.row) ((owner-drawn-now (s.height k) x inside).some c here) in
+        all-open (λ x cell. cell.begun ≤ k) (map (draw_cell (s.table.height k)) cells_now) (λ x c h here.
+        let inside : x < s.table.columns = omega (arith, h, whole-now, length-map cells_now (draw_cell (s.table.height k))) in
+        let row = ap (λ (p : Position). p.row) ((owner-drawn-now (s.table.height k) x inside).some c here) in
         let n = owners.near k x in
         omega (arith, row, n.below))
 
     -- what holds of each cell that begins, and of each that is open, whatever is drawn of it
-    all-now : (P Q : ℕ → Placed → Type 0) → ((x : ℕ) (c : Placed) → P x c → Q x (record c { drawn = c.drawn + separator_height s.config k })) → AllOpen P cells
-        → ((x : ℕ) → x < s.columns → is_at (owner s.config.spans k x) k x ≡ true → Q x (new_cell t (at k x) (slice_index_or texts x []))) → AllOpen Q cells_now
+    all-now : (P Q : ℕ → Placed → Type 0) → ((x : ℕ) (c : Placed) → P x c → Q x (record c { drawn = c.drawn + separator_height s.table.config k })) → AllOpen P cells
+        → ((x : ℕ) → x < s.table.columns → is_at (owner s.table.config.spans k x) k x ≡ true → Q x (new_cell t (at k x) (slice_index_or texts x []))) → AllOpen Q cells_now
     all-now P Q drawn old new =
         all-open Q cells_now (λ x c h here.
-        let inside : x < s.columns = omega (arith, h, whole-now) in
+        let inside : x < s.table.columns = omega (arith, h, whole-now) in
         let e : get_or cells_now x None ≡ begin_cell t k (slice_index_or texts x []) x (get_or cells_above x None) =
-        sym (now-is x) ∙ partly-below (λ x. begin_cell t k (slice_index_or texts x []) x) 0 s.columns cells_above x None inside (omega (arith, inside, whole-above)) ∙ ap (λ n. begin_cell t k (slice_index_or texts n []) n (get_or cells_above x None)) (zero-add x) in
-        one-begun-of t k x (slice_index_or texts x []) (get_or cells_above x None) Q (λ own. new x inside own) (drawn-all P Q (separator_height s.config k) cells drawn old x) c (sym e ∙ here))
+        sym (now-is x) ∙ partly-below (λ x. begin_cell t k (slice_index_or texts x []) x) 0 s.table.columns cells_above x None inside (omega (arith, inside, whole-above)) ∙ ap (λ n. begin_cell t k (slice_index_or texts n []) n (get_or cells_above x None)) (zero-add x) in
+        one-begun-of t k x (slice_index_or texts x []) (get_or cells_above x None) Q (λ own. new x inside own) (drawn-all P Q (separator_height s.table.config k) cells drawn old x) c (sym e ∙ here))
 
     pub placed-now : HaveRoom t k texts → AllOpen (IsPlaced t) cells_now
     placed-now rooms =
         all-now (IsPlaced t) (IsPlaced t) (λ x c h. record { width = h.width; place = h.place; room = h.room }) sound.placed
         (λ x h own. placed-new t (at k x) (slice_index_or texts x []) (rooms x h own).room)
 
-    pub drawn-now : HaveRoom t k texts → 0 < s.height k → AreDrawn t cells_now
+    pub drawn-now : HaveRoom t k texts → 0 < s.table.height k → AreDrawn t cells_now
     drawn-now rooms some = record {
       opened = record {
         columns = whole-now;
-        inside = inside-columns s.config.spans k s.columns cells_now apart sound.fits.spans whole-now (λ x c h here. (owner-now x h).some c here);
+        inside = inside-columns s.table.config.spans k s.table.columns cells_now apart sound.fits.spans whole-now (λ x c h here. (owner-now x h).some c here);
         placed = placed-now rooms;
       };
       tall = tall-now some;
     }
 
-    pub room-now : s.lines + (separator_height s.config k + s.height k) < 2 ^ 64 → AllOpen (λ x cell. cell.drawn + s.height k < 2 ^ 64) cells_now
+    pub room-now : s.lines + (separator_height s.table.config k + s.table.height k) < 2 ^ 64 → AllOpen (λ x cell. cell.drawn + s.table.height k < 2 ^ 64) cells_now
     room-now few =
-        all-now (λ x cell. cell.drawn + (separator_height s.config k + s.height k) < 2 ^ 64) (λ x cell. cell.drawn + s.height k < 2 ^ 64) (λ x c h. omega (arith, h)) (room-above (separator_height s.config k + s.height k) few)
+        all-now (λ x cell. cell.drawn + (separator_height s.table.config k + s.table.height k) < 2 ^ 64) (λ x cell. cell.drawn + s.table.height k < 2 ^ 64) (λ x c h. omega (arith, h)) (room-above (separator_height s.table.config k + s.table.height k) few)
         (λ x h own. omega (arith, few))

@@ -1,43 +1,41 @@
 -- The separator above a row and the one below the last row, where they are there; and the top margin above row 0.
-use Rattle.std.proofs.Common.{◌≡◌, ℕ, ◌+◌, ◌<◌, Bool, true, false, ◌&&◌, ◌==◌, List, [], ◌++◌, Option, refl, sym, ◌∙◌, arith, replicate}
+use Rattle.std.proofs.Common.{◌≡◌, ℕ, ◌+◌, ◌<◌, Bool, true, false, ◌==◌, List, [], ◌++◌, Option, refl, sym, ◌∙◌, arith, replicate}
 use Rattle.std.proofs.lemmas.Bool.Decides.{nat_tests}
 use Rattle.pg_config.specs.Config.{Config, has_horizontal}
 use Rattle.pg_picture.specs.Joined.{continued}
-use Rattle.pg_picture.specs.Inside.Following.{feed_before}
+use Rattle.pg_picture.specs.Inside.Margins.{line_start, line_end}
 use Rattle.pg_picture.specs.Pieces.{written, separator_text}
-use Rattle.pg_picture.specs.Table.{Table, side_margin_at, margin_line}
+use Rattle.pg_picture.specs.Table.{Table, margin_line}
 use Rattle.pg_stream.specs.Inside.Drawing.{open_separator, line_at, above_text, below_text, top_text}
 use Rattle.pg_stream.specs.Placed.{Placed}
 use Rattle.pg_stream.specs.Inside.Slots.{separator_height}
 use Rattle.pg_stream.proofs.PartsOfLines.{line_at-parts}
 
-module _ (t : Table) (height : Option ℕ) (is_first : Bool) (cells : List (Option Placed)) (r index : ℕ) {there : Bool} where
-  pub above-absent : there ≡ has_horizontal t.config r (r + 1) → there ≡ false → [] ≡ above_text t height is_first cells r index
+module _ (t : Table) (height : Option ℕ) (cells : List (Option Placed)) (r index : ℕ) {there : Bool} where
+  pub above-absent : there ≡ has_horizontal t.config r (r + 1) → there ≡ false → [] ≡ above_text t height cells r index
   unfolding above_text
   above-absent is absent = let e : has_horizontal t.config r (r + 1) ≡ false = sym is ∙ absent in rw e refl
 
-  pub above-there : there ≡ has_horizontal t.config r (r + 1) → there ≡ true → line_at t.config height is_first index (separator_text (open_separator t (r + 1) cells r)) ≡ above_text t height is_first cells r index
+  pub above-there : there ≡ has_horizontal t.config r (r + 1) → there ≡ true → line_at t.config height index (separator_text (open_separator t (r + 1) cells r)) ≡ above_text t height cells r index
   unfolding above_text
   above-there is present = let e : has_horizontal t.config r (r + 1) ≡ true = sym is ∙ present in rw e refl
 
   -- and its parts
   pub above-parts : there ≡ has_horizontal t.config r (r + 1) → there ≡ true
-      → (feed_before (is_first && (index == 0)) ++ written (side_margin_at height t.config.margin.left t.config.margin_offset.left t.config.margin_color.left index))
-      ++ (separator_text (open_separator t (r + 1) cells r) ++ written (side_margin_at height t.config.margin.right t.config.margin_offset.right t.config.margin_color.right index)) ≡ above_text t height is_first cells r index
-  above-parts is present = line_at-parts t.config height is_first index (separator_text (open_separator t (r + 1) cells r)) ∙ above-there is present
+      → line_start t.config height index ++ (separator_text (open_separator t (r + 1) cells r) ++ line_end t.config height index) ≡ above_text t height cells r index
+  above-parts is present = line_at-parts t.config height index (separator_text (open_separator t (r + 1) cells r)) ∙ above-there is present
 
-  pub below-absent : there ≡ has_horizontal t.config r r → there ≡ false → [] ≡ below_text t height is_first cells r index
+  pub below-absent : there ≡ has_horizontal t.config r r → there ≡ false → [] ≡ below_text t height cells r index
   unfolding below_text
   below-absent is absent = let e : has_horizontal t.config r r ≡ false = sym is ∙ absent in rw e refl
 
-  pub below-there : there ≡ has_horizontal t.config r r → there ≡ true → line_at t.config height is_first index (separator_text (open_separator t r cells r)) ≡ below_text t height is_first cells r index
+  pub below-there : there ≡ has_horizontal t.config r r → there ≡ true → line_at t.config height index (separator_text (open_separator t r cells r)) ≡ below_text t height cells r index
   unfolding below_text
   below-there is present = let e : has_horizontal t.config r r ≡ true = sym is ∙ present in rw e refl
 
   pub below-parts : there ≡ has_horizontal t.config r r → there ≡ true
-      → (feed_before (is_first && (index == 0)) ++ written (side_margin_at height t.config.margin.left t.config.margin_offset.left t.config.margin_color.left index))
-      ++ (separator_text (open_separator t r cells r) ++ written (side_margin_at height t.config.margin.right t.config.margin_offset.right t.config.margin_color.right index)) ≡ below_text t height is_first cells r index
-  below-parts is present = line_at-parts t.config height is_first index (separator_text (open_separator t r cells r)) ∙ below-there is present
+      → line_start t.config height index ++ (separator_text (open_separator t r cells r) ++ line_end t.config height index) ≡ below_text t height cells r index
+  below-parts is present = line_at-parts t.config height index (separator_text (open_separator t r cells r)) ∙ below-there is present
 
 module _ (config : Config) (r : ℕ) {there : Bool} where
   pub height-absent : there ≡ has_horizontal config r (r + 1) → there ≡ false → separator_height config r ≡ 0

@@ -24,11 +24,8 @@ use Rattle.pg_stream.proofs.OwnersOfCells.{columns-same}
 use Rattle.pg_stream.proofs.PartsOfLines.{drawn-none, lines-none, lines-more, line-now}
 use Rattle.pg_stream.proofs.PartsOfLists.{partly-all, partly-below}
 use Rattle.pg_stream.proofs.Steps.{open_none}
+use Rattle.pg_picture.proofs.EqualSeparators.{no-span}
 use Rattle.pg_stream.proofs.WholePictures.{map_range-same, no_slots}
-
-pub no-span : (spans : List Span) → (length spans == 0) ≡ true → spans ≡ []
-no-span [] none = refl
-no-span (s ∷ ss) none = let some : (length (s ∷ ss) == 0) ≡ false = grind (arith, nat_tests) in absurd (false≢true (sym some ∙ none))
 
 -- a row is drawn at once where it has one line and no span is kept
 pub at-once : (n : ℕ) (spans : List Span) (b : Bool) → b ≡ ((n == 1) && (length spans == 0)) → b ≡ true → (n ≡ 1) × (spans ≡ [])
@@ -100,13 +97,13 @@ module _ (t : Table) (none : t.config.spans ≡ []) (k : ℕ) where
       line-is = ap (λ l. l ++ vertical t k 0 t.columns) (columns-same (λ x. single_part t k (slice_index_or texts x []) x) (open_part t begun k 0) 0 t.columns (λ x a b. part-is x (omega (arith, b, whole))))
 
       -- the lines of the row are its one line
-      pub lines-are : (height : Option ℕ) (is_first : Bool) (index : ℕ) → line_at t.config height is_first index (written (single_line t k texts)) ≡ open_lines t height is_first begun k index (t.height k)
-      lines-are height is_first index =
-          ap₂ (λ i l. line_at t.config height is_first i (written l)) (sym (add-zero index)) line-is
-          ∙ line-now t height is_first begun k index 0 begun (drawn-none begun)
-          ∙ ap (λ s. s ++ open_line_at t height is_first begun k index 0) (lines-none t height is_first begun k index)
-          ∙ sym (lines-more t height is_first begun k index 0)
-          ∙ ap (λ n. open_lines t height is_first begun k index n) (sym one)
+      pub lines-are : (height : Option ℕ) (index : ℕ) → line_at t.config height index (written (single_line t k texts)) ≡ open_lines t height begun k index (t.height k)
+      lines-are height index =
+          ap₂ (λ i l. line_at t.config height i (written l)) (sym (add-zero index)) line-is
+          ∙ line-now t height begun k index 0 begun (drawn-none begun)
+          ∙ ap (λ s. s ++ open_line_at t height begun k index 0) (lines-none t height begun k index)
+          ∙ sym (lines-more t height begun k index 0)
+          ∙ ap (λ n. open_lines t height begun k index n) (sym one)
 
       left-none : (x : ℕ) → x < length cells → close_cell t.config.spans k x (get_or (map (draw_cell (t.height k)) begun) x None) ≡ None
       left-none x here =

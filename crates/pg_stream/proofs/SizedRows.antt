@@ -28,7 +28,7 @@ use Rattle.pg_stream.specs.Laws.{RowsCountTheirLines, AreNextHeights, SizedRowsM
 use Rattle.pg_stream.specs.Open.{Slot}
 use Rattle.pg_stream.specs.Placed.{Placed, slots_of, AllOpen, IsPlaced}
 use Rattle.pg_stream.specs.Printers.{IsSound, now_of}
-use Rattle.pg_stream.specs.Printing.{Printing, frame_of, rows_reached, rows_known, table_known, lines_at, lines_below, lines_printed, row_lines, row_text, finish_lines, finish_text, printer, after_row}
+use Rattle.pg_stream.specs.Printing.{Printing, rows_reached, rows_known, table_known, lines_at, lines_below, lines_printed, row_lines, row_text, finish_lines, finish_text, printer, after_row}
 use Rattle.pg_stream.specs.SizedStreams.{sized_misfit, CountsLines}
 use Rattle.pg_stream.specs.declared.fault.StreamFault.{StreamFault}
 use Rattle.pg_stream.specs.declared.frame.Frame.{Frame}
@@ -46,18 +46,18 @@ use Rattle.pg_picture.proofs.Owners.{Apart}
 
 module _ (s : Printing) (one other : ℕ → ℕ) where
   abbrev by : (ℕ → ℕ) → Printing
-  by heights = record s { height = heights }
+  by heights = record s { table = record s.table { height = heights } }
 
   module _ (same : one s.rows ≡ other s.rows) where
-    marks-by : marks_of_row s.config one s.rows ≡ marks_of_row s.config other s.rows
+    marks-by : marks_of_row s.table.config one s.rows ≡ marks_of_row s.table.config other s.rows
     unfolding marks_of_row
-    marks-by = ap (λ n. only_if (has_horizontal s.config s.rows (s.rows + 1)) (sep s.rows) ++ map (line s.rows) (range_with_len 0 n)) same
+    marks-by = ap (λ n. only_if (has_horizontal s.table.config s.rows (s.rows + 1)) (sep s.rows) ++ map (line s.rows) (range_with_len 0 n)) same
 
-    module _ (apart : Apart s.config.spans) (alone : has_row_spans s.config.spans ≡ false) where
-      height-by : (x : ℕ) → height_of_rect s.config one (at s.rows x) ≡ height_of_rect s.config other (at s.rows x)
-      height-by x = height-one_row (frame_of (by one)) apart alone (at s.rows x) ∙ same ∙ sym (height-one_row (frame_of (by other)) apart alone (at s.rows x))
+    module _ (apart : Apart s.table.config.spans) (alone : has_row_spans s.table.config.spans ≡ false) where
+      height-by : (x : ℕ) → height_of_rect s.table.config one (at s.rows x) ≡ height_of_rect s.table.config other (at s.rows x)
+      height-by x = height-one_row (by one).table apart alone (at s.rows x) ∙ same ∙ sym (height-one_row (by other).table apart alone (at s.rows x))
 
-      rooms-by : (texts : List Text) → HaveRoom (frame_of (by one)) s.rows texts → HaveRoom (frame_of (by other)) s.rows texts
+      rooms-by : (texts : List Text) → HaveRoom (by one).table s.rows texts → HaveRoom (by other).table s.rows texts
       unfolding rect_width
       rooms-by texts rooms = λ c inside own.
           let room = rooms c inside own in
@@ -74,10 +74,10 @@ module _ (s : Printing) (one other : ℕ → ℕ) where
         lines = (rw marks-by at fits.lines);
       }
 
-      pub after_row-by : (texts : List Text) → record (after_row (by one) texts false) { height = other } ≡ after_row (by other) texts false
+      pub after_row-by : (texts : List Text) → record (after_row (by one) texts false) { table = record s.table { height = other } } ≡ after_row (by other) texts false
       unfolding after_row table_known
       after_row-by texts =
-          ap₂ (λ (lines : ℕ) (slots : List (Option Slot)). record s { height = other; rows = s.rows + 1; lines = lines; is_ended = false; slots = slots })
+          ap₂ (λ (lines : ℕ) (slots : List (Option Slot)). record s { table = record s.table { height = other }; rows = s.rows + 1; lines = lines; is_ended = false; slots = slots })
           (ap (λ (l : List Mark). s.lines + length l) marks-by)
           (none-between (table_known (by one) (s.rows + 1) texts) apart alone (s.rows + 1) ∙ sym (none-between (table_known (by other) (s.rows + 1) texts) apart alone (s.rows + 1)))
 
@@ -86,17 +86,17 @@ module _ (s : Printing) (one other : ℕ → ℕ) where
         unfolding row_lines rows_known rows_reached table_known lines_at body_lines table_body top_lines margin_lines full_width total_width
         row_lines-by texts =
             let k : ℕ = s.rows in
-            let m : ℕ = rows_reached s.config.spans k in
+            let m : ℕ = rows_reached s.table.config.spans k in
             let t : Table = table_known (by one) m texts in
             let under : k < m = omega arith in
-            let inside = row_inside_body s.config one k m under in
-            let inside_other = row_inside_body s.config other k m under in
+            let inside = row_inside_body s.table.config one k m under in
+            let inside_other = row_inside_body s.table.config other k m under in
             let count = ap (λ (l : List Mark). length l) marks-by in
             let h : ℕ = length (table_body t) in
             let g : ℕ = length (table_body (record t { height = other })) in
             subst (λ (o : Option ℕ). row_lines (record (by one) { hint = o }) texts false ≡ row_lines (record (by other) { hint = o }) texts false) (sym unknown)
             (ap (λ (l : List Text). (if k == 0 then top_lines t else []) ++ l)
-            (lines-same t other h g s.lines (marks_of_row s.config one k) (omega (arith, inside, counts)) (omega (arith, inside_other, counts_other, count)) (row-resized t apart alone other k under same)
+            (lines-same t other h g s.lines (marks_of_row s.table.config one k) (omega (arith, inside, counts)) (omega (arith, inside_other, counts_other, count)) (row-resized t apart alone other k under same)
             ∙ ap (λ (l : List Mark). map (body_line Unknown (record t { height = other }) g) (enumerate_from s.lines l)) marks-by))
 
         pub row_text-by : (texts : List Text) → row_text (by one) texts false ≡ row_text (by other) texts false
@@ -105,7 +105,7 @@ module _ (s : Printing) (one other : ℕ → ℕ) where
 
 -- ---- the end
 
-module _ (s : Printing) (one other : ℕ → ℕ) (apart : Apart s.config.spans) (alone : has_row_spans s.config.spans ≡ false) (unknown : s.hint ≡ None) (counts : CountsLines (by s one other one)) (counts_other : CountsLines (by s one other other)) where
+module _ (s : Printing) (one other : ℕ → ℕ) (apart : Apart s.table.config.spans) (alone : has_row_spans s.table.config.spans ≡ false) (unknown : s.hint ≡ None) (counts : CountsLines (by s one other one)) (counts_other : CountsLines (by s one other other)) where
   seps-by : (t : Table) → Apart t.config.spans → has_row_spans t.config.spans ≡ false → (b : Bool) (r : ℕ) → AllSame t (record t { height = other }) (only_if b (sep r))
   seps-by t apart alone true r = (sep-resized t apart alone other r, tt)
   seps-by t apart alone false r = tt
@@ -114,11 +114,11 @@ module _ (s : Printing) (one other : ℕ → ℕ) (apart : Apart s.config.spans)
   unfolding lines_below table_known body_lines table_body body bottom_lines margin_lines full_width total_width
   below-by =
       let t : Table = table_known (by s one other one) s.rows [] in
-      let end : List Mark = only_if (has_horizontal s.config s.rows s.rows) (sep s.rows) in
-      let mine = length-append (marks_above s.config one s.rows) end in
-      let others = length-append (marks_above s.config other s.rows) end in
+      let end : List Mark = only_if (has_horizontal s.table.config s.rows s.rows) (sep s.rows) in
+      let mine = length-append (marks_above s.table.config one s.rows) end in
+      let others = length-append (marks_above s.table.config other s.rows) end in
       ap (λ (l : List Text). l ++ bottom_lines t)
-      (lines-same t other (length (table_body t)) (length (table_body (record t { height = other }))) s.lines end (omega (arith, mine, counts)) (omega (arith, others, counts_other)) (seps-by t apart alone (has_horizontal s.config s.rows s.rows) s.rows))
+      (lines-same t other (length (table_body t)) (length (table_body (record t { height = other }))) s.lines end (omega (arith, mine, counts)) (omega (arith, others, counts_other)) (seps-by t apart alone (has_horizontal s.table.config s.rows s.rows) s.rows))
 
   pub finish_text-by : finish_text (by s one other one) ≡ finish_text (by s one other other)
   unfolding finish_text finish_lines lines_printed table_known
@@ -126,20 +126,20 @@ module _ (s : Printing) (one other : ℕ → ℕ) (apart : Apart s.config.spans)
 
 -- ---- what is true of the printer
 
-module _ (s : Printing) (heights : ℕ → ℕ) (w : ℕ) (height : Option ℕ) (cells : List (Option Placed)) (slots : s.slots ≡ slots_of cells) (unknown : s.hint ≡ None) (alone : has_row_spans s.config.spans ≡ false) (sound : IsSound s (frame_of s) w height cells) where
+module _ (s : Printing) (heights : ℕ → ℕ) (w : ℕ) (height : Option ℕ) (cells : List (Option Placed)) (slots : s.slots ≡ slots_of cells) (unknown : s.hint ≡ None) (alone : has_row_spans s.table.config.spans ≡ false) (sound : IsSound s s.table w height cells) where
   abbrev told : Printing
-  told = record s { height = heights }
+  told = record s { table = record s.table { height = heights } }
 
   nothing : (P : ℕ → Placed → Type 0) → AllOpen P cells
   nothing P =
       all-open P cells (λ x c h here.
       let above = owner-above s w height cells slots sound x (omega (arith, h, sound.whole)) in
       let row = ap (λ (p : Position). p.row) (above.some c here) in
-      let mine = owner-row s.config.spans (apart s w height cells slots sound) alone s.rows x in
+      let mine = owner-row s.table.config.spans (apart s w height cells slots sound) alone s.rows x in
       let before = above.above c here in
       absurd (omega (arith, row, mine, before)))
 
-  pub sound-by : CountsLines told → IsSound told (frame_of told) w height cells
+  pub sound-by : CountsLines told → IsSound told told.table w height cells
   unfolding table_known full_width total_width
   sound-by counts =
       let one = none-between (table_known s s.rows []) (apart s w height cells slots sound) alone s.rows in
@@ -151,7 +151,7 @@ module _ (s : Printing) (heights : ℕ → ℕ) (w : ℕ) (height : Option ℕ) 
         whole = sound.whole;
         slots = sound.slots ∙ one ∙ sym other;
         lines = counts;
-        placed = nothing (IsPlaced (frame_of told));
+        placed = nothing (IsPlaced told.table);
         few = sound.few;
         hinted = sound.hinted;
         ended = sound.ended;
@@ -169,19 +169,19 @@ kept-by t heights (Some text) kept = (kept.0, λ r some. kept.1 r some ∙ ap se
 
 -- ---- a stream of such rows
 
-module _ {D C B S A : Type 0} (said : Printing) (frame : Frame D C B) (progress : Progress S A) where
+module _ {D C B S A : Type 0} (t : Table) (frame : Frame D C B) (progress : Progress S A) where
   -- the same printer where it was told other heights
-  pub sound_at-by : (heights : ℕ → ℕ) → said.hint ≡ None → has_row_spans said.config.spans ≡ false → CountsLines (record (now_of said progress) { height = heights })
-      → IsSoundAt said frame progress → IsSoundAt (record said { height = heights }) frame progress
+  pub sound_at-by : (heights : ℕ → ℕ) → frame.hint ≡ None → has_row_spans t.config.spans ≡ false → CountsLines (now_of (record t { height = heights }) frame.hint progress)
+      → IsSoundAt t frame progress → IsSoundAt (record t { height = heights }) frame progress
   sound_at-by heights unknown alone counts sound = record {
-    printer = sound-by (now_of said progress) heights frame.width frame.height progress.cells refl unknown alone sound.printer counts;
-    kept = kept-by (frame_of said) heights progress.kept.text sound.kept;
+    printer = sound-by (now_of t frame.hint progress) heights frame.sheet.width frame.sheet.height progress.cells refl unknown alone sound.printer counts;
+    kept = kept-by t heights progress.kept.text sound.kept;
   }
 
-  -- or is another frame that was told the same
-  pub sound_at-in : {E G H : Type 0} (like : Frame E G H) → like.width ≡ frame.width → like.height ≡ frame.height → IsSoundAt said frame progress → IsSoundAt said like progress
-  sound_at-in {E} {G} {H} like width height sound = record {
-    printer = rw (width, height) sound.printer;
+  -- or in another frame that was told the same
+  pub sound_at-in : {E G H : Type 0} (like : Frame E G H) → like.sheet.width ≡ frame.sheet.width → like.sheet.height ≡ frame.sheet.height → like.hint ≡ frame.hint → IsSoundAt t frame progress → IsSoundAt t like progress
+  sound_at-in {E} {G} {H} like width height hint sound = record {
+    printer = rw (width, height, hint) sound.printer;
     kept = sound.kept;
   }
 
@@ -286,22 +286,22 @@ spans-memory none some = false≢true (ap is_some (sym none ∙ some))
 -- a stream before its first row
 
 pub made-by : {p : Printing} (config : Config) (columns : ℕ) (width height : ℕ → ℕ) (color : Position → Option Color) → p ≡ printer config columns width height color None
-    → (heights : ℕ → ℕ) → record p { height = heights } ≡ printer config columns width heights color None
+    → (heights : ℕ → ℕ) → record p { table = record p.table { height = heights } } ≡ printer config columns width heights color None
 unfolding printer
-made-by config columns width height color made heights = ap (λ (p : Printing). record p { height = heights }) made
+made-by config columns width height color made heights = ap (λ (p : Printing). record p { table = record p.table { height = heights } }) made
 
-pub sized-first : {D C B S A : Type 0} (said : Printing) (frame : Frame D C B) (progress : Progress S A) (config : Config) (columns : ℕ) (width height : ℕ → ℕ) (color : Position → Option Color)
-    → now_of said progress ≡ printer config columns width height color None → said.hint ≡ frame.hint → said.config ≡ frame.config.now → has_row_spans config.spans ≡ false → IsSoundAt said frame progress → IsSizedAt said 0 frame progress
+pub sized-first : {D C B S A : Type 0} (t : Table) (frame : Frame D C B) (progress : Progress S A) (config : Config) (columns : ℕ) (width height : ℕ → ℕ) (color : Position → Option Color)
+    → now_of t frame.hint progress ≡ printer config columns width height color None → t.config ≡ frame.sheet.config.now → has_row_spans config.spans ≡ false → IsSoundAt t frame progress → IsSizedAt t 0 frame progress
 unfolding printer marks_above
-sized-first said frame progress config columns width height color made hint same alone sound =
-    let unknown : said.hint ≡ None = ap (λ (p : Printing). p.hint) made in
-    let spans : has_row_spans said.config.spans ≡ false = ap (λ (p : Printing). has_row_spans p.config.spans) made ∙ alone in
+sized-first t frame progress config columns width height color made same alone sound =
+    let unknown : frame.hint ≡ None = ap (λ (p : Printing). p.hint) made in
+    let spans : has_row_spans t.config.spans ≡ false = ap (λ (p : Printing). has_row_spans p.table.config.spans) made ∙ alone in
     let rows : progress.rows ≡ 0 = ap (λ (p : Printing). p.rows) made in
     let lines : progress.lines ≡ 0 = ap (λ (p : Printing). p.lines) made in
     record {
-      sound = sound_at-by said frame progress (first_height 0) unknown spans (lines ∙ sym (ap (λ n. length (marks_above said.config (first_height 0) n)) rows)) sound;
+      sound = sound_at-by t frame progress (first_height 0) unknown spans (lines ∙ sym (ap (λ n. length (marks_above t.config (first_height 0) n)) rows)) sound;
       none = λ _. refl;
-      hint = sym hint ∙ unknown;
+      hint = unknown;
       alone = ap (λ (c : Config). has_row_spans c.spans) (sym same) ∙ spans;
     }
 
@@ -309,7 +309,7 @@ sized-first said frame progress config columns width height color made hint same
 
 kept-lines : (s : Printing) (texts : List Text) (is_last : Bool) → CountsLines s → CountsLines (after_row s texts is_last)
 unfolding after_row marks_above
-kept-lines s texts is_last counts = rw add-one (ap (λ n. n + length (marks_of_row s.config s.height s.rows)) counts ∙ sym (length-append (marks_above s.config s.height s.rows) (marks_of_row s.config s.height s.rows)))
+kept-lines s texts is_last counts = rw add-one (ap (λ n. n + length (marks_of_row s.table.config s.table.height s.rows)) counts ∙ sym (length-append (marks_above s.table.config s.table.height s.rows) (marks_of_row s.table.config s.table.height s.rows)))
 
 no-lines : (config : Config) (columns : ℕ) (width height : ℕ → ℕ) (color : Position → Option Color) (hint : Option ℕ) → CountsLines (printer config columns width height color hint)
 unfolding printer marks_above

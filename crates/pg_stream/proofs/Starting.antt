@@ -16,7 +16,7 @@ use Rattle.pg_stream.specs.Conditions.{PrinterFits}
 use Rattle.pg_stream.specs.Open.{open_at_row, open_before}
 use Rattle.pg_stream.specs.Placed.{Placed, slots_of, AllOpen, IsPlaced}
 use Rattle.pg_stream.specs.Printers.{IsSound}
-use Rattle.pg_stream.specs.Printing.{Printing, frame_of, table_known, printer}
+use Rattle.pg_stream.specs.Printing.{Printing, table_known, printer}
 use Rattle.pg_stream.proofs.Steps.{open_none}
 use Rattle.pg_stream.proofs.WholePictures.{map_range-same, no_slots}
 
@@ -38,27 +38,34 @@ all-none : (P : ℕ → Placed → Type 0) (n : ℕ) → AllOpen P (replicate n 
 all-none P n x = rw (none-at n x) tt
 
 -- the numbers that are asked fit
-pub width-some : (s : Printing) (o : Option ℕ) → full_width (frame_of s) < 2 ^ 64 → o ≡ if_fits (full_width (sized s.config s.width s.height 0 s.columns)) → o ≡ Some (full_width (frame_of s))
+pub width-some : (s : Printing) (o : Option ℕ) → full_width s.table < 2 ^ 64 → o ≡ if_fits (full_width (sized s.table.config s.table.width s.table.height 0 s.table.columns)) → o ≡ Some (full_width s.table)
 unfolding full_width total_width
-width-some s o few is = is ∙ if_fits-below (full_width (frame_of s)) few
+width-some s o few is = is ∙ if_fits-below (full_width s.table) few
 
-heights : (s : Printing) (o : Option ℕ) (Q : ℕ → Type 0) → IfSome o (λ rows. Q rows × (totals_fit (record (frame_of s) { rows = rows }) ≡ true)) → IfSome o (λ m. (m < 2 ^ 64 - 1) × (body_height (sized s.config s.width s.height m 0) < 2 ^ 64))
+heights : (s : Printing) (o : Option ℕ) (Q : ℕ → Type 0) → IfSome o (λ rows. Q rows × (totals_fit (record s.table { rows = rows }) ≡ true)) → IfSome o (λ m. (m < 2 ^ 64 - 1) × (body_height (sized s.table.config s.table.width s.table.height m 0) < 2 ^ 64))
 unfolding body_height
 heights s None Q h = tt
-heights s (Some m) Q h = let f = totals_facts (record (frame_of s) { rows = m }) h.1 in (f.rows, f.height)
+heights s (Some m) Q h = let f = totals_facts (record s.table { rows = m }) h.1 in (f.rows, f.height)
 
-pub heights-fit : (s : Printing) → PrinterFits s → IfSome s.hint (λ m. (m < 2 ^ 64 - 1) × (body_height (sized s.config s.width s.height m 0) < 2 ^ 64))
+pub heights-fit : (s : Printing) → PrinterFits s → IfSome s.hint (λ m. (m < 2 ^ 64 - 1) × (body_height (sized s.table.config s.table.width s.table.height m 0) < 2 ^ 64))
 heights-fit s fits = heights s s.hint (λ rows. _) fits.hint
 
-high-is : (s : Printing) (o : Option ℕ) → option_map (λ m. body_height (sized s.config s.width s.height m 0)) o ≡ option_map (λ rows. length (table_body (record (frame_of s) { rows = rows }))) o
+high-is : (s : Printing) (o : Option ℕ) → option_map (λ m. body_height (sized s.table.config s.table.width s.table.height m 0)) o ≡ option_map (λ rows. length (table_body (record s.table { rows = rows }))) o
 unfolding body_height table_body
 high-is s None = refl
-high-is s (Some m) = ap (λ n. Some n) (sym (length-table_body (record (frame_of s) { rows = m })))
+high-is s (Some m) = ap (λ n. Some n) (sym (length-table_body (record s.table { rows = m })))
 
 -- what is true of the printer
 module _ (config : Config) (columns : ℕ) (width height : ℕ → ℕ) (color : Position → Option Color) (hint : Option ℕ) (cells : List (Option Placed)) (fits : PrinterFits (printer config columns width height color hint)) (empty : cells ≡ replicate columns None) where
   abbrev pub first : Printing
-  first = record { config = config; columns = columns; width = width; height = height; color = color; hint = hint; rows = 0; lines = 0; is_ended = false; slots = slots_of cells }
+  first = record {
+    table = record { config = config; rows = 0; columns = columns; width = width; height = height; text = λ p. []; color = color };
+    hint = hint;
+    rows = 0;
+    lines = 0;
+    is_ended = false;
+    slots = slots_of cells;
+  }
 
   pub first-is : first ≡ printer config columns width height color hint
   unfolding printer
@@ -80,7 +87,7 @@ module _ (config : Config) (columns : ℕ) (width height : ℕ → ℕ) (color :
   hinted-first None = tt
   hinted-first (Some m) = (omega arith, λ e. absurd (false≢true e))
 
-  pub sound-first : (w : ℕ) (h : Option ℕ) → w ≡ full_width (frame_of first) → h ≡ option_map (λ m. body_height (sized config width height m 0)) hint → IsSound first (frame_of first) w h cells
+  pub sound-first : (w : ℕ) (h : Option ℕ) → w ≡ full_width first.table → h ≡ option_map (λ m. body_height (sized config width height m 0)) hint → IsSound first first.table w h cells
   sound-first w h wide high = record {
     fits = first-fits;
     full = wide;
@@ -88,7 +95,7 @@ module _ (config : Config) (columns : ℕ) (width height : ℕ → ℕ) (color :
     whole = sym (ap length empty ∙ length-replicate columns None);
     slots = open-first;
     lines = lines-first;
-    placed = rw empty (all-none (IsPlaced (frame_of first)) columns);
+    placed = rw empty (all-none (IsPlaced first.table) columns);
     few = omega arith;
     hinted = hinted-first hint;
     ended = λ e. absurd (false≢true e);

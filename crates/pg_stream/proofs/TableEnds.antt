@@ -25,7 +25,7 @@ hinted (Some n) k b h all = (h.0, λ _. all)
 
 -- a printer stays sound, where its last row may be the table's
 pub sound-ended : (s : Printing) (t : Table) (w : ℕ) (height : Option ℕ) (cells : List (Option Placed)) → IsSound s t w height cells
-    → IfSome s.hint (λ rows. s.rows ≡ rows) × (spans_fit s.config.spans s.rows s.columns ≡ true) → IsSound (record s { is_ended = true }) t w height cells
+    → IfSome s.hint (λ rows. s.rows ≡ rows) × (spans_fit s.table.config.spans s.rows s.table.columns ≡ true) → IsSound (record s { is_ended = true }) t w height cells
 unfolding table_known
 sound-ended s t w height cells sound may = record {
   fits = record { some = sound.fits.some; few = sound.fits.few; spans = sound.fits.spans; width = sound.fits.width; hint = sound.fits.hint };

@@ -31,11 +31,7 @@ cells_at t k = map (λ c. t.text (at k c)) (range_with_len 0 t.columns)
 -- a printer that has printed the first k rows
 unfoldable pub state_at : Table → Option ℕ → ℕ → Printing
 state_at t hint k = record {
-  config = t.config;
-  columns = t.columns;
-  width = t.width;
-  height = t.height;
-  color = t.color;
+  table = record t { rows = 0; text = λ p. [] };
   hint = hint;
   rows = k;
   lines = length (marks_above t.config t.height k);

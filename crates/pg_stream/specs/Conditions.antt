@@ -12,7 +12,7 @@ use Rattle.pg_picture.specs.Marks.{marks_of_row}
 use Rattle.pg_picture.specs.Pieces.{style_at}
 use Rattle.pg_picture.specs.Sizes.{height_of_rect}
 use Rattle.pg_picture.specs.Table.{Table, rect_width, full_width}
-use Rattle.pg_stream.specs.Printing.{Printing, frame_of, after_row}
+use Rattle.pg_stream.specs.Printing.{Printing, after_row}
 
 -- The rectangle that begins at p has an end, a width and a height that are numbers of 64 bits, and its text has room
 -- there.
@@ -29,39 +29,39 @@ HaveRoom t k texts = (c : ℕ) → c < t.columns → is_at (owner t.config.spans
 -- What a table may be printed with, row by row: a column at least, spans that fit the columns, and a total width that
 -- is a number of 64 bits; and where the number of rows is known, spans and totals that fit them.
 pub record PrinterFits (s : Printing) : Type 0 where
-  pub some : 0 < s.columns
-  pub few : s.columns < 2 ^ 64 - 1
-  pub spans : spans_fit_columns s.config.spans s.columns ≡ true
-  pub width : full_width (frame_of s) < 2 ^ 64
-  pub hint : IfSome s.hint (λ rows. (spans_fit s.config.spans rows s.columns ≡ true) × (totals_fit (record (frame_of s) { rows = rows }) ≡ true))
+  pub some : 0 < s.table.columns
+  pub few : s.table.columns < 2 ^ 64 - 1
+  pub spans : spans_fit_columns s.table.config.spans s.table.columns ≡ true
+  pub width : full_width s.table < 2 ^ 64
+  pub hint : IfSome s.hint (λ rows. (spans_fit s.table.config.spans rows s.table.columns ≡ true) × (totals_fit (record s.table { rows = rows }) ≡ true))
 
 -- what doesn't fit in a table of so many rows, where that number is known
 abbrev pub rows_misfit : Printing → Option ℕ → Option Misfit
 rows_misfit s None = None
 rows_misfit s (Some rows) =
-    if not (spans_fit s.config.spans rows s.columns) then Some Spans
-    else if not (totals_fit (record (frame_of s) { rows = rows })) then Some Totals
+    if not (spans_fit s.table.config.spans rows s.table.columns) then Some Spans
+    else if not (totals_fit (record s.table { rows = rows })) then Some Totals
     else None
 
 -- The first thing that keeps a printer from being made: a number of columns that can't be used, spans that don't fit
 -- the columns, their total width, and then what is known of the whole table.
 unfoldable pub printer_misfit : Printing → Option Misfit
 printer_misfit s =
-    if not (nat_lt 0 s.columns && nat_lt s.columns (2 ^ 64 - 1)) then Some Totals
-    else if not (spans_fit_columns s.config.spans s.columns) then Some Spans
-    else if not (nat_lt (full_width (frame_of s)) (2 ^ 64)) then Some Totals
+    if not (nat_lt 0 s.table.columns && nat_lt s.table.columns (2 ^ 64 - 1)) then Some Totals
+    else if not (spans_fit_columns s.table.config.spans s.table.columns) then Some Spans
+    else if not (nat_lt (full_width s.table) (2 ^ 64)) then Some Totals
     else rows_misfit s s.hint
 
 -- A row that may be printed next: as many cells as there are columns, and room for each that begins here; no last row
 -- before it, and no more rows than are known; spans that end with the last row; and lines that can be counted.
 pub record RowFits (s : Printing) (cells : List Text) (is_last : Bool) : Type 0 where
-  pub whole : length cells ≡ s.columns
+  pub whole : length cells ≡ s.table.columns
   pub goes_on : s.is_ended ≡ false
   pub rows : s.rows < 2 ^ 64 - 2
   pub hint : IfSome s.hint (λ rows. (s.rows < rows) × (is_last ≡ ((s.rows + 1) == rows)))
-  pub spans : is_last ≡ true → spans_fit s.config.spans (s.rows + 1) s.columns ≡ true
-  pub rooms : HaveRoom (frame_of s) s.rows cells
-  pub lines : s.lines + length (marks_of_row s.config s.height s.rows) < 2 ^ 64
+  pub spans : is_last ≡ true → spans_fit s.table.config.spans (s.rows + 1) s.table.columns ≡ true
+  pub rooms : HaveRoom s.table s.rows cells
+  pub lines : s.lines + length (marks_of_row s.table.config s.table.height s.rows) < 2 ^ 64
 
 -- Rows that may be printed one after another, of which the last one is the table's last.
 abbrev pub RowsFit : Printing → List (List Text) → Type 0

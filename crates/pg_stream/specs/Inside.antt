@@ -4,9 +4,6 @@ pub mod Slots
 pub mod Turns
 pub mod SingleRows
 pub mod Styles
-pub mod Told
-pub mod Frames
-pub mod RowLines
 pub mod Held
 pub mod Sized
 pub mod OpenCells

@@ -35,7 +35,7 @@ pub record RowsCountTheirLines : Type 0 where
 -- By these heights each of the rows may be pushed with its own, one after another, and the table be ended.
 abbrev pub AreNextHeights : Printing → List (List Text) → Type 0
 AreNextHeights s [] = CountsLines s
-AreNextHeights s (cells ∷ rows) = IsNextHeight s (s.height s.rows) × AreNextHeights (after_row s cells false) rows
+AreNextHeights s (cells ∷ rows) = IsNextHeight s (s.table.height s.rows) × AreNextHeights (after_row s cells false) rows
 
 -- All rows of a table, pushed one after another, each with its height, and ended, are its picture: the table's heights make up
 -- the lines at each call, and what the calls append by them is that picture.

@@ -29,13 +29,13 @@ living width height color s = record { printed = printing width height color s.p
 
 -- A row may be lent where it fits, no cell spans others, and it has one line: then no cell of it goes on.
 abbrev pub LentFits : Printing → List Text → Type 0
-LentFits s cells = RowFits s cells false × (s.config.spans ≡ []) × (s.height s.rows ≡ 1)
+LentFits s cells = RowFits s cells false × (s.table.config.spans ≡ []) × (s.table.height s.rows ≡ 1)
 
 -- ---- its end
 
 -- No row was printed, or each rectangle ends with the rows so far, which are as many as are known.
 abbrev pub MayEnd : Printing → Type 0
-MayEnd s = (s.rows ≡ 0) ⊎ (IfSome s.hint (λ rows. s.rows ≡ rows) × (spans_fit s.config.spans s.rows s.columns ≡ true))
+MayEnd s = (s.rows ≡ 0) ⊎ (IfSome s.hint (λ rows. s.rows ≡ rows) × (spans_fit s.table.config.spans s.rows s.table.columns ≡ true))
 
 -- the answer says whether the table may end
 abbrev pub TellsEnd : {U : Type 0} → Type 0 → Result U StreamFault → Type 0

@@ -28,10 +28,10 @@ pub record Printer (D C : Type 0) : Type 0 where
 -- a printer that was told this, and has printed so much
 abbrev pub printer_of : {D C B S A : Type 0} → Frame D C B → Progress S A → Printer D C
 printer_of frame progress = record {
-  config = frame.config.now;
-  columns = frame.columns;
-  dimension = frame.dimension.now;
-  colors = frame.colors.now;
+  config = frame.sheet.config.now;
+  columns = frame.sheet.columns;
+  dimension = frame.sheet.dimension.now;
+  colors = frame.sheet.colors.now;
   hint = frame.hint;
   rows = progress.rows;
   lines = progress.lines;
@@ -42,11 +42,7 @@ printer_of frame progress = record {
 -- what it stands for, by what its dimension and its colours stand for
 abbrev pub printing : {D C : Type 0} → (D → ℕ → ℕ) → (D → ℕ → ℕ) → (C → Position → Option Color) → Printer D C → Printing
 printing width height color p = record {
-  config = p.config;
-  columns = p.columns;
-  width = width p.dimension;
-  height = height p.dimension;
-  color = color p.colors;
+  table = record { config = p.config; rows = 0; columns = p.columns; width = width p.dimension; height = height p.dimension; text = λ x. []; color = color p.colors };
   hint = p.hint;
   rows = p.rows;
   lines = p.lines;
@@ -61,14 +57,14 @@ pub record IsSound (s : Printing) (t : Table) (width : ℕ) (height : Option ℕ
   pub fits : PrinterFits s
   pub full : width ≡ full_width t
   pub high : height ≡ option_map (λ rows. length (table_body (record t { rows = rows }))) s.hint
-  pub whole : s.columns ≡ length cells
+  pub whole : s.table.columns ≡ length cells
   pub slots : slots_of cells ≡ open_before (table_known s s.rows []) s.rows
-  pub lines : s.lines ≡ length (marks_above s.config s.height s.rows)
+  pub lines : s.lines ≡ length (marks_above s.table.config s.table.height s.rows)
   pub placed : AllOpen (IsPlaced t) cells
   pub few : s.rows < 2 ^ 64 - 1
   pub hinted : IfSome s.hint (λ rows. (s.rows ≤ rows) × (s.is_ended ≡ true → s.rows ≡ rows))
-  pub ended : s.is_ended ≡ true → spans_fit s.config.spans s.rows s.columns ≡ true
+  pub ended : s.is_ended ≡ true → spans_fit s.table.config.spans s.rows s.table.columns ≡ true
 
--- what a printer stands for that was told this, and has printed so much
-abbrev pub now_of : {S A : Type 0} → Printing → Progress S A → Printing
-now_of told progress = record told { rows = progress.rows; lines = progress.lines; is_ended = progress.is_ended; slots = slots_of progress.cells }
+-- what a printer of this table stands for that has printed so much
+abbrev pub now_of : {S A : Type 0} → Table → Option ℕ → Progress S A → Printing
+now_of t hint progress = record { table = t; hint = hint; rows = progress.rows; lines = progress.lines; is_ended = progress.is_ended; slots = slots_of progress.cells }

@@ -13,14 +13,11 @@ use Rattle.pg_stream.specs.Open.{Slot, slot_text, open_before}
 
 -- ---- a printer of rows
 
--- What it was told, how many rows and lines of the body it has printed, whether the last row is among them, and
--- what is open, a slot for each column.
+-- The table as it was told, of which no row and no text is known; the number of its rows, where that is known; and
+-- how many rows and lines of the body are printed, whether the last row is among them, and what is open, a slot for
+-- each column.
 pub record Printing : Type 0 where
-  pub config : Config
-  pub columns : ℕ
-  pub width : ℕ → ℕ
-  pub height : ℕ → ℕ
-  pub color : Position → Option Color
+  pub table : Table
   pub hint : Option ℕ
   pub rows : ℕ
   pub lines : ℕ
@@ -44,7 +41,7 @@ rows_reached spans k = max (k + 2) (greatest (map (row_end k) spans))
 
 -- the number of rows of the table of which the next row is printed
 unfoldable pub rows_known : Printing → Bool → ℕ
-rows_known s is_last = if is_last then s.rows + 1 else unwrap_or s.hint (rows_reached s.config.spans s.rows)
+rows_known s is_last = if is_last then s.rows + 1 else unwrap_or s.hint (rows_reached s.table.config.spans s.rows)
 
 -- row k has the texts of its cells, and what began above it those of the open cells
 unfoldable pub text_known : ℕ → List (Option Slot) → List Text → Position → Text
@@ -52,27 +49,7 @@ text_known k slots cells p = if p.row == k then slice_index_or cells p.col [] el
 
 -- the table of m rows, of which the next row has these cells
 unfoldable pub table_known : Printing → ℕ → List Text → Table
-table_known s m cells = record {
-  config = s.config;
-  rows = m;
-  columns = s.columns;
-  width = s.width;
-  height = s.height;
-  text = text_known s.rows s.slots cells;
-  color = s.color;
-}
-
--- a table of no rows that is told the same
-abbrev pub frame_of : Printing → Table
-frame_of s = record {
-  config = s.config;
-  rows = 0;
-  columns = s.columns;
-  width = s.width;
-  height = s.height;
-  text = λ p. [];
-  color = s.color;
-}
+table_known s m cells = record s.table { rows = m; text = text_known s.rows s.slots cells }
 
 -- ---- lines of a picture
 
@@ -88,7 +65,7 @@ lines_below hint t i = body_lines hint t i (only_if (has_horizontal t.config t.r
 
 -- how many lines of the picture stand already
 unfoldable pub lines_printed : Printing → ℕ
-lines_printed s = if s.rows == 0 then 0 else s.config.margin.top.size + s.lines
+lines_printed s = if s.rows == 0 then 0 else s.table.config.margin.top.size + s.lines
 
 unfoldable pub row_lines : Printing → List Text → Bool → List Text
 row_lines s cells is_last = lines_at (hint_of s.hint) (table_known s (rows_known s is_last) cells) s.rows s.lines
@@ -107,11 +84,7 @@ finish_text s = continued (lines_printed s) (finish_lines s)
 -- a printer before its first row
 unfoldable pub printer : Config → ℕ → (ℕ → ℕ) → (ℕ → ℕ) → (Position → Option Color) → Option ℕ → Printing
 printer config columns width height color hint = record {
-  config = config;
-  columns = columns;
-  width = width;
-  height = height;
-  color = color;
+  table = record { config = config; rows = 0; columns = columns; width = width; height = height; text = λ p. []; color = color };
   hint = hint;
   rows = 0;
   lines = 0;
@@ -123,7 +96,7 @@ printer config columns width height color hint = record {
 unfoldable pub after_row : Printing → List Text → Bool → Printing
 after_row s cells is_last = record s {
   rows = s.rows + 1;
-  lines = s.lines + length (marks_of_row s.config s.height s.rows);
+  lines = s.lines + length (marks_of_row s.table.config s.table.height s.rows);
   is_ended = is_last;
   slots = open_before (table_known s (s.rows + 1) cells) (s.rows + 1);
 }

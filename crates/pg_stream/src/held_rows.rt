@@ -7,15 +7,14 @@ ghost use Rattle.std.specs.Result.{result_map_both};
 ghost use Rattle.pg_layout.specs.Records.{AlwaysGives};
 ghost use Rattle.pg_layout.specs.Text.{Text};
 ghost use Rattle.pg_stream.specs.Inside.Held.{streamed, AreSoundAt};
-ghost use Rattle.pg_stream.specs.Inside.Told.{told_of};
+ghost use Rattle.pg_picture.specs.Inside.Sheets.{bare_table};
 ghost use Rattle.pg_stream.specs.Streams.{held_text, HeldFits, after_push, rows_left, AppendsIf, PrintsRows, PrintsResults, PrintsRun, PrintsResultsRun};
 
-use crate::drawing::Drawn;
 use crate::fault::{RowsFault, StreamFault};
 use crate::frame::Frame;
 use crate::progress::Progress;
 use pg_layout::{Colors, Dimension};
-use pg_picture::{SEPARATOR_ROOM, SeparatorKeeper};
+use pg_picture::{Drawn, SEPARATOR_ROOM, SeparatorKeeper};
 use std::alloc::{Allocator, Global};
 use std::convert::AsStr;
 
@@ -42,11 +41,11 @@ impl<S: AsStr + Drop, A: Allocator, V: Allocator> HeldRows<'_, S, A, V> {
         C: Colors,
         B: Allocator,
         W: Allocator,
-        requires is { told_of D.width D.height C.color frame.now ≡ T.told }
-        requires sound { AreSoundAt T.told frame.now self.old }
-        ensures sound { OnOk result (AreSoundAt T.told frame.now self.new) }
-        ensures prints { AppendsIf (HeldFits (streamed S.text T.told self.old)) (streamed S.text T.told self.old).before.rows (held_text (streamed S.text T.told self.old)) buf.old buf.new result }
-        ensures after { OnOk result (streamed S.text T.told self.new ≡ after_push (streamed S.text T.told self.old) (map S.text cells.items)) }
+        requires is { bare_table D.width D.height C.color frame.now.sheet ≡ T.table }
+        requires sound { AreSoundAt T.table frame.now self.old }
+        ensures sound { OnOk result (AreSoundAt T.table frame.now self.new) }
+        ensures prints { AppendsIf (HeldFits (streamed S.text T.table frame.now.hint self.old)) (streamed S.text T.table frame.now.hint self.old).before.rows (held_text (streamed S.text T.table frame.now.hint self.old)) buf.old buf.new result }
+        ensures after { OnOk result (streamed S.text T.table frame.now.hint self.new ≡ after_push (streamed S.text T.table frame.now.hint self.old) (map S.text cells.items)) }
         ensures first { self.old.held ≡ None → IsOk result × (buf.new ≡ buf.old) }
     {
         let Some(row) = self.held.replace(cells) else {
@@ -68,9 +67,9 @@ impl<S: AsStr + Drop, A: Allocator, V: Allocator> HeldRows<'_, S, A, V> {
         C: Colors,
         B: Allocator,
         W: Allocator,
-        requires is { told_of D.width D.height C.color frame.now ≡ T.told }
-        requires sound { AreSoundAt T.told frame.now self }
-        ensures prints { PrintsRows (streamed S.text T.told self.entry).before (rows_left (streamed S.text T.told self.entry) []) buf.old buf.new result }
+        requires is { bare_table D.width D.height C.color frame.now.sheet ≡ T.table }
+        requires sound { AreSoundAt T.table frame.now self }
+        ensures prints { PrintsRows (streamed S.text T.table frame.now.hint self.entry).before (rows_left (streamed S.text T.table frame.now.hint self.entry) []) buf.old buf.new result }
         ensures empty { self.entry.held ≡ None → IsOk result × (buf.new ≡ buf.old) }
     {
         let HeldRows { mut progress, held } = self;
@@ -105,12 +104,12 @@ impl<S: AsStr + Drop, A: Allocator, V: Allocator> HeldRows<'_, S, A, V> {
         B: Allocator,
         I: Iterator<Item = Vec<S, V>> + Drop,
         W: Allocator,
-        requires is { told_of D.width D.height C.color frame.now ≡ T.told }
-        requires sound { AreSoundAt T.told frame.now self }
+        requires is { bare_table D.width D.height C.color frame.now.sheet ≡ T.table }
+        requires sound { AreSoundAt T.table frame.now self }
         requires can { I.can_next rows }
         requires ends { IsFinite (I.remaining rows) }
-        ensures prints { (texts : List (List Text)) → AlwaysGives (λ x y. map S.text x.items ≡ y) I.next_gives rows texts → PrintsRows (streamed S.text T.told self.entry).before (rows_left (streamed S.text T.told self.entry) texts) buf.old buf.new result }
-        ensures runs { SomeRun I.next_gives rows (λ run. PrintsRun run.whole (streamed S.text T.told self.entry).before (rows_left (streamed S.text T.told self.entry) (map (λ row. map S.text row.items) run.items)) buf.old buf.new result) }
+        ensures prints { (texts : List (List Text)) → AlwaysGives (λ x y. map S.text x.items ≡ y) I.next_gives rows texts → PrintsRows (streamed S.text T.table frame.now.hint self.entry).before (rows_left (streamed S.text T.table frame.now.hint self.entry) texts) buf.old buf.new result }
+        ensures runs { SomeRun I.next_gives rows (λ run. PrintsRun run.whole (streamed S.text T.table frame.now.hint self.entry).before (rows_left (streamed S.text T.table frame.now.hint self.entry) (map (λ row. map S.text row.items) run.items)) buf.old buf.new result) }
         ensures empty { self.entry.held ≡ None → AlwaysGives (λ x y. map S.text x.items ≡ y) I.next_gives rows [] → IsOk result × (buf.new ≡ buf.old) }
     {
         let mut room = [0; SEPARATOR_ROOM];
@@ -137,12 +136,12 @@ impl<S: AsStr + Drop, A: Allocator, V: Allocator> HeldRows<'_, S, A, V> {
         E: Drop,
         I: Iterator<Item = Result<Vec<S, V>, E>> + Drop,
         W: Allocator,
-        requires is { told_of D.width D.height C.color frame.now ≡ T.told }
-        requires sound { AreSoundAt T.told frame.now self }
+        requires is { bare_table D.width D.height C.color frame.now.sheet ≡ T.table }
+        requires sound { AreSoundAt T.table frame.now self }
         requires can { I.can_next rows }
         requires ends { IsFinite (I.remaining rows) }
-        ensures prints { (items : List (Result (List Text) E)) → AlwaysGives (λ x y. result_map_both (λ row. map S.text row.items) (λ error. error) x ≡ y) I.next_gives rows items → PrintsResults (streamed S.text T.told self.entry) items buf.old buf.new result }
-        ensures runs { SomeRun I.next_gives rows (λ run. PrintsResultsRun run.whole (streamed S.text T.told self.entry) (map (λ item. result_map_both (λ row. map S.text row.items) (λ error. error) item) run.items) buf.old buf.new result) }
+        ensures prints { (items : List (Result (List Text) E)) → AlwaysGives (λ x y. result_map_both (λ row. map S.text row.items) (λ error. error) x ≡ y) I.next_gives rows items → PrintsResults (streamed S.text T.table frame.now.hint self.entry) items buf.old buf.new result }
+        ensures runs { SomeRun I.next_gives rows (λ run. PrintsResultsRun run.whole (streamed S.text T.table frame.now.hint self.entry) (map (λ item. result_map_both (λ row. map S.text row.items) (λ error. error) item) run.items) buf.old buf.new result) }
         ensures empty { self.entry.held ≡ None → AlwaysGives (λ x y. result_map_both (λ row. map S.text row.items) (λ error. error) x ≡ y) I.next_gives rows [] → IsOk result × (buf.new ≡ buf.old) }
     {
         let mut room = [0; SEPARATOR_ROOM];

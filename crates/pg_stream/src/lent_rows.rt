@@ -8,19 +8,20 @@ ghost use Rattle.pg_picture.specs.Appending.{Appends};
 ghost use Rattle.pg_stream.specs.Conditions.{RowFits};
 ghost use Rattle.pg_stream.specs.Inside.Held.{IsSoundAt};
 ghost use Rattle.pg_stream.specs.Inside.SingleRows.{ArePlain, IsSingle};
-ghost use Rattle.pg_stream.specs.Inside.Told.{told_of};
+ghost use Rattle.pg_picture.specs.Inside.Sheets.{bare_table};
 ghost use Rattle.pg_stream.specs.LiveStreams.{living, LentFits};
 ghost use Rattle.pg_stream.specs.Printers.{now_of};
 ghost use Rattle.pg_stream.specs.Printing.{row_text, after_row};
 ghost use Rattle.pg_stream.specs.Streams.{AppendsIf};
 ghost use Rattle.pg_stream.specs.declared.fault.StreamFault.{StreamFault};
 
-use crate::drawing::{Drawing, Drawn};
+use crate::drawing::Drawing;
 use crate::fault::StreamFault;
 use crate::frame::Frame;
 use crate::live_stream::LiveStream;
 use crate::progress::Progress;
 use pg_layout::{Colors, Dimension};
+use pg_picture::{Drawn, Pen};
 use std::alloc::{AllocError, Allocator};
 use std::convert::AsStr;
 use std::marker::{Brand, PhantomData};
@@ -92,32 +93,27 @@ impl<S: AsStr + Drop, A: Allocator> Progress<'_, S, A> {
         X: AsStr + Drop,
         I: Iterator<Item = X>,
         W: Allocator,
-        requires is { told_of D.width D.height C.color frame.now ≡ T.told }
-        requires single { IsSingle T.told self.old.rows }
+        requires is { bare_table D.width D.height C.color frame.now.sheet ≡ T.table }
+        requires single { IsSingle T.table self.old.rows }
         requires can { I.can_next cells × IsFinite (I.remaining cells) }
-        requires sound { IsSoundAt T.told frame.now self.old }
-        requires fits { (texts : List Text) × AlwaysGives (λ x y. X.text x ≡ y) I.next_gives cells texts × RowFits (now_of T.told self.old) texts is_last × (are_plain ≡ true → ArePlain T.told.columns texts) }
-        ensures sound { OnOk result (IsSoundAt T.told frame.now self.new) }
-        ensures appends { (texts : List Text) → AlwaysGives (λ x y. X.text x ≡ y) I.next_gives cells texts → Appends buf.old buf.new result (row_text (now_of T.told self.old) texts is_last) }
-        ensures after { (texts : List Text) → AlwaysGives (λ x y. X.text x ≡ y) I.next_gives cells texts → OnOk result (now_of T.told self.new ≡ after_row (now_of T.told self.old) texts is_last) }
+        requires sound { IsSoundAt T.table frame.now self.old }
+        requires fits { (texts : List Text) × AlwaysGives (λ x y. X.text x ≡ y) I.next_gives cells texts × RowFits (now_of T.table frame.now.hint self.old) texts is_last × (are_plain ≡ true → ArePlain T.table.columns texts) }
+        ensures sound { OnOk result (IsSoundAt T.table frame.now self.new) }
+        ensures appends { (texts : List Text) → AlwaysGives (λ x y. X.text x ≡ y) I.next_gives cells texts → Appends buf.old buf.new result (row_text (now_of T.table frame.now.hint self.old) texts is_last) }
+        ensures after { (texts : List Text) → AlwaysGives (λ x y. X.text x ≡ y) I.next_gives cells texts → OnOk result (now_of T.table frame.now.hint self.new ≡ after_row (now_of T.table frame.now.hint self.old) texts is_last) }
     {
         let drawing: Drawing<'_, T, D, C, B> = Drawing {
-            frame,
-            of: PhantomData,
+            pen: Pen {
+                sheet: &frame.sheet,
+                is_colored: true,
+                of: PhantomData,
+            },
         };
-        let is_first = drawing.begins_with_body();
         drawing.push_top(buf, self.rows)?;
-        let next = drawing.push_above(
-            &mut self.cells,
-            &mut self.kept,
-            buf,
-            is_first,
-            self.lines,
-            self.rows,
-        )?;
-        let height = drawing.height_of(self.rows);
+        let next = drawing.push_above(&mut self.cells, &mut self.kept, buf, self.lines, self.rows)?;
+        let height = drawing.pen.height_of(self.rows);
         let below = next + height;
-        drawing.push_single_row(buf, is_first, next, self.rows, cells, are_plain)?;
+        drawing.push_single_row(buf, next, self.rows, cells, are_plain)?;
         self.end_row(below, is_last);
         Ok(())
     }
@@ -134,11 +130,13 @@ impl<S: AsStr + Drop, A: Allocator> Progress<'_, S, A> {
         D: Dimension,
         C: Colors,
         B: Allocator,
-        requires sound { IsSoundAt (told_of D.width D.height C.color frame.now) frame.now self.now }
-        ensures fits { IsSome result ↔ LentFits (now_of (told_of D.width D.height C.color frame.now) self.now) (map X.text cells.now) }
-        ensures plain { result ≡ Some true → ArePlain frame.now.columns (map X.text cells.now) }
+        requires sound { IsSoundAt (bare_table D.width D.height C.color frame.now.sheet) frame.now self.now }
+        ensures fits { IsSome result ↔ LentFits (now_of (bare_table D.width D.height C.color frame.now.sheet) frame.now.hint self.now) (map X.text cells.now) }
+        ensures plain { result ≡ Some true → ArePlain frame.now.sheet.columns (map X.text cells.now) }
     {
-        if frame.config.spans().is_empty() && frame.dimension.get_height(self.rows) == 1 {
+        if frame.sheet.config.spans().is_empty()
+            && frame.sheet.dimension.get_height(self.rows) == 1
+        {
             return self.plainness(frame, cells, false);
         }
         None

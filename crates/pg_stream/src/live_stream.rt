@@ -56,7 +56,7 @@ impl<'a, S: AsStr, D: Dimension, C: Colors, B: Allocator, A: Allocator> Model
     for LiveStream<'a, S, D, C, B, A> {
     ghost use Rattle.std.specs.Prelude.{◌≡◌, false};
     ghost use Rattle.pg_stream.specs.Inside.Held.{IsSoundAt};
-    ghost use Rattle.pg_stream.specs.Inside.Told.{told_of};
+    ghost use Rattle.pg_picture.specs.Inside.Sheets.{bare_table};
     ghost use Rattle.pg_stream.specs.LiveStreams.{Live};
     ghost use Rattle.pg_stream.specs.Printers.{printer_of};
 
@@ -64,7 +64,7 @@ impl<'a, S: AsStr, D: Dimension, C: Colors, B: Allocator, A: Allocator> Model
 
     ghost view = { λ s. record { printer = printer_of s.frame s.progress; is_lost = s.is_lost } };
 
-    ghost invariant = { λ s. s.is_lost ≡ false → IsSoundAt (told_of D.width D.height C.color s.frame) s.frame s.progress };
+    ghost invariant = { λ s. s.is_lost ≡ false → IsSoundAt (bare_table D.width D.height C.color s.frame.sheet) s.frame s.progress };
 }
 
 impl<'a, S: AsStr + Drop, D: Dimension, C: Colors, B: Allocator, A: Allocator> LiveStream<

@@ -7,14 +7,13 @@ ghost use Rattle.pg_picture.specs.Pieces.{written};
 ghost use Rattle.pg_stream.specs.Inside.OpenCells.{AreDrawn, DrawsCell};
 ghost use Rattle.pg_stream.specs.Inside.Slots.{slot_block};
 ghost use Rattle.pg_stream.specs.Placed.{slot_of};
-ghost use Rattle.pg_stream.specs.Printing.{frame_of};
 ghost use Rattle.std.proofs.Props.{props};
 
-use crate::drawing::{Drawing, Drawn};
+use crate::drawing::Drawing;
 use crate::open_cell::OpenCell;
 use crate::open_cells::OpenCells;
 use pg_layout::{Colors, Dimension, Position};
-use pg_picture::{CellStyle, push_block_line_of};
+use pg_picture::{CellStyle, Drawn, push_block_line_of};
 use std::alloc::{AllocError, Allocator};
 use std::convert::AsStr;
 
@@ -33,7 +32,7 @@ pub(crate) struct OpenLine<
 > {
     pub(crate) table: Drawing<'f, T, D, C, B>,
     pub(crate) opened: &'o OpenCells<S, A>,
-    ghost are_drawn: { AreDrawn (frame_of T.told) opened.now } by { Prim.hlevel props },
+    ghost are_drawn: { AreDrawn T.table opened.now } by { Prim.hlevel props },
 }
 
 impl<'f, 'o, T, S, D, C, B, A> OpenLine<'f, 'o, T, S, D, C, B, A>
@@ -53,13 +52,13 @@ where
         column: usize,
     ) -> Result<(), AllocError>
         requires cell { slice_index_or self.now.opened.now column None ≡ Some cell.now }
-        ensures { Appends buf.old buf.new result (written (slot_block (frame_of T.told) (slot_of (Some cell.now)) column)) }
+        ensures { Appends buf.old buf.new result (written (slot_block T.table (slot_of (Some cell.now)) column)) }
     {
         let pos = Position::new(cell.begun(), column);
-        match &self.table.frame.all {
+        match &self.table.pen.sheet.all {
             Some(style) => self.push_line_in_style(buf, style, cell, pos),
             None => {
-                let style = self.table.frame.style_of_lines(cell.place().left, pos);
+                let style = self.table.style_of_lines(cell.place().left, pos);
                 self.push_line_in_style(buf, &style, cell, pos)
             }
         }
@@ -74,13 +73,13 @@ where
         cell: &OpenCell<S>,
         pos: Position,
     ) -> Result<(), AllocError>
-        requires { DrawsCell (frame_of T.told) pos (style_of style.now) cell.now }
-        ensures { Appends buf.old buf.new result (written (slot_block (frame_of T.told) (slot_of (Some cell.now)) pos.col)) }
+        requires { DrawsCell T.table pos (style_of style.now) cell.now }
+        ensures { Appends buf.old buf.new result (written (slot_block T.table (slot_of (Some cell.now)) pos.col)) }
     {
         push_block_line_of(
             buf,
             style,
-            self.table.frame.colors.get_color(pos),
+            self.table.pen.color_of(pos),
             cell.line(),
             cell.place(),
             cell.width(),

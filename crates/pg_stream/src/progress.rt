@@ -10,16 +10,16 @@ ghost use Rattle.pg_stream.specs.Inside.Held.{IsSoundAt};
 ghost use Rattle.pg_stream.specs.Inside.SingleRows.{ArePlain};
 ghost use Rattle.pg_stream.specs.Printers.{now_of};
 ghost use Rattle.pg_stream.specs.Printing.{row_text, rows_text, finish_text, after_row};
-ghost use Rattle.pg_stream.specs.Inside.Told.{told_of};
+ghost use Rattle.pg_picture.specs.Inside.Sheets.{bare_table};
 ghost use Rattle.pg_stream.specs.Streams.{AppendsIf};
 
-use crate::drawing::{Drawing, Drawn};
+use crate::drawing::Drawing;
 use crate::fault::StreamFault;
 use crate::frame::Frame;
 use crate::open_cells::OpenCells;
 use crate::open_line::OpenLine;
 use pg_layout::{Colors, Dimension};
-use pg_picture::{SEPARATOR_ROOM, SeparatorKeeper};
+use pg_picture::{Drawn, Pen, SEPARATOR_ROOM, SeparatorKeeper};
 use std::alloc::{AllocError, Allocator, Global};
 use std::convert::AsStr;
 use std::marker::PhantomData;
@@ -57,35 +57,30 @@ impl<S: AsStr + Drop, A: Allocator> Progress<'_, S, A> {
         B: Allocator,
         I: Iterator<Item = S>,
         W: Allocator,
-        requires is { told_of D.width D.height C.color frame.now ≡ T.told }
+        requires is { bare_table D.width D.height C.color frame.now.sheet ≡ T.table }
         requires can { I.can_next cells × IsFinite (I.remaining cells) }
-        requires sound { IsSoundAt T.told frame.now self.old }
-        requires fits { (texts : List Text) × AlwaysGives (λ x y. S.text x ≡ y) I.next_gives cells texts × RowFits (now_of T.told self.old) texts is_last × (are_plain ≡ true → ArePlain T.told.columns texts) }
-        ensures sound { OnOk result (IsSoundAt T.told frame.now self.new) }
-        ensures appends { (texts : List Text) → AlwaysGives (λ x y. S.text x ≡ y) I.next_gives cells texts → Appends buf.old buf.new result (row_text (now_of T.told self.old) texts is_last) }
-        ensures after { (texts : List Text) → AlwaysGives (λ x y. S.text x ≡ y) I.next_gives cells texts → OnOk result (now_of T.told self.new ≡ after_row (now_of T.told self.old) texts is_last) }
+        requires sound { IsSoundAt T.table frame.now self.old }
+        requires fits { (texts : List Text) × AlwaysGives (λ x y. S.text x ≡ y) I.next_gives cells texts × RowFits (now_of T.table frame.now.hint self.old) texts is_last × (are_plain ≡ true → ArePlain T.table.columns texts) }
+        ensures sound { OnOk result (IsSoundAt T.table frame.now self.new) }
+        ensures appends { (texts : List Text) → AlwaysGives (λ x y. S.text x ≡ y) I.next_gives cells texts → Appends buf.old buf.new result (row_text (now_of T.table frame.now.hint self.old) texts is_last) }
+        ensures after { (texts : List Text) → AlwaysGives (λ x y. S.text x ≡ y) I.next_gives cells texts → OnOk result (now_of T.table frame.now.hint self.new ≡ after_row (now_of T.table frame.now.hint self.old) texts is_last) }
     {
         let drawing: Drawing<'_, T, D, C, B> = Drawing {
-            frame,
-            of: PhantomData,
+            pen: Pen {
+                sheet: &frame.sheet,
+                is_colored: true,
+                of: PhantomData,
+            },
         };
-        let height = drawing.height_of(self.rows);
+        let height = drawing.pen.height_of(self.rows);
         if drawing.draws_at_once(height) {
             return self.push_single::<T, D, C, B, S, I, W>(frame, cells, are_plain, is_last, buf);
         }
-        let is_first = drawing.begins_with_body();
         drawing.push_top(buf, self.rows)?;
-        let next = drawing.push_above(
-            &mut self.cells,
-            &mut self.kept,
-            buf,
-            is_first,
-            self.lines,
-            self.rows,
-        )?;
+        let next = drawing.push_above(&mut self.cells, &mut self.kept, buf, self.lines, self.rows)?;
         let below = next + height;
         drawing.begin(&mut self.cells, cells, self.rows);
-        drawing.push_lines(&mut self.cells, buf, is_first, next, self.rows)?;
+        drawing.push_lines(&mut self.cells, buf, next, self.rows)?;
         drawing.close(&mut self.cells, self.rows);
         self.end_row(below, is_last);
         Ok(())
@@ -108,11 +103,11 @@ impl<S: AsStr + Drop, A: Allocator> Progress<'_, S, A> {
         B: Allocator,
         V: Allocator,
         W: Allocator,
-        requires is { told_of D.width D.height C.color frame.now ≡ T.told }
-        requires sound { IsSoundAt T.told frame.now self.old }
-        ensures sound { OnOk result (IsSoundAt T.told frame.now self.new) }
-        ensures prints { AppendsIf (RowFits (now_of T.told self.old) (map S.text cells.items) is_last) self.old.rows (row_text (now_of T.told self.old) (map S.text cells.items) is_last) buf.old buf.new result }
-        ensures after { OnOk result (now_of T.told self.new ≡ after_row (now_of T.told self.old) (map S.text cells.items) is_last) }
+        requires is { bare_table D.width D.height C.color frame.now.sheet ≡ T.table }
+        requires sound { IsSoundAt T.table frame.now self.old }
+        ensures sound { OnOk result (IsSoundAt T.table frame.now self.new) }
+        ensures prints { AppendsIf (RowFits (now_of T.table frame.now.hint self.old) (map S.text cells.items) is_last) self.old.rows (row_text (now_of T.table frame.now.hint self.old) (map S.text cells.items) is_last) buf.old buf.new result }
+        ensures after { OnOk result (now_of T.table frame.now.hint self.new ≡ after_row (now_of T.table frame.now.hint self.old) (map S.text cells.items) is_last) }
     {
         let Some(are_plain) = self.plainness(frame, &cells, is_last) else {
             return Err(StreamFault::Row(self.rows));
@@ -139,19 +134,22 @@ impl<S: AsStr + Drop, A: Allocator> Progress<'_, S, A> {
         B: Allocator,
         V: Allocator,
         W: Allocator,
-        requires is { told_of D.width D.height C.color frame.now ≡ T.told }
-        requires sound { IsSoundAt T.told frame.now self.old }
-        requires fits { RowFits (now_of T.told self.old) (map S.text cells.items) is_last }
-        requires plain { are_plain ≡ true → ArePlain T.told.columns (map S.text cells.items) }
-        ensures sound { OnOk result (IsSoundAt T.told frame.now self.new) }
-        ensures appends { Appends buf.old buf.new result (row_text (now_of T.told self.old) (map S.text cells.items) is_last) }
-        ensures after { OnOk result (now_of T.told self.new ≡ after_row (now_of T.told self.old) (map S.text cells.items) is_last) }
+        requires is { bare_table D.width D.height C.color frame.now.sheet ≡ T.table }
+        requires sound { IsSoundAt T.table frame.now self.old }
+        requires fits { RowFits (now_of T.table frame.now.hint self.old) (map S.text cells.items) is_last }
+        requires plain { are_plain ≡ true → ArePlain T.table.columns (map S.text cells.items) }
+        ensures sound { OnOk result (IsSoundAt T.table frame.now self.new) }
+        ensures appends { Appends buf.old buf.new result (row_text (now_of T.table frame.now.hint self.old) (map S.text cells.items) is_last) }
+        ensures after { OnOk result (now_of T.table frame.now.hint self.new ≡ after_row (now_of T.table frame.now.hint self.old) (map S.text cells.items) is_last) }
     {
         let drawing: Drawing<'_, T, D, C, B> = Drawing {
-            frame,
-            of: PhantomData,
+            pen: Pen {
+                sheet: &frame.sheet,
+                is_colored: true,
+                of: PhantomData,
+            },
         };
-        let height = drawing.height_of(self.rows);
+        let height = drawing.pen.height_of(self.rows);
         if drawing.draws_at_once(height) {
             return self.push_single::<T, D, C, B, &S, Iter<'_, S>, W>(
                 frame,
@@ -208,27 +206,32 @@ impl<S: AsStr + Drop, A: Allocator> Progress<'_, S, A> {
         C: Colors,
         B: Allocator,
         W: Allocator,
-        requires is { told_of D.width D.height C.color frame.now ≡ T.told }
-        requires sound { IsSoundAt T.told frame.now self.now }
+        requires is { bare_table D.width D.height C.color frame.now.sheet ≡ T.table }
+        requires sound { IsSoundAt T.table frame.now self.now }
         requires ended { (self.now.rows ≡ 0) ⊎ (self.now.is_ended ≡ true) }
-        ensures appends { Appends buf.old buf.new result (finish_text (now_of T.told self.now)) }
+        ensures appends { Appends buf.old buf.new result (finish_text (now_of T.table frame.now.hint self.now)) }
         ensures empty { self.now.rows ≡ 0 → IsOk result × (buf.new ≡ buf.old) }
     {
         if self.rows == 0 {
             return Ok(());
         }
         let drawing: Drawing<'_, T, D, C, B> = Drawing {
-            frame,
-            of: PhantomData,
+            pen: Pen {
+                sheet: &frame.sheet,
+                is_colored: true,
+                of: PhantomData,
+            },
         };
-        let is_first = drawing.begins_with_body();
         let line = OpenLine {
             table: drawing,
             opened: &self.cells,
         };
-        line.push_below(buf, is_first, self.lines, self.rows)?;
-        let has_last = drawing.has_horizontal(self.rows, self.rows);
-        drawing.push_bottom(buf, is_bare(is_first, self.lines, has_last))
+        line.push_below(buf, self.lines, self.rows)?;
+        let has_last = drawing.pen.has_horizontal(self.rows, self.rows);
+        let is_first = frame.sheet.begins_with_body;
+        drawing
+            .pen
+            .push_bottom(buf, is_bare(is_first, self.lines, has_last))
     }
 
     // Prints all rows of the table of a frame and ends it, as `RowPrinter::print_rows` does.
@@ -247,11 +250,11 @@ impl<S: AsStr + Drop, A: Allocator> Progress<'_, S, A> {
         Cells: Iterator<Item = S>,
         Rows: Iterator<Item = Cells>,
         W: Allocator,
-        requires is { told_of D.width D.height C.color frame.now ≡ T.told }
+        requires is { bare_table D.width D.height C.color frame.now.sheet ≡ T.table }
         requires rows { Rows.can_next rows × IsFinite (Rows.remaining rows) }
-        requires sound { IsSoundAt T.told frame.now self }
-        requires given { (cells : List Text) × (texts : List (List Text)) × AreRowsFrom (Gives (λ x y. S.text x ≡ y) Cells.can_next Cells.next_gives Cells.remaining) Rows.next_gives first rows cells texts × RowsFit (now_of T.told self) (cells ∷ texts) }
-        ensures { (cells : List Text) (texts : List (List Text)) → AreRowsFrom (Gives (λ x y. S.text x ≡ y) Cells.can_next Cells.next_gives Cells.remaining) Rows.next_gives first rows cells texts → Appends buf.old buf.new result (rows_text (now_of T.told self.entry) (cells ∷ texts)) }
+        requires sound { IsSoundAt T.table frame.now self }
+        requires given { (cells : List Text) × (texts : List (List Text)) × AreRowsFrom (Gives (λ x y. S.text x ≡ y) Cells.can_next Cells.next_gives Cells.remaining) Rows.next_gives first rows cells texts × RowsFit (now_of T.table frame.now.hint self) (cells ∷ texts) }
+        ensures { (cells : List Text) (texts : List (List Text)) → AreRowsFrom (Gives (λ x y. S.text x ≡ y) Cells.can_next Cells.next_gives Cells.remaining) Rows.next_gives first rows cells texts → Appends buf.old buf.new result (rows_text (now_of T.table frame.now.hint self.entry) (cells ∷ texts)) }
     {
         let mut room = [0; SEPARATOR_ROOM];
         let mut progress = self.with_room(&mut room);

@@ -13,7 +13,7 @@ ghost use Rattle.pg_stream.specs.Printers.{printing, now_of};
 ghost use Rattle.pg_stream.specs.Inside.Held.{IsSoundAt};
 ghost use Rattle.pg_stream.specs.Inside.SingleRows.{ArePlain};
 ghost use Rattle.pg_stream.specs.Inside.Slots.{separator_height};
-ghost use Rattle.pg_stream.specs.Inside.Told.{told_of};
+ghost use Rattle.pg_picture.specs.Inside.Sheets.{bare_table};
 
 use crate::frame::Frame;
 use crate::progress::Progress;
@@ -65,12 +65,12 @@ impl<S: AsStr, A: Allocator> Progress<'_, S, A> {
         D: Dimension,
         C: Colors,
         B: Allocator,
-        requires sound { IsSoundAt (told_of D.width D.height C.color frame.now) frame.now self.now }
-        ensures fits { IsSome result ↔ RowFits (now_of (told_of D.width D.height C.color frame.now) self.now) (map X.text cells.now) is_last }
-        ensures plain { result ≡ Some true → ArePlain frame.now.columns (map X.text cells.now) }
+        requires sound { IsSoundAt (bare_table D.width D.height C.color frame.now.sheet) frame.now self.now }
+        ensures fits { IsSome result ↔ RowFits (now_of (bare_table D.width D.height C.color frame.now.sheet) frame.now.hint self.now) (map X.text cells.now) is_last }
+        ensures plain { result ≡ Some true → ArePlain frame.now.sheet.columns (map X.text cells.now) }
     {
         if self.is_next(frame, cells.len(), is_last)
-            && ends_spans(frame.config, self.rows, frame.columns, is_last)
+            && ends_spans(frame.sheet.config, self.rows, frame.sheet.columns, is_last)
             && frame.counts_lines(self.rows, self.lines)
         {
             return frame.plainness(self.rows, cells);
@@ -85,9 +85,9 @@ impl<S: AsStr, A: Allocator> Progress<'_, S, A> {
         cells: usize,
         is_last: bool,
     ) -> bool
-        ensures { IsTrue result ↔ (cells ≡ frame.now.columns) × (self.now.is_ended ≡ false) × (self.now.rows < 2 ^ 64 - 2) × IfSome frame.now.hint (λ rows. (self.now.rows < rows) × (is_last ≡ ((self.now.rows + 1) == rows))) }
+        ensures { IsTrue result ↔ (cells ≡ frame.now.sheet.columns) × (self.now.is_ended ≡ false) × (self.now.rows < 2 ^ 64 - 2) × IfSome frame.now.hint (λ rows. (self.now.rows < rows) × (is_last ≡ ((self.now.rows + 1) == rows))) }
     {
-        cells == frame.columns
+        cells == frame.sheet.columns
             && !self.is_ended
             && self.rows < usize::MAX - 1
             && agrees(frame.hint, self.rows, is_last)
@@ -120,19 +120,19 @@ fn ends_spans<B: Allocator>(
 }
 
 impl<'a, D: Dimension, C: Colors, B: Allocator> Frame<'a, D, C, B> {
-    ghost use Rattle.pg_stream.specs.Inside.Frames.{frame_table};
+    ghost use Rattle.pg_picture.specs.Inside.Sheets.{bare_table};
 
     // Whether each cell that begins in a row has room for its text, and then whether each text is known
     // to be plain. None is known to be where a cell spans others.
     #[inline(always)]
     fn plainness<S: AsStr>(&self, row: usize, cells: &[S]) -> Option<bool>
         requires row { row + 1 < 2 ^ 64 }
-        requires whole { length cells.now ≡ self.now.columns }
-        requires spans { spans_fit_columns self.now.config.now.spans self.now.columns ≡ true }
-        ensures room { IsSome result ↔ HaveRoom (frame_table D.width D.height C.color self.now) row (map S.text cells.now) }
-        ensures plain { result ≡ Some true → ArePlain self.now.columns (map S.text cells.now) }
+        requires whole { length cells.now ≡ self.now.sheet.columns }
+        requires spans { spans_fit_columns self.now.sheet.config.now.spans self.now.sheet.columns ≡ true }
+        ensures room { IsSome result ↔ HaveRoom (bare_table D.width D.height C.color self.now.sheet) row (map S.text cells.now) }
+        ensures plain { result ≡ Some true → ArePlain self.now.sheet.columns (map S.text cells.now) }
     {
-        if self.config.spans().is_empty() {
+        if self.sheet.config.spans().is_empty() {
             return self.plainness_of_single(row, cells);
         }
         if self.have_room(row, cells) {
@@ -146,16 +146,16 @@ impl<'a, D: Dimension, C: Colors, B: Allocator> Frame<'a, D, C, B> {
     #[inline(always)]
     fn plainness_of_single<S: AsStr>(&self, row: usize, cells: &[S]) -> Option<bool>
         requires row { row + 1 < 2 ^ 64 }
-        requires alone { self.now.config.now.spans ≡ [] }
-        requires whole { length cells.now ≡ self.now.columns }
-        ensures room { IsSome result ↔ HaveRoom (frame_table D.width D.height C.color self.now) row (map S.text cells.now) }
-        ensures plain { result ≡ Some true → ArePlain self.now.columns (map S.text cells.now) }
+        requires alone { self.now.sheet.config.now.spans ≡ [] }
+        requires whole { length cells.now ≡ self.now.sheet.columns }
+        ensures room { IsSome result ↔ HaveRoom (bare_table D.width D.height C.color self.now.sheet) row (map S.text cells.now) }
+        ensures plain { result ≡ Some true → ArePlain self.now.sheet.columns (map S.text cells.now) }
     {
-        let height = self.dimension.get_height(row);
+        let height = self.sheet.dimension.get_height(row);
         let mut are_plain = true;
-        for column in 0..self.columns {
+        for column in 0..self.sheet.columns {
             let pos = Position::new(row, column);
-            let width = self.dimension.get_width(column);
+            let width = self.sheet.dimension.get_width(column);
             let text = cells[column].as_str();
             let Some(is_plain) = self.plainness_in_cell(text, pos, width, height) else {
                 return None;
@@ -168,16 +168,16 @@ impl<'a, D: Dimension, C: Colors, B: Allocator> Frame<'a, D, C, B> {
     // Whether each cell that begins in a row has room for its text.
     fn have_room<S: AsStr>(&self, row: usize, cells: &[S]) -> bool
         requires row { row + 1 < 2 ^ 64 }
-        requires whole { length cells.now ≡ self.now.columns }
-        requires spans { spans_fit_columns self.now.config.now.spans self.now.columns ≡ true }
-        ensures { IsTrue result ↔ HaveRoom (frame_table D.width D.height C.color self.now) row (map S.text cells.now) }
+        requires whole { length cells.now ≡ self.now.sheet.columns }
+        requires spans { spans_fit_columns self.now.sheet.config.now.spans self.now.sheet.columns ≡ true }
+        ensures { IsTrue result ↔ HaveRoom (bare_table D.width D.height C.color self.now.sheet) row (map S.text cells.now) }
     {
         // Shows that the spans stand in order.
-        let _spans = self.config.spans();
+        let _spans = self.sheet.config.spans();
         let mut column = 0;
-        while column < self.columns {
+        while column < self.sheet.columns {
             let pos = Position::new(row, column);
-            let span = self.config.left_span(pos);
+            let span = self.sheet.config.left_span(pos);
             if !self.has_room_if_own(span, cells[column].as_str(), pos) {
                 return false;
             }
@@ -188,28 +188,34 @@ impl<'a, D: Dimension, C: Colors, B: Allocator> Frame<'a, D, C, B> {
 
     // Whether a place in the left column of its owner has room, if it is its own owner.
     fn has_room_if_own(&self, span: Option<Span>, text: &str, pos: Position) -> bool
-        requires spans { spans_fit_columns self.now.config.now.spans self.now.columns ≡ true }
-        requires column { pos.col < self.now.columns }
-        requires left { is_left self.now.config.now.spans pos.row pos.col ≡ true }
-        requires span { span ≡ left_span self.now.config.now.spans pos.row pos.col }
-        ensures { IsTrue result ↔ (is_at (owner self.now.config.now.spans pos.row pos.col) pos.row pos.col ≡ true → HasRoom (frame_table D.width D.height C.color self.now) pos text.now) }
+        requires spans { spans_fit_columns self.now.sheet.config.now.spans self.now.sheet.columns ≡ true }
+        requires column { pos.col < self.now.sheet.columns }
+        requires left { is_left self.now.sheet.config.now.spans pos.row pos.col ≡ true }
+        requires span { span ≡ left_span self.now.sheet.config.now.spans pos.row pos.col }
+        ensures { IsTrue result ↔ (is_at (owner self.now.sheet.config.now.spans pos.row pos.col) pos.row pos.col ≡ true → HasRoom (bare_table D.width D.height C.color self.now.sheet) pos text.now) }
     {
         // Shows that the spans stand in order.
-        let _spans = self.config.spans();
+        let _spans = self.sheet.config.spans();
         begins_above(span, pos.row) || self.has_room(text, pos)
     }
 
     // Whether the rectangle of a place has an end, a width and a height that are numbers, and room
     // for a text.
     fn has_room(&self, text: &str, pos: Position) -> bool
-        requires rows { 0 < rect_rows self.now.config.now.spans pos }
-        requires columns { 0 < rect_columns self.now.config.now.spans pos }
-        requires inside { pos.col + rect_columns self.now.config.now.spans pos ≤ self.now.columns }
-        ensures { IsTrue result ↔ HasRoom (frame_table D.width D.height C.color self.now) pos text.now }
+        requires rows { 0 < rect_rows self.now.sheet.config.now.spans pos }
+        requires columns { 0 < rect_columns self.now.sheet.config.now.spans pos }
+        requires inside { pos.col + rect_columns self.now.sheet.config.now.spans pos ≤ self.now.sheet.columns }
+        ensures { IsTrue result ↔ HasRoom (bare_table D.width D.height C.color self.now.sheet) pos text.now }
     {
-        let (rows, columns) = self.config.rect_size(pos);
-        let width = width_of_columns(self.config, self.dimension, pos, columns, self.columns);
-        let height = height_of_rows(self.config, self.dimension, pos, rows);
+        let (rows, columns) = self.sheet.config.rect_size(pos);
+        let width = width_of_columns(
+            self.sheet.config,
+            self.sheet.dimension,
+            pos,
+            columns,
+            self.sheet.columns,
+        );
+        let height = height_of_rows(self.sheet.config, self.sheet.dimension, pos, rows);
         match (width, height) {
             (Some(width), Some(height)) => self
                 .plainness_in_cell(text, pos, width, height)
@@ -228,13 +234,13 @@ impl<'a, D: Dimension, C: Colors, B: Allocator> Frame<'a, D, C, B> {
         width: usize,
         height: usize,
     ) -> Option<bool>
-        ensures room { is_some result ≡ cell_fits (style_at self.now.config.now pos) text.now width height }
+        ensures room { is_some result ≡ cell_fits (style_at self.now.sheet.config.now pos) text.now width height }
         ensures plain { result ≡ Some true → list_all is_plain_byte text.now ≡ true }
     {
-        if let Some(style) = &self.all {
+        if let Some(style) = &self.sheet.all {
             return plainness_in_style(text, style, width, height);
         }
-        if cell_fits(text, self.config, pos, width, height) {
+        if cell_fits(text, self.sheet.config, pos, width, height) {
             return Some(false);
         }
         None
@@ -244,9 +250,9 @@ impl<'a, D: Dimension, C: Colors, B: Allocator> Frame<'a, D, C, B> {
     // for only where they can't be without a doubt.
     fn counts_lines(&self, row: usize, lines: usize) -> bool
         requires { row < usize.MAX }
-        ensures { result ≡ nat_lt (lines + length (marks_of_row self.now.config.now (D.height self.now.dimension.now) row)) (2 ^ 64) }
+        ensures { result ≡ nat_lt (lines + length (marks_of_row self.now.sheet.config.now (D.height self.now.sheet.dimension.now) row)) (2 ^ 64) }
     {
-        let height = self.dimension.get_height(row);
+        let height = self.sheet.dimension.get_height(row);
         match lines.checked_add(height) {
             Some(next) => next < usize::MAX || self.separator_lines(row) == 0,
             None => false,
@@ -257,8 +263,8 @@ impl<'a, D: Dimension, C: Colors, B: Allocator> Frame<'a, D, C, B> {
     #[tactic(auto, unfolding(crate::specs::Inside::Slots::separator_height))]
     fn separator_lines(&self, row: usize) -> usize
         requires { row < usize.MAX }
-        ensures { result ≡ separator_height self.now.config.now row }
+        ensures { result ≡ separator_height self.now.sheet.config.now row }
     {
-        usize::from(self.config.has_horizontal(row, row + 1))
+        usize::from(self.sheet.config.has_horizontal(row, row + 1))
     }
 }

@@ -5,12 +5,12 @@ ghost use Rattle.pg_picture.specs.Appending.{Appends};
 ghost use Rattle.pg_picture.specs.Pieces.{written};
 ghost use Rattle.pg_stream.specs.Inside.Drawing.{open_part, open_line, line_at, open_lines};
 ghost use Rattle.pg_stream.specs.Inside.OpenCells.{draw_cell, MayDraw};
-ghost use Rattle.pg_stream.specs.Printing.{frame_of};
 
-use crate::drawing::{Drawing, Drawn};
+use crate::drawing::Drawing;
 use crate::open_cells::OpenCells;
 use crate::open_line::OpenLine;
 use pg_layout::{Colors, Dimension, Position};
+use pg_picture::Drawn;
 use std::alloc::{AllocError, Allocator};
 use std::convert::AsStr;
 
@@ -26,20 +26,19 @@ where
         self,
         opened: &mut OpenCells<S, A>,
         buf: &mut String<W>,
-        is_first: bool,
         index: usize,
         row: usize,
     ) -> Result<(), AllocError>
-        requires may { MayDraw (frame_of T.told) opened.old index (T.told.height row) }
-        ensures appends { Appends buf.old buf.new result (open_lines (frame_of T.told) self.entry.frame.now.height is_first opened.old row index (T.told.height row)) }
-        ensures drawn { OnOk result (opened.new ≡ map (draw_cell (T.told.height row)) opened.old) }
+        requires may { MayDraw T.table opened.old index (T.table.height row) }
+        ensures appends { Appends buf.old buf.new result (open_lines T.table self.entry.pen.sheet.now.height opened.old row index (T.table.height row)) }
+        ensures drawn { OnOk result (opened.new ≡ map (draw_cell (T.table.height row)) opened.old) }
     {
-        for line in 0..self.height_of(row) {
+        for line in 0..self.pen.height_of(row) {
             let shown = OpenLine {
                 table: self,
                 opened: &*opened,
             };
-            shown.push_body_line(buf, is_first, index + line, row, line)?;
+            shown.push_body_line(buf, index + line, row, line)?;
             opened.draw_line();
         }
         Ok(())
@@ -59,17 +58,16 @@ where
     fn push_body_line<W: Allocator>(
         &self,
         buf: &mut String<W>,
-        is_first: bool,
         index: usize,
         row: usize,
         line: usize,
     ) -> Result<(), AllocError>
-        requires { line < T.told.height row }
-        ensures { Appends buf.old buf.new result (line_at T.told.config self.now.table.frame.now.height is_first index (written (open_line (frame_of T.told) self.now.opened.now row line))) }
+        requires { line < T.table.height row }
+        ensures { Appends buf.old buf.new result (line_at T.table.config self.now.table.pen.sheet.now.height index (written (open_line T.table self.now.opened.now row line))) }
     {
-        self.table.push_start(buf, is_first, index)?;
+        self.table.pen.push_line_start(buf, index)?;
         self.push_row_line(buf, row, line)?;
-        self.table.push_end(buf, index)
+        self.table.pen.push_line_end(buf, index)
     }
 
     // A line of a row.
@@ -79,14 +77,15 @@ where
         row: usize,
         line: usize,
     ) -> Result<(), AllocError>
-        requires { line < T.told.height row }
-        ensures { Appends buf.old buf.new result (written (open_line (frame_of T.told) self.now.opened.now row line)) }
+        requires { line < T.table.height row }
+        ensures { Appends buf.old buf.new result (written (open_line T.table self.now.opened.now row line)) }
     {
-        for column in 0..self.table.columns() {
+        for column in 0..self.table.pen.columns() {
             self.push_part(buf, Position::new(row, column), line)?;
         }
         self.table
-            .push_vertical(buf, Position::new(row, self.table.columns()), line)
+            .pen
+            .push_vertical(buf, Position::new(row, self.table.pen.columns()), line)
     }
 
     // What a column adds to a line of a row.
@@ -96,13 +95,13 @@ where
         pos: Position,
         line: usize,
     ) -> Result<(), AllocError>
-        requires { line < T.told.height pos.row }
-        ensures { Appends buf.old buf.new result (written (open_part (frame_of T.told) self.now.opened.now pos.row line pos.col)) }
+        requires { line < T.table.height pos.row }
+        ensures { Appends buf.old buf.new result (written (open_part T.table self.now.opened.now pos.row line pos.col)) }
     {
         let Some(cell) = self.opened.open_at(pos.col) else {
             return Ok(());
         };
-        self.table.push_vertical(buf, pos, line)?;
+        self.table.pen.push_vertical(buf, pos, line)?;
         self.push_cell_line(buf, cell, pos.col)
     }
 }

@@ -12,13 +12,13 @@ ghost use Rattle.pg_stream.specs.Placed.{slots_of};
 ghost use Rattle.pg_stream.specs.Printers.{printing};
 ghost use Rattle.pg_stream.specs.Printing.{printer, row_text, finish_text, after_row};
 
-use crate::frame::{Frame, may_have_row_lines};
+use crate::frame::Frame;
 use crate::open_cells::OpenCells;
 use crate::progress::Progress;
 use pg_config::SpannedConfig;
 use pg_layout::{Colors, Dimension};
 use pg_picture::fits::{body_height, full_width};
-use pg_picture::{CellStyle, SeparatorKeeper};
+use pg_picture::{SeparatorKeeper, Sheet};
 use std::alloc::{AllocError, Allocator, Global};
 use std::convert::AsStr;
 use std::marker::{Brand, Model};
@@ -56,13 +56,13 @@ impl<'a, S: AsStr, D: Dimension, C: Colors, B: Allocator, A: Allocator> Model
     for RowPrinter<'a, S, D, C, B, A> {
     ghost use Rattle.pg_stream.specs.Inside.Held.{IsSoundAt};
     ghost use Rattle.pg_stream.specs.Printers.{Printer, printer_of};
-    ghost use Rattle.pg_stream.specs.Inside.Told.{told_of};
+    ghost use Rattle.pg_picture.specs.Inside.Sheets.{bare_table};
 
     ghost Value = { Printer D C };
 
     ghost view = { λ p. printer_of p.frame p.progress };
 
-    ghost invariant = { λ p. IsSoundAt (told_of D.width D.height C.color p.frame) p.frame p.progress };
+    ghost invariant = { λ p. IsSoundAt (bare_table D.width D.height C.color p.frame.sheet) p.frame p.progress };
 }
 
 impl<'a, S: AsStr + Drop, D: Dimension, C: Colors, B: Allocator, A: Allocator> RowPrinter<
@@ -95,20 +95,10 @@ impl<'a, S: AsStr + Drop, D: Dimension, C: Colors, B: Allocator, A: Allocator> R
     {
         let width = full_width(config, dimension, columns).unwrap();
         let height = height_of_body(config, dimension, hint);
+        let sheet = Sheet::new(config, dimension, colors, columns, width, height);
         let cells = OpenCells::new(alloc, columns)?;
         Ok(RowPrinter {
-            frame: Frame {
-                config,
-                dimension,
-                colors,
-                columns,
-                hint,
-                width,
-                height,
-                all: CellStyle::of_all(config),
-                draws_verticals: config.has_column_lines(),
-                draws_separators: may_have_row_lines(config),
-            },
+            frame: Frame { sheet, hint },
             progress: Progress {
                 cells,
                 kept: SeparatorKeeper::new(&mut []),

@@ -9,7 +9,6 @@ ghost use Rattle.pg_picture.specs.Shown.{cell_shows_all};
 ghost use Rattle.pg_picture.specs.Sizes.{height_of_rect};
 ghost use Rattle.pg_stream.specs.Conditions.{HasRoom, HaveRoom, RowFits};
 ghost use Rattle.pg_stream.specs.Printers.{printing};
-ghost use Rattle.pg_stream.specs.Printing.{frame_of};
 ghost use Rattle.pg_stream.specs.ShownRows.{unshown_in_row, unless_in_row};
 
 use crate::frame::Frame;
@@ -44,7 +43,7 @@ impl<'a, S: AsStr, D: Dimension, C: Colors, B: Allocator, A: Allocator> RowPrint
     /// there. Takes no memory.
     pub fn shows_all(&self, cells: &[S], is_last: bool) -> Result<(), RowUnshown>
         ensures misfit { (result ≡ Err RowUnshown.Misfit) ↔ ¬ (RowFits (printing D.width D.height C.color self.now) (map S.text cells.now) is_last) }
-        ensures exact { RowFits (printing D.width D.height C.color self.now) (map S.text cells.now) is_last → result ≡ unless_in_row (unshown_in_row (frame_of (printing D.width D.height C.color self.now)) (printing D.width D.height C.color self.now).rows (map S.text cells.now)) }
+        ensures exact { RowFits (printing D.width D.height C.color self.now) (map S.text cells.now) is_last → result ≡ unless_in_row (unshown_in_row (printing D.width D.height C.color self.now).table (printing D.width D.height C.color self.now).rows (map S.text cells.now)) }
     {
         if !self.fits(cells, is_last) {
             return Err(RowUnshown::Misfit);
@@ -57,22 +56,22 @@ impl<'a, S: AsStr, D: Dimension, C: Colors, B: Allocator, A: Allocator> RowPrint
 }
 
 impl<'a, D: Dimension, C: Colors, B: Allocator> Frame<'a, D, C, B> {
-    ghost use Rattle.pg_stream.specs.Inside.Frames.{frame_table};
+    ghost use Rattle.pg_picture.specs.Inside.Sheets.{bare_table};
     ghost use Rattle.pg_stream.specs.ShownRows.{row_cell_shows_all};
 
     // The first cell that begins in a row, from left column to left column, of which some line isn't shown.
     fn first_unshown<S: AsStr>(&self, row: usize, cells: &[S]) -> Option<Position>
-        requires whole { length cells.now ≡ self.now.columns }
-        requires spans { spans_fit_columns self.now.config.now.spans self.now.columns ≡ true }
-        requires rooms { HaveRoom (frame_table D.width D.height C.color self.now) row (map S.text cells.now) }
-        ensures { result ≡ unshown_in_row (frame_table D.width D.height C.color self.now) row (map S.text cells.now) }
+        requires whole { length cells.now ≡ self.now.sheet.columns }
+        requires spans { spans_fit_columns self.now.sheet.config.now.spans self.now.sheet.columns ≡ true }
+        requires rooms { HaveRoom (bare_table D.width D.height C.color self.now.sheet) row (map S.text cells.now) }
+        ensures { result ≡ unshown_in_row (bare_table D.width D.height C.color self.now.sheet) row (map S.text cells.now) }
     {
         // Shows that the spans stand in order.
-        let _spans = self.config.spans();
+        let _spans = self.sheet.config.spans();
         let mut column = 0;
-        while column < self.columns {
+        while column < self.sheet.columns {
             let pos = Position::new(row, column);
-            let span = self.config.left_span(pos);
+            let span = self.sheet.config.left_span(pos);
             if !self.shows_all_if_own(span, cells[column].as_str(), pos) {
                 return Some(pos);
             }
@@ -83,25 +82,30 @@ impl<'a, D: Dimension, C: Colors, B: Allocator> Frame<'a, D, C, B> {
 
     // Whether a place in the left column of its owner shows each line of a text, if it is its own owner.
     fn shows_all_if_own(&self, span: Option<Span>, text: &str, pos: Position) -> bool
-        requires spans { spans_fit_columns self.now.config.now.spans self.now.columns ≡ true }
-        requires left { is_left self.now.config.now.spans pos.row pos.col ≡ true }
-        requires span { span ≡ left_span self.now.config.now.spans pos.row pos.col }
-        requires room { is_at (owner self.now.config.now.spans pos.row pos.col) pos.row pos.col ≡ true → HasRoom (frame_table D.width D.height C.color self.now) pos text.now }
-        ensures { result ≡ (not (is_at (owner self.now.config.now.spans pos.row pos.col) pos.row pos.col) || cell_shows_all (style_at self.now.config.now pos) text.now (height_of_rect self.now.config.now (D.height self.now.dimension.now) pos)) }
+        requires spans { spans_fit_columns self.now.sheet.config.now.spans self.now.sheet.columns ≡ true }
+        requires left { is_left self.now.sheet.config.now.spans pos.row pos.col ≡ true }
+        requires span { span ≡ left_span self.now.sheet.config.now.spans pos.row pos.col }
+        requires room { is_at (owner self.now.sheet.config.now.spans pos.row pos.col) pos.row pos.col ≡ true → HasRoom (bare_table D.width D.height C.color self.now.sheet) pos text.now }
+        ensures { result ≡ (not (is_at (owner self.now.sheet.config.now.spans pos.row pos.col) pos.row pos.col) || cell_shows_all (style_at self.now.sheet.config.now pos) text.now (height_of_rect self.now.sheet.config.now (D.height self.now.sheet.dimension.now) pos)) }
     {
         // Shows that the spans stand in order.
-        let _spans = self.config.spans();
+        let _spans = self.sheet.config.spans();
         begins_above(span, pos.row) || self.shows_all(text, pos)
     }
 
     // Whether the rectangle of a place shows each line of a text that has room there.
     fn shows_all(&self, text: &str, pos: Position) -> bool
-        requires some { 0 < rect_rows self.now.config.now.spans pos }
-        requires room { HasRoom (frame_table D.width D.height C.color self.now) pos text.now }
-        ensures { result ≡ cell_shows_all (style_at self.now.config.now pos) text.now (height_of_rect self.now.config.now (D.height self.now.dimension.now) pos) }
+        requires some { 0 < rect_rows self.now.sheet.config.now.spans pos }
+        requires room { HasRoom (bare_table D.width D.height C.color self.now.sheet) pos text.now }
+        ensures { result ≡ cell_shows_all (style_at self.now.sheet.config.now pos) text.now (height_of_rect self.now.sheet.config.now (D.height self.now.sheet.dimension.now) pos) }
     {
-        match height_of_rows(self.config, self.dimension, pos, self.config.rect_rows(pos)) {
-            Some(height) => cell_shows_all(text, self.config, pos, height),
+        match height_of_rows(
+            self.sheet.config,
+            self.sheet.dimension,
+            pos,
+            self.sheet.config.rect_rows(pos),
+        ) {
+            Some(height) => cell_shows_all(text, self.sheet.config, pos, height),
             // A cell that has room has a height that is a number.
             None => false,
         }

@@ -58,7 +58,7 @@ impl<'a, S: AsStr, D: Dimension, C: Colors, B: Allocator, A: Allocator, V: Alloc
     for RowStream<'a, S, D, C, B, A, V> {
     ghost use Rattle.std.specs.Prelude.{map, option_map};
     ghost use Rattle.pg_stream.specs.Inside.Held.{AreSoundAt};
-    ghost use Rattle.pg_stream.specs.Inside.Told.{told_of};
+    ghost use Rattle.pg_picture.specs.Inside.Sheets.{bare_table};
     ghost use Rattle.pg_stream.specs.Printers.{printer_of};
     ghost use Rattle.pg_stream.specs.Streams.{Stream};
 
@@ -66,7 +66,7 @@ impl<'a, S: AsStr, D: Dimension, C: Colors, B: Allocator, A: Allocator, V: Alloc
 
     ghost view = { λ s. record { printer = printer_of s.frame s.rows.progress; held = option_map (λ row. map S.text row.items) s.rows.held } };
 
-    ghost invariant = { λ s. AreSoundAt (told_of D.width D.height C.color s.frame) s.frame s.rows };
+    ghost invariant = { λ s. AreSoundAt (bare_table D.width D.height C.color s.frame.sheet) s.frame s.rows };
 }
 
 // The cells that anything gives, in a vector.

@@ -10,14 +10,13 @@ ghost use Rattle.pg_picture.specs.Inside.Following.{items_after, last_color};
 ghost use Rattle.pg_stream.specs.Inside.Drawing.{column_end, reach, cell_items, open_separator_part, open_separator, above_text, below_text, IsSeparator, IsBetween, MaySeparate};
 ghost use Rattle.pg_stream.specs.Placed.{AllOpen};
 ghost use Rattle.pg_stream.specs.Inside.OpenCells.{draw_cell};
-ghost use Rattle.pg_stream.specs.Printing.{frame_of};
 ghost use Rattle.pg_stream.specs.Inside.Slots.{separator_height};
 
-use crate::drawing::{Drawing, Drawn};
+use crate::drawing::Drawing;
 use crate::open_cells::OpenCells;
 use crate::open_line::OpenLine;
 use pg_layout::{ANSIBuf, Colors, Dimension, Position};
-use pg_picture::{Run, SeparatorKeeper, push_text};
+use pg_picture::{Drawn, Run, SeparatorKeeper, push_text};
 use std::alloc::{AllocError, Allocator};
 use std::convert::AsStr;
 
@@ -36,26 +35,25 @@ where
         opened: &mut OpenCells<S, A>,
         kept: &mut SeparatorKeeper<'_>,
         buf: &mut String<W>,
-        is_first: bool,
         index: usize,
         row: usize,
     ) -> Result<usize, AllocError>
-        requires may { MaySeparate (frame_of T.told) row index opened.old kept.old }
-        ensures appends { Appends buf.old buf.new result (above_text (frame_of T.told) self.entry.frame.now.height is_first opened.old row index) }
-        ensures index { IfOk result (λ next. next ≡ index + separator_height T.told.config row) }
-        ensures drawn { OnOk result (opened.new ≡ map (draw_cell (separator_height T.told.config row)) opened.old) }
-        ensures kept { IfSome kept.new.text (IsSeparator (frame_of T.told)) }
+        requires may { MaySeparate T.table row index opened.old kept.old }
+        ensures appends { Appends buf.old buf.new result (above_text T.table self.entry.pen.sheet.now.height opened.old row index) }
+        ensures index { IfOk result (λ next. next ≡ index + separator_height T.table.config row) }
+        ensures drawn { OnOk result (opened.new ≡ map (draw_cell (separator_height T.table.config row)) opened.old) }
+        ensures kept { IfSome kept.new.text (IsSeparator T.table) }
     {
-        if !self.has_horizontal(row, row + 1) {
+        if !self.pen.has_horizontal(row, row + 1) {
             return Ok(index);
         }
-        self.push_start(buf, is_first, index)?;
+        self.pen.push_line_start(buf, index)?;
         let line = OpenLine {
             table: self,
             opened: &*opened,
         };
         line.push_kept_separator(kept, buf, row)?;
-        self.push_end(buf, index)?;
+        self.pen.push_line_end(buf, index)?;
         opened.draw_line();
         Ok(index + 1)
     }
@@ -67,14 +65,14 @@ where
         column: usize,
         end: usize,
     ) -> usize
-        requires { AllOpen (λ x cell. x + rect_columns T.told.config.spans (at cell.begun x) ≤ T.told.columns) opened.now }
-        ensures { result ≡ max end (column_end T.told.config.spans (slice_index_or opened.now column None) column) }
+        requires { AllOpen (λ x cell. x + rect_columns T.table.config.spans (at cell.begun x) ≤ T.table.columns) opened.now }
+        ensures { result ≡ max end (column_end T.table.config.spans (slice_index_or opened.now column None) column) }
     {
         let Some(cell) = opened.open_at(column) else {
             return end;
         };
         // Shows that the columns are a number.
-        let _columns = self.columns();
+        let _columns = self.pen.columns();
         end.max(column + self.rect_columns(Position::new(cell.begun(), column)))
     }
 }
@@ -92,18 +90,17 @@ where
     pub(crate) fn push_below<W: Allocator>(
         &self,
         buf: &mut String<W>,
-        is_first: bool,
         index: usize,
         rows: usize,
     ) -> Result<(), AllocError>
-        ensures { Appends buf.old buf.new result (below_text (frame_of T.told) self.now.table.frame.now.height is_first self.now.opened.now rows index) }
+        ensures { Appends buf.old buf.new result (below_text T.table self.now.table.pen.sheet.now.height self.now.opened.now rows index) }
     {
-        if !self.table.has_horizontal(rows, rows) {
+        if !self.table.pen.has_horizontal(rows, rows) {
             return Ok(());
         }
-        self.table.push_start(buf, is_first, index)?;
+        self.table.pen.push_line_start(buf, index)?;
         self.push_separator(buf, rows, rows)?;
-        self.table.push_end(buf, index)
+        self.table.pen.push_line_end(buf, index)
     }
 
     // The separator above a row: the one that is kept, or a new one, which is kept where those above
@@ -115,9 +112,9 @@ where
         buf: &mut String<W>,
         row: usize,
     ) -> Result<(), AllocError>
-        requires { IsBetween (frame_of T.told) row self.now.opened.now kept.old }
-        ensures appends { Appends buf.old buf.new result (separator_text (open_separator (frame_of T.told) (row + 1) self.now.opened.now row)) }
-        ensures kept { IfSome kept.new.text (IsSeparator (frame_of T.told)) }
+        requires { IsBetween T.table row self.now.opened.now kept.old }
+        ensures appends { Appends buf.old buf.new result (separator_text (open_separator T.table (row + 1) self.now.opened.now row)) }
+        ensures kept { IfSome kept.new.text (IsSeparator T.table) }
     {
         if row == 0 {
             return self.push_separator(buf, row, row + 1);
@@ -127,7 +124,7 @@ where
         }
         let from = buf.len();
         self.push_separator(buf, row, row + 1)?;
-        if self.table.has_equal_separators() {
+        if self.table.pen.has_equal_separators() {
             kept.keep(buf, from);
         }
         Ok(())
@@ -140,11 +137,11 @@ where
         row: usize,
         rows: usize,
     ) -> Result<(), AllocError>
-        ensures { Appends buf.old buf.new result (separator_text (open_separator (frame_of T.told) rows self.now.opened.now row)) }
+        ensures { Appends buf.old buf.new result (separator_text (open_separator T.table rows self.now.opened.now row)) }
     {
         let run = self.push_columns(Run::new(), buf, row, rows)?;
-        let last = Position::new(row, self.table.columns());
-        let run = self.table.push_crossing(run, buf, last, rows)?;
+        let last = Position::new(row, self.table.pen.columns());
+        let run = self.table.pen.push_crossing(run, buf, last, rows)?;
         run.close(buf)
     }
 
@@ -156,11 +153,11 @@ where
         row: usize,
         rows: usize,
     ) -> Result<Run<'f, ANSIBuf<B>>, AllocError>
-        ensures appends { Appends buf.old buf.new result (items_after run.entry (flat_map (open_separator_part (frame_of T.told) rows self.now.opened.now row) (range_with_len 0 T.told.columns))) }
-        ensures color { IfOk result (λ after. after ≡ last_color run.entry (flat_map (open_separator_part (frame_of T.told) rows self.now.opened.now row) (range_with_len 0 T.told.columns))) }
+        ensures appends { Appends buf.old buf.new result (items_after run.entry (flat_map (open_separator_part T.table rows self.now.opened.now row) (range_with_len 0 T.table.columns))) }
+        ensures color { IfOk result (λ after. after ≡ last_color run.entry (flat_map (open_separator_part T.table rows self.now.opened.now row) (range_with_len 0 T.table.columns))) }
     {
         let mut end = 0;
-        for column in 0..self.table.columns() {
+        for column in 0..self.table.pen.columns() {
             let pos = Position::new(row, column);
             run = self.push_column(run, buf, pos, rows, column < end)?;
             end = self.table.end_past(self.opened, column, end);
@@ -177,14 +174,14 @@ where
         rows: usize,
         is_inside: bool,
     ) -> Result<Run<'f, ANSIBuf<B>>, AllocError>
-        requires inside { is_inside ≡ nat_lt pos.col (reach T.told.config.spans self.now.opened.now pos.col) }
-        ensures appends { Appends buf.old buf.new result (items_after run.entry (open_separator_part (frame_of T.told) rows self.now.opened.now pos.row pos.col)) }
-        ensures color { IfOk result (λ after. after ≡ last_color run.entry (open_separator_part (frame_of T.told) rows self.now.opened.now pos.row pos.col)) }
+        requires inside { is_inside ≡ nat_lt pos.col (reach T.table.config.spans self.now.opened.now pos.col) }
+        ensures appends { Appends buf.old buf.new result (items_after run.entry (open_separator_part T.table rows self.now.opened.now pos.row pos.col)) }
+        ensures color { IfOk result (λ after. after ≡ last_color run.entry (open_separator_part T.table rows self.now.opened.now pos.row pos.col)) }
     {
         if is_inside {
             return Ok(run);
         }
-        let run = self.table.push_crossing(run, buf, pos, rows)?;
+        let run = self.table.pen.push_crossing(run, buf, pos, rows)?;
         self.push_item(run, buf, pos, rows)
     }
 
@@ -196,11 +193,11 @@ where
         pos: Position,
         rows: usize,
     ) -> Result<Run<'f, ANSIBuf<B>>, AllocError>
-        ensures appends { Appends buf.old buf.new result (items_after run.entry (cell_items (frame_of T.told) rows (slice_index_or self.now.opened.now pos.col None) pos.row pos.col)) }
-        ensures color { IfOk result (λ after. after ≡ last_color run.entry (cell_items (frame_of T.told) rows (slice_index_or self.now.opened.now pos.col None) pos.row pos.col)) }
+        ensures appends { Appends buf.old buf.new result (items_after run.entry (cell_items T.table rows (slice_index_or self.now.opened.now pos.col None) pos.row pos.col)) }
+        ensures color { IfOk result (λ after. after ≡ last_color run.entry (cell_items T.table rows (slice_index_or self.now.opened.now pos.col None) pos.row pos.col)) }
     {
         let Some(cell) = self.opened.open_at(pos.col) else {
-            return self.table.push_border(run, buf, pos, rows);
+            return self.table.pen.push_border(run, buf, pos, rows);
         };
         let run = run.close_for_block(buf)?;
         self.push_cell_line(buf, cell, pos.col)?;

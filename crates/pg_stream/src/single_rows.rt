@@ -9,13 +9,12 @@ ghost use Rattle.pg_picture.specs.Inside.Cells.{style_of};
 ghost use Rattle.pg_picture.specs.Pieces.{written, style_at, block_line};
 ghost use Rattle.pg_stream.specs.Conditions.{HasRoom};
 ghost use Rattle.pg_stream.specs.Inside.Drawing.{line_at};
-ghost use Rattle.pg_stream.specs.Printing.{frame_of};
 ghost use Rattle.pg_stream.specs.Inside.SingleRows.{IsSingle, IsSingleRow, single_part, single_line};
 ghost use Rattle.std.proofs.Props.{props};
 
-use crate::drawing::{Drawing, Drawn};
+use crate::drawing::Drawing;
 use pg_layout::{Colors, Dimension, Position};
-use pg_picture::{CellStyle, push_single_line};
+use pg_picture::{CellStyle, Drawn, push_single_line};
 use std::alloc::{AllocError, Allocator};
 use std::convert::AsStr;
 use std::marker::PhantomData;
@@ -28,9 +27,9 @@ struct SingleCell<'t, T: Drawn> {
     text: &'t str,
     is_plain: bool,
     of: PhantomData<T>,
-    ghost is_single: { IsSingle T.told pos.row } by { Prim.hlevel props },
+    ghost is_single: { IsSingle T.table pos.row } by { Prim.hlevel props },
     ghost is_known: { is_plain ≡ true → list_all is_plain_byte text.now ≡ true } by { Prim.hlevel props },
-    ghost has_room: { HasRoom (frame_of T.told) pos text.now } by { Prim.hlevel props },
+    ghost has_room: { HasRoom T.table pos text.now } by { Prim.hlevel props },
 }
 
 impl<'f, T, D, C, B> Drawing<'f, T, D, C, B>
@@ -42,9 +41,9 @@ where
 {
     // Whether rows of this height are drawn as their cells come.
     pub(crate) fn draws_at_once(self, height: usize) -> bool
-        ensures { result ≡ ((height == 1) && (length T.told.config.spans == 0)) }
+        ensures { result ≡ ((height == 1) && (length T.table.config.spans == 0)) }
     {
-        height == 1 && self.frame.config.spans().is_empty()
+        height == 1 && self.pen.sheet.config.spans().is_empty()
     }
 
     // The one line of a row of these cells, as line `index` of the body. Texts that are known to be plain
@@ -53,18 +52,17 @@ where
     pub(crate) fn push_single_row<S: AsStr + Drop, I: Iterator<Item = S>, W: Allocator>(
         self,
         buf: &mut String<W>,
-        is_first: bool,
         index: usize,
         row: usize,
         cells: I,
         are_plain: bool,
     ) -> Result<(), AllocError>
-        requires single { (texts : List Text) × Gives (λ x y. S.text x ≡ y) I.can_next I.next_gives I.remaining cells texts × IsSingleRow T.told row are_plain texts }
-        ensures { (texts : List Text) → AlwaysGives (λ x y. S.text x ≡ y) I.next_gives cells texts → Appends buf.old buf.new result (line_at T.told.config self.entry.frame.now.height is_first index (written (single_line (frame_of T.told) row texts))) }
+        requires single { (texts : List Text) × Gives (λ x y. S.text x ≡ y) I.can_next I.next_gives I.remaining cells texts × IsSingleRow T.table row are_plain texts }
+        ensures { (texts : List Text) → AlwaysGives (λ x y. S.text x ≡ y) I.next_gives cells texts → Appends buf.old buf.new result (line_at T.table.config self.entry.pen.sheet.now.height index (written (single_line T.table row texts))) }
     {
-        self.push_start(buf, is_first, index)?;
+        self.pen.push_line_start(buf, index)?;
         self.push_single_cells(buf, row, cells, are_plain)?;
-        self.push_end(buf, index)
+        self.pen.push_line_end(buf, index)
     }
 
     // The cells of the row, one after the other, and the vertical behind the last one. They stand out of
@@ -77,10 +75,10 @@ where
         mut cells: I,
         are_plain: bool,
     ) -> Result<(), AllocError>
-        requires { (texts : List Text) × Gives (λ x y. S.text x ≡ y) I.can_next I.next_gives I.remaining cells texts × IsSingleRow T.told row are_plain texts }
-        ensures { (texts : List Text) → AlwaysGives (λ x y. S.text x ≡ y) I.next_gives cells texts → Appends buf.old buf.new result (written (single_line (frame_of T.told) row texts)) }
+        requires { (texts : List Text) × Gives (λ x y. S.text x ≡ y) I.can_next I.next_gives I.remaining cells texts × IsSingleRow T.table row are_plain texts }
+        ensures { (texts : List Text) → AlwaysGives (λ x y. S.text x ≡ y) I.next_gives cells texts → Appends buf.old buf.new result (written (single_line T.table row texts)) }
     {
-        for column in 0..self.columns() {
+        for column in 0..self.pen.columns() {
             let Some(value) = cells.next() else {
                 return Ok(());
             };
@@ -92,7 +90,8 @@ where
             };
             self.push_single_cell(buf, &cell)?;
         }
-        self.push_vertical(buf, Position::new(row, self.columns()), 0)
+        self.pen
+            .push_vertical(buf, Position::new(row, self.pen.columns()), 0)
     }
 
     // A cell of the row: the vertical left of it, and its line. What draws it in the style of all cells
@@ -103,10 +102,10 @@ where
         buf: &mut String<W>,
         cell: &SingleCell<'_, T>,
     ) -> Result<(), AllocError>
-        ensures { Appends buf.old buf.new result (written (single_part (frame_of T.told) cell.now.pos.row cell.now.text.now cell.now.pos.col)) }
+        ensures { Appends buf.old buf.new result (written (single_part T.table cell.now.pos.row cell.now.text.now cell.now.pos.col)) }
     {
-        self.push_vertical(buf, cell.pos, 0)?;
-        match &self.frame.all {
+        self.pen.push_vertical(buf, cell.pos, 0)?;
+        match &self.pen.sheet.all {
             Some(style) => self.push_single_text(buf, style, cell),
             None => self.push_own_text(buf, cell.pos, cell.text, cell.is_plain),
         }
@@ -122,12 +121,12 @@ where
         text: &str,
         is_plain: bool,
     ) -> Result<(), AllocError>
-        requires single { IsSingle T.told pos.row }
+        requires single { IsSingle T.table pos.row }
         requires known { is_plain ≡ true → list_all is_plain_byte text.now ≡ true }
-        requires room { HasRoom (frame_of T.told) pos text.now }
-        ensures { Appends buf.old buf.new result (written (block_line (style_at T.told.config pos) (T.told.color pos) text.now (T.told.width pos.col) 1 0)) }
+        requires room { HasRoom T.table pos text.now }
+        ensures { Appends buf.old buf.new result (written (block_line (style_at T.table.config pos) (T.table.color pos) text.now (T.table.width pos.col) 1 0)) }
     {
-        let style = CellStyle::of(self.frame.config, pos);
+        let style = CellStyle::of(self.pen.sheet.config, pos);
         let cell = SingleCell {
             pos,
             text,
@@ -145,11 +144,11 @@ where
         style: &CellStyle<'_, B>,
         cell: &SingleCell<'_, T>,
     ) -> Result<(), AllocError>
-        requires { style_of style.now ≡ style_at T.told.config cell.now.pos }
-        ensures { Appends buf.old buf.new result (written (block_line (style_at T.told.config cell.now.pos) (T.told.color cell.now.pos) cell.now.text.now (T.told.width cell.now.pos.col) 1 0)) }
+        requires { style_of style.now ≡ style_at T.table.config cell.now.pos }
+        ensures { Appends buf.old buf.new result (written (block_line (style_at T.table.config cell.now.pos) (T.table.color cell.now.pos) cell.now.text.now (T.table.width cell.now.pos.col) 1 0)) }
     {
-        let width = self.frame.dimension.get_width(cell.pos.col);
-        let color = self.frame.colors.get_color(cell.pos);
+        let width = self.pen.width_of(cell.pos.col);
+        let color = self.pen.color_of(cell.pos);
         push_single_line(buf, style, color, cell.text, cell.is_plain, width)
     }
 }

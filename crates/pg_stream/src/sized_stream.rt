@@ -62,7 +62,7 @@ impl<'a, S: AsStr, D: Dimension, C: Colors, B: Allocator, A: Allocator> Model
     for SizedStream<'a, S, D, C, B, A> {
     ghost use Rattle.std.specs.Prelude.{◌≡◌, false};
     ghost use Rattle.pg_stream.specs.Inside.Sized.{IsSizedAt};
-    ghost use Rattle.pg_stream.specs.Inside.Told.{told_of};
+    ghost use Rattle.pg_picture.specs.Inside.Sheets.{bare_table};
     ghost use Rattle.pg_stream.specs.LiveStreams.{Live};
     ghost use Rattle.pg_stream.specs.Printers.{printer_of};
 
@@ -70,7 +70,7 @@ impl<'a, S: AsStr, D: Dimension, C: Colors, B: Allocator, A: Allocator> Model
 
     ghost view = { λ s. record { printer = printer_of s.frame s.progress; is_lost = s.is_lost } };
 
-    ghost invariant = { λ s. s.is_lost ≡ false → IsSizedAt (told_of D.width D.height C.color s.frame) s.above s.frame s.progress };
+    ghost invariant = { λ s. s.is_lost ≡ false → IsSizedAt (bare_table D.width D.height C.color s.frame.sheet) s.above s.frame s.progress };
 }
 
 impl<'a, S: AsStr + Drop, D: Dimension, C: Colors, B: Allocator, A: Allocator> SizedStream<
@@ -137,7 +137,7 @@ impl<'a, S: AsStr + Drop, D: Dimension, C: Colors, B: Allocator, A: Allocator> S
             return Err(StreamFault::Memory);
         }
         let sizes = RowSizes {
-            widths: self.frame.dimension,
+            widths: self.frame.sheet.dimension,
             row: self.progress.rows,
             height,
             above: self.above,
@@ -177,7 +177,7 @@ impl<'a, S: AsStr + Drop, D: Dimension, C: Colors, B: Allocator, A: Allocator> S
             return Err(StreamFault::Memory);
         }
         let sizes = RowSizes {
-            widths: frame.dimension,
+            widths: frame.sheet.dimension,
             row: progress.rows,
             height: 0,
             above,
@@ -188,25 +188,18 @@ impl<'a, S: AsStr + Drop, D: Dimension, C: Colors, B: Allocator, A: Allocator> S
 }
 
 impl<'a, D: Dimension, C: Colors, B: Allocator> Frame<'a, D, C, B> {
-    ghost use Rattle.pg_stream.specs.Inside.Told.{told_of};
+    ghost use Rattle.pg_picture.specs.Inside.Sheets.{bare_table};
 
     // The same with other sizes.
     fn with_sizes<'s, E: Dimension>(&'s self, sizes: &'s E) -> Frame<'s, E, C, B>
-        ensures told { told_of E.width E.height C.color result ≡ record (told_of D.width D.height C.color self.now) { width = E.width sizes.now; height = E.height sizes.now } }
-        ensures width { result.width ≡ self.now.width }
-        ensures height { result.height ≡ self.now.height }
+        ensures table { bare_table E.width E.height C.color result.sheet ≡ record (bare_table D.width D.height C.color self.now.sheet) { width = E.width sizes.now; height = E.height sizes.now } }
+        ensures hint { result.hint ≡ self.now.hint }
+        ensures width { result.sheet.width ≡ self.now.sheet.width }
+        ensures height { result.sheet.height ≡ self.now.sheet.height }
     {
         Frame {
-            config: self.config,
-            dimension: sizes,
-            colors: self.colors,
-            columns: self.columns,
+            sheet: self.sheet.with_dimension(sizes),
             hint: self.hint,
-            width: self.width,
-            height: self.height,
-            all: self.all,
-            draws_verticals: self.draws_verticals,
-            draws_separators: self.draws_separators,
         }
     }
 }

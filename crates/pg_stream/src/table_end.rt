@@ -3,16 +3,16 @@
 ghost use Rattle.std.specs.Prelude.{◌≡◌, ◌↔◌, ◌<◌, true, IfSome, IsOk, IsTrue};
 ghost use Rattle.pg_picture.specs.Fits.{spans_fit};
 ghost use Rattle.pg_stream.specs.Inside.Held.{IsSoundAt};
-ghost use Rattle.pg_stream.specs.Inside.Told.{told_of};
+ghost use Rattle.pg_picture.specs.Inside.Sheets.{bare_table};
 ghost use Rattle.pg_stream.specs.LiveStreams.{MayEnd, AppendsEnd};
 ghost use Rattle.pg_stream.specs.Printers.{printing, now_of};
 
-use crate::drawing::Drawn;
 use crate::fault::StreamFault;
 use crate::frame::Frame;
 use crate::progress::Progress;
 use crate::row_printer::RowPrinter;
 use pg_layout::{Colors, Dimension};
+use pg_picture::Drawn;
 use pg_picture::fits::spans_fit;
 use std::alloc::Allocator;
 use std::convert::AsStr;
@@ -57,9 +57,9 @@ impl<S: AsStr + Drop, A: Allocator> Progress<'_, S, A> {
         C: Colors,
         B: Allocator,
         W: Allocator,
-        requires is { told_of D.width D.height C.color frame.now ≡ T.told }
-        requires sound { IsSoundAt T.told frame.now self.old }
-        ensures ends { AppendsEnd (now_of T.told self.old) buf.old buf.new result }
+        requires is { bare_table D.width D.height C.color frame.now.sheet ≡ T.table }
+        requires sound { IsSoundAt T.table frame.now self.old }
+        ensures ends { AppendsEnd (now_of T.table frame.now.hint self.old) buf.old buf.new result }
         ensures empty { self.old.rows ≡ 0 → IsOk result × (buf.new ≡ buf.old) }
     {
         if self.rows == 0 {
@@ -75,12 +75,12 @@ impl<S: AsStr + Drop, A: Allocator> Progress<'_, S, A> {
     // Whether the table of a frame may end behind the rows so far, of which there is one.
     fn may_end<D, C, B: Allocator>(&self, frame: &Frame<'_, D, C, B>) -> bool
         requires { 0 < self.now.rows }
-        ensures { IsTrue result ↔ IfSome frame.now.hint (λ rows. self.now.rows ≡ rows) × (spans_fit frame.now.config.now.spans self.now.rows frame.now.columns ≡ true) }
+        ensures { IsTrue result ↔ IfSome frame.now.hint (λ rows. self.now.rows ≡ rows) × (spans_fit frame.now.sheet.config.now.spans self.now.rows frame.now.sheet.columns ≡ true) }
     {
         let are_all = match frame.hint {
             Some(rows) => self.rows == rows,
             None => true,
         };
-        are_all && spans_fit(frame.config, self.rows, frame.columns)
+        are_all && spans_fit(frame.sheet.config, self.rows, frame.sheet.columns)
     }
 }

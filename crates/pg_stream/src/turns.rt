@@ -10,12 +10,12 @@ ghost use Rattle.pg_picture.specs.Fits.{spans_fit_columns};
 ghost use Rattle.pg_stream.specs.Conditions.{HaveRoom};
 ghost use Rattle.pg_stream.specs.Inside.Drawing.{column_end};
 ghost use Rattle.pg_stream.specs.Placed.{AllOpen};
-ghost use Rattle.pg_stream.specs.Printing.{frame_of};
 ghost use Rattle.pg_stream.specs.Inside.Turns.{IsOwnerAbove, MayBegin, begin_cell, cells_begun, is_done, close_cell, cells_closed};
 
-use crate::drawing::{Drawing, Drawn};
+use crate::drawing::Drawing;
 use crate::open_cells::OpenCells;
 use pg_layout::{Colors, Dimension, Position};
+use pg_picture::Drawn;
 use std::alloc::Allocator;
 use std::convert::AsStr;
 
@@ -34,15 +34,15 @@ where
         mut cells: I,
         row: usize,
     )
-        requires columns { T.told.columns ≡ length opened.old }
-        requires spans { spans_fit_columns T.told.config.spans T.told.columns ≡ true }
-        requires above { (x : ℕ) → x < T.told.columns → IsOwnerAbove T.told.config.spans row x (slice_index_or opened.old x None) }
+        requires columns { T.table.columns ≡ length opened.old }
+        requires spans { spans_fit_columns T.table.config.spans T.table.columns ≡ true }
+        requires above { (x : ℕ) → x < T.table.columns → IsOwnerAbove T.table.config.spans row x (slice_index_or opened.old x None) }
         requires can { I.can_next cells × IsFinite (I.remaining cells) }
-        requires given { (texts : List Text) × AlwaysGives (λ x y. S.text x ≡ y) I.next_gives cells texts × length texts ≡ T.told.columns × HaveRoom (frame_of T.told) row texts }
-        ensures { (texts : List Text) → AlwaysGives (λ x y. S.text x ≡ y) I.next_gives cells texts → opened.new ≡ cells_begun (frame_of T.told) row texts opened.old }
+        requires given { (texts : List Text) × AlwaysGives (λ x y. S.text x ≡ y) I.next_gives cells texts × length texts ≡ T.table.columns × HaveRoom T.table row texts }
+        ensures { (texts : List Text) → AlwaysGives (λ x y. S.text x ≡ y) I.next_gives cells texts → opened.new ≡ cells_begun T.table row texts opened.old }
     {
         let mut end = 0;
-        for column in 0..self.columns() {
+        for column in 0..self.pen.columns() {
             let Some(value) = cells.next() else {
                 return;
             };
@@ -61,18 +61,18 @@ where
         end: usize,
     ) -> usize
         requires column { column < length opened.old }
-        requires own { (not (nat_lt column end) && not (is_some (slice_index_or opened.old column None))) ≡ is_at (owner T.told.config.spans row column) row column }
-        requires may { is_at (owner T.told.config.spans row column) row column ≡ true → MayBegin (frame_of T.told) (at row column) (S.text value) }
-        requires inside { AllOpen (λ x cell. x + rect_columns T.told.config.spans (at cell.begun x) ≤ T.told.columns) opened.old }
-        ensures begun { opened.new ≡ slice_set opened.old column (begin_cell (frame_of T.told) row (S.text value) column (slice_index_or opened.old column None)) }
-        ensures end { result ≡ max end (column_end T.told.config.spans (slice_index_or opened.new column None) column) }
+        requires own { (not (nat_lt column end) && not (is_some (slice_index_or opened.old column None))) ≡ is_at (owner T.table.config.spans row column) row column }
+        requires may { is_at (owner T.table.config.spans row column) row column ≡ true → MayBegin T.table (at row column) (S.text value) }
+        requires inside { AllOpen (λ x cell. x + rect_columns T.table.config.spans (at cell.begun x) ≤ T.table.columns) opened.old }
+        ensures begun { opened.new ≡ slice_set opened.old column (begin_cell T.table row (S.text value) column (slice_index_or opened.old column None)) }
+        ensures end { result ≡ max end (column_end T.table.config.spans (slice_index_or opened.new column None) column) }
     {
         if is_free(opened, column, end) {
             let pos = Position::new(row, column);
             let (rows, columns) = self.rect_size(pos);
             opened.put(column, self.begin_cell(value, pos, rows, columns));
             // Shows that the columns of the table are a number.
-            let _columns = self.columns();
+            let _columns = self.pen.columns();
             return end.max(column + columns);
         }
         self.end_past(opened, column, end)
@@ -84,12 +84,12 @@ where
         opened: &mut OpenCells<S, A>,
         row: usize,
     )
-        requires columns { T.told.columns ≡ length opened.old }
+        requires columns { T.table.columns ≡ length opened.old }
         requires row { row + 1 < 2 ^ 64 }
         requires begun { AllOpen (λ x cell. cell.begun ≤ row) opened.old }
-        ensures { opened.new ≡ cells_closed T.told.config.spans row opened.old }
+        ensures { opened.new ≡ cells_closed T.table.config.spans row opened.old }
     {
-        for column in 0..self.columns() {
+        for column in 0..self.pen.columns() {
             self.close_one(opened, column, row);
         }
     }
@@ -104,7 +104,7 @@ where
         requires column { column < length opened.old }
         requires row { row + 1 < 2 ^ 64 }
         requires begun { IfSome (slice_index_or opened.old column None) (λ cell. cell.begun ≤ row) }
-        ensures { opened.new ≡ slice_set opened.old column (close_cell T.told.config.spans row column (slice_index_or opened.old column None)) }
+        ensures { opened.new ≡ slice_set opened.old column (close_cell T.table.config.spans row column (slice_index_or opened.old column None)) }
     {
         if self.is_done(opened, column, row) {
             opened.clear(column);
@@ -121,7 +121,7 @@ where
     ) -> bool
         requires row { row + 1 < 2 ^ 64 }
         requires begun { IfSome (slice_index_or opened.now column None) (λ cell. cell.begun ≤ row) }
-        ensures { result ≡ is_done T.told.config.spans row column (slice_index_or opened.now column None) }
+        ensures { result ≡ is_done T.table.config.spans row column (slice_index_or opened.now column None) }
     {
         let Some(cell) = opened.open_at(column) else {
             return false;

@@ -63,9 +63,9 @@ pub record Shown (all left : List (List Text)) (s : Streaming) (so_far : Text) :
   pub count : length all ≡ s.before.rows + length (rows_left s left)
   pub none : s.before.rows ≡ 0 → so_far ≡ []
   pub empty : s.held ≡ None → s.before.rows ≡ 0
-  pub wide : 0 < s.before.columns
+  pub wide : 0 < s.before.table.columns
   -- each row is high, so that lines stand above each but the first
-  pub high : (k : ℕ) → 0 < s.before.height k
+  pub high : (k : ℕ) → 0 < s.before.table.height k
   pub begun : 0 < s.before.rows → 0 < lines_printed s.before
 
 pub shown-begin : (all : List (List Text)) → Shown all all (record { before = begin; held = None }) []
@@ -115,7 +115,7 @@ module _ (all left : List (List Text)) (before : Printing) (so_far : Text) where
     empty = λ is. cc;
     wide = p.wide;
     high = p.high;
-    begun = λ some. let there : ((before.rows + 1) == 0) ≡ false = grind (arith, nat_tests) in rw there (omega (arith, length_of_row before.config before.height before.rows, p.high before.rows));
+    begun = λ some. let there : ((before.rows + 1) == 0) ≡ false = grind (arith, nat_tests) in rw there (omega (arith, length_of_row before.table.config before.table.height before.rows, p.high before.rows));
   }
 
   -- what is written of it
@@ -136,10 +136,10 @@ module _ (all left : List (List Text)) (before : Printing) (so_far : Text) where
   held-misfits (Some row) next p bad = p.misfit before.rows (inl (refl, bad))
 
 -- no row without cells fits
-bare : (s : Printing) (cells : List Text) (is_last : Bool) → 0 < s.columns → cells ≡ [] → ¬ (RowFits s cells is_last)
+bare : (s : Printing) (cells : List Text) (is_last : Bool) → 0 < s.table.columns → cells ≡ [] → ¬ (RowFits s cells is_last)
 bare s cells is_last some is fits = omega (arith, some, fits.whole, ap length is)
 
-pub bare-misfits : (s : Printing) (cells : List Text) (left : List (List Text)) → 0 < s.columns → cells ≡ [] → IsMisfit s (cells ∷ left) s.rows
+pub bare-misfits : (s : Printing) (cells : List Text) (left : List (List Text)) → 0 < s.table.columns → cells ≡ [] → IsMisfit s (cells ∷ left) s.rows
 bare-misfits s cells [] some is = (refl, bare s cells true some is)
 bare-misfits s cells (next ∷ left) some is = inl (refl, bare s cells false some is)
 

@@ -1,15 +1,15 @@
 -- What is drawn of open cells: lines of a row, and separators.
-use Rattle.std.specs.Prelude.{◌≡◌, ℕ, ◌+◌, ◌<◌, ◌^◌, Bool, ◌&&◌, ◌==◌, nat_lt, List, [], ◌∷◌, ◌++◌, map, flat_map, replicate, slice_index_or, Option, Some, None, IfSome, if◌then◌else◌}
+use Rattle.std.specs.Prelude.{◌≡◌, ℕ, ◌+◌, ◌<◌, ◌^◌, ◌==◌, nat_lt, List, [], ◌∷◌, ◌++◌, map, flat_map, replicate, slice_index_or, Option, Some, None, IfSome, if◌then◌else◌}
 use Rattle.std.specs.List.{range_with_len}
 use Rattle.pg_layout.specs.Position.{at}
 use Rattle.pg_layout.specs.Text.{Text, greatest}
 use Rattle.pg_config.specs.Config.{Config, has_horizontal, get_horizontal}
 use Rattle.pg_config.specs.Spans.{Span, rect_columns}
 use Rattle.pg_picture.specs.Joined.{continued}
-use Rattle.pg_picture.specs.Inside.Following.{feed_before}
+use Rattle.pg_picture.specs.Inside.Margins.{line_start, line_end}
 use Rattle.pg_picture.specs.Inside.KeptSeparators.{Keeping, IsSeparatorOf}
 use Rattle.pg_picture.specs.Pieces.{Piece, Item, block, written, separator_text}
-use Rattle.pg_picture.specs.Table.{Table, vertical, crossing_at, border_items, side_margin_at, margin_line}
+use Rattle.pg_picture.specs.Table.{Table, vertical, crossing_at, border_items, margin_line}
 use Rattle.pg_stream.specs.Placed.{Placed, slot_of}
 use Rattle.pg_stream.specs.Inside.OpenCells.{draw_cell, MayDraw}
 use Rattle.pg_stream.specs.Inside.Slots.{slot_block, separator_height}
@@ -71,30 +71,27 @@ pub record MaySeparate (t : Table) (r index : ℕ) (cells : List (Option Placed)
 
 -- ---- lines of the body
 
--- a line of the body after its line feed, unless it is the picture's first, and between its margins
-unfoldable pub line_at : Config → Option ℕ → Bool → ℕ → Text → Text
-line_at config height is_first i text =
-    feed_before (is_first && (i == 0))
-    ++ (written (side_margin_at height config.margin.left config.margin_offset.left config.margin_color.left i)
-    ++ (text ++ written (side_margin_at height config.margin.right config.margin_offset.right config.margin_color.right i)))
+-- a line of the body between what stands before and behind it
+unfoldable pub line_at : Config → Option ℕ → ℕ → Text → Text
+line_at config height i text = line_start config height i ++ (text ++ line_end config height i)
 
 -- line i of a row whose lines begin at line `index` of the body
-unfoldable pub open_line_at : Table → Option ℕ → Bool → List (Option Placed) → ℕ → ℕ → ℕ → Text
-open_line_at t height is_first cells r index i = line_at t.config height is_first (index + i) (written (open_line t (map (draw_cell i) cells) r i))
+unfoldable pub open_line_at : Table → Option ℕ → List (Option Placed) → ℕ → ℕ → ℕ → Text
+open_line_at t height cells r index i = line_at t.config height (index + i) (written (open_line t (map (draw_cell i) cells) r i))
 
 -- the first n lines
-unfoldable pub open_lines : Table → Option ℕ → Bool → List (Option Placed) → ℕ → ℕ → ℕ → Text
-open_lines t height is_first cells r index n = flat_map (open_line_at t height is_first cells r index) (range_with_len 0 n)
+unfoldable pub open_lines : Table → Option ℕ → List (Option Placed) → ℕ → ℕ → ℕ → Text
+open_lines t height cells r index n = flat_map (open_line_at t height cells r index) (range_with_len 0 n)
 
 -- the separator above row r, where it is there, as line `index` of the body
-unfoldable pub above_text : Table → Option ℕ → Bool → List (Option Placed) → ℕ → ℕ → Text
-above_text t height is_first cells r index =
-    if has_horizontal t.config r (r + 1) then line_at t.config height is_first index (separator_text (open_separator t (r + 1) cells r)) else []
+unfoldable pub above_text : Table → Option ℕ → List (Option Placed) → ℕ → ℕ → Text
+above_text t height cells r index =
+    if has_horizontal t.config r (r + 1) then line_at t.config height index (separator_text (open_separator t (r + 1) cells r)) else []
 
 -- the separator below the last of so many rows
-unfoldable pub below_text : Table → Option ℕ → Bool → List (Option Placed) → ℕ → ℕ → Text
-below_text t height is_first cells rows index =
-    if has_horizontal t.config rows rows then line_at t.config height is_first index (separator_text (open_separator t rows cells rows)) else []
+unfoldable pub below_text : Table → Option ℕ → List (Option Placed) → ℕ → ℕ → Text
+below_text t height cells rows index =
+    if has_horizontal t.config rows rows then line_at t.config height index (separator_text (open_separator t rows cells rows)) else []
 
 -- the lines of the top margin, w columns wide, which stand above row 0
 unfoldable pub top_text : Config → ℕ → ℕ → Text

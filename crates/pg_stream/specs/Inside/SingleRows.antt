@@ -6,12 +6,11 @@ use Rattle.pg_layout.specs.Text.{Text, is_plain_byte}
 use Rattle.pg_picture.specs.Pieces.{Piece, style_at, block_line}
 use Rattle.pg_picture.specs.Table.{Table, vertical}
 use Rattle.pg_stream.specs.Conditions.{HaveRoom}
-use Rattle.pg_stream.specs.Printing.{Printing, frame_of}
 
 -- row k has one line, and no cell spans others
-pub record IsSingle (s : Printing) (k : ℕ) : Type 0 where
-  pub alone : s.config.spans ≡ []
-  pub height : s.height k ≡ 1
+pub record IsSingle (t : Table) (k : ℕ) : Type 0 where
+  pub alone : t.config.spans ≡ []
+  pub height : t.height k ≡ 1
 
 -- the vertical left of column x, and the one line of the cell there
 unfoldable pub single_part : Table → ℕ → Text → ℕ → List Piece
@@ -26,8 +25,8 @@ abbrev pub ArePlain : ℕ → List Text → Type 0
 ArePlain n texts = (x : ℕ) → x < n → list_all is_plain_byte (slice_index_or texts x []) ≡ true
 
 -- Row k is such a row, and these are the texts of its cells: each has room, and is plain where that is known.
-pub record IsSingleRow (s : Printing) (k : ℕ) (are_plain : Bool) (texts : List Text) : Type 0 where
-  pub single : IsSingle s k
-  pub whole : length texts ≡ s.columns
-  pub rooms : HaveRoom (frame_of s) k texts
-  pub plain : are_plain ≡ true → ArePlain s.columns texts
+pub record IsSingleRow (t : Table) (k : ℕ) (are_plain : Bool) (texts : List Text) : Type 0 where
+  pub single : IsSingle t k
+  pub whole : length texts ≡ t.columns
+  pub rooms : HaveRoom t k texts
+  pub plain : are_plain ≡ true → ArePlain t.columns texts

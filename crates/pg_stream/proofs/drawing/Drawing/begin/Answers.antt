@@ -4,7 +4,6 @@ use Rattle.pg_config.specs.Spans.{rect_columns}
 use Rattle.pg_picture.proofs.Owners.{apart_from, owners_of, owner-columns}
 use Rattle.pg_stream.specs.Conditions.{HasRoom}
 use Rattle.pg_stream.specs.Inside.Drawing.{column_end, reach}
-use Rattle.pg_stream.specs.Printing.{frame_of}
 use Rattle.pg_stream.specs.Inside.Turns.{begin_cell}
 use Rattle.pg_stream.proofs.PartsOfLists.{partly-none, partly-all, partly-length}
 use Rattle.pg_stream.proofs.PartsOfSeparators.{reach-none, reach-more}
@@ -13,8 +12,8 @@ use Rattle.pg_stream.proofs.drawing.Drawing.begin.Goals as goal
 
 pub loop-column-init : goal.loop-column-init
 loop-column-init g c = (
-  reach-none g.T.Drawn.told.config.spans c.args.opened.now,
-  λ texts gives. record { left = gives; begun = partly-none (λ x. begin_cell (frame_of g.T.Drawn.told) c.args.row (slice_index_or texts x []) x) 0 c.args.opened.now },
+  reach-none g.T.Drawn.table.config.spans c.args.opened.now,
+  λ texts gives. record { left = gives; begun = partly-none (λ x. begin_cell g.T.Drawn.table c.args.row (slice_index_or texts x []) x) 0 c.args.opened.now },
 )
 
 pub returns-in_default : goal.returns-in_default
@@ -26,7 +25,7 @@ returns-in_default g c = λ texts gives.
 
 pub begin_one-end-requires-clause-column : goal.begin_one-end-requires-clause-column
 begin_one-end-requires-clause-column g c =
-    let t = frame_of g.T.Drawn.told in
+    let t = g.T.Drawn.table in
     let texts = c.requires.given.0 in
     let reading = c.loop-column.invariant.1 texts c.requires.given.1 in
     let i = c.loop-column.column in
@@ -35,7 +34,7 @@ begin_one-end-requires-clause-column g c =
 
 pub begin_one-end-requires-clause-own : goal.begin_one-end-requires-clause-own
 begin_one-end-requires-clause-own g c =
-    let t = frame_of g.T.Drawn.told in
+    let t = g.T.Drawn.table in
     let spans = t.config.spans in
     let texts = c.requires.given.0 in
     let reading = c.loop-column.invariant.1 texts c.requires.given.1 in
@@ -46,7 +45,7 @@ begin_one-end-requires-clause-own g c =
 
 pub begin_one-end-requires-clause-may : goal.begin_one-end-requires-clause-may
 begin_one-end-requires-clause-may g c = λ own.
-    let t = frame_of g.T.Drawn.told in
+    let t = g.T.Drawn.table in
     let spans = t.config.spans in
     let texts = c.requires.given.0 in
     let reading = c.loop-column.invariant.1 texts c.requires.given.1 in
@@ -66,7 +65,7 @@ begin_one-end-requires-clause-may g c = λ own.
 
 pub begin_one-end-requires-clause-inside : goal.begin_one-end-requires-clause-inside
 begin_one-end-requires-clause-inside g c =
-    let t = frame_of g.T.Drawn.told in
+    let t = g.T.Drawn.table in
     let spans = t.config.spans in
     let texts = c.requires.given.0 in
     let reading = c.loop-column.invariant.1 texts c.requires.given.1 in
@@ -79,7 +78,7 @@ begin_one-end-requires-clause-inside g c =
 
 pub loop-column-preserved : goal.loop-column-preserved
 loop-column-preserved g c =
-    let t = frame_of g.T.Drawn.told in
+    let t = g.T.Drawn.table in
     let i = c.loop-column.column in
     let inside : i < length c.args.opened.now = omega (arith, c.loop-column-test.true, c.requires.columns) in (
       c.begin_one-end.ensures.end
@@ -94,5 +93,5 @@ loop-column-preserved g c =
 pub returns : goal.returns
 returns g c = λ texts gives.
     (c.loop-column.invariant.1 texts gives).begun
-    ∙ partly-all (λ x. begin_cell (frame_of g.T.Drawn.told) c.args.row (slice_index_or texts x []) x) 0 c.loop-column.column c.args.opened.now (omega (arith, c.loop-column-test.false, c.requires.columns))
-    ∙ begun-is (frame_of g.T.Drawn.told) c.args.row texts c.args.opened.now
+    ∙ partly-all (λ x. begin_cell g.T.Drawn.table c.args.row (slice_index_or texts x []) x) 0 c.loop-column.column c.args.opened.now (omega (arith, c.loop-column-test.false, c.requires.columns))
+    ∙ begun-is g.T.Drawn.table c.args.row texts c.args.opened.now

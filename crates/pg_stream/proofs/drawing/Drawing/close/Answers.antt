@@ -6,23 +6,23 @@ use Rattle.pg_stream.proofs.Closing.{closed-is}
 use Rattle.pg_stream.proofs.drawing.Drawing.close.Goals as goal
 
 pub loop-column-init : goal.loop-column-init
-loop-column-init g c = partly-none (close_cell g.T.Drawn.told.config.spans c.args.row) 0 c.args.opened.now
+loop-column-init g c = partly-none (close_cell g.T.Drawn.table.config.spans c.args.row) 0 c.args.opened.now
 
 pub close_one-requires-clause-column : goal.close_one-requires-clause-column
 close_one-requires-clause-column g c =
-    let e = ap length c.loop-column.invariant ∙ partly-length (close_cell g.T.Drawn.told.config.spans c.args.row) 0 c.loop-column.column c.args.opened.now in
+    let e = ap length c.loop-column.invariant ∙ partly-length (close_cell g.T.Drawn.table.config.spans c.args.row) 0 c.loop-column.column c.args.opened.now in
     omega (arith, e, c.loop-column-test.true, c.requires.columns)
 
 pub close_one-requires-clause-begun : goal.close_one-requires-clause-begun
 close_one-requires-clause-begun g c =
-    let f = close_cell g.T.Drawn.told.config.spans c.args.row in
+    let f = close_cell g.T.Drawn.table.config.spans c.args.row in
     let here : get_or c.loop-column.opened c.loop-column.column None ≡ get_or c.args.opened.now c.loop-column.column None =
     ap (λ l. get_or l c.loop-column.column None) c.loop-column.invariant ∙ partly-at f 0 c.loop-column.column c.args.opened.now None in
     subst (λ (o : Option Placed). IfSome o (λ cell. cell.begun ≤ c.args.row)) (sym here) (c.requires.begun c.loop-column.column)
 
 pub loop-column-preserved : goal.loop-column-preserved
 loop-column-preserved g c =
-    let f = close_cell g.T.Drawn.told.config.spans c.args.row in
+    let f = close_cell g.T.Drawn.table.config.spans c.args.row in
     let i = c.loop-column.column in
     let xs = c.args.opened.now in
     let l : i < length xs = omega (arith, c.loop-column-test.true, c.requires.columns) in
@@ -33,5 +33,5 @@ loop-column-preserved g c =
 
 pub returns : goal.returns
 returns g c =
-    let f = close_cell g.T.Drawn.told.config.spans c.args.row in
-    c.loop-column.invariant ∙ partly-all f 0 c.loop-column.column c.args.opened.now (omega (arith, c.loop-column-test.false, c.requires.columns)) ∙ closed-is g.T.Drawn.told.config.spans c.args.row c.args.opened.now
+    let f = close_cell g.T.Drawn.table.config.spans c.args.row in
+    c.loop-column.invariant ∙ partly-all f 0 c.loop-column.column c.args.opened.now (omega (arith, c.loop-column-test.false, c.requires.columns)) ∙ closed-is g.T.Drawn.table.config.spans c.args.row c.args.opened.now

@@ -8,7 +8,6 @@ use Rattle.pg_picture.specs.Table.{vertical}
 use Rattle.pg_picture.proofs.Appending.{Appends-text, Gained-none, Gained-text, Gained-more, gained-then, refused}
 use Rattle.pg_picture.proofs.PiecesOfLines.{written-nil}
 use Rattle.pg_stream.specs.Conditions.{HasRoom}
-use Rattle.pg_stream.specs.Printing.{frame_of}
 use Rattle.pg_stream.specs.Inside.SingleRows.{IsSingle, single_part}
 use Rattle.pg_stream.proofs.Beginning.{read-more, read-none}
 use Rattle.pg_stream.proofs.PartsOfLines.{written-columns}
@@ -26,20 +25,20 @@ returns-in_default g c = λ texts gives.
 
 pub invariant_of-cell : goal.invariant_of-cell
 invariant_of-cell g c =
-    let t = frame_of g.T.Drawn.told in
+    let t = g.T.Drawn.table in
     let (texts, gives, is) = c.requires in
     let i = c.loop-column.column in
     let now = read-more g.S.AsStr.text g.I.Iterator.next_gives _ _ _ texts i (c.loop-column.invariant texts gives.gives).0 c.in-Some.ensures.steps in
     let text = now.0 ∙ sym c.as_str.ensures in
     record {
-      is_single = subst (λ (p : Position). IsSingle g.T.Drawn.told p.row) (sym c.new.ensures) is.single;
+      is_single = subst (λ (p : Position). IsSingle g.T.Drawn.table p.row) (sym c.new.ensures) is.single;
       is_known = λ known. subst (λ (text : Text). list_all is_plain_byte text ≡ true) text (is.plain known i (omega arith));
       has_room = subst (λ (p : Position). HasRoom t p c.as_str.result.now) (sym c.new.ensures) (subst (λ (text : Text). HasRoom t (at c.args.row i) text) text (is.rooms i (omega arith) (own-plain t is.single.alone c.args.row i)));
     }
 
 pub returns-in_err-push_single_cell : goal.returns-in_err-push_single_cell
 returns-in_err-push_single_cell g c = λ texts gives.
-    let t = frame_of g.T.Drawn.told in
+    let t = g.T.Drawn.table in
     let i = c.loop-column.column in
     let (left, gained) = c.loop-column.invariant texts gives in
     let now = read-more g.S.AsStr.text g.I.Iterator.next_gives _ _ _ texts i left c.in-Some.ensures.steps in
@@ -47,7 +46,7 @@ returns-in_err-push_single_cell g c = λ texts gives.
 
 pub loop-column-preserved : goal.loop-column-preserved
 loop-column-preserved g c = λ texts gives.
-    let t = frame_of g.T.Drawn.told in
+    let t = g.T.Drawn.table in
     let i = c.loop-column.column in
     let (left, gained) = c.loop-column.invariant texts gives in
     let now = read-more g.S.AsStr.text g.I.Iterator.next_gives _ _ _ texts i left c.in-Some.ensures.steps in
@@ -55,7 +54,7 @@ loop-column-preserved g c = λ texts gives.
 
 pub returns : goal.returns
 returns g c = λ texts gives.
-    let t = frame_of g.T.Drawn.told in
+    let t = g.T.Drawn.table in
     let ended : c.loop-column.column ≡ t.columns = omega arith in
     let place = ap (λ (p : Position). written (vertical t p.row 0 p.col)) c.new-2.ensures in
     Appends-text (single-end t c.args.row texts c.loop-column.column ended) (gained-then (c.loop-column.invariant texts gives).1 (Appends-text (place ∙ ap (λ n. written (vertical t c.args.row 0 n)) c.columns.ensures) c.push_vertical.ensures))

@@ -1,23 +1,22 @@
 use Rattle.pg_picture.specs.Pieces.{written}
 use Rattle.pg_picture.proofs.Appending.{◌then◌, stopped, Appends-text}
-use Rattle.pg_stream.specs.Printing.{frame_of}
 use Rattle.pg_stream.specs.Inside.SingleRows.{single_line}
 use Rattle.pg_stream.proofs.PartsOfLines.{line_at-parts}
 use Rattle.pg_stream.proofs.drawing.Drawing.push_single_row.Goals as goal
 
-pub returns-in_err-push_start : goal.returns-in_err-push_start
-returns-in_err-push_start g c = λ texts gives.
-    let line = written (single_line (frame_of g.T.Drawn.told) c.args.row texts) in
-    Appends-text (line_at-parts g.T.Drawn.told.config c.args.self.frame.now.height c.args.is_first c.args.index line) (stopped _ c.from_residual.ensures.0 c.in_err-push_start.ensures)
+pub returns-in_err-push_line_start : goal.returns-in_err-push_line_start
+returns-in_err-push_line_start g c = λ texts gives.
+    let line = written (single_line g.T.Drawn.table c.args.row texts) in
+    Appends-text (line_at-parts g.T.Drawn.table.config c.args.self.pen.sheet.now.height c.args.index line) (stopped _ c.from_residual.ensures.0 c.in_err-push_line_start.ensures)
 
 pub returns-in_err-push_single_cells : goal.returns-in_err-push_single_cells
 returns-in_err-push_single_cells g c = λ texts gives.
-    let line = written (single_line (frame_of g.T.Drawn.told) c.args.row texts) in
-    Appends-text (line_at-parts g.T.Drawn.told.config c.args.self.frame.now.height c.args.is_first c.args.index line)
-    (c.in_ok-push_start.ensures then (stopped _ c.from_residual-in_err-push_single_cells.ensures.0 (c.in_err-push_single_cells.ensures texts gives)))
+    let line = written (single_line g.T.Drawn.table c.args.row texts) in
+    Appends-text (line_at-parts g.T.Drawn.table.config c.args.self.pen.sheet.now.height c.args.index line)
+    (c.in_ok-push_line_start.ensures then (stopped _ c.from_residual-in_err-push_single_cells.ensures.0 (c.in_err-push_single_cells.ensures texts gives)))
 
 pub returns : goal.returns
 returns g c = λ texts gives.
-    let line = written (single_line (frame_of g.T.Drawn.told) c.args.row texts) in
-    Appends-text (line_at-parts g.T.Drawn.told.config c.args.self.frame.now.height c.args.is_first c.args.index line)
-    (c.in_ok-push_start.ensures then (c.in_ok-push_single_cells.ensures texts gives then c.push_end.ensures))
+    let line = written (single_line g.T.Drawn.table c.args.row texts) in
+    Appends-text (line_at-parts g.T.Drawn.table.config c.args.self.pen.sheet.now.height c.args.index line)
+    (c.in_ok-push_line_start.ensures then (c.in_ok-push_single_cells.ensures texts gives then c.push_line_end.ensures))

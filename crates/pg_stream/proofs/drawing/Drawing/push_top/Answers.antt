@@ -4,7 +4,7 @@ use Rattle.pg_stream.proofs.SeparatorsOfRows.{top-none, top-some}
 use Rattle.pg_stream.proofs.drawing.Drawing.push_top.Goals as goal
 
 pub returns-then-rows-gt0 : goal.returns-then-rows-gt0
-returns-then-rows-gt0 g c = Appends-text (top-none g.T.Drawn.told.config c.args.self.frame.now.width c.args.rows (omega arith)) (Gained-all (Gained-none c.args.buf.now))
+returns-then-rows-gt0 g c = Appends-text (top-none g.T.Drawn.table.config c.args.self.pen.sheet.now.width c.args.rows (omega arith)) (Gained-all (Gained-none c.args.buf.now))
 
 pub returns : goal.returns
-returns g c = rw (← c.args.self.is) (Appends-text (top-some c.args.self.frame.now.config.now c.args.self.frame.now.width c.args.rows (omega arith)) c.push_top_margin.ensures)
+returns g c = Appends-text (top-some g.T.Drawn.table.config c.args.self.pen.sheet.now.width c.args.rows (omega arith)) c.push_top.ensures

@@ -17,17 +17,17 @@ one_line config k =
 
 pub returns-then-next-lt18446744073709551615 : goal.returns-then-next-lt18446744073709551615
 returns-then-next-lt18446744073709551615 g c =
-    let lines = length_of_row c.args.self.now.config.now (g.D.Dimension.height c.args.self.now.dimension.now) c.args.row in
-    let one = one_line c.args.self.now.config.now c.args.row in
+    let lines = length_of_row c.args.self.now.sheet.config.now (g.D.Dimension.height c.args.self.now.sheet.dimension.now) c.args.row in
+    let one = one_line c.args.self.now.sheet.config.now c.args.row in
     grind (arith, nat_tests, lines, one, c.in-Some.ensures.1, c.get_height-height.ensures, c.if-next-lt18446744073709551615.true)
 
 pub returns-else-next-lt18446744073709551615 : goal.returns-else-next-lt18446744073709551615
 returns-else-next-lt18446744073709551615 g c =
-    let lines = length_of_row c.args.self.now.config.now (g.D.Dimension.height c.args.self.now.dimension.now) c.args.row in
-    let one = one_line c.args.self.now.config.now c.args.row in
+    let lines = length_of_row c.args.self.now.sheet.config.now (g.D.Dimension.height c.args.self.now.sheet.dimension.now) c.args.row in
+    let one = one_line c.args.self.now.sheet.config.now c.args.row in
     grind (arith, nat_tests, lines, one, c.separator_lines.ensures, c.in-Some.ensures.1, c.get_height-height.ensures, c.if-next-lt18446744073709551615.false)
 
 pub returns-in-None : goal.returns-in-None
 returns-in-None g c =
-    let lines = length_of_row c.args.self.now.config.now (g.D.Dimension.height c.args.self.now.dimension.now) c.args.row in
+    let lines = length_of_row c.args.self.now.sheet.config.now (g.D.Dimension.height c.args.self.now.sheet.dimension.now) c.args.row in
     grind (arith, nat_tests, lines, c.in-None.ensures, c.get_height-height.ensures)

@@ -5,13 +5,13 @@ use Rattle.std.proofs.lemmas.List.{get_or-map}
 use Rattle.pg_layout.specs.Position.{at}
 use Rattle.pg_layout.specs.Text.{Text, is_plain_byte}
 use Rattle.pg_stream.specs.Conditions.{HasRoom}
-use Rattle.pg_stream.specs.Inside.Frames.{frame_table}
+use Rattle.pg_picture.specs.Inside.Sheets.{bare_table}
 use Rattle.pg_stream.proofs.PlainRooms.{fits-in, own-plain, plain-room-from, plain-room-fits, up-to}
 use Rattle.pg_stream.proofs.frame.Frame.plainness_of_single.Goals as goal
 
 pub loop-column-preserved : goal.loop-column-preserved
 loop-column-preserved g c =
-    let t = frame_table g.D.Dimension.width g.D.Dimension.height g.C.Colors.color c.args.self.now in
+    let t = bare_table g.D.Dimension.width g.D.Dimension.height g.C.Colors.color c.args.self.now.sheet in
     let x = c.loop-column.column in
     let texts = map g.S.AsStr.text c.args.cells.now in
     let text = c.as_str-text.ensures ∙ ap g.S.AsStr.text c.index-cells-column.is ∙ sym (get_or-map g.S.AsStr.text c.args.cells.now x c.index-cells-column.result [] (omega (arith, c.loop-column-test.true, c.requires.whole))) in
@@ -25,7 +25,7 @@ loop-column-preserved g c =
 
 pub returns-in_default-clause-room : goal.returns-in_default-clause-room
 returns-in_default-clause-room g c =
-    let t = frame_table g.D.Dimension.width g.D.Dimension.height g.C.Colors.color c.args.self.now in
+    let t = bare_table g.D.Dimension.width g.D.Dimension.height g.C.Colors.color c.args.self.now.sheet in
     let x = c.loop-column.column in
     let texts = map g.S.AsStr.text c.args.cells.now in
     let text = c.as_str-text.ensures ∙ ap g.S.AsStr.text c.index-cells-column.is ∙ sym (get_or-map g.S.AsStr.text c.args.cells.now x c.index-cells-column.result [] (omega (arith, c.loop-column-test.true, c.requires.whole))) in

@@ -1,7 +1,7 @@
 use Rattle.std.proofs.Common.{false, map, Some, refl, ap}
 use Rattle.std.proofs.lemmas.Result.{err_from_is_err_and}
 use Rattle.pg_stream.specs.Conditions.{RowFits}
-use Rattle.pg_stream.specs.Inside.Told.{told_of}
+use Rattle.pg_picture.specs.Inside.Sheets.{bare_table}
 use Rattle.pg_stream.specs.LiveStreams.{Living}
 use Rattle.pg_stream.specs.Printers.{now_of}
 use Rattle.pg_stream.specs.Printing.{Printing}
@@ -16,13 +16,13 @@ push_cells-requires-clause-plain g c = λ known. rw c.deref.ensures.value at (c.
 
 pub returns-in_err-push_cells-clause-prints : goal.returns-in_err-push_cells-clause-prints
 returns-in_err-push_cells-clause-prints g c =
-    let fits : RowFits (now_of (told_of g.D.Dimension.width g.D.Dimension.height g.C.Colors.color c.self.inside.frame) c.self.inside.progress) (map g.S.AsStr.text c.args.cells.items) false = (rw c.deref.ensures.value at (c.in-Some.ensures.fits.0 refl)) in
+    let fits : RowFits (now_of (bare_table g.D.Dimension.width g.D.Dimension.height g.C.Colors.color c.self.inside.frame.sheet) c.self.inside.frame.hint c.self.inside.progress) (map g.S.AsStr.text c.args.cells.items) false = (rw c.deref.ensures.value at (c.in-Some.ensures.fits.0 refl)) in
     let p = err_from_is_err_and c.from_residual.result c.from_residual.ensures.1 in
     rw (p.1, p.2, ← c.self.view_is) (λ lives. row-refused fits c.in_err-push_cells.ensures.appends)
 
 pub returns-clause-prints : goal.returns-clause-prints
 returns-clause-prints g c =
-    let fits : RowFits (now_of (told_of g.D.Dimension.width g.D.Dimension.height g.C.Colors.color c.self.inside.frame) c.self.inside.progress) (map g.S.AsStr.text c.args.cells.items) false = (rw c.deref.ensures.value at (c.in-Some.ensures.fits.0 refl)) in
+    let fits : RowFits (now_of (bare_table g.D.Dimension.width g.D.Dimension.height g.C.Colors.color c.self.inside.frame.sheet) c.self.inside.frame.hint c.self.inside.progress) (map g.S.AsStr.text c.args.cells.items) false = (rw c.deref.ensures.value at (c.in-Some.ensures.fits.0 refl)) in
     rw (← c.self.view_is) (λ lives. row-printed tt fits c.in_ok-push_cells.ensures.appends)
 
 pub returns-clause-appends : goal.returns-clause-appends

@@ -1,7 +1,7 @@
 use Rattle.std.proofs.Common.{false, map, Some, refl, ap}
 use Rattle.std.proofs.lemmas.Iterator.{YieldsList-from_slice}
 use Rattle.std.proofs.lemmas.Result.{err_from_is_err_and}
-use Rattle.pg_stream.specs.Inside.Told.{told_of}
+use Rattle.pg_picture.specs.Inside.Sheets.{bare_table}
 use Rattle.pg_stream.specs.LiveStreams.{Living, LentFits}
 use Rattle.pg_stream.specs.Printers.{now_of}
 use Rattle.pg_stream.specs.Printing.{Printing}
@@ -26,14 +26,14 @@ push_single-requires-clause-fits g c =
 pub returns-in_err-push_single-clause-prints : goal.returns-in_err-push_single-clause-prints
 returns-in_err-push_single-clause-prints g c =
     let given = given-lent _ (λ y. y.now) g.X.AsStr.text (YieldsList-from_slice c.args.cells.now c.iter.ensures.rest) in
-    let fits : LentFits (now_of (told_of g.D.Dimension.width g.D.Dimension.height g.C.Colors.color c.self.inside.frame) c.self.inside.progress) (map g.X.AsStr.text c.args.cells.now) = c.in-Some.ensures.fits.0 refl in
+    let fits : LentFits (now_of (bare_table g.D.Dimension.width g.D.Dimension.height g.C.Colors.color c.self.inside.frame.sheet) c.self.inside.frame.hint c.self.inside.progress) (map g.X.AsStr.text c.args.cells.now) = c.in-Some.ensures.fits.0 refl in
     let p = err_from_is_err_and c.from_residual.result c.from_residual.ensures.1 in
     rw (p.1, p.2, ← c.self.view_is) (λ lives. row-refused fits (c.in_err-push_single.ensures.appends (map g.X.AsStr.text c.args.cells.now) given))
 
 pub returns-clause-prints : goal.returns-clause-prints
 returns-clause-prints g c =
     let given = given-lent _ (λ y. y.now) g.X.AsStr.text (YieldsList-from_slice c.args.cells.now c.iter.ensures.rest) in
-    let fits : LentFits (now_of (told_of g.D.Dimension.width g.D.Dimension.height g.C.Colors.color c.self.inside.frame) c.self.inside.progress) (map g.X.AsStr.text c.args.cells.now) = c.in-Some.ensures.fits.0 refl in
+    let fits : LentFits (now_of (bare_table g.D.Dimension.width g.D.Dimension.height g.C.Colors.color c.self.inside.frame.sheet) c.self.inside.frame.hint c.self.inside.progress) (map g.X.AsStr.text c.args.cells.now) = c.in-Some.ensures.fits.0 refl in
     rw (← c.self.view_is) (λ lives. row-printed tt fits (c.in_ok-push_single.ensures.appends (map g.X.AsStr.text c.args.cells.now) given))
 
 pub returns-clause-appends : goal.returns-clause-appends

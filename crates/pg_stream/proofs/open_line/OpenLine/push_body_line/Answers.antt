@@ -1,21 +1,20 @@
 use Rattle.pg_picture.specs.Pieces.{written}
 use Rattle.pg_picture.proofs.Appending.{◌then◌, stopped, Appends-text}
 use Rattle.pg_stream.specs.Inside.Drawing.{open_line}
-use Rattle.pg_stream.specs.Printing.{frame_of}
 use Rattle.pg_stream.proofs.PartsOfLines.{line_at-parts}
 use Rattle.pg_stream.proofs.open_line.OpenLine.push_body_line.Goals as goal
 
-pub returns-in_err-push_start : goal.returns-in_err-push_start
-returns-in_err-push_start g c =
-    Appends-text (line_at-parts g.T.Drawn.told.config c.args.self.now.table.frame.now.height c.args.is_first c.args.index (written (open_line (frame_of g.T.Drawn.told) c.args.self.now.opened.now c.args.row c.args.line)))
-    (stopped _ c.from_residual.ensures.0 c.in_err-push_start.ensures)
+pub returns-in_err-push_line_start : goal.returns-in_err-push_line_start
+returns-in_err-push_line_start g c =
+    Appends-text (line_at-parts g.T.Drawn.table.config c.args.self.now.table.pen.sheet.now.height c.args.index (written (open_line g.T.Drawn.table c.args.self.now.opened.now c.args.row c.args.line)))
+    (stopped _ c.from_residual.ensures.0 c.in_err-push_line_start.ensures)
 
 pub returns-in_err-push_row_line : goal.returns-in_err-push_row_line
 returns-in_err-push_row_line g c =
-    Appends-text (line_at-parts g.T.Drawn.told.config c.args.self.now.table.frame.now.height c.args.is_first c.args.index (written (open_line (frame_of g.T.Drawn.told) c.args.self.now.opened.now c.args.row c.args.line)))
-    (c.in_ok-push_start.ensures then (stopped _ c.from_residual-in_err-push_row_line.ensures.0 c.in_err-push_row_line.ensures))
+    Appends-text (line_at-parts g.T.Drawn.table.config c.args.self.now.table.pen.sheet.now.height c.args.index (written (open_line g.T.Drawn.table c.args.self.now.opened.now c.args.row c.args.line)))
+    (c.in_ok-push_line_start.ensures then (stopped _ c.from_residual-in_err-push_row_line.ensures.0 c.in_err-push_row_line.ensures))
 
 pub returns : goal.returns
 returns g c =
-    Appends-text (line_at-parts g.T.Drawn.told.config c.args.self.now.table.frame.now.height c.args.is_first c.args.index (written (open_line (frame_of g.T.Drawn.told) c.args.self.now.opened.now c.args.row c.args.line)))
-    (c.in_ok-push_start.ensures then (c.in_ok-push_row_line.ensures then c.push_end.ensures))
+    Appends-text (line_at-parts g.T.Drawn.table.config c.args.self.now.table.pen.sheet.now.height c.args.index (written (open_line g.T.Drawn.table c.args.self.now.opened.now c.args.row c.args.line)))
+    (c.in_ok-push_line_start.ensures then (c.in_ok-push_row_line.ensures then c.push_line_end.ensures))

@@ -11,8 +11,8 @@ use Rattle.pg_stream.proofs.progress.Progress.push_cells.Goals as goal
 
 pub push_single-requires-clause-single : goal.push_single-requires-clause-single
 push_single-requires-clause-single g c =
-    let s : Printing = now_of g.T.Drawn.told c.args.self.now in
-    let once = at-once c.height_of-height.result s.config.spans c.draws_at_once.result c.draws_at_once.ensures c.if-draws_at_once.true in
+    let s : Printing = now_of g.T.Drawn.table c.args.frame.now.hint c.args.self.now in
+    let once = at-once c.height_of-height.result s.table.config.spans c.draws_at_once.result c.draws_at_once.ensures c.if-draws_at_once.true in
     record { alone = once.1; height = sym c.height_of-height.ensures ∙ once.0 }
 
 pub push_single-requires-clause-fits : goal.push_single-requires-clause-fits

@@ -2,7 +2,7 @@ use Rattle.std.proofs.Common.{◌≡◌, false, ◌∙◌, refl, sym, ap, None, 
 use Rattle.std.specs.Result.{result_err}
 use Rattle.pg_picture.specs.Sizes.{unless_misfit}
 use Rattle.pg_stream.specs.Conditions.{PrinterFits}
-use Rattle.pg_stream.specs.Inside.Told.{told_of}
+use Rattle.pg_picture.specs.Inside.Sheets.{bare_table}
 use Rattle.pg_stream.specs.LiveStreams.{Living}
 use Rattle.pg_stream.specs.Printers.{printing}
 use Rattle.pg_stream.specs.Printing.{Printing, printer}
@@ -19,8 +19,8 @@ returns-then-has_row_spans-clause-misfit g c = spans-told (misfit-spans c.args.c
 
 pub invariant_of-result : goal.invariant_of-result
 invariant_of-result g c = λ lives.
-    sized-first (told_of g.D.Dimension.width g.D.Dimension.height g.C.Colors.color c.printer.inside.frame) c.printer.inside.frame c.printer.inside.progress c.args.config.now c.args.columns (g.D.Dimension.width c.args.widths.now) (g.D.Dimension.height c.args.widths.now) (g.C.Colors.color c.args.colors.now)
-    (ap (printing g.D.Dimension.width g.D.Dimension.height g.C.Colors.color) c.printer.view_is ∙ c.in-Ok.ensures.made) refl refl
+    sized-first (bare_table g.D.Dimension.width g.D.Dimension.height g.C.Colors.color c.printer.inside.frame.sheet) c.printer.inside.frame c.printer.inside.progress c.args.config.now c.args.columns (g.D.Dimension.width c.args.widths.now) (g.D.Dimension.height c.args.widths.now) (g.C.Colors.color c.args.colors.now)
+    (ap (printing g.D.Dimension.width g.D.Dimension.height g.C.Colors.color) c.printer.view_is ∙ c.in-Ok.ensures.made) refl
     (sym c.has_row_spans.ensures ∙ c.if-has_row_spans.false) c.printer.invariant
 
 pub returns-in-Ok-clause-made : goal.returns-in-Ok-clause-made

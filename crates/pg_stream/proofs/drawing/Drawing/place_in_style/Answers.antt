@@ -7,7 +7,7 @@ use Rattle.pg_picture.specs.Fits.{cell_fits}
 use Rattle.pg_picture.proofs.PlacesOfTexts.{place-lines}
 use Rattle.pg_picture.proofs.Room.{cell_fits-room}
 use Rattle.pg_stream.specs.Inside.Turns.{place_in}
-use Rattle.pg_stream.proofs.frame.Frame.place_in_style.Goals as goal
+use Rattle.pg_stream.proofs.drawing.Drawing.place_in_style.Goals as goal
 
 pub of-requires-clause-width : goal.of-requires-clause-width
 unfolding facts_of

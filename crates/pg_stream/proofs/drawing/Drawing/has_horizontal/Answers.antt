@@ -1,9 +1,0 @@
-use Rattle.std.proofs.Common.{sym, ◌∙◌}
-use Rattle.pg_stream.proofs.UnruledRows.{no_row_line}
-use Rattle.pg_stream.proofs.drawing.Drawing.has_horizontal.Goals as goal
-
--- without row lines none is there
-pub returns-then-not-self : goal.returns-then-not-self
-returns-then-not-self g c =
-    let none = sym c.args.self.frame.now.is_ruled ∙ c.if-not-self.true in
-    rw (← c.args.self.is) (sym (no_row_line c.args.self.frame.now.config.now none c.args.row c.args.rows))
