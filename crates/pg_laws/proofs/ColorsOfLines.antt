@@ -11,7 +11,7 @@ use Rattle.pg_layout.specs.Text.{Text}
 use Rattle.pg_layout.specs.Colors.{Color, same_color}
 use Rattle.pg_picture.specs.Marks.{Mark, sep, line}
 use Rattle.pg_picture.specs.Pieces.{Piece, run, words, in_color, piece_text, repeated, written, prefix_of, suffix_of, cut, Item, glyph, spaces, block, color_after, item_text, with_cuts, separator_text}
-use Rattle.pg_picture.specs.Table.{Table, row_line, separator_items, mark_text, body_line}
+use Rattle.pg_picture.specs.Table.{Table, line_of_row, separator_items, mark_text, body_line}
 use Rattle.pg_picture.specs.CompactLines.{Part, own_or, parts_after}
 use Rattle.pg_picture.specs.Straight.{left_margin, right_margin}
 use Rattle.pg_laws.specs.Laws.{plain_piece, plain_item, colors_of_piece, colors_of_item, ClosesColors, PiecesCloseColors, SeparatorsCloseColors, LinesCloseColors, PartsCloseColors, plain_mark, colors_of_mark}
@@ -179,7 +179,7 @@ more-colors {few} {many} inside h = record {
 mark_closes_colors : (t : Table) (mark : Mark) → ClosesColors (colors_of_mark t mark) (plain_mark t mark) (mark_text t mark)
 unfolding mark_text
 mark_closes_colors t (sep r) = separators_close_colors (separator_items t r)
-mark_closes_colors t (line r i) = pieces_close_colors (row_line t r i)
+mark_closes_colors t (line r i) = pieces_close_colors (line_of_row t r i)
 
 pub lines_close_colors : LinesCloseColors
 unfolding body_line

@@ -19,7 +19,7 @@ use Rattle.pg_config.specs.Config.{has_horizontal, has_vertical, count_vertical,
 use Rattle.pg_config.specs.Spans.{Span, in_span, has_row_spans, size_of, owner, rect_rows, is_left, begins_above, span_size}
 use Rattle.pg_picture.specs.Marks.{Mark, sep, line, only_if, body, marks_within, stands_within, place_of}
 use Rattle.pg_picture.specs.Pieces.{Style, style_at, Piece, written, separator_text, block, shown, lines_above, inner_width, left_share, text_line, text_height, text_top, block_line}
-use Rattle.pg_picture.specs.Table.{Table, Hint, rect_marks, rect_height, rect_width, block_at, is_inside, vertical_at, row_part, row_line, is_covered, crossing_at, crossing, column_items, separator_part, separator_items, total_width, full_width, side_margin, margin_lines, mark_text, body_line, table_body}
+use Rattle.pg_picture.specs.Table.{Table, Hint, rect_marks, rect_height, rect_width, block_at, is_inside, vertical_at, row_part, line_of_row, is_covered, crossing_at, crossing, column_items, separator_part, separator_items, total_width, full_width, side_margin, margin_lines, mark_text, body_line, table_body}
 use Rattle.pg_picture.specs.Joined.{joined}
 use Rattle.pg_picture.specs.Picture.{top_lines, bottom_lines, body_lines, picture_lines, picture}
 use Rattle.pg_picture.proofs.FactsOfTexts.{length-shown}
@@ -103,7 +103,7 @@ module _ (down : Settings AlignmentVertical) (t : Table) where
     separator_part-aligned r x = ap (λ l. crossing t r x ++ l) (column_items-aligned r x)
 
     mark_text-line : (r i : ℕ) → r < t.rows → mark_text (aligned_down down t) (line r i) ≡ mark_text t (line r i)
-    unfolding mark_text row_line
+    unfolding mark_text line_of_row
     mark_text-line r i h = ap (λ part. written (flat_map part (range_with_len 0 (t.columns + 1)))) (fun_ext (λ x. row_part-aligned r i x h))
 
     mark_text-sep : (r : ℕ) → mark_text (aligned_down down t) (sep r) ≡ mark_text t (sep r)

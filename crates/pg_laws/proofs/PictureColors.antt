@@ -21,7 +21,7 @@ use Rattle.pg_config.specs.Spans.{owner, rect_rows, is_left}
 use Rattle.pg_picture.specs.Marks.{Mark, sep, line, only_if, body, marks_within, stands_within, place_of}
 use Rattle.pg_picture.specs.Pieces.{Piece, words, repeated, written, fill, Style, style_at, shown, inner_width, left_share, line_with, text_line, text_height, text_top, block_line, Item, glyph, spaces, block, color_after, item_text, cut, separator_text}
 use Rattle.pg_picture.specs.Inside.Following.{items_after, last_color}
-use Rattle.pg_picture.specs.Table.{Table, Hint, rect_marks, rect_height, rect_width, block_at, is_inside, vertical_at, row_part, row_line, is_covered, crossing_item, crossing_at, crossing, border_items, column_items, separator_part, separator_items, total_width, full_width, margin_line, margin_lines, is_blank_at, side_margin, mark_text, body_line, table_body}
+use Rattle.pg_picture.specs.Table.{Table, Hint, rect_marks, rect_height, rect_width, block_at, is_inside, vertical_at, row_part, line_of_row, is_covered, crossing_item, crossing_at, crossing, border_items, column_items, separator_part, separator_items, total_width, full_width, margin_line, margin_lines, is_blank_at, side_margin, mark_text, body_line, table_body}
 use Rattle.pg_picture.specs.Picture.{top_lines, bottom_lines, body_lines, picture_lines}
 use Rattle.pg_picture.specs.Straight.{left_margin, right_margin}
 use Rattle.pg_picture.proofs.PiecesOfLines.{written-nil, written-append, written-cons, written-fill_plain}
@@ -223,7 +223,7 @@ module _ (t : Table) where
       (bare_items-cond (nat_lt x t.columns) (bare-border_items (at r x) (t.width x) (get_horizontal t.config (at r x) t.rows)) bare_items-nil)
 
   bare-mark : (mark : Mark) → mark_text (without_colors t) mark ≡ plain_mark t mark
-  unfolding mark_text row_line separator_items separator_part
+  unfolding mark_text line_of_row separator_items separator_part
   bare-mark (line r i) = (bare-flat_map (row_part (without_colors t) r i) (row_part t r i) (range_with_len 0 (t.columns + 1)) (bare-row_part r i)).is
   bare-mark (sep r) = bare_items-text (bare_items-flat_map (separator_part (without_colors t) r) (separator_part t r) (range_with_len 0 (t.columns + 1)) (λ x. bare_items-append (bare-crossing r x) (bare-column_items r x)))
 

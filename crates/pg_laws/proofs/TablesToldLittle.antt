@@ -10,7 +10,7 @@ use Rattle.pg_layout.specs.Position.{at}
 use Rattle.pg_config.specs.Config.{get_horizontal}
 use Rattle.pg_picture.specs.Marks.{Mark}
 use Rattle.pg_picture.specs.Pieces.{fill, written}
-use Rattle.pg_picture.specs.Table.{Table, Hint, vertical, row_part, row_line, crossing_at, horizontal_items, separator_part, separator_items, is_blank_at, side_margin, mark_text, body_line, table_body}
+use Rattle.pg_picture.specs.Table.{Table, Hint, vertical, row_part, line_of_row, crossing_at, horizontal_items, separator_part, separator_items, is_blank_at, side_margin, mark_text, body_line, table_body}
 use Rattle.pg_picture.specs.Picture.{top_lines, bottom_lines, body_lines, picture_lines}
 use Rattle.pg_picture.specs.Plain.{cell_line}
 use Rattle.pg_picture.proofs.Ranges.{range-more}
@@ -30,7 +30,7 @@ parts-of {A} f g n last h e =
     ∙ ap₂ (λ (xs ys : List A). xs ++ ys) (flat_map-same f g 0 n (λ x l m. h x (omega arith))) (ap f (zero-add n) ∙ e)
 
 pub plain_rows : PlainRows
-unfolding row_line
+unfolding line_of_row
 plain_rows t r i none h k = parts-of (row_part t r i) (λ x. vertical t r i x ++ cell_line t r x i) t.columns (vertical t r i t.columns) (λ x l. row_part_plain t none r i x h k l) (row_part_plain_end t none r i)
 
 pub plain_separators : PlainSeparators

@@ -17,7 +17,7 @@ use Rattle.pg_config.specs.Offsets.{no_offsets}
 use Rattle.pg_config.specs.Spans.{rect_rows, rect_columns, has_row_spans}
 use Rattle.pg_picture.specs.Marks.{Mark, sep, line}
 use Rattle.pg_picture.specs.Pieces.{Piece, run, words, in_color, repeated, written, pieces_width, style_at, shown, block_line, Item, glyph, spaces, block, separator_text}
-use Rattle.pg_picture.specs.Table.{Table, Hint, Known, Unknown, rect_marks, rect_width, rect_height, block_at, vertical, row_part, row_line, crossing_at, horizontal_items, column_items, separator_part, separator_items, mark_text, body_line, table_body}
+use Rattle.pg_picture.specs.Table.{Table, Hint, Known, Unknown, rect_marks, rect_width, rect_height, block_at, vertical, row_part, line_of_row, crossing_at, horizontal_items, column_items, separator_part, separator_items, mark_text, body_line, table_body}
 use Rattle.pg_picture.specs.Rectangles.{IsOwner}
 use Rattle.pg_picture.specs.CompactLines.{CompactTable, Part, parts_after, compact_lines}
 use Rattle.pg_picture.specs.Fits.{body_height, spans_fit, totals_fit, cell_fits, owner_fits, misfit_of}
@@ -120,11 +120,11 @@ SeparatorsCloseColors = (items : List Item) → ClosesColors (flat_map colors_of
 
 -- what stands in the line of a mark without colours, and its colours
 abbrev pub plain_mark : Table → Mark → Text
-plain_mark t (line r i) = flat_map plain_piece (row_line t r i)
+plain_mark t (line r i) = flat_map plain_piece (line_of_row t r i)
 plain_mark t (sep r) = flat_map plain_item (separator_items t r)
 
 abbrev pub colors_of_mark : Table → Mark → List Color
-colors_of_mark t (line r i) = flat_map colors_of_piece (row_line t r i)
+colors_of_mark t (line r i) = flat_map colors_of_piece (line_of_row t r i)
 colors_of_mark t (sep r) = flat_map colors_of_item (separator_items t r)
 
 -- Each line of the body closes its colours, the margins beside it too.
@@ -266,7 +266,7 @@ RectanglesStandTogether = (t : Table) (p : Position) → 0 < rect_rows t.config.
 abbrev pub PlainRows : Type 0
 PlainRows =
     (t : Table) (r i : ℕ) → t.config.spans ≡ [] → r < t.rows → i < t.height r
-    → row_line t r i ≡ flat_map (λ x. vertical t r i x ++ cell_line t r x i) (range_with_len 0 t.columns) ++ vertical t r i t.columns
+    → line_of_row t r i ≡ flat_map (λ x. vertical t r i x ++ cell_line t r x i) (range_with_len 0 t.columns) ++ vertical t r i t.columns
 
 -- A separator is a crossing and a horizontal for each column, and the last crossing.
 abbrev pub PlainSeparators : Type 0

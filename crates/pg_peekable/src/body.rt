@@ -11,7 +11,7 @@ ghost use Rattle.pg_peekable.specs.Inside.Lines.{HasRow, HasRoom};
 
 use crate::drawing::Drawing;
 use crate::kept::KeptCells;
-use crate::lines::{RowLine, Separator};
+use crate::lines::{LineOfRow, Separator};
 use pg_layout::{Colors, Dimension, PeekableRecords};
 use pg_picture::Drawn;
 use std::alloc::{AllocError, Allocator};
@@ -107,7 +107,7 @@ where
     {
         let height = self.pen().height_of(row);
         for number in 0..height {
-            let line = RowLine {
+            let line = LineOfRow {
                 row,
                 number,
                 of: PhantomData,
@@ -122,14 +122,14 @@ where
         &self,
         buf: &mut String<A>,
         kept: &mut KeptCells<'_, T>,
-        line: &RowLine<T>,
+        line: &LineOfRow<T>,
         index: usize,
     ) -> Result<(), AllocError>
         ensures { Appends buf.old buf.new result (body_text Known T.table T.table.config.margin.top.size index (line_mark line.now.row line.now.number ∷ [])) }
     {
         let pen = self.pen();
         pen.push_line_start(buf, index)?;
-        self.push_row_line(buf, kept, line)?;
+        self.push_line_of_row(buf, kept, line)?;
         pen.push_line_end(buf, index)
     }
 

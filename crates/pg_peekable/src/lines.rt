@@ -8,7 +8,7 @@ use std::marker::PhantomData;
 
 /// A line of a row: the row, and the line's number in it.
 #[derive(Drop)]
-pub(crate) struct RowLine<T: Drawn> {
+pub(crate) struct LineOfRow<T: Drawn> {
     pub(crate) row: usize,
     pub(crate) number: usize,
     pub(crate) of: PhantomData<T>,

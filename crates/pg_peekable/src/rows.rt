@@ -7,14 +7,14 @@ ghost use Rattle.pg_picture.specs.Appending.{Appends};
 ghost use Rattle.pg_picture.specs.Pieces.{written, style_at};
 ghost use Rattle.pg_picture.specs.Plain.{cell_line};
 ghost use Rattle.pg_picture.specs.Inside.Cells.{style_of};
-ghost use Rattle.pg_picture.specs.Table.{row_part, row_line, vertical, line_of_cell};
+ghost use Rattle.pg_picture.specs.Table.{row_part, line_of_row, vertical, line_of_cell};
 ghost use Rattle.pg_peekable.specs.Inside.Kept.{IsReading};
 ghost use Rattle.pg_peekable.specs.Inside.Lines.{IsCellLine};
 ghost use Rattle.std.proofs.Props.{props};
 
 use crate::drawing::Drawing;
 use crate::kept::{KeptCells, Reading};
-use crate::lines::RowLine;
+use crate::lines::LineOfRow;
 use pg_layout::{Colors, Dimension, PeekableRecords, Position};
 use pg_picture::{CellPlace, CellStyle, Drawn, TextFacts, push_block_line_of, push_single_line};
 use std::alloc::{AllocError, Allocator};
@@ -43,13 +43,13 @@ where
     B: Allocator,
 {
     // A line of a row: each column's vertical and cell, and the last vertical.
-    pub(super) fn push_row_line<A: Allocator>(
+    pub(super) fn push_line_of_row<A: Allocator>(
         &self,
         buf: &mut String<A>,
         kept: &mut KeptCells<'_, T>,
-        line: &RowLine<T>,
+        line: &LineOfRow<T>,
     ) -> Result<(), AllocError>
-        ensures { Appends buf.old buf.new result (written (row_line T.table line.now.row line.now.number)) }
+        ensures { Appends buf.old buf.new result (written (line_of_row T.table line.now.row line.now.number)) }
     {
         self.push_parts(buf, kept, line)?;
         self.push_end(buf, line)
@@ -60,7 +60,7 @@ where
         &self,
         buf: &mut String<A>,
         kept: &mut KeptCells<'_, T>,
-        line: &RowLine<T>,
+        line: &LineOfRow<T>,
     ) -> Result<(), AllocError>
         ensures { Appends buf.old buf.new result (written (flat_map (row_part T.table line.now.row line.now.number) (range_with_len 0 T.table.columns))) }
     {
@@ -79,7 +79,7 @@ where
         &self,
         buf: &mut String<A>,
         kept: &mut KeptCells<'_, T>,
-        line: &RowLine<T>,
+        line: &LineOfRow<T>,
         column: usize,
     ) -> Result<(), AllocError>
         requires cell { IsCellLine T.table (at line.now.row column) (T.table.width column) (T.table.height line.now.row) line.now.number }
@@ -96,7 +96,7 @@ where
     fn push_end<A: Allocator>(
         &self,
         buf: &mut String<A>,
-        line: &RowLine<T>,
+        line: &LineOfRow<T>,
     ) -> Result<(), AllocError>
         ensures { Appends buf.old buf.new result (written (row_part T.table line.now.row line.now.number T.table.columns)) }
     {
@@ -108,7 +108,7 @@ where
     pub(super) fn push_vertical<A: Allocator>(
         &self,
         buf: &mut String<A>,
-        line: &RowLine<T>,
+        line: &LineOfRow<T>,
         column: usize,
     ) -> Result<(), AllocError>
         ensures { Appends buf.old buf.new result (written (vertical T.table line.now.row line.now.number column)) }

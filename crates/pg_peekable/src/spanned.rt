@@ -16,7 +16,7 @@ ghost use Rattle.pg_peekable.specs.Inside.Walks.{BeginsHere, BeginsAbove, OwnsRo
 
 use crate::drawing::Drawing;
 use crate::kept::{KeptCells, KeptRectangle};
-use crate::lines::{RowLine, Separator};
+use crate::lines::{LineOfRow, Separator};
 use pg_config::Span;
 use pg_layout::{ANSIBuf, Colors, Dimension, PeekableRecords, Position};
 use pg_picture::fits::{columns_of, height_of_rows, width_of_columns};
@@ -37,7 +37,7 @@ where
         &self,
         buf: &mut String<A>,
         kept: &mut KeptCells<'_, T>,
-        line: &RowLine<T>,
+        line: &LineOfRow<T>,
     ) -> Result<(), AllocError>
         ensures { Appends buf.old buf.new result (written (flat_map (row_part T.table line.now.row line.now.number) (range_with_len 0 T.table.columns))) }
     {
@@ -55,7 +55,7 @@ where
         &self,
         buf: &mut String<A>,
         kept: &mut KeptCells<'_, T>,
-        line: &RowLine<T>,
+        line: &LineOfRow<T>,
         column: usize,
         span: Option<Span>,
     ) -> Result<(), AllocError>
@@ -73,7 +73,7 @@ where
         &self,
         buf: &mut String<A>,
         kept: &mut KeptCells<'_, T>,
-        line: &RowLine<T>,
+        line: &LineOfRow<T>,
         column: usize,
         span: Span,
     ) -> Result<(), AllocError>

@@ -20,7 +20,7 @@ use Rattle.pg_config.specs.Offsets.{lookup_offset}
 use Rattle.pg_config.specs.Spans.{Span, owner}
 use Rattle.pg_picture.specs.Marks.{Mark, sep, line, only_if, place_of}
 use Rattle.pg_picture.specs.Pieces.{Item, spaces, block, fill, style_at, pieces_width, piece_width}
-use Rattle.pg_picture.specs.Table.{Table, Hint, rect_width, rect_height, block_at, is_inside, is_covered, vertical, vertical_at, row_part, row_line, crossing_at, crossing_item, crossing, border_items, horizontal_items, column_items, separator_part, separator_items, total_width, full_width, table_body, rect_marks, is_blank_at, side_margin, margin_line}
+use Rattle.pg_picture.specs.Table.{Table, Hint, rect_width, rect_height, block_at, is_inside, is_covered, vertical, vertical_at, row_part, line_of_row, crossing_at, crossing_item, crossing, border_items, horizontal_items, column_items, separator_part, separator_items, total_width, full_width, table_body, rect_marks, is_blank_at, side_margin, margin_line}
 use Rattle.pg_picture.specs.Fits.{all_apart, span_fits_columns, span_fits, spans_fit, spans_fit_columns, cell_fits, misfit_of}
 use Rattle.pg_picture.specs.Straight.{IsNarrow, CellsFit, HasNarrowGlyphs, HasNoGaps, HasNarrowMargins, HasStraightLines, HasStraightMargins, item_width, mark_width, body_line_width, IsStraight}
 use Rattle.pg_picture.proofs.Rooms.{fits}
@@ -126,11 +126,11 @@ module _ (t : Table) (parts : PartsOf t) where
             ∙ ap₂ (λ (a b : ℕ). a + b) (parts.verticals r k i h (omega (arith, here)) l) (parts.blocks r k (line r i) h here))
       ]
 
-  row_line-width : (r i : ℕ) → r < t.rows → i < t.height r → pieces_width (row_line t r i) ≡ total_width t
-  unfolding row_line pieces_width
-  row_line-width r i h l =
+  line_of_row-width : (r i : ℕ) → r < t.rows → i < t.height r → pieces_width (line_of_row t r i) ≡ total_width t
+  unfolding line_of_row pieces_width
+  line_of_row-width r i h l =
       let part : ℕ → ℕ = λ x. pieces_width (row_part t r i x) in
-      let all : sum_by piece_width (row_line t r i) ≡ sum_by part (range_with_len 0 (t.columns + 1)) = sum_by-flat_map piece_width (row_part t r i) (range_with_len 0 (t.columns + 1)) in
+      let all : sum_by piece_width (line_of_row t r i) ≡ sum_by part (range_with_len 0 (t.columns + 1)) = sum_by-flat_map piece_width (row_part t r i) (range_with_len 0 (t.columns + 1)) in
       let front = all_reached part (column_at t) (ahead t parts.owners r) t.columns refl (λ k here. row_part-step r i k h l here) (ahead-end t parts.owners r (λ some. parts.rects_end r (t.columns - 1) h (omega (arith, some)))) in
       let last : part t.columns ≡ there t t.columns = ap pieces_width (row_part_end t r i) ∙ parts.verticals r t.columns i h (omega arith) l in
       omega (arith, all, front, last, sum_by-from_more part 0 t.columns, ap part (zero-add t.columns), total_width-columns t)
@@ -223,7 +223,7 @@ pub columns_are_straight : (t : Table) → CellsFit t → HasNarrowGlyphs t → 
 unfolding table_body
 columns_are_straight t fit narrow whole =
     let parts = parts_of t fit narrow whole in
-    All-body (λ mark. mark_width t mark ≡ total_width t) t.config t.height t.rows (λ r i h k. row_line-width t parts r i h k) (λ r h drawn. separator_items-width t parts r h drawn)
+    All-body (λ mark. mark_width t mark ≡ total_width t) t.config t.height t.rows (λ r i h k. line_of_row-width t parts r i h k) (λ r h drawn. separator_items-width t parts r h drawn)
 
 -- A table that fits promises straight lines.
 pub is_straight : (t : Table) → misfit_of t ≡ None → IsStraight t

@@ -8,7 +8,7 @@ use Rattle.pg_config.specs.Offsets.{lookup_offset}
 use Rattle.pg_config.specs.Spans.{owner}
 use Rattle.pg_picture.specs.Marks.{Mark, sep, line}
 use Rattle.pg_picture.specs.Pieces.{Piece, pieces_width, Style, style_at, Item, glyph, spaces, block}
-use Rattle.pg_picture.specs.Table.{Table, Hint, row_line, separator_items, side_margin, margin_line, table_body, total_width, full_width}
+use Rattle.pg_picture.specs.Table.{Table, Hint, line_of_row, separator_items, side_margin, margin_line, table_body, total_width, full_width}
 use Rattle.pg_picture.specs.Fits.{spans_fit, owner_fits}
 
 -- a character that takes one column
@@ -31,7 +31,7 @@ item_width (block pieces) = pieces_width pieces
 
 -- the columns of the line of a mark, piece by piece
 abbrev pub mark_width : Table → Mark → ℕ
-mark_width t (line r i) = pieces_width (row_line t r i)
+mark_width t (line r i) = pieces_width (line_of_row t r i)
 mark_width t (sep r) = sum_by item_width (separator_items t r)
 
 -- Spans that stand at places and fit, and room for each shown cell: a rectangle that another one covers in part, or that

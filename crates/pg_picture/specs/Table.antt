@@ -76,8 +76,8 @@ row_part t r i x =
     (if is_inside t r x then [] else vertical t r i x)
     ++ (if nat_lt x t.columns && is_left t.config.spans r x then block_at t (owner t.config.spans r x) (line r i) else [])
 
-unfoldable pub row_line : Table → ℕ → ℕ → List Piece
-row_line t r i = flat_map (row_part t r i) (range_with_len 0 (t.columns + 1))
+unfoldable pub line_of_row : Table → ℕ → ℕ → List Piece
+line_of_row t r i = flat_map (row_part t r i) (range_with_len 0 (t.columns + 1))
 
 -- ---- a separator
 
@@ -166,7 +166,7 @@ side_margin_at None indent offset color i = side_margin Unknown indent offset co
 -- ---- a line of the body
 
 unfoldable pub mark_text : Table → Mark → Text
-mark_text t (line r i) = written (row_line t r i)
+mark_text t (line r i) = written (line_of_row t r i)
 mark_text t (sep r) = separator_text (separator_items t r)
 
 -- the line of a mark between the side margins, as line i of h

@@ -9,7 +9,7 @@ use Rattle.pg_layout.specs.Position.{at, is_at}
 use Rattle.pg_config.specs.Spans.{Span, rect_rows, owner, is_left}
 use Rattle.pg_picture.specs.Marks.{line}
 use Rattle.pg_picture.specs.Sizes.{height_of_rect}
-use Rattle.pg_picture.specs.Table.{Table, rect_marks, rect_height, block_at, row_part, row_line, vertical, is_inside}
+use Rattle.pg_picture.specs.Table.{Table, rect_marks, rect_height, block_at, row_part, line_of_row, vertical, is_inside}
 use Rattle.pg_picture.proofs.Owners.{HasOwners}
 use Rattle.pg_stream.specs.Open.{drawn_before}
 use Rattle.pg_stream.specs.Inside.Slots.{begin_at, separator_height, slot_block, slot_part, slot_line, slot_in_row}
@@ -83,7 +83,7 @@ module _ (t : Table) (owners : HasOwners t.config.spans) (k : ℕ) (below : k < 
         ]
 
     -- the line of a row is the line that is read off the slots
-    pub row_line-slots : row_line t k i ≡ slot_line t (map (slot_in_row t k i) (range_with_len 0 t.columns)) k i
-    unfolding row_line row_part slot_line slot_part
-    row_line-slots =
+    pub line_of_row-slots : line_of_row t k i ≡ slot_line t (map (slot_in_row t k i) (range_with_len 0 t.columns)) k i
+    unfolding line_of_row row_part slot_line slot_part
+    line_of_row-slots =
         ap (λ g. flat_map g (range_with_len 0 (t.columns + 1))) (fun_ext (λ x. ap (λ l. (if is_inside t k x then [] else vertical t k i x) ++ l) (cell_now x)))

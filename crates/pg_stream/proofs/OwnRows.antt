@@ -14,7 +14,7 @@ use Rattle.pg_config.specs.Spans.{Span, has_row_spans, size_of, span_size, rect_
 use Rattle.pg_picture.specs.Marks.{Mark, sep, line, only_if, marks_of_row}
 use Rattle.pg_picture.specs.Pieces.{Item, written, separator_text}
 use Rattle.pg_picture.specs.Sizes.{height_of_rect}
-use Rattle.pg_picture.specs.Table.{Table, Unknown, rect_marks, rect_height, rect_width, block_at, row_part, row_line, is_inside, separator_part, separator_items, column_items, crossing, is_covered, side_margin, mark_text, body_line}
+use Rattle.pg_picture.specs.Table.{Table, Unknown, rect_marks, rect_height, rect_width, block_at, row_part, line_of_row, is_inside, separator_part, separator_items, column_items, crossing, is_covered, side_margin, mark_text, body_line}
 use Rattle.pg_picture.proofs.MarksOfRectangles.{run_of, row_lines, rows_from, marks_within-run}
 use Rattle.pg_picture.proofs.Owners.{Apart, owners_of}
 use Rattle.pg_stream.specs.Open.{drawn_before, open_at_row, open_before}
@@ -88,7 +88,7 @@ module _ (t : Table) (apart : Apart t.config.spans) (alone : has_row_spans t.con
       block-resized x i = rw (marks-resized (owner t.config.spans k x) (owner-row t.config.spans apart alone k x)) refl
 
       pub line-resized : (i : ℕ) → mark_text t (line k i) ≡ mark_text resized (line k i)
-      unfolding mark_text row_line row_part is_inside
+      unfolding mark_text line_of_row row_part is_inside
       line-resized i =
           ap (λ (part : ℕ → List _). written (flat_map part (range_with_len 0 (t.columns + 1))))
           (fun_ext (λ x. rw (same, block-resized x i) refl))

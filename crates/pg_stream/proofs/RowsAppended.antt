@@ -33,7 +33,7 @@ use Rattle.pg_stream.proofs.OpenLists.{drawn-all, all-open, one-open}
 use Rattle.pg_stream.proofs.PartsOfLists.{partly-all, partly-length, partly-below}
 use Rattle.pg_stream.proofs.DrawnLines.{length_of_row}
 use Rattle.pg_stream.proofs.LinesOfCells.{open_line-slots, open_separator-slots}
-use Rattle.pg_stream.proofs.LinesOfSlots.{row_line-slots}
+use Rattle.pg_stream.proofs.LinesOfSlots.{line_of_row-slots}
 use Rattle.pg_stream.proofs.Printers.{Stands, Stands-after}
 use Rattle.pg_stream.proofs.RowTexts.{KnowsHeight, lines-text, above-mark, top-margin}
 use Rattle.pg_stream.proofs.RowsOfTables.{other, owner-reached, row_inside_body}
@@ -135,7 +135,7 @@ module _ (s : Printing) (w : ℕ) (height : Option ℕ) (cells : List (Option Pl
     line-text : (i : ℕ) → i < s.table.height k → mark_text (other t m f) (line k i) ≡ written (open_line t (map (draw_cell i) (cells_now s w height cells slots sound texts)) k i)
     unfolding mark_text
     line-text i l =
-        ap written (row_line-slots (other t m f) (owners s w height cells slots sound) k under ends i l
+        ap written (line_of_row-slots (other t m f) (owners s w height cells slots sound) k under ends i l
         ∙ ap (λ x. slot_line (other t m f) x k i) (sym (slots-of-row t m f k texts (λ x h. told k x s.slots texts) cells all-slots i))
         ∙ sym (open_line-slots t m f (owners s w height cells slots sound) k (map (draw_cell i) (cells_now s w height cells slots sound texts)) (owner-drawn-now s w height cells slots sound texts i) i))
 

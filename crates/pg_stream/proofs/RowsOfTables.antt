@@ -15,13 +15,13 @@ use Rattle.pg_config.specs.Spans.{Span, rect_rows, owner, is_left}
 use Rattle.pg_config.proofs.LinesLaw.{rows_stay}
 use Rattle.pg_picture.specs.Marks.{Mark, sep, line, only_if, marks_of_row, marks_above, body}
 use Rattle.pg_picture.specs.Pieces.{Item, written, separator_text}
-use Rattle.pg_picture.specs.Table.{Table, Hint, Known, Unknown, rect_marks, rect_height, rect_width, block_at, row_part, row_line, is_inside, vertical, separator_part, separator_items, column_items, crossing_at, crossing, is_covered, border_glyph, horizontal_items, is_blank_at, side_margin, mark_text, body_line, table_body, margin_lines, full_width, total_width}
+use Rattle.pg_picture.specs.Table.{Table, Hint, Known, Unknown, rect_marks, rect_height, rect_width, block_at, row_part, line_of_row, is_inside, vertical, separator_part, separator_items, column_items, crossing_at, crossing, is_covered, border_glyph, horizontal_items, is_blank_at, side_margin, mark_text, body_line, table_body, margin_lines, full_width, total_width}
 use Rattle.pg_picture.specs.Picture.{top_lines, body_lines}
 use Rattle.pg_picture.proofs.MarksOfRectangles.{rows_from, marks_above-add, marks_within-rows}
 use Rattle.pg_picture.proofs.OwnersOfPlaces.{Among}
 use Rattle.pg_picture.proofs.Owners.{Apart, owner_cases}
 use Rattle.pg_stream.specs.Printing.{row_end, rows_reached, lines_at}
-use Rattle.pg_stream.proofs.TextsOfRows.{SameTexts, row_line-told, separator_items-told}
+use Rattle.pg_stream.proofs.TextsOfRows.{SameTexts, line_of_row-told, separator_items-told}
 
 -- ---- where rectangles end
 
@@ -80,8 +80,8 @@ module _ (t : Table) (n : ℕ) where
       ]
 
   row_line_same : (r i : ℕ) → ((c : ℕ) → c < t.columns → Ends t.config t.rows (owner t.config.spans r c) × Ends t.config n (owner t.config.spans r c))
-      → row_line t r i ≡ row_line longer r i
-  unfolding row_line row_part is_inside
+      → line_of_row t r i ≡ line_of_row longer r i
+  unfolding line_of_row row_part is_inside
   row_line_same r i h =
       ap (λ f. flat_map f (range_with_len 0 (t.columns + 1))) (fun_ext (λ x. ap (λ l. (if is_inside t r x then [] else vertical t r i x) ++ l) (cell_same r x (line r i) h)))
 
@@ -180,7 +180,7 @@ module _ (t : Table) (m : ℕ) (f : Position → Text) (k : ℕ) (below : k < t.
 
   row_same : (i : ℕ) → mark_text t (line k i) ≡ mark_text (other t m f) (line k i)
   unfolding mark_text SameTexts
-  row_same i = ap written (row_line_same t m k i ends ∙ row_line-told (record t { rows = m }) f k i texts)
+  row_same i = ap written (row_line_same t m k i ends ∙ line_of_row-told (record t { rows = m }) f k i texts)
 
   lines_all : (xs : List ℕ) → AllSame t (other t m f) (map (line k) xs)
   lines_all [] = tt

@@ -11,7 +11,7 @@ use Rattle.pg_config.specs.Config.{get_horizontal}
 use Rattle.pg_config.specs.Spans.{owner, is_left}
 use Rattle.pg_picture.specs.Marks.{Mark, sep, line, only_if}
 use Rattle.pg_picture.specs.Pieces.{Item, block}
-use Rattle.pg_picture.specs.Table.{Table, rect_marks, rect_height, rect_width, block_at, row_part, row_line, is_inside, vertical, separator_part, separator_items, column_items, crossing, is_covered, horizontal_items}
+use Rattle.pg_picture.specs.Table.{Table, rect_marks, rect_height, rect_width, block_at, row_part, line_of_row, is_inside, vertical, separator_part, separator_items, column_items, crossing, is_covered, horizontal_items}
 
 -- the texts of the cells that row r draws agree
 unfoldable pub SameTexts : Table → (Position → Text) → ℕ → Type 0
@@ -36,9 +36,9 @@ module _ (t : Table) (f : Position → Text) where
         | inr e ↦ rw e refl
       ]
 
-  pub row_line-told : (r i : ℕ) → SameTexts t f r → row_line t r i ≡ row_line retold r i
-  unfolding row_line row_part is_inside
-  row_line-told r i h =
+  pub line_of_row-told : (r i : ℕ) → SameTexts t f r → line_of_row t r i ≡ line_of_row retold r i
+  unfolding line_of_row row_part is_inside
+  line_of_row-told r i h =
       ap (λ g. flat_map g (range_with_len 0 (t.columns + 1))) (fun_ext (λ x. ap (λ l. (if is_inside t r x then [] else vertical t r i x) ++ l) (cell_told r x (line r i) h)))
 
   own_told : (r x : ℕ) → SameTexts t f r → x < t.columns

@@ -66,12 +66,12 @@ where
         ensures { Appends buf.old buf.new result (line_at T.table.config self.now.table.pen.sheet.now.height index (written (open_line T.table self.now.opened.now row line))) }
     {
         self.table.pen.push_line_start(buf, index)?;
-        self.push_row_line(buf, row, line)?;
+        self.push_line_of_row(buf, row, line)?;
         self.table.pen.push_line_end(buf, index)
     }
 
     // A line of a row.
-    fn push_row_line<W: Allocator>(
+    fn push_line_of_row<W: Allocator>(
         &self,
         buf: &mut String<W>,
         row: usize,

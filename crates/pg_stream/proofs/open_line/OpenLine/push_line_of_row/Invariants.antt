@@ -3,7 +3,7 @@ use Rattle.std.specs.List.{range_with_len}
 use Rattle.pg_picture.specs.Pieces.{written}
 use Rattle.pg_picture.proofs.Appending.{Gained}
 use Rattle.pg_stream.specs.Inside.Drawing.{open_part}
-use Rattle.pg_stream.proofs.open_line.OpenLine.push_row_line.Given as goal
+use Rattle.pg_stream.proofs.open_line.OpenLine.push_line_of_row.Given as goal
 
 abbrev pub invariant-loop-column : goal.invariant-loop-column
 invariant-loop-column g l =

@@ -6,7 +6,7 @@ use Rattle.pg_picture.proofs.Appending.{Gained-none, Gained-text, Gained-more, g
 use Rattle.pg_picture.proofs.PiecesOfLines.{written-nil}
 use Rattle.pg_stream.specs.Inside.Drawing.{open_part}
 use Rattle.pg_stream.proofs.PartsOfLines.{written-columns, line-cut, line-end}
-use Rattle.pg_stream.proofs.open_line.OpenLine.push_row_line.Goals as goal
+use Rattle.pg_stream.proofs.open_line.OpenLine.push_line_of_row.Goals as goal
 
 pub loop-column-init : goal.loop-column-init
 loop-column-init g c = Gained-text (sym written-nil) (Gained-none c.args.buf.now)
