@@ -9,7 +9,7 @@ use pg_told::ToldFault;
 use std::alloc::{AllocError, Global};
 
 /// What getters answer, as words that are parted by spaces.
-#[derive(Debug, Drop)]
+#[derive(Drop)]
 pub(crate) struct Answer {
     text: String,
 }

@@ -5,18 +5,17 @@ use crate::case::Case;
 use pg_testing::refusing::Refusing;
 use pg_told::lines::read_lines;
 use pg_told::report::Report;
-use std::alloc::{AllocError, Global};
+use std::alloc::Global;
 use std::io::{self, Read, Write};
 
 // Follows all these lines.
-fn follow(alloc: Global, lines: &[Line], report: &mut Report) -> Result<(), AllocError> {
+fn follow(alloc: Global, lines: &[Line], report: &mut Report) {
     let memory = Refusing::only(alloc, u64::MAX);
     let mut case = Case::new(alloc, &memory);
     for (number, line) in lines {
         let followed = case.follow(*number, line, report);
-        report.take(*number, line, followed)?;
+        report.take(*number, line, followed);
     }
-    Ok(())
 }
 
 /// Follows all lines of the input, and writes what is answered otherwise than told, and how much was
@@ -29,6 +28,6 @@ pub(crate) fn run<R: Read + Drop, W: Write>(
     let lines = read_lines(alloc, input)?;
     let lines = unfold(alloc, &lines)?;
     let mut report = Report::new(alloc);
-    follow(alloc, &lines, &mut report)?;
+    follow(alloc, &lines, &mut report);
     report.write(out, ("sections", "answered"))
 }

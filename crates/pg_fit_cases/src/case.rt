@@ -92,7 +92,8 @@ impl<'a> Case<'a> {
         let (breaking, width) = rest.split_once(' ').ok_or(Fault::Unknown)?;
         let least = least_width(self.text, breaking_told(breaking)?);
         let place = (number, self.section);
-        Ok(report.compare(place, "least_width", least, number_told(width)?)?)
+        report.compare(place, "least_width", least, number_told(width)?);
+        Ok(())
     }
 
     /// Makes the call that was told last.
@@ -104,9 +105,10 @@ impl<'a> Case<'a> {
         let place = (number, self.section);
         report.count_case();
         let made = call.made(self.alloc, self.text)?;
-        report.compare(place, call.name(), made.as_str(), told.as_str())?;
+        report.compare(place, call.name(), made.as_str(), told.as_str());
         let slip = call.untold_refusal(self.alloc, self.text);
-        Ok(report.compare(place, call.name(), slip, None)?)
+        report.compare(place, call.name(), slip, None);
+        Ok(())
     }
 }
 

@@ -39,15 +39,15 @@ fn all_written_out(alloc: Global, lines: &[String]) -> Result<Vec<String>, Alloc
 }
 
 // Makes all calls that these lines tell.
-fn follow(alloc: Global, lines: &[String], report: &mut Report) -> Result<(), AllocError> {
+fn follow(alloc: Global, lines: &[String], report: &mut Report) {
     let mut case = Case::new(alloc);
     for (i, line) in lines.iter().enumerate() {
         let number = i.saturating_add(1);
         let followed = case.follow(number, line, report);
-        report.take(number, line, followed)?;
+        report.take(number, line, followed);
     }
     let finished = case.finish(report);
-    report.take(lines.len(), "", finished)
+    report.take(lines.len(), "", finished);
 }
 
 /// Makes all calls of the input, and writes what is otherwise than told, and how much was compared.
@@ -59,6 +59,6 @@ pub(crate) fn run<R: Read + Drop, W: Write>(
 ) -> io::Result<bool> {
     let lines = all_written_out(alloc, &read_lines(alloc, input)?)?;
     let mut report = Report::new(alloc);
-    follow(alloc, &lines, &mut report)?;
+    follow(alloc, &lines, &mut report);
     report.write(out, ("texts", "fitted"))
 }

@@ -25,7 +25,7 @@ impl Case<'_> {
         for granted in 1..GRANTED {
             let bytes = self.draw_beginning(drawn, endless, granted, report)?;
             let goes_on = bytes > longest || granted < needed;
-            report.compare(self.place(), drawn.print_call(), goes_on, true)?;
+            report.compare(self.place(), drawn.print_call(), goes_on, true);
             longest = bytes;
         }
         let memory = Refusing::from_on(self.alloc, GRANTED);
@@ -38,7 +38,8 @@ impl Case<'_> {
             drawn.text_call(),
             refused,
             Err(Refusal::Memory),
-        )
+        );
+        Ok(())
     }
 
     // Begins such a table where so many requests for memory are granted, and all behind them refused: the
@@ -55,12 +56,12 @@ impl Case<'_> {
         let memory = Refusing::from_on(self.alloc, granted);
         let mut buf = String::from_str(&memory, OLD)?;
         let printed = self.print(&memory, drawn, &mut buf);
-        report.compare(self.place(), call, printed, Err(Refusal::Memory))?;
+        report.compare(self.place(), call, printed, Err(Refusal::Memory));
         let requests = granted.saturating_add(1);
-        report.compare(self.place(), call, memory.requests(), requests)?;
+        report.compare(self.place(), call, memory.requests(), requests);
         let front = self.front_of(endless, buf.len())?;
         let is_begun = buf.len() >= OLD.len() && front.starts_with(buf.as_str());
-        report.compare(self.place(), call, is_begun, true)?;
+        report.compare(self.place(), call, is_begun, true);
         Ok(buf.len())
     }
 

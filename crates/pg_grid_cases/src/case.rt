@@ -96,12 +96,12 @@ impl<'a> Case<'a> {
         match Line::of(line) {
             Line::Comment => {}
             Line::Section(section) => {
-                self.draw(report)?;
+                self.draw(report);
                 self.begin(number, section);
             }
             _ if self.section.is_empty() => return Err(Fault::Unknown),
             Line::Way => {
-                self.draw(report)?;
+                self.draw(report);
                 self.begin_way(number);
             }
             Line::Row(row) if self.table.is_none() => {

@@ -15,14 +15,11 @@ pub(crate) const OLD: &str = "log:";
 
 impl<'a> Case<'a> {
     /// Draws the table as it was told. Before the first section there is none.
-    pub(crate) fn draw(&mut self, report: &mut Report) -> Result<(), AllocError> {
-        if self.section.is_empty() {
-            return Ok(());
-        }
-        report.count_case();
-        match self.draw_by_all(report) {
-            Ok(()) => Ok(()),
-            Err(fault) => report.refuse(self.line, self.section, fault),
+    pub(crate) fn draw(&mut self, report: &mut Report) {
+        if !self.section.is_empty() {
+            report.count_case();
+            let drawn = self.draw_by_all(report);
+            report.take(self.line, self.section, drawn);
         }
     }
 
@@ -31,10 +28,11 @@ impl<'a> Case<'a> {
         match VecRecords::new(self.copied_rows()?) {
             Err(fault) => {
                 let made = Refusal::from(TableFault::from(fault));
-                report.compare(self.place(), "VecRecords::new", Some(made), self.refusal)?;
+                report.compare(self.place(), "VecRecords::new", Some(made), self.refusal);
                 let made = Table::new(self.alloc, self.copied_rows()?).err();
                 let made = made.map(Refusal::from);
-                Ok(report.compare(self.place(), "Table::new", made, self.refusal)?)
+                report.compare(self.place(), "Table::new", made, self.refusal);
+                Ok(())
             }
             Ok(records) => match self.natural {
                 Some(_) => self.draw_naturally(&records, report),
@@ -91,7 +89,8 @@ impl<'a> Case<'a> {
             _ => return Err(Fault::Untold),
         }
         self.list_sizes(drawn, report)?;
-        Ok(self.look_within(drawn, report)?)
+        self.look_within(drawn, report);
+        Ok(())
     }
 
     /// The number of the line and the name of the section that lines on faults tell.
@@ -109,15 +108,15 @@ impl<'a> Case<'a> {
     ) -> Result<(), AllocError> {
         let place = self.place();
         if let Some(fits) = self.fits(drawn) {
-            report.compare(place, drawn.fits_call(), fits, Ok(()))?;
+            report.compare(place, drawn.fits_call(), fits, Ok(()));
         }
         let mut buf = String::from_str(self.alloc, OLD)?;
         let printed = self.print(self.alloc, drawn, &mut buf);
-        report.compare(place, drawn.print_call(), printed, Ok(()))?;
+        report.compare(place, drawn.print_call(), printed, Ok(()));
         let gained = buf.as_str().strip_prefix(OLD);
-        report.compare(place, drawn.print_call(), gained, Some(picture))?;
+        report.compare(place, drawn.print_call(), gained, Some(picture));
         let given = self.text(self.alloc, drawn).ok();
-        report.compare(place, drawn.text_call(), given.as_deref(), Some(picture))?;
+        report.compare(place, drawn.text_call(), given.as_deref(), Some(picture));
         self.draw_refused(drawn, picture, report)
     }
 }

@@ -6,7 +6,7 @@ use pg_told::ToldFault;
 use std::alloc::{AllocError, AllocFailed};
 
 /// Why a line or a way to draw a table isn't followed.
-#[derive(Debug, Clone, Copy, PartialEq, Eq)]
+#[derive(Debug, Clone, Copy)]
 pub(crate) enum Fault {
     /// The line isn't understood.
     Unknown,

@@ -6,7 +6,7 @@ use crate::fault::Fault;
 pub(crate) const SPANNED: [Grid; 3] = [Grid::Peekable, Grid::Hinted, Grid::Unhinted];
 
 /// A grid that draws a table.
-#[derive(Debug, Clone, Copy)]
+#[derive(Clone, Copy)]
 pub(crate) enum Grid {
     /// The looked-up grid.
     Peekable,

@@ -18,7 +18,7 @@ const FEW: usize = 100;
 const SHORT: usize = 200;
 
 /// A call whose requests for memory are refused in turn.
-#[derive(Debug, Clone, Copy)]
+#[derive(Clone, Copy)]
 enum Call {
     /// It prints behind the old text of a buffer, whose request is the first one.
     Print,
@@ -27,7 +27,7 @@ enum Call {
 }
 
 /// How a call ends.
-#[derive(Debug, Clone, Copy, PartialEq, Eq)]
+#[derive(Clone, Copy, PartialEq, Eq)]
 enum Outcome {
     /// No request was refused, and the picture is whole.
     Whole,
@@ -74,10 +74,11 @@ impl Case<'_> {
         };
         let place = self.place();
         if self.rows.len() <= FEW {
-            report.compare(place, drawn.print_call(), tried.slip_of(Call::Print)?, None)?;
-            report.compare(place, drawn.text_call(), tried.slip_of(Call::Text)?, None)?;
+            report.compare(place, drawn.print_call(), tried.slip_of(Call::Print)?, None);
+            report.compare(place, drawn.text_call(), tried.slip_of(Call::Text)?, None);
         }
-        report.compare(place, drawn.print_call(), tried.slip_of_rooms()?, None)
+        report.compare(place, drawn.print_call(), tried.slip_of_rooms()?, None);
+        Ok(())
     }
 }
 

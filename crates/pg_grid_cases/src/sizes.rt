@@ -33,9 +33,10 @@ impl Case<'_> {
             return Ok(());
         };
         let text = sizes_text(self.alloc, &listed)?;
-        report.compare(self.place(), "natural_dimension", text.as_str(), sizes)?;
+        report.compare(self.place(), "natural_dimension", text.as_str(), sizes);
         let slip = self.slip_of_sizes(drawn);
-        report.compare(self.place(), "natural_dimension", slip, None)
+        report.compare(self.place(), "natural_dimension", slip, None);
+        Ok(())
     }
 
     // How many lists of natural sizes there are that aren't empty.

@@ -8,7 +8,7 @@ use pg_layout::{ColorsMap, ConstantDimension, VecRecords};
 use pg_table::{Breaking, FittedTable, NaturalTable, Overflow, TableFault};
 use pg_testing::refusing::Refusing;
 use pg_told::report::Report;
-use std::alloc::{AllocError, Allocator, Global};
+use std::alloc::{Allocator, Global};
 
 /// What stands for no limit.
 const ANY: &str = "any";
@@ -144,24 +144,19 @@ impl<'a> Case<'a> {
 
     /// Asks for the least width of a line, where it is told, and where nothing changes for the table
     /// while all memory is refused.
-    pub(crate) fn look_within(
-        &self,
-        drawn: Drawn<'_>,
-        report: &mut Report,
-    ) -> Result<(), AllocError> {
+    pub(crate) fn look_within(&self, drawn: Drawn<'_>, report: &mut Report) {
         let Some(within) = self.within else {
-            return Ok(());
+            return;
         };
         if let Some(told) = self.least {
             let least = self.least_width(self.alloc, drawn, within).ok();
-            report.compare(self.place(), "least_width", least, told)?;
+            report.compare(self.place(), "least_width", least, told);
         }
         if self.is_unchanged {
             let memory = Refusing::from_on(self.alloc, 0);
             let refused = self.fitted(&memory, drawn, within).err();
-            report.compare(self.place(), "within", refused, None)?;
+            report.compare(self.place(), "within", refused, None);
         }
-        Ok(())
     }
 
     /// Takes what a line says of a table within a width: `within`, `limits`, `least` or `unchanged`.

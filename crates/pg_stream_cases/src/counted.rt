@@ -134,6 +134,7 @@ pub(crate) fn check_counted(alloc: Global, report: &mut Report) -> Result<(), Fa
     };
     let is_drawn = is_drawn(alloc, counted, &config, &dimension)?;
     let place = (0, "cells that are counted");
-    report.compare(place, "build", is_drawn, false)?;
-    Ok(report.compare(place, "build", asked.get(), 1)?)
+    report.compare(place, "build", is_drawn, false);
+    report.compare(place, "build", asked.get(), 1);
+    Ok(())
 }

@@ -30,7 +30,8 @@ impl Case<'_> {
         };
         report.count_case();
         if last.call != Call::Finish && last.call != Call::Close {
-            return Ok(report.refuse(self.line, self.section, Fault::Unended)?);
+            report.refuse(self.line, self.section, Fault::Unended);
+            return Ok(());
         }
         for way in &self.ways {
             if self.hints.is_empty() {
@@ -57,9 +58,9 @@ impl Case<'_> {
             way.name(),
             self.slip(way, hint, &memory, u64::MAX)?,
             None,
-        )?;
+        );
         if self.is_refused {
-            report.compare(place, way.name(), self.slip_refused(way, hint)?, None)?;
+            report.compare(place, way.name(), self.slip_refused(way, hint)?, None);
         }
         Ok(())
     }
@@ -107,17 +108,17 @@ impl Case<'_> {
 }
 
 // Prints all that these lines tell.
-fn follow(alloc: Global, lines: &[String], report: &mut Report) -> Result<(), AllocError> {
+fn follow(alloc: Global, lines: &[String], report: &mut Report) {
     let mut case = Case::new(alloc);
     for (i, line) in lines.iter().enumerate() {
         let number = i.saturating_add(1);
         let followed = case.follow(number, line, report);
-        report.take(number, line, followed)?;
+        report.take(number, line, followed);
     }
     let ended = case.print(report);
-    report.take(lines.len(), "the end", ended)?;
+    report.take(lines.len(), "the end", ended);
     let checked = check_others(alloc, report);
-    report.take(0, "what no section tells", checked)
+    report.take(0, "what no section tells", checked);
 }
 
 // Checks what no section can tell.
@@ -137,6 +138,6 @@ pub(crate) fn run<R: Read + Drop, W: Write>(
 ) -> io::Result<bool> {
     let lines = read_lines(alloc, input)?;
     let mut report = Report::new(alloc);
-    follow(alloc, &lines, &mut report)?;
+    follow(alloc, &lines, &mut report);
     report.write(out, ("tables", "printed"))
 }

@@ -52,17 +52,18 @@ pub(crate) fn check_taken(alloc: Global, report: &mut Report) -> Result<(), Faul
     let memory = Refusing::only(alloc, u64::MAX);
     let mut buf = String::new(&memory);
     let taken = print_narrow_row(alloc, &mut buf)?;
-    report.compare(place, "all", taken, Some((0, true)))?;
-    report.compare(place, "all", buf.as_str(), "ababab")?;
+    report.compare(place, "all", taken, Some((0, true)));
+    report.compare(place, "all", buf.as_str(), "ababab");
     let memory = Refusing::only(alloc, 0);
     let mut buf = String::new(&memory);
     let taken = print_narrow_row(alloc, &mut buf)?;
-    report.compare(place, "refused", memory.has_refused(), true)?;
+    report.compare(place, "refused", memory.has_refused(), true);
     report.compare(
         place,
         "refused",
         matches!(taken, Some((2 | 3, false))),
         true,
-    )?;
-    Ok(report.compare(place, "refused", "ababab".starts_with(buf.as_str()), true)?)
+    );
+    report.compare(place, "refused", "ababab".starts_with(buf.as_str()), true);
+    Ok(())
 }

@@ -1,6 +1,6 @@
 //! What is counted, and what is told of answers that are otherwise than was worked out.
 
-use std::alloc::{AllocError, Global};
+use std::alloc::Global;
 use std::fmt::Debug;
 use std::io::{self, Write};
 
@@ -34,48 +34,39 @@ impl Report {
 
     /// Compares an answer to this call, of the case at this line in this section, with the one that was
     /// worked out.
+    ///
+    /// A fault is counted also where its line finds no memory, and is told in part. So is that of a line
+    /// that isn't followed.
     pub fn compare<T: PartialEq + Debug>(
         &mut self,
         (line, section): (usize, &str),
         call: &str,
         answer: T,
         expected: T,
-    ) -> Result<(), AllocError>
+    )
     where
         T: Drop,
     {
         self.answers = self.answers.saturating_add(1);
-        if answer == expected {
-            return Ok(());
+        if answer != expected {
+            self.faults = self.faults.saturating_add(1);
+            let _ = writeln!(
+                self.lines,
+                "line {line}, {section}: {call}: {answer:?} in place of {expected:?}"
+            );
         }
-        self.faults = self.faults.saturating_add(1);
-        writeln!(
-            self.lines,
-            "line {line}, {section}: {call}: {answer:?} in place of {expected:?}"
-        )
     }
 
     /// Tells of a line, or of a case that is told at it, which isn't followed.
-    pub fn refuse<F: Debug + Drop>(
-        &mut self,
-        line: usize,
-        text: &str,
-        fault: F,
-    ) -> Result<(), AllocError> {
+    pub fn refuse<F: Debug + Drop>(&mut self, line: usize, text: &str, fault: F) {
         self.faults = self.faults.saturating_add(1);
-        writeln!(self.lines, "line {line}, {text}: {fault:?}")
+        let _ = writeln!(self.lines, "line {line}, {text}: {fault:?}");
     }
 
     /// Tells of a line, or of a case that is told at it, if it wasn't followed.
-    pub fn take<F: Debug + Drop>(
-        &mut self,
-        line: usize,
-        text: &str,
-        followed: Result<(), F>,
-    ) -> Result<(), AllocError> {
-        match followed {
-            Ok(()) => Ok(()),
-            Err(fault) => self.refuse(line, text, fault),
+    pub fn take<F: Debug + Drop>(&mut self, line: usize, text: &str, followed: Result<(), F>) {
+        if let Err(fault) = followed {
+            self.refuse(line, text, fault);
         }
     }
 
