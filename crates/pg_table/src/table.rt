@@ -33,11 +33,23 @@ mod title;
 /// let table = Table::new(alloc, rows)?.with_borders(Borders::rounded());
 /// table.print(alloc, &mut buf)?;
 /// ```
-#[derive(Debug, Drop)]
+#[derive(Debug)]
 pub struct Table<T, A: Allocator = Global> {
     records: VecRecords<T, A>,
     config: SpannedConfig<A>,
     colors: ColorsMap<A>,
+}
+
+// Written out, so that a caller's proof has one call where it lets a table go, at each `?` behind `new`.
+impl<T: Drop, A: Allocator> Drop for Table<T, A> {
+    fn drop(self) {
+        let Table {
+            records,
+            config,
+            colors,
+        } = self;
+        drop((records, config, colors));
+    }
 }
 
 impl<T, A: Allocator> Model for Table<T, A> {
