@@ -1,7 +1,9 @@
 //! The glyphs of a table's borders, or their colours.
 
-ghost use Rattle.std.specs.Prelude.{◌≡◌, Bool, Option, Some, None, ◌&&◌, is_none};
+ghost use Rattle.std.specs.Prelude.{◌≡◌, Bool, Option, Some, None, ◌&&◌, is_none, MatchResult};
 ghost use Rattle.pg_layout.specs.Borders.{no_borders, no_border, top_line, cell_line, inner_line, bottom_line, of_lines, has_top, has_bottom, has_left, has_right, has_inner_horizontal, has_inner_vertical};
+
+use std::alloc::AllocError;
 
 /// One optional value for each kind of place on a table's border lines.
 ///
@@ -12,7 +14,7 @@ ghost use Rattle.pg_layout.specs.Borders.{no_borders, no_border, top_line, cell_
 /// left         (cell)     vertical             (cell)     right
 /// bottom_left  bottom     bottom_intersection  bottom     bottom_right
 /// ```
-#[derive(Debug, Clone, Copy, PartialEq, Eq)]
+#[derive(Debug, PartialEq, Eq)]
 pub struct Borders<T> {
     pub top: Option<T>,
     pub top_left: Option<T>,
@@ -29,6 +31,43 @@ pub struct Borders<T> {
     pub left: Option<T>,
     pub right: Option<T>,
     pub vertical: Option<T>,
+}
+
+// By their lines: a derived clone lets go, at each of fifteen `?`, of all values that were cloned before it.
+impl<T: Clone> Clone for Borders<T> {
+    ghost is_clone = { λ b clone. ⟦<HorizontalLine<T> as Clone>⟧.is_clone (top_line b) (top_line clone) × ⟦<HorizontalLine<T> as Clone>⟧.is_clone (cell_line b) (cell_line clone) × ⟦<HorizontalLine<T> as Clone>⟧.is_clone (inner_line b) (inner_line clone) × ⟦<HorizontalLine<T> as Clone>⟧.is_clone (bottom_line b) (bottom_line clone) };
+
+    ghost is_infallible = { λ b. ⟦<HorizontalLine<T> as Clone>⟧.is_infallible (top_line b) × ⟦<HorizontalLine<T> as Clone>⟧.is_infallible (cell_line b) × ⟦<HorizontalLine<T> as Clone>⟧.is_infallible (inner_line b) × ⟦<HorizontalLine<T> as Clone>⟧.is_infallible (bottom_line b) };
+
+    fn clone(&self) -> Result<Borders<T>, AllocError> {
+        let b = self;
+        let top = clone_line(&b.top, &b.top_intersection, &b.top_left, &b.top_right)?;
+        let cells = clone_line(&None, &b.vertical, &b.left, &b.right)?;
+        let (left, right) = (&b.left_intersection, &b.right_intersection);
+        let inner = clone_line(&b.horizontal, &b.intersection, left, right)?;
+        let (left, right) = (&b.bottom_left, &b.bottom_right);
+        let bottom = clone_line(&b.bottom, &b.bottom_intersection, left, right)?;
+        Ok(Borders::of_lines(top, cells, inner, bottom))
+    }
+}
+
+impl<T: Copy> Copy for Borders<T> {}
+
+// A line of clones of these values.
+fn clone_line<T: Clone>(
+    main: &Option<T>,
+    intersection: &Option<T>,
+    left: &Option<T>,
+    right: &Option<T>,
+) -> Result<HorizontalLine<T>, AllocError>
+    ensures { MatchResult result (⟦<HorizontalLine<T> as Clone>⟧.is_clone (record { main = main.now; intersection = intersection.now; left = left.now; right = right.now })) (λ _. ¬ (⟦<HorizontalLine<T> as Clone>⟧.is_infallible (record { main = main.now; intersection = intersection.now; left = left.now; right = right.now }))) }
+{
+    Ok(HorizontalLine {
+        main: main.clone()?,
+        intersection: intersection.clone()?,
+        left: left.clone()?,
+        right: right.clone()?,
+    })
 }
 
 #[tactic(auto, unfolding(crate::specs::Borders::has_top, crate::specs::Borders::has_bottom, crate::specs::Borders::has_left, crate::specs::Borders::has_right, crate::specs::Borders::has_inner_horizontal, crate::specs::Borders::has_inner_vertical))]
