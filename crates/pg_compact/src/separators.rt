@@ -12,7 +12,6 @@ use pg_layout::{ANSIStr, Borders, Colors, Dimension, HorizontalLine};
 use pg_picture::{CompactRun, SeparatorKeeper, push_compact_indent, push_text};
 use std::alloc::{AllocError, Allocator};
 
-// The glyphs of the line above the first row, or their colours.
 pub(super) fn top_line<T: Copy>(borders: &Borders<T>) -> HorizontalLine<T>
     ensures { result ≡ top_line borders.now }
 {
@@ -24,7 +23,6 @@ pub(super) fn top_line<T: Copy>(borders: &Borders<T>) -> HorizontalLine<T>
     )
 }
 
-// The glyphs of the line below the last row, or their colours.
 pub(super) fn bottom_line<T: Copy>(borders: &Borders<T>) -> HorizontalLine<T>
     ensures { result ≡ bottom_line borders.now }
 {
@@ -36,7 +34,6 @@ pub(super) fn bottom_line<T: Copy>(borders: &Borders<T>) -> HorizontalLine<T>
     )
 }
 
-// The glyphs of the line between two rows, or their colours; it ends with those of a row's sides.
 fn inner_line<T: Copy>(borders: &Borders<T>) -> HorizontalLine<T>
     ensures { result ≡ inner_line borders.now }
 {

@@ -92,7 +92,6 @@ fn mark_span<A: Allocator + Clone>(
     mark_line(marks, Side::Right, right, place.row, down)
 }
 
-// How many lines lie inside so many from a first one on, and inside a table of `lines`.
 fn count_inside(first: usize, count: usize, lines: usize) -> usize
     ensures { result ≡ count_inside first count lines }
 {
@@ -100,7 +99,6 @@ fn count_inside(first: usize, count: usize, lines: usize) -> usize
     end.saturating_sub(first).saturating_sub(1)
 }
 
-// The line behind so many rows or columns from a first one on, where a table of `lines` has it.
 fn line_behind(first: usize, count: usize, lines: usize) -> Option<usize>
     ensures { result ≡ line_behind first count lines }
 {
@@ -128,7 +126,6 @@ fn mark_line<A: Allocator + Clone>(
     Ok(())
 }
 
-// The crossing of line `i` with the line on which a side lies.
 fn on_line(side: Side, line: usize, i: usize) -> Position
     ensures { result ≡ on_line side line i }
 {
@@ -179,7 +176,6 @@ pub(crate) fn glyphs_of<A: Allocator + Copy>(
     Ok(glyphs)
 }
 
-// The glyph of a crossing on these sides of merged cells, where both of its lines are there.
 fn edge_glyph<A: Allocator>(
     config: &SpannedConfig<A>,
     borders: &Borders<char>,
@@ -198,7 +194,6 @@ fn edge_glyph<A: Allocator>(
     }
 }
 
-// The glyph where these lines meet, three or two of one direction.
 fn meeting(borders: &Borders<char>, size: (usize, usize), pos: Position, arms: Arms) -> Option<char>
     ensures { result ≡ meeting borders.now size.0 size.1 pos arms }
 {

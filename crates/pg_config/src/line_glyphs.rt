@@ -36,7 +36,6 @@ fn place_over<A: Allocator, D: Dimension>(
     line_place(config, columns, dimension, k)
 }
 
-// What column `k` of a row line is, counted from the first glyph of column 0.
 fn line_place<A: Allocator, D: Dimension>(
     config: &SpannedConfig<A>,
     columns: usize,

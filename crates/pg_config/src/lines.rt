@@ -115,7 +115,6 @@ impl<G: Drop, A: Allocator + Clone> Lines<G, A> {
     }
 }
 
-// What the border of a cell has for places on lines that there are.
 fn on_lines<G: Drop>(pos: Position, border: Border<G>) -> Border<G>
     ensures { result ≡ on_lines pos border }
 {
@@ -129,7 +128,6 @@ fn on_lines<G: Drop>(pos: Position, border: Border<G>) -> Border<G>
     }
 }
 
-// What a border has for a place on the line behind this one: nothing, where this is the last line.
 fn behind<G: Drop>(line: usize, part: Option<G>) -> Option<G>
     ensures { result ≡ behind line part }
 {

@@ -182,7 +182,6 @@ impl<A: Allocator + Clone> Overrides<char, A> {
     }
 }
 
-// Whether a glyph of a line of so many columns has a place there.
 fn has_glyph(columns: usize, line: HorizontalLine<char>) -> bool
     ensures { result ≡ has_glyph columns line }
 {

@@ -76,7 +76,6 @@ impl<V, A: Allocator> Settings<V, A> {
         self.base
     }
 
-    // Whether nothing was set but for all places.
     #[inline(always)]
     pub(crate) fn is_for_all(&self) -> bool
         ensures { result ≡ is_for_all self.now }
@@ -176,7 +175,6 @@ fn set_next<K: Key, V: Drop, A: Allocator + Clone>(
     Ok(())
 }
 
-// The later of two settings.
 fn latest<'a, V>(a: Option<&'a (usize, V)>, b: Option<&'a (usize, V)>) -> Option<&'a (usize, V)>
     ensures { option_map (λ x. x.now) result ≡ latest (option_map (λ x. x.now) a.entry) (option_map (λ x. x.now) b.entry) }
 {
@@ -187,7 +185,6 @@ fn latest<'a, V>(a: Option<&'a (usize, V)>, b: Option<&'a (usize, V)>) -> Option
     }
 }
 
-// The value of the setting, else the base.
 fn value_or<'a, V>(base: &'a Option<V>, setting: Option<&'a (usize, V)>) -> Option<&'a V>
     ensures { option_map (λ x. x.now) result ≡ value_or base.now (option_map (λ x. x.now) setting.entry) }
 {

@@ -244,7 +244,6 @@ impl<A: Allocator> Spans<A> {
         0 < pos.row && self.is_covered_from_left(pos, 0, pos.row - 1)
     }
 
-    // Whether a rectangle that begins in one of these rows, left of the place, covers it.
     fn is_covered_from_left(&self, pos: Position, first: usize, last: usize) -> bool
         requires { first ≤ last }
         ensures { result ≡ is_covered_from_left self.now pos first last }
@@ -264,7 +263,6 @@ impl<A: Allocator> Spans<A> {
         false
     }
 
-    // The same of those that begin in one column.
     fn is_covered_from(&self, pos: Position, column: usize, first: usize, last: usize) -> bool
         requires { first ≤ last }
         ensures { result ≡ is_covered_from self.now pos column first last }
@@ -290,7 +288,6 @@ impl<A: Allocator> Spans<A> {
     }
 }
 
-// The rectangle, if it holds the place and has its left column there.
 fn if_left(pos: Position, span: Span) -> Option<Span>
     ensures { result ≡ if_left pos.row pos.col (Some span) }
 {

@@ -14,7 +14,6 @@ fn is_control(c: char) -> bool
     c != '\n' && (c < ' ' || ('\u{7f}'..='\u{9f}').contains(&c))
 }
 
-// What stands for a character.
 fn sign_of(c: char) -> char
     ensures { result ≡ sign_of c }
 {

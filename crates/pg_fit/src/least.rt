@@ -9,7 +9,6 @@ use crate::wrapping::Breaking;
 use pg_layout::{get_line_width, get_lines};
 use unicode_segmentation::UnicodeSegmentation;
 
-// The width of the widest character of a text.
 fn widest_character(text: &str) -> usize
     ensures { result ≡ widest_character text.now }
 {
@@ -36,7 +35,6 @@ fn widest_in_words(line: &str) -> usize
     width
 }
 
-// The least width at which the lines of a line can be so wide.
 fn least_line_width(line: &str, breaking: Breaking) -> usize
     ensures { result ≡ least_line_width breaking line.now }
 {

@@ -45,7 +45,6 @@ impl ColumnRange {
     }
 }
 
-// The widest natural width.
 fn widest(columns: &[ColumnRange]) -> usize
     ensures { result ≡ widest columns.now }
 {

@@ -73,7 +73,6 @@ impl<R: PeekableRecords + ExactRecords, A: Allocator> OverlaidRecords<R, A> {
         (self.records.count_rows(), self.records.count_columns())
     }
 
-    // The other text at a place in the table, or that of the records.
     fn other_text(&self, pos: Position) -> &str
         requires row { pos.row < length (R.texts self.now.records) }
         requires column { pos.col < R.columns self.now.records }
@@ -85,7 +84,6 @@ impl<R: PeekableRecords + ExactRecords, A: Allocator> OverlaidRecords<R, A> {
         }
     }
 
-    // The text at a place in the table.
     fn text_at(&self, pos: Position) -> &str
         requires row { pos.row < length (overlaid R.texts R.columns self.now) }
         requires column { pos.col < R.columns self.now.records }

@@ -40,7 +40,6 @@ impl<S: AsStr, A: Allocator> AsStr for Fitted<S, A> {
     }
 }
 
-// Whether a text is one line that takes at most so many columns.
 fn is_fitting(text: &str, width: usize) -> bool
     ensures { result ≡ is_fitting width text.now }
 {

@@ -233,7 +233,6 @@ impl Color {
     }
 }
 
-// The text where the test is true, else an empty one.
 fn when(test: bool, text: &str) -> &str
     ensures { result.now ≡ when test text.now }
 {

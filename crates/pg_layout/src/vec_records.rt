@@ -235,7 +235,6 @@ impl<T: Drop, A: Allocator> VecRecords<T, A> {
 }
 
 impl<T: AsStr, A: Allocator> VecRecords<T, A> {
-    // The text at a place in the table.
     fn text_at(&self, pos: Position) -> &str
         requires row { pos.row < length (map (λ row. map T.text row) self.now) }
         requires column { pos.col < columns_of self.now }

@@ -297,7 +297,6 @@ fn terminal_color<A: Allocator + Copy>(alloc: A, code: usize) -> Result<ANSIBuf<
     ANSIBuf::new(alloc, prefix.as_str(), "\u{1b}[0m")
 }
 
-// Sides of these sizes with one fill.
 fn indents(sizes: Sides<usize>, fill: char) -> Sides<Indent>
     ensures { result ≡ indents sizes fill }
 {
@@ -341,7 +340,6 @@ fn vertical_named(word: &str) -> Option<AlignmentVertical>
     }
 }
 
-// Whether the sides of lines are trimmed, and whether blank lines are.
 fn trims_named(word: &str) -> Option<(bool, bool)>
     ensures { result ≡ trims_named word.now }
 {

@@ -127,7 +127,6 @@ pub(crate) fn char_of(word: &str) -> Option<char>
     }
 }
 
-// What a character behind a backslash stands for.
 fn meant(c: char) -> Option<char>
     ensures { result ≡ meant c }
 {

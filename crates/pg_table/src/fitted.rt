@@ -238,7 +238,6 @@ where
         }
     }
 
-    // Whether a table with cells keeps a span.
     fn keeps_spans(&self) -> bool
         ensures { result ≡ keeps_spans self.now.config.now (overlaid R.texts R.columns self.now.records) (R.columns self.now.records.records) }
     {

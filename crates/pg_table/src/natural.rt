@@ -235,7 +235,6 @@ where
         NaturalSizes::new(self.records, self.config)
     }
 
-    // Whether there are no cells.
     pub(crate) fn is_empty(&self) -> bool
         ensures { result ≡ is_empty (drawn_of R.texts R.columns C.color (natural_parts self.now)) }
     {

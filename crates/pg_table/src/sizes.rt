@@ -175,7 +175,6 @@ impl<'a, R: PeekableRecords + ExactRecords, B: Allocator> NaturalSizes<'a, R, B>
         self.all_fit(Axis::Columns) && self.all_fit(Axis::Rows)
     }
 
-    // Whether all sizes of columns, or of rows, are at most `usize::MAX`.
     fn all_fit(&self, axis: Axis) -> bool
         ensures { result ≡ all_fit (sizes_of R.texts R.columns self.now axis) }
     {

@@ -27,7 +27,6 @@ use pg_layout::{ConstantDimension, ExactRecords, PeekableRecords, Position};
 use pg_picture::fits::rect_width;
 use std::alloc::{AllocError, Allocator};
 
-// Whether columns of these widths are within limits, and together within what a total leaves to them.
 fn are_within<B: Allocator>(
     config: &SpannedConfig<B>,
     total: usize,
@@ -68,7 +67,6 @@ fn ranges_of<A: Allocator>(
 }
 
 impl<'a, R: PeekableRecords + ExactRecords, B: Allocator> NaturalSizes<'a, R, B> {
-    // Whether the cell of a place has no span.
     fn is_single(&self, pos: Position) -> bool
         requires { spans_fit self.now.config.now.spans (length (R.texts self.now.records)) (R.columns self.now.records) ≡ true }
         ensures { result ≡ is_single self.now.config.now.spans pos }

@@ -214,7 +214,6 @@ impl<A: Allocator> SpannedConfig<A> {
         found
     }
 
-    // The missing glyph, where there is a line.
     #[inline(always)]
     fn missing_if(&self, there: bool) -> Option<char>
         ensures { result ≡ missing_if self.now there }
@@ -294,7 +293,6 @@ impl<A: Allocator> SpannedConfig<A> {
     }
 }
 
-// The value of a horizontal in row line `row` of a table of `rows` rows.
 #[tactic(auto, unfolding(pg_layout::specs::Borders::horizontal_glyph))]
 pub(crate) fn horizontal_glyph<G>(borders: &Borders<G>, row: usize, rows: usize) -> Option<&G>
     ensures { option_map (λ x. x.now) result ≡ horizontal_glyph borders.now row rows }
@@ -308,7 +306,6 @@ pub(crate) fn horizontal_glyph<G>(borders: &Borders<G>, row: usize, rows: usize)
     }
 }
 
-// The value of a vertical in column line `column` of a table of `columns` columns.
 #[tactic(auto, unfolding(pg_layout::specs::Borders::vertical_glyph))]
 #[inline(always)]
 pub(crate) fn vertical_glyph<G>(borders: &Borders<G>, column: usize, columns: usize) -> Option<&G>
@@ -323,7 +320,6 @@ pub(crate) fn vertical_glyph<G>(borders: &Borders<G>, column: usize, columns: us
     }
 }
 
-// The value of a crossing in a table of so many rows and columns.
 #[tactic(auto, unfolding(pg_layout::specs::Borders::crossing_glyph))]
 fn crossing_glyph<G>(borders: &Borders<G>, pos: Position, rows: usize, columns: usize) -> Option<&G>
     ensures { option_map (λ x. x.now) result ≡ crossing_glyph borders.now pos.row pos.col rows columns }

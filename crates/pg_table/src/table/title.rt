@@ -91,7 +91,6 @@ impl<T: AsStr + Drop, A: Allocator + Copy> Table<T, A> {
     }
 }
 
-// What stands for a character of a title.
 fn title_glyph(c: char) -> char
     ensures { result ≡ title_glyph c }
 {
@@ -123,7 +122,6 @@ fn title_room<A: Allocator>(config: &SpannedConfig<A>, columns: usize, widths: &
     room
 }
 
-// How many of these columns stand left of a title of so many characters.
 fn title_start<A: Allocator>(
     config: &SpannedConfig<A>,
     columns: usize,
