@@ -26,11 +26,13 @@ pub struct SpanSize {
 }
 
 /// A cell with a span: its place, and the size of its rectangle.
+// An entry of `Places` as it stands there: a struct of both would need the words of lists once more.
 pub type Span = (ColumnPlace, SpanSize);
 
 /// The rectangles of the cells with a span, in the order of their columns and then rows.
 #[derive(Debug, Drop)]
 pub struct Spans<A: Allocator = Global> {
+    // Column by column, so that one search finds the rectangle whose left column is at a place.
     sizes: Places<ColumnPlace, SpanSize, A>,
     // It has their places, and in their left columns all rows that they cover.
     extent: Extent,

@@ -13,6 +13,7 @@ use std::marker::Model;
 /// Values by key, at most one for each key, in the order of the keys.
 #[derive(Debug, Drop)]
 pub struct Places<K: Key, V, A: Allocator = Global> {
+    // A tree: in a list each value that is told out of order would move those behind it.
     entries: BTreeMap<K, V, A>,
 }
 

@@ -37,6 +37,7 @@ mod title;
 pub struct Table<T, A: Allocator = Global> {
     records: VecRecords<T, A>,
     config: SpannedConfig<A>,
+    // No type of the caller's: that would be one type more for all who name a table.
     colors: ColorsMap<A>,
 }
 
