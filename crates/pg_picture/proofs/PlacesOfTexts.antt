@@ -1,5 +1,5 @@
 -- The place of a text in its cell: shares that leave room, the lines that are shown, and the lines of the block.
-use Rattle.std.proofs.Common.{◌≡◌, ℕ, zero, suc, ◌+◌, ◌-◌, ◌<◌, ◌≤◌, ◌==◌, ◌&&◌, not, Bool, true, false, cond, nat_lt, List, [], ◌∷◌, ◌++◌, length, map, drop, get_or, slice_index_or, Option, Some, None, IfSome, unwrap_or, refl, sym, ap, ◌∙◌, arith, zero-add, append_assoc, if◌then◌else◌}
+use Rattle.std.proofs.Common.{◌≡◌, ℕ, zero, suc, ◌+◌, ◌-◌, ◌<◌, ◌≤◌, ◌==◌, ◌&&◌, not, Bool, true, false, cond, nat_lt, List, [], ◌∷◌, ◌++◌, length, map, drop, get_or, slice_index_or, Option, Some, None, IfSome, unwrap_or, refl, sym, ap, ap₂, ◌∙◌, arith, zero-add, append_assoc, if◌then◌else◌}
 use Rattle.std.proofs.lemmas.Bool.{and_parts}
 use Rattle.std.proofs.lemmas.Bool.Decides.{nat_tests}
 use Rattle.std.proofs.lemmas.List.{length-map, get_or-map, get_or-take, get_or-drop}
@@ -12,7 +12,7 @@ use Rattle.pg_layout.specs.declared.alignment.AlignmentVertical.TheVariants as d
 use Rattle.pg_layout.specs.Colors.{Color}
 use Rattle.pg_layout.specs.Text.{Text, lines_of, width_of, greatest, is_blank, blank_top, blank_bottom, without_blank_ends}
 use Rattle.pg_picture.specs.Pieces.{Style, Piece, words, fill, written, in_color, shares, lines_above, inner_width, trimmed_if, kept_lines, shown, widest, left_share, line_with, text_line, text_height, text_top, block_line}
-use Rattle.pg_picture.specs.Inside.Cells.{facts_of, shared_left, place_of, text_line_at, share_of, line_if, shown_line, placed_line, line_parts, shows_texts_whole}
+use Rattle.pg_picture.specs.Inside.Cells.{facts_of, shared_left, place_of, text_line_at, share_of, line_if, shown_line, placed_line, line_parts, shows_texts_whole, has_plain_sides, is_simple}
 use Rattle.pg_picture.specs.Fits.{cell_fits}
 use Rattle.pg_picture.specs.declared.facts.TextFacts.{TextFacts}
 use Rattle.pg_picture.specs.declared.place.CellPlace.{CellPlace}
@@ -210,6 +210,10 @@ whole-parts style whole =
     let trims = and_parts (not style.formatting.horizontal_trim) (not style.formatting.vertical_trim) both.0 in
     (grind arith, grind arith, grind (arith, nat_tests))
 
+-- a simple style shows texts whole, between plain sides
+pub simple-parts : (style : Style) → is_simple style ≡ true → (shows_texts_whole style ≡ true) × (has_plain_sides style ≡ true)
+simple-parts style simple = and_parts (shows_texts_whole style) (has_plain_sides style) simple
+
 left_share-own : (style : Style) (text : Text) (w : ℕ) → widest style.formatting text ≡ width_of text → left_share style text w (width_of text) ≡ share_of style None w (width_of text)
 unfolding left_share
 left_share-own style text w one = elim style.formatting.allow_lines_alignment as (λ b. (shares style.across (if b then width_of text else widest style.formatting text) (inner_width style w)).0 ≡ (shares style.across (width_of text) (inner_width style w)).0) [ true ↦ refl | false ↦ ap (λ n. (shares style.across n (inner_width style w)).0) one ]
@@ -233,6 +237,15 @@ unfolding inner_width
 room-of-whole style text w v whole one known room =
     let parts = whole-parts style whole in
     omega (arith, widest-single style.formatting text parts.0 parts.1 one, left_share-le style.across v (w - (style.padding.left.size + style.padding.right.size)))
+
+-- the same of a cell of the table's style, in its colour, where the shares were computed
+pub single-measured : (style own : Style) (color told : Option Color) (text : Text) (w inner share v : ℕ) → style ≡ own → color ≡ told → shows_texts_whole style ≡ true → lines_of text ≡ text ∷ []
+    → inner ≡ inner_width style w → v ≡ width_of text → share ≡ share_of style None w v
+    → line_parts style color share (inner - share - v) text ≡ written (block_line own told text w 1 0)
+single-measured style own color told text w inner share v is colored whole one room known shared =
+    line_parts-measured style color None w inner share v text room known shared
+    ∙ ap written (single-whole style color text w whole one)
+    ∙ ap₂ (λ (s : Style) (k : Option Color). written (block_line s k text w 1 0)) is colored
 
 -- ---- the lines of the block
 

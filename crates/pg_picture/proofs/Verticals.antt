@@ -1,5 +1,5 @@
 -- The glyph of a vertical, where there is one and where there is none.
-use Rattle.std.proofs.Common.{◌≡◌, ℕ, Bool, false, List, [], ◌∷◌, Option, Some, None, is_some, refl, sym, if◌then◌else◌}
+use Rattle.std.proofs.Common.{◌≡◌, ℕ, Bool, true, false, List, [], ◌∷◌, Option, Some, None, is_some, refl, sym, if◌then◌else◌}
 use Rattle.std.proofs.lemmas.Bool.{or_parts, false≢true}
 use Rattle.std.specs.Prelude.{unwrap_or}
 use Rattle.std.specs.Option.{option_or}
@@ -7,10 +7,12 @@ use Rattle.pg_layout.specs.declared.position.Position.{Position}
 use Rattle.std.specs.Borrow.{Bor}
 use Rattle.pg_layout.specs.Colors.{Color, lent_color}
 use Rattle.pg_config.specs.Settings.{has_some}
-use Rattle.pg_config.specs.Config.{Config, has_offset_chars, get_vertical, get_vertical_color}
+use Rattle.pg_config.specs.Config.{Config, has_column_lines, has_offset_chars, get_vertical, get_vertical_color}
 use Rattle.pg_config.specs.Offsets.{Offsets, has_offsets, lookup_offset}
 use Rattle.pg_picture.specs.Pieces.{fill, glyph_piece, written}
 use Rattle.pg_picture.specs.Table.{vertical_at}
+use Rattle.pg_picture.specs.Inside.Verticals.{verticals_of}
+use Rattle.pg_picture.specs.declared.sheet.VerticalKind.TheVariants.{Absent, Whole, ByLine}
 use Rattle.pg_picture.proofs.PiecesOfLines.{written-nil}
 
 -- of two lent colours the first one that is there
@@ -59,3 +61,23 @@ module _ (config : Config) (columns h : ℕ) (p : Position) (i : ℕ) where
       let colors : has_offsets config.vertical_colors ≡ false = (or_parts _ _ parts.1).1 in
       rw (lookup-none config.vertical_chars chars p i h, lookup-none config.vertical_colors colors p i h)
       (border-alone (get_vertical config p columns) (get_vertical_color config p columns))
+
+-- ---- what the kind of a table's verticals tells
+
+absent-if : (lined offset : Bool) → (if lined then (if offset then ByLine else Whole) else Absent) ≡ Absent → lined ≡ false
+absent-if false offset is = refl
+absent-if true true is = cc
+absent-if true false is = cc
+
+whole-if : (lined offset : Bool) → (if lined then (if offset then ByLine else Whole) else Absent) ≡ Whole → offset ≡ false
+whole-if lined false is = refl
+whole-if true true is = cc
+whole-if false true is = cc
+
+pub no_column_lines : (config : Config) → verticals_of config ≡ Absent → has_column_lines config ≡ false
+unfolding verticals_of
+no_column_lines config is = absent-if (has_column_lines config) (has_offset_chars config) is
+
+pub no_offset_chars : (config : Config) → verticals_of config ≡ Whole → has_offset_chars config ≡ false
+unfolding verticals_of
+no_offset_chars config is = whole-if (has_column_lines config) (has_offset_chars config) is

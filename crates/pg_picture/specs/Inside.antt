@@ -8,3 +8,4 @@ pub mod Following
 pub mod Walks
 pub mod RowLines
 pub mod Sheets
+pub mod Verticals

@@ -1,14 +1,13 @@
 //! The lines of a cell: its text lines, and the fills above and below them.
 
 ghost use Rattle.std.specs.Prelude.{◌≡◌, ◌+◌, ◌<◌, ◌≤◌, ◌++◌, [], ℕ, length, IfSome, IsSome, None, slice_index_or, true};
-ghost use Rattle.std.specs.List.{list_all};
 ghost use Rattle.pg_layout.specs.Colors.{lent_color};
-ghost use Rattle.pg_layout.specs.Text.{lines_of, width_of, is_plain_byte};
+ghost use Rattle.pg_layout.specs.Text.{lines_of, width_of};
 ghost use Rattle.pg_picture.specs.Appending.{Appends};
 ghost use Rattle.pg_picture.specs.Pieces.{written, fill, repeated, widest, trimmed_if, inner_width, line_with, block_line};
-ghost use Rattle.pg_picture.specs.Inside.Cells.{style_of, facts_of, place_of, share_of, line_if, line_parts, placed_line, shows_texts_whole};
+ghost use Rattle.pg_picture.specs.Inside.Cells.{style_of, facts_of, place_of, share_of, line_if, line_parts, placed_line, shows_texts_whole, has_plain_sides};
 
-use crate::facts::{TextFacts, single_line_width, trim_if};
+use crate::facts::trim_if;
 use crate::fill::push_repeated;
 use crate::piece::{push_fill, push_words};
 use crate::place::CellPlace;
@@ -53,7 +52,7 @@ pub fn push_text_line<C: ANSIFmt, B: Allocator, A: Allocator>(
 // The same where the line's width is known.
 #[inline(always)]
 #[tactic(auto, unfolding(crate::specs::Pieces::inner_width))]
-fn push_line_of_width<C: ANSIFmt, B: Allocator, A: Allocator>(
+pub(crate) fn push_line_of_width<C: ANSIFmt, B: Allocator, A: Allocator>(
     buf: &mut String<A>,
     style: &CellStyle<'_, B>,
     color: Option<&C>,
@@ -74,7 +73,7 @@ fn push_line_of_width<C: ANSIFmt, B: Allocator, A: Allocator>(
 // How many columns stand left of a line.
 #[inline(always)]
 #[tactic(auto, unfolding(crate::specs::Pieces::inner_width))]
-fn columns_left<B: Allocator>(
+pub(crate) fn columns_left<B: Allocator>(
     style: &CellStyle<'_, B>,
     left: Option<usize>,
     line_width: usize,
@@ -107,6 +106,26 @@ fn push_parts<C: ANSIFmt, B: Allocator, A: Allocator>(
     push_left_side(buf, style, share)?;
     push_words(buf, line, color)?;
     push_right_side(buf, style, rest)
+}
+
+// The same where the sides are of one character without colours, which isn't asked of each side then.
+#[inline(always)]
+pub(crate) fn push_plain_parts<C: ANSIFmt, B: Allocator, A: Allocator>(
+    buf: &mut String<A>,
+    style: &CellStyle<'_, B>,
+    color: Option<&C>,
+    line: &str,
+    share: usize,
+    rest: usize,
+) -> Result<(), AllocError>
+    requires plain { has_plain_sides (style_of style.now) ≡ true }
+    requires left { style.now.padding.left.size + share ≤ usize.MAX }
+    requires right { rest + style.now.padding.right.size ≤ usize.MAX }
+    ensures { Appends buf.old buf.new result (line_parts (style_of style.now) (lent_color C.color_of color.entry) share rest line.now) }
+{
+    push_columns(buf, style.justification, style.padding.left.size + share)?;
+    push_words(buf, line, color)?;
+    push_columns(buf, style.justification, rest + style.padding.right.size)
 }
 
 // What stands left of a line.
@@ -271,39 +290,9 @@ fn line_if(text: &str, line: Option<usize>) -> &str
 
 // Whether line 0 of a cell is line 0 of its text, as it is.
 #[inline(always)]
-fn shows_texts_whole<A: Allocator>(style: &CellStyle<'_, A>) -> bool
+pub(crate) fn shows_texts_whole<A: Allocator>(style: &CellStyle<'_, A>) -> bool
     ensures { result ≡ shows_texts_whole (style_of style.now) }
 {
     let formatting = style.formatting;
     !formatting.horizontal_trim && !formatting.vertical_trim && style.padding.top.size == 0
-}
-
-/// Appends the one line of a cell of so many columns and height 1. A text that is told to be plain
-/// isn't read for it: it is ASCII without line feeds, which [`pg_layout::is_plain`] tells.
-///
-/// The cell has room for the side paddings and the widest line, and for the top padding:
-/// [`crate::fits::cell_fits`] of height 1 tells it. An error comes only where the buffer's room is
-/// too small; the buffer then holds a beginning.
-#[inline(always)]
-pub fn push_single_line<C: ANSIFmt, B: Allocator, A: Allocator>(
-    buf: &mut String<A>,
-    style: &CellStyle<'_, B>,
-    color: Option<&C>,
-    text: &str,
-    is_plain: bool,
-    width: usize,
-) -> Result<(), AllocError>
-    requires width { style.now.padding.left.size + style.now.padding.right.size + widest style.now.formatting text.now ≤ width }
-    requires height { style.now.padding.top.size ≤ 1 }
-    requires plain { is_plain ≡ true → list_all is_plain_byte text.now ≡ true }
-    ensures { Appends buf.old buf.new result (written (block_line (style_of style.now) (lent_color C.color_of color.entry) text.now width 1 0)) }
-{
-    if shows_texts_whole(style) {
-        if let Some(line_width) = single_line_width(text, is_plain) {
-            return push_line_of_width(buf, style, color, text, line_width, None, width);
-        }
-    }
-    let facts = TextFacts::of_text(text, style.formatting);
-    let place = CellPlace::of(facts, style, width, 1);
-    push_block_line(buf, style, color, text, place, width, 1, 0)
 }

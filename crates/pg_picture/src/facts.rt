@@ -1,17 +1,39 @@
-//! What is known of a text before it is placed: its blank lines, its shown lines and its width.
+//! What is known of a text before it is placed: its kind, its blank lines, its shown lines and its width.
 
-ghost use Rattle.std.specs.Prelude.{◌≡◌, ◌==◌, ◌&&◌, ◌+◌, ◌<◌, ◌∷◌, [], IfSome, length, map, not, true};
+ghost use Rattle.std.specs.Prelude.{◌≡◌, ◌↔◌, ◌==◌, ◌&&◌, ◌+◌, ◌<◌, ◌∷◌, [], IfSome, length, map, not};
 ghost use Rattle.std.specs.List.{list_all};
 ghost use Rattle.pg_layout.specs.Text.{lines_of, width_of, greatest, is_blank, is_plain_byte};
 ghost use Rattle.pg_layout.specs.Records.{text_at};
 ghost use Rattle.pg_picture.specs.Pieces.{trimmed_if};
-ghost use Rattle.pg_picture.specs.Inside.Cells.{with_line, empty_lines_of, facts_of};
+ghost use Rattle.pg_picture.specs.Inside.Cells.{IsOfKind, with_line, empty_lines_of, facts_of};
 
 use pg_layout::{
     Formatting, PeekableRecords, Position, get_line_width, get_lines, get_text_width, is_blank,
     is_plain, trim_line,
 };
 use unicode_width::UnicodeWidthStr;
+
+/// What is known of a text without its being read again.
+#[derive(Debug, Clone, Copy, PartialEq, Eq)]
+pub enum TextKind {
+    /// It is ASCII without line feeds, as [`pg_layout::is_plain`] tells.
+    Plain,
+    /// It may be any text.
+    Any,
+}
+
+impl TextKind {
+    /// What is known of both of two texts.
+    #[inline(always)]
+    pub fn and(self, other: TextKind) -> TextKind
+        ensures { (result ≡ TextKind.Plain) ↔ (self ≡ TextKind.Plain) × (other ≡ TextKind.Plain) }
+    {
+        match self {
+            TextKind::Plain => other,
+            TextKind::Any => TextKind::Any,
+        }
+    }
+}
 
 /// How many of the lines read so far are blank at the front, are blank at the end, and stand
 /// between.
@@ -100,12 +122,12 @@ fn line_facts(line: &str, formatting: Formatting) -> (bool, usize)
 /// How many terminal columns a text takes that is one line; nothing where it has more lines. A text
 /// that is known to be plain isn't read.
 #[inline(always)]
-pub(crate) fn single_line_width(text: &str, is_known: bool) -> Option<usize>
-    requires { is_known ≡ true → list_all is_plain_byte text.now ≡ true }
+pub(crate) fn single_line_width(text: &str, kind: TextKind) -> Option<usize>
+    requires { IsOfKind kind text.now }
     ensures one { IfSome result (λ _. lines_of text.now ≡ text.now ∷ []) }
     ensures width { IfSome result (λ width. width ≡ width_of text.now) }
 {
-    if is_plain_text(text, is_known) {
+    if is_plain_text(text, kind) {
         return Some(text.len());
     }
     if has_no_feed(text.as_bytes()) {
@@ -116,11 +138,14 @@ pub(crate) fn single_line_width(text: &str, is_known: bool) -> Option<usize>
 
 // Whether a text is plain, which may be known.
 #[inline(always)]
-fn is_plain_text(text: &str, is_known: bool) -> bool
-    requires { is_known ≡ true → list_all is_plain_byte text.now ≡ true }
+fn is_plain_text(text: &str, kind: TextKind) -> bool
+    requires { IsOfKind kind text.now }
     ensures { result ≡ list_all is_plain_byte text.now }
 {
-    is_known || is_plain(text.as_bytes())
+    match kind {
+        TextKind::Plain => true,
+        TextKind::Any => is_plain(text.as_bytes()),
+    }
 }
 
 // Whether no byte is a line feed.
@@ -165,7 +190,7 @@ impl TextFacts {
             ..
         } = formatting;
         if !horizontal_trim && !vertical_trim {
-            if let Some(widest) = single_line_width(text, false) {
+            if let Some(widest) = single_line_width(text, TextKind::Any) {
                 return TextFacts {
                     shown: 1,
                     skip: 0,

@@ -12,7 +12,7 @@ mod totals;
 
 pub use crate::fits::compact::{compact_fits, compact_full_width};
 pub use crate::fits::rectangle::{height_of_rows, rect_height, rect_width, width_of_columns};
-pub use crate::fits::room::{cell_fits, plainness_in_style};
+pub use crate::fits::room::{cell_fits, kind_if_fits};
 pub use crate::fits::spans::{begins_above, columns_of, spans_fit, spans_fit_columns};
 pub use crate::fits::table::table_fits;
 pub use crate::fits::totals::{body_height, full_width, totals_fit};

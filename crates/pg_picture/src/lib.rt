@@ -20,15 +20,16 @@ mod separator_keeper;
 mod share;
 mod sheet;
 pub mod shown;
+mod single_cell;
 mod table_margins;
 mod vertical;
 mod whole_fault;
 
-pub use crate::cell::{push_block_line_of, push_single_line, push_text_line};
+pub use crate::cell::{push_block_line_of, push_text_line};
 pub use crate::compact_cell::{push_border_glyph, push_compact_cell, push_compact_indent};
 pub use crate::compact_margin::push_compact_margin;
 pub use crate::compact_run::CompactRun;
-pub use crate::facts::{TextFacts, count_empty_lines, text_width};
+pub use crate::facts::{TextFacts, TextKind, count_empty_lines, text_width};
 pub use crate::fault::PrintFault;
 pub use crate::fill::{push_char, push_text};
 pub use crate::margin::{push_feed, push_margin_lines, push_side_margin};
@@ -38,7 +39,8 @@ pub use crate::place::CellPlace;
 pub use crate::run::Run;
 pub use crate::separator_keeper::{SEPARATOR_ROOM, SeparatorKeeper};
 pub use crate::share::{calculate_indent, indent_from_top};
-pub use crate::sheet::Sheet;
+pub use crate::sheet::{Sheet, VerticalKind};
+pub use crate::single_cell::SingleCell;
 pub use crate::table_margins::{
     push_bottom_margin, push_left_margin, push_right_margin, push_top_margin,
 };

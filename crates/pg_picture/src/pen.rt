@@ -15,7 +15,7 @@ ghost use Rattle.std.proofs.Props.{props};
 
 use crate::margin::push_feed;
 use crate::run::Run;
-use crate::sheet::Sheet;
+use crate::sheet::{Sheet, VerticalKind};
 use crate::table_margins::{
     push_bottom_margin, push_left_margin, push_right_margin, push_top_margin,
 };
@@ -199,26 +199,19 @@ where
     ) -> Result<(), AllocError>
         ensures { Appends buf.old buf.new result (written (vertical T.table pos.row line pos.col)) }
     {
-        if !self.sheet.draws_verticals {
-            return Ok(());
+        let sheet = self.sheet;
+        match sheet.verticals {
+            VerticalKind::Absent => Ok(()),
+            VerticalKind::Whole => {
+                let glyph = sheet.config.get_vertical(pos, sheet.columns);
+                let color = sheet.config.get_vertical_color(pos, sheet.columns);
+                push_vertical(buf, glyph, color)
+            }
+            VerticalKind::ByLine => {
+                let height = sheet.dimension.get_height(pos.row);
+                push_vertical_at(buf, sheet.config, sheet.columns, height, pos, line)
+            }
         }
-        if !self.sheet.has_single_glyphs {
-            let glyph = self.sheet.config.get_vertical(pos, self.sheet.columns);
-            let color = self
-                .sheet
-                .config
-                .get_vertical_color(pos, self.sheet.columns);
-            return push_vertical(buf, glyph, color);
-        }
-        let height = self.sheet.dimension.get_height(pos.row);
-        push_vertical_at(
-            buf,
-            self.sheet.config,
-            self.sheet.columns,
-            height,
-            pos,
-            line,
-        )
     }
 
     /// Appends the crossing at a place of a separator of a table of so many rows.

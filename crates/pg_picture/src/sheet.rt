@@ -1,13 +1,26 @@
 //! What a table is drawn by, whatever its cells come from.
 
-ghost use Rattle.std.specs.Prelude.{◌≡◌, ◌||◌, ◌==◌, nat_lt};
+ghost use Rattle.std.specs.Prelude.{◌≡◌, ◌&&◌, ◌||◌, ◌==◌, nat_lt};
 ghost use Rattle.std.specs.Option.{ForSome};
-ghost use Rattle.pg_config.specs.Config.{has_column_lines, has_offset_chars};
+ghost use Rattle.pg_picture.specs.Inside.Cells.{are_simple, has_plain_sides};
 ghost use Rattle.pg_picture.specs.Inside.RowLines.{may_have_row_lines};
+ghost use Rattle.pg_picture.specs.Inside.Verticals.{verticals_of};
 ghost use Rattle.pg_config.specs.Cells.{IsStyleOfAll, style_of};
 
+use crate::cell::shows_texts_whole;
 use pg_config::{CellStyle, SpannedConfig};
 use std::alloc::{Allocator, Global};
+
+/// What verticals a table has.
+#[derive(Debug, Clone, Copy, PartialEq, Eq)]
+pub enum VerticalKind {
+    /// None has a glyph.
+    Absent,
+    /// Each has one glyph and one colour on all lines of its row.
+    Whole,
+    /// A glyph or a colour was set for some of these lines.
+    ByLine,
+}
 
 /// What a table is drawn by: its configuration, its sizes and its colours, and what of these is the same
 /// for all of its lines.
@@ -26,12 +39,12 @@ pub struct Sheet<'a, D, C, B: Allocator = Global> {
     /// The style that all cells have, where no setting is for some of them.
     pub all: Option<CellStyle<'a, B>>,
     ghost is_of_all: { ForSome all (λ style. IsStyleOfAll config.now (style_of style)) },
-    /// Whether some column line is there: else no vertical has a glyph.
-    pub draws_verticals: bool,
-    ghost is_lined: { draws_verticals ≡ has_column_lines config.now },
-    /// Whether a glyph or a colour was set for a part of a line.
-    pub has_single_glyphs: bool,
-    ghost is_single: { has_single_glyphs ≡ has_offset_chars config.now },
+    /// Whether all cells have a style that is simple to draw: a text of one line stands as it is between
+    /// columns of one character without colours.
+    pub is_simple: bool,
+    ghost is_of_simple: { is_simple ≡ are_simple all },
+    pub verticals: VerticalKind,
+    ghost is_lined: { verticals ≡ verticals_of config.now },
     /// Whether some row line may be there: else there is no separator.
     pub draws_separators: bool,
     ghost is_ruled: { draws_separators ≡ may_have_row_lines config.now },
@@ -62,6 +75,7 @@ impl<'a, D, C, B: Allocator> Sheet<'a, D, C, B> {
         ensures height { result.height ≡ height }
     {
         let margin = config.get_margin();
+        let all = CellStyle::of_all(config);
         Sheet {
             config,
             dimension,
@@ -69,9 +83,9 @@ impl<'a, D, C, B: Allocator> Sheet<'a, D, C, B> {
             columns,
             width,
             height,
-            all: CellStyle::of_all(config),
-            draws_verticals: config.has_column_lines(),
-            has_single_glyphs: config.has_offset_chars(),
+            all,
+            is_simple: are_simple(&all),
+            verticals: verticals_of(config),
             draws_separators: may_have_row_lines(config),
             has_sides: margin.left.size > 0 || margin.right.size > 0,
             begins_with_body: margin.top.size == 0,
@@ -95,8 +109,8 @@ impl<'a, D, C, B: Allocator> Sheet<'a, D, C, B> {
             width: self.width,
             height: self.height,
             all: self.all,
-            draws_verticals: self.draws_verticals,
-            has_single_glyphs: self.has_single_glyphs,
+            is_simple: self.is_simple,
+            verticals: self.verticals,
             draws_separators: self.draws_separators,
             has_sides: self.has_sides,
             begins_with_body: self.begins_with_body,
@@ -114,4 +128,39 @@ fn may_have_row_lines<B: Allocator>(config: &SpannedConfig<B>) -> bool
         || borders.has_bottom()
         || borders.has_horizontal()
         || !config.has_equal_row_lines()
+}
+
+// What verticals the table of a configuration has.
+#[tactic(auto, unfolding(crate::specs::Inside::Verticals::verticals_of))]
+fn verticals_of<B: Allocator>(config: &SpannedConfig<B>) -> VerticalKind
+    ensures { result ≡ verticals_of config.now }
+{
+    if !config.has_column_lines() {
+        return VerticalKind::Absent;
+    }
+    if config.has_offset_chars() {
+        VerticalKind::ByLine
+    } else {
+        VerticalKind::Whole
+    }
+}
+
+// Whether all cells have one style, and it is simple to draw.
+fn are_simple<B: Allocator>(all: &Option<CellStyle<'_, B>>) -> bool
+    ensures { result ≡ are_simple all.now }
+{
+    match all {
+        Some(style) => shows_texts_whole(style) && has_plain_sides(style),
+        None => false,
+    }
+}
+
+// Whether the side paddings and the justification are of one character, without colours.
+fn has_plain_sides<B: Allocator>(style: &CellStyle<'_, B>) -> bool
+    ensures { result ≡ has_plain_sides (style_of style.now) }
+{
+    let sides = style.padding_color;
+    style.padding.left.fill == style.justification
+        && style.padding.right.fill == style.justification
+        && (sides.left.is_none() && sides.right.is_none() && style.justification_color.is_none())
 }

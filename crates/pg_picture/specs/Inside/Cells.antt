@@ -1,12 +1,16 @@
 -- What is known of a cell before its lines are written: the facts of its text, its style, its text's place.
-use Rattle.std.specs.Prelude.{ℕ, ◌+◌, ◌-◌, ◌==◌, nat_lt, min, Bool, true, false, not, ◌&&◌, List, [], ◌++◌, length, slice_index_or, Option, Some, None, unwrap_or, if◌then◌else◌}
-use Rattle.pg_layout.specs.Text.{Text, lines_of, width_of, blank_top, blank_bottom, without_blank_ends}
+use Rattle.std.specs.Prelude.{◌≡◌, ℕ, ◌+◌, ◌-◌, ◌==◌, nat_lt, min, Bool, true, false, not, ◌&&◌, List, [], ◌++◌, length, slice_index_or, Option, Some, None, is_none, unwrap_or, if◌then◌else◌}
+use Rattle.std.specs.List.{list_all}
+use Rattle.pg_layout.specs.Text.{Text, is_plain_byte, lines_of, width_of, blank_top, blank_bottom, without_blank_ends}
 use Rattle.pg_layout.specs.declared.alignment.Formatting.{Formatting}
 use Rattle.pg_layout.specs.Colors.{Color}
 pub use Rattle.pg_config.specs.Cells.{style_of}
+use Rattle.pg_config.specs.declared.spanned.cells.CellStyle.{CellStyle}
 use Rattle.pg_picture.specs.Pieces.{Style, Piece, shown, widest, shares, lines_above, inner_width, trimmed_if, line_with, fill, written, in_color}
 use Rattle.pg_picture.specs.declared.facts.BlankEnds.{BlankEnds}
 use Rattle.pg_picture.specs.declared.facts.TextFacts.{TextFacts}
+use Rattle.pg_picture.specs.declared.facts.TextKind.{TextKind}
+use Rattle.pg_picture.specs.declared.facts.TextKind.TheVariants.{Plain}
 use Rattle.pg_picture.specs.declared.place.CellPlace.{CellPlace}
 
 -- ---- the facts of a text
@@ -30,11 +34,30 @@ facts_of f text = record {
   widest = widest f text;
 }
 
+-- what is known of a text of this kind: a plain one is ASCII without line feeds
+abbrev pub IsOfKind : TextKind → Text → Type 0
+IsOfKind kind text = kind ≡ Plain → list_all is_plain_byte text ≡ true
+
 -- ---- the style of a cell
 
 -- line 0 of a cell is line 0 of its text, as it is
 abbrev pub shows_texts_whole : Style → Bool
 shows_texts_whole style = (not style.formatting.horizontal_trim && not style.formatting.vertical_trim) && (style.padding.top.size == 0)
+
+-- the side paddings and the justification are of one character, without colours
+abbrev pub has_plain_sides : Style → Bool
+has_plain_sides style =
+    ((style.padding.left.fill == style.justification) && (style.padding.right.fill == style.justification))
+    && ((is_none style.padding_color.left && is_none style.padding_color.right) && is_none style.justification_color)
+
+-- a text of one line stands as it is between columns of one character
+abbrev pub is_simple : Style → Bool
+is_simple style = shows_texts_whole style && has_plain_sides style
+
+-- all cells have such a style
+abbrev pub are_simple : {A : Type 0} → Option (CellStyle A) → Bool
+are_simple None = false
+are_simple (Some style) = is_simple (style_of style)
 
 -- ---- the place of a text
 

@@ -1,13 +1,12 @@
 //! The room of a cell.
 
-ghost use Rattle.std.specs.Prelude.{◌≡◌, ◌+◌, ◌-◌, ◌≤◌, ◌&&◌, Some, SomeIff, false, is_some, map, nat_le, true};
-ghost use Rattle.std.specs.List.{list_all};
-ghost use Rattle.pg_layout.specs.Text.{lines_of, width_of, greatest, is_plain_byte};
+ghost use Rattle.std.specs.Prelude.{◌≡◌, ◌+◌, ◌-◌, ◌≤◌, ◌&&◌, IfSome, SomeIff, false, is_some, map, nat_le};
+ghost use Rattle.pg_layout.specs.Text.{lines_of, width_of, greatest};
 ghost use Rattle.pg_picture.specs.Pieces.{Style, style_at, trimmed_if};
 ghost use Rattle.pg_picture.specs.Fits.{cell_fits};
-ghost use Rattle.pg_picture.specs.Inside.Cells.{style_of};
+ghost use Rattle.pg_picture.specs.Inside.Cells.{IsOfKind, style_of};
 
-use crate::facts::text_width;
+use crate::facts::{TextKind, text_width};
 use pg_config::{CellStyle, SpannedConfig};
 use pg_layout::{Indent, Position, Sides, is_plain};
 use std::alloc::Allocator;
@@ -22,17 +21,31 @@ fn inner_width(padding: &Sides<Indent>, width: usize) -> Option<usize>
         .checked_sub(padding.right.size)
 }
 
-// How many columns the widest line of a text takes, as `text_width` tells. It is told without a call
-// where the text is known to be plain and isn't trimmed, as most are.
+// What a text is known to be. It is read for that where its lines aren't trimmed, as most aren't.
 #[inline(always)]
-fn width_of_text(text: &str, trim: bool, is_plain: bool) -> usize
-    requires { is_plain ≡ true → (trim ≡ false) × (list_all is_plain_byte text.now ≡ true) }
+fn kind_of(text: &str, trim: bool) -> TextKind
+    ensures kind { IsOfKind result text.now }
+    ensures whole { result ≡ TextKind.Plain → trim ≡ false }
+{
+    if !trim && is_plain(text.as_bytes()) {
+        TextKind::Plain
+    } else {
+        TextKind::Any
+    }
+}
+
+// How many columns the widest line of a text takes, as `text_width` tells. It is told without a call
+// where the text is plain, as most are.
+#[inline(always)]
+fn width_of_text(text: &str, trim: bool, kind: TextKind) -> usize
+    requires kind { IsOfKind kind text.now }
+    requires whole { kind ≡ TextKind.Plain → trim ≡ false }
     ensures { result ≡ greatest (map (λ line. width_of (trimmed_if trim line)) (lines_of text.now)) }
 {
-    if is_plain {
-        return text.len();
+    match kind {
+        TextKind::Plain => text.len(),
+        TextKind::Any => text_width(text, trim),
     }
-    text_width(text, trim)
 }
 
 // Whether a cell has room for so many columns beside its side paddings, and for its top padding.
@@ -46,29 +59,29 @@ fn has_columns(padding: &Sides<Indent>, columns: usize, width: usize, height: us
     }
 }
 
-// Whether a cell of so many columns and lines has room for a text with these paddings, whose lines
-// are trimmed or not, and then whether the text is known to be plain and isn't trimmed.
+// The kind of a text for which a cell of so many columns and lines has room with these paddings, its
+// lines trimmed or not.
 #[inline(always)]
 #[tactic(auto, unfolding(crate::specs::Fits::cell_fits, crate::specs::Pieces::widest))]
-fn plainness_with_room(
+fn kind_with_room(
     text: &str,
     padding: &Sides<Indent>,
     trim: bool,
     width: usize,
     height: usize,
-) -> Option<bool>
+) -> Option<TextKind>
     ensures room { (style : Style) → style.padding ≡ padding.now → style.formatting.horizontal_trim ≡ trim → is_some result ≡ cell_fits style text.now width height }
-    ensures plain { result ≡ Some true → list_all is_plain_byte text.now ≡ true }
+    ensures kind { IfSome result (λ kind. IsOfKind kind text.now) }
 {
     if height == 0 {
-        return Some(false);
+        return Some(TextKind::Any);
     }
-    let is_plain = !trim && is_plain(text.as_bytes());
-    let columns = width_of_text(text, trim, is_plain);
+    let kind = kind_of(text, trim);
+    let columns = width_of_text(text, trim, kind);
     if !has_columns(padding, columns, width, height) {
         return None;
     }
-    Some(is_plain)
+    Some(kind)
 }
 
 /// Whether a cell of so many columns and lines has room for its side paddings beside its widest
@@ -87,22 +100,22 @@ pub fn cell_fits<A: Allocator>(
 {
     let padding = config.get_padding(pos);
     let trim = config.get_formatting(pos).horizontal_trim;
-    plainness_with_room(text, &padding, trim, width, height).is_some()
+    kind_with_room(text, &padding, trim, width, height).is_some()
 }
 
-/// Whether a cell of so many columns and lines has room for a text in this style, as [`cell_fits`] says
-/// it of a place, and then whether the text is known to be plain ([`pg_layout::is_plain`]). None is
-/// known to be where lines are trimmed, or the cell has none.
+/// The kind of a text for which a cell of so many columns and lines has room in this style, as
+/// [`cell_fits`] says it of a place; nothing where it has none. A text is taken for any where its lines
+/// are trimmed, or the cell has none.
 #[inline(always)]
-pub fn plainness_in_style<A: Allocator>(
+pub fn kind_if_fits<A: Allocator>(
     text: &str,
     style: &CellStyle<'_, A>,
     width: usize,
     height: usize,
-) -> Option<bool>
+) -> Option<TextKind>
     ensures room { is_some result ≡ cell_fits (style_of style.now) text.now width height }
-    ensures plain { result ≡ Some true → list_all is_plain_byte text.now ≡ true }
+    ensures kind { IfSome result (λ kind. IsOfKind kind text.now) }
 {
     let trim = style.formatting.horizontal_trim;
-    plainness_with_room(text, &style.padding, trim, width, height)
+    kind_with_room(text, &style.padding, trim, width, height)
 }

@@ -1,0 +1,130 @@
+//! The line of a cell that has one.
+
+ghost use Rattle.std.specs.Prelude.{◌≡◌, true};
+ghost use Rattle.pg_picture.specs.Appending.{Appends};
+ghost use Rattle.pg_picture.specs.Fits.{cell_fits};
+ghost use Rattle.pg_picture.specs.Pieces.{written, style_at, block_line};
+ghost use Rattle.pg_picture.specs.Inside.Cells.{IsOfKind, style_of, is_simple};
+ghost use Rattle.std.proofs.Props.{props};
+
+use crate::cell::{
+    columns_left, inner_width, push_block_line, push_line_of_width, push_plain_parts,
+    shows_texts_whole,
+};
+use crate::facts::{TextFacts, TextKind, single_line_width};
+use crate::pen::{Drawn, Pen};
+use crate::place::CellPlace;
+use pg_config::CellStyle;
+use pg_layout::{Colors, Dimension, Position};
+use std::alloc::{AllocError, Allocator};
+use std::marker::PhantomData;
+
+/// A cell of so many columns and one line, which has room for its text.
+///
+/// It is for who draws pieces of a table by themselves.
+#[derive(Drop)]
+pub struct SingleCell<'t, T: Drawn> {
+    pub pos: Position,
+    pub width: usize,
+    pub text: &'t str,
+    pub kind: TextKind,
+    pub of: PhantomData<T>,
+    ghost is_known: { IsOfKind kind text.now } by { Prim.hlevel props },
+    ghost has_room: { cell_fits (style_at T.table.config pos) text.now width 1 ≡ true } by { Prim.hlevel props },
+}
+
+impl<'s, T, D, C, B> Pen<'s, T, D, C, B>
+where
+    T: Drawn,
+    D: Dimension,
+    C: Colors,
+    B: Allocator,
+{
+    /// Appends the line of a cell that has one. A plain text isn't read for it.
+    ///
+    /// An error comes only where the buffer's room is too small; the buffer then holds a beginning.
+    #[inline(always)]
+    pub fn push_single<A: Allocator>(
+        self,
+        buf: &mut String<A>,
+        cell: SingleCell<'_, T>,
+    ) -> Result<(), AllocError>
+        ensures { Appends buf.old buf.new result (written (block_line (style_at T.table.config cell.entry.pos) (T.table.color cell.entry.pos) cell.entry.text.now cell.entry.width 1 0)) }
+    {
+        match &self.sheet.all {
+            Some(style) => {
+                if self.sheet.is_simple {
+                    return self.push_simple(buf, style, cell);
+                }
+                self.push_in_style(buf, style, cell)
+            }
+            None => self.push_in_own_style(buf, cell),
+        }
+    }
+
+    // The same where the cell's style is looked up. It stands out of line, so that the code of the other
+    // cases is small enough to stand in line.
+    #[inline(never)]
+    fn push_in_own_style<A: Allocator>(
+        self,
+        buf: &mut String<A>,
+        cell: SingleCell<'_, T>,
+    ) -> Result<(), AllocError>
+        ensures { Appends buf.old buf.new result (written (block_line (style_at T.table.config cell.entry.pos) (T.table.color cell.entry.pos) cell.entry.text.now cell.entry.width 1 0)) }
+    {
+        let style = CellStyle::of(self.sheet.config, cell.pos);
+        self.push_in_style(buf, &style, cell)
+    }
+
+    // The same in a style that is simple to draw.
+    #[inline(always)]
+    fn push_simple<A: Allocator>(
+        self,
+        buf: &mut String<A>,
+        style: &CellStyle<'_, B>,
+        cell: SingleCell<'_, T>,
+    ) -> Result<(), AllocError>
+        requires style { style_of style.now ≡ style_at T.table.config cell.pos }
+        requires simple { is_simple (style_of style.now) ≡ true }
+        ensures { Appends buf.old buf.new result (written (block_line (style_at T.table.config cell.entry.pos) (T.table.color cell.entry.pos) cell.entry.text.now cell.entry.width 1 0)) }
+    {
+        let Some(line_width) = single_line_width(cell.text, cell.kind) else {
+            return self.push_in_style(buf, style, cell);
+        };
+        let color = self.color_of(cell.pos);
+        let inner = inner_width(style, cell.width);
+        let share = columns_left(style, None, line_width, cell.width);
+        push_plain_parts(
+            buf,
+            style,
+            color,
+            cell.text,
+            share,
+            inner - share - line_width,
+        )
+    }
+
+    // The same in any style. It is rare enough to stand out of line.
+    #[inline(never)]
+    fn push_in_style<A: Allocator>(
+        self,
+        buf: &mut String<A>,
+        style: &CellStyle<'_, B>,
+        cell: SingleCell<'_, T>,
+    ) -> Result<(), AllocError>
+        requires style { style_of style.now ≡ style_at T.table.config cell.pos }
+        ensures { Appends buf.old buf.new result (written (block_line (style_at T.table.config cell.entry.pos) (T.table.color cell.entry.pos) cell.entry.text.now cell.entry.width 1 0)) }
+    {
+        let color = self.color_of(cell.pos);
+        if shows_texts_whole(style) {
+            if let Some(line_width) = single_line_width(cell.text, cell.kind) {
+                return push_line_of_width(
+                    buf, style, color, cell.text, line_width, None, cell.width,
+                );
+            }
+        }
+        let facts = TextFacts::of_text(cell.text, style.formatting);
+        let place = CellPlace::of(facts, style, cell.width, 1);
+        push_block_line(buf, style, color, cell.text, place, cell.width, 1, 0)
+    }
+}
