@@ -37,7 +37,6 @@ use std::marker::{Brand, Model};
 /// }
 /// stream.finish(&mut buf)?;
 /// ```
-#[derive(Drop)]
 pub struct LiveStream<
     'a,
     S: AsStr,
@@ -50,6 +49,19 @@ pub struct LiveStream<
     pub(crate) progress: Progress<'a, S, A>,
     /// Whether memory was refused in the midst of a row.
     pub(crate) is_lost: bool,
+}
+
+// Written out, so that a caller's proof has one call where it lets a stream go, at each `?` behind `new`.
+impl<'a, S: AsStr + Drop, D: Dimension, C: Colors, B: Allocator, A: Allocator> Drop
+    for LiveStream<'a, S, D, C, B, A> {
+    fn drop(self) {
+        let LiveStream {
+            frame,
+            progress,
+            is_lost: _,
+        } = self;
+        drop((frame, progress));
+    }
 }
 
 impl<'a, S: AsStr, D: Dimension, C: Colors, B: Allocator, A: Allocator> Model
@@ -94,7 +106,7 @@ impl<'a, S: AsStr + Drop, D: Dimension, C: Colors, B: Allocator, A: Allocator> L
     {
         match RowPrinter::try_new(alloc, config, dimension, colors, columns, None) {
             Ok(printer) => {
-                let RowPrinter { frame, progress } = printer;
+                let (frame, progress) = printer.into_parts();
                 Ok(LiveStream {
                     frame,
                     progress,

@@ -7,9 +7,11 @@ ghost use Rattle.std.specs.Iterator.{IsFinite};
 ghost use Rattle.pg_layout.specs.Records.{AlwaysGives};
 ghost use Rattle.pg_layout.specs.Text.{Text};
 ghost use Rattle.pg_picture.specs.Appending.{Appends};
+ghost use Rattle.pg_picture.specs.Inside.Sheets.{bare_table};
 ghost use Rattle.pg_stream.specs.Conditions.{PrinterFits, RowFits};
+ghost use Rattle.pg_stream.specs.Inside.Held.{IsSoundAt};
 ghost use Rattle.pg_stream.specs.Placed.{slots_of};
-ghost use Rattle.pg_stream.specs.Printers.{printing};
+ghost use Rattle.pg_stream.specs.Printers.{printer_of, printing};
 ghost use Rattle.pg_stream.specs.Printing.{printer, row_text, finish_text, after_row};
 
 use crate::frame::Frame;
@@ -39,7 +41,6 @@ use std::marker::{Brand, Model};
 /// | |c|
 /// +-+-+    the end
 /// ```
-#[derive(Drop)]
 pub struct RowPrinter<
     'a,
     S: AsStr,
@@ -50,6 +51,15 @@ pub struct RowPrinter<
 > {
     pub(crate) frame: Frame<'a, D, C, B>,
     pub(crate) progress: Progress<'a, S, A>,
+}
+
+// Written out, so that a caller's proof has one call where it lets a printer go.
+impl<'a, S: AsStr + Drop, D: Dimension, C: Colors, B: Allocator, A: Allocator> Drop
+    for RowPrinter<'a, S, D, C, B, A> {
+    fn drop(self) {
+        let RowPrinter { frame, progress } = self;
+        drop((frame, progress));
+    }
 }
 
 impl<'a, S: AsStr, D: Dimension, C: Colors, B: Allocator, A: Allocator> Model
@@ -107,6 +117,16 @@ impl<'a, S: AsStr + Drop, D: Dimension, C: Colors, B: Allocator, A: Allocator> R
                 is_ended: false,
             },
         })
+    }
+
+    // What it was told, and how far it is printed.
+    #[inline(always)]
+    pub(crate) fn into_parts(self) -> (Frame<'a, D, C, B>, Progress<'a, S, A>)
+        ensures is { printer_of result.0 result.1 ≡ self.entry }
+        ensures sound { IsSoundAt (bare_table D.width D.height C.color result.0.sheet) result.0 result.1 }
+    {
+        let RowPrinter { frame, progress } = self;
+        (frame, progress)
     }
 
     /// How many rows are printed.

@@ -40,7 +40,6 @@ use std::marker::{Brand, Model};
 /// }
 /// stream.finish(&mut buf)?;
 /// ```
-#[derive(Drop)]
 pub struct RowStream<
     'a,
     S: AsStr,
@@ -52,6 +51,15 @@ pub struct RowStream<
 > {
     frame: Frame<'a, D, C, B>,
     rows: HeldRows<'a, S, A, V>,
+}
+
+// Written out, as that of a `LiveStream`.
+impl<'a, S: AsStr + Drop, D: Dimension, C: Colors, B: Allocator, A: Allocator, V: Allocator> Drop
+    for RowStream<'a, S, D, C, B, A, V> {
+    fn drop(self) {
+        let RowStream { frame, rows } = self;
+        drop((frame, rows));
+    }
 }
 
 impl<'a, S: AsStr, D: Dimension, C: Colors, B: Allocator, A: Allocator, V: Allocator> Model
@@ -117,7 +125,7 @@ impl<
     {
         match RowPrinter::try_new(alloc, config, dimension, colors, columns, hint) {
             Ok(printer) => {
-                let RowPrinter { frame, progress } = printer;
+                let (frame, progress) = printer.into_parts();
                 Ok(RowStream {
                     frame,
                     rows: HeldRows {

@@ -41,7 +41,6 @@ use std::marker::{Brand, Model};
 /// ```
 ///
 /// [`LiveStream`]: crate::LiveStream
-#[derive(Drop)]
 pub struct SizedStream<
     'a,
     S: AsStr,
@@ -56,6 +55,20 @@ pub struct SizedStream<
     above: usize,
     /// Whether memory was refused in the midst of a row.
     is_lost: bool,
+}
+
+// Written out, as that of a `LiveStream`.
+impl<'a, S: AsStr + Drop, D: Dimension, C: Colors, B: Allocator, A: Allocator> Drop
+    for SizedStream<'a, S, D, C, B, A> {
+    fn drop(self) {
+        let SizedStream {
+            frame,
+            progress,
+            above: _,
+            is_lost: _,
+        } = self;
+        drop((frame, progress));
+    }
 }
 
 impl<'a, S: AsStr, D: Dimension, C: Colors, B: Allocator, A: Allocator> Model
@@ -103,7 +116,7 @@ impl<'a, S: AsStr + Drop, D: Dimension, C: Colors, B: Allocator, A: Allocator> S
         }
         match RowPrinter::try_new(alloc, config, widths, colors, columns, None) {
             Ok(printer) => {
-                let RowPrinter { frame, progress } = printer;
+                let (frame, progress) = printer.into_parts();
                 Ok(SizedStream {
                     frame,
                     progress,

@@ -36,10 +36,7 @@ impl<'a, S: AsStr + Drop, D: Dimension, C: Colors, B: Allocator, A: Allocator> R
         ensures ends { AppendsEnd (printing D.width D.height C.color self.entry) buf.old buf.new result }
         ensures empty { (printing D.width D.height C.color self.entry).rows ≡ 0 → IsOk result × (buf.new ≡ buf.old) }
     {
-        let RowPrinter {
-            frame,
-            mut progress,
-        } = self;
+        let (frame, mut progress) = self.into_parts();
         progress.close::<Brand, D, C, B, W>(&frame, buf)
     }
 }

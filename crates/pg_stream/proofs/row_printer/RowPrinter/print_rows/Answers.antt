@@ -8,8 +8,8 @@ use Rattle.pg_stream.proofs.row_printer.RowPrinter.print_rows.Goals as goal
 pub push_rows-requires-clause-given : goal.push_rows-requires-clause-given
 push_rows-requires-clause-given g c =
     let (cells, texts, from, fit) = c.requires.given in
-    (cells, texts, from, subst (λ p. RowsFit (printing g.D.Dimension.width g.D.Dimension.height g.C.Colors.color p) (cells ∷ texts)) (sym c.self.view_is) fit)
+    (cells, texts, from, subst (λ p. RowsFit (printing g.D.Dimension.width g.D.Dimension.height g.C.Colors.color p) (cells ∷ texts)) (sym c.into_parts-progress.ensures.is) fit)
 
 pub returns : goal.returns
 returns g c = λ cells texts from.
-    Appends-text (ap (λ p. rows_text (printing g.D.Dimension.width g.D.Dimension.height g.C.Colors.color p) (cells ∷ texts)) c.self.view_is) (c.push_rows.ensures cells texts from)
+    Appends-text (ap (λ p. rows_text (printing g.D.Dimension.width g.D.Dimension.height g.C.Colors.color p) (cells ∷ texts)) c.into_parts-progress.ensures.is) (c.push_rows.ensures cells texts from)

@@ -19,15 +19,15 @@ returns-then-has_row_spans-clause-misfit g c = spans-told (misfit-spans c.args.c
 
 pub invariant_of-result : goal.invariant_of-result
 invariant_of-result g c = λ lives.
-    sized-first (bare_table g.D.Dimension.width g.D.Dimension.height g.C.Colors.color c.printer.inside.frame.sheet) c.printer.inside.frame c.printer.inside.progress c.args.config.now c.args.columns (g.D.Dimension.width c.args.widths.now) (g.D.Dimension.height c.args.widths.now) (g.C.Colors.color c.args.colors.now)
-    (ap (printing g.D.Dimension.width g.D.Dimension.height g.C.Colors.color) c.printer.view_is ∙ c.in-Ok.ensures.made) refl
-    (sym c.has_row_spans.ensures ∙ c.if-has_row_spans.false) c.printer.invariant
+    sized-first (bare_table g.D.Dimension.width g.D.Dimension.height g.C.Colors.color c.into_parts-progress.result.0.sheet) c.into_parts-progress.result.0 c.into_parts-progress.result.1 c.args.config.now c.args.columns (g.D.Dimension.width c.args.widths.now) (g.D.Dimension.height c.args.widths.now) (g.C.Colors.color c.args.colors.now)
+    (ap (printing g.D.Dimension.width g.D.Dimension.height g.C.Colors.color) c.into_parts-progress.ensures.is ∙ c.in-Ok.ensures.made) refl
+    (sym c.has_row_spans.ensures ∙ c.if-has_row_spans.false) c.into_parts-progress.ensures.sound
 
 pub returns-in-Ok-clause-made : goal.returns-in-Ok-clause-made
 returns-in-Ok-clause-made g c = λ heights.
     let lives : Printing → Living = λ p. record { printed = p; is_lost = false } in
     ap lives (made-by c.args.config.now c.args.columns (g.D.Dimension.width c.args.widths.now) (g.D.Dimension.height c.args.widths.now) (g.C.Colors.color c.args.colors.now)
-    (ap (printing g.D.Dimension.width g.D.Dimension.height g.C.Colors.color) c.printer.view_is ∙ c.in-Ok.ensures.made) heights)
+    (ap (printing g.D.Dimension.width g.D.Dimension.height g.C.Colors.color) c.into_parts-progress.ensures.is ∙ c.in-Ok.ensures.made) heights)
 
 pub returns-in-Ok-clause-misfit : goal.returns-in-Ok-clause-misfit
 returns-in-Ok-clause-misfit g c =
