@@ -17,8 +17,8 @@ use Rattle.pg_stream.specs.Printers.{now_of}
 use Rattle.pg_stream.specs.Printing.{Printing, row_text, finish_text, after_row}
 use Rattle.pg_stream.specs.SizedStreams.{CountsLines, IsNextHeight}
 use Rattle.pg_stream.specs.declared.fault.StreamFault.{StreamFault}
-use Rattle.pg_stream.specs.declared.frame.Frame.{Frame}
-use Rattle.pg_stream.specs.declared.progress.Progress.{Progress}
+use Rattle.pg_stream.specs.declared.printer.frame.Frame.{Frame}
+use Rattle.pg_stream.specs.declared.printer.progress.Progress.{Progress}
 use Rattle.pg_stream.proofs.DrawnLines.{length_of_row}
 use Rattle.pg_stream.proofs.SizedRows.{row_fits-by, row_text-by, after_row-by, finish_text-by, sound_at-by, sound_at-in, above-lines, above-same, next-height, moved}
 

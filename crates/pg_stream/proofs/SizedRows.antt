@@ -31,8 +31,8 @@ use Rattle.pg_stream.specs.Printers.{IsSound, now_of}
 use Rattle.pg_stream.specs.Printing.{Printing, rows_reached, rows_known, table_known, lines_at, lines_below, lines_printed, row_lines, row_text, finish_lines, finish_text, printer, after_row}
 use Rattle.pg_stream.specs.SizedStreams.{sized_misfit, CountsLines}
 use Rattle.pg_stream.specs.declared.fault.StreamFault.{StreamFault}
-use Rattle.pg_stream.specs.declared.frame.Frame.{Frame}
-use Rattle.pg_stream.specs.declared.progress.Progress.{Progress}
+use Rattle.pg_stream.specs.declared.printer.frame.Frame.{Frame}
+use Rattle.pg_stream.specs.declared.printer.progress.Progress.{Progress}
 use Rattle.pg_stream.proofs.DrawnLines.{length_of_row}
 use Rattle.pg_stream.proofs.LiveRows.{live-make}
 use Rattle.pg_stream.proofs.OpenLists.{all-open}

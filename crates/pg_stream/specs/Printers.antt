@@ -10,8 +10,8 @@ use Rattle.pg_stream.specs.Conditions.{PrinterFits}
 use Rattle.pg_stream.specs.Open.{Slot, open_before}
 use Rattle.pg_stream.specs.Placed.{Placed, slots_of, AllOpen, IsPlaced}
 use Rattle.pg_stream.specs.Printing.{Printing, table_known}
-use Rattle.pg_stream.specs.declared.frame.Frame.{Frame}
-use Rattle.pg_stream.specs.declared.progress.Progress.{Progress}
+use Rattle.pg_stream.specs.declared.printer.frame.Frame.{Frame}
+use Rattle.pg_stream.specs.declared.printer.progress.Progress.{Progress}
 
 -- a printer over a dimension and colours
 pub record Printer (D C : Type 0) : Type 0 where

@@ -9,8 +9,8 @@ use Rattle.pg_picture.specs.Pieces.{style_at}
 use Rattle.pg_picture.specs.Shown.{cell_shows_all}
 use Rattle.pg_picture.specs.Sizes.{height_of_rect}
 use Rattle.pg_picture.specs.Table.{Table}
-use Rattle.pg_stream.specs.declared.row_shown.RowUnshown.{RowUnshown}
-use Rattle.pg_stream.specs.declared.row_shown.RowUnshown.TheVariants.{Lines}
+use Rattle.pg_stream.specs.declared.printer.row_shown.RowUnshown.{RowUnshown}
+use Rattle.pg_stream.specs.declared.printer.row_shown.RowUnshown.TheVariants.{Lines}
 
 -- a place of a row of these texts that owns itself shows each line in its rectangle
 abbrev pub row_cell_shows_all : Table → List Text → Position → Bool

@@ -5,7 +5,7 @@ ghost use Rattle.pg_stream.specs.declared.fault.RowsFault.{RowsFault};
 ghost use Rattle.pg_stream.specs.declared.fault.StreamFault.{StreamFault};
 ghost use Rattle.pg_stream.specs.Faults.{stream_fault_text, row_fault_text, fault_of_row, rows_fault_text};
 
-use crate::row_printer::RowPrinter;
+use crate::printer::RowPrinter;
 use pg_layout::{Colors, Dimension};
 use pg_picture::PrintFault;
 use pg_picture::fits::Misfit;

@@ -5,9 +5,9 @@ use Rattle.pg_picture.specs.Table.{Table}
 use Rattle.pg_stream.specs.Inside.Drawing.{IsSeparator}
 use Rattle.pg_stream.specs.Printers.{now_of, IsSound}
 use Rattle.pg_stream.specs.Streams.{Streaming}
-use Rattle.pg_stream.specs.declared.frame.Frame.{Frame}
-use Rattle.pg_stream.specs.declared.held_rows.HeldRows.{HeldRows}
-use Rattle.pg_stream.specs.declared.progress.Progress.{Progress}
+use Rattle.pg_stream.specs.declared.printer.frame.Frame.{Frame}
+use Rattle.pg_stream.specs.declared.stream.held_rows.HeldRows.{HeldRows}
+use Rattle.pg_stream.specs.declared.printer.progress.Progress.{Progress}
 
 -- a printer of this table is sound, and what it keeps is a separator of the table
 pub record IsSoundAt {D C B S A : Type 0} (t : Table) (frame : Frame D C B) (progress : Progress S A) : Type 0 where

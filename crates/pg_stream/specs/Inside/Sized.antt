@@ -3,8 +3,8 @@ use Rattle.std.specs.Prelude.{◌≡◌, ℕ, ◌==◌, false, None, if◌then�
 use Rattle.pg_config.specs.Spans.{has_row_spans}
 use Rattle.pg_picture.specs.Table.{Table}
 use Rattle.pg_stream.specs.Inside.Held.{IsSoundAt}
-use Rattle.pg_stream.specs.declared.frame.Frame.{Frame}
-use Rattle.pg_stream.specs.declared.progress.Progress.{Progress}
+use Rattle.pg_stream.specs.declared.printer.frame.Frame.{Frame}
+use Rattle.pg_stream.specs.declared.printer.progress.Progress.{Progress}
 
 -- the heights of rows of which the first has all lines
 abbrev pub first_height : ℕ → ℕ → ℕ

@@ -1,0 +1,14 @@
+use Rattle.std.proofs.Common.{◌≡◌, ◌<◌, ℕ, true, map, slice_index_or, []}
+use Rattle.std.specs.List.{list_all}
+use Rattle.pg_layout.specs.Position.{at}
+use Rattle.pg_layout.specs.Text.{is_plain_byte}
+use Rattle.pg_stream.specs.Conditions.{HasRoom}
+use Rattle.pg_picture.specs.Inside.Sheets.{bare_table}
+use Rattle.pg_stream.proofs.printer.frame.Frame.plainness_of_single.Given as goal
+
+-- the cells before the column have room, and plain texts where that is known
+abbrev pub invariant-loop-column : goal.invariant-loop-column
+invariant-loop-column g l =
+    let t = bare_table g.D.Dimension.width g.D.Dimension.height g.C.Colors.color l.self.sheet in
+    let texts = map g.S.AsStr.text l.cells in
+    (x : ℕ) → x < l.column → HasRoom t (at l.row x) (slice_index_or texts x []) × (l.are_plain ≡ true → list_all is_plain_byte (slice_index_or texts x []) ≡ true)

@@ -1,0 +1,53 @@
+use Rattle.std.proofs.Common.{◌≡◌, map, refl, sym, ◌∙◌, arith, length}
+use Rattle.std.specs.Vec.Iter.{into_iter_len}
+use Rattle.std.proofs.lemmas.Iterator.{YieldsList-from_slice}
+use Rattle.std.proofs.lemmas.Iterator.Adapters.{YieldsList-from_vec}
+use Rattle.pg_layout.proofs.Given.{given-items}
+use Rattle.pg_stream.specs.Printers.{now_of}
+use Rattle.pg_stream.specs.Printing.{Printing}
+use Rattle.pg_stream.proofs.LentRows.{given-lent}
+use Rattle.pg_stream.proofs.SingleLines.{at-once}
+use Rattle.pg_stream.proofs.printer.progress.Progress.push_cells.Goals as goal
+
+pub push_single-requires-clause-single : goal.push_single-requires-clause-single
+push_single-requires-clause-single g c =
+    let s : Printing = now_of g.T.Drawn.table c.args.frame.now.hint c.args.self.now in
+    let once = at-once c.height_of-height.result s.table.config.spans c.draws_at_once.result c.draws_at_once.ensures c.if-draws_at_once.true in
+    record { alone = once.1; height = sym c.height_of-height.ensures ∙ once.0 }
+
+pub push_single-requires-clause-fits : goal.push_single-requires-clause-fits
+push_single-requires-clause-fits g c = (
+  map g.S.AsStr.text c.args.cells.items,
+  given-lent _ (λ y. y.now) g.S.AsStr.text (YieldsList-from_slice c.args.cells.items (c.iter.ensures.rest ∙ c.deref.ensures.value)),
+  c.requires.fits,
+  c.requires.plain,
+)
+
+pub returns-then-draws_at_once-clause-appends : goal.returns-then-draws_at_once-clause-appends
+returns-then-draws_at_once-clause-appends g c =
+    let given = given-lent _ (λ y. y.now) g.S.AsStr.text (YieldsList-from_slice c.args.cells.items (c.iter.ensures.rest ∙ c.deref.ensures.value)) in
+    c.push_single.ensures.appends (map g.S.AsStr.text c.args.cells.items) given
+
+pub returns-then-draws_at_once-clause-after : goal.returns-then-draws_at_once-clause-after
+returns-then-draws_at_once-clause-after g c =
+    let given = given-lent _ (λ y. y.now) g.S.AsStr.text (YieldsList-from_slice c.args.cells.items (c.iter.ensures.rest ∙ c.deref.ensures.value)) in
+    c.push_single.ensures.after (map g.S.AsStr.text c.args.cells.items) given
+
+pub push_row-requires-clause-fits : goal.push_row-requires-clause-fits
+push_row-requires-clause-fits g c =
+    let len : into_iter_len c.into_iter-cells.result ≡ length c.args.cells.items = omega (arith, c.into_iter-cells.ensures.len, c.args.cells.ok) in (
+      map g.S.AsStr.text c.args.cells.items,
+      given-items _ g.S.AsStr.text (λ x y. g.S.AsStr.text x ≡ y) (λ x. refl) (YieldsList-from_vec c.args.cells.items c.into_iter-cells.ensures.rest len),
+      c.requires.fits,
+      c.requires.plain,
+    )
+
+pub returns-clause-appends : goal.returns-clause-appends
+returns-clause-appends g c =
+    let len : into_iter_len c.into_iter-cells.result ≡ length c.args.cells.items = omega (arith, c.into_iter-cells.ensures.len, c.args.cells.ok) in
+    c.push_row.ensures.appends (map g.S.AsStr.text c.args.cells.items) (given-items _ g.S.AsStr.text (λ x y. g.S.AsStr.text x ≡ y) (λ x. refl) (YieldsList-from_vec c.args.cells.items c.into_iter-cells.ensures.rest len))
+
+pub returns-clause-after : goal.returns-clause-after
+returns-clause-after g c =
+    let len : into_iter_len c.into_iter-cells.result ≡ length c.args.cells.items = omega (arith, c.into_iter-cells.ensures.len, c.args.cells.ok) in
+    c.push_row.ensures.after (map g.S.AsStr.text c.args.cells.items) (given-items _ g.S.AsStr.text (λ x y. g.S.AsStr.text x ≡ y) (λ x. refl) (YieldsList-from_vec c.args.cells.items c.into_iter-cells.ensures.rest len))

@@ -1,6 +1,0 @@
-use Rattle.pg_stream.specs.Inside.Sized.{height_in}
-use Rattle.pg_picture.specs.Inside.Sheets.{bare_table}
-use Rattle.pg_stream.proofs.sized_stream.SizedStream.push.Given as goal
-
-abbrev pub ghosts-push_cells : goal.ghosts-push_cells
-ghosts-push_cells g a = record { table = bare_table (λ sizes. g.D.Dimension.width sizes.widths.now) (λ sizes. height_in sizes.row sizes.height sizes.above) g.C.Colors.color a.frame.now.sheet }

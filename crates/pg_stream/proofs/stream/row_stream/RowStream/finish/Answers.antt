@@ -1,0 +1,8 @@
+use Rattle.pg_stream.proofs.StreamedRows.{rows-ok}
+use Rattle.pg_stream.proofs.stream.row_stream.RowStream.finish.Goals as goal
+
+pub returns-clause-prints : goal.returns-clause-prints
+returns-clause-prints g c = rw (← c.self.view_is) c.finish.ensures.prints
+
+pub returns-clause-appends : goal.returns-clause-appends
+returns-clause-appends g c = rows-ok c.finish.result (returns-clause-prints g c)

@@ -1,0 +1,5 @@
+use Rattle.pg_picture.specs.Inside.Sheets.{bare_table}
+use Rattle.pg_stream.proofs.stream.row_stream.RowStream.print_all.Given as goal
+
+abbrev pub ghosts-push_all : goal.ghosts-push_all
+ghosts-push_all g a = record { table = bare_table g.D.Dimension.width g.D.Dimension.height g.C.Colors.color a.frame.now.sheet }

@@ -1,0 +1,14 @@
+//! Streams of rows over the printer: their rows need not be told which one is the last.
+
+mod held_rows;
+mod lent_rows;
+mod live_stream;
+mod row_sizes;
+mod row_stream;
+mod sized_stream;
+
+pub(crate) use self::held_rows::HeldRows;
+pub use self::live_stream::LiveStream;
+pub(crate) use self::row_sizes::RowSizes;
+pub use self::row_stream::RowStream;
+pub use self::sized_stream::SizedStream;

@@ -1,0 +1,143 @@
+//! Rows of one line in a table without spans: no cell of them goes on below, so their texts may be lent.
+
+ghost use Rattle.std.specs.Prelude.{◌≡◌, ◌↔◌, ◌++◌, ℕ, List, Some, true, false, map, IsSome, OnOk, Err, string_bytes};
+ghost use Rattle.std.specs.Iterator.{IsFinite};
+ghost use Rattle.pg_layout.specs.Records.{AlwaysGives};
+ghost use Rattle.pg_layout.specs.Text.{Text};
+ghost use Rattle.pg_picture.specs.Appending.{Appends};
+ghost use Rattle.pg_stream.specs.Conditions.{RowFits};
+ghost use Rattle.pg_stream.specs.Inside.Held.{IsSoundAt};
+ghost use Rattle.pg_stream.specs.Inside.SingleRows.{ArePlain, IsSingle};
+ghost use Rattle.pg_picture.specs.Inside.Sheets.{bare_table};
+ghost use Rattle.pg_stream.specs.LiveStreams.{living, LentFits};
+ghost use Rattle.pg_stream.specs.Printers.{now_of};
+ghost use Rattle.pg_stream.specs.Printing.{row_text, after_row};
+ghost use Rattle.pg_stream.specs.Streams.{AppendsIf};
+ghost use Rattle.pg_stream.specs.declared.fault.StreamFault.{StreamFault};
+
+use crate::draw::Drawing;
+use crate::fault::StreamFault;
+use crate::printer::{Frame, Progress};
+use crate::stream::LiveStream;
+use pg_layout::{Colors, Dimension};
+use pg_picture::{Drawn, Pen};
+use std::alloc::{AllocError, Allocator};
+use std::convert::AsStr;
+use std::marker::{Brand, PhantomData};
+use std::slice::Iter;
+
+impl<'a, S: AsStr + Drop, D: Dimension, C: Colors, B: Allocator, A: Allocator> LiveStream<
+    'a,
+    S,
+    D,
+    C,
+    B,
+    A,
+> {
+    /// Prints a row whose cells are lent for this call: they need no vector, and needn't live as long as the
+    /// stream.
+    ///
+    /// A row may be lent where no cell of the table spans others, and the row has one line. `StreamFault::Row`
+    /// also tells the number of one that may not. Else it answers as [`LiveStream::push`] does.
+    #[inline(always)]
+    pub fn push_lent<X: AsStr, W: Allocator>(
+        &mut self,
+        cells: &[X],
+        buf: &mut String<W>,
+    ) -> Result<(), StreamFault>
+        ensures appends { OnOk result (string_bytes buf.new ≡ string_bytes buf.old ++ row_text (living D.width D.height C.color self.old).printed (map X.text cells.now) false) }
+        ensures after { OnOk result (living D.width D.height C.color self.new ≡ record { printed = after_row (living D.width D.height C.color self.old).printed (map X.text cells.now) false; is_lost = false }) }
+        ensures prints { (living D.width D.height C.color self.old).is_lost ≡ false → AppendsIf (LentFits (living D.width D.height C.color self.old).printed (map X.text cells.now)) (living D.width D.height C.color self.old).printed.rows (row_text (living D.width D.height C.color self.old).printed (map X.text cells.now) false) buf.old buf.new result }
+        ensures misfit { (row : ℕ) → result ≡ Err (StreamFault.Row row) → self.new ≡ self.old }
+        ensures memory { result ≡ Err StreamFault.Memory → (living D.width D.height C.color self.new).is_lost ≡ true }
+        ensures lost { (living D.width D.height C.color self.old).is_lost ≡ true → (result ≡ Err StreamFault.Memory) × (buf.new ≡ buf.old) }
+    {
+        if self.is_lost {
+            return Err(StreamFault::Memory);
+        }
+        let Some(are_plain) = self.progress.lent_plainness(&self.frame, cells) else {
+            return Err(StreamFault::Row(self.progress.rows));
+        };
+        self.is_lost = true;
+        self.progress
+            .push_single::<Brand, D, C, B, &X, Iter<'_, X>, W>(
+                &self.frame,
+                cells.iter(),
+                are_plain,
+                false,
+                buf,
+            )?;
+        self.is_lost = false;
+        Ok(())
+    }
+}
+
+impl<S: AsStr + Drop, A: Allocator> Progress<'_, S, A> {
+    // Prints the next row of the table of a frame, as `push_row` does, where it has one line and no cell
+    // spans others. Its cells are never open, so they needn't be those of other rows.
+    #[inline(always)]
+    pub(crate) fn push_single<'f, T, D, C, B, X, I, W>(
+        &mut self,
+        frame: &'f Frame<'f, D, C, B>,
+        cells: I,
+        are_plain: bool,
+        is_last: bool,
+        buf: &mut String<W>,
+    ) -> Result<(), AllocError>
+    where
+        T: Drawn,
+        D: Dimension,
+        C: Colors,
+        B: Allocator,
+        X: AsStr + Drop,
+        I: Iterator<Item = X>,
+        W: Allocator,
+        requires is { bare_table D.width D.height C.color frame.now.sheet ≡ T.table }
+        requires single { IsSingle T.table self.old.rows }
+        requires can { I.can_next cells × IsFinite (I.remaining cells) }
+        requires sound { IsSoundAt T.table frame.now self.old }
+        requires fits { (texts : List Text) × AlwaysGives (λ x y. X.text x ≡ y) I.next_gives cells texts × RowFits (now_of T.table frame.now.hint self.old) texts is_last × (are_plain ≡ true → ArePlain T.table.columns texts) }
+        ensures sound { OnOk result (IsSoundAt T.table frame.now self.new) }
+        ensures appends { (texts : List Text) → AlwaysGives (λ x y. X.text x ≡ y) I.next_gives cells texts → Appends buf.old buf.new result (row_text (now_of T.table frame.now.hint self.old) texts is_last) }
+        ensures after { (texts : List Text) → AlwaysGives (λ x y. X.text x ≡ y) I.next_gives cells texts → OnOk result (now_of T.table frame.now.hint self.new ≡ after_row (now_of T.table frame.now.hint self.old) texts is_last) }
+    {
+        let drawing: Drawing<'_, T, D, C, B> = Drawing {
+            pen: Pen {
+                sheet: &frame.sheet,
+                is_colored: true,
+                of: PhantomData,
+            },
+        };
+        drawing.push_top(buf, self.rows)?;
+        let next = drawing.push_above(&mut self.cells, &mut self.kept, buf, self.lines, self.rows)?;
+        let height = drawing.pen.height_of(self.rows);
+        let below = next + height;
+        drawing.push_single_row(buf, next, self.rows, cells, are_plain)?;
+        self.end_row(below, is_last);
+        Ok(())
+    }
+
+    // Whether these cells may be lent as the next row, and then whether each text is known to be plain.
+    #[inline(always)]
+    pub(crate) fn lent_plainness<X, D, C, B>(
+        &self,
+        frame: &Frame<'_, D, C, B>,
+        cells: &[X],
+    ) -> Option<bool>
+    where
+        X: AsStr,
+        D: Dimension,
+        C: Colors,
+        B: Allocator,
+        requires sound { IsSoundAt (bare_table D.width D.height C.color frame.now.sheet) frame.now self.now }
+        ensures fits { IsSome result ↔ LentFits (now_of (bare_table D.width D.height C.color frame.now.sheet) frame.now.hint self.now) (map X.text cells.now) }
+        ensures plain { result ≡ Some true → ArePlain frame.now.sheet.columns (map X.text cells.now) }
+    {
+        if frame.sheet.config.spans().is_empty()
+            && frame.sheet.dimension.get_height(self.rows) == 1
+        {
+            return self.plainness(frame, cells, false);
+        }
+        None
+    }
+}
