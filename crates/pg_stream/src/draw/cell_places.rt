@@ -22,8 +22,7 @@ where
     C: Colors,
     B: Allocator,
 {
-    // The style of a cell, as its lines need it: where all of them have one left share, its alignments
-    // say no more, and aren't looked up.
+    // Where all lines of a cell have one left share, its alignments say no more, and aren't looked up.
     #[inline(always)]
     pub(crate) fn style_of_lines(self, left: Option<usize>, pos: Position) -> CellStyle<'f, B>
         ensures { DrawsAs left (style_of result) (style_at T.table.config pos) }
@@ -34,7 +33,6 @@ where
         }
     }
 
-    // Where a text stands in the cell at a place, which has so many columns and lines.
     pub(crate) fn place_of_text(
         self,
         text: &str,
@@ -55,7 +53,6 @@ where
         }
     }
 
-    // The same where the style is known; a cell of no line shows none.
     fn place_in_style(
         self,
         style: &CellStyle<'_, B>,
@@ -69,6 +66,7 @@ where
         ensures place { result ≡ place_in (style_at T.table.config pos) text.now width height }
         ensures lines { result.skip + result.shown ≤ length (lines_of text.now) }
     {
+        // A cell of no line shows none.
         if height == 0 {
             return CellPlace {
                 top: 0,

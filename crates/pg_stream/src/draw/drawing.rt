@@ -37,7 +37,6 @@ where
     C: Colors,
     B: Allocator,
 {
-    // How many rows the rectangle of a place has.
     #[inline(always)]
     pub(crate) fn rect_rows(self, pos: Position) -> usize
         ensures { result ≡ rect_rows T.table.config.spans pos }
@@ -45,7 +44,6 @@ where
         self.pen.sheet.config.rect_rows(pos)
     }
 
-    // How many rows and columns it has.
     #[inline(always)]
     pub(crate) fn rect_size(self, pos: Position) -> (usize, usize)
         ensures rows { result.0 ≡ rect_rows T.table.config.spans pos }
@@ -54,7 +52,6 @@ where
         self.pen.sheet.config.rect_size(pos)
     }
 
-    // How many columns the rectangle of a place has.
     #[inline(always)]
     pub(crate) fn rect_columns(self, pos: Position) -> usize
         ensures { result ≡ rect_columns T.table.config.spans pos }
@@ -62,7 +59,6 @@ where
         self.pen.sheet.config.rect_columns(pos)
     }
 
-    // The top margin, where no row stands already.
     pub(crate) fn push_top<W: Allocator>(
         self,
         buf: &mut String<W>,
@@ -76,7 +72,6 @@ where
         self.pen.push_top(buf)
     }
 
-    // A cell that begins at a place, where it has so many rows and columns and room for its text.
     pub(crate) fn begin_cell<S: AsStr>(
         self,
         value: S,

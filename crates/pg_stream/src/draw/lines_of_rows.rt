@@ -19,7 +19,6 @@ where
     C: Colors,
     B: Allocator,
 {
-    // The lines of a row, of which the first is line `index` of the body.
     pub(crate) fn push_lines<S: AsStr + Drop, A: Allocator, W: Allocator>(
         self,
         opened: &mut OpenCells<S, A>,
@@ -52,7 +51,6 @@ where
     B: Allocator,
     A: Allocator,
 {
-    // A line of a row, between its margins.
     fn push_body_line<W: Allocator>(
         &self,
         buf: &mut String<W>,
@@ -68,7 +66,6 @@ where
         self.table.pen.push_line_end(buf, index)
     }
 
-    // A line of a row.
     fn push_line_of_row<W: Allocator>(
         &self,
         buf: &mut String<W>,
@@ -86,7 +83,6 @@ where
             .push_vertical(buf, Position::new(row, self.table.pen.columns()), line)
     }
 
-    // What a column adds to a line of a row.
     fn push_part<W: Allocator>(
         &self,
         buf: &mut String<W>,

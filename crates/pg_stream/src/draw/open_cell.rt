@@ -50,7 +50,6 @@ impl<S: AsStr> Model for OpenCell<S> {
 }
 
 impl<S: AsStr> OpenCell<S> {
-    // A cell of which nothing is drawn yet.
     pub(crate) fn new(value: S, begun: usize, width: usize, place: CellPlace) -> OpenCell<S>
         requires { place.skip + place.shown ≤ length (lines_of (S.text value)) }
         ensures { result ≡ record { begun = begun; text = S.text value; drawn = 0; width = width; place = place } }
@@ -90,7 +89,6 @@ impl<S: AsStr> OpenCell<S> {
         self.place
     }
 
-    // The line of the text that is shown next, or an empty one where the next line shows none.
     pub(crate) fn line(&self) -> &str
         ensures { result.now ≡ line_if self.now.text (text_line_at self.now.place self.now.drawn) }
     {
@@ -101,7 +99,6 @@ impl<S: AsStr> OpenCell<S> {
         cursor.next_line(self.value.as_str()).unwrap_or("")
     }
 
-    // Goes on to the next line.
     pub(crate) fn draw_line(&mut self)
         requires { self.old.drawn + 1 < 2 ^ 64 }
         ensures { self.new ≡ record self.old { drawn = self.old.drawn + 1 } }
@@ -114,7 +111,6 @@ impl<S: AsStr> OpenCell<S> {
     }
 }
 
-// A cursor at the line of this number.
 fn cursor_at(text: &str, line: usize) -> LineCursor
     requires { line ≤ length (lines_of text.now) }
     ensures stands { StandsIn result text.now }
@@ -127,7 +123,6 @@ fn cursor_at(text: &str, line: usize) -> LineCursor
     cursor
 }
 
-// Whether a line of the text stands at a line of its cell.
 fn is_text_line(place: CellPlace, line: usize) -> bool
     ensures { result ≡ is_some (text_line_at place line) }
 {

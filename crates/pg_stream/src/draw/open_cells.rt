@@ -26,7 +26,6 @@ impl<S: AsStr, A: Allocator> Model for OpenCells<S, A> {
 }
 
 impl<S: AsStr + Drop, A: Allocator> OpenCells<S, A> {
-    // No open cells, in so many columns.
     pub(crate) fn new(alloc: A, columns: usize) -> Result<OpenCells<S, A>, AllocError>
         ensures { IfOk result (λ cells. cells ≡ replicate columns None) }
     {
@@ -72,7 +71,6 @@ impl<S: AsStr + Drop, A: Allocator> OpenCells<S, A> {
         self.slots.get(column)?.as_ref()
     }
 
-    // Opens a cell in a column.
     pub(crate) fn put(&mut self, column: usize, cell: OpenCell<S>)
         requires { column < length self.old }
         ensures { self.new ≡ slice_set self.old column (Some cell) }
@@ -80,7 +78,6 @@ impl<S: AsStr + Drop, A: Allocator> OpenCells<S, A> {
         self.slots[column] = Some(cell);
     }
 
-    // No cell is open in a column.
     pub(crate) fn clear(&mut self, column: usize)
         requires { column < length self.old }
         ensures { self.new ≡ slice_set self.old column None }
@@ -88,7 +85,6 @@ impl<S: AsStr + Drop, A: Allocator> OpenCells<S, A> {
         self.slots[column] = None;
     }
 
-    // One more line of each cell is drawn.
     pub(crate) fn draw_line(&mut self)
         requires { AllOpen (λ x cell. cell.drawn + 1 < 2 ^ 64) self.old }
         ensures { self.new ≡ map (draw_cell 1) self.old }
@@ -99,14 +95,12 @@ impl<S: AsStr + Drop, A: Allocator> OpenCells<S, A> {
     }
 }
 
-// How many slots hold a cell.
 fn count_open<S: AsStr>(slots: &[Option<OpenCell<S>>]) -> usize
     ensures { result ≡ count_by is_some slots.now }
 {
     slots.iter().filter(|slot| slot.is_some()).count()
 }
 
-// One more line of a cell is drawn.
 fn draw_slot<S: AsStr>(slot: &mut Option<OpenCell<S>>)
     requires { IfSome slot.old (λ cell. cell.drawn + 1 < 2 ^ 64) }
     ensures { slot.new ≡ draw_cell 1 slot.old }

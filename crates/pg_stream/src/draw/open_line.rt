@@ -42,7 +42,6 @@ where
     B: Allocator,
     A: Allocator,
 {
-    // The next line of the open cell of a column.
     pub(crate) fn push_cell_line<W: Allocator>(
         &self,
         buf: &mut String<W>,
@@ -62,7 +61,6 @@ where
         }
     }
 
-    // The next line of an open cell that begins at this place, in a style that draws its lines.
     #[inline(always)]
     fn push_line_in_style<W: Allocator>(
         &self,

@@ -25,8 +25,6 @@ where
     C: Colors,
     B: Allocator,
 {
-    // The separator above a row, where it is there, as line `index` of the body; answers the index of
-    // the line below.
     #[inline(always)]
     pub(crate) fn push_above<S: AsStr + Drop, A: Allocator, W: Allocator>(
         self,
@@ -56,7 +54,6 @@ where
         Ok(index + 1)
     }
 
-    // Where the cell of a column ends, or those before it where that is further right.
     pub(crate) fn end_past<S: AsStr + Drop, A: Allocator>(
         self,
         opened: &OpenCells<S, A>,
@@ -84,7 +81,6 @@ where
     B: Allocator,
     A: Allocator,
 {
-    // The separator below the last of so many rows, where it is there, as line `index` of the body.
     pub(crate) fn push_below<W: Allocator>(
         &self,
         buf: &mut String<W>,
@@ -101,8 +97,8 @@ where
         self.table.pen.push_line_end(buf, index)
     }
 
-    // The separator above a row: the one that is kept, or a new one, which is kept where those above
-    // all rows but the first are equal.
+    // Where the separators above all rows but the first are equal, one is drawn, and the others are copies
+    // of it.
     #[inline(never)]
     fn push_kept_separator<W: Allocator>(
         &self,
@@ -128,7 +124,6 @@ where
         Ok(())
     }
 
-    // The separator above a row of a table of so many rows, or below the last one.
     fn push_separator<W: Allocator>(
         &self,
         buf: &mut String<W>,
@@ -143,7 +138,6 @@ where
         run.close(buf)
     }
 
-    // What the columns add to a separator, one after another.
     fn push_columns<W: Allocator>(
         &self,
         mut run: Run<'f, ANSIBuf<B>>,
@@ -163,7 +157,6 @@ where
         Ok(run)
     }
 
-    // What a column adds, which may lie inside a cell that begins further left.
     fn push_column<W: Allocator>(
         &self,
         run: Run<'f, ANSIBuf<B>>,
@@ -183,7 +176,6 @@ where
         self.push_item(run, buf, pos, rows)
     }
 
-    // The line of an open cell, or the horizontal.
     fn push_item<W: Allocator>(
         &self,
         run: Run<'f, ANSIBuf<B>>,

@@ -39,15 +39,13 @@ where
     C: Colors,
     B: Allocator,
 {
-    // Whether rows of this height are drawn as their cells come.
     pub(crate) fn draws_at_once(self, height: usize) -> bool
         ensures { result ≡ ((height == 1) && (length T.table.config.spans == 0)) }
     {
         height == 1 && self.pen.sheet.config.spans().is_empty()
     }
 
-    // The one line of a row of these cells, as line `index` of the body. Texts that are known to be plain
-    // aren't read for it.
+    // Texts that are known to be plain aren't read for their line.
     #[inline(always)]
     pub(crate) fn push_single_row<S: AsStr + Drop, I: Iterator<Item = S>, W: Allocator>(
         self,
@@ -65,8 +63,7 @@ where
         self.pen.push_line_end(buf, index)
     }
 
-    // The cells of the row, one after the other, and the vertical behind the last one. They stand out of
-    // line, so that what is round them stands in the loop over the rows.
+    // Out of line, so that what is round the cells stands in the loop over the rows.
     #[inline(never)]
     fn push_single_cells<S: AsStr + Drop, I: Iterator<Item = S>, W: Allocator>(
         self,
@@ -94,8 +91,7 @@ where
             .push_vertical(buf, Position::new(row, self.pen.columns()), 0)
     }
 
-    // A cell of the row: the vertical left of it, and its line. What draws it in the style of all cells
-    // stands in the loop over the columns.
+    // What draws a cell in the style of all cells stands in the loop over the columns.
     #[inline(always)]
     fn push_single_cell<W: Allocator>(
         self,
@@ -111,8 +107,7 @@ where
         }
     }
 
-    // The one line of a cell whose style is looked up. It is told by its parts: a cell that were lent here
-    // would stand in memory for each column.
+    // The cell is told by its parts: one that were lent here would stand in memory for each column.
     #[inline(never)]
     fn push_own_text<W: Allocator>(
         self,
@@ -136,7 +131,6 @@ where
         self.push_single_text(buf, &style, &cell)
     }
 
-    // The one line of a cell, which has this style.
     #[inline(always)]
     fn push_single_text<W: Allocator>(
         self,

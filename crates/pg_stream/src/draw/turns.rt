@@ -25,8 +25,6 @@ where
     C: Colors,
     B: Allocator,
 {
-    // The cells of a row begin, of which the columns hold what is open before it. Those that other
-    // cells hold are let go.
     pub(crate) fn begin<S: AsStr + Drop, A: Allocator, I: Iterator<Item = S>>(
         self,
         opened: &mut OpenCells<S, A>,
@@ -49,8 +47,6 @@ where
         }
     }
 
-    // A cell begins in its column, unless another one holds its place. Answers where the cell of the column
-    // ends, or those before it where that is further right.
     fn begin_one<S: AsStr + Drop, A: Allocator>(
         self,
         opened: &mut OpenCells<S, A>,
@@ -77,7 +73,6 @@ where
         self.end_past(opened, column, end)
     }
 
-    // The cells that end with a row leave.
     pub(crate) fn close<S: AsStr + Drop, A: Allocator>(
         self,
         opened: &mut OpenCells<S, A>,
@@ -93,7 +88,6 @@ where
         }
     }
 
-    // The cell of a column leaves, if it ends with the row.
     fn close_one<S: AsStr + Drop, A: Allocator>(
         self,
         opened: &mut OpenCells<S, A>,
@@ -111,7 +105,6 @@ where
         }
     }
 
-    // Whether the cell of a column ends with the row.
     fn is_done<S: AsStr + Drop, A: Allocator>(
         self,
         opened: &OpenCells<S, A>,
@@ -130,7 +123,6 @@ where
     }
 }
 
-// Whether no cell holds a column, where those before it end here.
 fn is_free<S: AsStr + Drop, A: Allocator>(
     opened: &OpenCells<S, A>,
     column: usize,

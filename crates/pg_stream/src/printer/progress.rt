@@ -37,8 +37,6 @@ pub(crate) struct Progress<'k, S: AsStr, A: Allocator = Global> {
 }
 
 impl<S: AsStr + Drop, A: Allocator> Progress<'_, S, A> {
-    // Prints the next row of the table of a frame, as `RowPrinter::row` does, and copies the separator
-    // above it where it is kept. `are_plain` where each text is known to be plain.
     #[inline(always)]
     pub(crate) fn push_row<'f, T, D, C, B, I, W>(
         &mut self,
@@ -84,8 +82,6 @@ impl<S: AsStr + Drop, A: Allocator> Progress<'_, S, A> {
         Ok(())
     }
 
-    // Prints the next row of the table of a frame, if it fits, as `push_row` does. Else it is named by its
-    // number, and nothing is appended.
     #[inline(always)]
     pub(crate) fn try_row<'f, T, D, C, B, V, W>(
         &mut self,
@@ -114,8 +110,7 @@ impl<S: AsStr + Drop, A: Allocator> Progress<'_, S, A> {
         Ok(())
     }
 
-    // Prints the next row of the table of a frame, as `push_row` does. Where its cells are drawn as they
-    // come, they are only lent.
+    // Where the cells of a row are drawn as they come, they are only lent: then nothing of them is moved.
     #[inline(always)]
     pub(crate) fn push_cells<'f, T, D, C, B, V, W>(
         &mut self,
@@ -161,7 +156,6 @@ impl<S: AsStr + Drop, A: Allocator> Progress<'_, S, A> {
         self.push_row::<T, D, C, B, IntoIter<S, V>, W>(frame, cells, are_plain, is_last, buf)
     }
 
-    // The same, with this room for a separator, and none that is kept.
     pub(crate) fn with_room<'r>(self, room: &'r mut [u8]) -> Progress<'r, S, A>
         ensures { result ≡ record self.entry { kept = record { text = None; room = length room.old } } }
     {
@@ -181,7 +175,6 @@ impl<S: AsStr + Drop, A: Allocator> Progress<'_, S, A> {
         }
     }
 
-    // One more row is printed, with which so many lines are.
     #[inline(always)]
     pub(crate) fn end_row(&mut self, lines: usize, is_last: bool)
         requires { self.old.rows + 1 < 2 ^ 64 }
@@ -192,7 +185,6 @@ impl<S: AsStr + Drop, A: Allocator> Progress<'_, S, A> {
         self.is_ended = is_last;
     }
 
-    // Ends the table of a frame, as `RowPrinter::finish` does.
     pub(crate) fn push_end<'f, T, D, C, B, W>(
         &self,
         frame: &'f Frame<'f, D, C, B>,
@@ -232,7 +224,6 @@ impl<S: AsStr + Drop, A: Allocator> Progress<'_, S, A> {
             .push_bottom(buf, is_bare(is_first, self.lines, has_last))
     }
 
-    // Prints all rows of the table of a frame and ends it, as `RowPrinter::print_rows` does.
     pub(crate) fn push_rows<'f, T, D, C, B, Cells, Rows, W>(
         self,
         frame: &'f Frame<'f, D, C, B>,

@@ -49,8 +49,7 @@ impl<'a, S: AsStr, D: Dimension, C: Colors, B: Allocator, A: Allocator> RowPrint
 }
 
 impl<S: AsStr, A: Allocator> Progress<'_, S, A> {
-    // Whether these cells may be printed as the next row of the table of a frame, as `RowPrinter::fits`
-    // tells, and then whether each text is known to be plain: such a row is read but once.
+    // Where the row fits, whether each text is known to be plain: such a row is read but once.
     #[inline(always)]
     pub(crate) fn plainness<X, D, C, B>(
         &self,
@@ -76,7 +75,6 @@ impl<S: AsStr, A: Allocator> Progress<'_, S, A> {
         None
     }
 
-    // Whether a row of so many cells comes next.
     fn is_next<D, C, B: Allocator>(
         &self,
         frame: &Frame<'_, D, C, B>,
@@ -92,7 +90,6 @@ impl<S: AsStr, A: Allocator> Progress<'_, S, A> {
     }
 }
 
-// Whether a row is one of so many, where that is known, and told to be the last one where it is that.
 fn agrees(hint: Option<usize>, row: usize, is_last: bool) -> bool
     requires { row < usize.MAX }
     ensures { IsTrue result ↔ IfSome hint (λ rows. (row < rows) × (is_last ≡ ((row + 1) == rows))) }
@@ -103,7 +100,6 @@ fn agrees(hint: Option<usize>, row: usize, is_last: bool) -> bool
     }
 }
 
-// Whether the rectangles end with a row, if it is the last one.
 #[inline(always)]
 fn ends_spans<B: Allocator>(
     config: &SpannedConfig<B>,
@@ -120,8 +116,7 @@ fn ends_spans<B: Allocator>(
 impl<'a, D: Dimension, C: Colors, B: Allocator> Frame<'a, D, C, B> {
     ghost use Rattle.pg_picture.specs.Inside.Sheets.{bare_table};
 
-    // Whether each cell that begins in a row has room for its text, and then whether each text is known
-    // to be plain. None is known to be where a cell spans others.
+    // No text is known to be plain where a cell spans others.
     #[inline(always)]
     fn plainness<S: AsStr>(&self, row: usize, cells: &[S]) -> Option<bool>
         requires row { row + 1 < 2 ^ 64 }
@@ -139,8 +134,7 @@ impl<'a, D: Dimension, C: Colors, B: Allocator> Frame<'a, D, C, B> {
         None
     }
 
-    // The same where no cell spans rows or columns: each is as wide as its column and as high as the
-    // row.
+    // Where no cell spans others, each is as wide as its column and as high as the row.
     #[inline(always)]
     fn plainness_of_single<S: AsStr>(&self, row: usize, cells: &[S]) -> Option<bool>
         requires row { row + 1 < 2 ^ 64 }
@@ -163,7 +157,6 @@ impl<'a, D: Dimension, C: Colors, B: Allocator> Frame<'a, D, C, B> {
         Some(are_plain)
     }
 
-    // Whether each cell that begins in a row has room for its text.
     fn have_room<S: AsStr>(&self, row: usize, cells: &[S]) -> bool
         requires row { row + 1 < 2 ^ 64 }
         requires whole { length cells.now ≡ self.now.sheet.columns }
@@ -184,7 +177,6 @@ impl<'a, D: Dimension, C: Colors, B: Allocator> Frame<'a, D, C, B> {
         true
     }
 
-    // Whether a place in the left column of its owner has room, if it is its own owner.
     fn has_room_if_own(&self, span: Option<Span>, text: &str, pos: Position) -> bool
         requires spans { spans_fit_columns self.now.sheet.config.now.spans self.now.sheet.columns ≡ true }
         requires column { pos.col < self.now.sheet.columns }
@@ -197,8 +189,6 @@ impl<'a, D: Dimension, C: Colors, B: Allocator> Frame<'a, D, C, B> {
         begins_above(span, pos.row) || self.has_room(text, pos)
     }
 
-    // Whether the rectangle of a place has an end, a width and a height that are numbers, and room
-    // for a text.
     fn has_room(&self, text: &str, pos: Position) -> bool
         requires rows { 0 < rect_rows self.now.sheet.config.now.spans pos }
         requires columns { 0 < rect_columns self.now.sheet.config.now.spans pos }
@@ -222,8 +212,6 @@ impl<'a, D: Dimension, C: Colors, B: Allocator> Frame<'a, D, C, B> {
         }
     }
 
-    // Whether a text has room in the cell at a place, which has so many columns and lines, and then
-    // whether it is known to be plain.
     #[inline(always)]
     fn plainness_in_cell(
         &self,
@@ -244,8 +232,7 @@ impl<'a, D: Dimension, C: Colors, B: Allocator> Frame<'a, D, C, B> {
         None
     }
 
-    // Whether the lines of a row, with its separator, can be counted after so many. The separator is asked
-    // for only where they can't be without a doubt.
+    // The separator is asked for only where the lines can't be counted without a doubt.
     fn counts_lines(&self, row: usize, lines: usize) -> bool
         requires { row < usize.MAX }
         ensures { result ≡ nat_lt (lines + length (marks_of_row self.now.sheet.config.now (D.height self.now.sheet.dimension.now) row)) (2 ^ 64) }
@@ -257,7 +244,6 @@ impl<'a, D: Dimension, C: Colors, B: Allocator> Frame<'a, D, C, B> {
         }
     }
 
-    // How many lines the separator above a row takes.
     #[tactic(auto, unfolding(crate::specs::Inside::Slots::separator_height))]
     fn separator_lines(&self, row: usize) -> usize
         requires { row < usize.MAX }

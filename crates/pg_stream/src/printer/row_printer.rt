@@ -118,7 +118,6 @@ impl<'a, S: AsStr + Drop, D: Dimension, C: Colors, B: Allocator, A: Allocator> R
         })
     }
 
-    // What it was told, and how far it is printed.
     #[inline(always)]
     pub(crate) fn into_parts(self) -> (Frame<'a, D, C, B>, Progress<'a, S, A>)
         ensures is { printer_of result.0 result.1 ≡ self.entry }
@@ -213,7 +212,6 @@ impl<'a, S: AsStr + Drop, D: Dimension, C: Colors, B: Allocator, A: Allocator> R
     }
 }
 
-// How many lines the body has, where the number of rows is known.
 fn height_of_body<B: Allocator, D: Dimension>(
     config: &SpannedConfig<B>,
     dimension: &D,

@@ -58,7 +58,6 @@ impl<'a, D: Dimension, C: Colors, B: Allocator> Frame<'a, D, C, B> {
     ghost use Rattle.pg_picture.specs.Inside.Sheets.{bare_table};
     ghost use Rattle.pg_stream.specs.ShownRows.{row_cell_shows_all};
 
-    // The first cell that begins in a row, from left column to left column, of which some line isn't shown.
     fn first_unshown<S: AsStr>(&self, row: usize, cells: &[S]) -> Option<Position>
         requires whole { length cells.now ≡ self.now.sheet.columns }
         requires spans { spans_fit_columns self.now.sheet.config.now.spans self.now.sheet.columns ≡ true }
@@ -79,7 +78,6 @@ impl<'a, D: Dimension, C: Colors, B: Allocator> Frame<'a, D, C, B> {
         None
     }
 
-    // Whether a place in the left column of its owner shows each line of a text, if it is its own owner.
     fn shows_all_if_own(&self, span: Option<Span>, text: &str, pos: Position) -> bool
         requires spans { spans_fit_columns self.now.sheet.config.now.spans self.now.sheet.columns ≡ true }
         requires left { is_left self.now.sheet.config.now.spans pos.row pos.col ≡ true }
@@ -92,7 +90,6 @@ impl<'a, D: Dimension, C: Colors, B: Allocator> Frame<'a, D, C, B> {
         begins_above(span, pos.row) || self.shows_all(text, pos)
     }
 
-    // Whether the rectangle of a place shows each line of a text that has room there.
     fn shows_all(&self, text: &str, pos: Position) -> bool
         requires some { 0 < rect_rows self.now.sheet.config.now.spans pos }
         requires room { HasRoom (bare_table D.width D.height C.color self.now.sheet) pos text.now }

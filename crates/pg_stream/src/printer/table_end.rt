@@ -40,7 +40,6 @@ impl<'a, S: AsStr + Drop, D: Dimension, C: Colors, B: Allocator, A: Allocator> R
 }
 
 impl<S: AsStr + Drop, A: Allocator> Progress<'_, S, A> {
-    // Ends the table of a frame behind the rows so far, if it may end there, as `RowPrinter::close` does.
     pub(crate) fn close<'f, T, D, C, B, W>(
         &mut self,
         frame: &'f Frame<'f, D, C, B>,
@@ -67,7 +66,6 @@ impl<S: AsStr + Drop, A: Allocator> Progress<'_, S, A> {
         Ok(self.push_end::<T, D, C, B, W>(frame, buf)?)
     }
 
-    // Whether the table of a frame may end behind the rows so far, of which there is one.
     fn may_end<D, C, B: Allocator>(&self, frame: &Frame<'_, D, C, B>) -> bool
         requires { 0 < self.now.rows }
         ensures { IsTrue result ↔ IfSome frame.now.hint (λ rows. self.now.rows ≡ rows) × (spans_fit frame.now.sheet.config.now.spans self.now.rows frame.now.sheet.columns ≡ true) }

@@ -26,7 +26,6 @@ pub(crate) struct HeldRows<'k, S: AsStr, A: Allocator = Global, V: Allocator = G
 }
 
 impl<S: AsStr + Drop, A: Allocator, V: Allocator> HeldRows<'_, S, A, V> {
-    // Holds a row, and prints the one that was held until now, as `RowStream::push` does.
     #[inline(always)]
     pub(crate) fn push<'f, T, D, C, B, W>(
         &mut self,
@@ -54,7 +53,6 @@ impl<S: AsStr + Drop, A: Allocator, V: Allocator> HeldRows<'_, S, A, V> {
             .try_row::<T, D, C, B, V, W>(frame, row, false, buf)
     }
 
-    // Prints the row that is held as the last one, and ends the table, as `RowStream::finish` does.
     pub(crate) fn finish<'f, T, D, C, B, W>(
         self,
         frame: &'f Frame<'f, D, C, B>,
@@ -79,7 +77,6 @@ impl<S: AsStr + Drop, A: Allocator, V: Allocator> HeldRows<'_, S, A, V> {
         Ok(progress.push_end::<T, D, C, B, W>(frame, buf)?)
     }
 
-    // The same, with this room for a separator, and none that is kept.
     fn with_room<'r>(self, room: &'r mut [u8]) -> HeldRows<'r, S, A, V>
         ensures { result ≡ record self.entry { progress = record self.entry.progress { kept = record { text = None; room = length room.old } } } }
     {
@@ -89,7 +86,6 @@ impl<S: AsStr + Drop, A: Allocator, V: Allocator> HeldRows<'_, S, A, V> {
         }
     }
 
-    // Pushes all rows that an iterator gives, and ends the table, as `RowStream::print_all` does.
     pub(crate) fn push_all<'f, T, D, C, B, I, W>(
         self,
         frame: &'f Frame<'f, D, C, B>,
@@ -119,8 +115,6 @@ impl<S: AsStr + Drop, A: Allocator, V: Allocator> HeldRows<'_, S, A, V> {
         pushed.finish::<T, D, C, B, W>(frame, buf)
     }
 
-    // Pushes the rows before the first error that an iterator gives, and ends the table if there is
-    // none, as `RowStream::print_results` does.
     pub(crate) fn push_results<'f, T, D, C, B, E, I, W>(
         self,
         frame: &'f Frame<'f, D, C, B>,

@@ -73,8 +73,7 @@ impl<'a, S: AsStr + Drop, D: Dimension, C: Colors, B: Allocator, A: Allocator> L
 }
 
 impl<S: AsStr + Drop, A: Allocator> Progress<'_, S, A> {
-    // Prints the next row of the table of a frame, as `push_row` does, where it has one line and no cell
-    // spans others. Its cells are never open, so they needn't be those of other rows.
+    // The cells of such a row are never open, so they needn't be of the type of other rows' cells.
     #[inline(always)]
     pub(crate) fn push_single<'f, T, D, C, B, X, I, W>(
         &mut self,
@@ -117,7 +116,6 @@ impl<S: AsStr + Drop, A: Allocator> Progress<'_, S, A> {
         Ok(())
     }
 
-    // Whether these cells may be lent as the next row, and then whether each text is known to be plain.
     #[inline(always)]
     pub(crate) fn lent_plainness<X, D, C, B>(
         &self,

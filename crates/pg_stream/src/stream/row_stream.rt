@@ -76,7 +76,6 @@ impl<'a, S: AsStr, D: Dimension, C: Colors, B: Allocator, A: Allocator, V: Alloc
     ghost invariant = { λ s. AreSoundAt (bare_table D.width D.height C.color s.frame.sheet) s.frame s.rows };
 }
 
-// The cells that anything gives, in a vector.
 fn collect_cells<S: AsStr + Drop, R: IntoIterator<Item = S>, V: Allocator>(
     alloc: V,
     row: R,

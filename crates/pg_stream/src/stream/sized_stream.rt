@@ -201,7 +201,6 @@ impl<'a, S: AsStr + Drop, D: Dimension, C: Colors, B: Allocator, A: Allocator> S
 impl<'a, D: Dimension, C: Colors, B: Allocator> Frame<'a, D, C, B> {
     ghost use Rattle.pg_picture.specs.Inside.Sheets.{bare_table};
 
-    // The same with other sizes.
     fn with_sizes<'s, E: Dimension>(&'s self, sizes: &'s E) -> Frame<'s, E, C, B>
         ensures table { bare_table E.width E.height C.color result.sheet ≡ record (bare_table D.width D.height C.color self.now.sheet) { width = E.width sizes.now; height = E.height sizes.now } }
         ensures hint { result.hint ≡ self.now.hint }
