@@ -1,6 +1,11 @@
 -- A stream that no row comes to, and that holds none, leaves its buffer as it is.
 use Rattle.std.proofs.Common.{◌≡◌, Option, Some, None, refl, subst}
-use Rattle.std.specs.Prelude.{String}
+use Rattle.std.specs.Prelude.{String, option_map}
+
+-- what holds no texts holds no row
+pub none-held : {A B : Type 0} (f : A → B) (held : Option A) → option_map f held ≡ None → held ≡ None
+none-held f None is = refl
+none-held f (Some row) is = cc
 
 module _ {I A H Z : Type 0} (steps : I → Option A → I → Type 0) where
   -- where no row was held, and the iterator gives none, nothing is held and nothing was appended

@@ -1,5 +1,5 @@
 -- The text of a row: the top margin above row 0, the separator above the row, and its lines.
-use Rattle.std.proofs.Common.{◌≡◌, ℕ, zero, suc, ◌+◌, ◌<◌, ◌≤◌, Bool, true, false, ◌&&◌, ◌==◌, List, [], ◌∷◌, ◌++◌, map, flat_map, length, replicate, Option, Some, None, refl, sym, ap, ap₂, ◌∙◌, arith, add-zero, add_assoc, inl, inr, if◌then◌else◌, eqb-true}
+use Rattle.std.proofs.Common.{◌≡◌, ℕ, zero, suc, ◌+◌, ◌<◌, ◌≤◌, Bool, true, false, ◌&&◌, ◌==◌, List, [], ◌∷◌, ◌++◌, map, flat_map, length, replicate, Option, Some, None, refl, sym, ap, ap₂, ◌∙◌, arith, add-zero, add_assoc, append_assoc, inl, inr, if◌then◌else◌, eqb-true}
 use Rattle.std.specs.List.{range_with_len, enumerate_from}
 use Rattle.std.proofs.lemmas.Bool.{cases_Bool}
 use Rattle.pg_layout.specs.declared.position.Position.{Position}
@@ -46,7 +46,7 @@ line-now hint t h height i mark l knows =
     let left = margin-now hint t.config.margin.left t.config.margin_offset.left t.config.margin_color.left i h height l knows in
     let right = margin-now hint t.config.margin.right t.config.margin_offset.right t.config.margin_color.right i h height l knows in
     let feed = sym (none-of-two t.config.margin.top.size i) in
-    rw (feed, left, right) refl
+    rw (feed, left, right) (sym (append_assoc (feed_before ((t.config.margin.top.size == 0) && (i == 0))) (written (side_margin_at height t.config.margin.left t.config.margin_offset.left t.config.margin_color.left i)) (mark_text t mark ++ written (side_margin_at height t.config.margin.right t.config.margin_offset.right t.config.margin_color.right i))))
 
 -- one line, and those after it
 continued-cons : (n : ℕ) (x : Text) (xs : List Text) → continued n (x ∷ xs) ≡ (feed_before (n == 0) ++ x) ++ continued (n + 1) xs

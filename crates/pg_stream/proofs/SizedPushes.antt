@@ -108,6 +108,6 @@ module _ {D C B S A : Type 0} (width height : D → ℕ → ℕ) (color : C → 
 
     pub ends-told : {Z U : Type 0} {old new : String Z} {r : Result U StreamFault} → AppendsEnd (now_of told hint progress) old new r → AppendsEnd (now heights) old new r
     ends-told {Z} {U} {old} {new} {r} p =
-        let known : AppendsEnd (now (height_in progress.rows 0 above)) old new r = subst (λ (q : Printing). AppendsEnd q old new r) (told-now 0 told is hint known progress) p in
+        let ended : AppendsEnd (now (height_in progress.rows 0 above)) old new r = subst (λ (q : Printing). AppendsEnd q old new r) (told-now 0 told is hint known progress) p in
         let text : finish_text (now (height_in progress.rows 0 above)) ≡ finish_text (now heights) = ap finish_text (sym (told-now 0 told is hint known progress)) ∙ finish_text-told in
-        record { whole = λ may. (Appends-text text (known.whole may).0, (known.whole may).1); misfit = known.misfit; tells = known.tells }
+        record { whole = λ may. (Appends-text text (ended.whole may).0, (ended.whole may).1); misfit = ended.misfit; tells = ended.tells }

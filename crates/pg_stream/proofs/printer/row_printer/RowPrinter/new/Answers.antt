@@ -26,10 +26,11 @@ unfolding printer
 invariant_of-result g c =
     let s : Printing = printer c.args.config.now c.args.columns (g.D.Dimension.width c.args.dimension.now) (g.D.Dimension.height c.args.dimension.now) (g.C.Colors.color c.args.colors.now) c.args.hint in
     let sheet = c.new-sheet.ensures in
-    rw (sheet.config, sheet.dimension, sheet.colors, sheet.columns, sheet.width, sheet.height) record {
+    record {
       printer =
-          sound-first c.args.config.now c.args.columns (g.D.Dimension.width c.args.dimension.now) (g.D.Dimension.height c.args.dimension.now) (g.C.Colors.color c.args.colors.now) c.args.hint c.in_ok-cells.cells c.requires c.in_ok-cells.ensures c.unwrap-width.result c.height_of_body-height.result
-          (some_is c.unwrap-width.result (full_width s.table) (sym c.unwrap-width.ensures ∙ width-some s c.full_width.result c.requires.width c.full_width.ensures)) c.height_of_body-height.ensures;
+          rw (sheet.config, sheet.dimension, sheet.colors, sheet.columns, sheet.width, sheet.height)
+          (sound-first c.args.config.now c.args.columns (g.D.Dimension.width c.args.dimension.now) (g.D.Dimension.height c.args.dimension.now) (g.C.Colors.color c.args.colors.now) c.args.hint c.in_ok-cells.cells c.requires c.in_ok-cells.ensures c.unwrap-width.result c.height_of_body-height.result
+          (some_is c.unwrap-width.result (full_width s.table) (sym c.unwrap-width.ensures ∙ width-some s c.full_width.result c.requires.width c.full_width.ensures)) c.height_of_body-height.ensures);
       kept = rw c.new-2.ensures.text tt;
     }
 
