@@ -1,20 +1,18 @@
 -- The text of a row of one line in a table without spans: of no cell, of some and of one more; and the room of its cells.
-use Rattle.std.proofs.Common.{◌≡◌, ℕ, ◌+◌, ◌-◌, ◌<◌, ◌≤◌, List, [], ◌++◌, flat_map, slice_index_or, Option, ap, ◌∙◌, sym, arith, append_assoc}
+use Rattle.std.proofs.Common.{◌≡◌, ℕ, ◌+◌, ◌-◌, ◌<◌, true, List, [], ◌++◌, flat_map, slice_index_or, Option, ap, ◌∙◌, sym, subst, append_assoc}
 use Rattle.std.specs.List.{range_with_len}
 use Rattle.pg_layout.specs.declared.position.Position.{Position}
 use Rattle.pg_layout.specs.Colors.{Color}
 use Rattle.pg_layout.specs.Position.{at}
 use Rattle.pg_layout.specs.Text.{Text}
-use Rattle.pg_picture.specs.Pieces.{Piece, Style, style_at, block_line, widest, written}
-use Rattle.pg_picture.specs.Sizes.{height_of_rect}
-use Rattle.pg_picture.specs.Table.{Table, rect_width, vertical}
+use Rattle.pg_picture.specs.Fits.{cell_fits}
+use Rattle.pg_picture.specs.Pieces.{Piece, Style, style_at, block_line, written}
+use Rattle.pg_picture.specs.Table.{Table, vertical}
 use Rattle.pg_picture.proofs.PiecesOfLines.{written-append}
-use Rattle.pg_picture.proofs.PlainTables.{rect_width_plain}
-use Rattle.pg_picture.proofs.Room.{cell_fits-room}
 use Rattle.pg_stream.specs.Conditions.{HasRoom}
 use Rattle.pg_stream.specs.Inside.SingleRows.{single_part, single_line}
 use Rattle.pg_stream.proofs.PartsOfLines.{written-columns_cut}
-use Rattle.pg_stream.proofs.SingleLines.{height-one}
+use Rattle.pg_stream.proofs.PlainRooms.{plain-room-fits}
 
 module _ (t : Table) (k : ℕ) where
   -- a cell's vertical and its line
@@ -24,14 +22,10 @@ module _ (t : Table) (k : ℕ) where
   part-text x p style color width text here is-style is-color is-width =
       rw (is-style, is-color, is-width, here) (sym (written-append (vertical t k 0 x) (block_line (style_at t.config (at k x)) (t.color (at k x)) text (t.width x) 1 0)))
 
-  -- it has room
-  pub part-room : t.config.spans ≡ [] → t.height k ≡ 1 → (x : ℕ) (p : Position) (style : Style) (width : ℕ) (text : Text) → p ≡ at k x → style ≡ style_at t.config p → width ≡ t.width x → HasRoom t (at k x) text
-      → ((style.padding.left.size + style.padding.right.size) + widest style.formatting text ≤ width) × (style.padding.top.size ≤ 1)
-  part-room none one x p style width text here is-style is-width room =
-      let high = height-one t none k one x in
-      let fit = cell_fits-room (style_at t.config (at k x)) text (rect_width t (at k x)) (height_of_rect t.config t.height (at k x)) room.room (omega (arith, high)) in
-      let wide = rect_width_plain t none (at k x) in
-      rw (is-style, here) (omega (arith, fit.0, wide, is-width), omega (arith, fit.1, high))
+  -- it has room in one line
+  pub part-room : t.config.spans ≡ [] → t.height k ≡ 1 → (x : ℕ) (p : Position) (width : ℕ) (text : Text) → p ≡ at k x → width ≡ t.width x → HasRoom t (at k x) text → cell_fits (style_at t.config p) text width 1 ≡ true
+  part-room none one x p width text here is-width room =
+      rw (here, is-width) (subst (λ h. cell_fits (style_at t.config (at k x)) text (t.width x) h ≡ true) one (plain-room-fits t none k x text room))
 
   module _ (texts : List Text) where
     abbrev part : ℕ → List Piece

@@ -7,7 +7,7 @@ ghost use Rattle.pg_layout.specs.Text.{Text};
 ghost use Rattle.pg_picture.specs.Appending.{Appends};
 ghost use Rattle.pg_stream.specs.Conditions.{AreRowsFrom, RowFits, RowsFit};
 ghost use Rattle.pg_stream.specs.Inside.Held.{IsSoundAt};
-ghost use Rattle.pg_stream.specs.Inside.SingleRows.{ArePlain};
+ghost use Rattle.pg_stream.specs.Inside.SingleRows.{AreOfKind};
 ghost use Rattle.pg_stream.specs.Printers.{now_of};
 ghost use Rattle.pg_stream.specs.Printing.{row_text, rows_text, finish_text, after_row};
 ghost use Rattle.pg_picture.specs.Inside.Sheets.{bare_table};
@@ -17,7 +17,7 @@ use crate::draw::{Drawing, OpenCells, OpenLine};
 use crate::fault::StreamFault;
 use crate::printer::Frame;
 use pg_layout::{Colors, Dimension};
-use pg_picture::{Drawn, Pen, SEPARATOR_ROOM, SeparatorKeeper};
+use pg_picture::{Drawn, Pen, SEPARATOR_ROOM, SeparatorKeeper, TextKind};
 use std::alloc::{AllocError, Allocator, Global};
 use std::convert::AsStr;
 use std::marker::PhantomData;
@@ -42,7 +42,7 @@ impl<S: AsStr + Drop, A: Allocator> Progress<'_, S, A> {
         &mut self,
         frame: &'f Frame<'f, D, C, B>,
         cells: I,
-        are_plain: bool,
+        kind: TextKind,
         is_last: bool,
         buf: &mut String<W>,
     ) -> Result<(), AllocError>
@@ -56,7 +56,7 @@ impl<S: AsStr + Drop, A: Allocator> Progress<'_, S, A> {
         requires is { bare_table D.width D.height C.color frame.now.sheet ≡ T.table }
         requires can { I.can_next cells × IsFinite (I.remaining cells) }
         requires sound { IsSoundAt T.table frame.now self.old }
-        requires fits { (texts : List Text) × AlwaysGives (λ x y. S.text x ≡ y) I.next_gives cells texts × RowFits (now_of T.table frame.now.hint self.old) texts is_last × (are_plain ≡ true → ArePlain T.table.columns texts) }
+        requires fits { (texts : List Text) × AlwaysGives (λ x y. S.text x ≡ y) I.next_gives cells texts × RowFits (now_of T.table frame.now.hint self.old) texts is_last × AreOfKind kind T.table.columns texts }
         ensures sound { OnOk result (IsSoundAt T.table frame.now self.new) }
         ensures appends { (texts : List Text) → AlwaysGives (λ x y. S.text x ≡ y) I.next_gives cells texts → Appends buf.old buf.new result (row_text (now_of T.table frame.now.hint self.old) texts is_last) }
         ensures after { (texts : List Text) → AlwaysGives (λ x y. S.text x ≡ y) I.next_gives cells texts → OnOk result (now_of T.table frame.now.hint self.new ≡ after_row (now_of T.table frame.now.hint self.old) texts is_last) }
@@ -70,7 +70,7 @@ impl<S: AsStr + Drop, A: Allocator> Progress<'_, S, A> {
         };
         let height = drawing.pen.height_of(self.rows);
         if drawing.draws_at_once(height) {
-            return self.push_single::<T, D, C, B, S, I, W>(frame, cells, are_plain, is_last, buf);
+            return self.push_single::<T, D, C, B, S, I, W>(frame, cells, kind, is_last, buf);
         }
         drawing.push_top(buf, self.rows)?;
         let next = drawing.push_above(&mut self.cells, &mut self.kept, buf, self.lines, self.rows)?;
@@ -103,10 +103,10 @@ impl<S: AsStr + Drop, A: Allocator> Progress<'_, S, A> {
         ensures prints { AppendsIf (RowFits (now_of T.table frame.now.hint self.old) (map S.text cells.items) is_last) self.old.rows (row_text (now_of T.table frame.now.hint self.old) (map S.text cells.items) is_last) buf.old buf.new result }
         ensures after { OnOk result (now_of T.table frame.now.hint self.new ≡ after_row (now_of T.table frame.now.hint self.old) (map S.text cells.items) is_last) }
     {
-        let Some(are_plain) = self.plainness(frame, &cells, is_last) else {
+        let Some(kind) = self.kind_if_fits(frame, &cells, is_last) else {
             return Err(StreamFault::Row(self.rows));
         };
-        self.push_cells::<T, D, C, B, V, W>(frame, cells, are_plain, is_last, buf)?;
+        self.push_cells::<T, D, C, B, V, W>(frame, cells, kind, is_last, buf)?;
         Ok(())
     }
 
@@ -116,7 +116,7 @@ impl<S: AsStr + Drop, A: Allocator> Progress<'_, S, A> {
         &mut self,
         frame: &'f Frame<'f, D, C, B>,
         cells: Vec<S, V>,
-        are_plain: bool,
+        kind: TextKind,
         is_last: bool,
         buf: &mut String<W>,
     ) -> Result<(), AllocError>
@@ -130,7 +130,7 @@ impl<S: AsStr + Drop, A: Allocator> Progress<'_, S, A> {
         requires is { bare_table D.width D.height C.color frame.now.sheet ≡ T.table }
         requires sound { IsSoundAt T.table frame.now self.old }
         requires fits { RowFits (now_of T.table frame.now.hint self.old) (map S.text cells.items) is_last }
-        requires plain { are_plain ≡ true → ArePlain T.table.columns (map S.text cells.items) }
+        requires kind { AreOfKind kind T.table.columns (map S.text cells.items) }
         ensures sound { OnOk result (IsSoundAt T.table frame.now self.new) }
         ensures appends { Appends buf.old buf.new result (row_text (now_of T.table frame.now.hint self.old) (map S.text cells.items) is_last) }
         ensures after { OnOk result (now_of T.table frame.now.hint self.new ≡ after_row (now_of T.table frame.now.hint self.old) (map S.text cells.items) is_last) }
@@ -147,13 +147,13 @@ impl<S: AsStr + Drop, A: Allocator> Progress<'_, S, A> {
             return self.push_single::<T, D, C, B, &S, Iter<'_, S>, W>(
                 frame,
                 cells.iter(),
-                are_plain,
+                kind,
                 is_last,
                 buf,
             );
         }
         let cells = cells.into_iter();
-        self.push_row::<T, D, C, B, IntoIter<S, V>, W>(frame, cells, are_plain, is_last, buf)
+        self.push_row::<T, D, C, B, IntoIter<S, V>, W>(frame, cells, kind, is_last, buf)
     }
 
     pub(crate) fn with_room<'r>(self, room: &'r mut [u8]) -> Progress<'r, S, A>
@@ -249,10 +249,10 @@ impl<S: AsStr + Drop, A: Allocator> Progress<'_, S, A> {
         let mut progress = self.with_room(&mut room);
         let mut row = first;
         for next in rows {
-            progress.push_row::<T, D, C, B, Cells, W>(frame, row, false, false, buf)?;
+            progress.push_row::<T, D, C, B, Cells, W>(frame, row, TextKind::Any, false, buf)?;
             row = next;
         }
-        progress.push_row::<T, D, C, B, Cells, W>(frame, row, false, true, buf)?;
+        progress.push_row::<T, D, C, B, Cells, W>(frame, row, TextKind::Any, true, buf)?;
         progress.push_end::<T, D, C, B, W>(frame, buf)
     }
 }

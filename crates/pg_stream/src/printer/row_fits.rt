@@ -1,25 +1,25 @@
 //! Whether a row may be printed next.
 
-ghost use Rattle.std.specs.Prelude.{◌≡◌, ◌+◌, ◌^◌, ◌<◌, ◌≤◌, ◌↔◌, ◌-◌, ◌==◌, true, false, nat_lt, [], map, length, is_some, Some, IfSome, IsSome, IsTrue};
-ghost use Rattle.std.specs.List.{list_all};
+ghost use Rattle.std.specs.Prelude.{◌≡◌, ◌+◌, ◌^◌, ◌<◌, ◌≤◌, ◌↔◌, ◌-◌, ◌==◌, true, false, nat_lt, [], map, length, is_some, IfSome, IsSome, IsTrue};
 ghost use Rattle.pg_layout.specs.Position.{is_at};
-ghost use Rattle.pg_layout.specs.Text.{is_plain_byte};
 ghost use Rattle.pg_config.specs.Spans.{owner, rect_rows, rect_columns, is_left, left_span};
 ghost use Rattle.pg_picture.specs.Fits.{cell_fits, spans_fit, spans_fit_columns};
+ghost use Rattle.pg_picture.specs.Inside.Cells.{IsOfKind};
 ghost use Rattle.pg_picture.specs.Marks.{marks_of_row};
 ghost use Rattle.pg_picture.specs.Pieces.{style_at};
 ghost use Rattle.pg_stream.specs.Conditions.{HasRoom, HaveRoom, RowFits};
 ghost use Rattle.pg_stream.specs.Printers.{printing, now_of};
 ghost use Rattle.pg_stream.specs.Inside.Held.{IsSoundAt};
-ghost use Rattle.pg_stream.specs.Inside.SingleRows.{ArePlain};
+ghost use Rattle.pg_stream.specs.Inside.SingleRows.{AreOfKind};
 ghost use Rattle.pg_stream.specs.Inside.Slots.{separator_height};
 ghost use Rattle.pg_picture.specs.Inside.Sheets.{bare_table};
 
 use crate::printer::{Frame, Progress, RowPrinter};
 use pg_config::{Span, SpannedConfig};
 use pg_layout::{Colors, Dimension, Position};
+use pg_picture::TextKind;
 use pg_picture::fits::{
-    begins_above, cell_fits, columns_of, height_of_rows, plainness_in_style, spans_fit,
+    begins_above, cell_fits, columns_of, height_of_rows, kind_if_fits, spans_fit,
     width_of_columns,
 };
 use std::alloc::Allocator;
@@ -43,20 +43,20 @@ impl<'a, S: AsStr, D: Dimension, C: Colors, B: Allocator, A: Allocator> RowPrint
         ensures { IsTrue result ↔ RowFits (printing D.width D.height C.color self.now) (map S.text cells.now) is_last }
     {
         self.progress
-            .plainness(&self.frame, cells, is_last)
+            .kind_if_fits(&self.frame, cells, is_last)
             .is_some()
     }
 }
 
 impl<S: AsStr, A: Allocator> Progress<'_, S, A> {
-    // Where the row fits, whether each text is known to be plain: such a row is read but once.
+    // Where the row fits, the kind of its texts: a row of plain ones is read but once.
     #[inline(always)]
-    pub(crate) fn plainness<X, D, C, B>(
+    pub(crate) fn kind_if_fits<X, D, C, B>(
         &self,
         frame: &Frame<'_, D, C, B>,
         cells: &[X],
         is_last: bool,
-    ) -> Option<bool>
+    ) -> Option<TextKind>
     where
         X: AsStr,
         D: Dimension,
@@ -64,13 +64,13 @@ impl<S: AsStr, A: Allocator> Progress<'_, S, A> {
         B: Allocator,
         requires sound { IsSoundAt (bare_table D.width D.height C.color frame.now.sheet) frame.now self.now }
         ensures fits { IsSome result ↔ RowFits (now_of (bare_table D.width D.height C.color frame.now.sheet) frame.now.hint self.now) (map X.text cells.now) is_last }
-        ensures plain { result ≡ Some true → ArePlain frame.now.sheet.columns (map X.text cells.now) }
+        ensures kind { IfSome result (λ kind. AreOfKind kind frame.now.sheet.columns (map X.text cells.now)) }
     {
         if self.is_next(frame, cells.len(), is_last)
             && ends_spans(frame.sheet.config, self.rows, frame.sheet.columns, is_last)
             && frame.counts_lines(self.rows, self.lines)
         {
-            return frame.plainness(self.rows, cells);
+            return frame.kind_if_room(self.rows, cells);
         }
         None
     }
@@ -116,45 +116,45 @@ fn ends_spans<B: Allocator>(
 impl<'a, D: Dimension, C: Colors, B: Allocator> Frame<'a, D, C, B> {
     ghost use Rattle.pg_picture.specs.Inside.Sheets.{bare_table};
 
-    // No text is known to be plain where a cell spans others.
+    // Where a cell spans others, no text is known to be plain.
     #[inline(always)]
-    fn plainness<S: AsStr>(&self, row: usize, cells: &[S]) -> Option<bool>
+    fn kind_if_room<S: AsStr>(&self, row: usize, cells: &[S]) -> Option<TextKind>
         requires row { row + 1 < 2 ^ 64 }
         requires whole { length cells.now ≡ self.now.sheet.columns }
         requires spans { spans_fit_columns self.now.sheet.config.now.spans self.now.sheet.columns ≡ true }
         ensures room { IsSome result ↔ HaveRoom (bare_table D.width D.height C.color self.now.sheet) row (map S.text cells.now) }
-        ensures plain { result ≡ Some true → ArePlain self.now.sheet.columns (map S.text cells.now) }
+        ensures kind { IfSome result (λ kind. AreOfKind kind self.now.sheet.columns (map S.text cells.now)) }
     {
         if self.sheet.config.spans().is_empty() {
-            return self.plainness_of_single(row, cells);
+            return self.kind_if_room_alone(row, cells);
         }
         if self.have_room(row, cells) {
-            return Some(false);
+            return Some(TextKind::Any);
         }
         None
     }
 
     // Where no cell spans others, each is as wide as its column and as high as the row.
     #[inline(always)]
-    fn plainness_of_single<S: AsStr>(&self, row: usize, cells: &[S]) -> Option<bool>
+    fn kind_if_room_alone<S: AsStr>(&self, row: usize, cells: &[S]) -> Option<TextKind>
         requires row { row + 1 < 2 ^ 64 }
         requires alone { self.now.sheet.config.now.spans ≡ [] }
         requires whole { length cells.now ≡ self.now.sheet.columns }
         ensures room { IsSome result ↔ HaveRoom (bare_table D.width D.height C.color self.now.sheet) row (map S.text cells.now) }
-        ensures plain { result ≡ Some true → ArePlain self.now.sheet.columns (map S.text cells.now) }
+        ensures kind { IfSome result (λ kind. AreOfKind kind self.now.sheet.columns (map S.text cells.now)) }
     {
         let height = self.sheet.dimension.get_height(row);
-        let mut are_plain = true;
+        let mut common = TextKind::Plain;
         for column in 0..self.sheet.columns {
             let pos = Position::new(row, column);
             let width = self.sheet.dimension.get_width(column);
             let text = cells[column].as_str();
-            let Some(is_plain) = self.plainness_in_cell(text, pos, width, height) else {
+            let Some(kind) = self.kind_if_cell_fits(text, pos, width, height) else {
                 return None;
             };
-            are_plain &= is_plain;
+            common = common.and(kind);
         }
-        Some(are_plain)
+        Some(common)
     }
 
     fn have_room<S: AsStr>(&self, row: usize, cells: &[S]) -> bool
@@ -206,28 +206,28 @@ impl<'a, D: Dimension, C: Colors, B: Allocator> Frame<'a, D, C, B> {
         let height = height_of_rows(self.sheet.config, self.sheet.dimension, pos, rows);
         match (width, height) {
             (Some(width), Some(height)) => self
-                .plainness_in_cell(text, pos, width, height)
+                .kind_if_cell_fits(text, pos, width, height)
                 .is_some(),
             _ => false,
         }
     }
 
     #[inline(always)]
-    fn plainness_in_cell(
+    fn kind_if_cell_fits(
         &self,
         text: &str,
         pos: Position,
         width: usize,
         height: usize,
-    ) -> Option<bool>
+    ) -> Option<TextKind>
         ensures room { is_some result ≡ cell_fits (style_at self.now.sheet.config.now pos) text.now width height }
-        ensures plain { result ≡ Some true → list_all is_plain_byte text.now ≡ true }
+        ensures kind { IfSome result (λ kind. IsOfKind kind text.now) }
     {
         if let Some(style) = &self.sheet.all {
-            return plainness_in_style(text, style, width, height);
+            return kind_if_fits(text, style, width, height);
         }
         if cell_fits(text, self.sheet.config, pos, width, height) {
-            return Some(false);
+            return Some(TextKind::Any);
         }
         None
     }

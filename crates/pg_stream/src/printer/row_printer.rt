@@ -19,7 +19,7 @@ use crate::printer::{Frame, Progress};
 use pg_config::SpannedConfig;
 use pg_layout::{Colors, Dimension};
 use pg_picture::fits::{body_height, full_width};
-use pg_picture::{SeparatorKeeper, Sheet};
+use pg_picture::{SeparatorKeeper, Sheet, TextKind};
 use std::alloc::{AllocError, Allocator, Global};
 use std::convert::AsStr;
 use std::marker::{Brand, Model};
@@ -188,7 +188,7 @@ impl<'a, S: AsStr + Drop, D: Dimension, C: Colors, B: Allocator, A: Allocator> R
             frame,
             mut progress,
         } = self;
-        progress.push_row::<Brand, D, C, B, I, W>(&frame, cells, false, is_last, buf)?;
+        progress.push_row::<Brand, D, C, B, I, W>(&frame, cells, TextKind::Any, is_last, buf)?;
         Ok(RowPrinter { frame, progress })
     }
 

@@ -1,13 +1,13 @@
 //! Rows of one line in a table without spans: no cell of them goes on below, so their texts may be lent.
 
-ghost use Rattle.std.specs.Prelude.{◌≡◌, ◌↔◌, ◌++◌, ℕ, List, Some, true, false, map, IsSome, OnOk, Err, string_bytes};
+ghost use Rattle.std.specs.Prelude.{◌≡◌, ◌↔◌, ◌++◌, ℕ, List, true, false, map, IfSome, IsSome, OnOk, Err, string_bytes};
 ghost use Rattle.std.specs.Iterator.{IsFinite};
 ghost use Rattle.pg_layout.specs.Records.{AlwaysGives};
 ghost use Rattle.pg_layout.specs.Text.{Text};
 ghost use Rattle.pg_picture.specs.Appending.{Appends};
 ghost use Rattle.pg_stream.specs.Conditions.{RowFits};
 ghost use Rattle.pg_stream.specs.Inside.Held.{IsSoundAt};
-ghost use Rattle.pg_stream.specs.Inside.SingleRows.{ArePlain, IsSingle};
+ghost use Rattle.pg_stream.specs.Inside.SingleRows.{AreOfKind, IsSingle};
 ghost use Rattle.pg_picture.specs.Inside.Sheets.{bare_table};
 ghost use Rattle.pg_stream.specs.LiveStreams.{living, LentFits};
 ghost use Rattle.pg_stream.specs.Printers.{now_of};
@@ -20,7 +20,7 @@ use crate::fault::StreamFault;
 use crate::printer::{Frame, Progress};
 use crate::stream::LiveStream;
 use pg_layout::{Colors, Dimension};
-use pg_picture::{Drawn, Pen};
+use pg_picture::{Drawn, Pen, TextKind};
 use std::alloc::{AllocError, Allocator};
 use std::convert::AsStr;
 use std::marker::{Brand, PhantomData};
@@ -55,7 +55,7 @@ impl<'a, S: AsStr + Drop, D: Dimension, C: Colors, B: Allocator, A: Allocator> L
         if self.is_lost {
             return Err(StreamFault::Memory);
         }
-        let Some(are_plain) = self.progress.lent_plainness(&self.frame, cells) else {
+        let Some(kind) = self.progress.kind_if_lent(&self.frame, cells) else {
             return Err(StreamFault::Row(self.progress.rows));
         };
         self.is_lost = true;
@@ -63,7 +63,7 @@ impl<'a, S: AsStr + Drop, D: Dimension, C: Colors, B: Allocator, A: Allocator> L
             .push_single::<Brand, D, C, B, &X, Iter<'_, X>, W>(
                 &self.frame,
                 cells.iter(),
-                are_plain,
+                kind,
                 false,
                 buf,
             )?;
@@ -79,7 +79,7 @@ impl<S: AsStr + Drop, A: Allocator> Progress<'_, S, A> {
         &mut self,
         frame: &'f Frame<'f, D, C, B>,
         cells: I,
-        are_plain: bool,
+        kind: TextKind,
         is_last: bool,
         buf: &mut String<W>,
     ) -> Result<(), AllocError>
@@ -95,7 +95,7 @@ impl<S: AsStr + Drop, A: Allocator> Progress<'_, S, A> {
         requires single { IsSingle T.table self.old.rows }
         requires can { I.can_next cells × IsFinite (I.remaining cells) }
         requires sound { IsSoundAt T.table frame.now self.old }
-        requires fits { (texts : List Text) × AlwaysGives (λ x y. X.text x ≡ y) I.next_gives cells texts × RowFits (now_of T.table frame.now.hint self.old) texts is_last × (are_plain ≡ true → ArePlain T.table.columns texts) }
+        requires fits { (texts : List Text) × AlwaysGives (λ x y. X.text x ≡ y) I.next_gives cells texts × RowFits (now_of T.table frame.now.hint self.old) texts is_last × AreOfKind kind T.table.columns texts }
         ensures sound { OnOk result (IsSoundAt T.table frame.now self.new) }
         ensures appends { (texts : List Text) → AlwaysGives (λ x y. X.text x ≡ y) I.next_gives cells texts → Appends buf.old buf.new result (row_text (now_of T.table frame.now.hint self.old) texts is_last) }
         ensures after { (texts : List Text) → AlwaysGives (λ x y. X.text x ≡ y) I.next_gives cells texts → OnOk result (now_of T.table frame.now.hint self.new ≡ after_row (now_of T.table frame.now.hint self.old) texts is_last) }
@@ -111,17 +111,17 @@ impl<S: AsStr + Drop, A: Allocator> Progress<'_, S, A> {
         let next = drawing.push_above(&mut self.cells, &mut self.kept, buf, self.lines, self.rows)?;
         let height = drawing.pen.height_of(self.rows);
         let below = next + height;
-        drawing.push_single_row(buf, next, self.rows, cells, are_plain)?;
+        drawing.push_single_row(buf, next, self.rows, cells, kind)?;
         self.end_row(below, is_last);
         Ok(())
     }
 
     #[inline(always)]
-    pub(crate) fn lent_plainness<X, D, C, B>(
+    pub(crate) fn kind_if_lent<X, D, C, B>(
         &self,
         frame: &Frame<'_, D, C, B>,
         cells: &[X],
-    ) -> Option<bool>
+    ) -> Option<TextKind>
     where
         X: AsStr,
         D: Dimension,
@@ -129,12 +129,12 @@ impl<S: AsStr + Drop, A: Allocator> Progress<'_, S, A> {
         B: Allocator,
         requires sound { IsSoundAt (bare_table D.width D.height C.color frame.now.sheet) frame.now self.now }
         ensures fits { IsSome result ↔ LentFits (now_of (bare_table D.width D.height C.color frame.now.sheet) frame.now.hint self.now) (map X.text cells.now) }
-        ensures plain { result ≡ Some true → ArePlain frame.now.sheet.columns (map X.text cells.now) }
+        ensures kind { IfSome result (λ kind. AreOfKind kind frame.now.sheet.columns (map X.text cells.now)) }
     {
         if frame.sheet.config.spans().is_empty()
             && frame.sheet.dimension.get_height(self.rows) == 1
         {
-            return self.plainness(frame, cells, false);
+            return self.kind_if_fits(frame, cells, false);
         }
         None
     }

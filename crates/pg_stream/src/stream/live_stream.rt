@@ -135,12 +135,12 @@ impl<'a, S: AsStr + Drop, D: Dimension, C: Colors, B: Allocator, A: Allocator> L
         if self.is_lost {
             return Err(StreamFault::Memory);
         }
-        let Some(are_plain) = self.progress.plainness(&self.frame, &cells, false) else {
+        let Some(kind) = self.progress.kind_if_fits(&self.frame, &cells, false) else {
             return Err(StreamFault::Row(self.progress.rows));
         };
         self.is_lost = true;
         self.progress
-            .push_cells::<Brand, D, C, B, V, W>(&self.frame, cells, are_plain, false, buf)?;
+            .push_cells::<Brand, D, C, B, V, W>(&self.frame, cells, kind, false, buf)?;
         self.is_lost = false;
         Ok(())
     }

@@ -154,13 +154,13 @@ impl<'a, S: AsStr + Drop, D: Dimension, C: Colors, B: Allocator, A: Allocator> S
             above: self.above,
         };
         let frame = self.frame.with_sizes(&sizes);
-        let Some(are_plain) = self.progress.plainness(&frame, &cells, false) else {
+        let Some(kind) = self.progress.kind_if_fits(&frame, &cells, false) else {
             return Err(StreamFault::Row(self.progress.rows));
         };
         self.is_lost = true;
         self.progress
             .push_cells::<Brand, RowSizes<'_, D>, C, B, V, W>(
-                &frame, cells, are_plain, false, buf,
+                &frame, cells, kind, false, buf,
             )?;
         self.above += height;
         self.is_lost = false;

@@ -1,8 +1,8 @@
-use Rattle.std.proofs.Common.{◌≡◌, ◌∙◌, true, [], slice_index_or, sym, ap, subst, arith}
-use Rattle.std.specs.List.{list_all}
+use Rattle.std.proofs.Common.{◌≡◌, ◌∙◌, [], slice_index_or, sym, ap, subst, arith}
 use Rattle.pg_layout.specs.declared.position.Position.{Position}
 use Rattle.pg_layout.specs.Position.{at}
-use Rattle.pg_layout.specs.Text.{Text, is_plain_byte}
+use Rattle.pg_layout.specs.Text.{Text}
+use Rattle.pg_picture.specs.Inside.Cells.{IsOfKind}
 use Rattle.pg_picture.specs.Pieces.{written}
 use Rattle.pg_picture.specs.Table.{vertical}
 use Rattle.pg_picture.proofs.Appending.{Appends-text, Gained-none, Gained-text, Gained-more, gained-then, refused}
@@ -23,17 +23,17 @@ returns-in_default g c = λ texts gives.
     let (told, told_gives, is) = c.requires in
     absurd (read-none g.S.AsStr.text g.I.Iterator.next_gives _ _ told c.loop-column.column (omega (arith, is.whole, c.loop-column-test.true)) (c.loop-column.invariant told told_gives.gives).0 c.in_default.ensures.steps)
 
-pub invariant_of-cell : goal.invariant_of-cell
-invariant_of-cell g c =
+pub push_single_cell-requires : goal.push_single_cell-requires
+push_single_cell-requires g c =
     let t = g.T.Drawn.table in
     let (texts, gives, is) = c.requires in
     let i = c.loop-column.column in
     let now = read-more g.S.AsStr.text g.I.Iterator.next_gives _ _ _ texts i (c.loop-column.invariant texts gives.gives).0 c.in-Some.ensures.steps in
     let text = now.0 ∙ sym c.as_str.ensures in
     record {
-      is_single = subst (λ (p : Position). IsSingle g.T.Drawn.table p.row) (sym c.new.ensures) is.single;
-      is_known = λ known. subst (λ (text : Text). list_all is_plain_byte text ≡ true) text (is.plain known i (omega arith));
-      has_room = subst (λ (p : Position). HasRoom t p c.as_str.result.now) (sym c.new.ensures) (subst (λ (text : Text). HasRoom t (at c.args.row i) text) text (is.rooms i (omega arith) (own-plain t is.single.alone c.args.row i)));
+      single = subst (λ (p : Position). IsSingle g.T.Drawn.table p.row) (sym c.new.ensures) is.single;
+      kind = subst (IsOfKind c.args.kind) text (is.kinds i (omega arith));
+      room = subst (λ (p : Position). HasRoom t p c.as_str.result.now) (sym c.new.ensures) (subst (λ (text : Text). HasRoom t (at c.args.row i) text) text (is.rooms i (omega arith) (own-plain t is.single.alone c.args.row i)));
     }
 
 pub returns-in_err-push_single_cell : goal.returns-in_err-push_single_cell

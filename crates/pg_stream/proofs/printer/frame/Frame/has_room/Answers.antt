@@ -6,8 +6,8 @@ use Rattle.pg_stream.proofs.printer.frame.Frame.has_room.Goals as goal
 pub returns-in-Some-Some : goal.returns-in-Some-Some
 returns-in-Some-Some g c =
     let t = bare_table g.D.Dimension.width g.D.Dimension.height g.C.Colors.color c.args.self.now.sheet in (
-      λ fits. room-from t c.args.pos c.args.text.now c.width_of_columns-width.result c.height_of_rows-height.result (c.width_of_columns-width.ensures 0) c.height_of_rows-height.ensures c.in-Some-Some.width c.in-Some-Some.height c.in-Some-Some.is-0 c.in-Some-Some.is-1 (sym c.plainness_in_cell.ensures.room ∙ sym c.is_some.ensures ∙ fits),
-      λ room. c.is_some.ensures ∙ c.plainness_in_cell.ensures.room ∙ room-fits t c.args.pos c.args.text.now c.width_of_columns-width.result c.height_of_rows-height.result (c.width_of_columns-width.ensures 0) c.height_of_rows-height.ensures c.in-Some-Some.width c.in-Some-Some.height c.in-Some-Some.is-0 c.in-Some-Some.is-1 room,
+      λ fits. room-from t c.args.pos c.args.text.now c.width_of_columns-width.result c.height_of_rows-height.result (c.width_of_columns-width.ensures 0) c.height_of_rows-height.ensures c.in-Some-Some.width c.in-Some-Some.height c.in-Some-Some.is-0 c.in-Some-Some.is-1 (sym c.kind_if_cell_fits.ensures.room ∙ sym c.is_some.ensures ∙ fits),
+      λ room. c.is_some.ensures ∙ c.kind_if_cell_fits.ensures.room ∙ room-fits t c.args.pos c.args.text.now c.width_of_columns-width.result c.height_of_rows-height.result (c.width_of_columns-width.ensures 0) c.height_of_rows-height.ensures c.in-Some-Some.width c.in-Some-Some.height c.in-Some-Some.is-0 c.in-Some-Some.is-1 room,
     )
 
 pub returns-in_default : goal.returns-in_default

@@ -20,7 +20,7 @@ push_single-requires-clause-fits g c = (
   map g.S.AsStr.text c.args.cells.items,
   given-lent _ (λ y. y.now) g.S.AsStr.text (YieldsList-from_slice c.args.cells.items (c.iter.ensures.rest ∙ c.deref.ensures.value)),
   c.requires.fits,
-  c.requires.plain,
+  c.requires.kind,
 )
 
 pub returns-then-draws_at_once-clause-appends : goal.returns-then-draws_at_once-clause-appends
@@ -39,7 +39,7 @@ push_row-requires-clause-fits g c =
       map g.S.AsStr.text c.args.cells.items,
       given-items _ g.S.AsStr.text (λ x y. g.S.AsStr.text x ≡ y) (λ x. refl) (YieldsList-from_vec c.args.cells.items c.into_iter-cells.ensures.rest len),
       c.requires.fits,
-      c.requires.plain,
+      c.requires.kind,
     )
 
 pub returns-clause-appends : goal.returns-clause-appends

@@ -1,5 +1,4 @@
 use Rattle.std.proofs.Common.{◌≡◌, true, false, [], ◌∷◌, ◌++◌, refl, sym, ap, ◌∙◌, subst, append_assoc, inr}
-use Rattle.std.proofs.lemmas.Bool.{false≢true}
 use Rattle.pg_layout.specs.Records.{Gives}
 use Rattle.pg_layout.specs.Text.{Text}
 use Rattle.pg_picture.proofs.Appending.{◌then◌, Appends-text, Gained-none, Gained-more, gained-then, refused}
@@ -25,7 +24,7 @@ push_row-requires-clause-fits g c =
     let s : Printing = now_of g.T.Drawn.table c.args.frame.now.hint c.loop-next.progress in
     let (cells, texts, from, fit) = c.loop-next.invariant.2 in
     let next = next-row is_row g.Rows.Iterator.next_gives _ _ _ texts from.others c.in-Some.ensures.steps in
-    (cells, from.first.gives, (row-fits s cells texts next.cells next.others next.all fit).0, λ known. absurd (false≢true known))
+    (cells, from.first.gives, (row-fits s cells texts next.cells next.others next.all fit).0, λ x here plain. cc)
 
 pub returns-in_err-push_row : goal.returns-in_err-push_row
 returns-in_err-push_row g c = λ cells texts from.

@@ -59,7 +59,7 @@ push_single_row-requires g c =
       single = (
         c.requires.fits.0,
         record { can_next = c.requires.can.0; ends = c.requires.can.1; gives = c.requires.fits.1 },
-        record { single = c.requires.single; whole = fits.whole; rooms = fits.rooms; plain = c.requires.fits.3 },
+        record { single = c.requires.single; whole = fits.whole; rooms = fits.rooms; kinds = c.requires.fits.3 },
       );
     }
 

@@ -5,12 +5,12 @@ use Rattle.pg_stream.specs.Conditions.{RowFits}
 use Rattle.pg_stream.specs.Inside.Held.{IsSoundAt}
 use Rattle.pg_stream.specs.Printers.{now_of}
 use Rattle.pg_picture.specs.Table.{Table}
-use Rattle.pg_stream.specs.Inside.SingleRows.{ArePlain}
+use Rattle.pg_stream.specs.Inside.SingleRows.{AreOfKind}
 use Rattle.pg_stream.proofs.StreamedRows.{row-misfits, row-refused, row-printed}
 use Rattle.pg_stream.proofs.printer.progress.Progress.try_row.Goals as goal
 
-pub plainness-requires : goal.plainness-requires
-plainness-requires g c = record { sound = subst (λ (t : Table). IsSoundAt t c.args.frame.now c.args.self.now) (sym c.requires.is) c.requires.sound }
+pub kind_if_fits-requires : goal.kind_if_fits-requires
+kind_if_fits-requires g c = record { sound = subst (λ (t : Table). IsSoundAt t c.args.frame.now c.args.self.now) (sym c.requires.is) c.requires.sound }
 
 pub returns-in_default-clause-prints : goal.returns-in_default-clause-prints
 returns-in_default-clause-prints g c =
@@ -20,8 +20,8 @@ returns-in_default-clause-prints g c =
 pub push_cells-requires-clause-fits : goal.push_cells-requires-clause-fits
 push_cells-requires-clause-fits g c = subst (λ (t : Table). RowFits (now_of t c.args.frame.now.hint c.args.self.now) (map g.S.AsStr.text c.args.cells.items) c.args.is_last) c.requires.is (rw c.deref.ensures.value at (c.in-Some.ensures.fits.0 refl))
 
-pub push_cells-requires-clause-plain : goal.push_cells-requires-clause-plain
-push_cells-requires-clause-plain g c = subst (λ (t : Table). c.in-Some.are_plain ≡ true → ArePlain t.columns (map g.S.AsStr.text c.args.cells.items)) c.requires.is (λ known. rw c.deref.ensures.value at (c.in-Some.ensures.plain (ap Some known)))
+pub push_cells-requires-clause-kind : goal.push_cells-requires-clause-kind
+push_cells-requires-clause-kind g c = subst (λ (t : Table). AreOfKind c.in-Some.kind t.columns (map g.S.AsStr.text c.args.cells.items)) c.requires.is (rw c.deref.ensures.value at c.in-Some.ensures.kind)
 
 pub returns-in_err-push_cells-clause-prints : goal.returns-in_err-push_cells-clause-prints
 returns-in_err-push_cells-clause-prints g c =

@@ -1,5 +1,4 @@
 use Rattle.std.proofs.Common.{sym, ap, ◌∙◌, subst}
-use Rattle.std.proofs.lemmas.Bool.{false≢true}
 use Rattle.pg_picture.proofs.Appending.{refused-as, appended-as, Appends-text}
 use Rattle.pg_stream.specs.Conditions.{RowFits}
 use Rattle.pg_stream.specs.Printers.{printing}
@@ -8,7 +7,7 @@ use Rattle.pg_stream.proofs.printer.row_printer.RowPrinter.row.Goals as goal
 
 pub push_row-requires-clause-fits : goal.push_row-requires-clause-fits
 push_row-requires-clause-fits g c =
-    (c.requires.fits.0, c.requires.fits.1, subst (λ p. RowFits (printing g.D.Dimension.width g.D.Dimension.height g.C.Colors.color p) c.requires.fits.0 c.args.is_last) (sym c.self.view_is) c.requires.fits.2, λ known. absurd (false≢true known))
+    (c.requires.fits.0, c.requires.fits.1, subst (λ p. RowFits (printing g.D.Dimension.width g.D.Dimension.height g.C.Colors.color p) c.requires.fits.0 c.args.is_last) (sym c.self.view_is) c.requires.fits.2, λ x here plain. cc)
 
 pub returns-in_err-push_row-clause-appends : goal.returns-in_err-push_row-clause-appends
 returns-in_err-push_row-clause-appends g c = λ texts gives.

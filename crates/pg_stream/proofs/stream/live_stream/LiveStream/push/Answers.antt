@@ -11,8 +11,8 @@ use Rattle.pg_stream.proofs.stream.live_stream.LiveStream.push.Goals as goal
 pub push_cells-requires-clause-fits : goal.push_cells-requires-clause-fits
 push_cells-requires-clause-fits g c = (rw c.deref.ensures.value at (c.in-Some.ensures.fits.0 refl))
 
-pub push_cells-requires-clause-plain : goal.push_cells-requires-clause-plain
-push_cells-requires-clause-plain g c = λ known. rw c.deref.ensures.value at (c.in-Some.ensures.plain (ap Some known))
+pub push_cells-requires-clause-kind : goal.push_cells-requires-clause-kind
+push_cells-requires-clause-kind g c = rw c.deref.ensures.value at c.in-Some.ensures.kind
 
 pub returns-in_err-push_cells-clause-prints : goal.returns-in_err-push_cells-clause-prints
 returns-in_err-push_cells-clause-prints g c =

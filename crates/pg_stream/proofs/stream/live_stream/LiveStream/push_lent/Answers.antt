@@ -20,7 +20,7 @@ push_single-requires-clause-fits g c =
       map g.X.AsStr.text c.args.cells.now,
       given-lent _ (λ y. y.now) g.X.AsStr.text (YieldsList-from_slice c.args.cells.now c.iter.ensures.rest),
       fits.0,
-      λ known. c.in-Some.ensures.plain (ap Some known),
+      c.in-Some.ensures.kind,
     )
 
 pub returns-in_err-push_single-clause-prints : goal.returns-in_err-push_single-clause-prints

@@ -9,8 +9,8 @@ use Rattle.pg_stream.proofs.SizedPushes.{sound-told, fits-told, told-fits, text-
 use Rattle.pg_stream.proofs.StreamedRows.{row-misfits, row-refused, row-printed}
 use Rattle.pg_stream.proofs.stream.sized_stream.SizedStream.push.Goals as goal
 
-pub plainness-requires : goal.plainness-requires
-plainness-requires g c =
+pub kind_if_fits-requires : goal.kind_if_fits-requires
+kind_if_fits-requires g c =
     record { sound = sound-told g.D.Dimension.width g.D.Dimension.height g.C.Colors.color c.self.inside.frame c.self.inside.progress c.self.inside.above (c.self.invariant c.if-self.false) c.args.height _ c.with_sizes-frame.ensures.table _ c.with_sizes-frame.ensures.hint c.with_sizes-frame.result c.with_sizes-frame.ensures.width c.with_sizes-frame.ensures.height c.with_sizes-frame.ensures.hint }
 
 pub push_cells-requires-clause-sound : goal.push_cells-requires-clause-sound
@@ -28,8 +28,8 @@ returns-in_default-clause-prints g c =
 pub push_cells-requires-clause-fits : goal.push_cells-requires-clause-fits
 push_cells-requires-clause-fits g c = (rw c.deref.ensures.value at (c.in-Some.ensures.fits.0 refl))
 
-pub push_cells-requires-clause-plain : goal.push_cells-requires-clause-plain
-push_cells-requires-clause-plain g c = λ known. rw c.deref.ensures.value at (c.in-Some.ensures.plain (ap Some known))
+pub push_cells-requires-clause-kind : goal.push_cells-requires-clause-kind
+push_cells-requires-clause-kind g c = rw c.deref.ensures.value at c.in-Some.ensures.kind
 
 pub returns-in_err-push_cells-clause-prints : goal.returns-in_err-push_cells-clause-prints
 returns-in_err-push_cells-clause-prints g c =
