@@ -20,8 +20,8 @@ use Rattle.pg_stream.specs.Conditions.{HasRoom, PrinterFits, RowFits, RowsFit}
 use Rattle.pg_stream.specs.Laws.{texts_of, FittingTablesMayBePrinted}
 use Rattle.pg_stream.specs.Printing.{Printing, printer, after_row}
 use Rattle.pg_stream.proofs.PicturesOfRows.{fit_columns, rows-from}
-use Rattle.pg_stream.proofs.RowsOfTables.{row_inside_body}
-use Rattle.pg_stream.proofs.WholePictures.{cells_at, state_at, texts_from, at_range, after_row-is, start_is}
+use Rattle.pg_stream.proofs.printer.RowsOfTables.{row_inside_body}
+use Rattle.pg_stream.proofs.printer.WholePictures.{cells_at, state_at, texts_from, at_range, after_row-is, start_is}
 
 module _ (t : Table) (fit : TableFits t) where
   -- a cell that begins in row k has room

@@ -13,8 +13,8 @@ use Rattle.pg_stream.specs.LiveStreams.{live_text}
 use Rattle.pg_stream.specs.Open.{open_before}
 use Rattle.pg_stream.specs.Printing.{Printing, rows_reached, rows_known, text_known, table_known, lines_at, lines_printed, row_lines, finish_lines, row_text, finish_text, printer, after_row, rows_text}
 use Rattle.pg_stream.proofs.PicturesOfRows.{fit_columns, rows-from, rows-make}
-use Rattle.pg_stream.proofs.RowsOfTables.{Ends, SameHeight, owner-reached, lines_at-same}
-use Rattle.pg_stream.proofs.WholePictures.{cells_at, state_at, texts_from, texts_known, row_lines-are, after_row-is, start_is}
+use Rattle.pg_stream.proofs.printer.RowsOfTables.{Ends, SameHeight, owner-reached, lines_at-same}
+use Rattle.pg_stream.proofs.printer.WholePictures.{cells_at, state_at, texts_from, texts_known, row_lines-are, after_row-is, start_is}
 
 -- the end below a row doesn't ask whether it was told to be the last
 ended-same : (s : Printing) (cells : List Text) → finish_text (after_row s cells true) ≡ finish_text (after_row s cells false)

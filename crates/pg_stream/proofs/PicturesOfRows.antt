@@ -14,7 +14,7 @@ use Rattle.pg_picture.proofs.Pictures.{picture-some}
 use Rattle.pg_stream.specs.Laws.{RowsMakeThePicture}
 use Rattle.pg_stream.specs.Printing.{Printing, hint_of, printer, lines_printed, rows_text}
 use Rattle.pg_stream.proofs.TextsOfCalls.{IsFresh, rows_text-lines}
-use Rattle.pg_stream.proofs.WholePictures.{cells_at, texts_from, lines_of_rows-are}
+use Rattle.pg_stream.proofs.printer.WholePictures.{cells_at, texts_from, lines_of_rows-are}
 
 all_columns : (rows columns : ℕ) (spans : List Span) → list_all (span_fits rows columns) spans ≡ true → list_all (span_fits_columns columns) spans ≡ true
 all_columns rows columns [] h = refl

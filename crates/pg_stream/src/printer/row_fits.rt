@@ -19,8 +19,7 @@ use pg_config::{Span, SpannedConfig};
 use pg_layout::{Colors, Dimension, Position};
 use pg_picture::TextKind;
 use pg_picture::fits::{
-    begins_above, cell_fits, columns_of, height_of_rows, kind_if_fits, spans_fit,
-    width_of_columns,
+    begins_above, cell_fits, columns_of, height_of_rows, kind_if_fits, spans_fit, width_of_columns,
 };
 use std::alloc::Allocator;
 use std::convert::AsStr;

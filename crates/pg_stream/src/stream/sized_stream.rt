@@ -159,9 +159,7 @@ impl<'a, S: AsStr + Drop, D: Dimension, C: Colors, B: Allocator, A: Allocator> S
         };
         self.is_lost = true;
         self.progress
-            .push_cells::<Brand, RowSizes<'_, D>, C, B, V, W>(
-                &frame, cells, kind, false, buf,
-            )?;
+            .push_cells::<Brand, RowSizes<'_, D>, C, B, V, W>(&frame, cells, kind, false, buf)?;
         self.above += height;
         self.is_lost = false;
         Ok(())

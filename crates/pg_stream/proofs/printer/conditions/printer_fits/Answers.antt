@@ -1,6 +1,6 @@
 use Rattle.std.proofs.Common.{◌<◌, ◌-◌, ◌^◌, sym, ap, ◌∙◌, arith, Some, None}
 use Rattle.pg_picture.specs.Sizes.{unless_misfit}
-use Rattle.pg_stream.proofs.MakingPrinters.{found-columns, found-spans, found-width, found-rest, rest-spans, rest-totals, rest-none, fits-told}
+use Rattle.pg_stream.proofs.printer.MakingPrinters.{found-columns, found-spans, found-width, found-rest, rest-spans, rest-totals, rest-none, fits-told}
 use Rattle.pg_stream.proofs.printer.conditions.printer_fits.Goals as goal
 use Rattle.pg_stream.proofs.printer.conditions.printer_fits.Goals.{then-columns-eq0-via-then-columns-eq0, then-columns-eq0-via-else-columns-eq0+then-columns-eq18446744073709551615}
 

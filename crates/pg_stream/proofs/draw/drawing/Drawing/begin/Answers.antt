@@ -5,9 +5,9 @@ use Rattle.pg_picture.proofs.Owners.{apart_from, owners_of, owner-columns}
 use Rattle.pg_stream.specs.Conditions.{HasRoom}
 use Rattle.pg_stream.specs.Inside.Drawing.{column_end, reach}
 use Rattle.pg_stream.specs.Inside.Turns.{begin_cell}
-use Rattle.pg_stream.proofs.PartsOfLists.{partly-none, partly-all, partly-length}
-use Rattle.pg_stream.proofs.PartsOfSeparators.{reach-none, reach-more}
-use Rattle.pg_stream.proofs.Beginning.{own_at, own-now, owner-now, own-rows, own-columns, inside-columns, reach-set, read-more, read-none, begun-more, begun-is}
+use Rattle.pg_stream.proofs.draw.PartsOfLists.{partly-none, partly-all, partly-length}
+use Rattle.pg_stream.proofs.draw.PartsOfSeparators.{reach-none, reach-more}
+use Rattle.pg_stream.proofs.draw.Beginning.{own_at, own-now, owner-now, own-rows, own-columns, inside-columns, reach-set, read-more, read-none, begun-more, begun-is}
 use Rattle.pg_stream.proofs.draw.drawing.Drawing.begin.Goals as goal
 
 pub loop-column-init : goal.loop-column-init

@@ -2,7 +2,7 @@ use Rattle.std.proofs.Common.{◌≡◌, List}
 use Rattle.pg_layout.specs.Records.{AlwaysGives}
 use Rattle.pg_layout.specs.Text.{Text}
 use Rattle.pg_stream.specs.Inside.Drawing.{reach}
-use Rattle.pg_stream.proofs.Beginning.{IsReading}
+use Rattle.pg_stream.proofs.draw.Beginning.{IsReading}
 use Rattle.pg_stream.proofs.draw.drawing.Drawing.begin.Given as goal
 
 abbrev pub invariant-loop-column : goal.invariant-loop-column

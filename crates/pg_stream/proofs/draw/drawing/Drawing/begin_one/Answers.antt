@@ -3,7 +3,7 @@ use Rattle.pg_config.specs.Spans.{rect_columns}
 use Rattle.pg_layout.specs.declared.position.Position.{Position}
 use Rattle.pg_picture.specs.Table.{Table}
 use Rattle.pg_stream.specs.Inside.Turns.{new_cell}
-use Rattle.pg_stream.proofs.Beginning.{begins, keeps}
+use Rattle.pg_stream.proofs.draw.Beginning.{begins, keeps}
 use Rattle.pg_stream.proofs.draw.drawing.Drawing.begin_one.Goals as goal
 
 pub begin_cell-requires-clause-may : goal.begin_cell-requires-clause-may

@@ -2,8 +2,8 @@ use Rattle.std.proofs.Common.{◌+◌, ◌<◌, ◌^◌, map, sym, ap, ◌∙◌
 use Rattle.pg_picture.proofs.Appending.{Gained-none, Gained-text, Gained-more, refused, Appends-text}
 use Rattle.pg_stream.specs.Placed.{AllOpen}
 use Rattle.pg_stream.specs.Inside.OpenCells.{draw_cell, AreDrawn}
-use Rattle.pg_stream.proofs.OpenLists.{drawn-all, drawn-still}
-use Rattle.pg_stream.proofs.PartsOfLines.{drawn-none, drawn-more, lines-none, lines-more, lines-cut, line-now}
+use Rattle.pg_stream.proofs.draw.OpenLists.{drawn-all, drawn-still}
+use Rattle.pg_stream.proofs.draw.PartsOfLines.{drawn-none, drawn-more, lines-none, lines-more, lines-cut, line-now}
 use Rattle.pg_stream.proofs.draw.drawing.Drawing.push_lines.Goals as goal
 
 pub loop-line-init : goal.loop-line-init

@@ -9,10 +9,10 @@ use Rattle.pg_picture.proofs.Appending.{Appends-text, Gained-none, Gained-text, 
 use Rattle.pg_picture.proofs.PiecesOfLines.{written-nil}
 use Rattle.pg_stream.specs.Conditions.{HasRoom}
 use Rattle.pg_stream.specs.Inside.SingleRows.{IsSingle, single_part}
-use Rattle.pg_stream.proofs.Beginning.{read-more, read-none}
-use Rattle.pg_stream.proofs.PartsOfLines.{written-columns}
-use Rattle.pg_stream.proofs.SingleCells.{single-cut, single-end}
-use Rattle.pg_stream.proofs.PlainRooms.{own-plain}
+use Rattle.pg_stream.proofs.draw.Beginning.{read-more, read-none}
+use Rattle.pg_stream.proofs.draw.PartsOfLines.{written-columns}
+use Rattle.pg_stream.proofs.draw.SingleCells.{single-cut, single-end}
+use Rattle.pg_stream.proofs.printer.PlainRooms.{own-plain}
 use Rattle.pg_stream.proofs.draw.drawing.Drawing.push_single_cells.Goals as goal
 
 pub loop-column-init : goal.loop-column-init

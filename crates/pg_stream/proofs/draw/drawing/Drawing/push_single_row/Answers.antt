@@ -1,7 +1,7 @@
 use Rattle.pg_picture.specs.Pieces.{written}
 use Rattle.pg_picture.proofs.Appending.{◌then◌, stopped, Appends-text}
 use Rattle.pg_stream.specs.Inside.SingleRows.{single_line}
-use Rattle.pg_stream.proofs.PartsOfLines.{line_at-parts}
+use Rattle.pg_stream.proofs.draw.PartsOfLines.{line_at-parts}
 use Rattle.pg_stream.proofs.draw.drawing.Drawing.push_single_row.Goals as goal
 
 pub returns-in_err-push_line_start : goal.returns-in_err-push_line_start

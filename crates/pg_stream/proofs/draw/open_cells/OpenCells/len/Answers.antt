@@ -1,5 +1,5 @@
 use Rattle.std.proofs.Common.{◌∙◌, ap, sym, count_by, is_some}
-use Rattle.pg_stream.proofs.OpenLists.{count-slots}
+use Rattle.pg_stream.proofs.draw.OpenLists.{count-slots}
 use Rattle.pg_stream.proofs.draw.open_cells.OpenCells.len.Goals as goal
 
 pub returns-clause-count : goal.returns-clause-count

@@ -1,7 +1,7 @@
 use Rattle.pg_picture.specs.Pieces.{written}
 use Rattle.pg_picture.proofs.Appending.{◌then◌, stopped, Appends-text}
 use Rattle.pg_stream.specs.Inside.Drawing.{open_line}
-use Rattle.pg_stream.proofs.PartsOfLines.{line_at-parts}
+use Rattle.pg_stream.proofs.draw.PartsOfLines.{line_at-parts}
 use Rattle.pg_stream.proofs.draw.open_line.OpenLine.push_body_line.Goals as goal
 
 pub returns-in_err-push_line_start : goal.returns-in_err-push_line_start

@@ -4,8 +4,8 @@ use Rattle.pg_picture.specs.Inside.Cells.{style_of}
 use Rattle.pg_picture.specs.Pieces.{style_at, written}
 use Rattle.pg_picture.specs.declared.place.CellPlace.{CellPlace}
 use Rattle.pg_picture.proofs.Appending.{Appends-text}
-use Rattle.pg_stream.proofs.CellLines.{next-room, next-line}
-use Rattle.pg_stream.proofs.LineStyles.{draws, room}
+use Rattle.pg_stream.proofs.draw.CellLines.{next-room, next-line}
+use Rattle.pg_stream.proofs.draw.LineStyles.{draws, room}
 use Rattle.pg_stream.proofs.draw.open_line.OpenLine.push_line_in_style.Goals as goal
 
 pub push_block_line_of-requires : goal.push_block_line_of-requires

@@ -1,6 +1,6 @@
 use Rattle.std.proofs.Common.{◌≡◌, ◌∙◌, sym, ap, slice_index_or, option_map, Some, None}
 use Rattle.pg_picture.proofs.Appending.{◌then◌, stopped, Gained-none, Gained-all, Appends-text}
-use Rattle.pg_stream.proofs.PartsOfLines.{part-none, part-some}
+use Rattle.pg_stream.proofs.draw.PartsOfLines.{part-none, part-some}
 use Rattle.pg_stream.proofs.draw.open_line.OpenLine.push_part.Goals as goal
 
 pub returns-in_default : goal.returns-in_default

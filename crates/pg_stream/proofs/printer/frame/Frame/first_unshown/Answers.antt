@@ -11,8 +11,8 @@ use Rattle.pg_picture.proofs.Rooms.{row_places-end}
 use Rattle.pg_stream.specs.Conditions.{HasRoom}
 use Rattle.pg_picture.specs.Inside.Sheets.{bare_table}
 use Rattle.pg_stream.specs.ShownRows.{row_cell_shows_all}
-use Rattle.pg_stream.proofs.FittingCells.{last_end, in_order}
-use Rattle.pg_stream.proofs.ShownCells.{next_left_column, first_in_row}
+use Rattle.pg_stream.proofs.printer.FittingCells.{last_end, in_order}
+use Rattle.pg_stream.proofs.printer.ShownCells.{next_left_column, first_in_row}
 use Rattle.pg_stream.proofs.printer.frame.Frame.first_unshown.Goals as goal
 
 pub loop-column-init : goal.loop-column-init

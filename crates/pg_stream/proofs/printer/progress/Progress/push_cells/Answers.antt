@@ -5,8 +5,8 @@ use Rattle.std.proofs.lemmas.Iterator.Adapters.{YieldsList-from_vec}
 use Rattle.pg_layout.proofs.Given.{given-items}
 use Rattle.pg_stream.specs.Printers.{now_of}
 use Rattle.pg_stream.specs.Printing.{Printing}
-use Rattle.pg_stream.proofs.LentRows.{given-lent}
-use Rattle.pg_stream.proofs.SingleLines.{at-once}
+use Rattle.pg_stream.proofs.stream.LentRows.{given-lent}
+use Rattle.pg_stream.proofs.draw.SingleLines.{at-once}
 use Rattle.pg_stream.proofs.printer.progress.Progress.push_cells.Goals as goal
 
 pub push_single-requires-clause-single : goal.push_single-requires-clause-single

@@ -8,7 +8,7 @@ use Rattle.pg_picture.specs.Table.{Table, margin_line}
 use Rattle.pg_stream.specs.Inside.OpenCells.{IsTall}
 use Rattle.pg_stream.specs.Printers.{now_of}
 use Rattle.pg_stream.specs.Printing.{Printing}
-use Rattle.pg_stream.proofs.Ending.{finish-none, no_cells, finish_text-is, ended_of}
+use Rattle.pg_stream.proofs.printer.Ending.{finish-none, no_cells, finish_text-is, ended_of}
 use Rattle.pg_stream.proofs.printer.progress.Progress.push_end.Goals as goal
 
 pub returns-then-self-eq0-clause-appends : goal.returns-then-self-eq0-clause-appends

@@ -9,10 +9,10 @@ use Rattle.pg_stream.specs.Printing.{Printing}
 use Rattle.pg_stream.specs.Inside.Slots.{separator_height}
 use Rattle.pg_stream.specs.Inside.Turns.{IsOwnerAbove, cells_begun, cells_closed}
 use Rattle.pg_stream.proofs.DrawnLines.{length_of_row}
-use Rattle.pg_stream.proofs.RowsPrinted.{room-above, drawn-above, owner-begins, whole-now, cells_now, begun-now, drawn-now, room-now}
-use Rattle.pg_stream.proofs.RowsAppended.{row_text-is, after-is, sound-next, open_lines-same}
-use Rattle.pg_stream.proofs.SingleLines.{at-once}
-use Rattle.pg_stream.proofs.SingleRowsPrinted.{none-open}
+use Rattle.pg_stream.proofs.printer.RowsPrinted.{room-above, drawn-above, owner-begins, whole-now, cells_now, begun-now, drawn-now, room-now}
+use Rattle.pg_stream.proofs.printer.RowsAppended.{row_text-is, after-is, sound-next, open_lines-same}
+use Rattle.pg_stream.proofs.draw.SingleLines.{at-once}
+use Rattle.pg_stream.proofs.printer.SingleRowsPrinted.{none-open}
 use Rattle.pg_stream.proofs.printer.progress.Progress.push_row.Goals as goal
 
 pub returns-in_err-push_top-clause-appends : goal.returns-in_err-push_top-clause-appends

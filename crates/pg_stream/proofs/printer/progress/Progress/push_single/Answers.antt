@@ -6,9 +6,9 @@ use Rattle.pg_stream.specs.Printers.{now_of, IsSound}
 use Rattle.pg_stream.specs.Printing.{Printing}
 use Rattle.pg_stream.specs.Inside.Slots.{separator_height}
 use Rattle.pg_stream.proofs.DrawnLines.{length_of_row}
-use Rattle.pg_stream.proofs.RowsPrinted.{room-above, drawn-above}
-use Rattle.pg_stream.proofs.RowsAppended.{row_text-is, after-is, sound-next}
-use Rattle.pg_stream.proofs.SingleRowsPrinted.{none-open, single_text-is, single-left}
+use Rattle.pg_stream.proofs.printer.RowsPrinted.{room-above, drawn-above}
+use Rattle.pg_stream.proofs.printer.RowsAppended.{row_text-is, after-is, sound-next}
+use Rattle.pg_stream.proofs.printer.SingleRowsPrinted.{none-open, single_text-is, single-left}
 use Rattle.pg_stream.proofs.printer.progress.Progress.push_single.Goals as goal
 
 pub returns-in_err-push_top-clause-appends : goal.returns-in_err-push_top-clause-appends

@@ -6,7 +6,7 @@ use Rattle.pg_stream.specs.Inside.Held.{IsSoundAt}
 use Rattle.pg_stream.specs.Printers.{now_of}
 use Rattle.pg_picture.specs.Table.{Table}
 use Rattle.pg_stream.specs.Inside.SingleRows.{AreOfKind}
-use Rattle.pg_stream.proofs.StreamedRows.{row-misfits, row-refused, row-printed}
+use Rattle.pg_stream.proofs.stream.StreamedRows.{row-misfits, row-refused, row-printed}
 use Rattle.pg_stream.proofs.printer.progress.Progress.try_row.Goals as goal
 
 pub kind_if_fits-requires : goal.kind_if_fits-requires

@@ -6,8 +6,8 @@ use Rattle.pg_stream.specs.Printers.{now_of}
 use Rattle.pg_stream.specs.Printing.{Printing, after_row}
 use Rattle.pg_stream.specs.Streams.{Streaming}
 use Rattle.pg_stream.specs.declared.fault.StreamFault.{StreamFault}
-use Rattle.pg_stream.proofs.Ending.{finish-none}
-use Rattle.pg_stream.proofs.StreamedRows.{end-stops, end-some, end-none}
+use Rattle.pg_stream.proofs.printer.Ending.{finish-none}
+use Rattle.pg_stream.proofs.stream.StreamedRows.{end-stops, end-some, end-none}
 use Rattle.pg_stream.proofs.stream.held_rows.HeldRows.finish.Goals as goal
 
 pub returns-in_default-clause-prints : goal.returns-in_default-clause-prints

@@ -6,9 +6,9 @@ use Rattle.pg_layout.specs.Text.{Text}
 use Rattle.pg_stream.specs.Inside.Held.{streamed}
 use Rattle.pg_stream.specs.Streams.{Streaming}
 use Rattle.pg_stream.specs.declared.fault.RowsFault.{RowsFault}
-use Rattle.pg_stream.proofs.StreamedResults.{none-streamed, item-taken, streamed-next, streamed-stops, streamed-fails, streamed-ends}
-use Rattle.pg_stream.proofs.StreamedRuns.{no-items, results-go-on, results-stop, results-fail, results-end-ok, results-end-err}
-use Rattle.pg_stream.proofs.NoRows.{untouched, touched, some-row}
+use Rattle.pg_stream.proofs.stream.StreamedResults.{none-streamed, item-taken, streamed-next, streamed-stops, streamed-fails, streamed-ends}
+use Rattle.pg_stream.proofs.stream.StreamedRuns.{no-items, results-go-on, results-stop, results-fail, results-end-ok, results-end-err}
+use Rattle.pg_stream.proofs.stream.NoRows.{untouched, touched, some-row}
 use Rattle.pg_stream.proofs.stream.held_rows.HeldRows.push_results.Goals as goal
 
 pub loop-row-init : goal.loop-row-init

@@ -4,9 +4,9 @@ use Rattle.pg_layout.specs.Records.{AlwaysGives}
 use Rattle.pg_layout.specs.Text.{Text}
 use Rattle.pg_stream.specs.Inside.Held.{streamed, AreSoundAt}
 use Rattle.pg_stream.specs.Streams.{Streaming}
-use Rattle.pg_stream.proofs.StreamedResults.{Streamed}
-use Rattle.pg_stream.proofs.StreamedRuns.{RowsBehind}
-use Rattle.pg_stream.proofs.NoRows.{IsUntouched}
+use Rattle.pg_stream.proofs.stream.StreamedResults.{Streamed}
+use Rattle.pg_stream.proofs.stream.StreamedRuns.{RowsBehind}
+use Rattle.pg_stream.proofs.stream.NoRows.{IsUntouched}
 use Rattle.pg_stream.proofs.stream.held_rows.HeldRows.push_results.Given as goal
 
 -- what the rows that are left append is what all append

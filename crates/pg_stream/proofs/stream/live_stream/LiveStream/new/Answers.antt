@@ -1,6 +1,6 @@
 use Rattle.std.proofs.Common.{ap}
 use Rattle.std.specs.Result.{result_err}
-use Rattle.pg_stream.proofs.MakingPrinters.{told-alike}
+use Rattle.pg_stream.proofs.printer.MakingPrinters.{told-alike}
 use Rattle.pg_stream.proofs.stream.live_stream.LiveStream.new.Goals as goal
 
 pub returns-in-Ok-clause-misfit : goal.returns-in-Ok-clause-misfit

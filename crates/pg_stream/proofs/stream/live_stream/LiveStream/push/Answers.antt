@@ -5,7 +5,7 @@ use Rattle.pg_picture.specs.Inside.Sheets.{bare_table}
 use Rattle.pg_stream.specs.LiveStreams.{Living}
 use Rattle.pg_stream.specs.Printers.{now_of}
 use Rattle.pg_stream.specs.Printing.{Printing}
-use Rattle.pg_stream.proofs.StreamedRows.{row-refused, row-printed}
+use Rattle.pg_stream.proofs.stream.StreamedRows.{row-refused, row-printed}
 use Rattle.pg_stream.proofs.stream.live_stream.LiveStream.push.Goals as goal
 
 pub push_cells-requires-clause-fits : goal.push_cells-requires-clause-fits

@@ -2,7 +2,7 @@ use Rattle.std.proofs.Common.{◌≡◌, map, refl, arith, length}
 use Rattle.std.specs.Vec.Iter.{into_iter_len}
 use Rattle.std.proofs.lemmas.Iterator.Adapters.{YieldsList-from_vec}
 use Rattle.pg_layout.proofs.Given.{given-items}
-use Rattle.pg_stream.proofs.StreamedRows.{rows-ok}
+use Rattle.pg_stream.proofs.stream.StreamedRows.{rows-ok}
 use Rattle.pg_stream.proofs.stream.row_stream.RowStream.print_vec.Goals as goal
 
 pub returns-clause-prints : goal.returns-clause-prints

@@ -1,5 +1,5 @@
 use Rattle.std.proofs.lemmas.Result.{err_from_is_err_and}
-use Rattle.pg_stream.proofs.StreamedRows.{appends-as, stops-as}
+use Rattle.pg_stream.proofs.stream.StreamedRows.{appends-as, stops-as}
 use Rattle.pg_stream.proofs.stream.row_stream.RowStream.push.Goals as goal
 
 pub returns-in_err-push-clause-prints : goal.returns-in_err-push-clause-prints

@@ -1,7 +1,7 @@
 use Rattle.std.proofs.Common.{◌≡◌, List, IfOk, subst}
 use Rattle.pg_layout.specs.Text.{Text}
 use Rattle.pg_stream.specs.Streams.{Streaming, streaming, after_push}
-use Rattle.pg_stream.proofs.StreamedRows.{tells-row, tells-memory}
+use Rattle.pg_stream.proofs.stream.StreamedRows.{tells-row, tells-memory}
 use Rattle.pg_stream.proofs.stream.row_stream.RowStream.push_from.Goals as goal
 
 pub returns-clause-after : goal.returns-clause-after

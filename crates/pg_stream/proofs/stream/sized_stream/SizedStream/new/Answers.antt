@@ -7,7 +7,7 @@ use Rattle.pg_stream.specs.LiveStreams.{Living}
 use Rattle.pg_stream.specs.Printers.{printing}
 use Rattle.pg_stream.specs.Printing.{Printing, printer}
 use Rattle.pg_stream.specs.declared.fault.StreamFault.{StreamFault}
-use Rattle.pg_stream.proofs.MakingPrinters.{fits-told, told-alike}
+use Rattle.pg_stream.proofs.printer.MakingPrinters.{fits-told, told-alike}
 use Rattle.pg_stream.proofs.SizedRows.{misfit-spans, misfit-rest, spans-told, spans-memory, made-by, sized-first}
 use Rattle.pg_stream.proofs.stream.sized_stream.SizedStream.new.Goals as goal
 

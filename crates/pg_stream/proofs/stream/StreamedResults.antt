@@ -8,7 +8,7 @@ use Rattle.pg_stream.specs.Streams.{Streaming, held_text, HeldFits, after_push, 
 use Rattle.pg_stream.specs.declared.fault.RowsFault.{RowsFault}
 use Rattle.pg_stream.specs.declared.fault.RowsFault.TheVariants.{Stream, Source}
 use Rattle.pg_stream.specs.declared.fault.StreamFault.{StreamFault}
-use Rattle.pg_stream.proofs.StreamedRows.{push-goes, push-stops, push-goes-but-latest, push-stops-but-latest, none-left}
+use Rattle.pg_stream.proofs.stream.StreamedRows.{push-goes, push-stops, push-goes-but-latest, push-stops-but-latest, none-left}
 
 module _ {Z V E : Type 0} where
   -- the held row and those behind it, until an error comes or none

@@ -9,8 +9,8 @@ use Rattle.pg_picture.specs.Marks.{marks_of_row, marks_above}
 use Rattle.pg_picture.specs.Table.{Table}
 use Rattle.pg_stream.specs.Open.{Slot, slot_text, drawn_before, open_at_row, open_before}
 use Rattle.pg_stream.specs.Printing.{Printing, text_known, table_known, after_row}
-use Rattle.pg_stream.proofs.Steps.{open_value, open_none}
-use Rattle.pg_stream.proofs.WholePictures.{at_range, map_range-same}
+use Rattle.pg_stream.proofs.draw.Steps.{open_value, open_none}
+use Rattle.pg_stream.proofs.printer.WholePictures.{at_range, map_range-same}
 
 -- the open cells are those of the table whose texts they have themselves
 pub record Stands (s : Printing) : Type 0 where

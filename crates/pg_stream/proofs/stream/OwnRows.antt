@@ -19,9 +19,9 @@ use Rattle.pg_picture.proofs.MarksOfRectangles.{run_of, row_lines, rows_from, ma
 use Rattle.pg_picture.proofs.Owners.{Apart, owners_of}
 use Rattle.pg_stream.specs.Open.{drawn_before, open_at_row, open_before}
 use Rattle.pg_stream.proofs.DrawnLines.{drawn-first}
-use Rattle.pg_stream.proofs.RowsOfTables.{SameHeight, AllSame, blank_same}
-use Rattle.pg_stream.proofs.Steps.{open_none}
-use Rattle.pg_stream.proofs.WholePictures.{map_range-same, no_slots}
+use Rattle.pg_stream.proofs.printer.RowsOfTables.{SameHeight, AllSame, blank_same}
+use Rattle.pg_stream.proofs.draw.Steps.{open_none}
+use Rattle.pg_stream.proofs.printer.WholePictures.{map_range-same, no_slots}
 
 -- ---- rectangles of one row
 

@@ -12,7 +12,7 @@ use Rattle.pg_stream.specs.Printing.{Printing, table_known, lines_printed, finis
 use Rattle.pg_stream.specs.Streams.{OnlyMemory}
 use Rattle.pg_stream.specs.declared.fault.StreamFault.{StreamFault}
 use Rattle.pg_stream.specs.declared.fault.StreamFault.TheVariants.{Misfit, Row, Open, Memory}
-use Rattle.pg_stream.proofs.Ending.{finish-none}
+use Rattle.pg_stream.proofs.printer.Ending.{finish-none}
 
 -- the end below the rows doesn't ask whether the last of them was told to be that
 pub finish-any : (s : Printing) (b : Bool) → finish_text (record s { is_ended = b }) ≡ finish_text s

@@ -15,9 +15,9 @@ use Rattle.pg_picture.specs.Table.{Table, rect_marks, rect_height, block_at, is_
 use Rattle.pg_picture.proofs.Owners.{HasOwners}
 use Rattle.pg_stream.specs.Open.{drawn_before, open_at_row, open_before}
 use Rattle.pg_stream.specs.Inside.Slots.{slot_item, slot_column, slot_separator_part, slot_separator}
-use Rattle.pg_stream.proofs.Steps.{open_value, open_none, at_own}
-use Rattle.pg_stream.proofs.PlacesInRows.{place-sep, height-is}
-use Rattle.pg_stream.proofs.WholePictures.{at_range}
+use Rattle.pg_stream.proofs.draw.Steps.{open_value, open_none, at_own}
+use Rattle.pg_stream.proofs.draw.PlacesInRows.{place-sep, height-is}
+use Rattle.pg_stream.proofs.printer.WholePictures.{at_range}
 
 covered_parts : (t : Table) (k x : ℕ) → is_covered t k x ≡ true → (nat_lt x t.columns ≡ true) × (begins_above t.config.spans k x ≡ true)
 unfolding is_covered

@@ -21,14 +21,14 @@ use Rattle.pg_stream.specs.Printers.{IsSound}
 use Rattle.pg_stream.specs.Printing.{Printing, table_known}
 use Rattle.pg_stream.specs.Inside.Slots.{separator_height}
 use Rattle.pg_stream.specs.Inside.Turns.{IsOwnerAbove, new_cell, begin_cell, cells_begun}
-use Rattle.pg_stream.proofs.Beginning.{begun-is, inside-columns, owner-begun}
-use Rattle.pg_stream.proofs.CellsBegun.{placed-new}
+use Rattle.pg_stream.proofs.draw.Beginning.{begun-is, inside-columns, owner-begun}
+use Rattle.pg_stream.proofs.draw.CellsBegun.{placed-new}
 use Rattle.pg_stream.proofs.DrawnLines.{drawn-first, drawn-more}
-use Rattle.pg_stream.proofs.OpenLists.{drawn-at, drawn-all, all-open}
-use Rattle.pg_stream.proofs.OwnersOfCells.{open-at, owner-open, owner-drawn, drawn-le}
-use Rattle.pg_stream.proofs.PartsOfLists.{partly, partly-all, partly-length, partly-below}
-use Rattle.pg_stream.proofs.Printers.{Stands, slots_known}
-use Rattle.pg_stream.proofs.Reaches.{IsOwner}
+use Rattle.pg_stream.proofs.draw.OpenLists.{drawn-at, drawn-all, all-open}
+use Rattle.pg_stream.proofs.draw.OwnersOfCells.{open-at, owner-open, owner-drawn, drawn-le}
+use Rattle.pg_stream.proofs.draw.PartsOfLists.{partly, partly-all, partly-length, partly-below}
+use Rattle.pg_stream.proofs.printer.Printers.{Stands, slots_known}
+use Rattle.pg_stream.proofs.draw.Reaches.{IsOwner}
 
 -- a cell that has begun or that was there
 one-begun-of : (t : Table) (k x : ℕ) (text : Text) (cell : Option Placed) (Q : ℕ → Placed → Type 0) → (is_at (owner t.config.spans k x) k x ≡ true → Q x (new_cell t (at k x) text)) → IfSome cell (Q x) → (c : Placed) → begin_cell t k text x cell ≡ Some c → Q x c

@@ -10,9 +10,9 @@ use Rattle.pg_stream.specs.Printers.{IsSound}
 use Rattle.pg_stream.specs.Printing.{Printing, table_known, row_text}
 use Rattle.pg_stream.specs.Inside.SingleRows.{single_line}
 use Rattle.pg_stream.specs.Inside.Slots.{separator_height}
-use Rattle.pg_stream.proofs.RowsAppended.{row_text-is, cells_left}
-use Rattle.pg_stream.proofs.RowsPrinted.{slots-are, cells_above, whole-above}
-use Rattle.pg_stream.proofs.SingleLines.{none-above, lines-are, left-as-above}
+use Rattle.pg_stream.proofs.printer.RowsAppended.{row_text-is, cells_left}
+use Rattle.pg_stream.proofs.printer.RowsPrinted.{slots-are, cells_above, whole-above}
+use Rattle.pg_stream.proofs.draw.SingleLines.{none-above, lines-are, left-as-above}
 
 -- where no cell spans others, none is open between two rows
 pub none-open : (s : Printing) (w : ℕ) (height : Option ℕ) (cells : List (Option Placed)) → s.slots ≡ slots_of cells → IsSound s s.table w height cells → s.table.config.spans ≡ [] → cells ≡ replicate s.table.columns None

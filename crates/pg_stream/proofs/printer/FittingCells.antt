@@ -15,7 +15,7 @@ use Rattle.pg_picture.specs.Table.{Table, rect_width}
 use Rattle.pg_picture.proofs.FittingTables.{some_is, none_is}
 use Rattle.pg_picture.proofs.OwnersOfPlaces.{InOrder}
 use Rattle.pg_stream.specs.Conditions.{HasRoom}
-use Rattle.pg_stream.proofs.CellsBegun.{width-some, height-some}
+use Rattle.pg_stream.proofs.draw.CellsBegun.{width-some, height-some}
 
 -- ---- spans that fit the columns fit some number of rows
 

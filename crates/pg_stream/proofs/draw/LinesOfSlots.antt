@@ -13,9 +13,9 @@ use Rattle.pg_picture.specs.Table.{Table, rect_marks, rect_height, block_at, row
 use Rattle.pg_picture.proofs.Owners.{HasOwners}
 use Rattle.pg_stream.specs.Open.{drawn_before}
 use Rattle.pg_stream.specs.Inside.Slots.{begin_at, separator_height, slot_block, slot_part, slot_line, slot_in_row}
-use Rattle.pg_stream.proofs.Steps.{open_value, open_none, at_own}
-use Rattle.pg_stream.proofs.PlacesInRows.{place-older, place-own, height-is}
-use Rattle.pg_stream.proofs.WholePictures.{at_range}
+use Rattle.pg_stream.proofs.draw.Steps.{open_value, open_none, at_own}
+use Rattle.pg_stream.proofs.draw.PlacesInRows.{place-older, place-own, height-is}
+use Rattle.pg_stream.proofs.printer.WholePictures.{at_range}
 
 left : (spans : List Span) (k x : ℕ) → is_left spans k x ≡ true → (owner spans k x).col ≡ x
 unfolding is_left

@@ -17,8 +17,8 @@ use Rattle.pg_stream.specs.Open.{open_at_row, open_before}
 use Rattle.pg_stream.specs.Placed.{Placed, slots_of, AllOpen, IsPlaced}
 use Rattle.pg_stream.specs.Printers.{IsSound}
 use Rattle.pg_stream.specs.Printing.{Printing, table_known, printer}
-use Rattle.pg_stream.proofs.Steps.{open_none}
-use Rattle.pg_stream.proofs.WholePictures.{map_range-same, no_slots}
+use Rattle.pg_stream.proofs.draw.Steps.{open_none}
+use Rattle.pg_stream.proofs.printer.WholePictures.{map_range-same, no_slots}
 
 -- no cell is open above row 0
 none-open : (t : Table) → open_before t 0 ≡ replicate t.columns None

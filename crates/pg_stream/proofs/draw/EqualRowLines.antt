@@ -10,8 +10,8 @@ use Rattle.pg_picture.proofs.EqualSeparators.{crossing_at-same, horizontal-same,
 use Rattle.pg_picture.proofs.PlainPictures.{flat_map-same}
 use Rattle.pg_stream.specs.Inside.Drawing.{open_separator_part, open_separator, IsSeparator}
 use Rattle.pg_stream.specs.Placed.{Placed}
-use Rattle.pg_stream.proofs.Ending.{reach-empty}
-use Rattle.pg_stream.proofs.Starting.{none-at}
+use Rattle.pg_stream.proofs.printer.Ending.{reach-empty}
+use Rattle.pg_stream.proofs.printer.Starting.{none-at}
 
 module _ (t : Table) (equal : has_equal_row_lines t.config ≡ true) (r s : ℕ) (some_r : 0 < r) (some_s : 0 < s) where
   abbrev nothing : List (Option Placed)

@@ -18,14 +18,14 @@ use Rattle.pg_stream.specs.Inside.OpenCells.{draw_cell}
 use Rattle.pg_stream.specs.Inside.SingleRows.{single_part, single_line}
 use Rattle.pg_stream.specs.Inside.Slots.{slot_block}
 use Rattle.pg_stream.specs.Inside.Turns.{new_cell, begin_cell, close_cell, mapped, cells_begun, cells_closed}
-use Rattle.pg_stream.proofs.PlainRooms.{height-plain, own-plain}
-use Rattle.pg_stream.proofs.OpenLists.{drawn-at}
-use Rattle.pg_stream.proofs.OwnersOfCells.{columns-same}
-use Rattle.pg_stream.proofs.PartsOfLines.{drawn-none, lines-none, lines-more, line-now}
-use Rattle.pg_stream.proofs.PartsOfLists.{partly-all, partly-below}
-use Rattle.pg_stream.proofs.Steps.{open_none}
+use Rattle.pg_stream.proofs.printer.PlainRooms.{height-plain, own-plain}
+use Rattle.pg_stream.proofs.draw.OpenLists.{drawn-at}
+use Rattle.pg_stream.proofs.draw.OwnersOfCells.{columns-same}
+use Rattle.pg_stream.proofs.draw.PartsOfLines.{drawn-none, lines-none, lines-more, line-now}
+use Rattle.pg_stream.proofs.draw.PartsOfLists.{partly-all, partly-below}
+use Rattle.pg_stream.proofs.draw.Steps.{open_none}
 use Rattle.pg_picture.proofs.EqualSeparators.{no-span}
-use Rattle.pg_stream.proofs.WholePictures.{map_range-same, no_slots}
+use Rattle.pg_stream.proofs.printer.WholePictures.{map_range-same, no_slots}
 
 -- a row is drawn at once where it has one line and no span is kept
 pub at-once : (n : ℕ) (spans : List Span) (b : Bool) → b ≡ ((n == 1) && (length spans == 0)) → b ≡ true → (n ≡ 1) × (spans ≡ [])

@@ -23,12 +23,12 @@ use Rattle.pg_stream.specs.Inside.Drawing.{reach, open_separator_part, open_sepa
 use Rattle.pg_stream.specs.Placed.{Placed, slots_of, AllOpen}
 use Rattle.pg_stream.specs.Printers.{IsSound}
 use Rattle.pg_stream.specs.Printing.{Printing, hint_of, text_known, table_known, lines_below, lines_printed, finish_lines, finish_text}
-use Rattle.pg_stream.proofs.OpenLists.{all-open}
-use Rattle.pg_stream.proofs.OwnersOfCells.{columns-same}
-use Rattle.pg_stream.proofs.Reaches.{reaching}
-use Rattle.pg_stream.proofs.RowTexts.{KnowsHeight, below-mark}
-use Rattle.pg_stream.proofs.RowsOfTables.{other}
-use Rattle.pg_stream.proofs.RowsPrinted.{apart, owners, owner-above}
+use Rattle.pg_stream.proofs.draw.OpenLists.{all-open}
+use Rattle.pg_stream.proofs.draw.OwnersOfCells.{columns-same}
+use Rattle.pg_stream.proofs.draw.Reaches.{reaching}
+use Rattle.pg_stream.proofs.printer.RowTexts.{KnowsHeight, below-mark}
+use Rattle.pg_stream.proofs.printer.RowsOfTables.{other}
+use Rattle.pg_stream.proofs.printer.RowsPrinted.{apart, owners, owner-above}
 
 -- nothing was printed where no row was
 pub finish-none : (s : Printing) → s.rows ≡ 0 → [] ≡ finish_text s

@@ -18,10 +18,10 @@ use Rattle.pg_stream.specs.Inside.Drawing.{open_part, open_line, reach, cell_ite
 use Rattle.pg_stream.specs.Placed.{Placed, slot_of, slots_of}
 use Rattle.pg_stream.specs.Inside.Slots.{slot_part, slot_line, slot_column, slot_separator_part, slot_separator}
 use Rattle.pg_stream.specs.Inside.Turns.{IsOwnerAbove}
-use Rattle.pg_stream.proofs.OpenLists.{slots-at}
-use Rattle.pg_stream.proofs.OwnersOfCells.{inside-not_left, inside-left, inside-end, columns-same}
-use Rattle.pg_stream.proofs.Reaches.{IsOwner, option_cases, reach-above}
-use Rattle.pg_stream.proofs.RowsOfTables.{other}
+use Rattle.pg_stream.proofs.draw.OpenLists.{slots-at}
+use Rattle.pg_stream.proofs.draw.OwnersOfCells.{inside-not_left, inside-left, inside-end, columns-same}
+use Rattle.pg_stream.proofs.draw.Reaches.{IsOwner, option_cases, reach-above}
+use Rattle.pg_stream.proofs.printer.RowsOfTables.{other}
 
 and_false : (b c : Bool) → c ≡ false → (b && c) ≡ false
 and_false true c e = e

@@ -20,8 +20,8 @@ use Rattle.pg_picture.proofs.Pictures.{none-of-two}
 use Rattle.pg_stream.specs.Inside.Drawing.{open_line, line_at, open_line_at, open_lines, above_text, below_text, top_text, open_separator}
 use Rattle.pg_stream.specs.Placed.{Placed}
 use Rattle.pg_stream.specs.Inside.OpenCells.{draw_cell}
-use Rattle.pg_stream.proofs.RowsOfTables.{SameHeight, blank_same, other}
-use Rattle.pg_stream.proofs.SeparatorsOfRows.{above-absent, above-there, below-absent, below-there}
+use Rattle.pg_stream.proofs.printer.RowsOfTables.{SameHeight, blank_same, other}
+use Rattle.pg_stream.proofs.draw.SeparatorsOfRows.{above-absent, above-there, below-absent, below-there}
 
 -- ---- a line of the body
 

@@ -11,8 +11,8 @@ use Rattle.pg_picture.specs.Table.{Table, vertical}
 use Rattle.pg_picture.proofs.PiecesOfLines.{written-append}
 use Rattle.pg_stream.specs.Conditions.{HasRoom}
 use Rattle.pg_stream.specs.Inside.SingleRows.{single_part, single_line}
-use Rattle.pg_stream.proofs.PartsOfLines.{written-columns_cut}
-use Rattle.pg_stream.proofs.PlainRooms.{plain-room-fits}
+use Rattle.pg_stream.proofs.draw.PartsOfLines.{written-columns_cut}
+use Rattle.pg_stream.proofs.printer.PlainRooms.{plain-room-fits}
 
 module _ (t : Table) (k : ℕ) where
   -- a cell's vertical and its line

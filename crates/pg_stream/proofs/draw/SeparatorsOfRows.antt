@@ -9,7 +9,7 @@ use Rattle.pg_picture.specs.Table.{Table, margin_line}
 use Rattle.pg_stream.specs.Inside.Drawing.{open_separator, line_at, above_text, below_text, top_text}
 use Rattle.pg_stream.specs.Placed.{Placed}
 use Rattle.pg_stream.specs.Inside.Slots.{separator_height}
-use Rattle.pg_stream.proofs.PartsOfLines.{line_at-parts}
+use Rattle.pg_stream.proofs.draw.PartsOfLines.{line_at-parts}
 
 module _ (t : Table) (height : Option ℕ) (cells : List (Option Placed)) (r index : ℕ) {there : Bool} where
   pub above-absent : there ≡ has_horizontal t.config r (r + 1) → there ≡ false → [] ≡ above_text t height cells r index

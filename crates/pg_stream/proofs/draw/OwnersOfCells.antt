@@ -17,9 +17,9 @@ use Rattle.pg_stream.specs.Open.{Slot, drawn_before, open_at_row, open_before}
 use Rattle.pg_stream.specs.Placed.{Placed, slot_of, slots_of}
 use Rattle.pg_stream.specs.Inside.OpenCells.{draw_cell}
 use Rattle.pg_stream.specs.Inside.Turns.{IsOwnerAbove}
-use Rattle.pg_stream.proofs.OpenLists.{slots-at}
-use Rattle.pg_stream.proofs.Steps.{open_value}
-use Rattle.pg_stream.proofs.WholePictures.{at_range}
+use Rattle.pg_stream.proofs.draw.OpenLists.{slots-at}
+use Rattle.pg_stream.proofs.draw.Steps.{open_value}
+use Rattle.pg_stream.proofs.printer.WholePictures.{at_range}
 
 -- ---- what is open before row k
 

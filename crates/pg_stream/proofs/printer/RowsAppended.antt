@@ -28,18 +28,18 @@ use Rattle.pg_stream.specs.Printers.{IsSound}
 use Rattle.pg_stream.specs.Printing.{Printing, hint_of, rows_known, rows_reached, text_known, table_known, lines_at, lines_printed, row_lines, row_text, after_row}
 use Rattle.pg_stream.specs.Inside.Slots.{separator_height, slot_line, slot_separator}
 use Rattle.pg_stream.specs.Inside.Turns.{close_cell, cells_closed}
-use Rattle.pg_stream.proofs.Closing.{closed-is}
-use Rattle.pg_stream.proofs.OpenLists.{drawn-all, all-open, one-open}
-use Rattle.pg_stream.proofs.PartsOfLists.{partly-all, partly-length, partly-below}
+use Rattle.pg_stream.proofs.draw.Closing.{closed-is}
+use Rattle.pg_stream.proofs.draw.OpenLists.{drawn-all, all-open, one-open}
+use Rattle.pg_stream.proofs.draw.PartsOfLists.{partly-all, partly-length, partly-below}
 use Rattle.pg_stream.proofs.DrawnLines.{length_of_row}
-use Rattle.pg_stream.proofs.LinesOfCells.{open_line-slots, open_separator-slots}
-use Rattle.pg_stream.proofs.LinesOfSlots.{line_of_row-slots}
-use Rattle.pg_stream.proofs.Printers.{Stands, Stands-after}
-use Rattle.pg_stream.proofs.RowTexts.{KnowsHeight, lines-text, above-mark, top-margin}
-use Rattle.pg_stream.proofs.RowsOfTables.{other, owner-reached, row_inside_body}
-use Rattle.pg_stream.proofs.RowsPrinted.{length-separator, slots-are, stands, apart, owners, owner-above, owner-drawn-now, cells_now, whole-now, placed-now}
-use Rattle.pg_stream.proofs.SeparatorsOfSlots.{separator-slots}
-use Rattle.pg_stream.proofs.SlotsOfCells.{slots-of-row, slots-after}
+use Rattle.pg_stream.proofs.draw.LinesOfCells.{open_line-slots, open_separator-slots}
+use Rattle.pg_stream.proofs.draw.LinesOfSlots.{line_of_row-slots}
+use Rattle.pg_stream.proofs.printer.Printers.{Stands, Stands-after}
+use Rattle.pg_stream.proofs.printer.RowTexts.{KnowsHeight, lines-text, above-mark, top-margin}
+use Rattle.pg_stream.proofs.printer.RowsOfTables.{other, owner-reached, row_inside_body}
+use Rattle.pg_stream.proofs.printer.RowsPrinted.{length-separator, slots-are, stands, apart, owners, owner-above, owner-drawn-now, cells_now, whole-now, placed-now}
+use Rattle.pg_stream.proofs.draw.SeparatorsOfSlots.{separator-slots}
+use Rattle.pg_stream.proofs.draw.SlotsOfCells.{slots-of-row, slots-after}
 
 -- ---- the cells that are left
 

@@ -14,12 +14,12 @@ use Rattle.pg_stream.specs.Placed.{Placed, slot_of, slots_of}
 use Rattle.pg_stream.specs.Inside.OpenCells.{draw_cell}
 use Rattle.pg_stream.specs.Inside.Slots.{draw_more, begin_at, close_at, separator_height, next_slot, slot_in_row}
 use Rattle.pg_stream.specs.Inside.Turns.{begin_cell, close_cell, mapped, cells_begun, cells_closed}
-use Rattle.pg_stream.proofs.Beginning.{begun-is}
-use Rattle.pg_stream.proofs.Closing.{closed-is}
-use Rattle.pg_stream.proofs.OpenLists.{slots-drawn}
-use Rattle.pg_stream.proofs.RowsOfTables.{other}
-use Rattle.pg_stream.proofs.Steps.{open_step}
-use Rattle.pg_stream.proofs.WholePictures.{map_range-same}
+use Rattle.pg_stream.proofs.draw.Beginning.{begun-is}
+use Rattle.pg_stream.proofs.draw.Closing.{closed-is}
+use Rattle.pg_stream.proofs.draw.OpenLists.{slots-drawn}
+use Rattle.pg_stream.proofs.printer.RowsOfTables.{other}
+use Rattle.pg_stream.proofs.draw.Steps.{open_step}
+use Rattle.pg_stream.proofs.printer.WholePictures.{map_range-same}
 
 map-map : {A B C : Type 0} (g : B → C) (f : A → B) (xs : List A) → map g (map f xs) ≡ map (λ x. g (f x)) xs
 map-map g f [] = refl

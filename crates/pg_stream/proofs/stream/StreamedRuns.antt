@@ -10,7 +10,7 @@ use Rattle.pg_layout.specs.Text.{Text}
 use Rattle.pg_stream.specs.Streams.{Streaming, held_text, HeldFits, after_push, rows_left, rows_before, first_error, AppendsIf, PrintsRows, PrintsButLatest, PrintsUntil, PrintsRun, PrintsResultsRun}
 use Rattle.pg_stream.specs.declared.fault.RowsFault.TheVariants.{Stream, Source}
 use Rattle.pg_stream.specs.declared.fault.StreamFault.{StreamFault}
-use Rattle.pg_stream.proofs.StreamedRows.{push-goes, push-goes-but-latest, push-stops-but-latest, none-left}
+use Rattle.pg_stream.proofs.stream.StreamedRows.{push-goes, push-goes-but-latest, push-stops-but-latest, none-left}
 
 -- ---- the rows so far
 

@@ -21,7 +21,7 @@ use Rattle.pg_picture.proofs.MarksOfRectangles.{rows_from, marks_above-add, mark
 use Rattle.pg_picture.proofs.OwnersOfPlaces.{Among}
 use Rattle.pg_picture.proofs.Owners.{Apart, owner_cases}
 use Rattle.pg_stream.specs.Printing.{row_end, rows_reached, lines_at}
-use Rattle.pg_stream.proofs.TextsOfRows.{SameTexts, line_of_row-told, separator_items-told}
+use Rattle.pg_stream.proofs.draw.TextsOfRows.{SameTexts, line_of_row-told, separator_items-told}
 
 -- ---- where rectangles end
 

@@ -13,9 +13,9 @@ use Rattle.pg_picture.proofs.Owners.{Apart, HasOwners, owner-columns}
 use Rattle.pg_stream.specs.Inside.Drawing.{column_end, reach}
 use Rattle.pg_stream.specs.Placed.{Placed, AllOpen}
 use Rattle.pg_stream.specs.Inside.Turns.{IsOwnerAbove, new_cell, begin_cell, mapped, cells_begun}
-use Rattle.pg_stream.proofs.PartsOfLists.{partly, partly-below, partly-above, partly-at, partly-set, set-same, set-other, drop-first, drop-some}
-use Rattle.pg_stream.proofs.Reaches.{IsOwner, option_cases, own-test}
-use Rattle.pg_stream.proofs.WholePictures.{map_range-same}
+use Rattle.pg_stream.proofs.draw.PartsOfLists.{partly, partly-below, partly-above, partly-at, partly-set, set-same, set-other, drop-first, drop-some}
+use Rattle.pg_stream.proofs.draw.Reaches.{IsOwner, option_cases, own-test}
+use Rattle.pg_stream.proofs.printer.WholePictures.{map_range-same}
 
 module _ (t : Table) (k x : ℕ) (text : Text) (cells : List (Option Placed)) where
   -- its own owner begins
