@@ -18,11 +18,11 @@ loop-column-preserved g c =
     let fits = fits-in t c.args.row x c.as_str-text.result.now c.new-pos.result c.new-pos.ensures c.get_width-width.result c.get_width-width.ensures c.get_height-height.result c.get_height-height.ensures in
     let has : is_some c.kind_if_cell_fits.result ≡ true = ap is_some c.in-Some.is in
     let room = plain-room-from t c.requires.alone c.args.row x c.as_str-text.result.now c.requires.row (omega (arith, c.get_width-width.ensures)) (omega (arith, c.get_height-height.ensures)) (sym fits ∙ sym c.kind_if_cell_fits.ensures.room ∙ has) in
-    let common = c.and.result in
+    let common = c.and-common.result in
     up-to (λ y. HasRoom t (at c.args.row y) (slice_index_or texts y []) × IsOfKind common (slice_index_or texts y [])) x
-    (λ y h. let before = c.loop-column.invariant y h in (before.0, λ plain. before.1 (c.and.ensures.0 plain).0))
+    (λ y h. let before = c.loop-column.invariant y h in (before.0, λ plain. before.1 (c.and-common.ensures.0 plain).0))
     (subst (λ (text : Text). HasRoom t (at c.args.row x) text × IsOfKind common text) text
-    (room, λ plain. c.in-Some.ensures.kind (c.and.ensures.0 plain).1))
+    (room, λ plain. c.in-Some.ensures.kind (c.and-common.ensures.0 plain).1))
 
 pub returns-in_default-clause-room : goal.returns-in_default-clause-room
 returns-in_default-clause-room g c =
