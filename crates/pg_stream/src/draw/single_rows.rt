@@ -1,6 +1,6 @@
 //! Rows of one line in a table without spans: their cells are drawn as they come.
 
-ghost use Rattle.std.specs.Prelude.{◌≡◌, ◌&&◌, ◌==◌, List, length};
+ghost use Rattle.std.specs.Prelude.{◌≡◌, List};
 ghost use Rattle.pg_layout.specs.Records.{AlwaysGives, Gives};
 ghost use Rattle.pg_layout.specs.Text.{Text};
 ghost use Rattle.pg_picture.specs.Appending.{Appends};
@@ -24,12 +24,6 @@ where
     C: Colors,
     B: Allocator,
 {
-    pub(crate) fn draws_at_once(self, height: usize) -> bool
-        ensures { result ≡ ((height == 1) && (length T.table.config.spans == 0)) }
-    {
-        height == 1 && self.pen.sheet.config.spans().is_empty()
-    }
-
     // Plain texts aren't read for their line.
     #[inline(always)]
     pub(crate) fn push_single_row<S: AsStr + Drop, I: Iterator<Item = S>, W: Allocator>(

@@ -1,5 +1,9 @@
 //! What a printer was told: the table's configuration, its sizes and its colours.
 
+ghost use Rattle.std.specs.Prelude.{◌↔◌, IsTrue};
+ghost use Rattle.pg_stream.specs.Inside.SingleRows.{IsSingle};
+
+use pg_layout::{Colors, Dimension};
 use pg_picture::Sheet;
 use std::alloc::{Allocator, Global};
 
@@ -9,4 +13,16 @@ pub(crate) struct Frame<'a, D, C, B: Allocator = Global> {
     pub(crate) sheet: Sheet<'a, D, C, B>,
     /// How many rows the table has, where that is known.
     pub(crate) hint: Option<usize>,
+}
+
+impl<'a, D: Dimension, C: Colors, B: Allocator> Frame<'a, D, C, B> {
+    ghost use Rattle.pg_picture.specs.Inside.Sheets.{bare_table};
+
+    // Whether the cells of a row are drawn as they come, and never open.
+    #[inline(always)]
+    pub(crate) fn is_single(&self, row: usize) -> bool
+        ensures { IsTrue result ↔ IsSingle (bare_table D.width D.height C.color self.now.sheet) row }
+    {
+        self.sheet.config.spans().is_empty() && self.sheet.dimension.get_height(row) == 1
+    }
 }

@@ -61,6 +61,9 @@ impl<S: AsStr + Drop, A: Allocator> Progress<'_, S, A> {
         ensures appends { (texts : List Text) → AlwaysGives (λ x y. S.text x ≡ y) I.next_gives cells texts → Appends buf.old buf.new result (row_text (now_of T.table frame.now.hint self.old) texts is_last) }
         ensures after { (texts : List Text) → AlwaysGives (λ x y. S.text x ≡ y) I.next_gives cells texts → OnOk result (now_of T.table frame.now.hint self.new ≡ after_row (now_of T.table frame.now.hint self.old) texts is_last) }
     {
+        if frame.is_single(self.rows) {
+            return self.push_single::<T, D, C, B, S, I, W>(frame, cells, kind, is_last, buf);
+        }
         let drawing: Drawing<'_, T, D, C, B> = Drawing {
             pen: Pen {
                 sheet: &frame.sheet,
@@ -69,9 +72,6 @@ impl<S: AsStr + Drop, A: Allocator> Progress<'_, S, A> {
             },
         };
         let height = drawing.pen.height_of(self.rows);
-        if drawing.draws_at_once(height) {
-            return self.push_single::<T, D, C, B, S, I, W>(frame, cells, kind, is_last, buf);
-        }
         drawing.push_top(buf, self.rows)?;
         let next = drawing.push_above(&mut self.cells, &mut self.kept, buf, self.lines, self.rows)?;
         let below = next + height;
@@ -135,15 +135,7 @@ impl<S: AsStr + Drop, A: Allocator> Progress<'_, S, A> {
         ensures appends { Appends buf.old buf.new result (row_text (now_of T.table frame.now.hint self.old) (map S.text cells.items) is_last) }
         ensures after { OnOk result (now_of T.table frame.now.hint self.new ≡ after_row (now_of T.table frame.now.hint self.old) (map S.text cells.items) is_last) }
     {
-        let drawing: Drawing<'_, T, D, C, B> = Drawing {
-            pen: Pen {
-                sheet: &frame.sheet,
-                is_colored: true,
-                of: PhantomData,
-            },
-        };
-        let height = drawing.pen.height_of(self.rows);
-        if drawing.draws_at_once(height) {
+        if frame.is_single(self.rows) {
             return self.push_single::<T, D, C, B, &S, Iter<'_, S>, W>(
                 frame,
                 cells.iter(),

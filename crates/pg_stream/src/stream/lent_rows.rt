@@ -131,9 +131,7 @@ impl<S: AsStr + Drop, A: Allocator> Progress<'_, S, A> {
         ensures fits { IsSome result ↔ LentFits (now_of (bare_table D.width D.height C.color frame.now.sheet) frame.now.hint self.now) (map X.text cells.now) }
         ensures kind { IfSome result (λ kind. AreOfKind kind frame.now.sheet.columns (map X.text cells.now)) }
     {
-        if frame.sheet.config.spans().is_empty()
-            && frame.sheet.dimension.get_height(self.rows) == 1
-        {
+        if frame.is_single(self.rows) {
             return self.kind_if_fits(frame, cells, false);
         }
         None

@@ -6,14 +6,12 @@ use Rattle.pg_layout.proofs.Given.{given-items}
 use Rattle.pg_stream.specs.Printers.{now_of}
 use Rattle.pg_stream.specs.Printing.{Printing}
 use Rattle.pg_stream.proofs.stream.LentRows.{given-lent}
-use Rattle.pg_stream.proofs.draw.SingleLines.{at-once}
+use Rattle.pg_picture.specs.Table.{Table}
+use Rattle.pg_stream.specs.Inside.SingleRows.{IsSingle}
 use Rattle.pg_stream.proofs.printer.progress.Progress.push_cells.Goals as goal
 
 pub push_single-requires-clause-single : goal.push_single-requires-clause-single
-push_single-requires-clause-single g c =
-    let s : Printing = now_of g.T.Drawn.table c.args.frame.now.hint c.args.self.now in
-    let once = at-once c.height_of-height.result s.table.config.spans c.draws_at_once.result c.draws_at_once.ensures c.if-draws_at_once.true in
-    record { alone = once.1; height = sym c.height_of-height.ensures ∙ once.0 }
+push_single-requires-clause-single g c = subst (λ (t : Table). IsSingle t c.args.self.now.rows) c.requires.is (c.is_single.ensures.0 c.if-is_single.true)
 
 pub push_single-requires-clause-fits : goal.push_single-requires-clause-fits
 push_single-requires-clause-fits g c = (
@@ -23,13 +21,13 @@ push_single-requires-clause-fits g c = (
   c.requires.kind,
 )
 
-pub returns-then-draws_at_once-clause-appends : goal.returns-then-draws_at_once-clause-appends
-returns-then-draws_at_once-clause-appends g c =
+pub returns-then-is_single-clause-appends : goal.returns-then-is_single-clause-appends
+returns-then-is_single-clause-appends g c =
     let given = given-lent _ (λ y. y.now) g.S.AsStr.text (YieldsList-from_slice c.args.cells.items (c.iter.ensures.rest ∙ c.deref.ensures.value)) in
     c.push_single.ensures.appends (map g.S.AsStr.text c.args.cells.items) given
 
-pub returns-then-draws_at_once-clause-after : goal.returns-then-draws_at_once-clause-after
-returns-then-draws_at_once-clause-after g c =
+pub returns-then-is_single-clause-after : goal.returns-then-is_single-clause-after
+returns-then-is_single-clause-after g c =
     let given = given-lent _ (λ y. y.now) g.S.AsStr.text (YieldsList-from_slice c.args.cells.items (c.iter.ensures.rest ∙ c.deref.ensures.value)) in
     c.push_single.ensures.after (map g.S.AsStr.text c.args.cells.items) given
 

@@ -11,7 +11,8 @@ use Rattle.pg_stream.specs.Inside.Turns.{IsOwnerAbove, cells_begun, cells_closed
 use Rattle.pg_stream.proofs.DrawnLines.{length_of_row}
 use Rattle.pg_stream.proofs.printer.RowsPrinted.{room-above, drawn-above, owner-begins, whole-now, cells_now, begun-now, drawn-now, room-now}
 use Rattle.pg_stream.proofs.printer.RowsAppended.{row_text-is, after-is, sound-next, open_lines-same}
-use Rattle.pg_stream.proofs.draw.SingleLines.{at-once}
+use Rattle.pg_picture.specs.Table.{Table}
+use Rattle.pg_stream.specs.Inside.SingleRows.{IsSingle}
 use Rattle.pg_stream.proofs.printer.SingleRowsPrinted.{none-open}
 use Rattle.pg_stream.proofs.printer.progress.Progress.push_row.Goals as goal
 
@@ -186,7 +187,4 @@ returns-clause-after g c = λ texts gives.
     ∙ after-is s w h cells refl sound c.args.is_last fits.hint fits.spans texts
 
 pub push_single-requires-clause-single : goal.push_single-requires-clause-single
-push_single-requires-clause-single g c =
-    let s : Printing = now_of g.T.Drawn.table c.args.frame.now.hint c.args.self.now in
-    let once = at-once c.height_of-height.result s.table.config.spans c.draws_at_once.result c.draws_at_once.ensures c.if-draws_at_once.true in
-    record { alone = once.1; height = sym c.height_of-height.ensures ∙ once.0 }
+push_single-requires-clause-single g c = subst (λ (t : Table). IsSingle t c.args.self.now.rows) c.requires.is (c.is_single.ensures.0 c.if-is_single.true)
