@@ -1,14 +1,16 @@
 -- A walk along a row from left column to left column meets each place that owns itself.
-use Rattle.std.proofs.Common.{◌≡◌, ℕ, zero, suc, ◌+◌, ◌<◌, ◌≤◌, Bool, true, false, not, nat_lt, ◌==◌, List, refl, sym, ap, ◌∙◌, arith, subst, Option, is_some, inl, inr}
+use Rattle.std.proofs.Common.{◌≡◌, ℕ, zero, suc, ◌+◌, ◌<◌, ◌≤◌, Bool, true, false, not, nat_lt, ◌==◌, List, refl, sym, ap, ◌∙◌, arith, subst, Option, Some, is_some, inl, inr}
 use Rattle.std.proofs.lemmas.Bool.{cases_Bool, cases_lt, false≢true}
 use Rattle.std.proofs.lemmas.Bool.Decides.{nat_tests}
 use Rattle.pg_layout.specs.Position.{at, is_at}
-use Rattle.pg_config.specs.Spans.{Span, owner, is_left, left_span, if_above}
+use Rattle.pg_layout.specs.declared.position.Position.{Position}
+use Rattle.pg_config.specs.Spans.{Span, corner, size_of, owner, is_left, left_span, if_above}
 use Rattle.pg_picture.specs.Fits.{owner_fits}
 use Rattle.pg_picture.specs.Inside.Rectangles.{columns_or_one}
 use Rattle.pg_picture.specs.Inside.Walks.{first_misfit, row_places}
 use Rattle.pg_picture.specs.Table.{Table}
-use Rattle.pg_picture.proofs.OwnersOfPlaces.{InOrder, option_cases, left_sound, owner_found, owner_alone, step_positive, step_inside, next_left, inner}
+use Rattle.pg_picture.proofs.OwnersOfPlaces.{InOrder, option_cases, left_sound, owner_found, size_of_corner, owner_alone, step_positive, step_inside, next_left, inner}
+use Rattle.pg_picture.proofs.ReachOfRectangles.{is_at-same}
 use Rattle.pg_picture.proofs.Rooms.{next_place}
 
 module _ (spans : List Span) (rows columns : ℕ) (order : InOrder spans rows columns) where
@@ -28,6 +30,13 @@ module _ (spans : List Span) (rows columns : ℕ) (order : InOrder spans rows co
   pub own_unless : (r x : ℕ) (found : Option Span) (above b : Bool) → is_left spans r x ≡ true → found ≡ left_span spans r x → above ≡ is_some (if_above r found) → above ≡ b → is_at (owner spans r x) r x ≡ not b
   own_unless r x found above b left is test here =
       own_left r x left ∙ ap (λ (o : Option Span). not (is_some (if_above r o))) (sym is) ∙ ap not (sym test ∙ here)
+
+  -- a rectangle that is found at the place that owns it is as large as its span tells
+  pub own_size : (p : Position) (s : Span) → left_span spans p.row p.col ≡ Some s → is_at (owner spans p.row p.col) p.row p.col ≡ true → size_of spans p ≡ s.1
+  own_size p s found own =
+      let f = left_sound spans rows columns order p.row p.col s found in
+      let here : p ≡ corner s = sym (is_at-same (owner spans p.row p.col) p own) ∙ owner_found spans rows columns order p.row p.col s found in
+      ap (size_of spans) here ∙ size_of_corner spans rows columns order s f.among
 
   -- ---- a step of the walk
 

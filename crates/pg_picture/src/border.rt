@@ -62,7 +62,6 @@ impl<'a, B: Allocator> Run<'a, ANSIBuf<B>> {
     }
 }
 
-// The glyphs of a horizontal: all in one go where no single one was set.
 fn push_glyphs<'a, A: Allocator, B: Allocator>(
     run: Run<'a, ANSIBuf<B>>,
     buf: &mut String<A>,
@@ -81,7 +80,6 @@ fn push_glyphs<'a, A: Allocator, B: Allocator>(
     run.repeated_glyph(buf, glyph, width, color)
 }
 
-// The glyphs of a horizontal one by one.
 fn push_single_glyphs<'a, A: Allocator, B: Allocator>(
     mut run: Run<'a, ANSIBuf<B>>,
     buf: &mut String<A>,

@@ -16,7 +16,6 @@ use pg_config::CellStyle;
 use pg_layout::{ANSIBuf, ANSIFmt, Indent, get_line, get_line_width};
 use std::alloc::{AllocError, Allocator};
 
-// How many of a cell's columns the side paddings leave. The cell has room for them.
 #[inline(always)]
 #[tactic(auto, unfolding(crate::specs::Pieces::inner_width))]
 pub(crate) fn inner_width<A: Allocator>(style: &CellStyle<'_, A>, width: usize) -> usize
@@ -49,7 +48,6 @@ pub fn push_text_line<C: ANSIFmt, B: Allocator, A: Allocator>(
     push_line_of_width(buf, style, color, line, get_line_width(line), left, width)
 }
 
-// The same where the line's width is known.
 #[inline(always)]
 #[tactic(auto, unfolding(crate::specs::Pieces::inner_width))]
 pub(crate) fn push_line_of_width<C: ANSIFmt, B: Allocator, A: Allocator>(
@@ -70,7 +68,6 @@ pub(crate) fn push_line_of_width<C: ANSIFmt, B: Allocator, A: Allocator>(
     push_parts(buf, style, color, line, share, inner - share - line_width)
 }
 
-// How many columns stand left of a line.
 #[inline(always)]
 #[tactic(auto, unfolding(crate::specs::Pieces::inner_width))]
 pub(crate) fn columns_left<B: Allocator>(
@@ -91,7 +88,6 @@ pub(crate) fn columns_left<B: Allocator>(
     }
 }
 
-// The parts of a line, of which the shares are known.
 #[inline(always)]
 fn push_parts<C: ANSIFmt, B: Allocator, A: Allocator>(
     buf: &mut String<A>,
@@ -128,7 +124,6 @@ pub(crate) fn push_plain_parts<C: ANSIFmt, B: Allocator, A: Allocator>(
     push_columns(buf, style.justification, rest + style.padding.right.size)
 }
 
-// What stands left of a line.
 #[inline(always)]
 fn push_left_side<B: Allocator, A: Allocator>(
     buf: &mut String<A>,
@@ -149,7 +144,6 @@ fn push_left_side<B: Allocator, A: Allocator>(
     push_fill(buf, style.justification, share, style.justification_color)
 }
 
-// What stands right of a line.
 #[inline(always)]
 fn push_right_side<B: Allocator, A: Allocator>(
     buf: &mut String<A>,
@@ -192,7 +186,6 @@ fn columns_together<B: Allocator>(
     }
 }
 
-// So many columns of a character without a colour.
 #[inline(always)]
 fn push_columns<A: Allocator>(buf: &mut String<A>, c: char, size: usize) -> Result<(), AllocError>
     ensures { Appends buf.old buf.new result (repeated c size) }
@@ -238,7 +231,6 @@ pub fn push_block_line_of<C: ANSIFmt, B: Allocator, A: Allocator>(
     )
 }
 
-// So many columns of a padding, in its colour.
 #[inline(always)]
 fn push_padding<B: Allocator, A: Allocator>(
     buf: &mut String<A>,
@@ -276,7 +268,6 @@ pub(crate) fn push_block_line<C: ANSIFmt, B: Allocator, A: Allocator>(
     push_block_line_of(buf, style, color, line, place, width, i)
 }
 
-// The line of this number, or an empty one.
 #[inline(always)]
 fn line_if(text: &str, line: Option<usize>) -> &str
     requires { IfSome line (λ k. k < length (lines_of text.now)) }
@@ -288,7 +279,6 @@ fn line_if(text: &str, line: Option<usize>) -> &str
     }
 }
 
-// Whether line 0 of a cell is line 0 of its text, as it is.
 #[inline(always)]
 pub(crate) fn shows_texts_whole<A: Allocator>(style: &CellStyle<'_, A>) -> bool
     ensures { result ≡ shows_texts_whole (style_of style.now) }

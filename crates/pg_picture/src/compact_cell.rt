@@ -89,7 +89,6 @@ fn shown_line(text: &str) -> (&str, usize)
     (line, get_line_width(line))
 }
 
-// How many columns the side paddings leave: none where they take more than there are.
 #[inline(always)]
 fn inner_room(padding: Sides<Indent>, width: usize) -> usize
     ensures { result ≡ width - (padding.left.size + padding.right.size) }
@@ -99,7 +98,6 @@ fn inner_room(padding: Sides<Indent>, width: usize) -> usize
         .saturating_sub(padding.right.size)
 }
 
-// The shares left and right of a line of `got` columns; none where it is wider than its room.
 #[inline(always)]
 fn free_shares(alignment: AlignmentHorizontal, got: usize, room: usize) -> (usize, usize)
     ensures { result ≡ (if nat_le got room then shares alignment got room else (0, 0)) }

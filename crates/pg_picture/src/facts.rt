@@ -45,7 +45,6 @@ struct BlankEnds {
 }
 
 impl BlankEnds {
-    // The same with one line more.
     fn with_line(self, is_blank: bool) -> BlankEnds
         requires { self.shown + self.top + self.bottom < usize.MAX }
         ensures { result ≡ with_line self is_blank }
@@ -136,7 +135,6 @@ pub(crate) fn single_line_width(text: &str, kind: TextKind) -> Option<usize>
     None
 }
 
-// Whether a text is plain, which may be known.
 #[inline(always)]
 fn is_plain_text(text: &str, kind: TextKind) -> bool
     requires { IsOfKind kind text.now }
@@ -148,7 +146,6 @@ fn is_plain_text(text: &str, kind: TextKind) -> bool
     }
 }
 
-// Whether no byte is a line feed.
 #[inline(always)]
 fn has_no_feed(bytes: &[u8]) -> bool
     ensures { result ≡ list_all (λ b. not (b == 10)) bytes.now }
@@ -201,7 +198,6 @@ impl TextFacts {
         TextFacts::of_lines(text, formatting)
     }
 
-    // The facts of a text, line by line.
     fn of_lines(text: &str, formatting: Formatting) -> TextFacts
         ensures { result ≡ facts_of formatting text.now }
     {

@@ -80,7 +80,6 @@ fn push_run<A: Allocator>(buf: &mut String<A>, c: char, count: usize) -> Result<
     }
 }
 
-// Whole blocks, and the front of one.
 fn push_blocks<A: Allocator>(
     buf: &mut String<A>,
     block: &str,

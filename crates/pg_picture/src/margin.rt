@@ -52,7 +52,6 @@ pub fn push_side_margin<C: ANSIFmt, A: Allocator>(
     push_margin_columns(buf, indent, offset, color, line, height)
 }
 
-// The same, of a margin that may have columns.
 fn push_margin_columns<C: ANSIFmt, A: Allocator>(
     buf: &mut String<A>,
     indent: Indent,
@@ -69,7 +68,6 @@ fn push_margin_columns<C: ANSIFmt, A: Allocator>(
     push_fill(buf, indent.fill, indent.size, color)
 }
 
-// Whether a side margin is blank at a line.
 #[tactic(auto, unfolding(crate::specs::Table::is_blank_at))]
 fn is_blank(offset: Offset, line: usize, height: Option<usize>) -> bool
     ensures { result ≡ is_blank_in height offset line }
@@ -120,7 +118,6 @@ fn push_next_line<C: ANSIFmt, A: Allocator>(
     push_margin_line(buf, indent, offset, color, width)
 }
 
-// One line of a top or bottom margin.
 fn push_margin_line<C: ANSIFmt, A: Allocator>(
     buf: &mut String<A>,
     indent: Indent,

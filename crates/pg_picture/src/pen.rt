@@ -26,9 +26,11 @@ use std::marker::{Brand, PhantomData};
 
 /// The table that is drawn, as a word of types: it stands for one table, and takes no room.
 ///
-/// A printer picks the word once, for the table of its parts, and all that it calls speaks of this table.
-/// That `Brand` stands for a table of nothing is no contradiction: it is what the word means where nobody
-/// picks it.
+/// Whoever draws a whole table picks the word, by a call that passes `Brand`: the proof of that call names
+/// the table (`ghosts-..` in its `Invariants.antt`), `PeekableGrid` that of its parts, a printer of rows
+/// that of its sheet. That `Brand` has a table of nothing below is no contradiction: all that is called is
+/// proved for every table, so a call may pick any, and the one below is taken only where none is picked.
+/// There it proves nothing false, since a [`Pen`] is made only where its sheet is shown to be the word's.
 pub trait Drawn {
     /// The table.
     ghost table: { Table };
@@ -155,7 +157,6 @@ where
         self.push_left(buf, index)
     }
 
-    // Whether a line of the body is the picture's first.
     #[inline(always)]
     fn is_first(self, index: usize) -> bool
         ensures { result ≡ ((T.table.config.margin.top.size == 0) && (index == 0)) }
@@ -163,7 +164,6 @@ where
         self.sheet.begins_with_body && index == 0
     }
 
-    // The left margin of a line.
     #[inline(always)]
     fn push_left<A: Allocator>(self, buf: &mut String<A>, index: usize) -> Result<(), AllocError>
         ensures { Appends buf.old buf.new result (written (side_margin_at self.entry.sheet.now.height T.table.config.margin.left T.table.config.margin_offset.left T.table.config.margin_color.left index)) }

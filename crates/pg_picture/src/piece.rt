@@ -34,7 +34,6 @@ pub fn push_fill<C: ANSIFmt, A: Allocator>(
     }
 }
 
-// The characters between the colour's prefix and suffix.
 pub(crate) fn push_colored_run<C: ANSIFmt, A: Allocator>(
     buf: &mut String<A>,
     c: char,
@@ -66,7 +65,6 @@ pub(crate) fn push_words<C: ANSIFmt, A: Allocator>(
     }
 }
 
-// The text between the colour's prefix and suffix.
 fn push_colored_text<C: ANSIFmt, A: Allocator>(
     buf: &mut String<A>,
     text: &str,

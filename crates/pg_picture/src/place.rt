@@ -71,7 +71,6 @@ impl CellPlace {
     }
 }
 
-// How many columns stand left of each line, where all lines stand as the widest one does.
 #[tactic(auto, unfolding(crate::specs::Pieces::inner_width))]
 fn shared_left<A: Allocator>(style: &CellStyle<'_, A>, widest: usize, width: usize) -> Option<usize>
     requires { style.now.padding.left.size + style.now.padding.right.size + widest ≤ width }

@@ -62,7 +62,6 @@ impl<'k> SeparatorKeeper<'k> {
     }
 }
 
-// Copies a text to the front of a room that is no smaller; answers its length in bytes.
 fn copy_to_front(room: &mut [u8], text: &str) -> usize
     requires { length text.now ≤ length room.old }
     ensures len { result ≡ length text.now }

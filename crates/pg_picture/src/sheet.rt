@@ -118,7 +118,6 @@ impl<'a, D, C, B: Allocator> Sheet<'a, D, C, B> {
     }
 }
 
-// Whether a row line may be there: the borders have one, or something was set for row lines by its place.
 #[tactic(auto, unfolding(crate::specs::Inside::RowLines::may_have_row_lines))]
 fn may_have_row_lines<B: Allocator>(config: &SpannedConfig<B>) -> bool
     ensures { result ≡ may_have_row_lines config.now }
@@ -130,7 +129,6 @@ fn may_have_row_lines<B: Allocator>(config: &SpannedConfig<B>) -> bool
         || !config.has_equal_row_lines()
 }
 
-// What verticals the table of a configuration has.
 #[tactic(auto, unfolding(crate::specs::Inside::Verticals::verticals_of))]
 fn verticals_of<B: Allocator>(config: &SpannedConfig<B>) -> VerticalKind
     ensures { result ≡ verticals_of config.now }
@@ -145,7 +143,6 @@ fn verticals_of<B: Allocator>(config: &SpannedConfig<B>) -> VerticalKind
     }
 }
 
-// Whether all cells have one style, and it is simple to draw.
 fn are_simple<B: Allocator>(all: &Option<CellStyle<'_, B>>) -> bool
     ensures { result ≡ are_simple all.now }
 {
@@ -155,7 +152,6 @@ fn are_simple<B: Allocator>(all: &Option<CellStyle<'_, B>>) -> bool
     }
 }
 
-// Whether the side paddings and the justification are of one character, without colours.
 fn has_plain_sides<B: Allocator>(style: &CellStyle<'_, B>) -> bool
     ensures { result ≡ has_plain_sides (style_of style.now) }
 {

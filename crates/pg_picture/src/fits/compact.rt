@@ -57,7 +57,6 @@ pub fn compact_full_width<D: Dimension>(
     plus(plus(width, margin.left.size), margin.right.size)
 }
 
-// How many terminal columns the table has between its side margins.
 fn compact_width<D: Dimension>(
     config: &CompactConfig,
     dimension: &D,
@@ -77,14 +76,12 @@ fn compact_width<D: Dimension>(
     )
 }
 
-// How many columns a vertical line takes: one if it is there.
 fn columns_of_line(is_there: bool) -> usize
     ensures { result ≡ cond is_there 1 0 }
 {
     usize::from(is_there)
 }
 
-// How many vertical lines stand between so many columns.
 fn count_inner(borders: &Borders<char>, columns: usize) -> usize
     ensures { result ≡ cond (has_inner_vertical borders.now) (columns - 1) 0 }
 {
@@ -95,7 +92,6 @@ fn count_inner(borders: &Borders<char>, columns: usize) -> usize
     }
 }
 
-// The first column that is less wide than the side paddings.
 fn first_narrow_column<D: Dimension>(
     config: &CompactConfig,
     dimension: &D,
@@ -106,7 +102,6 @@ fn first_narrow_column<D: Dimension>(
     (0..columns).find(|column| is_narrow(config, dimension.get_width(*column)))
 }
 
-// Whether a column of this width has no room for the side paddings.
 fn is_narrow(config: &CompactConfig, width: usize) -> bool
     ensures { result ≡ nat_lt width ((settings_of config.now).padding.left.size + (settings_of config.now).padding.right.size) }
 {

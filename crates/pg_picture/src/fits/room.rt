@@ -11,7 +11,6 @@ use pg_config::{CellStyle, SpannedConfig};
 use pg_layout::{Indent, Position, Sides, is_plain};
 use std::alloc::Allocator;
 
-// How many columns the side paddings leave, or None where they take too many.
 #[inline(always)]
 fn inner_width(padding: &Sides<Indent>, width: usize) -> Option<usize>
     ensures { SomeIff result (padding.now.left.size + padding.now.right.size ≤ width) (width - (padding.now.left.size + padding.now.right.size)) }
@@ -48,7 +47,6 @@ fn width_of_text(text: &str, trim: bool, kind: TextKind) -> usize
     }
 }
 
-// Whether a cell has room for so many columns beside its side paddings, and for its top padding.
 #[inline(always)]
 fn has_columns(padding: &Sides<Indent>, columns: usize, width: usize, height: usize) -> bool
     ensures { result ≡ (nat_le ((padding.now.left.size + padding.now.right.size) + columns) width && nat_le padding.now.top.size height) }
@@ -59,8 +57,6 @@ fn has_columns(padding: &Sides<Indent>, columns: usize, width: usize, height: us
     }
 }
 
-// The kind of a text for which a cell of so many columns and lines has room with these paddings, its
-// lines trimmed or not.
 #[inline(always)]
 #[tactic(auto, unfolding(crate::specs::Fits::cell_fits, crate::specs::Pieces::widest))]
 fn kind_with_room(

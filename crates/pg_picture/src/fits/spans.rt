@@ -61,14 +61,12 @@ fn span_fits_columns(span: Span, columns: usize) -> bool
     0 < span.1.rows && 0 < span.1.columns && ends_within(span.0.col, span.1.columns, columns)
 }
 
-// So many lines from a first one on end at or before a last one.
 fn ends_within(first: usize, count: usize, last: usize) -> bool
     ensures { result ≡ nat_le (first + count) last }
 {
     first <= last && count <= last - first
 }
 
-// Whether no place lies in two of the rectangles.
 fn all_apart<A: Allocator>(spans: &Spans<A>) -> bool
     requires ascending { IsAscending by_columns spans.now }
     requires ends { Each HasEnd spans.now }
@@ -77,7 +75,6 @@ fn all_apart<A: Allocator>(spans: &Spans<A>) -> bool
     columns_apart(spans) && rows_apart(spans)
 }
 
-// Whether in each column each rectangle ends above the next one.
 fn columns_apart<A: Allocator>(spans: &Spans<A>) -> bool
     ensures { result ≡ columns_apart None spans.now }
 {
@@ -92,7 +89,6 @@ fn columns_apart<A: Allocator>(spans: &Spans<A>) -> bool
     true
 }
 
-// Whether a rectangle begins in another column than the one above it, or below its end.
 fn is_past(above: Option<Span>, span: Span) -> bool
     ensures { result ≡ is_past above span }
 {
@@ -103,7 +99,6 @@ fn is_past(above: Option<Span>, span: Span) -> bool
     }
 }
 
-// Whether each rectangle is apart from all that begin right of its first column.
 fn rows_apart<A: Allocator>(spans: &Spans<A>) -> bool
     requires ascending { IsAscending by_columns spans.now }
     requires ends { Each HasEnd spans.now }
@@ -137,7 +132,6 @@ fn is_apart<A: Allocator>(span: Span, spans: &Spans<A>) -> bool
     true
 }
 
-// The first column in which a rectangle begins, from one column on and left of another.
 fn next_column<A: Allocator>(spans: &Spans<A>, from: usize, end: usize) -> Option<usize>
     requires { IsAscending by_columns spans.now }
     ensures { MatchOption result
@@ -153,7 +147,6 @@ fn next_column<A: Allocator>(spans: &Spans<A>, from: usize, end: usize) -> Optio
     }
 }
 
-// Whether the rectangle is apart from the last one of the column that begins above its end.
 fn is_apart_at<A: Allocator>(span: Span, spans: &Spans<A>, column: usize) -> bool
     requires ascending { IsAscending by_columns spans.now }
     requires column { column + 1 < 2 ^ 64 }

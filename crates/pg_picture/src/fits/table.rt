@@ -2,7 +2,7 @@
 
 ghost use Rattle.std.specs.Prelude.{◌≡◌, ◌<◌, true, length};
 ghost use Rattle.pg_layout.specs.Records.{text_at};
-ghost use Rattle.pg_config.specs.Spans.{is_left, left_span};
+ghost use Rattle.pg_config.specs.Spans.{is_left, left_span, size_of};
 ghost use Rattle.pg_picture.specs.Fits.{spans_fit, totals_fit, cell_fits, owner_fits, misfit_of};
 ghost use Rattle.pg_picture.specs.Pieces.{style_at};
 ghost use Rattle.pg_picture.specs.Sizes.{table_of, unless_misfit};
@@ -10,11 +10,11 @@ ghost use Rattle.pg_picture.specs.Inside.Walks.{first_misfit, row_places, places
 ghost use Rattle.pg_picture.specs.Table.{rect_width, rect_height};
 
 use crate::fits::Misfit;
-use crate::fits::rectangle::{rect_height, rect_width};
+use crate::fits::rectangle::{height_of_rows, width_of_columns};
 use crate::fits::room::cell_fits;
 use crate::fits::spans::{begins_above, columns_of, spans_fit};
 use crate::fits::totals::totals_fit;
-use pg_config::{Span, SpannedConfig};
+use pg_config::{Span, SpanSize, SpannedConfig};
 use pg_layout::{Dimension, ExactRecords, PeekableRecords, Position, Records};
 use std::alloc::Allocator;
 
@@ -51,7 +51,6 @@ where
     }
 }
 
-// The first cell without room.
 fn first_misfit<R, A, D>(records: &R, config: &SpannedConfig<A>, dimension: &D) -> Option<Misfit>
 where
     R: Records + PeekableRecords + ExactRecords,
@@ -69,7 +68,6 @@ where
     None
 }
 
-// The first cell of a row without room, from left column to left column.
 fn misfit_in_row<R, A, D>(
     records: &R,
     config: &SpannedConfig<A>,
@@ -100,7 +98,6 @@ where
     None
 }
 
-// Whether a place in the left column of its owner has room, if it owns itself.
 fn owner_fits<R, A, D>(
     records: &R,
     config: &SpannedConfig<A>,
@@ -131,12 +128,18 @@ where
             dimension.get_width(pos.col),
             dimension.get_height(pos.row),
         ),
-        Some(_) => begins_above(span, pos.row) || has_room(records, config, dimension, pos),
+        Some(found) => begins_above(span, pos.row)
+            || has_room(records, config, dimension, pos, found.1),
     }
 }
 
-// Whether the rectangle of a place has room for its text.
-fn has_room<R, A, D>(records: &R, config: &SpannedConfig<A>, dimension: &D, pos: Position) -> bool
+fn has_room<R, A, D>(
+    records: &R,
+    config: &SpannedConfig<A>,
+    dimension: &D,
+    pos: Position,
+    size: SpanSize,
+) -> bool
 where
     R: Records + PeekableRecords + ExactRecords,
     A: Allocator,
@@ -145,10 +148,17 @@ where
     requires column { pos.col < R.columns records.now }
     requires spans { spans_fit config.now.spans (length (R.texts records.now)) (R.columns records.now) ≡ true }
     requires totals { totals_fit (table_of config.now (D.width dimension.now) (D.height dimension.now) (R.texts records.now) (R.columns records.now)) ≡ true }
+    requires size { size_of config.now.spans pos ≡ size }
     ensures { result ≡ cell_fits (style_at config.now pos) (text_at (R.texts records.now) pos) (rect_width (table_of config.now (D.width dimension.now) (D.height dimension.now) (R.texts records.now) (R.columns records.now)) pos) (rect_height (table_of config.now (D.width dimension.now) (D.height dimension.now) (R.texts records.now) (R.columns records.now)) pos) }
 {
-    let width = rect_width(config, dimension, pos, records.count_columns());
-    let height = rect_height(config, dimension, pos);
+    let width = width_of_columns(
+        config,
+        dimension,
+        pos,
+        size.columns,
+        records.count_columns(),
+    );
+    let height = height_of_rows(config, dimension, pos, size.rows);
     match (width, height) {
         (Some(width), Some(height)) => {
             cell_fits(records.get_text(pos), config, pos, width, height)

@@ -36,7 +36,6 @@ pub(crate) fn sum_heights<D: Dimension>(dimension: &D, first: usize, count: usiz
     Some(sum)
 }
 
-// A sum with a number more, or None where it passes `usize::MAX`.
 pub(crate) fn plus(sum: Option<usize>, more: usize) -> Option<usize>
     ensures { (n : ℕ) → sum ≡ if_fits n → result ≡ if_fits (n + more) }
 {

@@ -41,7 +41,6 @@ where
     }
 }
 
-// The first text that has more lines than one.
 fn first_of_lines<R>(records: &R) -> Option<Position>
 where
     R: Records + PeekableRecords + ExactRecords,
@@ -55,7 +54,6 @@ where
     None
 }
 
-// The first such text of a row.
 fn lines_in_row<R>(records: &R, row: usize) -> Option<Position>
 where
     R: Records + PeekableRecords + ExactRecords,

@@ -3,7 +3,7 @@
 ghost use Rattle.std.specs.Prelude.{◌≡◌, ◌<◌, true, not, find, length};
 ghost use Rattle.pg_layout.specs.declared.position.Position.{Position};
 ghost use Rattle.pg_layout.specs.Records.{text_at};
-ghost use Rattle.pg_config.specs.Spans.{is_left, left_span};
+ghost use Rattle.pg_config.specs.Spans.{is_left, left_span, size_of};
 ghost use Rattle.pg_picture.specs.Fits.{spans_fit, totals_fit};
 ghost use Rattle.pg_picture.specs.Pieces.{style_at};
 ghost use Rattle.pg_picture.specs.Shown.{cell_shows_all, owner_shows_all, unshown_of, unless_unshown};
@@ -11,10 +11,10 @@ ghost use Rattle.pg_picture.specs.Sizes.{table_of};
 ghost use Rattle.pg_picture.specs.Inside.Walks.{row_places, places_from};
 ghost use Rattle.pg_picture.specs.Table.{rect_height};
 
-use crate::fits::{begins_above, columns_of, rect_height, table_fits};
+use crate::fits::{begins_above, columns_of, height_of_rows, table_fits};
 use crate::shown::Unshown;
 use crate::shown::cell::cell_shows_all;
-use pg_config::{Span, SpannedConfig};
+use pg_config::{Span, SpanSize, SpannedConfig};
 use pg_layout::{Dimension, ExactRecords, PeekableRecords, Position, Records};
 use std::alloc::Allocator;
 
@@ -48,7 +48,6 @@ where
     }
 }
 
-// The first cell of which some line isn't shown.
 fn first_unshown<R, A, D>(records: &R, config: &SpannedConfig<A>, dimension: &D) -> Option<Position>
 where
     R: Records + PeekableRecords + ExactRecords,
@@ -66,7 +65,6 @@ where
     None
 }
 
-// The first such cell of a row, from left column to left column.
 fn unshown_in_row<R, A, D>(
     records: &R,
     config: &SpannedConfig<A>,
@@ -97,7 +95,6 @@ where
     None
 }
 
-// Whether a place in the left column of its owner shows each line, if it owns itself.
 fn owner_shows_all<R, A, D>(
     records: &R,
     config: &SpannedConfig<A>,
@@ -127,18 +124,17 @@ where
             pos,
             dimension.get_height(pos.row),
         ),
-        Some(_) => {
-            begins_above(span, pos.row) || rectangle_shows_all(records, config, dimension, pos)
-        }
+        Some(found) => begins_above(span, pos.row)
+            || rectangle_shows_all(records, config, dimension, pos, found.1),
     }
 }
 
-// Whether the rectangle of a place shows each line of its text.
 fn rectangle_shows_all<R, A, D>(
     records: &R,
     config: &SpannedConfig<A>,
     dimension: &D,
     pos: Position,
+    size: SpanSize,
 ) -> bool
 where
     R: Records + PeekableRecords + ExactRecords,
@@ -148,9 +144,10 @@ where
     requires column { pos.col < R.columns records.now }
     requires spans { spans_fit config.now.spans (length (R.texts records.now)) (R.columns records.now) ≡ true }
     requires totals { totals_fit (table_of config.now (D.width dimension.now) (D.height dimension.now) (R.texts records.now) (R.columns records.now)) ≡ true }
+    requires size { size_of config.now.spans pos ≡ size }
     ensures { result ≡ cell_shows_all (style_at config.now pos) (text_at (R.texts records.now) pos) (rect_height (table_of config.now (D.width dimension.now) (D.height dimension.now) (R.texts records.now) (R.columns records.now)) pos) }
 {
-    match rect_height(config, dimension, pos) {
+    match height_of_rows(config, dimension, pos, size.rows) {
         Some(height) => cell_shows_all(records.get_text(pos), config, pos, height),
         // A rectangle inside a table is no higher than its total.
         None => false,

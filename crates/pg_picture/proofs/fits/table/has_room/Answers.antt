@@ -1,5 +1,6 @@
-use Rattle.std.proofs.Common.{◌≡◌, ◌+◌, ◌^◌, nat_lt, None, if◌then◌else◌, length, refl, sym, ◌∙◌, arith}
-use Rattle.pg_config.specs.Spans.{rect_rows}
+use Rattle.std.proofs.Common.{◌≡◌, ◌+◌, ◌^◌, nat_lt, None, if◌then◌else◌, length, refl, sym, ap, ◌∙◌, arith}
+use Rattle.pg_config.specs.declared.spans.SpanSize.{SpanSize}
+use Rattle.pg_config.specs.Spans.{rect_rows, rect_columns}
 use Rattle.pg_picture.specs.Table.{rect_width, rect_height}
 use Rattle.pg_picture.specs.Fits.{cell_fits}
 use Rattle.pg_picture.specs.Pieces.{style_at}
@@ -8,23 +9,31 @@ use Rattle.pg_picture.specs.Sizes.{table_of, sized, if_fits, height_of_rect}
 use Rattle.pg_picture.proofs.FittingTables.{rect_inside, width_answer, height_answer, some_is, none_is}
 use Rattle.pg_picture.proofs.fits.table.has_room.Goals as goal
 
-pub rect_width-width-requires-clause-some : goal.rect_width-width-requires-clause-some
-rect_width-width-requires-clause-some g c = (rect_inside c.args.config.now.spans (length (g.R.Records.texts c.args.records.now)) (g.R.Records.columns c.args.records.now) c.args.pos c.requires.spans c.requires.row c.requires.column).some_columns
+pub width_of_columns-width-requires-clause-some : goal.width_of_columns-width-requires-clause-some
+width_of_columns-width-requires-clause-some g c = (rect_inside c.args.config.now.spans (length (g.R.Records.texts c.args.records.now)) (g.R.Records.columns c.args.records.now) c.args.pos c.requires.spans c.requires.row c.requires.column).some_columns
 
-pub rect_width-width-requires-clause-inside : goal.rect_width-width-requires-clause-inside
-rect_width-width-requires-clause-inside g c = omega (arith, (rect_inside c.args.config.now.spans (length (g.R.Records.texts c.args.records.now)) (g.R.Records.columns c.args.records.now) c.args.pos c.requires.spans c.requires.row c.requires.column).columns_end, c.count_columns.ensures.value)
+pub width_of_columns-width-requires-clause-inside : goal.width_of_columns-width-requires-clause-inside
+width_of_columns-width-requires-clause-inside g c = omega (arith, (rect_inside c.args.config.now.spans (length (g.R.Records.texts c.args.records.now)) (g.R.Records.columns c.args.records.now) c.args.pos c.requires.spans c.requires.row c.requires.column).columns_end, c.count_columns.ensures.value)
 
-pub rect_height-height-requires : goal.rect_height-height-requires
-rect_height-height-requires g c = (rect_inside c.args.config.now.spans (length (g.R.Records.texts c.args.records.now)) (g.R.Records.columns c.args.records.now) c.args.pos c.requires.spans c.requires.row c.requires.column).some_rows
+pub height_of_rows-height-requires-clause-some : goal.height_of_rows-height-requires-clause-some
+height_of_rows-height-requires-clause-some g c = (rect_inside c.args.config.now.spans (length (g.R.Records.texts c.args.records.now)) (g.R.Records.columns c.args.records.now) c.args.pos c.requires.spans c.requires.row c.requires.column).some_rows
+
+pub width_of_columns-width-requires-clause-count : goal.width_of_columns-width-requires-clause-count
+unfolding rect_columns
+width_of_columns-width-requires-clause-count g c = sym (ap (λ (n : SpanSize). n.columns) c.requires.size)
+
+pub height_of_rows-height-requires-clause-count : goal.height_of_rows-height-requires-clause-count
+unfolding rect_rows
+height_of_rows-height-requires-clause-count g c = sym (ap (λ (n : SpanSize). n.rows) c.requires.size)
 
 pub returns-in-Some-Some : goal.returns-in-Some-Some
 unfolding rect_width
 returns-in-Some-Some g c =
     let inside = rect_inside c.args.config.now.spans (length (g.R.Records.texts c.args.records.now)) (g.R.Records.columns c.args.records.now) c.args.pos c.requires.spans c.requires.row c.requires.column in
-    let w0 : c.rect_width-width.result ≡ if_fits (rect_width (sized c.args.config.now (g.D.Dimension.width c.args.dimension.now) (g.D.Dimension.height c.args.dimension.now) (length (g.R.Records.texts c.args.records.now)) c.count_columns.result) c.args.pos) = c.rect_width-width.ensures (length (g.R.Records.texts c.args.records.now)) in
-    let w1 : c.rect_width-width.result ≡ if_fits (rect_width (table_of c.args.config.now (g.D.Dimension.width c.args.dimension.now) (g.D.Dimension.height c.args.dimension.now) (g.R.Records.texts c.args.records.now) (g.R.Records.columns c.args.records.now)) c.args.pos) = (rw c.count_columns.ensures.value at w0) in
+    let w0 : c.width_of_columns-width.result ≡ if_fits (rect_width (sized c.args.config.now (g.D.Dimension.width c.args.dimension.now) (g.D.Dimension.height c.args.dimension.now) (length (g.R.Records.texts c.args.records.now)) c.count_columns.result) c.args.pos) = c.width_of_columns-width.ensures (length (g.R.Records.texts c.args.records.now)) in
+    let w1 : c.width_of_columns-width.result ≡ if_fits (rect_width (table_of c.args.config.now (g.D.Dimension.width c.args.dimension.now) (g.D.Dimension.height c.args.dimension.now) (g.R.Records.texts c.args.records.now) (g.R.Records.columns c.args.records.now)) c.args.pos) = (rw c.count_columns.ensures.value at w0) in
     let width = w1 ∙ width_answer (table_of c.args.config.now (g.D.Dimension.width c.args.dimension.now) (g.D.Dimension.height c.args.dimension.now) (g.R.Records.texts c.args.records.now) (g.R.Records.columns c.args.records.now)) c.args.pos c.requires.totals inside in
-    let h1 : c.rect_height-height.result ≡ (if nat_lt (c.args.pos.row + rect_rows c.args.config.now.spans c.args.pos) (2 ^ 64) then if_fits (height_of_rect c.args.config.now (g.D.Dimension.height c.args.dimension.now) c.args.pos) else None) = c.rect_height-height.ensures in
+    let h1 : c.height_of_rows-height.result ≡ (if nat_lt (c.args.pos.row + rect_rows c.args.config.now.spans c.args.pos) (2 ^ 64) then if_fits (height_of_rect c.args.config.now (g.D.Dimension.height c.args.dimension.now) c.args.pos) else None) = c.height_of_rows-height.ensures in
     let height = h1 ∙ height_answer (table_of c.args.config.now (g.D.Dimension.width c.args.dimension.now) (g.D.Dimension.height c.args.dimension.now) (g.R.Records.texts c.args.records.now) (g.R.Records.columns c.args.records.now)) c.args.pos c.requires.totals inside in
     let wide = some_is c.in-Some-Some.width (rect_width (table_of c.args.config.now (g.D.Dimension.width c.args.dimension.now) (g.D.Dimension.height c.args.dimension.now) (g.R.Records.texts c.args.records.now) (g.R.Records.columns c.args.records.now)) c.args.pos) (sym c.in-Some-Some.is-0 ∙ width) in
     let high = some_is c.in-Some-Some.height (rect_height (table_of c.args.config.now (g.D.Dimension.width c.args.dimension.now) (g.D.Dimension.height c.args.dimension.now) (g.R.Records.texts c.args.records.now) (g.R.Records.columns c.args.records.now)) c.args.pos) (sym c.in-Some-Some.is-1 ∙ height) in
@@ -35,7 +44,7 @@ returns-in-Some-Some g c =
 pub returns-in_default : goal.returns-in_default
 returns-in_default g c =
     let inside = rect_inside c.args.config.now.spans (length (g.R.Records.texts c.args.records.now)) (g.R.Records.columns c.args.records.now) c.args.pos c.requires.spans c.requires.row c.requires.column in
-    let h1 : c.rect_height-height.result ≡ (if nat_lt (c.args.pos.row + rect_rows c.args.config.now.spans c.args.pos) (2 ^ 64) then if_fits (height_of_rect c.args.config.now (g.D.Dimension.height c.args.dimension.now) c.args.pos) else None) = c.rect_height-height.ensures in
+    let h1 : c.height_of_rows-height.result ≡ (if nat_lt (c.args.pos.row + rect_rows c.args.config.now.spans c.args.pos) (2 ^ 64) then if_fits (height_of_rect c.args.config.now (g.D.Dimension.height c.args.dimension.now) c.args.pos) else None) = c.height_of_rows-height.ensures in
     let height = h1 ∙ height_answer (table_of c.args.config.now (g.D.Dimension.width c.args.dimension.now) (g.D.Dimension.height c.args.dimension.now) (g.R.Records.texts c.args.records.now) (g.R.Records.columns c.args.records.now)) c.args.pos c.requires.totals inside in
     absurd (none_is (rect_height (table_of c.args.config.now (g.D.Dimension.width c.args.dimension.now) (g.D.Dimension.height c.args.dimension.now) (g.R.Records.texts c.args.records.now) (g.R.Records.columns c.args.records.now)) c.args.pos) (sym c.in_default.is-1 ∙ height))
 
@@ -43,7 +52,7 @@ pub returns-in_default-2 : goal.returns-in_default-2
 unfolding rect_width
 returns-in_default-2 g c =
     let inside = rect_inside c.args.config.now.spans (length (g.R.Records.texts c.args.records.now)) (g.R.Records.columns c.args.records.now) c.args.pos c.requires.spans c.requires.row c.requires.column in
-    let w0 : c.rect_width-width.result ≡ if_fits (rect_width (sized c.args.config.now (g.D.Dimension.width c.args.dimension.now) (g.D.Dimension.height c.args.dimension.now) (length (g.R.Records.texts c.args.records.now)) c.count_columns.result) c.args.pos) = c.rect_width-width.ensures (length (g.R.Records.texts c.args.records.now)) in
-    let w1 : c.rect_width-width.result ≡ if_fits (rect_width (table_of c.args.config.now (g.D.Dimension.width c.args.dimension.now) (g.D.Dimension.height c.args.dimension.now) (g.R.Records.texts c.args.records.now) (g.R.Records.columns c.args.records.now)) c.args.pos) = (rw c.count_columns.ensures.value at w0) in
+    let w0 : c.width_of_columns-width.result ≡ if_fits (rect_width (sized c.args.config.now (g.D.Dimension.width c.args.dimension.now) (g.D.Dimension.height c.args.dimension.now) (length (g.R.Records.texts c.args.records.now)) c.count_columns.result) c.args.pos) = c.width_of_columns-width.ensures (length (g.R.Records.texts c.args.records.now)) in
+    let w1 : c.width_of_columns-width.result ≡ if_fits (rect_width (table_of c.args.config.now (g.D.Dimension.width c.args.dimension.now) (g.D.Dimension.height c.args.dimension.now) (g.R.Records.texts c.args.records.now) (g.R.Records.columns c.args.records.now)) c.args.pos) = (rw c.count_columns.ensures.value at w0) in
     let width = w1 ∙ width_answer (table_of c.args.config.now (g.D.Dimension.width c.args.dimension.now) (g.D.Dimension.height c.args.dimension.now) (g.R.Records.texts c.args.records.now) (g.R.Records.columns c.args.records.now)) c.args.pos c.requires.totals inside in
     absurd (none_is (rect_width (table_of c.args.config.now (g.D.Dimension.width c.args.dimension.now) (g.D.Dimension.height c.args.dimension.now) (g.R.Records.texts c.args.records.now) (g.R.Records.columns c.args.records.now)) c.args.pos) (sym c.in_default.is-0 ∙ width))

@@ -1,4 +1,4 @@
-use Rattle.std.proofs.Common.{◌≡◌, true, false, None, refl, sym, ◌∙◌}
+use Rattle.std.proofs.Common.{◌≡◌, true, false, Some, None, refl, sym, ◌∙◌}
 use Rattle.pg_config.specs.Spans.{left_span}
 use Rattle.pg_picture.specs.Pieces.{style_at}
 use Rattle.pg_picture.specs.Shown.{cell_shows_all}
@@ -6,7 +6,7 @@ use Rattle.pg_picture.specs.Sizes.{table_of}
 use Rattle.pg_picture.specs.Table.{rect_height}
 use Rattle.pg_picture.proofs.DrawnRectangles.{single_height}
 use Rattle.pg_picture.proofs.FirstPlaces.{owner_shows_all-own, owner_shows_all-other}
-use Rattle.pg_picture.proofs.LeftColumns.{own_unless}
+use Rattle.pg_picture.proofs.LeftColumns.{own_unless, own_size}
 use Rattle.pg_picture.proofs.OwnersOfPlaces.{InOrder, size_alone}
 use Rattle.pg_picture.proofs.shown.table.owner_shows_all.Goals as goal
 
@@ -14,14 +14,21 @@ pub returns-then-begins_above : goal.returns-then-begins_above
 returns-then-begins_above g c =
     let t = (table_of c.args.config.now (g.D.Dimension.width c.args.dimension.now) (g.D.Dimension.height c.args.dimension.now) (g.R.Records.texts c.args.records.now) (g.R.Records.columns c.args.records.now)) in
     let order : InOrder t.config.spans t.rows t.columns = record { ascending = c.spans-spans.ensures.ascending; fit = c.requires.spans } in
-    let other = own_unless t.config.spans t.rows t.columns order c.args.pos.row c.args.pos.col c.args.span c.begins_above.result true c.requires.left c.requires.span c.begins_above.ensures c.if-begins_above.true in
+    let other = own_unless t.config.spans t.rows t.columns order c.args.pos.row c.args.pos.col (Some c.in-Some.found) c.begins_above.result true c.requires.left (sym c.in-Some.is ∙ c.requires.span) c.begins_above.ensures c.if-begins_above.true in
     c.if-begins_above.true ∙ sym (owner_shows_all-other t c.args.pos.row c.args.pos.col other)
+
+pub rectangle_shows_all-requires-clause-size : goal.rectangle_shows_all-requires-clause-size
+rectangle_shows_all-requires-clause-size g c =
+    let t = (table_of c.args.config.now (g.D.Dimension.width c.args.dimension.now) (g.D.Dimension.height c.args.dimension.now) (g.R.Records.texts c.args.records.now) (g.R.Records.columns c.args.records.now)) in
+    let order : InOrder t.config.spans t.rows t.columns = record { ascending = c.spans-spans.ensures.ascending; fit = c.requires.spans } in
+    let own = own_unless t.config.spans t.rows t.columns order c.args.pos.row c.args.pos.col (Some c.in-Some.found) c.begins_above.result false c.requires.left (sym c.in-Some.is ∙ c.requires.span) c.begins_above.ensures c.if-begins_above.false in
+    own_size t.config.spans t.rows t.columns order c.args.pos c.in-Some.found (sym c.requires.span ∙ c.in-Some.is) own
 
 pub returns-else-begins_above : goal.returns-else-begins_above
 returns-else-begins_above g c =
     let t = (table_of c.args.config.now (g.D.Dimension.width c.args.dimension.now) (g.D.Dimension.height c.args.dimension.now) (g.R.Records.texts c.args.records.now) (g.R.Records.columns c.args.records.now)) in
     let order : InOrder t.config.spans t.rows t.columns = record { ascending = c.spans-spans.ensures.ascending; fit = c.requires.spans } in
-    let own = own_unless t.config.spans t.rows t.columns order c.args.pos.row c.args.pos.col c.args.span c.begins_above.result false c.requires.left c.requires.span c.begins_above.ensures c.if-begins_above.false in
+    let own = own_unless t.config.spans t.rows t.columns order c.args.pos.row c.args.pos.col (Some c.in-Some.found) c.begins_above.result false c.requires.left (sym c.in-Some.is ∙ c.requires.span) c.begins_above.ensures c.if-begins_above.false in
     c.rectangle_shows_all.ensures ∙ sym (owner_shows_all-own t c.args.pos own)
 
 pub returns-in-None : goal.returns-in-None
