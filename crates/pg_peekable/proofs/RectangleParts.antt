@@ -2,7 +2,8 @@
 use Rattle.std.proofs.Common.{◌≡◌, ℕ, ◌+◌, ◌-◌, ◌^◌, ◌<◌, ◌≤◌, cond, true, nat_lt, Option, None, Some, refl, sym, ap, ap₂, ◌∙◌, arith, subst, if◌then◌else◌}
 use Rattle.pg_layout.specs.declared.position.Position.{Position}
 use Rattle.pg_config.specs.Config.{has_horizontal}
-use Rattle.pg_config.specs.Spans.{Span, corner, left_span, rect_rows}
+use Rattle.pg_config.specs.declared.spans.SpanSize.{SpanSize}
+use Rattle.pg_config.specs.Spans.{Span, corner, left_span, rect_rows, rect_columns}
 use Rattle.pg_picture.specs.Marks.{Mark, sep, line, place_of}
 use Rattle.pg_picture.specs.Pieces.{written, style_at, block_line}
 use Rattle.pg_picture.specs.Table.{Table, rect_marks, rect_width, rect_height, block_at}
@@ -11,11 +12,12 @@ use Rattle.pg_picture.specs.Rectangles.{IsOwner}
 use Rattle.pg_picture.specs.Inside.Rectangles.{rows_height}
 use Rattle.pg_picture.proofs.SumsOfSizes.{sum_by-from_more}
 use Rattle.pg_picture.proofs.FittingTables.{RectInside, rect_width-sized, rect_height_fits, width_answer, height_answer}
-use Rattle.pg_picture.proofs.OwnersOfPlaces.{InOrder}
+use Rattle.pg_picture.proofs.OwnersOfPlaces.{InOrder, left_sound, size_of_corner}
 use Rattle.pg_picture.proofs.DrawnRectangles.{rect_of, rows_height-fits, line_place, line_inside, sep_place, sep_inside, corner_owns, corner_from, corner_to, corner_inside}
 use Rattle.pg_peekable.specs.Inside.Drawn.{CanDraw}
 use Rattle.pg_peekable.specs.Inside.Kept.{IsRectangle}
-use Rattle.pg_peekable.specs.Inside.Walks.{OwnsRow}
+use Rattle.pg_peekable.specs.Inside.Walks.{IsOwnerOf, OwnsRow}
+use Rattle.pg_peekable.specs.declared.rectangle.Rectangle.{Rectangle}
 use Rattle.pg_peekable.proofs.CanDraw.{in_order}
 
 module _ (t : Table) (can : CanDraw t) where
@@ -64,8 +66,8 @@ module _ (t : Table) (can : CanDraw t) where
   lines-fit first above h k = rows_height-fits t can.fits.totals first (above - first) (omega (arith, h, k))
 
 -- the lines of a rectangle above its row
-pub above-row : (t : Table) {p : Position} {w h r above : ℕ} (row : ℕ) → IsRectangle t p w h r above → r ≡ row → above ≡ rows_height t p.row (row - p.row)
-above-row t {p} row is here = is.above ∙ ap (λ (r : ℕ). rows_height t p.row (r - p.row)) here
+pub above-row : (t : Table) {r : Rectangle} {k above : ℕ} (row : ℕ) → IsRectangle t r k above → k ≡ row → above ≡ rows_height t r.corner.row (row - r.corner.row)
+above-row t {r} row is here = is.above ∙ ap (λ (k : ℕ). rows_height t r.corner.row (k - r.corner.row)) here
 
 -- a line of a block, by its number
 block-line : (t : Table) (p : Position) (mark : Mark) (number : ℕ) → number ≡ place_of mark (rect_marks t p)
@@ -75,17 +77,23 @@ block-line t p mark number is = ap (λ n. block_line (style_at t.config p) (t.co
 
 -- ---- the lines of a rectangle that a search found
 
-module _ (t : Table) (can : CanDraw t) (r x : ℕ) (s : Span) (found : left_span t.config.spans r x ≡ Some s) (q : Position) (is : q ≡ corner s) where
+module _ (t : Table) (can : CanDraw t) (r x : ℕ) (s : Span) (found : left_span t.config.spans r x ≡ Some s) where
   order : InOrder t.config.spans t.rows t.columns
   order = in_order t can
 
-  pub found_owns : OwnsRow t q r
+  found_owner : IsOwnerOf t s
+  unfolding rect_rows rect_columns
+  found_owner =
+      let size = size_of_corner t.config.spans t.rows t.columns order s (left_sound t.config.spans t.rows t.columns order r x s found).among in
+      record { owner = corner_owns t order r x s found; rows = sym (ap (λ (n : SpanSize). n.rows) size); columns = sym (ap (λ (n : SpanSize). n.columns) size) }
+
+  pub found_owns : OwnsRow t s r
   found_owns =
-      let from = corner_from t order r x s found in
       let to = corner_to t order r x s found in
       let inside = corner_inside t order r x s found in
-      subst (λ (p : Position). OwnsRow t p r) (sym is) (record { owner = corner_owns t order r x s found; first = from; row = omega (arith, to, inside) })
+      record { of = found_owner; first = corner_from t order r x s found; row = omega (arith, to, inside) }
 
+module _ (t : Table) (can : CanDraw t) (r x : ℕ) (s : Span) (found : left_span t.config.spans r x ≡ Some s) (q : Position) (is : q ≡ corner s) where
   -- where `above` lines of the rectangle stand above row r
   module _ (above : ℕ) (sum : above ≡ rows_height t q.row (r - q.row)) where
     sum_of : above ≡ rows_height t s.0.row (r - s.0.row)
@@ -93,7 +101,7 @@ module _ (t : Table) (can : CanDraw t) (r x : ℕ) (s : Span) (found : left_span
 
     pub found_inside : (i : ℕ) → i < t.height r → above + i < rect_height t q
     found_inside i h =
-        let less = line_inside t (corner s) r (corner_from t order r x s found) (corner_to t order r x s found) (corner_inside t order r x s found) i h in
+        let less = line_inside t (corner s) r (corner_from t (in_order t can) r x s found) (corner_to t (in_order t can) r x s found) (corner_inside t (in_order t can) r x s found) i h in
         subst (λ (p : Position). above + i < rect_height t p) (sym is) (omega (arith, less, sum_of))
 
     pub found_fits : (i : ℕ) → i < t.height r → above + i < 2 ^ 64
@@ -102,7 +110,7 @@ module _ (t : Table) (can : CanDraw t) (r x : ℕ) (s : Span) (found : left_span
     pub found_line : (i : ℕ) → i < t.height r
         → written (block_line (style_at t.config q) (t.color q) (t.text q) (rect_width t q) (rect_height t q) (above + i)) ≡ written (block_at t (corner s) (line r i))
     found_line i h =
-        let place = line_place t (corner s) r (corner_from t order r x s found) (corner_to t order r x s found) (corner_inside t order r x s found) i h in
+        let place = line_place t (corner s) r (corner_from t (in_order t can) r x s found) (corner_to t (in_order t can) r x s found) (corner_inside t (in_order t can) r x s found) i h in
         ap (λ (p : Position). written (block_line (style_at t.config p) (t.color p) (t.text p) (rect_width t p) (rect_height t p) (above + i))) is
         ∙ ap written (block-line t (corner s) (line r i) (above + i) (omega (arith, place, sum_of)))
 
@@ -110,7 +118,7 @@ module _ (t : Table) (can : CanDraw t) (r x : ℕ) (s : Span) (found : left_span
     module _ (below : s.0.row < r) (there : has_horizontal t.config r t.rows ≡ true) where
       place_of_sep : place_of (sep r) (rect_marks t (corner s)) + 1 ≡ above
       place_of_sep =
-          let place = sep_place t (corner s) r (corner_from t order r x s found) (corner_to t order r x s found) (corner_inside t order r x s found) below there in
+          let place = sep_place t (corner s) r (corner_from t (in_order t can) r x s found) (corner_to t (in_order t can) r x s found) (corner_inside t (in_order t can) r x s found) below there in
           omega (arith, place, sum_of)
 
       pub found_some : 1 ≤ above
@@ -118,7 +126,7 @@ module _ (t : Table) (can : CanDraw t) (r x : ℕ) (s : Span) (found : left_span
 
       pub found_sep_inside : above - 1 < rect_height t q
       found_sep_inside =
-          let less = sep_inside t (corner s) r (corner_from t order r x s found) (corner_to t order r x s found) (corner_inside t order r x s found) below there in
+          let less = sep_inside t (corner s) r (corner_from t (in_order t can) r x s found) (corner_to t (in_order t can) r x s found) (corner_inside t (in_order t can) r x s found) below there in
           subst (λ (p : Position). above - 1 < rect_height t p) (sym is) (omega (arith, less, sum_of))
 
       pub found_sep : block_line (style_at t.config q) (t.color q) (t.text q) (rect_width t q) (rect_height t q) (above - 1) ≡ block_at t (corner s) (sep r)

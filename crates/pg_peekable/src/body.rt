@@ -25,7 +25,6 @@ where
     C: Colors,
     B: Allocator,
 {
-    // The lines of the body.
     pub(super) fn push_body<A: Allocator>(
         &self,
         buf: &mut String<A>,
@@ -40,7 +39,6 @@ where
         self.push_last(buf, kept, index)
     }
 
-    // The separator and the lines of a row; answers how many lines of the body stand then.
     fn push_row<A: Allocator>(
         &self,
         buf: &mut String<A>,
@@ -56,7 +54,6 @@ where
         self.push_lines(buf, kept, row, next)
     }
 
-    // The separator above a row, where it is there.
     fn push_above<A: Allocator>(
         &self,
         buf: &mut String<A>,
@@ -79,7 +76,6 @@ where
         Ok(index + 1)
     }
 
-    // The separator below the last row, where it is there.
     fn push_last<A: Allocator>(
         &self,
         buf: &mut String<A>,
@@ -93,7 +89,6 @@ where
         Ok(())
     }
 
-    // The lines of a row.
     fn push_lines<A: Allocator>(
         &self,
         buf: &mut String<A>,
@@ -109,6 +104,7 @@ where
         for number in 0..height {
             let line = LineOfRow {
                 row,
+                height,
                 number,
                 of: PhantomData,
             };
@@ -117,7 +113,6 @@ where
         Ok(index + height)
     }
 
-    // One line of a row, between its margins.
     fn push_line<A: Allocator>(
         &self,
         buf: &mut String<A>,
@@ -133,7 +128,6 @@ where
         pen.push_line_end(buf, index)
     }
 
-    // A separator, between its margins.
     fn push_separator_line<A: Allocator>(
         &self,
         buf: &mut String<A>,

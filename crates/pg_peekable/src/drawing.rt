@@ -54,7 +54,6 @@ where
         }
     }
 
-    // The text of a cell.
     #[inline(always)]
     pub(super) fn text_of(&self, pos: Position) -> &str
         requires row { pos.row < T.table.rows }
@@ -64,7 +63,6 @@ where
         self.records.get_text(pos)
     }
 
-    // Whether there is a separator above a row, or below the last one.
     #[inline(always)]
     pub(super) fn has_separator(&self, row: usize) -> bool
         ensures { result ≡ has_horizontal T.table.config row T.table.rows }
@@ -72,7 +70,6 @@ where
         self.pen().has_horizontal(row, self.rows)
     }
 
-    // The style of a cell.
     #[inline(always)]
     pub(super) fn style_of(&self, pos: Position) -> CellStyle<'g, B>
         ensures { style_of result ≡ style_at T.table.config pos }
@@ -80,7 +77,6 @@ where
         CellStyle::of(self.sheet.config, pos)
     }
 
-    // The span of the rectangle whose left column this is, in one of its rows.
     #[inline(always)]
     pub(super) fn left_span(&self, pos: Position) -> Option<Span>
         ensures { result ≡ left_span T.table.config.spans pos.row pos.col }
@@ -88,7 +84,6 @@ where
         self.sheet.config.left_span(pos)
     }
 
-    // The span of the rectangle from above whose left column this is.
     #[inline(always)]
     pub(super) fn span_above(&self, pos: Position) -> Option<Span>
         ensures { result ≡ span_above T.table.config.spans pos.row pos.col }

@@ -136,7 +136,6 @@ where
         Ok(text)
     }
 
-    // The picture of a table with rows and columns.
     fn push_picture<A: Allocator>(
         &self,
         buf: &mut String<A>,
@@ -164,7 +163,6 @@ where
         push_bottom_margin(buf, self.config, width, is_first && height == 0)
     }
 
-    // The lines of the body in the table of a sheet, which has so many rows.
     fn push_drawn<T: Drawn, A: Allocator>(
         &self,
         buf: &mut String<A>,

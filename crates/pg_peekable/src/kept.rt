@@ -1,12 +1,13 @@
 //! What is kept of cells from one of their lines to the next, so that it isn't worked out again.
 
-ghost use Rattle.std.specs.Prelude.{◌≡◌, ⊤, ◌≤◌, ◌<◌, ℕ, List, IfSome, IsTrue, drop, length, slice_index_or, string_bytes, [], None};
+ghost use Rattle.std.specs.Prelude.{◌≡◌, ⊤, ◌≤◌, ◌<◌, ℕ, List, IfSome, drop, length, slice_index_or, string_bytes, [], None};
 ghost use Rattle.pg_layout.specs.LineCursor.{StandsIn, line_number};
 ghost use Rattle.pg_layout.specs.Text.{lines_of};
 ghost use Rattle.pg_picture.specs.Inside.Cells.{line_if};
 ghost use Rattle.pg_peekable.specs.Inside.Kept.{Reads, IsReading, IsKept, IsRectangle, IsSeparator, AllSlots};
 ghost use Rattle.std.proofs.Props.{props};
 
+use crate::rectangle::Rectangle;
 use pg_layout::{LineCursor, Position};
 use pg_picture::{CellPlace, Drawn, SeparatorKeeper};
 use std::alloc::{AllocError, Allocator};
@@ -22,7 +23,6 @@ pub(super) struct Reading {
 }
 
 impl Reading {
-    // Nothing was read of a text that stands at this place.
     pub(super) fn new(place: CellPlace) -> Reading
         ensures place { result.place ≡ place }
         ensures reads { (text : List ℕ) → Reads result text }
@@ -48,7 +48,6 @@ impl Reading {
         }
     }
 
-    // The line of this number.
     fn line<'t>(&mut self, text: &'t str, line: usize) -> &'t str
         requires reads { Reads self.old text.now }
         requires there { line < length (lines_of text.now) }
@@ -77,7 +76,6 @@ impl Reading {
     }
 }
 
-// A cursor at one line of a text, moved to another that isn't before it.
 fn moved(mut cursor: LineCursor, text: &str, from: usize, to: usize) -> LineCursor
     requires stands { StandsIn cursor text.now }
     requires from { line_number cursor text.now ≡ from }
@@ -92,37 +90,20 @@ fn moved(mut cursor: LineCursor, text: &str, from: usize, to: usize) -> LineCurs
     cursor
 }
 
-/// A cell of so many columns and lines whose text was read as far as its last line needed.
+/// A cell whose text was read as far as its last line needed.
 #[derive(Debug, Clone, Copy)]
 pub(super) struct KeptCell {
-    corner: Position,
-    width: usize,
-    height: usize,
+    rectangle: Rectangle,
     reading: Reading,
 }
 
-impl KeptCell {
-    // Whether it is the cell of this place, and as large as this.
-    fn is_for(&self, corner: Position, width: usize, height: usize) -> bool
-        ensures { IsTrue result → (self.now.corner ≡ corner) × (self.now.width ≡ width) × (self.now.height ≡ height) }
-    {
-        self.corner.row == corner.row
-            && self.corner.col == corner.col
-            && self.width == width
-            && self.height == height
-    }
-}
-
-/// The rectangle of a cell: how many columns and lines it has, and how many of these stand above a
-/// row.
+/// The rectangle of a cell, and how many of its lines stand above a row.
 pub(super) struct KeptRectangle<T: Drawn> {
-    pub(super) corner: Position,
-    pub(super) width: usize,
-    pub(super) height: usize,
+    pub(super) rectangle: Rectangle,
     pub(super) row: usize,
     pub(super) above: usize,
     pub(super) of: PhantomData<T>,
-    ghost is: { IsRectangle T.table corner width height row above } by { Prim.hlevel props },
+    ghost is: { IsRectangle T.table rectangle row above } by { Prim.hlevel props },
 }
 
 impl<T: Drawn> Clone for KeptRectangle<T> {
@@ -136,15 +117,6 @@ impl<T: Drawn> Clone for KeptRectangle<T> {
 }
 
 impl<T: Drawn> Copy for KeptRectangle<T> {}
-
-impl<T: Drawn> KeptRectangle<T> {
-    // Whether it is the rectangle of this place, and its row isn't below this one.
-    fn is_for(&self, corner: Position, row: usize) -> bool
-        ensures { IsTrue result → (self.now.corner ≡ corner) × (self.now.row ≤ row) }
-    {
-        self.corner.row == corner.row && self.corner.col == corner.col && self.row <= row
-    }
-}
 
 /// No slot of so many columns holds anything.
 pub(super) fn no_slots<T: Copy, const COLUMNS: usize>() -> [Option<T>; COLUMNS]
@@ -184,64 +156,49 @@ impl<'k, T: Drawn> KeptCells<'k, T> {
         }
     }
 
-    // How far the text of a cell of this size was read, if that is kept.
-    pub(super) fn reading(&self, corner: Position, width: usize, height: usize) -> Option<Reading>
-        ensures { IfSome result (IsReading T.table corner width height) }
+    pub(super) fn reading(&self, rectangle: Rectangle) -> Option<Reading>
+        ensures { IfSome result (IsReading T.table rectangle) }
     {
-        if corner.col >= self.cells.len() {
+        if rectangle.corner.col >= self.cells.len() {
             return None;
         }
-        let cell = self.cells[corner.col]?;
-        if cell.is_for(corner, width, height) {
+        let cell = self.cells[rectangle.corner.col]?;
+        if cell.rectangle == rectangle {
             Some(cell.reading)
         } else {
             None
         }
     }
 
-    // Keeps how far the text of a cell of this size was read.
-    pub(super) fn keep_reading(
-        &mut self,
-        corner: Position,
-        width: usize,
-        height: usize,
-        reading: Reading,
-    )
-        requires reading { IsReading T.table corner width height reading }
+    pub(super) fn keep_reading(&mut self, rectangle: Rectangle, reading: Reading)
+        requires reading { IsReading T.table rectangle reading }
     {
-        if corner.col < self.cells.len() {
-            self.cells[corner.col] = Some(KeptCell {
-                corner,
-                width,
-                height,
-                reading,
-            });
+        if rectangle.corner.col < self.cells.len() {
+            self.cells[rectangle.corner.col] = Some(KeptCell { rectangle, reading });
         }
     }
 
-    // The rectangle of a place and its lines above this row or an earlier one, if that is kept.
     pub(super) fn rectangle(&self, corner: Position, row: usize) -> Option<KeptRectangle<T>>
-        ensures of { IfSome result (λ kept. (kept.corner ≡ corner) × (kept.row ≤ row)) }
+        ensures of { IfSome result (λ kept. (kept.rectangle.corner ≡ corner) × (kept.row ≤ row)) }
     {
         if corner.col >= self.rectangles.len() {
             return None;
         }
-        let rectangle = self.rectangles[corner.col]?;
-        if rectangle.is_for(corner, row) {
-            Some(rectangle)
+        let kept = self.rectangles[corner.col]?;
+        if kept.rectangle.corner == corner && kept.row <= row {
+            Some(kept)
         } else {
             None
         }
     }
 
-    // Keeps a rectangle.
-    pub(super) fn keep_rectangle(&mut self, rectangle: KeptRectangle<T>) {
-        if rectangle.corner.col < self.rectangles.len() {
-            self.rectangles[rectangle.corner.col] = Some(rectangle);
+    pub(super) fn keep_rectangle(&mut self, kept: KeptRectangle<T>) {
+        let column = kept.rectangle.corner.col;
+        if column < self.rectangles.len() {
+            self.rectangles[column] = Some(kept);
         }
     }
 
-    // The text of each separator between two rows, if that is kept.
     #[inline(always)]
     pub(super) fn separator(&self) -> Option<&str>
         ensures { IfSome result (λ text. IsSeparator T.table text.now) }
@@ -249,7 +206,6 @@ impl<'k, T: Drawn> KeptCells<'k, T> {
         self.separator.text()
     }
 
-    // Keeps what stands in a buffer from a place on, the text of each separator between two rows.
     #[inline(always)]
     pub(super) fn keep_separator<A: Allocator>(&mut self, buf: &String<A>, from: usize)
         requires text { IsSeparator T.table (drop from (string_bytes buf.now)) }

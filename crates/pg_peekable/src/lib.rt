@@ -6,6 +6,7 @@ mod drawing;
 mod grid;
 mod kept;
 mod lines;
+mod rectangle;
 mod rows;
 mod separators;
 mod slots;

@@ -6,13 +6,14 @@ ghost use Rattle.std.proofs.Props.{props};
 use pg_picture::Drawn;
 use std::marker::PhantomData;
 
-/// A line of a row: the row, and the line's number in it.
+/// A line of a row: the row, how many lines it has, and the line's number in it.
 #[derive(Drop)]
 pub(crate) struct LineOfRow<T: Drawn> {
     pub(crate) row: usize,
+    pub(crate) height: usize,
     pub(crate) number: usize,
     pub(crate) of: PhantomData<T>,
-    ghost is: { IsLine T.table row number } by { Prim.hlevel props },
+    ghost is: { IsLine T.table row height number } by { Prim.hlevel props },
 }
 
 /// A separator that is there: the row below it, or how many rows there are for the last one.

@@ -24,7 +24,6 @@ where
     C: Colors,
     B: Allocator,
 {
-    // The separator above a row, or below the last one.
     pub(super) fn push_separator<A: Allocator>(
         &self,
         buf: &mut String<A>,
@@ -62,7 +61,6 @@ where
         Ok(())
     }
 
-    // A separator, item by item.
     fn push_new_separator<A: Allocator>(
         &self,
         buf: &mut String<A>,
@@ -76,7 +74,6 @@ where
         run.close(buf)
     }
 
-    // What all columns add to a separator: from rectangle to rectangle where cells span others.
     fn push_columns<'s, A: Allocator>(
         &'s self,
         mut run: Run<'s, ANSIBuf<B>>,
@@ -96,7 +93,6 @@ where
         Ok(run)
     }
 
-    // The crossing left of a column, and the column's horizontal.
     #[inline(always)]
     pub(super) fn push_column<'s, A: Allocator>(
         &'s self,
@@ -111,7 +107,6 @@ where
         self.pen().push_border(run, buf, pos, self.rows)
     }
 
-    // The crossing at a place.
     #[inline(always)]
     pub(super) fn push_crossing<'s, A: Allocator>(
         &'s self,
@@ -125,7 +120,6 @@ where
         self.pen().push_crossing(run, buf, pos, self.rows)
     }
 
-    // The crossing behind the last column.
     fn push_last_crossing<'s, A: Allocator>(
         &'s self,
         run: Run<'s, ANSIBuf<B>>,

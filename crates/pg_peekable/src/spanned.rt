@@ -10,13 +10,13 @@ ghost use Rattle.pg_picture.specs.Pieces.{written, block};
 ghost use Rattle.pg_picture.specs.Inside.Following.{items_after, last_color};
 ghost use Rattle.pg_picture.specs.Marks.{sep, line as line_mark};
 ghost use Rattle.pg_picture.specs.Table.{row_part, separator_part, vertical, block_at, rect_width, rect_height, crossing_at, line_of_cell};
-ghost use Rattle.pg_picture.specs.Rectangles.{IsOwner};
 ghost use Rattle.pg_picture.specs.Inside.Rectangles.{rows_height};
-ghost use Rattle.pg_peekable.specs.Inside.Walks.{BeginsHere, BeginsAbove, OwnsRow, IsRowFrom};
+ghost use Rattle.pg_peekable.specs.Inside.Walks.{BeginsHere, BeginsAbove, IsOwnerOf, OwnsRow, IsRowFrom};
 
 use crate::drawing::Drawing;
 use crate::kept::{KeptCells, KeptRectangle};
 use crate::lines::{LineOfRow, Separator};
+use crate::rectangle::Rectangle;
 use pg_config::Span;
 use pg_layout::{ANSIBuf, Colors, Dimension, PeekableRecords, Position};
 use pg_picture::fits::{columns_of, height_of_rows, width_of_columns};
@@ -32,7 +32,6 @@ where
     C: Colors,
     B: Allocator,
 {
-    // What all columns add to a line of a row, from rectangle to rectangle.
     pub(super) fn push_spanned_parts<A: Allocator>(
         &self,
         buf: &mut String<A>,
@@ -50,7 +49,6 @@ where
         Ok(())
     }
 
-    // The vertical left of a cell or a rectangle, and its line.
     fn push_spanned_part<A: Allocator>(
         &self,
         buf: &mut String<A>,
@@ -68,7 +66,6 @@ where
         }
     }
 
-    // The vertical left of a rectangle, and its line.
     fn push_rectangle_part<A: Allocator>(
         &self,
         buf: &mut String<A>,
@@ -81,11 +78,10 @@ where
         ensures { Appends buf.old buf.new result (written (vertical T.table line.now.row line.now.number column) ++ written (block_at T.table (corner span) (line_mark line.now.row line.now.number))) }
     {
         self.push_vertical(buf, line, column)?;
-        let rectangle = self.rectangle_at(kept, corner_of(span), line.row);
+        let rectangle = self.rectangle_at(kept, span, line.row);
         self.push_rectangle(buf, kept, rectangle, rectangle.above + line.number)
     }
 
-    // What all columns add to a separator, from rectangle to rectangle from above.
     pub(super) fn push_spanned_columns<'s, A: Allocator>(
         &'s self,
         mut run: Run<'s, ANSIBuf<B>>,
@@ -105,7 +101,6 @@ where
         Ok(run)
     }
 
-    // A crossing, and the rectangle's line or the horizontal behind it.
     fn push_spanned_column<'s, A: Allocator>(
         &'s self,
         run: Run<'s, ANSIBuf<B>>,
@@ -125,7 +120,6 @@ where
         }
     }
 
-    // A crossing, and the line of the rectangle behind it, with no colour open.
     fn push_block<'s, A: Allocator>(
         &'s self,
         run: Run<'s, ANSIBuf<B>>,
@@ -142,59 +136,51 @@ where
         let pos = Position::new(separator.row, column);
         let run = self.push_crossing(run, buf, pos)?;
         let run = run.close_for_block(buf)?;
-        let rectangle = self.rectangle_at(kept, corner_of(span), separator.row);
+        let rectangle = self.rectangle_at(kept, span, separator.row);
         self.push_rectangle(buf, kept, rectangle, rectangle.above - 1)?;
         Ok(run)
     }
 
-    // The rectangle of an owner, and how many of its lines stand above a row of it.
-    fn rectangle_at(
-        &self,
-        kept: &mut KeptCells<'_, T>,
-        corner: Position,
-        row: usize,
-    ) -> KeptRectangle<T>
-        requires owner { OwnsRow T.table corner row }
-        ensures corner { result.corner ≡ corner }
+    fn rectangle_at(&self, kept: &mut KeptCells<'_, T>, span: Span, row: usize) -> KeptRectangle<T>
+        requires owner { OwnsRow T.table span row }
+        ensures corner { result.rectangle.corner ≡ corner span }
         ensures row { result.row ≡ row }
     {
-        let before = match kept.rectangle(corner, row) {
+        let before = match kept.rectangle(corner_of(span), row) {
             Some(before) => before,
-            None => self.rectangle_of(corner),
+            None => self.rectangle_of(span),
         };
-        let above = self.lines_above(before, row);
         let rectangle = KeptRectangle {
-            corner,
-            width: before.width,
-            height: before.height,
+            rectangle: before.rectangle,
             row,
-            above,
+            above: self.lines_above(before, row),
             of: PhantomData,
         };
         kept.keep_rectangle(rectangle);
         rectangle
     }
 
-    // The rectangle of an owner, above whose first row stands none of its lines.
-    fn rectangle_of(&self, corner: Position) -> KeptRectangle<T>
-        requires owner { IsOwner T.table corner }
-        ensures corner { result.corner ≡ corner }
-        ensures row { result.row ≡ corner.row }
+    fn rectangle_of(&self, span: Span) -> KeptRectangle<T>
+        requires owner { IsOwnerOf T.table span }
+        ensures corner { result.rectangle.corner ≡ corner span }
+        ensures row { result.row ≡ span.0.row }
     {
-        let (rows, columns) = self.sheet.config.rect_size(corner);
+        let (corner, sheet) = (corner_of(span), &self.sheet);
         let width = width_of_columns(
-            self.sheet.config,
-            self.sheet.dimension,
+            sheet.config,
+            sheet.dimension,
             corner,
-            columns,
-            self.sheet.columns,
+            span.1.columns,
+            sheet.columns,
         )
         .unwrap();
-        let height = height_of_rows(self.sheet.config, self.sheet.dimension, corner, rows).unwrap();
+        let height = height_of_rows(sheet.config, sheet.dimension, corner, span.1.rows).unwrap();
         KeptRectangle {
-            corner,
-            width,
-            height,
+            rectangle: Rectangle {
+                corner,
+                width,
+                height,
+            },
             row: corner.row,
             above: 0,
             of: PhantomData,
@@ -205,7 +191,7 @@ where
     // earlier one. With each row comes the separator below it.
     fn lines_above(&self, known: KeptRectangle<T>, row: usize) -> usize
         requires row { IsRowFrom T.table known.row row }
-        ensures { result ≡ rows_height T.table known.corner.row (row - known.corner.row) }
+        ensures { result ≡ rows_height T.table known.rectangle.corner.row (row - known.rectangle.corner.row) }
     {
         let mut lines = known.above;
         for above in known.row..row {
@@ -214,35 +200,26 @@ where
         lines
     }
 
-    // How many lines the separator above a row is.
     fn separators_at(&self, row: usize) -> usize
         ensures { result ≡ cond (has_horizontal T.table.config row T.table.rows) 1 0 }
     {
         if self.has_separator(row) { 1 } else { 0 }
     }
 
-    // Line `number` of a rectangle.
     fn push_rectangle<A: Allocator>(
         &self,
         buf: &mut String<A>,
         kept: &mut KeptCells<'_, T>,
-        rectangle: KeptRectangle<T>,
+        its: KeptRectangle<T>,
         number: usize,
     ) -> Result<(), AllocError>
-        requires number { number < rect_height T.table rectangle.corner }
-        ensures { Appends buf.old buf.new result (written (line_of_cell T.table rectangle.corner (rect_width T.table rectangle.corner) (rect_height T.table rectangle.corner) number)) }
+        requires number { number < rect_height T.table its.rectangle.corner }
+        ensures { Appends buf.old buf.new result (written (line_of_cell T.table its.rectangle.corner (rect_width T.table its.rectangle.corner) (rect_height T.table its.rectangle.corner) number)) }
     {
-        let KeptRectangle {
-            corner,
-            width,
-            height,
-            ..
-        } = rectangle;
-        self.push_cell(buf, kept, corner, width, height, number)
+        self.push_cell(buf, kept, its.rectangle, number)
     }
 }
 
-// The top left of a rectangle.
 fn corner_of(span: Span) -> Position
     ensures { result ≡ corner span }
 {

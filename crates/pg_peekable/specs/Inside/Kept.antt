@@ -1,6 +1,5 @@
 -- What is kept of cells from one of their lines to the next, and that it is right.
 use Rattle.std.specs.Prelude.{◌≡◌, ℕ, ◌-◌, ◌≤◌, List, Option, IfSome, slice_index_or, None}
-use Rattle.pg_layout.specs.declared.position.Position.{Position}
 use Rattle.pg_layout.specs.LineCursor.{StandsIn, line_number}
 use Rattle.pg_layout.specs.Text.{Text}
 use Rattle.pg_picture.specs.Inside.Cells.{facts_of, place_of}
@@ -12,6 +11,7 @@ use Rattle.pg_picture.specs.Table.{Table, rect_width, rect_height, separator_ite
 use Rattle.pg_picture.specs.declared.place.CellPlace.{CellPlace}
 use Rattle.pg_peekable.specs.declared.kept.Reading.{Reading}
 use Rattle.pg_peekable.specs.declared.kept.KeptCell.{KeptCell}
+use Rattle.pg_peekable.specs.declared.rectangle.Rectangle.{Rectangle}
 use Rattle.pg_peekable.specs.Inside.Lines.{IsInner}
 
 -- the text is read up to the line of this number
@@ -19,25 +19,25 @@ pub record Reads (reading : Reading) (text : Text) : Type 0 where
   pub stands : StandsIn reading.cursor text
   pub next : line_number reading.cursor text ≡ reading.next
 
--- where the text of the cell p stands, if the cell is w columns wide and has h lines
-abbrev pub place_in : Table → Position → ℕ → ℕ → CellPlace
-place_in t p w h = place_of (facts_of (style_at t.config p).formatting (t.text p)) (style_at t.config p) w h
+-- where the text of the cell of a rectangle stands
+abbrev pub place_in : Table → Rectangle → CellPlace
+place_in t r = place_of (facts_of (style_at t.config r.corner).formatting (t.text r.corner)) (style_at t.config r.corner) r.width r.height
 
 -- a reading of the text of such a cell
-pub record IsReading (t : Table) (p : Position) (w h : ℕ) (reading : Reading) : Type 0 where
-  pub reads : Reads reading (t.text p)
-  pub place : reading.place ≡ place_in t p w h
+pub record IsReading (t : Table) (r : Rectangle) (reading : Reading) : Type 0 where
+  pub reads : Reads reading (t.text r.corner)
+  pub place : reading.place ≡ place_in t r
 
--- the place p owns a rectangle of w columns and h lines, of which n stand above row r
-pub record IsRectangle (t : Table) (p : Position) (w h r n : ℕ) : Type 0 where
-  pub owner : IsOwner t p
-  pub width : w ≡ rect_width t p
-  pub height : h ≡ rect_height t p
-  pub begun : p.row ≤ r
-  pub above : n ≡ rows_height t p.row (r - p.row)
+-- it is a cell's rectangle, of whose lines n stand above row k
+pub record IsRectangle (t : Table) (r : Rectangle) (k n : ℕ) : Type 0 where
+  pub owner : IsOwner t r.corner
+  pub width : r.width ≡ rect_width t r.corner
+  pub height : r.height ≡ rect_height t r.corner
+  pub begun : r.corner.row ≤ k
+  pub above : n ≡ rows_height t r.corner.row (k - r.corner.row)
 
 abbrev pub IsKept : Table → KeptCell → Type 0
-IsKept t cell = IsReading t cell.corner cell.width cell.height cell.reading
+IsKept t cell = IsReading t cell.rectangle cell.reading
 
 -- the text is that of each separator between two rows
 abbrev pub IsSeparator : Table → Text → Type 0

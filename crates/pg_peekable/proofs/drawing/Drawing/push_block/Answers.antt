@@ -32,17 +32,17 @@ returns-in_err-run-2-clause-appends g c =
 pub rectangle_at-rectangle-requires : goal.rectangle_at-rectangle-requires
 rectangle_at-rectangle-requires g c =
     let t = g.T.Drawn.table in
-    record { owner = found_owns t c.args.self.now.can c.args.separator.now.row c.args.column c.args.span (found-above t (in_order t c.args.self.now.can) c.args.separator.now.row c.args.column c.args.span c.requires.span) c.corner_of.result c.corner_of.ensures }
+    record { owner = found_owns t c.args.self.now.can c.args.separator.now.row c.args.column c.args.span (found-above t (in_order t c.args.self.now.can) c.args.separator.now.row c.args.column c.args.span c.requires.span) }
 
 pub overflow_sub-rectangle : goal.overflow_sub-rectangle
 overflow_sub-rectangle g c =
     let t = g.T.Drawn.table in
-    found_some t c.args.self.now.can c.args.separator.now.row c.args.column c.args.span (found-above t (in_order t c.args.self.now.can) c.args.separator.now.row c.args.column c.args.span c.requires.span) c.rectangle_at-rectangle.result.corner (c.rectangle_at-rectangle.ensures.corner ∙ c.corner_of.ensures) c.rectangle_at-rectangle.result.above (above-row t c.args.separator.now.row c.rectangle_at-rectangle.result.is c.rectangle_at-rectangle.ensures.row) (span_above-below t.config.spans c.args.separator.now.row c.args.column c.args.span c.requires.span) c.args.separator.now.is
+    found_some t c.args.self.now.can c.args.separator.now.row c.args.column c.args.span (found-above t (in_order t c.args.self.now.can) c.args.separator.now.row c.args.column c.args.span c.requires.span) c.rectangle_at-rectangle.result.rectangle.corner c.rectangle_at-rectangle.ensures.corner c.rectangle_at-rectangle.result.above (above-row t c.args.separator.now.row c.rectangle_at-rectangle.result.is c.rectangle_at-rectangle.ensures.row) (span_above-below t.config.spans c.args.separator.now.row c.args.column c.args.span c.requires.span) c.args.separator.now.is
 
 pub push_rectangle-requires : goal.push_rectangle-requires
 push_rectangle-requires g c =
     let t = g.T.Drawn.table in
-    record { number = found_sep_inside t c.args.self.now.can c.args.separator.now.row c.args.column c.args.span (found-above t (in_order t c.args.self.now.can) c.args.separator.now.row c.args.column c.args.span c.requires.span) c.rectangle_at-rectangle.result.corner (c.rectangle_at-rectangle.ensures.corner ∙ c.corner_of.ensures) c.rectangle_at-rectangle.result.above (above-row t c.args.separator.now.row c.rectangle_at-rectangle.result.is c.rectangle_at-rectangle.ensures.row) (span_above-below t.config.spans c.args.separator.now.row c.args.column c.args.span c.requires.span) c.args.separator.now.is }
+    record { number = found_sep_inside t c.args.self.now.can c.args.separator.now.row c.args.column c.args.span (found-above t (in_order t c.args.self.now.can) c.args.separator.now.row c.args.column c.args.span c.requires.span) c.rectangle_at-rectangle.result.rectangle.corner c.rectangle_at-rectangle.ensures.corner c.rectangle_at-rectangle.result.above (above-row t c.args.separator.now.row c.rectangle_at-rectangle.result.is c.rectangle_at-rectangle.ensures.row) (span_above-below t.config.spans c.args.separator.now.row c.args.column c.args.span c.requires.span) c.args.separator.now.is }
 
 pub returns-in_err-push_rectangle-clause-appends : goal.returns-in_err-push_rectangle-clause-appends
 returns-in_err-push_rectangle-clause-appends g c =
@@ -50,7 +50,7 @@ returns-in_err-push_rectangle-clause-appends g c =
     let crossing = crossing_at t.config t.rows t.columns c.new-pos.result in
     let its : List Piece = block_at t (corner c.args.span) (sep c.args.separator.now.row) in
     let place = ap (λ (p : Position). items_after c.args.run (crossing_at t.config t.rows t.columns p ++ block its ∷ [])) c.new-pos.ensures in
-    Appends-text (block-text c.args.run crossing its c.in_ok-run.ensures.color (found_sep t c.args.self.now.can c.args.separator.now.row c.args.column c.args.span (found-above t (in_order t c.args.self.now.can) c.args.separator.now.row c.args.column c.args.span c.requires.span) c.rectangle_at-rectangle.result.corner (c.rectangle_at-rectangle.ensures.corner ∙ c.corner_of.ensures) c.rectangle_at-rectangle.result.above (above-row t c.args.separator.now.row c.rectangle_at-rectangle.result.is c.rectangle_at-rectangle.ensures.row) (span_above-below t.config.spans c.args.separator.now.row c.args.column c.args.span c.requires.span) c.args.separator.now.is) ∙ place)
+    Appends-text (block-text c.args.run crossing its c.in_ok-run.ensures.color (found_sep t c.args.self.now.can c.args.separator.now.row c.args.column c.args.span (found-above t (in_order t c.args.self.now.can) c.args.separator.now.row c.args.column c.args.span c.requires.span) c.rectangle_at-rectangle.result.rectangle.corner c.rectangle_at-rectangle.ensures.corner c.rectangle_at-rectangle.result.above (above-row t c.args.separator.now.row c.rectangle_at-rectangle.result.is c.rectangle_at-rectangle.ensures.row) (span_above-below t.config.spans c.args.separator.now.row c.args.column c.args.span c.requires.span) c.args.separator.now.is) ∙ place)
     (c.in_ok-run.ensures.appends then (c.in_ok-run-2.ensures.appends then refused-as c.from_residual-in_err-push_rectangle.ensures.0 c.in_err-push_rectangle.ensures))
 
 pub returns-clause-appends : goal.returns-clause-appends
@@ -59,7 +59,7 @@ returns-clause-appends g c =
     let crossing = crossing_at t.config t.rows t.columns c.new-pos.result in
     let its : List Piece = block_at t (corner c.args.span) (sep c.args.separator.now.row) in
     let place = ap (λ (p : Position). items_after c.args.run (crossing_at t.config t.rows t.columns p ++ block its ∷ [])) c.new-pos.ensures in
-    Appends-text (block-text c.args.run crossing its c.in_ok-run.ensures.color (found_sep t c.args.self.now.can c.args.separator.now.row c.args.column c.args.span (found-above t (in_order t c.args.self.now.can) c.args.separator.now.row c.args.column c.args.span c.requires.span) c.rectangle_at-rectangle.result.corner (c.rectangle_at-rectangle.ensures.corner ∙ c.corner_of.ensures) c.rectangle_at-rectangle.result.above (above-row t c.args.separator.now.row c.rectangle_at-rectangle.result.is c.rectangle_at-rectangle.ensures.row) (span_above-below t.config.spans c.args.separator.now.row c.args.column c.args.span c.requires.span) c.args.separator.now.is) ∙ place)
+    Appends-text (block-text c.args.run crossing its c.in_ok-run.ensures.color (found_sep t c.args.self.now.can c.args.separator.now.row c.args.column c.args.span (found-above t (in_order t c.args.self.now.can) c.args.separator.now.row c.args.column c.args.span c.requires.span) c.rectangle_at-rectangle.result.rectangle.corner c.rectangle_at-rectangle.ensures.corner c.rectangle_at-rectangle.result.above (above-row t c.args.separator.now.row c.rectangle_at-rectangle.result.is c.rectangle_at-rectangle.ensures.row) (span_above-below t.config.spans c.args.separator.now.row c.args.column c.args.span c.requires.span) c.args.separator.now.is) ∙ place)
     (c.in_ok-run.ensures.appends then (c.in_ok-run-2.ensures.appends then appended-as c.in_ok-push_rectangle.ensures))
 
 pub returns-clause-color : goal.returns-clause-color

@@ -7,11 +7,11 @@ use Rattle.pg_peekable.proofs.drawing.Drawing.push_rectangle.Goals as goal
 
 pub push_cell-requires : goal.push_cell-requires
 push_cell-requires g c =
-    let room = owner_room g.T.Drawn.table c.args.self.now.can.fits c.args.rectangle.corner c.args.rectangle.is.owner in
-    record { cell = rw (c.args.rectangle.is.width, c.args.rectangle.is.height) record { row = c.args.rectangle.is.owner.row; column = c.args.rectangle.is.owner.column; room = room; line = c.requires.number } }
+    let room = owner_room g.T.Drawn.table c.args.self.now.can.fits c.args.its.rectangle.corner c.args.its.is.owner in
+    record { cell = rw (c.args.its.is.width, c.args.its.is.height) record { row = c.args.its.is.owner.row; column = c.args.its.is.owner.column; room = room; line = c.requires.number } }
 
 pub returns : goal.returns
 returns g c =
     let t = g.T.Drawn.table in
-    let corner = c.args.rectangle.corner in
-    Appends-text (ap₂ (λ w h. written (line_of_cell t corner w h c.args.number)) c.args.rectangle.is.width c.args.rectangle.is.height) c.push_cell.ensures
+    let corner = c.args.its.rectangle.corner in
+    Appends-text (ap₂ (λ w h. written (line_of_cell t corner w h c.args.number)) c.args.its.is.width c.args.its.is.height) c.push_cell.ensures

@@ -6,21 +6,21 @@ use Rattle.pg_peekable.proofs.RectangleParts.{found_owns, found_fits, found_insi
 use Rattle.pg_peekable.proofs.drawing.Drawing.push_rectangle_part.Goals as goal
 
 pub rectangle_at-rectangle-requires : goal.rectangle_at-rectangle-requires
-rectangle_at-rectangle-requires g c = record { owner = found_owns g.T.Drawn.table c.args.self.now.can c.args.line.now.row c.args.column c.args.span c.requires.span c.corner_of.result c.corner_of.ensures }
+rectangle_at-rectangle-requires g c = record { owner = found_owns g.T.Drawn.table c.args.self.now.can c.args.line.now.row c.args.column c.args.span c.requires.span }
 
 pub overflow_add-rectangle : goal.overflow_add-rectangle
 overflow_add-rectangle g c =
     let t = g.T.Drawn.table in
     let rectangle = c.rectangle_at-rectangle.result in
     let above = above-row t c.args.line.now.row rectangle.is c.rectangle_at-rectangle.ensures.row in
-    omega (arith, found_fits t c.args.self.now.can c.args.line.now.row c.args.column c.args.span c.requires.span rectangle.corner (c.rectangle_at-rectangle.ensures.corner ∙ c.corner_of.ensures) rectangle.above above c.args.line.now.number c.args.line.now.is.line)
+    omega (arith, found_fits t c.args.self.now.can c.args.line.now.row c.args.column c.args.span c.requires.span rectangle.rectangle.corner c.rectangle_at-rectangle.ensures.corner rectangle.above above c.args.line.now.number c.args.line.now.is.line)
 
 pub push_rectangle-requires : goal.push_rectangle-requires
 push_rectangle-requires g c =
     let t = g.T.Drawn.table in
     let rectangle = c.rectangle_at-rectangle.result in
     let above = above-row t c.args.line.now.row rectangle.is c.rectangle_at-rectangle.ensures.row in
-    record { number = found_inside t c.args.self.now.can c.args.line.now.row c.args.column c.args.span c.requires.span rectangle.corner (c.rectangle_at-rectangle.ensures.corner ∙ c.corner_of.ensures) rectangle.above above c.args.line.now.number c.args.line.now.is.line }
+    record { number = found_inside t c.args.self.now.can c.args.line.now.row c.args.column c.args.span c.requires.span rectangle.rectangle.corner c.rectangle_at-rectangle.ensures.corner rectangle.above above c.args.line.now.number c.args.line.now.is.line }
 
 pub returns : goal.returns
 returns g c =
@@ -29,5 +29,5 @@ returns g c =
     let above = above-row t c.args.line.now.row rectangle.is c.rectangle_at-rectangle.ensures.row in
     Appends-text
     (ap (λ l. written (vertical t c.args.line.now.row c.args.line.now.number c.args.column) ++ l)
-    (found_line t c.args.self.now.can c.args.line.now.row c.args.column c.args.span c.requires.span rectangle.corner (c.rectangle_at-rectangle.ensures.corner ∙ c.corner_of.ensures) rectangle.above above c.args.line.now.number c.args.line.now.is.line))
+    (found_line t c.args.self.now.can c.args.line.now.row c.args.column c.args.span c.requires.span rectangle.rectangle.corner c.rectangle_at-rectangle.ensures.corner rectangle.above above c.args.line.now.number c.args.line.now.is.line))
     (c.in_ok-push_vertical.ensures then c.push_rectangle.ensures)

@@ -9,16 +9,16 @@ use Rattle.pg_peekable.proofs.drawing.Drawing.reading_of.Goals as goal
 pub of-requires-clause-width : goal.of-requires-clause-width
 unfolding facts_of
 of-requires-clause-width g c =
-    let style = style_of c.args.line.now.style.now in
+    let style = style_of c.args.style.now in
     let text = c.text_of.result.now in
-    let fits : cell_fits style text c.args.line.now.width c.args.line.now.height ≡ true = ap₂ (λ s x. cell_fits s x c.args.line.now.width c.args.line.now.height) c.args.line.now.is_styled c.text_of.ensures ∙ c.args.line.now.is.room in
-    let room = (cell_fits-room style text c.args.line.now.width c.args.line.now.height fits (omega (arith, c.args.line.now.is.line))).0 in
-    let is : c.of_text-facts.result.widest ≡ widest c.args.line.now.style.now.formatting text = ap (λ (f : TextFacts). f.widest) c.of_text-facts.ensures in
+    let fits : cell_fits style text c.args.line.now.rectangle.width c.args.line.now.rectangle.height ≡ true = ap₂ (λ s x. cell_fits s x c.args.line.now.rectangle.width c.args.line.now.rectangle.height) c.requires.style c.text_of.ensures ∙ c.args.line.now.is.room in
+    let room = (cell_fits-room style text c.args.line.now.rectangle.width c.args.line.now.rectangle.height fits (omega (arith, c.args.line.now.is.line))).0 in
+    let is : c.of_text-facts.result.widest ≡ widest c.args.style.now.formatting text = ap (λ (f : TextFacts). f.widest) c.of_text-facts.ensures in
     omega (arith, room, is)
 
 pub of-requires-clause-height : goal.of-requires-clause-height
 of-requires-clause-height g c =
-    let style = style_of c.args.line.now.style.now in
+    let style = style_of c.args.style.now in
     let text = c.text_of.result.now in
-    let fits : cell_fits style text c.args.line.now.width c.args.line.now.height ≡ true = ap₂ (λ s x. cell_fits s x c.args.line.now.width c.args.line.now.height) c.args.line.now.is_styled c.text_of.ensures ∙ c.args.line.now.is.room in
-    (cell_fits-room style text c.args.line.now.width c.args.line.now.height fits (omega (arith, c.args.line.now.is.line))).1
+    let fits : cell_fits style text c.args.line.now.rectangle.width c.args.line.now.rectangle.height ≡ true = ap₂ (λ s x. cell_fits s x c.args.line.now.rectangle.width c.args.line.now.rectangle.height) c.requires.style c.text_of.ensures ∙ c.args.line.now.is.room in
+    (cell_fits-room style text c.args.line.now.rectangle.width c.args.line.now.rectangle.height fits (omega (arith, c.args.line.now.is.line))).1
