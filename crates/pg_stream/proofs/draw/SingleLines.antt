@@ -1,12 +1,11 @@
 -- A row of one line in a table without spans: its line is that of its cells, and none of them goes on below it.
-use Rattle.std.proofs.Common.{◌≡◌, ℕ, zero, suc, ◌+◌, ◌<◌, Bool, true, false, ◌&&◌, ◌==◌, nat_lt, List, [], ◌∷◌, ◌++◌, map, length, replicate, get_or, slice_index_or, Option, Some, None, refl, sym, ap, ap₂, ◌∙◌, arith, add-zero, zero-add}
-use Rattle.std.proofs.lemmas.Bool.{false≢true, and_parts}
+use Rattle.std.proofs.Common.{◌≡◌, ℕ, zero, suc, ◌+◌, ◌<◌, false, nat_lt, List, [], ◌∷◌, ◌++◌, map, length, replicate, get_or, slice_index_or, Option, Some, None, refl, sym, ap, ap₂, ◌∙◌, arith, add-zero, zero-add}
 use Rattle.std.proofs.lemmas.Bool.Decides.{nat_tests}
 use Rattle.std.proofs.lemmas.List.{length-map}
 use Rattle.pg_layout.specs.declared.position.Position.{Position}
 use Rattle.pg_layout.specs.Position.{at}
 use Rattle.pg_layout.specs.Text.{Text}
-use Rattle.pg_config.specs.Spans.{Span, rect_rows}
+use Rattle.pg_config.specs.Spans.{rect_rows}
 use Rattle.pg_picture.specs.Pieces.{style_at, block_line, written}
 use Rattle.pg_picture.specs.Sizes.{height_of_rect}
 use Rattle.pg_picture.specs.Table.{Table, vertical}
@@ -24,14 +23,7 @@ use Rattle.pg_stream.proofs.draw.OwnersOfCells.{columns-same}
 use Rattle.pg_stream.proofs.draw.PartsOfLines.{drawn-none, lines-none, lines-more, line-now}
 use Rattle.pg_stream.proofs.draw.PartsOfLists.{partly-all, partly-below}
 use Rattle.pg_stream.proofs.draw.Steps.{open_none}
-use Rattle.pg_picture.proofs.EqualSeparators.{no-span}
 use Rattle.pg_stream.proofs.printer.WholePictures.{map_range-same, no_slots}
-
--- a row is drawn at once where it has one line and no span is kept
-pub at-once : (n : ℕ) (spans : List Span) (b : Bool) → b ≡ ((n == 1) && (length spans == 0)) → b ≡ true → (n ≡ 1) × (spans ≡ [])
-at-once n spans b is e =
-    let parts = and_parts (n == 1) (length spans == 0) (sym is ∙ e) in
-    (grind (arith, nat_tests, parts.0), no-span spans parts.1)
 
 module _ {A : Type 0} (f : ℕ → A → A) where
   mapped-at : (xs : List A) (i : ℕ) (d : A) → i < length xs → get_or (mapped f 0 xs) i d ≡ f i (get_or xs i d)

@@ -1,10 +1,8 @@
-use Rattle.std.proofs.Common.{◌≡◌, map, refl, sym, ◌∙◌, arith, length}
+use Rattle.std.proofs.Common.{◌≡◌, map, refl, ◌∙◌, subst, arith, length}
 use Rattle.std.specs.Vec.Iter.{into_iter_len}
 use Rattle.std.proofs.lemmas.Iterator.{YieldsList-from_slice}
 use Rattle.std.proofs.lemmas.Iterator.Adapters.{YieldsList-from_vec}
 use Rattle.pg_layout.proofs.Given.{given-items}
-use Rattle.pg_stream.specs.Printers.{now_of}
-use Rattle.pg_stream.specs.Printing.{Printing}
 use Rattle.pg_stream.proofs.stream.LentRows.{given-lent}
 use Rattle.pg_picture.specs.Table.{Table}
 use Rattle.pg_stream.specs.Inside.SingleRows.{IsSingle}

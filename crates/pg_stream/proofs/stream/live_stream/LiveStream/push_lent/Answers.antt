@@ -1,4 +1,4 @@
-use Rattle.std.proofs.Common.{false, map, Some, refl, ap}
+use Rattle.std.proofs.Common.{false, map, refl, ap}
 use Rattle.std.proofs.lemmas.Iterator.{YieldsList-from_slice}
 use Rattle.std.proofs.lemmas.Result.{err_from_is_err_and}
 use Rattle.pg_picture.specs.Inside.Sheets.{bare_table}

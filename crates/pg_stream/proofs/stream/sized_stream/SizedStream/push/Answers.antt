@@ -1,4 +1,4 @@
-use Rattle.std.proofs.Common.{false, List, map, Some, refl, ap, arith}
+use Rattle.std.proofs.Common.{false, List, map, refl, ap, arith}
 use Rattle.std.proofs.lemmas.Bool.{false≢true}
 use Rattle.std.proofs.lemmas.Result.{err_from_is_err_and}
 use Rattle.pg_layout.specs.Text.{Text}
