@@ -80,7 +80,7 @@ ABorderOverridesItsPlaces G = (p : Position) (b : Border G) (old : Overrides G) 
 
 -- So a line is there if it was, or if the border has a glyph for it. The glyph of a place is what the border has for it, else what it was, else the missing glyph if its line is there now.
 pub record BorderGlyphs (p : Position) (b : Border ℕ) (old new : Config) (q : Position) (rows columns : ℕ) : Type 0 where
-  pub line_of_row : has_horizontal new q.row rows ≡ (border_row p (on_lines p b) q.row || has_horizontal old q.row rows)
+  pub row_line : has_horizontal new q.row rows ≡ (border_row p (on_lines p b) q.row || has_horizontal old q.row rows)
   pub column_line : has_vertical new q.col columns ≡ (border_column p (on_lines p b) q.col || has_vertical old q.col columns)
   pub horizontal : get_horizontal new q rows ≡ option_or (border_horizontal p (on_lines p b) q) (option_or (get_horizontal old q rows) (missing_if old (has_horizontal new q.row rows)))
   pub vertical : get_vertical new q columns ≡ option_or (border_vertical p (on_lines p b) q) (option_or (get_vertical old q columns) (missing_if old (has_vertical new q.col columns)))
