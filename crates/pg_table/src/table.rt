@@ -33,24 +33,12 @@ mod title;
 /// let table = Table::new(alloc, rows)?.with_borders(Borders::rounded());
 /// table.print(alloc, &mut buf)?;
 /// ```
-#[derive(Debug)]
+#[derive(Debug, Drop)]
 pub struct Table<T, A: Allocator = Global> {
     records: VecRecords<T, A>,
     config: SpannedConfig<A>,
     // No type of the caller's: that would be one type more for all who name a table.
     colors: ColorsMap<A>,
-}
-
-// Written out, so that a caller's proof has one call where it lets a table go, at each `?` behind `new`.
-impl<T: Drop, A: Allocator> Drop for Table<T, A> {
-    fn drop(self) {
-        let Table {
-            records,
-            config,
-            colors,
-        } = self;
-        drop((records, config, colors));
-    }
 }
 
 impl<T, A: Allocator> Model for Table<T, A> {
