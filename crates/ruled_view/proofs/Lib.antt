@@ -1,10 +1,12 @@
-mod Even
 mod Fields
 mod LatePieces
+mod LentRows
 mod LinesRead
 mod MoreBlocks
 mod MoreColumns
 mod PiecesRead
+mod PlainTexts
+mod RowsWithin
 mod SheetRows
 mod SheetSizes
 mod SheetTexts

@@ -2,16 +2,13 @@
 use Rattle.std.proofs.Common.{◌≡◌, ◌<◌, ◌+◌, ◌∙◌, ◌∷◌, ◌++◌, ℕ, List, Option, None, Result, map, drop, length, get_or, append_assoc, sym, ap, subst}
 use Rattle.std.specs.List.{flat_map}
 use Rattle.std.specs.Option.{option_or}
-use Rattle.std.proofs.lemmas.List.{drop_more}
 use Rattle.pg_layout.specs.Text.{Text}
 use Rattle.pg_config.specs.Config.{Config}
 use Rattle.ruled_view.specs.Blocks.{block_fault, blocks_in_fault}
 use Rattle.ruled_view.specs.Faults.{Tells}
 use Rattle.ruled_view.specs.declared.bounds.Bounds.{Bounds}
 use Rattle.ruled_view.specs.declared.fault.Fault.{Fault}
-
-drop_next : {X : Type 0} (xs : List X) (i : ℕ) (x : X) → i < length xs → x ≡ get_or xs i x → drop i xs ≡ x ∷ drop (i + 1) xs
-drop_next {X} xs i x within is = drop_more xs i x within ∙ ap (λ (y : X). y ∷ drop (i + 1) xs) (sym is)
+use Rattle.ruled_view.proofs.Shown.{drop_next}
 
 -- a text with one block more
 pub text_on : {Y : Type 0} (f : List Text → Text) (view : Y → List Text) (rows : List Y) (i : ℕ) (row : Y) (text block all : Text) → i < length rows → row ≡ get_or rows i row

@@ -1,18 +1,8 @@
 -- Texts and rows that are shown, one after another.
-use Rattle.std.proofs.Common.{◌≡◌, ◌<◌, ◌∙◌, ◌∷◌, ◌++◌, ◌+◌, ℕ, List, [], map, take, length, slice_index_or, append_assoc, refl, sym, ap, arith}
+use Rattle.std.proofs.Common.{◌≡◌, ◌<◌, ◌∙◌, ◌∷◌, ◌++◌, ◌+◌, ℕ, List, [], map, take, drop, length, get_or, slice_index_or, append_assoc, refl, sym, ap, arith}
 use Rattle.std.specs.List.{range_with_len}
-use Rattle.std.proofs.lemmas.List.{map-append, take_more}
+use Rattle.std.proofs.lemmas.List.{drop_more, map-append, take_more}
 use Rattle.std.proofs.lemmas.List.FromFn.{map-range_with_len_more}
-
--- one element more of what is made of the first ones of a list
-pub made_more : {X Z : Type 0} (view : X → Z) (f : ℕ → Z) (made : List X) (x : X) (places : List ℕ) (i : ℕ) → i < length places → view x ≡ f (slice_index_or places i 0)
-    → map view made ≡ map f (take i places) → map view (made ++ x ∷ []) ≡ map f (take (i + 1) places)
-made_more {X} {Z} view f made x places i within is before =
-    map-append view made (x ∷ [])
-    ∙ ap (λ (zs : List Z). zs ++ view x ∷ []) before
-    ∙ ap (λ (z : Z). map f (take i places) ++ z ∷ []) is
-    ∙ sym (map-append f (take i places) (slice_index_or places i 0 ∷ []))
-    ∙ ap (map f) (sym (take_more places i 0 within))
 
 -- one element more of what is made of the first numbers
 pub made_next : {X Z : Type 0} (view : X → Z) (f : ℕ → Z) (made : List X) (x : X) (n : ℕ) → view x ≡ f n
@@ -37,3 +27,26 @@ made_on {X} {Y} {Z} view f made x y old rest all is steps before =
 pub same_numbers : (ns : List ℕ) → map (λ n. n) ns ≡ ns
 same_numbers [] = refl
 same_numbers (n ∷ ns) = ap (λ (ms : List ℕ). n ∷ ms) (same_numbers ns)
+
+-- one element more of what is pushed for the first ones of a list
+pub pushed_more : {X Z : Type 0} (f : X → Z) (made : List Z) (z : Z) (xs : List X) (i : ℕ) (d : X) → i < length xs → z ≡ f (slice_index_or xs i d)
+    → made ≡ map f (take i xs) → made ++ z ∷ [] ≡ map f (take (i + 1) xs)
+pushed_more {X} {Z} f made z xs i d within is before =
+    ap (λ (zs : List Z). zs ++ z ∷ []) before
+    ∙ ap (λ (y : Z). map f (take i xs) ++ y ∷ []) is
+    ∙ sym (map-append f (take i xs) (slice_index_or xs i d ∷ []))
+    ∙ ap (map f) (sym (take_more xs i d within))
+
+-- one element more that a function leaves as it is
+pub same_more : {X : Type 0} (f : X → X) (xs : List X) (i : ℕ) (d : X) → i < length xs → f (slice_index_or xs i d) ≡ slice_index_or xs i d
+    → map f (take i xs) ≡ take i xs → map f (take (i + 1) xs) ≡ take (i + 1) xs
+same_more {X} f xs i d within stays before =
+    ap (map f) (take_more xs i d within)
+    ∙ map-append f (take i xs) (slice_index_or xs i d ∷ [])
+    ∙ ap (λ (ys : List X). ys ++ f (slice_index_or xs i d) ∷ []) before
+    ∙ ap (λ (y : X). take i xs ++ y ∷ []) stays
+    ∙ sym (take_more xs i d within)
+
+-- what is left of a list begins with its next element
+pub drop_next : {X : Type 0} (xs : List X) (i : ℕ) (x : X) → i < length xs → x ≡ get_or xs i x → drop i xs ≡ x ∷ drop (i + 1) xs
+drop_next {X} xs i x within is = drop_more xs i x within ∙ ap (λ (y : X). y ∷ drop (i + 1) xs) (sym is)

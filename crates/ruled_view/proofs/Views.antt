@@ -21,6 +21,12 @@ rows_told (rows.Length row line fields columns) right (Err fault) is told = λ c
 rows_told (rows.Encoding row line) right (Err fault) is told = λ counts. rw (is (λ e. cc), told) refl
 rows_told rows.Memory right (Err fault) is told = λ counts. absurd (true≢false (sym (ap is_failure told) ∙ counts))
 
+-- a fault that is handed on tells what it told
+pub told_on : {X : Type 0} (found : Fault) (right : Option Fault) (result : Result X Fault) → (is_failure found ≡ false → right ≡ Some (but_line found))
+    → IsErrAnd result (λ fault. fault ≡ found) → Tells right result
+told_on found right (Ok x) is told = absurd told
+told_on found right (Err fault) is told = λ counts. rw (is (sym (ap is_failure told) ∙ counts), told) refl
+
 -- what is told first, is told
 pub first_told : {X : Type 0} (found : Fault) (right later : Option Fault) (result : Result X Fault) → (is_failure found ≡ false → right ≡ Some (but_line found))
     → IsErrAnd result (λ fault. fault ≡ found) → Tells (option_or right later) result

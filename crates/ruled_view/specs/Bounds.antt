@@ -3,15 +3,13 @@ use Rattle.std.specs.Prelude.{ℕ, ◌+◌, ◌-◌, ◌^◌, ◌==◌, ◌||◌
 use Rattle.std.specs.List.{range_with_len}
 use Rattle.std.specs.Option.{option_or}
 use Rattle.pg_layout.specs.Colors.{Color}
-use Rattle.pg_layout.specs.ColorsMap.{color_at}
-use Rattle.pg_layout.specs.Records.{columns_of}
 use Rattle.pg_layout.specs.Text.{Text}
 use Rattle.pg_layout.specs.declared.position.Position.{Position}
 use Rattle.pg_config.specs.Config.{Config}
 use Rattle.pg_picture.specs.Table.{Table}
 use Rattle.pg_table.specs.Fitted.{fit_fault, fitted_table}
 use Rattle.pg_table.specs.Natural.{natural_table}
-use Rattle.pg_table.specs.Printing.{Parts, fault_of}
+use Rattle.pg_table.specs.Printing.{fault_of}
 use Rattle.pg_table.specs.declared.fault.TableFault.{TableFault}
 use Rattle.ruled_view.specs.Columns.{told_of}
 use Rattle.ruled_view.specs.declared.bounds.Bounds.{Bounds}
@@ -47,10 +45,3 @@ bounded_table bounds config texts columns color =
 abbrev pub bounded_fault : Bounds → Config → List (List Text) → ℕ → (Position → Option Color) → Option TableFault
 bounded_fault bounds config texts columns color =
     option_or (if are_told bounds then fit_fault config texts columns else None) (fault_of (bounded_table bounds config texts columns color))
-
--- the same of a table with rows of its own, by the texts of its cells
-abbrev pub bounded_rows : {T : Type 0} → (T → Text) → Bounds → Parts T → Table
-bounded_rows text bounds t = bounded_table bounds t.config (map (λ row. map text row) t.rows) (columns_of t.rows) (λ place. color_at place t.colors)
-
-abbrev pub rows_fault : {T : Type 0} → (T → Text) → Bounds → Parts T → Option TableFault
-rows_fault text bounds t = bounded_fault bounds t.config (map (λ row. map text row) t.rows) (columns_of t.rows) (λ place. color_at place t.colors)

@@ -1,5 +1,5 @@
 -- Texts in which Markdown reads no more than text.
-use Rattle.std.specs.Prelude.{ℕ, ◌==◌, List, chars, codes, if◌then◌else◌}
+use Rattle.std.specs.Prelude.{ℕ, ◌==◌, ◌||◌, not, Bool, List, chars, codes, if◌then◌else◌}
 use Rattle.std.specs.List.{flat_map}
 use Rattle.std.specs.Char.{encode_utf8}
 
@@ -10,6 +10,10 @@ escape_of c =
     else if c == 92 then codes "\\\\"
     else if c == 10 then codes "<br>"
     else encode_utf8 c
+
+-- a character for which no other one stands there
+abbrev pub is_plain : ℕ → Bool
+is_plain c = not ((c == 124) || ((c == 92) || (c == 10)))
 
 -- a text as one cell of a table of Markdown
 unfoldable pub escaped_text : List ℕ → List ℕ

@@ -6,6 +6,7 @@ pub mod Faults
 pub mod Formats
 pub mod Input
 pub mod LateRows
+pub mod LentRows
 pub mod Look
 pub mod Numbers
 pub mod Pieces

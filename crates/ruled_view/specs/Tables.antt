@@ -6,7 +6,7 @@ use Rattle.pg_layout.specs.declared.borders.HorizontalLine.{HorizontalLine}
 use Rattle.pg_config.specs.Config.{Config}
 use Rattle.pg_picture.specs.Picture.{picture}
 use Rattle.pg_picture.specs.Table.{Known, Table}
-use Rattle.pg_table.specs.Printing.{Parts, with_header_line}
+use Rattle.pg_table.specs.Printing.{with_header_line}
 use Rattle.ruled_view.specs.Bounds.{bounded_fault, bounded_table}
 use Rattle.ruled_view.specs.declared.bounds.Bounds.{Bounds}
 use Rattle.ruled_view.specs.declared.fault.Fault.{Fault}
@@ -30,7 +30,3 @@ abbrev pub fault_with : Bounds → Config → Option (HorizontalLine ℕ) → Li
 fault_with bounds config line rows =
     if (length rows == 0) || is_none (bounded_fault bounds (with_line line (length rows) (columns_of rows) config) rows (columns_of rows) (λ place. None)) then None
     else Some Totals
-
--- what a table of rows is made of
-abbrev pub table_parts : {X : Type 0} → Config → Option (HorizontalLine ℕ) → List (List X) → Parts X
-table_parts config line rows = record { rows = rows; config = with_line line (length rows) (columns_of rows) config; colors = [] }

@@ -1,50 +1,48 @@
 //! Records as blocks: a table for each record, with a row for each field.
 
-ghost use Rattle.std.specs.Prelude.{◌≡◌, [], map, slice_index_or, string_bytes, IfOk};
+ghost use Rattle.std.specs.Prelude.{◌≡◌, map, string_bytes, IfOk};
+ghost use Rattle.csv.specs.Records.{fields_of};
 ghost use Rattle.ruled_view.specs.Blocks as spec;
 ghost use Rattle.ruled_view.specs.Faults.{Tells};
+ghost use Rattle.ruled_view.specs.LentRows.{fields_at, texts_of};
 ghost use Rattle.ruled_view.specs.View.{look_config};
 
 use crate::bounds::Bounds;
 use crate::fault::Fault;
+use crate::lent_rows::{LentRows, text_in};
 use crate::options::Look;
 use crate::table::{look_config, text_with};
+use csv::StringRecord;
 use std::alloc::{AllocError, Global};
-
-// The text of a row at this place, or an empty one where there is none.
-fn text_at(row: &[String], place: usize) -> &str
-    ensures { result.now ≡ slice_index_or (map string_bytes row.now) place [] }
-{
-    match row.get(place) {
-        Some(text) => text.as_str(),
-        None => "",
-    }
-}
 
 // A field's name and its text.
 fn pair_at(
     alloc: Global,
-    names: &[String],
-    row: &[String],
-    place: usize,
-) -> Result<Vec<String>, AllocError>
-    ensures { IfOk result (λ pair. map string_bytes pair.items ≡ spec.pair_at (map string_bytes names.now) (map string_bytes row.now) place) }
+    names: &StringRecord,
+    fields: &StringRecord,
+    places: &[usize],
+    column: usize,
+) -> Result<StringRecord, AllocError>
+    ensures { IfOk result (λ pair. fields_of pair ≡ spec.pair_at (fields_at places.now (fields_of names.now)) (fields_at places.now (fields_of fields.now)) column) }
 {
-    let name = String::from_str(alloc, text_at(names, place))?;
-    let text = String::from_str(alloc, text_at(row, place))?;
-    let mut pair = Vec::with_capacity(alloc, 2)?;
-    pair.push(name)?;
-    pair.push(text)?;
+    let mut pair = StringRecord::new(alloc);
+    pair.push_field(text_in(names, places, column))?;
+    pair.push_field(text_in(fields, places, column))?;
     Ok(pair)
 }
 
 // A record with these names, field by field.
-fn pairs_of(alloc: Global, names: &[String], row: &[String]) -> Result<Vec<Vec<String>>, AllocError>
-    ensures { IfOk result (λ pairs. map (λ pair. map string_bytes pair.items) pairs.items ≡ spec.pairs_of (map string_bytes names.now) (map string_bytes row.now)) }
+fn pairs_of(
+    alloc: Global,
+    names: &StringRecord,
+    fields: &StringRecord,
+    places: &[usize],
+) -> Result<Vec<StringRecord>, AllocError>
+    ensures { IfOk result (λ pairs. map fields_of pairs.items ≡ spec.pairs_of (fields_at places.now (fields_of names.now)) (fields_at places.now (fields_of fields.now))) }
 {
-    let mut pairs = Vec::with_capacity(alloc, names.len())?;
-    for place in 0..names.len() {
-        let pair = pair_at(alloc, names, row, place)?;
+    let mut pairs = Vec::with_capacity(alloc, places.len())?;
+    for column in 0..places.len() {
+        let pair = pair_at(alloc, names, fields, places, column)?;
         pairs.push(pair)?;
     }
     Ok(pairs)
@@ -55,50 +53,60 @@ fn block_of(
     alloc: Global,
     bounds: &Bounds,
     look: Look,
-    names: &[String],
-    row: &[String],
+    names: &StringRecord,
+    fields: &StringRecord,
+    places: &[usize],
 ) -> Result<String, Fault>
-    ensures text { IfOk result (λ text. string_bytes text ≡ spec.block_of bounds.now (look_config look) (map string_bytes names.now) (map string_bytes row.now)) }
-    ensures fault { Tells (spec.block_fault bounds.now (look_config look) (map string_bytes names.now) (map string_bytes row.now)) result }
+    ensures text { IfOk result (λ text. string_bytes text ≡ spec.block_of bounds.now (look_config look) (fields_at places.now (fields_of names.now)) (fields_at places.now (fields_of fields.now))) }
+    ensures fault { Tells (spec.block_fault bounds.now (look_config look) (fields_at places.now (fields_of names.now)) (fields_at places.now (fields_of fields.now))) result }
 {
     let config = look_config(alloc, look)?;
-    let pairs = pairs_of(alloc, names, row)?;
-    let mut text = text_with(alloc, bounds, config, None, pairs)?;
+    let pairs = pairs_of(alloc, names, fields, places)?;
+    let rows = LentRows {
+        records: &pairs,
+        places: &[0, 1],
+    };
+    let mut text = text_with(alloc, bounds, config, None, rows)?;
     text.push('\n')?;
     Ok(text)
 }
 
-// The blocks of these records.
+// The blocks of these rows.
 fn blocks_in(
     alloc: Global,
     bounds: &Bounds,
     look: Look,
-    names: &[String],
-    rows: &[Vec<String>],
+    names: &StringRecord,
+    rows: LentRows<'_>,
 ) -> Result<String, Fault>
-    ensures text { IfOk result (λ text. string_bytes text ≡ spec.blocks_in bounds.now (look_config look) (map string_bytes names.now) (map (λ row. map string_bytes row.items) rows.now)) }
-    ensures fault { Tells (spec.blocks_in_fault bounds.now (look_config look) (map string_bytes names.now) (map (λ row. map string_bytes row.items) rows.now)) result }
+    ensures text { IfOk result (λ text. string_bytes text ≡ spec.blocks_in bounds.now (look_config look) (fields_at rows.entry.places.now (fields_of names.now)) (texts_of rows.entry)) }
+    ensures fault { Tells (spec.blocks_in_fault bounds.now (look_config look) (fields_at rows.entry.places.now (fields_of names.now)) (texts_of rows.entry)) result }
 {
+    let LentRows { records, places } = rows;
     let mut text = String::new(alloc);
-    for row in rows {
-        let block = block_of(alloc, bounds, look, names, row)?;
+    for fields in records {
+        let block = block_of(alloc, bounds, look, names, fields, places)?;
         text.push_str(&block)?;
     }
     Ok(text)
 }
 
-/// The blocks of the records below a header.
+/// The blocks of the rows below a header.
 pub(crate) fn blocks_of(
     alloc: Global,
     bounds: &Bounds,
     look: Look,
-    rows: &[Vec<String>],
+    rows: LentRows<'_>,
 ) -> Result<String, Fault>
-    ensures text { IfOk result (λ text. string_bytes text ≡ spec.blocks_of bounds.now (look_config look) (map (λ row. map string_bytes row.items) rows.now)) }
-    ensures fault { Tells (spec.blocks_fault bounds.now (look_config look) (map (λ row. map string_bytes row.items) rows.now)) result }
+    ensures text { IfOk result (λ text. string_bytes text ≡ spec.blocks_of bounds.now (look_config look) (texts_of rows.entry)) }
+    ensures fault { Tells (spec.blocks_fault bounds.now (look_config look) (texts_of rows.entry)) result }
 {
-    match rows {
+    let LentRows { records, places } = rows;
+    match records {
         [] => Ok(String::new(alloc)),
-        [names, records @ ..] => blocks_in(alloc, bounds, look, names, records),
+        [names, records @ ..] => {
+            let below = LentRows { records, places };
+            blocks_in(alloc, bounds, look, names, below)
+        }
     }
 }

@@ -4,10 +4,15 @@ ghost use Rattle.std.specs.Prelude.{◌≡◌, ◌≢◌, string_bytes, Err, IfO
 ghost use Rattle.pg_picture.specs.Picture.{picture};
 ghost use Rattle.pg_picture.specs.Table.{Known};
 ghost use Rattle.pg_table.specs.declared.fault.TableFault.{TableFault};
+ghost use Rattle.pg_layout.specs.Records.{columns_of};
 ghost use Rattle.ruled_view.specs.Bounds as spec;
+ghost use Rattle.ruled_view.specs.LentRows.{texts_of};
 
 use crate::columns::told_of;
-use pg_table::{Overflow, Table, TableFault};
+use crate::lent_rows::LentRows;
+use pg_config::SpannedConfig;
+use pg_layout::{NoColors, Records};
+use pg_table::{NaturalTable, Overflow, TableFault};
 use std::alloc::{AllocError, Global};
 
 /// How wide a table may be, and what becomes of texts that are wider than their columns.
@@ -65,16 +70,23 @@ impl Bounds {
         Ok(limits)
     }
 
-    /// The picture of a table within the bounds, where some are told, and else at its natural sizes.
-    pub(crate) fn picture(&self, alloc: Global, table: &Table<String>) -> Result<String, TableFault>
-        ensures text { IfOk result (λ text. string_bytes text ≡ picture Known (spec.bounded_rows string_bytes self.now table.now)) }
-        ensures ok { IsOk result → spec.rows_fault string_bytes self.now table.now ≡ None }
-        ensures fault { (fault : TableFault) → result ≡ Err fault → fault ≢ TableFault.Memory → is_none (spec.rows_fault string_bytes self.now table.now) ≡ false }
+    /// The picture of the table of these rows within the bounds, where some are told, and else at its
+    /// natural sizes.
+    pub(crate) fn picture(
+        &self,
+        alloc: Global,
+        config: &SpannedConfig,
+        rows: LentRows<'_>,
+    ) -> Result<String, TableFault>
+        ensures text { IfOk result (λ text. string_bytes text ≡ picture Known (spec.bounded_table self.now config.now (texts_of rows.entry) (columns_of (texts_of rows.entry)) (λ place. None))) }
+        ensures ok { IsOk result → spec.bounded_fault self.now config.now (texts_of rows.entry) (columns_of (texts_of rows.entry)) (λ place. None) ≡ None }
+        ensures fault { (fault : TableFault) → result ≡ Err fault → fault ≢ TableFault.Memory → is_none (spec.bounded_fault self.now config.now (texts_of rows.entry) (columns_of (texts_of rows.entry)) (λ place. None)) ≡ false }
     {
+        let table = NaturalTable::new(rows, config, &NoColors);
         if !self.are_told() {
             return table.to_string(alloc);
         }
-        let limits = self.limits(alloc, table.count_columns())?;
+        let limits = self.limits(alloc, rows.count_columns())?;
         let fitted = table.within_limits(alloc, self.width(), &limits, self.overflow)?;
         fitted.to_string(alloc)
     }

@@ -1,7 +1,8 @@
 //! Texts in which Markdown reads no more than text.
 
-ghost use Rattle.std.specs.Prelude.{◌≡◌, ◌++◌, string_bytes, IfOk, OnOk};
-ghost use Rattle.ruled_view.specs.Escapes.{escape_of, escaped_text};
+ghost use Rattle.std.specs.Prelude.{◌≡◌, ◌++◌, true, chars, string_bytes, IfOk, OnOk};
+ghost use Rattle.std.specs.List.{list_all};
+ghost use Rattle.ruled_view.specs.Escapes.{escape_of, escaped_text, is_plain};
 
 use std::alloc::{AllocError, Global};
 
@@ -15,6 +16,27 @@ fn push_escaped(c: char, text: &mut String) -> Result<(), AllocError>
         '\n' => text.push_str("<br>"),
         _ => text.push(c),
     }
+}
+
+// Whether no other character stands for this one.
+fn is_plain(c: char) -> bool
+    ensures { result ≡ is_plain c }
+{
+    !(c == '|' || c == '\\' || c == '\n')
+}
+
+// Whether each character of a text is plain.
+fn has_plain_alone(text: &str) -> bool
+    ensures { result ≡ list_all is_plain (chars text.now) }
+{
+    text.chars().all(|c| is_plain(c))
+}
+
+/// Whether a text is as it stands one cell of a table of Markdown.
+pub(crate) fn is_plain_text(text: &str) -> bool
+    ensures { result ≡ true → escaped_text text.now ≡ text.now }
+{
+    has_plain_alone(text)
 }
 
 /// A text as one cell of a table of Markdown: a bar is `\|`, a backslash `\\`, and a line feed `<br>`.

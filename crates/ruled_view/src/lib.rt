@@ -9,6 +9,7 @@ mod fault;
 mod formats;
 mod input;
 mod late_rows;
+mod lent_rows;
 mod numbers;
 mod options;
 mod pieces;

@@ -1,69 +1,128 @@
-//! The rows that are shown, as texts.
+//! The rows that are shown: a record whose fields show as they stand is taken as it is, and else made anew.
 
-ghost use Rattle.std.specs.Prelude.{◌≡◌, map, string_bytes, IfOk};
+ghost use Rattle.std.specs.Cow.{cow_str_bytes};
+ghost use Rattle.std.specs.Prelude.{◌≡◌, map, true, IfOk};
 ghost use Rattle.csv.specs.Records.{fields_of};
-ghost use Rattle.ruled_view.specs.View.{heads, seen_text, shown_row, shown_text, limit_of};
+ghost use Rattle.ruled_view.specs.View.{heads, seen_text, shown_text, limit_of};
 
 use crate::columns::field_at;
-use crate::escapes::escaped;
+use crate::escapes::{escaped, is_plain_text};
 use crate::options::Options;
 use csv::StringRecord;
-use pg_fit::visible;
+use pg_fit::{is_visible, visible};
 use std::alloc::{AllocError, Global};
+use std::borrow::CowStr;
+
+// Whether nothing of a text has to be made visible: it is to be sent as it is, or has no control characters.
+fn is_seen(is_raw: bool, text: &str) -> bool
+    ensures { result ≡ true → seen_text is_raw text.now ≡ text.now }
+{
+    if !is_raw {
+        return is_visible(text);
+    }
+    true
+}
 
 // A text in which control characters are seen, unless it is to be sent as it is.
-fn seen_text(alloc: Global, is_raw: bool, text: &str) -> Result<String, AllocError>
-    ensures { IfOk result (λ seen. string_bytes seen ≡ seen_text is_raw text.now) }
+fn seen_text(alloc: Global, is_raw: bool, text: &str) -> Result<CowStr<'_>, AllocError>
+    ensures { IfOk result (λ seen. cow_str_bytes seen ≡ seen_text is_raw text.now) }
 {
     if is_raw {
-        return Ok(String::from_str(alloc, text)?);
+        return Ok(CowStr::Borrowed(text));
     }
-    visible(alloc, text)
+    if is_visible(text) {
+        return Ok(CowStr::Borrowed(text));
+    }
+    Ok(CowStr::Owned(visible(alloc, text)?))
 }
 
-// A text as it is shown.
-fn shown_text(alloc: Global, options: &Options, text: &str) -> Result<String, AllocError>
-    ensures { IfOk result (λ shown. string_bytes shown ≡ shown_text options.now text.now) }
+/// A text as it is shown: lent where it stands as it is, and else made.
+pub(crate) fn shown_text<'a>(
+    alloc: Global,
+    options: &Options,
+    text: &'a str,
+) -> Result<CowStr<'a>, AllocError>
+    ensures { IfOk result (λ shown. cow_str_bytes shown ≡ shown_text options.now text.now) }
 {
     let seen = seen_text(alloc, options.is_raw, text)?;
-    if options.is_markdown {
-        return escaped(alloc, &seen);
+    if !options.is_markdown {
+        return Ok(seen);
     }
-    Ok(seen)
+    if is_plain_text(seen.as_str()) {
+        return Ok(seen);
+    }
+    Ok(CowStr::Owned(escaped(alloc, seen.as_str())?))
 }
 
-/// A row as it is shown: its fields at these places.
-pub(crate) fn shown_row(
+// Whether a text is shown as it stands.
+fn stands(options: &Options, text: &str) -> bool
+    ensures { result ≡ true → shown_text options.now text.now ≡ text.now }
+{
+    if !is_seen(options.is_raw, text) {
+        return false;
+    }
+    if !options.is_markdown {
+        return true;
+    }
+    is_plain_text(text)
+}
+
+// Whether each field of a record is.
+fn all_stand(options: &Options, fields: &StringRecord) -> bool
+    ensures { result ≡ true → map (shown_text options.now) (fields_of fields.now) ≡ fields_of fields.now }
+{
+    for place in 0..fields.len() {
+        if !stands(options, field_at(fields, place)) {
+            return false;
+        }
+    }
+    true
+}
+
+// A record of the texts that are shown of a record's fields.
+fn made_record(
     alloc: Global,
     options: &Options,
-    places: &[usize],
     fields: &StringRecord,
-) -> Result<Vec<String>, AllocError>
-    ensures { IfOk result (λ row. map string_bytes row.items ≡ shown_row options.now places.now (fields_of fields.now)) }
+) -> Result<StringRecord, AllocError>
+    ensures { IfOk result (λ shown. fields_of shown ≡ map (shown_text options.now) (fields_of fields.now)) }
 {
-    let mut row = Vec::with_capacity(alloc, places.len())?;
-    for place in places {
-        let text = shown_text(alloc, options, field_at(fields, *place))?;
-        row.push(text)?;
+    let mut shown = StringRecord::new(alloc);
+    for place in 0..fields.len() {
+        let text = shown_text(alloc, options, field_at(fields, place))?;
+        shown.push_field(text.as_str())?;
     }
-    Ok(row)
+    Ok(shown)
 }
 
-/// Rows as they are shown.
-pub(crate) fn texts_of(
+// The same, which is the record itself where each of its fields is shown as it stands.
+fn shown_record(
     alloc: Global,
     options: &Options,
-    places: &[usize],
-    records: &[StringRecord],
-) -> Result<Vec<Vec<String>>, AllocError>
-    ensures { IfOk result (λ texts. map (λ row. map string_bytes row.items) texts.items ≡ map (shown_row options.now places.now) (map fields_of records.now)) }
+    fields: StringRecord,
+) -> Result<StringRecord, AllocError>
+    ensures { IfOk result (λ shown. fields_of shown ≡ map (shown_text options.now) (fields_of fields)) }
 {
-    let mut texts = Vec::with_capacity(alloc, records.len())?;
-    for fields in records {
-        let row = shown_row(alloc, options, places, fields)?;
-        texts.push(row)?;
+    if all_stand(options, &fields) {
+        return Ok(fields);
     }
-    Ok(texts)
+    made_record(alloc, options, &fields)
+}
+
+/// Records of the texts that are shown of these.
+pub(crate) fn shown_records(
+    alloc: Global,
+    options: &Options,
+    records: Vec<StringRecord>,
+) -> Result<Vec<StringRecord>, AllocError>
+    ensures { IfOk result (λ rows. map fields_of rows.items ≡ map (map (shown_text options.now)) (map fields_of records.items)) }
+{
+    let mut rows = Vec::with_capacity(alloc, records.len())?;
+    for fields in records {
+        let row = shown_record(alloc, options, fields)?;
+        rows.push(row)?;
+    }
+    Ok(rows)
 }
 
 // How many rows are shown at most, where that is told.
@@ -74,8 +133,8 @@ fn limit_of(options: &Options) -> Option<usize>
     Some(if options.has_header { rows + 1 } else { rows })
 }
 
-// The rows that are shown.
-fn heads(options: &Options, rows: Vec<StringRecord>) -> Vec<StringRecord>
+/// The rows that are shown.
+pub(crate) fn heads(options: &Options, rows: Vec<StringRecord>) -> Vec<StringRecord>
     ensures { map fields_of result.items ≡ heads options.now (map fields_of rows.items) }
 {
     let mut heads = rows;
@@ -83,22 +142,4 @@ fn heads(options: &Options, rows: Vec<StringRecord>) -> Vec<StringRecord>
         heads.truncate(limit);
     }
     heads
-}
-
-/// The rows that are shown, of all of them, as texts.
-pub(crate) fn shown_rows(
-    alloc: Global,
-    options: &Options,
-    places: &[usize],
-    all: Vec<StringRecord>,
-) -> Result<Vec<Vec<String>>, AllocError>
-    ensures { IfOk result (λ rows. map (λ row. map string_bytes row.items) rows.items ≡ map (shown_row options.now places.now) (heads options.now (map fields_of all.items))) }
-{
-    let heads = heads(options, all);
-    let mut rows = Vec::with_capacity(alloc, heads.len())?;
-    for fields in heads {
-        let row = shown_row(alloc, options, places, &fields)?;
-        rows.push(row)?;
-    }
-    Ok(rows)
 }

@@ -1,47 +1,51 @@
 //! At which side of its cells the texts of a column stand.
 
-ghost use Rattle.std.specs.Prelude.{◌≡◌, [], map, slice_index_or, string_bytes, OnOk};
+ghost use Rattle.std.specs.Prelude.{◌≡◌, [], slice_index_or, OnOk};
 ghost use Rattle.std.specs.List.{list_all};
+ghost use Rattle.csv.specs.Records.{fields_of};
 ghost use Rattle.pg_layout.specs.Records.{columns_of};
+ghost use Rattle.ruled_view.specs.LentRows.{fields_at, texts_of};
 ghost use Rattle.ruled_view.specs.Sides as spec;
 
 use crate::columns::told_of;
+use crate::lent_rows::{LentRows, text_in};
 use crate::numbers::{is_blank, is_number};
+use csv::StringRecord;
 use pg_config::SpannedConfig;
-use pg_layout::{AlignmentHorizontal, Entity};
+use pg_layout::{AlignmentHorizontal, Entity, Records};
 use std::alloc::AllocError;
 
 // Whether the text of a row in this column is a number or blank.
-fn has_number(row: &[String], column: usize) -> bool
-    ensures { result ≡ spec.is_numeric_text (slice_index_or (map string_bytes row.now) column []) }
+fn has_number(fields: &StringRecord, places: &[usize], column: usize) -> bool
+    ensures { result ≡ spec.is_numeric_text (slice_index_or (fields_at places.now (fields_of fields.now)) column []) }
 {
-    match row.get(column) {
-        Some(text) => is_blank(text) || is_number(text),
-        None => true,
-    }
+    let text = text_in(fields, places, column);
+    is_blank(text) || is_number(text)
 }
 
 // Whether each row has a number or a blank text in the column.
-fn have_numbers(rows: &[Vec<String>], column: usize) -> bool
-    ensures { result ≡ list_all (λ row. spec.is_numeric_text (slice_index_or (map string_bytes row.items) column [])) rows.now }
+fn have_numbers(records: &[StringRecord], places: &[usize], column: usize) -> bool
+    ensures { result ≡ list_all (λ fields. spec.is_numeric_text (slice_index_or (fields_at places.now (fields_of fields)) column [])) records.now }
 {
-    rows.iter().all(|row| has_number(row, column))
+    records
+        .iter()
+        .all(|fields| has_number(fields, places, column))
 }
 
 // Whether each text of the column is a number or blank.
-fn is_numeric(rows: &[Vec<String>], column: usize) -> bool
-    ensures { result ≡ spec.is_numeric (map (λ row. map string_bytes row.items) rows.now) column }
+fn is_numeric(rows: LentRows<'_>, column: usize) -> bool
+    ensures { result ≡ spec.is_numeric (texts_of rows.entry) column }
 {
-    have_numbers(rows, column)
+    have_numbers(rows.records, rows.places, column)
 }
 
-// The rows below a header.
-fn body_of(has_header: bool, rows: &[Vec<String>]) -> &[Vec<String>]
-    ensures { result.now ≡ spec.body_of has_header rows.now }
+// The records below a header.
+fn body_of(has_header: bool, records: &[StringRecord]) -> &[StringRecord]
+    ensures { result.now ≡ spec.body_of has_header records.now }
 {
-    match rows {
+    match records {
         [_, body @ ..] if has_header => body,
-        _ => rows,
+        _ => records,
     }
 }
 
@@ -49,14 +53,18 @@ fn body_of(has_header: bool, rows: &[Vec<String>]) -> &[Vec<String>]
 fn side_of(
     has_header: bool,
     sides: &[Option<AlignmentHorizontal>],
-    rows: &[Vec<String>],
+    rows: LentRows<'_>,
     column: usize,
 ) -> AlignmentHorizontal
-    ensures { result ≡ spec.side_of has_header sides.now (map (λ row. map string_bytes row.items) rows.now) column }
+    ensures { result ≡ spec.side_of has_header sides.now (texts_of rows.entry) column }
 {
+    let body = LentRows {
+        records: body_of(has_header, rows.records),
+        places: rows.places,
+    };
     match told_of(sides, column) {
         Some(side) => side,
-        None if is_numeric(body_of(has_header, rows), column) => AlignmentHorizontal::Right,
+        None if is_numeric(body, column) => AlignmentHorizontal::Right,
         None => AlignmentHorizontal::Left,
     }
 }
@@ -75,26 +83,16 @@ fn set_side(
     }
 }
 
-/// How many columns the rows have.
-pub(crate) fn columns_of(rows: &[Vec<String>]) -> usize
-    ensures { result ≡ columns_of (map (λ row. row.items) rows.now) }
-{
-    match rows {
-        [row, ..] => row.len(),
-        [] => 0,
-    }
-}
-
 /// Sets the side of each column of these rows: that which is said of it, or else the right of numbers.
 pub(crate) fn set_sides(
     config: &mut SpannedConfig,
     has_header: bool,
     sides: &[Option<AlignmentHorizontal>],
-    rows: &[Vec<String>],
+    rows: LentRows<'_>,
 ) -> Result<(), AllocError>
-    ensures { OnOk result (config.new ≡ record config.old { alignment_horizontal = spec.with_sides (spec.side_of has_header sides.now (map (λ row. map string_bytes row.items) rows.now)) (columns_of (map (λ row. row.items) rows.now)) config.old.alignment_horizontal }) }
+    ensures { OnOk result (config.new ≡ record config.old { alignment_horizontal = spec.with_sides (spec.side_of has_header sides.now (texts_of rows.entry)) (columns_of (texts_of rows.entry)) config.old.alignment_horizontal }) }
 {
-    for column in 0..columns_of(rows) {
+    for column in 0..rows.count_columns() {
         set_side(config, column, side_of(has_header, sides, rows, column))?;
     }
     Ok(())

@@ -1,6 +1,6 @@
 //! A run of the program that shows each row when it comes.
 
-ghost use Rattle.std.specs.Prelude.{◌≡◌, ◌⊎◌, ◌++◌, ◌∷◌, ℕ, [], map, length, true, false, None, Some, Err, IfOk, IfSome, OnOk};
+ghost use Rattle.std.specs.Prelude.{◌≡◌, ◌⊎◌, ◌++◌, ◌∷◌, ℕ, [], map, length, string_bytes, true, false, None, Some, Err, IfOk, IfSome, OnOk};
 ghost use Rattle.std.specs.Io.KnownBytes.{Appends, Keeps};
 ghost use Rattle.csv.specs.Records.{fields_of};
 ghost use Rattle.pg_fit.specs.Rows.{row_height};
@@ -14,23 +14,24 @@ ghost use Rattle.ruled_view.specs.Stream.{Draws, Ends, StreamStops, Streams, Str
 ghost use Rattle.ruled_view.specs.declared.fault.Fault.{Fault};
 ghost use Rattle.ruled_view.specs.declared.options.Options.{Options};
 
-use crate::columns::places_of;
+use crate::columns::{field_at, places_of};
 use crate::fault::{Fault, StreamedFault};
 use crate::formats::{Format, format_of_line, is_database};
 use crate::input::rows_of;
 use crate::late_rows::rows_in_piece;
+use crate::lent_rows::LentRows;
 use crate::options::Options;
 use crate::pieces::{Ahead, has_row, read_line, read_piece, read_pieces};
 use crate::program::{Ending, ending_of, fault_of_write};
-use crate::rows::{shown_row, texts_of};
+use crate::rows::{shown_records, shown_text};
 use crate::sheet::{
-    Sheet, row_within, sheet_config, sizes_of_rows, write_end, write_first_row, write_rows,
+    Sheet, room_of, sheet_config, sizes_of_rows, text_within, write_end, write_first_row, write_row,
 };
 use csv::StringRecord;
 use pg_config::SpannedConfig;
 use pg_layout::{ConstantDimension, NoColors};
 use pg_stream::SizedStream;
-use std::alloc::Global;
+use std::alloc::{AllocError, Global};
 use std::io::{BufRead, BufReader, Cursor, Read, Write};
 
 // What the first rows say of those behind them.
@@ -48,6 +49,26 @@ fn feeds_in(bytes: &[u8]) -> usize {
     bytes.iter().filter(|byte| **byte == b'\n').count()
 }
 
+// A row as it is shown, with its texts within their columns. They are its own, since a sheet takes cells of one
+// type as long as it lives.
+fn row_within(
+    alloc: Global,
+    columns: &Columns<'_>,
+    fields: &StringRecord,
+) -> Result<Vec<String>, AllocError>
+    ensures { IfOk result (λ cells. map string_bytes cells.items ≡ row_by columns.now (fields_of fields.now)) }
+{
+    let places = columns.places;
+    let mut cells = Vec::with_capacity(alloc, places.len())?;
+    for place in places {
+        let text = shown_text(alloc, columns.options, field_at(fields, *place))?;
+        let room = room_of(columns.widths, cells.len());
+        let cell = text_within(alloc, columns.options.bounds.overflow, room, text)?;
+        cells.push(cell)?;
+    }
+    Ok(cells)
+}
+
 // Writes row 0.
 fn write_header<W: Write>(
     alloc: Global,
@@ -59,10 +80,28 @@ fn write_header<W: Write>(
     ensures after { (heights : ℕ → ℕ) → IsNextHeight (state_of heights sheet.old).printed (row_height (row_by columns.now (fields_of columns.now.header.now))) → OnOk result ((state_of heights sheet.new).printed ≡ after_row (state_of heights sheet.old).printed (row_by columns.now (fields_of columns.now.header.now)) false) }
     ensures room { (heights : ℕ → ℕ) → IsNextHeight (state_of heights sheet.old).printed (row_height (row_by columns.now (fields_of columns.now.header.now))) → TellsRoom (state_of heights sheet.old).printed (row_by columns.now (fields_of columns.now.header.now)) (W.contents out.old) (W.contents out.new) result }
 {
-    let row = shown_row(alloc, columns.options, columns.places, columns.header)?;
-    let overflow = columns.options.bounds.overflow;
-    let cells = row_within(alloc, overflow, columns.widths, row)?;
+    let cells = row_within(alloc, columns, columns.header)?;
     write_first_row(alloc, sheet, cells, out)
+}
+
+// Writes rows.
+fn write_rows<W: Write>(
+    alloc: Global,
+    columns: &Columns<'_>,
+    sheet: &mut Sheet<'_>,
+    records: &[StringRecord],
+    buf: &mut String,
+    out: &mut W,
+) -> Result<(), Fault>
+    ensures written { (heights : ℕ → ℕ) → CountsLines (state_of heights sheet.old).printed → AreHeights (state_of heights sheet.old).printed (cells_by columns.now (map fields_of records.now)) → OnOk result (Appends (W.contents out.old) (W.contents out.new) (lines_of (state_of heights sheet.old).printed (cells_by columns.now (map fields_of records.now)))) }
+    ensures after { (heights : ℕ → ℕ) → CountsLines (state_of heights sheet.old).printed → AreHeights (state_of heights sheet.old).printed (cells_by columns.now (map fields_of records.now)) → OnOk result ((state_of heights sheet.new).printed ≡ after_rows (state_of heights sheet.old).printed (cells_by columns.now (map fields_of records.now))) }
+    ensures rooms { (heights : ℕ → ℕ) → CountsLines (state_of heights sheet.old).printed → AreHeights (state_of heights sheet.old).printed (cells_by columns.now (map fields_of records.now)) → TellsRooms (state_of heights sheet.old).printed (cells_by columns.now (map fields_of records.now)) (W.contents out.old) (W.contents out.new) result }
+{
+    for fields in records {
+        let cells = row_within(alloc, columns, fields)?;
+        write_row(sheet, cells, buf, out)?;
+    }
+    Ok(())
 }
 
 // Shows what was written, where the next row isn't there yet.
@@ -87,21 +126,14 @@ fn write_records<R: Ahead, W: Write>(
     sheet: &mut Sheet<'_>,
     records: &[StringRecord],
     reader: &R,
+    buf: &mut String,
     out: &mut W,
 ) -> Result<(), Fault>
     ensures written { (heights : ℕ → ℕ) → CountsLines (state_of heights sheet.old).printed → AreHeights (state_of heights sheet.old).printed (cells_by columns.now (map fields_of records.now)) → OnOk result (Appends (W.contents out.old) (W.contents out.new) (lines_of (state_of heights sheet.old).printed (cells_by columns.now (map fields_of records.now)))) }
     ensures after { (heights : ℕ → ℕ) → CountsLines (state_of heights sheet.old).printed → AreHeights (state_of heights sheet.old).printed (cells_by columns.now (map fields_of records.now)) → OnOk result ((state_of heights sheet.new).printed ≡ after_rows (state_of heights sheet.old).printed (cells_by columns.now (map fields_of records.now))) }
     ensures rooms { (heights : ℕ → ℕ) → CountsLines (state_of heights sheet.old).printed → AreHeights (state_of heights sheet.old).printed (cells_by columns.now (map fields_of records.now)) → TellsRooms (state_of heights sheet.old).printed (cells_by columns.now (map fields_of records.now)) (W.contents out.old) (W.contents out.new) result }
 {
-    let rows = texts_of(alloc, columns.options, columns.places, records)?;
-    write_rows(
-        alloc,
-        columns.options.bounds.overflow,
-        columns.widths,
-        sheet,
-        rows,
-        out,
-    )?;
+    write_rows(alloc, columns, sheet, records, buf, out)?;
     show_before_read(columns.format, reader, out)
 }
 
@@ -126,6 +158,7 @@ fn write_late<R: BufRead + Ahead, W: Write>(
     mut sheet: Sheet<'_>,
     mut lines: usize,
     reader: &mut R,
+    buf: &mut String,
     out: &mut W,
 ) -> Result<(), Fault>
     ensures { (heights : ℕ → ℕ) → IfSome (R.remaining reader.old) (λ left. CountsLines (state_of heights sheet.entry).printed → AreHeights (state_of heights sheet.entry).printed (cells_by columns.now (late_rows columns.now.format (fields_of columns.now.header.now) (pieces_of columns.now.format left))) → Ends (state_of heights sheet.entry).printed (cells_by columns.now (late_rows columns.now.format (fields_of columns.now.header.now) (pieces_of columns.now.format left))) (are_bad columns.now.format (fields_of columns.now.header.now) (pieces_of columns.now.format left)) (W.contents out.old) (W.contents out.new) result) }
@@ -136,7 +169,7 @@ fn write_late<R: BufRead + Ahead, W: Write>(
             return write_end(alloc, sheet, out);
         }
         let records = rows_behind(alloc, columns, lines, &piece)?;
-        write_records(alloc, columns, &mut sheet, &records, reader, out)?;
+        write_records(alloc, columns, &mut sheet, &records, reader, buf, out)?;
         lines = lines.saturating_add(feeds_in(&piece));
     }
     Err(Fault::Read)
@@ -157,8 +190,9 @@ fn write_sheet<R: BufRead + Ahead, W: Write>(
     let count = columns.places.len();
     let mut sheet = SizedStream::new(alloc, config, columns.widths, &NoColors, count)?;
     write_header(alloc, columns, &mut sheet, out)?;
-    write_records(alloc, columns, &mut sheet, records, reader, out)?;
-    write_late(alloc, columns, sheet, lines, reader, out)
+    let mut buf = String::new(alloc);
+    write_records(alloc, columns, &mut sheet, records, reader, &mut buf, out)?;
+    write_late(alloc, columns, sheet, lines, reader, &mut buf, out)
 }
 
 // Where the first pieces hold no row, no others may come.
@@ -187,8 +221,13 @@ fn write_table<R: BufRead + Ahead, W: Write>(
         return end_without_rows(alloc, format, reader);
     };
     let places = places_of(alloc, &options.columns, records)?;
-    let rows = texts_of(alloc, options, &places, records)?;
-    let config = sheet_config(alloc, options, &rows)?;
+    let copies = Vec::from_clones(alloc, records)?;
+    let shown = shown_records(alloc, options, copies)?;
+    let rows = LentRows {
+        records: &shown,
+        places: &places,
+    };
+    let config = sheet_config(alloc, options, rows)?;
     let widths = sizes_of_rows(alloc, &options.bounds, &config, rows)?;
     let columns = Columns {
         options,

@@ -1,13 +1,14 @@
 //! The text of the table that bytes hold.
 
-ghost use Rattle.std.specs.Prelude.{◌≡◌, ◌∷◌, ◌++◌, [], map, string_bytes, IfOk, is_none, if◌then◌else◌, ◌⊎◌, Some, None, Err};
+ghost use Rattle.std.specs.Prelude.{◌≡◌, ◌∷◌, ◌++◌, [], map, string_bytes, IfOk, OnOk, is_none, if◌then◌else◌, ◌⊎◌, Some, None};
 ghost use Rattle.csv.specs.Records.{fields_of};
-ghost use Rattle.pg_layout.specs.Records.{ragged_row};
+ghost use Rattle.pg_layout.specs.Records.{columns_of};
 ghost use Rattle.pg_picture.specs.Picture.{picture};
 ghost use Rattle.pg_picture.specs.Table.{Known};
-ghost use Rattle.ruled_view.specs.Bounds.{bounded_rows, rows_fault};
+ghost use Rattle.ruled_view.specs.Bounds.{bounded_fault, bounded_table};
 ghost use Rattle.ruled_view.specs.Faults.{Tells};
-ghost use Rattle.ruled_view.specs.Tables.{fault_with, table_parts, text_with};
+ghost use Rattle.ruled_view.specs.LentRows.{texts_of};
+ghost use Rattle.ruled_view.specs.Tables.{fault_with, text_with, with_line};
 ghost use Rattle.ruled_view.specs.View.{line_in, look_config, sided_config, table_fault, table_text, text_of, totals_fault, view_fault, view_text};
 ghost use Rattle.ruled_view.specs.declared.fault.Fault.{Fault};
 ghost use Rattle.pg_table.specs.declared.fault.TableFault.{TableFault};
@@ -17,13 +18,14 @@ use crate::bounds::Bounds;
 use crate::columns::places_of;
 use crate::fault::Fault;
 use crate::input::rows_in;
+use crate::lent_rows::LentRows;
 use crate::options::{Look, Options};
-use crate::rows::shown_rows;
+use crate::rows::{heads, shown_records};
 use crate::sides::set_sides;
 use csv::StringRecord;
 use pg_config::SpannedConfig;
-use pg_layout::{Entity, HorizontalLine, Indent, Sides};
-use pg_table::{Table, TableFault};
+use pg_layout::{Entity, ExactRecords, HorizontalLine, Indent, Records, Sides};
+use pg_table::TableFault;
 use std::alloc::{AllocError, Global};
 
 /// What a table looks like, but for the line below its header.
@@ -52,30 +54,27 @@ pub(crate) fn line_in(options: &Options) -> Option<HorizontalLine<char>>
 pub(crate) fn sided_config(
     alloc: Global,
     options: &Options,
-    rows: &[Vec<String>],
+    rows: LentRows<'_>,
 ) -> Result<SpannedConfig, AllocError>
-    ensures { IfOk result (λ config. config ≡ sided_config options.now (map (λ row. map string_bytes row.items) rows.now)) }
+    ensures { IfOk result (λ config. config ≡ sided_config options.now (texts_of rows.entry)) }
 {
     let mut config = look_config(alloc, options.look)?;
     set_sides(&mut config, options.has_header, &options.sides, rows)?;
     Ok(config)
 }
 
-// The table of rows of equal length, with this line below row 0.
-fn table_with(
-    alloc: Global,
-    config: SpannedConfig,
+/// Sets the line below a header, where the table has one, and rows below it.
+pub(crate) fn set_line_below(
+    config: &mut SpannedConfig,
     line: Option<HorizontalLine<char>>,
-    rows: Vec<Vec<String>>,
-) -> Result<Table<String>, TableFault>
-    requires even { ragged_row (map (λ row. row.items) rows.items) ≡ None }
-    ensures parts { IfOk result (λ table. table ≡ table_parts config line (map (λ row. row.items) rows.items)) }
-    ensures memory { (fault : TableFault) → result ≡ Err fault → fault ≡ TableFault.Memory }
+    rows: usize,
+    columns: usize,
+) -> Result<(), AllocError>
+    ensures { OnOk result (config.new ≡ with_line line rows columns config.old) }
 {
-    let table = Table::new(alloc, rows)?.with_config(config);
     match line {
-        Some(line) => table.with_header_line(line),
-        None => Ok(table),
+        Some(line) if rows > 1 => config.set_row_line(1, columns, line),
+        _ => Ok(()),
     }
 }
 
@@ -90,48 +89,50 @@ pub(crate) fn fault_in(fault: TableFault) -> Fault
     }
 }
 
-// The picture of a table within its bounds, and a line feed.
-fn picture_of(alloc: Global, bounds: &Bounds, table: &Table<String>) -> Result<String, Fault>
-    ensures text { IfOk result (λ text. string_bytes text ≡ picture Known (bounded_rows string_bytes bounds.now table.now) ++ 10 ∷ []) }
-    ensures fault { Tells (if is_none (rows_fault string_bytes bounds.now table.now) then None else Some Fault.Totals) result }
+// The picture of the table of these rows within its bounds, and a line feed.
+fn picture_of(
+    alloc: Global,
+    bounds: &Bounds,
+    config: &SpannedConfig,
+    rows: LentRows<'_>,
+) -> Result<String, Fault>
+    ensures text { IfOk result (λ text. string_bytes text ≡ picture Known (bounded_table bounds.now config.now (texts_of rows.entry) (columns_of (texts_of rows.entry)) (λ place. None)) ++ 10 ∷ []) }
+    ensures fault { Tells (if is_none (bounded_fault bounds.now config.now (texts_of rows.entry) (columns_of (texts_of rows.entry)) (λ place. None)) then None else Some Fault.Totals) result }
 {
-    let mut text = bounds.picture(alloc, table).map_err(fault_in)?;
+    let mut text = bounds.picture(alloc, config, rows).map_err(fault_in)?;
     text.push('\n')?;
     Ok(text)
 }
 
-/// The text of the table of rows of equal length, with this line below row 0, within its bounds.
+/// The text of the table of these rows, with this line below row 0, within its bounds.
 pub(crate) fn text_with(
     alloc: Global,
     bounds: &Bounds,
     config: SpannedConfig,
     line: Option<HorizontalLine<char>>,
-    rows: Vec<Vec<String>>,
+    rows: LentRows<'_>,
 ) -> Result<String, Fault>
-    requires even { ragged_row (map (λ row. row.items) rows.items) ≡ None }
-    ensures text { IfOk result (λ text. string_bytes text ≡ text_with bounds.now config line (map (λ row. map string_bytes row.items) rows.items)) }
-    ensures fault { Tells (fault_with bounds.now config line (map (λ row. map string_bytes row.items) rows.items)) result }
+    ensures text { IfOk result (λ text. string_bytes text ≡ text_with bounds.now config line (texts_of rows.entry)) }
+    ensures fault { Tells (fault_with bounds.now config line (texts_of rows.entry)) result }
 {
-    if rows.is_empty() {
+    let (count, columns) = (rows.count_rows(), rows.count_columns());
+    if count == 0 {
         return Ok(String::new(alloc));
     }
-    // Rows of equal length want nothing but memory.
-    let Ok(table) = table_with(alloc, config, line, rows) else {
-        return Err(Fault::Memory);
-    };
-    picture_of(alloc, bounds, &table)
+    let mut config = config;
+    set_line_below(&mut config, line, count, columns)?;
+    picture_of(alloc, bounds, &config, rows)
 }
 
 // The text of the table of the rows that are shown.
-fn text_of(alloc: Global, options: &Options, rows: Vec<Vec<String>>) -> Result<String, Fault>
-    requires even { ragged_row (map (λ row. row.items) rows.items) ≡ None }
-    ensures text { IfOk result (λ text. string_bytes text ≡ text_of options.now (map (λ row. map string_bytes row.items) rows.items)) }
-    ensures fault { Tells (totals_fault options.now (map (λ row. map string_bytes row.items) rows.items)) result }
+fn text_of(alloc: Global, options: &Options, rows: LentRows<'_>) -> Result<String, Fault>
+    ensures text { IfOk result (λ text. string_bytes text ≡ text_of options.now (texts_of rows.entry)) }
+    ensures fault { Tells (totals_fault options.now (texts_of rows.entry)) result }
 {
     if options.is_vertical {
-        return blocks_of(alloc, &options.bounds, options.look, &rows);
+        return blocks_of(alloc, &options.bounds, options.look, rows);
     }
-    let config = sided_config(alloc, options, &rows)?;
+    let config = sided_config(alloc, options, rows)?;
     text_with(alloc, &options.bounds, config, line_in(options), rows)
 }
 
@@ -145,8 +146,12 @@ pub fn view_rows(alloc: Global, options: &Options, rows: Vec<StringRecord>) -> R
     ensures fault { Tells (table_fault options.now (map fields_of rows.items)) result }
 {
     let places = places_of(alloc, &options.columns, &rows)?;
-    let shown = shown_rows(alloc, options, &places, rows)?;
-    text_of(alloc, options, shown)
+    let shown = shown_records(alloc, options, heads(options, rows))?;
+    let rows = LentRows {
+        records: &shown,
+        places: &places,
+    };
+    text_of(alloc, options, rows)
 }
 
 /// The text of the table of the rows that bytes hold, and a line feed behind it; of

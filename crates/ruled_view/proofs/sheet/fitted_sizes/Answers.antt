@@ -1,4 +1,4 @@
-use Rattle.std.proofs.Common.{◌≡◌, ◌∙◌, Bor, Global, ℕ, List, map, String, string_bytes, None, Ok, Option, ap}
+use Rattle.std.proofs.Common.{◌≡◌, ◌∙◌, ℕ, List, None, Ok, Option, ap}
 use Rattle.pg_layout.specs.Records.{columns_of}
 use Rattle.pg_layout.specs.Text.{Text}
 use Rattle.pg_picture.specs.Table.{Table}
@@ -8,28 +8,26 @@ use Rattle.pg_table.specs.Printing.{sizes_fault}
 use Rattle.pg_table.specs.Spanning.{spanned_widths}
 use Rattle.pg_table.specs.declared.fault.TableFault.{TableFault}
 use Rattle.ruled_view.specs.Bounds.{limits_of, width_of}
+use Rattle.ruled_view.specs.LentRows.{texts_of}
+use Rattle.ruled_view.specs.declared.lent_rows.LentRows.{LentRows}
 use Rattle.ruled_view.proofs.SheetSizes.{drawn-sizes-fault, later-table-told, table-told, widths-are}
 use Rattle.ruled_view.proofs.sheet.fitted_sizes.Goals as goal
 
-abbrev texts_of : Bor (List (List (String Global))) → List (List Text)
-texts_of records = map (λ row. map string_bytes row) records.now
-
-abbrev columns_in : Bor (List (List (String Global))) → ℕ
-columns_in records = columns_of records.now
+abbrev columns_in : LentRows → ℕ
+columns_in records = columns_of (texts_of records)
 
 pub returns-clause-fault : goal.returns-clause-fault
 returns-clause-fault c =
     let bounds = c.args.bounds.now in
     let config = c.args.config.now in
-    let records = c.args.records.now in
-    let texts : List (List Text) = map (λ row. map string_bytes row) records in
-    let columns : ℕ = columns_of records in
+    let texts : List (List Text) = texts_of c.args.records in
+    let columns : ℕ = columns_of texts in
     let fitted = c.in_ok-fitted.fitted in
     let table : ℕ → List ℕ → Table = λ width limits. fitted_table bounds.overflow width limits config texts columns (λ place. None) in
     let limits : c.deref.result.now ≡ limits_of bounds.limits.items columns = c.deref.ensures.value ∙ c.in_ok-limits.ensures ∙ ap (limits_of bounds.limits.items) c.count_columns.ensures.value in
     let drawn =
     c.in_ok-fitted.ensures.table
-    ∙ ap (λ parts. fitted_of bounds.overflow c.width.result c.deref.result.now (λ r. map (λ row. map string_bytes row) r.now) (λ r. columns_of r.now) (λ colors place. None) parts) c.new-table.ensures
+    ∙ ap (λ parts. fitted_of bounds.overflow c.width.result c.deref.result.now texts_of columns_in (λ colors place. None) parts) c.new-table.ensures
     ∙ ap (λ (n : ℕ). table n c.deref.result.now) c.width.ensures
     ∙ ap (table (width_of bounds.width)) limits
     in
@@ -43,13 +41,12 @@ pub returns-clause-widths : goal.returns-clause-widths
 returns-clause-widths c =
     let bounds = c.args.bounds.now in
     let config = c.args.config.now in
-    let records = c.args.records.now in
-    let texts : List (List Text) = map (λ row. map string_bytes row) records in
-    let table : ℕ → List ℕ → Table = λ width limits. fitted_table bounds.overflow width limits config texts (columns_of records) (λ place. None) in
-    let limits : c.deref.result.now ≡ limits_of bounds.limits.items (columns_of records) = c.deref.ensures.value ∙ c.in_ok-limits.ensures ∙ ap (limits_of bounds.limits.items) c.count_columns.ensures.value in
+    let texts : List (List Text) = texts_of c.args.records in
+    let table : ℕ → List ℕ → Table = λ width limits. fitted_table bounds.overflow width limits config texts (columns_of texts) (λ place. None) in
+    let limits : c.deref.result.now ≡ limits_of bounds.limits.items (columns_of texts) = c.deref.ensures.value ∙ c.in_ok-limits.ensures ∙ ap (limits_of bounds.limits.items) c.count_columns.ensures.value in
     let drawn =
     c.in_ok-fitted.ensures.table
-    ∙ ap (λ parts. fitted_of bounds.overflow c.width.result c.deref.result.now (λ r. map (λ row. map string_bytes row) r.now) (λ r. columns_of r.now) (λ colors place. None) parts) c.new-table.ensures
+    ∙ ap (λ parts. fitted_of bounds.overflow c.width.result c.deref.result.now texts_of columns_in (λ colors place. None) parts) c.new-table.ensures
     in
-    widths-are c.natural_dimension.result _ (table (width_of bounds.width) (limits_of bounds.limits.items (columns_of records))).width c.natural_dimension.ensures.widths
+    widths-are c.natural_dimension.result _ (table (width_of bounds.width) (limits_of bounds.limits.items (columns_of texts))).width c.natural_dimension.ensures.widths
     (ap (λ (t : Table). t.width) (drawn ∙ ap (λ (n : ℕ). table n c.deref.result.now) c.width.ensures ∙ ap (table (width_of bounds.width)) limits))

@@ -1,12 +1,11 @@
-use Rattle.std.proofs.Common.{◌≡◌, ◌∙◌, Global, List, String, ap, map, string_bytes, refl, subst, sym}
+use Rattle.std.proofs.Common.{◌≡◌, ◌∙◌, Global, List, String, ap, map, string_bytes, subst, sym}
 use Rattle.std.specs.Prelude.{⊤}
 use Rattle.pg_fit.specs.Rows.{row_height}
 use Rattle.pg_layout.specs.Text.{Text}
 use Rattle.pg_stream.specs.Printing.{Printing}
 use Rattle.pg_stream.specs.SizedStreams.{IsNextHeight}
 use Rattle.ruled_view.specs.Sheet.{state_of}
-use Rattle.ruled_view.proofs.SheetRows.{room-of-failure, row-stops}
-use Rattle.ruled_view.proofs.Views.{write_fails}
+use Rattle.ruled_view.proofs.SheetRows.{room-of-write, row-stops}
 use Rattle.ruled_view.proofs.sheet.write_row.Goals as goal
 
 pub returns-in_err-push-clause-room : goal.returns-in_err-push-clause-room
@@ -17,8 +16,5 @@ returns-in_err-push-clause-room g c = λ heights high.
     row-stops ⊤ s cells s.rows (g.W.Write.contents c.args.out.now) c.in_err-push.field-0.0 c.args.sheet.now.is_lost c.from_residual.result
     (λ alive. (c.in_err-push.ensures.prints heights (subst (IsNextHeight s) (sym height) high) alive).tells) (λ lost. (c.in_err-push.ensures.lost lost).0) c.from_residual.ensures.1
 
-pub returns-in_err-write_lines-clause-room : goal.returns-in_err-write_lines-clause-room
-returns-in_err-write_lines-clause-room g c = λ heights high.
-    let found = c.in_err-write_lines.field-0.0 in
-    room-of-failure (state_of heights c.args.sheet.now).printed (map string_bytes c.args.cells.items) (g.W.Write.contents c.args.out.now) (g.W.Write.contents c.write_lines.new.out) found c.from_residual-in_err-write_lines.result
-    (write_fails found (c.in_err-write_lines.ensures.failed found refl)) c.from_residual-in_err-write_lines.ensures.1
+pub returns-clause-room : goal.returns-clause-room
+returns-clause-room g c = λ heights high. room-of-write (state_of heights c.args.sheet.now).printed (map string_bytes c.args.cells.items) (g.W.Write.contents c.args.out.now) (g.W.Write.contents c.write_lines.new.out) c.write_lines.result c.write_lines.ensures.failed

@@ -1,7 +1,8 @@
-use Rattle.std.proofs.Common.{◌∙◌, ℕ, map, string_bytes, sym, ap}
+use Rattle.std.proofs.Common.{◌∙◌, ℕ, sym, ap}
 use Rattle.pg_layout.specs.declared.alignment.AlignmentHorizontal.{AlignmentHorizontal}
 use Rattle.pg_config.specs.Config.{Config}
 use Rattle.pg_config.specs.Settings.{Settings}
+use Rattle.ruled_view.specs.LentRows.{texts_of}
 use Rattle.ruled_view.specs.Sides.{side_of, with_side}
 use Rattle.ruled_view.proofs.MoreColumns.{sides_more}
 use Rattle.ruled_view.proofs.sides.set_sides.Goals as goal
@@ -10,7 +11,7 @@ pub loop-column-preserved : goal.loop-column-preserved
 loop-column-preserved c =
     let column = c.loop-column.column in
     let given = c.args.config.now in
-    let side : ℕ → AlignmentHorizontal = side_of c.args.has_header c.args.sides.now (map (λ row. map string_bytes row.items) c.args.rows.now) in
+    let side : ℕ → AlignmentHorizontal = side_of c.args.has_header c.args.sides.now (texts_of c.args.rows) in
     let set : AlignmentHorizontal → Config → Config = λ at config. record config { alignment_horizontal = with_side column at config.alignment_horizontal } in
     c.in_ok-set_side.ensures
     ∙ ap (λ (at : AlignmentHorizontal). set at c.loop-column.config) c.side_of.ensures

@@ -1,17 +1,17 @@
-use Rattle.std.proofs.Common.{◌≡◌, ◌∙◌, ◌∷◌, ◌++◌, ◌-◌, [], ℕ, List, map, length, take, drop, slice_index_or, string_bytes, false, Some, None, sym, ap, subst, arith, rules}
-use Rattle.std.proofs.lemmas.List.{length-map, nil_from_length}
+use Rattle.std.proofs.Common.{◌≡◌, ◌∙◌, ◌∷◌, ◌++◌, ◌-◌, [], ℕ, List, map, length, take, drop, slice_index_or, false, Some, None, sym, ap, subst, arith, rules}
+use Rattle.std.proofs.lemmas.List.{nil_from_length}
 use Rattle.csv.specs.Records.{Row, fields_of}
 use Rattle.pg_layout.specs.Text.{Text}
-use Rattle.pg_layout.specs.Records.{ragged_row}
 use Rattle.pg_config.specs.Config.{Config}
 use Rattle.ruled_view.specs.Columns.{column_fault, places_of}
 use Rattle.ruled_view.specs.Faults.{Tells, but_line, is_failure}
 use Rattle.ruled_view.specs.LateRows.{are_bad, late_rows}
+use Rattle.ruled_view.specs.LentRows.{fields_at}
 use Rattle.ruled_view.specs.Pieces.{pieces_of}
 use Rattle.ruled_view.specs.Sheet.{sheet_config, widths_fault, widths_of}
 use Rattle.ruled_view.specs.Stream.{Draws, Streams, cells_of, config_in, first_fault, places_in, texts_in, width_in}
-use Rattle.ruled_view.specs.View.{shown_row}
-use Rattle.ruled_view.proofs.Even.{even_rows, ragged_same}
+use Rattle.ruled_view.specs.View.{shown_row, shown_text}
+use Rattle.ruled_view.proofs.LentRows.{lent-shown}
 use Rattle.ruled_view.proofs.StreamedRows.{first-and-others, if_more, if_some, name-refused, none-told, streams, wide-refused, without-rows}
 use Rattle.ruled_view.proofs.stream.write_table.Goals as goal
 
@@ -25,16 +25,6 @@ returns-in_default g c =
     if_more (g.R.Read.remaining c.args.reader.now) (λ left. Tells (first_fault options [] (pieces_of format left)) r) (λ left. Streams options format (map fields_of c.args.records.now) (pieces_of format left) old old r)
     (λ left told. subst (λ (rows : List Row). Streams options format (map fields_of rows) (pieces_of format left) old old r) (sym none) (without-rows options format (pieces_of format left) old r told))
     (c.end_without_rows.ensures options)
-
-pub sizes_of_rows-requires : goal.sizes_of_rows-requires
-sizes_of_rows-requires g c =
-    let places = c.deref-2.result.now in
-    record {
-      even =
-          ragged_same (λ row. row.items) (λ row. map string_bytes row.items) (λ row. sym (length-map row.items string_bytes)) c.in_ok-rows.rows.items
-          ∙ ap ragged_row c.in_ok-rows.ensures
-          ∙ even_rows (shown_row c.args.options.now places) (length places) (λ row. length-map places _) (map fields_of c.args.records.now);
-    }
 
 -- the first rows, by their parts
 abbrev others : List Row → List Row
@@ -69,16 +59,19 @@ returns-in_err-widths g c =
     let names : c.deref.result.now ≡ options.columns.items = search rules in
     let told : c.in_ok-places.places.items ≡ places_in options (header ∷ rows) = (rw names at c.in_ok-places.ensures.places) ∙ ap (places_of options.columns.items) first in
     let none : column_fault options.columns.items (header ∷ rows) ≡ None = ap (column_fault options.columns.items) (sym first) ∙ (rw names at c.in_ok-places.ensures.fault) in
-    let texts : List (List Text) = map (λ row. map string_bytes row.items) c.in_ok-rows.rows.items in
-    let shown : texts ≡ texts_in options (header ∷ rows) =
-    c.in_ok-rows.ensures
-    ∙ ap (λ (places : List ℕ). map (shown_row options places) (map fields_of records)) (c.deref-2.ensures.value ∙ told)
+    let made : map fields_of c.deref-2.result.now ≡ map (map (shown_text options)) (map fields_of records) =
+    ap (map fields_of) c.deref-2.ensures.value ∙ c.in_ok-shown.ensures ∙ ap (λ (rows : List Row). map (map (shown_text options)) (map fields_of rows)) (c.in_ok-copies.ensures.items_if_clones_equal (λ x y is. is))
+    in
+    let lent : List (List Text) = map (λ fields. fields_at c.deref-3.result.now (fields_of fields)) c.deref-2.result.now in
+    let shown : lent ≡ texts_in options (header ∷ rows) =
+    lent-shown options c.deref-3.result.now c.deref-2.result.now (map fields_of records) made
+    ∙ ap (λ (places : List ℕ). map (shown_row options places) (map fields_of records)) (c.deref-3.ensures.value ∙ told)
     ∙ ap (map (shown_row options (places_in options (header ∷ rows)))) first
     in
-    let config : c.in_ok-config.config ≡ config_in options (header ∷ rows) = c.in_ok-config.ensures ∙ ap (λ given. sheet_config options (map (λ row. map string_bytes row.items) given)) c.deref-3.ensures.value ∙ ap (sheet_config options) shown in
+    let config : c.in_ok-config.config ≡ config_in options (header ∷ rows) = c.in_ok-config.ensures ∙ ap (sheet_config options) shown in
     if_some (g.R.Read.remaining c.args.reader.now) _ (λ left.
     subst (λ (fields : List (List Text)). Streams options format fields (pieces_of format left) old old r) (sym first)
-    (wide-refused options format header rows (pieces_of format left) c.in_ok-config.config texts old found r config shown none c.in_err-widths.ensures.fault c.from_residual-in_err-widths.ensures.1))
+    (wide-refused options format header rows (pieces_of format left) c.in_ok-config.config lent old found r config shown none c.in_err-widths.ensures.fault c.from_residual-in_err-widths.ensures.1))
 
 pub returns : goal.returns
 returns g c =
@@ -95,22 +88,26 @@ returns g c =
     let none : column_fault options.columns.items (header ∷ rows) ≡ None = ap (column_fault options.columns.items) (sym first) ∙ (rw names at c.in_ok-places.ensures.fault) in
     let at : List ℕ = places_in options (header ∷ rows) in
     let texts : List (List Text) = texts_in options (header ∷ rows) in
-    let shown : map (λ row. map string_bytes row.items) c.in_ok-rows.rows.items ≡ texts =
-    c.in_ok-rows.ensures
-    ∙ ap (λ (places : List ℕ). map (shown_row options places) (map fields_of records)) (c.deref-2.ensures.value ∙ told)
+    let made : map fields_of c.deref-2.result.now ≡ map (map (shown_text options)) (map fields_of records) =
+    ap (map fields_of) c.deref-2.ensures.value ∙ c.in_ok-shown.ensures ∙ ap (λ (rows : List Row). map (map (shown_text options)) (map fields_of rows)) (c.in_ok-copies.ensures.items_if_clones_equal (λ x y is. is))
+    in
+    let lent : List (List Text) = map (λ fields. fields_at c.deref-3.result.now (fields_of fields)) c.deref-2.result.now in
+    let shown : lent ≡ texts =
+    lent-shown options c.deref-3.result.now c.deref-2.result.now (map fields_of records) made
+    ∙ ap (λ (places : List ℕ). map (shown_row options places) (map fields_of records)) (c.deref-3.ensures.value ∙ told)
     ∙ ap (map (shown_row options at)) first
     in
-    let config : c.in_ok-config.config ≡ config_in options (header ∷ rows) = c.in_ok-config.ensures ∙ ap (λ given. sheet_config options (map (λ row. map string_bytes row.items) given)) c.deref-3.ensures.value ∙ ap (sheet_config options) shown in
+    let config : c.in_ok-config.config ≡ config_in options (header ∷ rows) = c.in_ok-config.ensures ∙ ap (sheet_config options) shown in
     let width : ℕ → ℕ = λ column. slice_index_or c.in_ok-widths.widths.0.items column 0 in
     let wide : width ≡ width_in options (header ∷ rows) =
     c.in_ok-widths.ensures.widths
-    ∙ ap (λ (config : Config). widths_of options.bounds config (map (λ row. map string_bytes row.items) c.in_ok-rows.rows.items)) config
+    ∙ ap (λ (config : Config). widths_of options.bounds config lent) config
     ∙ ap (widths_of options.bounds (config_in options (header ∷ rows))) shown
     in
     let sized : widths_fault options.bounds (config_in options (header ∷ rows)) texts ≡ None =
     ap (λ (config : Config). widths_fault options.bounds config texts) (sym config)
     ∙ ap (widths_fault options.bounds c.in_ok-config.config) (sym shown)
-    ∙ none-told (widths_fault options.bounds c.in_ok-config.config (map (λ row. map string_bytes row.items) c.in_ok-rows.rows.items)) c.in_ok-widths.ensures.fault
+    ∙ none-told (widths_fault options.bounds c.in_ok-config.config lent) c.in_ok-widths.ensures.fault
     in
     let places : List ℕ = c.deref-4.result.now in
     let are : places ≡ at = c.deref-4.ensures.value ∙ told in
