@@ -152,11 +152,23 @@ where
     {
         match &self.sheet.all {
             Some(style) => self.push_tall_in_style(buf, kept, line, style),
-            None => {
-                let style = self.style_of(line.rectangle.corner);
-                self.push_tall_in_style(buf, kept, line, &style)
-            }
+            None => self.push_tall_in_own_style(buf, kept, line),
         }
+    }
+
+    // The same where the style is looked up. It stands out of line, so that the other case has no room for
+    // a style on the stack, which would be cleared for each line.
+    #[inline(never)]
+    fn push_tall_in_own_style<A: Allocator>(
+        &self,
+        buf: &mut String<A>,
+        kept: &mut KeptCells<'_, T>,
+        line: CellLine<T>,
+    ) -> Result<(), AllocError>
+        ensures { Appends buf.old buf.new result (written (line_of_cell T.table line.rectangle.corner line.rectangle.width line.rectangle.height line.number)) }
+    {
+        let style = self.style_of(line.rectangle.corner);
+        self.push_tall_in_style(buf, kept, line, &style)
     }
 
     // The same in the cell's style. Its text is read on from its last line where that is kept.
