@@ -203,7 +203,7 @@ rooms-of-row Y first all s cells rest old mid new found (Err fault) p told is = 
 
 -- ---- the heights of all rows
 
-heights-from : (s : Printing) (above rest : List (List Text)) → s.height ≡ heights_of (above ++ rest) → s.rows ≡ length above → AreHeights s rest
+heights-from : (s : Printing) (above rest : List (List Text)) → s.table.height ≡ heights_of (above ++ rest) → s.rows ≡ length above → AreHeights s rest
 unfolding AreHeights after_row
 heights-from s above [] are many = tt
 heights-from s above (cells ∷ rest) are many = (
@@ -211,5 +211,5 @@ heights-from s above (cells ∷ rest) are many = (
   heights-from (after_row s cells false) (above ++ cells ∷ []) rest (are ∙ ap heights_of (sym (append_assoc above (cells ∷ []) rest))) (omega (arith, many, length-append above (cells ∷ []))),
 )
 
-pub heights-all : (s : Printing) (rows : List (List Text)) → s.height ≡ heights_of rows → s.rows ≡ 0 → AreHeights s rows
+pub heights-all : (s : Printing) (rows : List (List Text)) → s.table.height ≡ heights_of rows → s.rows ≡ 0 → AreHeights s rows
 heights-all s rows are none = heights-from s [] rows are none

@@ -45,9 +45,9 @@ record Begun (s : Printing) : Type 0 where
   pub rows : 0 < s.rows
   pub lines : 0 < s.lines
 
-begun-first : (s : Printing) (cells : List Text) → 0 < s.height s.rows → Begun (after_row s cells false)
+begun-first : (s : Printing) (cells : List Text) → 0 < s.table.height s.rows → Begun (after_row s cells false)
 unfolding after_row
-begun-first s cells high = record { rows = omega arith; lines = omega (arith, high, length_of_row s.config s.height s.rows) }
+begun-first s cells high = record { rows = omega arith; lines = omega (arith, high, length_of_row s.table.config s.table.height s.rows) }
 
 begun-next : (s : Printing) (cells : List Text) → Begun s → Begun (after_row s cells false)
 unfolding after_row
@@ -58,7 +58,7 @@ unfolding lines_printed
 begun-fed s lines p =
     let rows : 0 < s.rows = p.rows in
     let some : (s.rows == 0) ≡ false = grind (arith, nat_tests, rows) in
-    rw some (continued-fed (s.config.margin.top.size + s.lines) lines (omega (arith, p.lines)))
+    rw some (continued-fed (s.table.config.margin.top.size + s.lines) lines (omega (arith, p.lines)))
 
 row-fed : (s : Printing) (cells : List Text) → Begun s → IsFed (row_text s cells false)
 unfolding row_text
@@ -84,7 +84,7 @@ fed-rows text s (cells ∷ rows) p =
     ∙ ap (λ (t : Text). t ++ 10 ∷ []) (append_assoc text row (live_text next rows))
 
 -- all of them
-from-first : (s : Printing) (cells : List Text) (rows : List (List Text)) → 0 < s.height s.rows
+from-first : (s : Printing) (cells : List Text) (rows : List (List Text)) → 0 < s.table.height s.rows
     → lines_from s (cells ∷ rows) ++ ended (finish_text (after_rows s (cells ∷ rows))) ≡ live_text s (cells ∷ rows) ++ 10 ∷ []
 unfolding after_rows live_text
 from-first s cells rows high =

@@ -327,7 +327,7 @@ whole-some options first row rows =
     rw some refl
 
 -- a table without spans may end behind each row
-after-config : (s : Printing) (rows : List (List Text)) → (after_rows s rows).config ≡ s.config
+after-config : (s : Printing) (rows : List (List Text)) → (after_rows s rows).table.config ≡ s.table.config
 unfolding after_rows after_row
 after-config s [] = refl
 after-config s (cells ∷ rows) = after-config (after_row s cells false) rows
@@ -341,12 +341,12 @@ no-spans-fit : (rows columns : ℕ) → spans_fit [] rows columns ≡ true
 unfolding spans_fit
 no-spans-fit rows columns = refl
 
-may-end : (s : Printing) (rows : List (List Text)) → s.config.spans ≡ [] → s.hint ≡ None → MayEnd (after_rows s rows)
+may-end : (s : Printing) (rows : List (List Text)) → s.table.config.spans ≡ [] → s.hint ≡ None → MayEnd (after_rows s rows)
 may-end s rows plain untold =
     let at : Printing = after_rows s rows in
     let none : at.hint ≡ None = after-hint s rows ∙ untold in
-    let spans : at.config.spans ≡ [] = ap (λ (c : Config). c.spans) (after-config s rows) ∙ plain in
-    inr (subst (λ (h : Option ℕ). IfSome h (λ n. at.rows ≡ n)) (sym none) tt, ap (λ (ss : List Span). spans_fit ss at.rows at.columns) spans ∙ no-spans-fit at.rows at.columns)
+    let spans : at.table.config.spans ≡ [] = ap (λ (c : Config). c.spans) (after-config s rows) ∙ plain in
+    inr (subst (λ (h : Option ℕ). IfSome h (λ n. at.rows ≡ n)) (sym none) tt, ap (λ (ss : List Span). spans_fit ss at.rows at.table.columns) spans ∙ no-spans-fit at.rows at.table.columns)
 
 -- what keeps the first rows from being shown
 module _ (options : Options) (row : List Text) (rows : List (List Text)) (pieces : List (List ℕ)) (named : column_fault options.columns.items (row ∷ rows) ≡ None) where
@@ -365,7 +365,7 @@ module _ (options : Options) (row : List Text) (rows : List (List Text)) (pieces
   pub first-misfits : (found : Misfit) → widths_fault options.bounds (config_in options these) (texts_in options these) ≡ None → misfit ≡ Some found → first_fault options these pieces ≡ Some Totals
   first-misfits found sized misfits = rw (named, sized, misfits) refl
 
-plain-start : (config : Config) (columns : ℕ) (width heights : ℕ → ℕ) → config.spans ≡ [] → (printer config columns width heights (λ place. None) None).config.spans ≡ []
+plain-start : (config : Config) (columns : ℕ) (width heights : ℕ → ℕ) → config.spans ≡ [] → (printer config columns width heights (λ place. None) None).table.config.spans ≡ []
 unfolding printer
 plain-start config columns width heights plain = plain
 

@@ -95,7 +95,7 @@ lines_of s (cells ∷ rows) = ended (row_text s cells false) ++ lines_of (after_
 -- each of these rows is as high as its highest text
 unfoldable pub AreHeights : Printing → List (List Text) → Type 0
 AreHeights s [] = ⊤
-AreHeights s (cells ∷ rows) = (s.height s.rows ≡ row_height cells) × AreHeights (after_row s cells false) rows
+AreHeights s (cells ∷ rows) = (s.table.height s.rows ≡ row_height cells) × AreHeights (after_row s cells false) rows
 
 abbrev pub heights_of : List (List Text) → ℕ → ℕ
 heights_of rows row = row_height (slice_index_or rows row [])
