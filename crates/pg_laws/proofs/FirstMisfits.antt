@@ -1,6 +1,7 @@
 -- A misfit is the first one that applies, and colours don't matter to it.
 use Rattle.std.proofs.Common.{◌≡◌, ℕ, zero, suc, ◌+◌, ◌<◌, ◌≤◌, Bool, true, false, not, ◌||◌, ◌==◌, List, map, flat_map, refl, sym, ap, ◌∙◌, arith, subst, Option, Some, None, is_some, ◌⊎◌, inl, inr, if◌then◌else◌}
 use Rattle.std.specs.List.{range_with_len}
+use Rattle.std.specs.Option.{option_map}
 use Rattle.std.proofs.lemmas.Bool.{cases_Bool, false≢true}
 use Rattle.std.proofs.lemmas.Bool.Decides.{nat_tests}
 use Rattle.pg_layout.specs.declared.position.Position.{Position}
@@ -9,17 +10,18 @@ use Rattle.pg_picture.specs.declared.fits.Misfit.{Misfit}
 use Rattle.pg_picture.specs.declared.fits.Misfit.TheVariants.{Spans, Totals, Room}
 use Rattle.pg_picture.specs.Table.{Table, rect_marks, rect_height, rect_width, total_width, full_width}
 use Rattle.pg_picture.specs.Fits.{spans_fit, body_height, totals_fit, owner_fits, places, misfit_of}
-use Rattle.pg_picture.specs.Inside.Walks.{first_misfit}
-use Rattle.pg_picture.proofs.Rooms.{misfit_here, misfit_later, misfit_after, misfit_before, none_in_row, fits}
+use Rattle.pg_picture.specs.Inside.Walks.{first_failed}
+use Rattle.pg_picture.proofs.FirstPlaces.{failed_here, failed_later, failed_after, failed_before, passed_in_row}
+use Rattle.pg_picture.proofs.Rooms.{room_of, fits}
 use Rattle.pg_laws.specs.Laws.{Tells, MisfitsAreFirst}
 use Rattle.pg_laws.specs.FitLaws.{ColorsDontMatter}
 
-None≢Some : (m : Misfit) → None ≡ Some m → ⊥
-None≢Some m e = false≢true (ap (λ (o : Option Misfit). is_some o) e)
+None≢Some : (p : Position) → None ≡ Some p → ⊥
+None≢Some p e = false≢true (ap (λ (o : Option Position). is_some o) e)
 
-option_cases : (o : Option Misfit) → (o ≡ None) ⊎ ((m : Misfit) × (o ≡ Some m))
+option_cases : (o : Option Position) → (o ≡ None) ⊎ ((p : Position) × (o ≡ Some p))
 option_cases None = inl refl
-option_cases (Some m) = inr (m, refl)
+option_cases (Some p) = inr (p, refl)
 
 module _ (t : Table) where
   abbrev HasRoom : ℕ → ℕ → Type 0
@@ -32,22 +34,22 @@ module _ (t : Table) where
   rows_of a k = flat_map (λ r. map (at r) (range_with_len 0 t.columns)) (range_with_len a k)
 
   -- the first place without room among those of row r from column a on
-  record InRow (r a k : ℕ) (m : Misfit) : Type 0 where
+  record InRow (r a k : ℕ) (m : Position) : Type 0 where
     column : ℕ
     from : a ≤ column
     below : column < a + k
-    is : Some (Room r column) ≡ Some m
+    is : Some (at r column) ≡ Some m
     room : owner_fits t (at r column) ≡ false
     before : (d : ℕ) → a ≤ d → d < column → HasRoom r d
 
-  in_row : (r a k : ℕ) (m : Misfit) → first_misfit t (map (at r) (range_with_len a k)) ≡ Some m → InRow r a k m
+  in_row : (r a k : ℕ) (m : Position) → first_failed (owner_fits t) (map (at r) (range_with_len a k)) ≡ Some m → InRow r a k m
   in_row r a zero m e = absurd (None≢Some m e)
   in_row r a (suc k) m e =
       let rest : List Position = map (at r) (range_with_len (a + 1) k) in
       elim (cases_Bool (owner_fits t (at r a))) [
-        | inr n ↦ record { column = a; from = omega arith; below = omega arith; is = sym (misfit_here t (at r a) rest n) ∙ e; room = n; before = λ d l h. absurd (omega (arith, l, h)) }
+        | inr n ↦ record { column = a; from = omega arith; below = omega arith; is = sym (failed_here (owner_fits t) (at r a) rest n) ∙ e; room = n; before = λ d l h. absurd (omega (arith, l, h)) }
         | inl y ↦
-            let later = in_row r (a + 1) k m (sym (misfit_later t (at r a) rest y) ∙ e) in
+            let later = in_row r (a + 1) k m (sym (failed_later (owner_fits t) (at r a) rest y) ∙ e) in
             record {
               column = later.column;
               from = omega (arith, later.from);
@@ -62,38 +64,38 @@ module _ (t : Table) where
       ]
 
   -- and among those of the rows from a on
-  record InRows (a k : ℕ) (m : Misfit) : Type 0 where
+  record InRows (a k : ℕ) (m : Position) : Type 0 where
     row : ℕ
     from : a ≤ row
     below : row < a + k
     place : InRow row 0 t.columns m
     before : (s d : ℕ) → a ≤ s → s < row → d < t.columns → HasRoom s d
 
-  in_rows : (a k : ℕ) (m : Misfit) → first_misfit t (flat_map (λ r. map (at r) (range_with_len 0 t.columns)) (range_with_len a k)) ≡ Some m → InRows a k m
+  in_rows : (a k : ℕ) (m : Position) → first_failed (owner_fits t) (flat_map (λ r. map (at r) (range_with_len 0 t.columns)) (range_with_len a k)) ≡ Some m → InRows a k m
   in_rows a zero m e = absurd (None≢Some m e)
   in_rows a (suc k) m e =
       let row : List Position = row_of a in
       let rest : List Position = rows_of (a + 1) k in
-      elim (option_cases (first_misfit t (row_of a))) [
+      elim (option_cases (first_failed (owner_fits t) (row_of a))) [
         | inr found ↦
-            let here : first_misfit t row ≡ Some m = found.1 ∙ sym (misfit_before t row rest found.0 found.1) ∙ e in
+            let here : first_failed (owner_fits t) row ≡ Some m = found.1 ∙ sym (failed_before (owner_fits t) row rest found.0 found.1) ∙ e in
             record { row = a; from = omega arith; below = omega arith; place = in_row a 0 t.columns m here; before = λ s d l h k. absurd (omega (arith, l, h)) }
         | inl none ↦
-            let later = in_rows (a + 1) k m (sym (misfit_after t row rest none) ∙ e) in
+            let later = in_rows (a + 1) k m (sym (failed_after (owner_fits t) row rest none) ∙ e) in
             record {
               row = later.row;
               from = omega (arith, later.from);
               below = omega (arith, later.below);
               place = later.place;
               before = λ s d l h k. elim (cases_Bool (a == s)) [
-                | inl same ↦ let is : a ≡ s = grind (arith, nat_tests, same) in subst (λ x. HasRoom x d) is (none_in_row t a 0 t.columns d none (omega arith) (omega (arith, k)))
+                | inl same ↦ let is : a ≡ s = grind (arith, nat_tests, same) in subst (λ x. HasRoom x d) is (passed_in_row (owner_fits t) a 0 t.columns d none (omega arith) (omega (arith, k)))
                 | inr other ↦ later.before s d (grind (arith, nat_tests, other, l)) h k
               ];
             }
       ]
 
   judged : Bool → Bool → Option Misfit
-  judged s u = if not s then Some Spans else if not u then Some Totals else first_misfit t (places t.rows t.columns)
+  judged s u = if not s then Some Spans else if not u then Some Totals else option_map room_of (first_failed (owner_fits t) (places t.rows t.columns))
 
   some_size : 0 < t.rows → 0 < t.columns → ((t.rows == 0) || (t.columns == 0)) ≡ false
   some_size h k = grind (arith, nat_tests, h, k)
@@ -109,13 +111,13 @@ module _ (t : Table) where
   rooms : 0 < t.rows → 0 < t.columns → spans_fit t.config.spans t.rows t.columns ≡ true → totals_fit t ≡ true → Tells t (misfit_of t)
   unfolding judged places
   rooms h k spans totals =
-      let is : misfit_of t ≡ first_misfit t (rows_of 0 t.rows) = misfit_of-judged h k ∙ rw (spans, totals) refl in
-      elim (option_cases (first_misfit t (rows_of 0 t.rows))) [
-        | inl none ↦ told None (is ∙ none) (fits t (is ∙ none) h k)
+      let is : misfit_of t ≡ option_map room_of (first_failed (owner_fits t) (rows_of 0 t.rows)) = misfit_of-judged h k ∙ rw (spans, totals) refl in
+      elim (option_cases (first_failed (owner_fits t) (rows_of 0 t.rows))) [
+        | inl none ↦ told None (is ∙ ap (λ (o : Option Position). option_map room_of o) none) (fits t (is ∙ ap (option_map room_of) none) h k)
         | inr found ↦
             let first = in_rows 0 t.rows found.0 found.1 in
             let place = first.place in
-            told (Some (Room first.row place.column)) (is ∙ found.1 ∙ sym place.is) (record {
+            told (Some (Room first.row place.column)) (is ∙ ap (λ (o : Option Position). option_map room_of o) (found.1 ∙ sym place.is)) (record {
               spans = spans;
               totals = totals;
               row = omega (arith, first.below);

@@ -5,13 +5,9 @@ use Rattle.std.proofs.lemmas.Bool.Decides.{nat_tests}
 use Rattle.pg_layout.specs.Position.{at, is_at}
 use Rattle.pg_layout.specs.declared.position.Position.{Position}
 use Rattle.pg_config.specs.Spans.{Span, corner, size_of, owner, is_left, left_span, if_above}
-use Rattle.pg_picture.specs.Fits.{owner_fits}
 use Rattle.pg_picture.specs.Inside.Rectangles.{columns_or_one}
-use Rattle.pg_picture.specs.Inside.Walks.{first_misfit, row_places}
-use Rattle.pg_picture.specs.Table.{Table}
 use Rattle.pg_picture.proofs.OwnersOfPlaces.{InOrder, option_cases, left_sound, owner_found, size_of_corner, owner_alone, step_positive, step_inside, next_left, inner}
 use Rattle.pg_picture.proofs.ReachOfRectangles.{is_at-same}
-use Rattle.pg_picture.proofs.Rooms.{next_place}
 
 module _ (spans : List Span) (rows columns : ℕ) (order : InOrder spans rows columns) where
   own_left : (r x : ℕ) → is_left spans r x ≡ true → is_at (owner spans r x) r x ≡ not (is_some (if_above r (left_span spans r x)))
@@ -67,29 +63,3 @@ module _ (spans : List Span) (rows columns : ℕ) (order : InOrder spans rows co
             | inr k ↦ let same : x ≡ y = omega (arith, g, k) in subst P same (now (subst (λ (z : ℕ). is_at (owner spans r z) r z ≡ true) (sym same) own))
           ]
         ]
-
--- ---- the first place without room
-
--- a place that another one owns needs none
-pub owner_fits-other : (t : Table) (r c : ℕ) → is_at (owner t.config.spans r c) r c ≡ false → owner_fits t (at r c) ≡ true
-unfolding owner_fits
-owner_fits-other t r c other = rw other refl
-
--- places with room are passed
-next_places : (t : Table) (columns r x w : ℕ) → x + w ≤ columns → ((y : ℕ) → x ≤ y → y < x + w → owner_fits t (at r y) ≡ true) → first_misfit t (row_places columns r x) ≡ first_misfit t (row_places columns r (x + w))
-next_places t columns r x zero h all = let same : x ≡ x + 0 = omega arith in ap (λ (k : ℕ). first_misfit t (row_places columns r k)) same
-next_places t columns r x (suc w) h all =
-    let same : (x + 1) + w ≡ x + suc w = omega arith in
-    next_place t columns r x (omega (arith, h)) (all x (omega arith) (omega arith))
-    ∙ next_places t columns r (x + 1) w (omega (arith, h)) (λ y l k. all y (omega (arith, l)) (omega (arith, k)))
-    ∙ ap (λ (k : ℕ). first_misfit t (row_places columns r k)) same
-
--- and so are those of a step whose left column has room
-pub next_left_column : (t : Table) → InOrder t.config.spans t.rows t.columns → (r x w : ℕ) → w ≡ columns_or_one (left_span t.config.spans r x) → is_left t.config.spans r x ≡ true → x < t.columns → owner_fits t (at r x) ≡ true
-    → first_misfit t (row_places t.columns r x) ≡ first_misfit t (row_places t.columns r (x + w))
-next_left_column t order r x w is left here fits =
-    next_places t t.columns r x w (step-inside t.config.spans t.rows t.columns order r x w is left here) (λ y l k.
-    elim (cases_Bool (x == y)) [
-      | inl same ↦ let one : x ≡ y = grind (arith, nat_tests, same) in subst (λ (z : ℕ). owner_fits t (at r z) ≡ true) one fits
-      | inr other ↦ owner_fits-other t r y (step-other t.config.spans t.rows t.columns order r x w is left here y (grind (arith, nat_tests, other, l)) k)
-    ])

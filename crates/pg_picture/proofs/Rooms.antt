@@ -1,6 +1,6 @@
--- The first place without room, place by place and row by row; and what it means that there is none.
+-- What it means that no place is without room.
 use Rattle.std.proofs.Common.{◌≡◌, ℕ, zero, suc, ◌+◌, ◌-◌, ◌<◌, ◌≤◌, Bool, true, false, not, ◌||◌, ◌==◌, List, [], ◌∷◌, ◌++◌, map, flat_map, refl, sym, ap, ◌∙◌, arith, subst, Option, Some, None, is_some, inl, inr, if◌then◌else◌}
-use Rattle.std.specs.List.{range_with_len}
+use Rattle.std.specs.Option.{option_map}
 use Rattle.std.proofs.lemmas.Bool.{cases_Bool, false≢true}
 use Rattle.std.proofs.lemmas.Bool.Decides.{nat_tests}
 use Rattle.pg_layout.specs.declared.position.Position.{Position}
@@ -12,74 +12,31 @@ use Rattle.pg_picture.specs.Pieces.{style_at}
 use Rattle.pg_picture.specs.Table.{Table}
 use Rattle.pg_picture.specs.Fits.{spans_fit, totals_fit, cell_fits, owner_fits, places, misfit_of}
 use Rattle.pg_picture.specs.Fitting.{TableFits}
-use Rattle.pg_picture.specs.Inside.Walks.{first_misfit, row_places, places_from}
+use Rattle.pg_picture.specs.Inside.Walks.{first_failed, owner_passes, places_from}
+use Rattle.pg_picture.proofs.FirstPlaces.{passed_in_rows, none_failed}
 use Rattle.pg_picture.proofs.PlainTables.{rect_width_plain, rect_height_plain}
 
+-- the misfit of a cell without room
+abbrev pub room_of : Position → Misfit
+room_of p = Room p.row p.col
+
+none_of_map : (o : Option Position) → option_map room_of o ≡ None → o ≡ None
+none_of_map None e = refl
+none_of_map (Some p) e = absurd (false≢true (sym (ap (λ (m : Option Misfit). is_some m) e)))
+
+-- all places are those from row 0 on
+all_places : (rows columns : ℕ) → places rows columns ≡ places_from rows columns 0
+unfolding places
+all_places rows columns = let z : rows - 0 ≡ rows = omega arith in rw z refl
+
 module _ (t : Table) where
-  pub misfit_here : (p : Position) (ps : List Position) → owner_fits t p ≡ false → first_misfit t (p ∷ ps) ≡ Some (Room p.row p.col)
-  misfit_here p ps e = rw e refl
-
-  pub misfit_later : (p : Position) (ps : List Position) → owner_fits t p ≡ true → first_misfit t (p ∷ ps) ≡ first_misfit t ps
-  misfit_later p ps e = rw e refl
-
-  pub misfit_after : (ps qs : List Position) → first_misfit t ps ≡ None → first_misfit t (ps ++ qs) ≡ first_misfit t qs
-  misfit_after [] qs e = refl
-  misfit_after (p ∷ ps) qs e =
-      elim (cases_Bool (owner_fits t p)) [
-        | inl y ↦ misfit_later p (ps ++ qs) y ∙ misfit_after ps qs (sym (misfit_later p ps y) ∙ e)
-        | inr n ↦ absurd (false≢true (ap (λ (o : Option Misfit). is_some o) (sym e ∙ misfit_here p ps n)))
-      ]
-
-  pub misfit_before : (ps qs : List Position) (m : Misfit) → first_misfit t ps ≡ Some m → first_misfit t (ps ++ qs) ≡ Some m
-  misfit_before [] qs m e = absurd (false≢true (ap (λ (o : Option Misfit). is_some o) e))
-  misfit_before (p ∷ ps) qs m e =
-      elim (cases_Bool (owner_fits t p)) [
-        | inl y ↦ misfit_later p (ps ++ qs) y ∙ misfit_before ps qs m (sym (misfit_later p ps y) ∙ e)
-        | inr n ↦ misfit_here p (ps ++ qs) n ∙ sym (misfit_here p ps n) ∙ e
-      ]
-
-  -- where no place of a row misfits, each has room
-  pub none_in_row : (r a k c : ℕ) → first_misfit t (map (at r) (range_with_len a k)) ≡ None → a ≤ c → c < a + k → owner_fits t (at r c) ≡ true
-  none_in_row r a zero c e h l = absurd (omega (arith, h, l))
-  none_in_row r a (suc k) c e h l =
-      elim (cases_Bool (owner_fits t (at r a))) [
-        | inr n ↦ absurd (false≢true (ap (λ (o : Option Misfit). is_some o) (sym e ∙ misfit_here (at r a) (map (at r) (range_with_len (a + 1) k)) n)))
-        | inl y ↦ elim (cases_Bool (a == c)) [
-          | inl same ↦ let is : a ≡ c = grind (arith, nat_tests, same) in subst (λ x. owner_fits t (at r x) ≡ true) is y
-          | inr other ↦
-              let away : a + 1 ≤ c = grind (arith, nat_tests, other, h) in
-              none_in_row r (a + 1) k c (sym (misfit_later (at r a) (map (at r) (range_with_len (a + 1) k)) y) ∙ e) away (omega (arith, l))
-        ]
-      ]
-
-  none_of_front : (ps qs : List Position) → first_misfit t (ps ++ qs) ≡ None → first_misfit t ps ≡ None
-  none_of_front [] qs e = refl
-  none_of_front (p ∷ ps) qs e =
-      elim (cases_Bool (owner_fits t p)) [
-        | inl y ↦ misfit_later p ps y ∙ none_of_front ps qs (sym (misfit_later p (ps ++ qs) y) ∙ e)
-        | inr n ↦ absurd (false≢true (ap (λ (o : Option Misfit). is_some o) (sym e ∙ misfit_here p (ps ++ qs) n)))
-      ]
-
-  none_in_rows : (a k r c : ℕ) → first_misfit t (flat_map (λ r. map (at r) (range_with_len 0 t.columns)) (range_with_len a k)) ≡ None → a ≤ r → r < a + k → c < t.columns → owner_fits t (at r c) ≡ true
-  none_in_rows a zero r c e h l k = absurd (omega (arith, h, l))
-  none_in_rows a (suc n) r c e h l k =
-      let row : List Position = map (at a) (range_with_len 0 t.columns) in
-      let rest : List Position = flat_map (λ r. map (at r) (range_with_len 0 t.columns)) (range_with_len (a + 1) n) in
-      let front = none_of_front (map (at a) (range_with_len 0 t.columns)) (flat_map (λ r. map (at r) (range_with_len 0 t.columns)) (range_with_len (a + 1) n)) e in
-      elim (cases_Bool (a == r)) [
-        | inl same ↦ let is : a ≡ r = grind (arith, nat_tests, same) in subst (λ x. owner_fits t (at x c) ≡ true) is (none_in_row a 0 t.columns c front (omega arith) (omega (arith, k)))
-        | inr other ↦
-            let away : a + 1 ≤ r = grind (arith, nat_tests, other, h) in
-            none_in_rows (a + 1) n r c (sym (misfit_after (map (at a) (range_with_len 0 t.columns)) (flat_map (λ r. map (at r) (range_with_len 0 t.columns)) (range_with_len (a + 1) n)) front) ∙ e) away (omega (arith, l)) k
-      ]
-
   -- ---- a table that fits
 
   some_size : 0 < t.rows → 0 < t.columns → ((t.rows == 0) || (t.columns == 0)) ≡ false
   some_size h k = grind (arith, nat_tests, h, k)
 
   judged : Bool → Bool → Option Misfit
-  judged s u = if not s then Some Spans else if not u then Some Totals else first_misfit t (places t.rows t.columns)
+  judged s u = if not s then Some Spans else if not u then Some Totals else option_map room_of (first_failed (owner_fits t) (places t.rows t.columns))
 
   pub fits : misfit_of t ≡ None → 0 < t.rows → 0 < t.columns → TableFits t
   unfolding misfit_of places judged
@@ -93,29 +50,19 @@ module _ (t : Table) where
           | inl z ↦ record {
             spans = y;
             totals = z;
-            rooms = λ r c hr hc. none_in_rows 0 t.rows r c (rw (y, z) at f) (omega arith) (omega (arith, hr)) hc;
+            rooms = λ r c hr hc. passed_in_rows (owner_fits t) t.columns 0 t.rows r c (none_of_map _ (rw (y, z) at f)) (omega arith) (omega (arith, hr)) hc;
           }
         ]
       ]
 
-  -- where each place has room, no place of a row misfits, and none of all rows
-  module _ (rooms : (r c : ℕ) → r < t.rows → c < t.columns → owner_fits t (at r c) ≡ true) where
-    no_misfit_in_row : (r a k : ℕ) → r < t.rows → a + k ≤ t.columns → first_misfit t (map (at r) (range_with_len a k)) ≡ None
-    no_misfit_in_row r a zero h l = refl
-    no_misfit_in_row r a (suc k) h l = misfit_later (at r a) (map (at r) (range_with_len (a + 1) k)) (rooms r a h (omega (arith, l))) ∙ no_misfit_in_row r (a + 1) k h (omega (arith, l))
-
-    no_misfit_in_rows : (a k : ℕ) → a + k ≤ t.rows → first_misfit t (flat_map (λ r. map (at r) (range_with_len 0 t.columns)) (range_with_len a k)) ≡ None
-    no_misfit_in_rows a zero l = refl
-    no_misfit_in_rows a (suc k) l =
-        misfit_after (map (at a) (range_with_len 0 t.columns)) (flat_map (λ r. map (at r) (range_with_len 0 t.columns)) (range_with_len (a + 1) k)) (no_misfit_in_row a 0 t.columns (omega (arith, l)) (omega arith))
-        ∙ no_misfit_in_rows (a + 1) k (omega (arith, l))
-
   pub fitting_tables_have_none : TableFits t → misfit_of t ≡ None
-  unfolding misfit_of places
+  unfolding misfit_of
   fitting_tables_have_none fit =
       elim (cases_Bool ((t.rows == 0) || (t.columns == 0))) [
         | inl y ↦ rw y refl
-        | inr n ↦ rw (n, fit.spans, fit.totals) (no_misfit_in_rows fit.rooms 0 t.rows (omega arith))
+        | inr n ↦
+            let none : first_failed (owner_fits t) (places t.rows t.columns) ≡ None = ap (λ ps. first_failed (owner_fits t) ps) (all_places t.rows t.columns) ∙ none_failed (owner_fits t) t.rows t.columns fit.rooms in
+            rw (n, fit.spans, fit.totals) (ap (λ (o : Option Position). option_map room_of o) none)
       ]
 
   own_plain : (p : Position) → t.config.spans ≡ [] → is_at (owner t.config.spans p.row p.col) p.row p.col ≡ true
@@ -127,44 +74,13 @@ module _ (t : Table) where
   unfolding owner_fits
   cell_fits_plain p none h e = rw (own_plain p none, rect_width_plain t none p, rect_height_plain t none p h) at e
 
--- ---- walks over rows and columns
-
-pub row_places-next : (columns r c : ℕ) → c < columns → row_places columns r c ≡ at r c ∷ row_places columns r (c + 1)
-row_places-next columns r c h = let e : columns - c ≡ suc (columns - (c + 1)) = omega arith in rw e refl
-
-pub row_places-end : (columns r c : ℕ) → columns ≤ c → row_places columns r c ≡ []
-row_places-end columns r c h = let e : columns - c ≡ 0 = omega arith in rw e refl
-
-pub places_from-next : (rows columns r : ℕ) → r < rows → places_from rows columns r ≡ row_places columns r 0 ++ places_from rows columns (r + 1)
-places_from-next rows columns r h =
-    let e : rows - r ≡ suc (rows - (r + 1)) = omega arith in
-    let z : columns - 0 ≡ columns = omega arith in
-    rw (e, z) refl
-
-pub places_from-end : (rows columns r : ℕ) → rows ≤ r → places_from rows columns r ≡ []
-places_from-end rows columns r h = let e : rows - r ≡ 0 = omega arith in rw e refl
-
-module _ (t : Table) where
-  -- a row whose cells all have room, and one with a cell that hasn't
-  pub next_row : (rows columns r : ℕ) → r < rows → first_misfit t (row_places columns r 0) ≡ None → first_misfit t (places_from rows columns r) ≡ first_misfit t (places_from rows columns (r + 1))
-  next_row rows columns r h e = ap (λ ps. first_misfit t ps) (places_from-next rows columns r h) ∙ misfit_after t (row_places columns r 0) (places_from rows columns (r + 1)) e
-
-  pub bad_row : (rows columns r : ℕ) (m : Misfit) → r < rows → first_misfit t (row_places columns r 0) ≡ Some m → first_misfit t (places_from rows columns r) ≡ Some m
-  bad_row rows columns r m h e = ap (λ ps. first_misfit t ps) (places_from-next rows columns r h) ∙ misfit_before t (row_places columns r 0) (places_from rows columns (r + 1)) m e
-
-  pub next_place : (columns r c : ℕ) → c < columns → owner_fits t (at r c) ≡ true → first_misfit t (row_places columns r c) ≡ first_misfit t (row_places columns r (c + 1))
-  next_place columns r c h e = ap (λ ps. first_misfit t ps) (row_places-next columns r c h) ∙ misfit_later t (at r c) (row_places columns r (c + 1)) e
-
-  pub bad_place : (columns r c : ℕ) → c < columns → owner_fits t (at r c) ≡ false → first_misfit t (row_places columns r c) ≡ Some (Room r c)
-  bad_place columns r c h e = ap (λ ps. first_misfit t ps) (row_places-next columns r c h) ∙ misfit_here t (at r c) (row_places columns r (c + 1)) e
-
   pub misfit_of-totals : ((t.rows == 0) || (t.columns == 0)) ≡ false → spans_fit t.config.spans t.rows t.columns ≡ true → totals_fit t ≡ false → misfit_of t ≡ Some Totals
   unfolding misfit_of
   misfit_of-totals size spans totals = rw (size, spans, totals) refl
 
-  -- with spans and totals that fit, the rooms are left
-  pub misfit_of-rooms : ((t.rows == 0) || (t.columns == 0)) ≡ false → spans_fit t.config.spans t.rows t.columns ≡ true → totals_fit t ≡ true → misfit_of t ≡ first_misfit t (places_from t.rows t.columns 0)
-  unfolding misfit_of places
+  -- with spans and totals that fit, the first owner without room is left
+  pub misfit_of-rooms : ((t.rows == 0) || (t.columns == 0)) ≡ false → spans_fit t.config.spans t.rows t.columns ≡ true → totals_fit t ≡ true → misfit_of t ≡ option_map room_of (first_failed (owner_passes cell_fits t) (places_from t.rows t.columns 0))
+  unfolding misfit_of places owner_fits
   misfit_of-rooms size spans totals =
       let z : t.rows - 0 ≡ t.rows = omega arith in
       rw (size, spans, totals, z) refl

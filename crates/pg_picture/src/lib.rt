@@ -21,6 +21,7 @@ mod share;
 mod sheet;
 pub mod shown;
 mod single_cell;
+mod sized_table;
 mod table_margins;
 mod vertical;
 mod whole_fault;

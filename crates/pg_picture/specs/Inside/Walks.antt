@@ -1,17 +1,22 @@
--- The places of a table in the order in which a test walks over them, and the first one without room.
-use Rattle.std.specs.Prelude.{ℕ, ◌-◌, not, List, map, flat_map, find, Option}
+-- The places of a table in the order in which a test walks over them, and the first one that fails.
+use Rattle.std.specs.Prelude.{ℕ, ◌-◌, Bool, not, ◌||◌, List, map, flat_map, find, Option}
 use Rattle.std.specs.List.{range_with_len}
-use Rattle.std.specs.Option.{option_map}
 use Rattle.pg_layout.specs.declared.position.Position.{Position}
-use Rattle.pg_layout.specs.Position.{at}
-use Rattle.pg_picture.specs.Fits.{owner_fits}
-use Rattle.pg_picture.specs.Table.{Table}
-use Rattle.pg_picture.specs.declared.fits.Misfit.{Misfit}
-use Rattle.pg_picture.specs.declared.fits.Misfit.TheVariants.{Room}
+use Rattle.pg_layout.specs.Position.{at, is_at}
+use Rattle.pg_layout.specs.Text.{Text}
+use Rattle.pg_config.specs.Spans.{owner}
+use Rattle.pg_picture.specs.Pieces.{Style, style_at}
+use Rattle.pg_picture.specs.Table.{Table, rect_width, rect_height}
 
--- the first of these places without room
-abbrev pub first_misfit : Table → List Position → Option Misfit
-first_misfit t ps = option_map (λ (p : Position). Room p.row p.col) (find (λ p. not (owner_fits t p)) ps)
+-- a place that owns itself passes a test of its style, its text, and the width and height of its rectangle
+abbrev pub owner_passes : (Style → Text → ℕ → ℕ → Bool) → Table → Position → Bool
+owner_passes test t p =
+    not (is_at (owner t.config.spans p.row p.col) p.row p.col)
+    || test (style_at t.config p) (t.text p) (rect_width t p) (rect_height t p)
+
+-- the first of these places that fails
+abbrev pub first_failed : (Position → Bool) → List Position → Option Position
+first_failed passes ps = find (λ (p : Position). not (passes p)) ps
 
 -- the places of row r from column c on, and all places from row r on
 abbrev pub row_places : ℕ → ℕ → ℕ → List Position

@@ -7,9 +7,9 @@ use Rattle.pg_layout.specs.Position.{at, is_at}
 use Rattle.pg_layout.specs.Text.{Text}
 use Rattle.pg_config.specs.Spans.{owner, is_left, left_span}
 use Rattle.pg_picture.specs.Inside.Rectangles.{columns_or_one}
-use Rattle.pg_picture.specs.Inside.Walks.{row_places}
+use Rattle.pg_picture.specs.Inside.Walks.{first_failed, row_places}
 use Rattle.pg_picture.specs.Table.{Table}
-use Rattle.pg_picture.proofs.FirstPlaces.{first_failed, next_places}
+use Rattle.pg_picture.proofs.FirstPlaces.{next_places}
 use Rattle.pg_picture.proofs.LeftColumns.{step-inside, step-other}
 use Rattle.pg_picture.proofs.OwnersOfPlaces.{InOrder}
 use Rattle.pg_stream.specs.ShownRows.{row_cell_shows_all, unshown_in_row}

@@ -1,44 +1,33 @@
 use Rattle.std.proofs.Common.{◌≡◌, ◌<◌, ◌==◌, ◌||◌, None, Some, false, sym, ap, ◌∙◌, arith}
 use Rattle.std.proofs.lemmas.Bool.Decides.{nat_tests}
 use Rattle.pg_picture.specs.Fits.{misfit_of}
-use Rattle.pg_picture.specs.Shown.{unless_unshown, misfit_or_cell}
+use Rattle.pg_picture.specs.Shown.{owner_shows_all, unless_unshown, misfit_or_cell}
 use Rattle.pg_picture.specs.Sizes.{table_of}
 use Rattle.pg_picture.proofs.FittingGrids.{none-of-ok}
 use Rattle.pg_picture.proofs.Rooms.{fits}
 use Rattle.pg_picture.proofs.FirstPlaces.{misfit_told, unshown_of-misfit, unshown_of-cell}
 use Rattle.pg_picture.proofs.shown.table.table_shows_all.Goals as goal
 
-pub returns-in-Err : goal.returns-in-Err
-returns-in-Err g c =
-    let t = (table_of c.args.config.now (g.D.Dimension.width c.args.dimension.now) (g.D.Dimension.height c.args.dimension.now) (g.R.Records.texts c.args.records.now) (g.R.Records.columns c.args.records.now)) in
-    let size : ((t.rows == 0) || (t.columns == 0)) ≡ false = grind (arith, nat_tests, c.if-rows-eq0.false, c.if-columns-eq0.false, c.count_rows-rows.ensures, c.count_columns-columns.ensures.value) in
-    let misfit : misfit_of t ≡ Some c.in-Err.misfit = misfit_told (misfit_of t) c.in-Err.misfit (sym c.in-Err.is ∙ c.table_fits.ensures) in
-    ap (λ u. unless_unshown u) (sym (unshown_of-misfit t c.in-Err.misfit size misfit))
-
 pub returns-in-Some : goal.returns-in-Some
+unfolding owner_shows_all
 returns-in-Some g c =
-    let t = (table_of c.args.config.now (g.D.Dimension.width c.args.dimension.now) (g.D.Dimension.height c.args.dimension.now) (g.R.Records.texts c.args.records.now) (g.R.Records.columns c.args.records.now)) in
+    let t = table_of c.args.config.now (g.D.Dimension.width c.args.dimension.now) (g.D.Dimension.height c.args.dimension.now) (g.R.Records.texts c.args.records.now) (g.R.Records.columns c.args.records.now) in
     let size : ((t.rows == 0) || (t.columns == 0)) ≡ false = grind (arith, nat_tests, c.if-rows-eq0.false, c.if-columns-eq0.false, c.count_rows-rows.ensures, c.count_columns-columns.ensures.value) in
-    let none : misfit_of t ≡ None = none-of-ok (misfit_of t) (sym c.table_fits.ensures ∙ c.in_default.is) in
-    ap (λ cell. unless_unshown (misfit_or_cell None cell)) (sym c.in-Some.is ∙ c.first_unshown.ensures) ∙ ap (λ u. unless_unshown u) (sym (unshown_of-cell t size none))
+    let none : misfit_of t ≡ None = none-of-ok (misfit_of t) (sym c.in_ok-table_fits.ensures) in
+    ap (λ cell. unless_unshown (misfit_or_cell None cell)) (sym c.in-Some.is ∙ c.first_failing.ensures) ∙ ap (λ u. unless_unshown u) (sym (unshown_of-cell t size none))
 
 pub returns-in-None : goal.returns-in-None
+unfolding owner_shows_all
 returns-in-None g c =
-    let t = (table_of c.args.config.now (g.D.Dimension.width c.args.dimension.now) (g.D.Dimension.height c.args.dimension.now) (g.R.Records.texts c.args.records.now) (g.R.Records.columns c.args.records.now)) in
+    let t = table_of c.args.config.now (g.D.Dimension.width c.args.dimension.now) (g.D.Dimension.height c.args.dimension.now) (g.R.Records.texts c.args.records.now) (g.R.Records.columns c.args.records.now) in
     let size : ((t.rows == 0) || (t.columns == 0)) ≡ false = grind (arith, nat_tests, c.if-rows-eq0.false, c.if-columns-eq0.false, c.count_rows-rows.ensures, c.count_columns-columns.ensures.value) in
-    let none : misfit_of t ≡ None = none-of-ok (misfit_of t) (sym c.table_fits.ensures ∙ c.in_default.is) in
-    ap (λ cell. unless_unshown (misfit_or_cell None cell)) (sym c.in-None.is ∙ c.first_unshown.ensures) ∙ ap (λ u. unless_unshown u) (sym (unshown_of-cell t size none))
+    let none : misfit_of t ≡ None = none-of-ok (misfit_of t) (sym c.in_ok-table_fits.ensures) in
+    ap (λ cell. unless_unshown (misfit_or_cell None cell)) (sym c.in-None.is ∙ c.first_failing.ensures) ∙ ap (λ u. unless_unshown u) (sym (unshown_of-cell t size none))
 
-pub first_unshown-requires-clause-spans : goal.first_unshown-requires-clause-spans
-first_unshown-requires-clause-spans g c =
-    let t = (table_of c.args.config.now (g.D.Dimension.width c.args.dimension.now) (g.D.Dimension.height c.args.dimension.now) (g.R.Records.texts c.args.records.now) (g.R.Records.columns c.args.records.now)) in
+pub invariant_of-table : goal.invariant_of-table
+invariant_of-table g c =
+    let t = table_of c.args.config.now (g.D.Dimension.width c.args.dimension.now) (g.D.Dimension.height c.args.dimension.now) (g.R.Records.texts c.args.records.now) (g.R.Records.columns c.args.records.now) in
     let rows : 0 < t.rows = grind (arith, nat_tests, c.if-rows-eq0.false, c.count_rows-rows.ensures) in
     let columns : 0 < t.columns = grind (arith, nat_tests, c.if-columns-eq0.false, c.count_columns-columns.ensures.value) in
-    (fits t (none-of-ok (misfit_of t) (sym c.table_fits.ensures ∙ c.in_default.is)) rows columns).spans
-
-pub first_unshown-requires-clause-totals : goal.first_unshown-requires-clause-totals
-first_unshown-requires-clause-totals g c =
-    let t = (table_of c.args.config.now (g.D.Dimension.width c.args.dimension.now) (g.D.Dimension.height c.args.dimension.now) (g.R.Records.texts c.args.records.now) (g.R.Records.columns c.args.records.now)) in
-    let rows : 0 < t.rows = grind (arith, nat_tests, c.if-rows-eq0.false, c.count_rows-rows.ensures) in
-    let columns : 0 < t.columns = grind (arith, nat_tests, c.if-columns-eq0.false, c.count_columns-columns.ensures.value) in
-    (fits t (none-of-ok (misfit_of t) (sym c.table_fits.ensures ∙ c.in_default.is)) rows columns).totals
+    let fit = fits t (none-of-ok (misfit_of t) (sym c.in_ok-table_fits.ensures)) rows columns in
+    record { spans = fit.spans; totals = fit.totals }

@@ -4,10 +4,10 @@ use Rattle.pg_layout.specs.declared.position.Position.{Position}
 use Rattle.pg_layout.specs.Position.{at, is_at}
 use Rattle.pg_config.specs.Spans.{is_left, left_span, owner}
 use Rattle.pg_picture.specs.Inside.Rectangles.{columns_or_one}
-use Rattle.pg_picture.proofs.FirstPlaces.{first_failed, failed_place}
+use Rattle.pg_picture.proofs.FirstPlaces.{failed_place, row_places-end}
 use Rattle.pg_picture.proofs.LeftColumns.{step-some, step-inside, step-left}
 use Rattle.pg_picture.proofs.OwnersOfPlaces.{first_left}
-use Rattle.pg_picture.proofs.Rooms.{row_places-end}
+use Rattle.pg_picture.specs.Inside.Walks.{first_failed}
 use Rattle.pg_stream.specs.Conditions.{HasRoom}
 use Rattle.pg_picture.specs.Inside.Sheets.{bare_table}
 use Rattle.pg_stream.specs.ShownRows.{row_cell_shows_all}
