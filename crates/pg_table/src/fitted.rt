@@ -3,7 +3,7 @@
 
 use crate::fault::TableFault;
 use crate::natural::NaturalTable;
-use crate::overflow::Overflow;
+use crate::overflow::{Overflow, Within};
 use crate::sizes::plus;
 use crate::told::ToldTable;
 use pg_config::SpannedConfig;
@@ -138,7 +138,12 @@ where
         ensures narrow { fit_fault_of R.texts R.columns (natural_parts self.now) ≡ None → self.now.config.now.spans ≡ [] → IsNarrowOf width limits.now R.texts R.columns (natural_parts self.now) → IsOk result }
     {
         let mut records = OverlaidRecords::new(alloc, self.records);
-        let widths = self.fit(alloc, width, limits, how, &mut records)?;
+        let within = Within {
+            total: width,
+            limits,
+            how,
+        };
+        let widths = self.fit(alloc, &within, &mut records)?;
         Ok(FittedTable {
             records,
             widths,
@@ -152,23 +157,21 @@ where
     fn fit<A: Allocator + Copy>(
         &self,
         alloc: A,
-        width: usize,
-        limits: &[usize],
-        how: Overflow,
+        within: &Within<'_>,
         records: &mut OverlaidRecords<R, A>,
     ) -> Result<Vec<usize, A>, TableFault>
         requires { records.old.others ≡ [] }
         ensures fault { (fault : TableFault) → fit_fault_of R.texts R.columns (natural_parts self.now) ≡ Some fault → result ≡ Err fault }
         ensures memory { (fault : TableFault) → fit_fault_of R.texts R.columns (natural_parts self.now) ≡ None → result ≡ Err fault → fault ≡ TableFault.Memory }
         ensures empty { is_empty (drawn_of R.texts R.columns C.color (natural_parts self.now)) ≡ true → IsOk result }
-        ensures narrow { fit_fault_of R.texts R.columns (natural_parts self.now) ≡ None → self.now.config.now.spans ≡ [] → IsNarrowOf width limits.now R.texts R.columns (natural_parts self.now) → IsOk result }
+        ensures narrow { fit_fault_of R.texts R.columns (natural_parts self.now) ≡ None → self.now.config.now.spans ≡ [] → IsNarrowOf within.now.total within.now.limits.now R.texts R.columns (natural_parts self.now) → IsOk result }
         ensures records { records.new.records ≡ records.old.records }
-        ensures fits { IfOk result (λ widths. IsFitted how.entry width limits.now self.now.config.now (R.texts self.now.records) (R.columns self.now.records) widths.items (other_text records.new.others (R.texts self.now.records))) }
+        ensures fits { IfOk result (λ widths. IsFitted within.now.how within.now.total within.now.limits.now self.now.config.now (R.texts self.now.records) (R.columns self.now.records) widths.items (other_text records.new.others (R.texts self.now.records))) }
     {
         if self.keeps_spans() {
-            return self.fit_spanned(alloc, width, limits, how, records);
+            return self.fit_spanned(alloc, within, records);
         }
-        self.fit_plain(alloc, width, limits, how, records)?;
+        self.fit_plain(alloc, within, records)?;
         Ok(Vec::new(alloc))
     }
 
@@ -176,9 +179,7 @@ where
     fn fit_plain<A: Allocator + Copy>(
         &self,
         alloc: A,
-        width: usize,
-        limits: &[usize],
-        how: Overflow,
+        within: &Within<'_>,
         records: &mut OverlaidRecords<R, A>,
     ) -> Result<(), TableFault>
         requires own { records.old.others ≡ [] }
@@ -186,15 +187,15 @@ where
         ensures fault { (fault : TableFault) → fit_fault_of R.texts R.columns (natural_parts self.now) ≡ Some fault → result ≡ Err fault }
         ensures memory { (fault : TableFault) → fit_fault_of R.texts R.columns (natural_parts self.now) ≡ None → result ≡ Err fault → fault ≡ TableFault.Memory }
         ensures empty { is_empty (drawn_of R.texts R.columns C.color (natural_parts self.now)) ≡ true → IsOk result }
-        ensures narrow { fit_fault_of R.texts R.columns (natural_parts self.now) ≡ None → IsNarrowOf width limits.now R.texts R.columns (natural_parts self.now) → IsOk result }
+        ensures narrow { fit_fault_of R.texts R.columns (natural_parts self.now) ≡ None → IsNarrowOf within.now.total within.now.limits.now R.texts R.columns (natural_parts self.now) → IsOk result }
         ensures records { records.new.records ≡ records.old.records }
         ensures plain { OnOk result (HasPlainWidths self.now.config.now (length (R.texts self.now.records)) (R.columns self.now.records)) }
-        ensures fits { OnOk result (AreFittedBelow how.entry width limits.now self.now.config.now (R.texts self.now.records) (R.columns self.now.records) (R.columns self.now.records) (other_text records.new.others (R.texts self.now.records))) }
+        ensures fits { OnOk result (AreFittedBelow within.now.how within.now.total within.now.limits.now self.now.config.now (R.texts self.now.records) (R.columns self.now.records) (R.columns self.now.records) (other_text records.new.others (R.texts self.now.records))) }
     {
         if self.is_empty() {
             return Ok(());
         }
-        self.sizes().fit_texts(alloc, how, width, limits, records)
+        self.sizes().fit_texts(alloc, within, records)
     }
 }
 

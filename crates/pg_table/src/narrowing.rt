@@ -14,7 +14,7 @@ ghost use Rattle.pg_table.specs.Inside.Fitting.{text_of, rows_of, least_of, natu
 ghost use Rattle.pg_table.specs.declared.sizes.Axis.TheVariants.{Columns};
 
 use crate::fault::TableFault;
-use crate::overflow::Overflow;
+use crate::overflow::{Overflow, Within};
 use crate::sizes::{Axis, NaturalSizes};
 use pg_config::SpannedConfig;
 use pg_fit::{ColumnRange, OverlaidRecords, narrow};
@@ -104,23 +104,21 @@ impl<'a, R: PeekableRecords + ExactRecords, B: Allocator> NaturalSizes<'a, R, B>
     fn ranges<A: Allocator>(
         &self,
         alloc: A,
-        how: Overflow,
-        total: usize,
-        limits: &[usize],
+        within: &Within<'_>,
         naturals: &[usize],
     ) -> Result<Vec<ColumnRange, A>, AllocError>
         requires plain { self.now.config.now.spans ≡ [] }
         requires fit { all_fit (naturals_of R.texts R.columns self.now) ≡ true }
         requires naturals { naturals.now ≡ naturals_of R.texts R.columns self.now }
-        ensures { IfOk result (λ ranges. ranges.items ≡ column_ranges how.entry total limits.now self.now.config.now (R.texts self.now.records) (R.columns self.now.records)) }
+        ensures { IfOk result (λ ranges. ranges.items ≡ column_ranges within.now.how within.now.total within.now.limits.now self.now.config.now (R.texts self.now.records) (R.columns self.now.records)) }
     {
         let mut ranges = Vec::with_capacity(alloc, naturals.len())?;
         for (column, natural) in naturals.iter().enumerate() {
             let range = ColumnRange {
-                least: self.least_width(how, column).unwrap_or(0),
+                least: self.least_width(within.how, column).unwrap_or(0),
                 natural: *natural,
             };
-            ranges.push(range.limited(limit_of(limits, column)))?;
+            ranges.push(range.limited(limit_of(within.limits, column)))?;
         }
         Ok(ranges)
     }
@@ -129,19 +127,17 @@ impl<'a, R: PeekableRecords + ExactRecords, B: Allocator> NaturalSizes<'a, R, B>
     fn widths<A: Allocator + Copy>(
         &self,
         alloc: A,
-        how: Overflow,
-        total: usize,
-        limits: &[usize],
+        within: &Within<'_>,
         naturals: &[usize],
     ) -> Result<Vec<usize, A>, AllocError>
         requires count { R.columns self.now.records < usize.MAX }
         requires plain { self.now.config.now.spans ≡ [] }
         requires fit { all_fit (naturals_of R.texts R.columns self.now) ≡ true }
         requires naturals { naturals.now ≡ naturals_of R.texts R.columns self.now }
-        ensures { IfOk result (λ widths. widths.items ≡ widths_of R.texts R.columns self.now how.entry total limits.now) }
+        ensures { IfOk result (λ widths. widths.items ≡ widths_of R.texts R.columns self.now within.now.how within.now.total within.now.limits.now) }
     {
-        let ranges = self.ranges(alloc, how, total, limits, naturals)?;
-        let room = room_of(self.config, total, self.count(Axis::Columns));
+        let ranges = self.ranges(alloc, within, naturals)?;
+        let room = room_of(self.config, within.total, self.count(Axis::Columns));
         let widths = narrow(alloc, room, &ranges)?;
         Ok(widths)
     }
@@ -198,9 +194,7 @@ impl<'a, R: PeekableRecords + ExactRecords, B: Allocator> NaturalSizes<'a, R, B>
     fn fit_columns<A: Allocator + Copy>(
         &self,
         alloc: A,
-        how: Overflow,
-        total: usize,
-        limits: &[usize],
+        within: &Within<'_>,
         fitted: &mut OverlaidRecords<R, A>,
     ) -> Result<(), AllocError>
         requires count { R.columns self.now.records < usize.MAX }
@@ -208,13 +202,13 @@ impl<'a, R: PeekableRecords + ExactRecords, B: Allocator> NaturalSizes<'a, R, B>
         requires fit { all_fit (naturals_of R.texts R.columns self.now) ≡ true }
         requires own { fitted.old.others ≡ [] }
         ensures records { fitted.new.records ≡ fitted.old.records }
-        ensures fits { OnOk result (AreFittedBelow how.entry total limits.now self.now.config.now (R.texts self.now.records) (R.columns self.now.records) (R.columns self.now.records) (other_text fitted.new.others (R.texts self.now.records))) }
+        ensures fits { OnOk result (AreFittedBelow within.now.how within.now.total within.now.limits.now self.now.config.now (R.texts self.now.records) (R.columns self.now.records) (R.columns self.now.records) (other_text fitted.new.others (R.texts self.now.records))) }
     {
         let naturals = self.list(alloc, Axis::Columns)?;
-        let widths = self.widths(alloc, how, total, limits, &naturals)?;
+        let widths = self.widths(alloc, within, &naturals)?;
         for (column, width) in widths.iter().enumerate() {
             if *width < naturals[column] {
-                self.fit_column(alloc, how, *width, column, fitted)?;
+                self.fit_column(alloc, within.how, *width, column, fitted)?;
             }
         }
         Ok(())
@@ -228,27 +222,25 @@ impl<'a, R: PeekableRecords + ExactRecords, B: Allocator> NaturalSizes<'a, R, B>
     pub(crate) fn fit_texts<A: Allocator + Copy>(
         &self,
         alloc: A,
-        how: Overflow,
-        total: usize,
-        limits: &[usize],
+        within: &Within<'_>,
         fitted: &mut OverlaidRecords<R, A>,
     ) -> Result<(), TableFault>
         requires plain { self.now.config.now.spans ≡ [] }
         requires own { fitted.old.others ≡ [] }
         ensures totals { (nat_lt (R.columns self.now.records) (2 ^ 64 - 1) && all_fit (naturals_of R.texts R.columns self.now)) ≡ false → result ≡ Err TableFault.Totals }
         ensures memory { (nat_lt (R.columns self.now.records) (2 ^ 64 - 1) && all_fit (naturals_of R.texts R.columns self.now)) ≡ true → (fault : TableFault) → result ≡ Err fault → fault ≡ TableFault.Memory }
-        ensures narrow { (nat_lt (R.columns self.now.records) (2 ^ 64 - 1) && all_fit (naturals_of R.texts R.columns self.now)) ≡ true → IsNarrow total limits.now self.now.config.now (R.texts self.now.records) (R.columns self.now.records) → IsOk result }
+        ensures narrow { (nat_lt (R.columns self.now.records) (2 ^ 64 - 1) && all_fit (naturals_of R.texts R.columns self.now)) ≡ true → IsNarrow within.now.total within.now.limits.now self.now.config.now (R.texts self.now.records) (R.columns self.now.records) → IsOk result }
         ensures records { fitted.new.records ≡ fitted.old.records }
-        ensures fits { OnOk result (AreFittedBelow how.entry total limits.now self.now.config.now (R.texts self.now.records) (R.columns self.now.records) (R.columns self.now.records) (other_text fitted.new.others (R.texts self.now.records))) }
+        ensures fits { OnOk result (AreFittedBelow within.now.how within.now.total within.now.limits.now self.now.config.now (R.texts self.now.records) (R.columns self.now.records) (R.columns self.now.records) (other_text fitted.new.others (R.texts self.now.records))) }
     {
         if self.count(Axis::Columns) == usize::MAX {
             return Err(TableFault::Totals);
         }
-        let Some(within) = self.are_within(total, limits) else {
+        let Some(are_within) = self.are_within(within.total, within.limits) else {
             return Err(TableFault::Totals);
         };
-        if !within {
-            self.fit_columns(alloc, how, total, limits, fitted)?;
+        if !are_within {
+            self.fit_columns(alloc, within, fitted)?;
         }
         Ok(())
     }

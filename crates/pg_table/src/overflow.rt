@@ -21,6 +21,17 @@ pub enum Overflow<'t> {
     Cut(&'t str),
 }
 
+/// What a table is fitted to.
+#[derive(Debug, Clone, Copy)]
+pub(crate) struct Within<'l> {
+    /// How many terminal columns a line has at most.
+    pub(crate) total: usize,
+    /// The greatest widths of the first columns.
+    pub(crate) limits: &'l [usize],
+    /// What becomes of texts that are wider than their column.
+    pub(crate) how: Overflow<'l>,
+}
+
 // A text, cut to so many terminal columns.
 fn cut_to<A: Allocator>(
     alloc: A,

@@ -19,7 +19,7 @@ ghost use Rattle.pg_table.specs.declared.sizes.Axis.TheVariants.{Columns};
 
 use crate::narrowing::{limit_of, room_of};
 use crate::needs::{Need, widened};
-use crate::overflow::Overflow;
+use crate::overflow::{Overflow, Within};
 use crate::sizes::{Axis, NaturalSizes};
 use pg_config::{Span, SpannedConfig};
 use pg_fit::{ColumnRange, OverlaidRecords, narrow};
@@ -194,23 +194,21 @@ impl<'a, R: PeekableRecords + ExactRecords, B: Allocator> NaturalSizes<'a, R, B>
     pub(crate) fn spanned_widths<A: Allocator + Copy>(
         &self,
         alloc: A,
-        how: Overflow,
-        total: usize,
-        limits: &[usize],
+        within: &Within<'_>,
         naturals: &[usize],
     ) -> Result<Vec<usize, A>, AllocError>
         requires fit { spans_fit self.now.config.now.spans (length (R.texts self.now.records)) (R.columns self.now.records) ≡ true }
         requires sized { cells_fit self.now.config.now (text_at (R.texts self.now.records)) (length (R.texts self.now.records)) (R.columns self.now.records) ≡ true }
         requires naturals { naturals.now ≡ natural_sizes Columns self.now.config.now (R.texts self.now.records) (R.columns self.now.records) }
-        ensures { IfOk result (λ widths. widths.items ≡ spanned_widths how.entry total limits.now self.now.config.now (R.texts self.now.records) (R.columns self.now.records)) }
+        ensures { IfOk result (λ widths. widths.items ≡ spanned_widths within.now.how within.now.total within.now.limits.now self.now.config.now (R.texts self.now.records) (R.columns self.now.records)) }
     {
-        if are_within(self.config, total, limits, naturals) {
+        if are_within(self.config, within.total, within.limits, naturals) {
             return Vec::from_slice(alloc, naturals);
         }
-        match self.least_widths(alloc, how)? {
+        match self.least_widths(alloc, within.how)? {
             Some(least) => {
-                let ranges = ranges_of(alloc, &least, naturals, limits)?;
-                let room = room_of(self.config, total, naturals.len());
+                let ranges = ranges_of(alloc, &least, naturals, within.limits)?;
+                let room = room_of(self.config, within.total, naturals.len());
                 let widths = narrow(alloc, room, &ranges)?;
                 Ok(widths)
             }

@@ -17,7 +17,7 @@ ghost use Rattle.pg_table.specs.declared.sizes.Axis.TheVariants.{Columns, Rows};
 
 use crate::fault::TableFault;
 use crate::natural::NaturalTable;
-use crate::overflow::Overflow;
+use crate::overflow::{Overflow, Within};
 use pg_fit::OverlaidRecords;
 use pg_layout::{Colors, ConstantDimension, ExactRecords, PeekableRecords};
 use pg_peekable::PeekableGrid;
@@ -64,9 +64,7 @@ where
     pub(crate) fn fit_spanned<A: Allocator + Copy>(
         &self,
         alloc: A,
-        width: usize,
-        limits: &[usize],
-        how: Overflow,
+        within: &Within<'_>,
         records: &mut OverlaidRecords<R, A>,
     ) -> Result<Vec<usize, A>, TableFault>
         requires own { records.old.others ≡ [] }
@@ -74,14 +72,14 @@ where
         ensures fault { (fault : TableFault) → fit_fault_of R.texts R.columns (natural_parts self.now) ≡ Some fault → result ≡ Err fault }
         ensures memory { (fault : TableFault) → fit_fault_of R.texts R.columns (natural_parts self.now) ≡ None → result ≡ Err fault → fault ≡ TableFault.Memory }
         ensures records { records.new.records ≡ records.old.records }
-        ensures fits { IfOk result (λ widths. AreFittedTogether how.entry width limits.now self.now.config.now (R.texts self.now.records) (R.columns self.now.records) widths.items (other_text records.new.others (R.texts self.now.records))) }
+        ensures fits { IfOk result (λ widths. AreFittedTogether within.now.how within.now.total within.now.limits.now self.now.config.now (R.texts self.now.records) (R.columns self.now.records) widths.items (other_text records.new.others (R.texts self.now.records))) }
     {
         // Shows that the spans stand in order.
         let _spans = self.config.spans();
         let mut dimension = self.natural_dimension(alloc)?;
         let sizes = self.sizes();
-        dimension.0 = sizes.spanned_widths(alloc, how, width, limits, &dimension.0)?;
-        sizes.fit_rows(alloc, how, &dimension, records)?;
+        dimension.0 = sizes.spanned_widths(alloc, within, &dimension.0)?;
+        sizes.fit_rows(alloc, within.how, &dimension, records)?;
         Ok(mem::replace(&mut dimension.0, Vec::new(alloc)))
     }
 }

@@ -21,7 +21,7 @@ returns-then-keeps_spans-clause-fits g c =
     let columns = g.R.Records.columns self.records in
     let kept = sym c.keeps_spans.ensures ∙ c.if-keeps_spans.true in
     let now = other_text c.fit_spanned.new.records.others texts in
-    elim c.fit_spanned.result as (λ r. IfOk r (λ ws. AreFittedTogether c.args.how c.args.width c.args.limits.now self.config.now texts columns ws.items now) → IfOk r (λ ws. IsFitted c.args.how c.args.width c.args.limits.now self.config.now texts columns ws.items now)) [
+    elim c.fit_spanned.result as (λ r. IfOk r (λ ws. AreFittedTogether c.args.within.now.how c.args.within.now.total c.args.within.now.limits.now self.config.now texts columns ws.items now) → IfOk r (λ ws. IsFitted c.args.within.now.how c.args.within.now.total c.args.within.now.limits.now self.config.now texts columns ws.items now)) [
       | Ok ws ↦ λ fits. record { alone = λ unkept. absurd (false≢true (sym unkept ∙ kept)); together = λ _. fits }
       | Err e ↦ λ _. tt
     ] c.fit_spanned.ensures.fits

@@ -23,7 +23,7 @@ returns-then-is_empty-clause-fits g c =
     let texts = g.R.Records.texts self.records in
     let columns : ℕ = g.R.Records.columns self.records in
     let empty : ((length texts == 0) || (columns == 0)) ≡ true = sym c.is_empty.ensures ∙ c.if-is_empty.true in
-    none-there c.args.how c.args.width c.args.limits.now self.config.now texts columns (other_text c.args.records.now.others texts) (λ p. ap (λ o. other_text o texts p) c.requires.own)
+    none-there c.args.within.now.how c.args.within.now.total c.args.within.now.limits.now self.config.now texts columns (other_text c.args.records.now.others texts) (λ p. ap (λ o. other_text o texts p) c.requires.own)
     (λ p h k. let low : 0 < length texts = omega (arith, h) in let wide : 0 < columns = omega (arith, k) in grind (arith, nat_tests, empty, low, wide))
 
 pub returns-then-is_empty-clause-plain : goal.returns-then-is_empty-clause-plain

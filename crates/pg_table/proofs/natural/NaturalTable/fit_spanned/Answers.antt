@@ -126,5 +126,5 @@ returns-clause-fits g c =
       ascending = c.spans-spans.ensures.ascending;
       spans = (fits config texts columns c.requires.kept (Ok c.in_ok-dimension.dimension) refl c.in_ok-dimension.ensures.fault).0;
       widths_are = taken ∙ (rw (c.sizes-sizes.ensures.records, c.sizes-sizes.ensures.config) at c.in_ok-dimension-2.ensures);
-      all = subst (λ (ws : List ℕ). AreFittedTo c.args.how ws config texts columns (length texts) 0 (other_text c.fit_rows.new.fitted.others texts)) (sym taken) (rw (c.sizes-sizes.ensures.records, c.sizes-sizes.ensures.config) at c.in_ok-fit_rows.ensures.fits);
+      all = subst (λ (ws : List ℕ). AreFittedTo c.args.within.now.how ws config texts columns (length texts) 0 (other_text c.fit_rows.new.fitted.others texts)) (sym taken) (rw (c.sizes-sizes.ensures.records, c.sizes-sizes.ensures.config) at c.in_ok-fit_rows.ensures.fits);
     }

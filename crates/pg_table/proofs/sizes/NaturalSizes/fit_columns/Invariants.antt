@@ -7,4 +7,4 @@ use Rattle.pg_table.proofs.sizes.NaturalSizes.fit_columns.Given as goal
 abbrev pub invariant-loop-column : goal.invariant-loop-column
 invariant-loop-column g l =
     (l.fitted.records ≡ l.fn.fitted.records)
-    × AreFittedBelow l.how l.total l.limits l.self.config.now (g.R.Records.texts l.self.records) (g.R.Records.columns l.self.records) l.column (other_text l.fitted.others (g.R.Records.texts l.self.records))
+    × AreFittedBelow l.within.how l.within.total l.within.limits.now l.self.config.now (g.R.Records.texts l.self.records) (g.R.Records.columns l.self.records) l.column (other_text l.fitted.others (g.R.Records.texts l.self.records))

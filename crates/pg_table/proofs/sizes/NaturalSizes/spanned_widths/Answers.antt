@@ -23,8 +23,8 @@ returns-then-are_within g c =
     let self = c.args.self.now in
     let texts = g.R.Records.texts self.records in
     let columns : ℕ = g.R.Records.columns self.records in
-    let yes = sym (within-is c.args.total c.args.limits.now self.config.now texts columns c.args.how c.args.naturals.now c.requires.naturals) ∙ sym c.are_within.ensures ∙ c.if-are_within.true in
-    subst (λ (xs : List ℕ). IfOk c.from_slice.result (λ v. v.items ≡ xs)) (c.requires.naturals ∙ sym (widths-natural c.args.how c.args.total c.args.limits.now self.config.now texts columns yes)) c.from_slice.ensures.items
+    let yes = sym (within-is c.args.within.now.total c.args.within.now.limits.now self.config.now texts columns c.args.within.now.how c.args.naturals.now c.requires.naturals) ∙ sym c.are_within.ensures ∙ c.if-are_within.true in
+    subst (λ (xs : List ℕ). IfOk c.from_slice.result (λ v. v.items ≡ xs)) (c.requires.naturals ∙ sym (widths-natural c.args.within.now.how c.args.within.now.total c.args.within.now.limits.now self.config.now texts columns yes)) c.from_slice.ensures.items
 
 pub ranges_of-requires : goal.ranges_of-requires
 ranges_of-requires g c =
@@ -32,23 +32,23 @@ ranges_of-requires g c =
     let texts = g.R.Records.texts self.records in
     let columns : ℕ = g.R.Records.columns self.records in
     ap length (c.deref.ensures.value ∙ (rw c.in-Some.is at c.in_ok-least.ensures.widths))
-    ∙ length-map-range_with_len (spanned_least_width c.args.how self.config.now texts columns) 0 columns
-    ∙ sym (ap length c.requires.naturals ∙ length-naturals c.args.how c.args.total c.args.limits.now self.config.now texts columns)
+    ∙ length-map-range_with_len (spanned_least_width c.args.within.now.how self.config.now texts columns) 0 columns
+    ∙ sym (ap length c.requires.naturals ∙ length-naturals c.args.within.now.how c.args.within.now.total c.args.within.now.limits.now self.config.now texts columns)
 
 pub returns-in_ok-widths-in-Some : goal.returns-in_ok-widths-in-Some
 returns-in_ok-widths-in-Some g c =
     let self = c.args.self.now in
     let texts = g.R.Records.texts self.records in
     let columns : ℕ = g.R.Records.columns self.records in
-    let past = sym (within-is c.args.total c.args.limits.now self.config.now texts columns c.args.how c.args.naturals.now c.requires.naturals) ∙ sym c.are_within.ensures ∙ c.if-are_within.false in
-    let long : length c.args.naturals.now ≡ columns = ap length c.requires.naturals ∙ length-naturals c.args.how c.args.total c.args.limits.now self.config.now texts columns in
-    let room : c.room_of-room.result ≡ c.args.total - beside_columns self.config.now columns = c.room_of-room.ensures ∙ ap (λ n. c.args.total - beside_columns self.config.now n) long in
+    let past = sym (within-is c.args.within.now.total c.args.within.now.limits.now self.config.now texts columns c.args.within.now.how c.args.naturals.now c.requires.naturals) ∙ sym c.are_within.ensures ∙ c.if-are_within.false in
+    let long : length c.args.naturals.now ≡ columns = ap length c.requires.naturals ∙ length-naturals c.args.within.now.how c.args.within.now.total c.args.within.now.limits.now self.config.now texts columns in
+    let room : c.room_of-room.result ≡ c.args.within.now.total - beside_columns self.config.now columns = c.room_of-room.ensures ∙ ap (λ n. c.args.within.now.total - beside_columns self.config.now n) long in
     let ranges = c.deref-in-Some.ensures.value ∙ c.in_ok-ranges-in-Some.ensures
-    ∙ listed-ranges c.args.how c.args.total c.args.limits.now self.config.now texts columns _ c.args.naturals.now (c.deref.ensures.value ∙ (rw c.in-Some.is at c.in_ok-least.ensures.widths)) c.requires.naturals in
-    c.in_ok-widths-in-Some.ensures ∙ (λ i. narrowed (room i) (ranges i)) ∙ sym (widths-narrowed c.args.how c.args.total c.args.limits.now self.config.now texts columns past)
+    ∙ listed-ranges c.args.within.now.how c.args.within.now.total c.args.within.now.limits.now self.config.now texts columns _ c.args.naturals.now (c.deref.ensures.value ∙ (rw c.in-Some.is at c.in_ok-least.ensures.widths)) c.requires.naturals in
+    c.in_ok-widths-in-Some.ensures ∙ (λ i. narrowed (room i) (ranges i)) ∙ sym (widths-narrowed c.args.within.now.how c.args.within.now.total c.args.within.now.limits.now self.config.now texts columns past)
 
 pub returns-in-None : goal.returns-in-None
 returns-in-None g c =
     let self = c.args.self.now in
     let texts = g.R.Records.texts self.records in
-    absurd (none-huge c.args.how self.config.now texts (g.R.Records.columns self.records) c.requires.sized (c.in_ok-least.ensures.huge c.in-None.is))
+    absurd (none-huge c.args.within.now.how self.config.now texts (g.R.Records.columns self.records) c.requires.sized (c.in_ok-least.ensures.huge c.in-None.is))

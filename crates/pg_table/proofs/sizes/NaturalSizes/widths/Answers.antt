@@ -7,6 +7,6 @@ pub returns : goal.returns
 unfolding column_widths
 returns g c =
     let self = c.args.self.now in
-    let room : c.room_of-room.result ≡ c.args.total - beside_columns self.config.now (g.R.Records.columns self.records) = rw c.count.ensures at c.room_of-room.ensures in
+    let room : c.room_of-room.result ≡ c.args.within.now.total - beside_columns self.config.now (g.R.Records.columns self.records) = rw c.count.ensures at c.room_of-room.ensures in
     let ranges = c.deref.ensures.value ∙ c.in_ok-ranges.ensures in
     c.in_ok-widths.ensures ∙ (λ i. narrowed (room i) (ranges i))
