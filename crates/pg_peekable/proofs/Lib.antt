@@ -1,5 +1,6 @@
 -- Lemmas of this crate.
 pub mod KeptLines
+pub mod TallCells
 pub mod RowParts
 pub mod CanDraw
 pub mod RectangleParts

@@ -4,16 +4,14 @@ ghost use Rattle.std.specs.Prelude.{◌≡◌, ◌<◌, false, None};
 ghost use Rattle.pg_config.specs.Config.{has_horizontal};
 ghost use Rattle.pg_config.specs.Spans.{left_span, span_above};
 ghost use Rattle.pg_layout.specs.declared.position.Position.{Position};
-ghost use Rattle.pg_picture.specs.Inside.Cells.{style_of};
 ghost use Rattle.pg_picture.specs.Grids.{table_of_parts};
-ghost use Rattle.pg_picture.specs.Pieces.{style_at};
 ghost use Rattle.pg_peekable.specs.Inside.Drawn.{IsShapeOf, CanDraw, HasNoSpans};
 ghost use Rattle.pg_peekable.specs.Inside.DrawnProps.{IsAscending-prop};
 ghost use Rattle.std.proofs.Props.{props};
 
 use pg_config::Span;
 use pg_layout::{Colors, Dimension, PeekableRecords, Position};
-use pg_picture::{CellStyle, Drawn, Pen, Sheet};
+use pg_picture::{Drawn, Pen, Sheet};
 use std::alloc::Allocator;
 use std::marker::PhantomData;
 
@@ -68,13 +66,6 @@ where
         ensures { result ≡ has_horizontal T.table.config row T.table.rows }
     {
         self.pen().has_horizontal(row, self.rows)
-    }
-
-    #[inline(always)]
-    pub(super) fn style_of(&self, pos: Position) -> CellStyle<'g, B>
-        ensures { style_of result ≡ style_at T.table.config pos }
-    {
-        CellStyle::of(self.sheet.config, pos)
     }
 
     #[inline(always)]

@@ -1,11 +1,10 @@
 //! The lines of rows.
 
-ghost use Rattle.std.specs.Prelude.{◌≡◌, ◌++◌, flat_map};
+ghost use Rattle.std.specs.Prelude.{◌++◌, flat_map};
 ghost use Rattle.std.specs.List.{range_with_len};
 ghost use Rattle.pg_picture.specs.Appending.{Appends};
-ghost use Rattle.pg_picture.specs.Pieces.{written, style_at};
+ghost use Rattle.pg_picture.specs.Pieces.{written};
 ghost use Rattle.pg_picture.specs.Plain.{cell_line};
-ghost use Rattle.pg_picture.specs.Inside.Cells.{style_of};
 ghost use Rattle.pg_picture.specs.Table.{row_part, line_of_row, vertical, line_of_cell};
 ghost use Rattle.pg_peekable.specs.Inside.Kept.{IsReading};
 ghost use Rattle.pg_peekable.specs.Inside.Lines.{IsCellLine, rectangle_at};
@@ -16,9 +15,7 @@ use crate::kept::{KeptCells, Reading};
 use crate::lines::LineOfRow;
 use crate::rectangle::Rectangle;
 use pg_layout::{Colors, Dimension, PeekableRecords, Position};
-use pg_picture::{
-    CellPlace, CellStyle, Drawn, SingleCell, TextFacts, TextKind, push_block_line_of,
-};
+use pg_picture::{Drawn, PlacedLine, SingleCell, TextKind};
 use std::alloc::{AllocError, Allocator};
 use std::marker::PhantomData;
 
@@ -140,8 +137,7 @@ where
         self.push_tall_cell(buf, kept, line)
     }
 
-    // A line of a cell that has more.
-    #[inline(always)]
+    // A line of a cell that has more. Its text is read on from its last line where that is kept.
     fn push_tall_cell<A: Allocator>(
         &self,
         buf: &mut String<A>,
@@ -150,56 +146,24 @@ where
     ) -> Result<(), AllocError>
         ensures { Appends buf.old buf.new result (written (line_of_cell T.table line.rectangle.corner line.rectangle.width line.rectangle.height line.number)) }
     {
-        match &self.sheet.all {
-            Some(style) => self.push_tall_in_style(buf, kept, line, style),
-            None => self.push_tall_in_own_style(buf, kept, line),
-        }
-    }
-
-    // The same where the style is looked up. It stands out of line, so that the other case has no room for
-    // a style on the stack, which would be cleared for each line.
-    #[inline(never)]
-    fn push_tall_in_own_style<A: Allocator>(
-        &self,
-        buf: &mut String<A>,
-        kept: &mut KeptCells<'_, T>,
-        line: CellLine<T>,
-    ) -> Result<(), AllocError>
-        ensures { Appends buf.old buf.new result (written (line_of_cell T.table line.rectangle.corner line.rectangle.width line.rectangle.height line.number)) }
-    {
-        let style = self.style_of(line.rectangle.corner);
-        self.push_tall_in_style(buf, kept, line, &style)
-    }
-
-    // The same in the cell's style. Its text is read on from its last line where that is kept.
-    fn push_tall_in_style<A: Allocator>(
-        &self,
-        buf: &mut String<A>,
-        kept: &mut KeptCells<'_, T>,
-        line: CellLine<T>,
-        style: &CellStyle<'_, B>,
-    ) -> Result<(), AllocError>
-        requires style { style_of style.now ≡ style_at T.table.config line.rectangle.corner }
-        ensures { Appends buf.old buf.new result (written (line_of_cell T.table line.rectangle.corner line.rectangle.width line.rectangle.height line.number)) }
-    {
         let text = self.text_of(line.rectangle.corner);
-        let mut reading = self.reading_of(kept, &line, style);
+        let mut reading = self.reading_of(kept, &line);
         let place = reading.place;
         let shown = reading.line_if(text, place.text_line_at(line.number));
         kept.keep_reading(line.rectangle, reading);
-        let color = self.pen().color_of(line.rectangle.corner);
-        let width = line.rectangle.width;
-        push_block_line_of(buf, style, color, shown, place, width, line.number)
+        let placed: PlacedLine<'_, T> = PlacedLine {
+            pos: line.rectangle.corner,
+            width: line.rectangle.width,
+            place,
+            number: line.number,
+            text: shown,
+            of: PhantomData,
+        };
+        self.pen().push_placed_line(buf, placed)
     }
 
     // How far the text of a line's cell was read: as far as is kept, or not at all.
-    fn reading_of(
-        &self,
-        kept: &KeptCells<'_, T>,
-        line: &CellLine<T>,
-        style: &CellStyle<'_, B>,
-    ) -> Reading
-        requires style { style_of style.now ≡ style_at T.table.config line.now.rectangle.corner }
+    fn reading_of(&self, kept: &KeptCells<'_, T>, line: &CellLine<T>) -> Reading
         ensures { IsReading T.table line.now.rectangle result }
     {
         match kept.reading(line.rectangle) {
@@ -210,8 +174,8 @@ where
                     width,
                     height,
                 } = line.rectangle;
-                let facts = TextFacts::of_text(self.text_of(corner), style.formatting);
-                Reading::new(CellPlace::of(facts, style, width, height))
+                let text = self.text_of(corner);
+                Reading::new(self.pen().place_of(text, corner, width, height))
             }
         }
     }

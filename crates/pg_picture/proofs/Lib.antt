@@ -17,6 +17,7 @@ pub mod Verticals
 pub mod BlankEnds
 pub mod FactsOfTexts
 pub mod PlacesOfTexts
+pub mod LineStyles
 pub mod SumsOfSizes
 pub mod Rooms
 pub mod HeightsOfRectangles

@@ -12,7 +12,7 @@ use Rattle.pg_layout.specs.declared.alignment.AlignmentVertical.TheVariants as d
 use Rattle.pg_layout.specs.Colors.{Color}
 use Rattle.pg_layout.specs.Text.{Text, lines_of, width_of, greatest, is_blank, blank_top, blank_bottom, without_blank_ends}
 use Rattle.pg_picture.specs.Pieces.{Style, Piece, words, fill, written, in_color, shares, lines_above, inner_width, trimmed_if, kept_lines, shown, widest, left_share, line_with, text_line, text_height, text_top, block_line}
-use Rattle.pg_picture.specs.Inside.Cells.{facts_of, shared_left, place_of, text_line_at, share_of, line_if, shown_line, placed_line, line_parts, shows_texts_whole, has_plain_sides, is_simple}
+use Rattle.pg_picture.specs.Inside.Cells.{facts_of, shared_left, place_of, place_in, text_line_at, share_of, line_if, shown_line, placed_line, line_parts, shows_texts_whole, has_plain_sides, is_simple}
 use Rattle.pg_picture.specs.Fits.{cell_fits}
 use Rattle.pg_picture.specs.declared.facts.TextFacts.{TextFacts}
 use Rattle.pg_picture.specs.declared.place.CellPlace.{CellPlace}
@@ -104,6 +104,10 @@ shown-le-widest f text k within =
     omega (arith, ap width_of (shown-at f text k (omega (arith, count, within))), line-le-widest f text (skip + k) (omega (arith, facts_of-lines f text, count, within)))
 
 -- ---- the place of a text
+
+-- in a cell with lines
+pub place_in-tall : (style : Style) (text : Text) (w h : ℕ) → 0 < h → place_in style text w h ≡ place_of (facts_of style.formatting text) style w h
+place_in-tall style text w h some = let tall : (h == 0) ≡ false = grind (arith, nat_tests, some) in rw tall refl
 
 pub place-left : (style : Style) (text : Text) (w h : ℕ) (place : CellPlace) → place ≡ place_of (facts_of style.formatting text) style w h → place.left ≡ shared_left style (widest style.formatting text) w
 unfolding place_of facts_of

@@ -4,8 +4,8 @@ ghost use Rattle.std.specs.Prelude.{◌≡◌, ◌+◌, ◌<◌, ◌≤◌, ◌+
 ghost use Rattle.pg_layout.specs.Colors.{lent_color};
 ghost use Rattle.pg_layout.specs.Text.{lines_of, width_of};
 ghost use Rattle.pg_picture.specs.Appending.{Appends};
-ghost use Rattle.pg_picture.specs.Pieces.{written, fill, repeated, widest, trimmed_if, inner_width, line_with, block_line};
-ghost use Rattle.pg_picture.specs.Inside.Cells.{style_of, facts_of, place_of, share_of, line_if, line_parts, placed_line, shows_texts_whole, has_plain_sides};
+ghost use Rattle.pg_picture.specs.Pieces.{written, fill, repeated, widest, inner_width, line_with, block_line};
+ghost use Rattle.pg_picture.specs.Inside.Cells.{HasRoomFor, style_of, facts_of, place_of, share_of, line_if, line_parts, placed_line, shows_texts_whole, has_plain_sides};
 
 use crate::facts::trim_if;
 use crate::fill::push_repeated;
@@ -200,11 +200,10 @@ fn push_columns<A: Allocator>(buf: &mut String<A>, c: char, size: usize) -> Resu
 /// padding, a text line, or a line of the bottom padding. `line` is the one of the text's lines that
 /// [`CellPlace::text_line_at`] names, and any text where it names none.
 ///
-/// Where a text line stands there, the cell has room for it: [`crate::fits::cell_fits`] of its text
-/// tells that. An error comes only where the buffer's room is too small; the buffer then holds a
-/// beginning.
+/// Where a text line stands there, the cell has room for it. An error comes only where the buffer's room
+/// is too small; the buffer then holds a beginning.
 #[inline(always)]
-pub fn push_block_line_of<C: ANSIFmt, B: Allocator, A: Allocator>(
+pub(crate) fn push_block_line_of<C: ANSIFmt, B: Allocator, A: Allocator>(
     buf: &mut String<A>,
     style: &CellStyle<'_, B>,
     color: Option<&C>,
@@ -213,7 +212,7 @@ pub fn push_block_line_of<C: ANSIFmt, B: Allocator, A: Allocator>(
     width: usize,
     i: usize,
 ) -> Result<(), AllocError>
-    requires { place.top ≤ i → i < place.top + place.shown → style.now.padding.left.size + style.now.padding.right.size + share_of (style_of style.now) place.left width (width_of (trimmed_if style.now.formatting.horizontal_trim line.now)) + width_of (trimmed_if style.now.formatting.horizontal_trim line.now) ≤ width }
+    requires { HasRoomFor (style_of style.now) place width i line.now }
     ensures { Appends buf.old buf.new result (written (placed_line (style_of style.now) (lent_color C.color_of color.entry) place width i line.now)) }
 {
     if i < place.top {

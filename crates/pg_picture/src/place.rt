@@ -1,7 +1,9 @@
 //! Where the lines of a text stand in their cell.
 
-ghost use Rattle.std.specs.Prelude.{◌≡◌, ◌+◌, ◌≤◌};
-ghost use Rattle.pg_picture.specs.Inside.Cells.{style_of, shared_left, place_of, text_line_at};
+ghost use Rattle.std.specs.Prelude.{◌≡◌, ◌+◌, ◌≤◌, true, length};
+ghost use Rattle.pg_layout.specs.Text.{lines_of};
+ghost use Rattle.pg_picture.specs.Fits.{cell_fits};
+ghost use Rattle.pg_picture.specs.Inside.Cells.{style_of, shared_left, place_of, place_in, text_line_at};
 
 use crate::cell::inner_width;
 use crate::facts::TextFacts;
@@ -47,6 +49,30 @@ impl CellPlace {
             skip: facts.skip,
             left: shared_left(style, facts.widest, width),
         }
+    }
+
+    // The same of a text, in any cell that has room for it: one of no line shows none.
+    #[inline(always)]
+    pub(crate) fn of_text<A: Allocator>(
+        text: &str,
+        style: &CellStyle<'_, A>,
+        width: usize,
+        height: usize,
+    ) -> CellPlace
+        requires { cell_fits (style_of style.now) text.now width height ≡ true }
+        ensures place { result ≡ place_in (style_of style.now) text.now width height }
+        ensures lines { result.skip + result.shown ≤ length (lines_of text.now) }
+    {
+        if height == 0 {
+            return CellPlace {
+                top: 0,
+                shown: 0,
+                skip: 0,
+                left: None,
+            };
+        }
+        let facts = TextFacts::of_text(text, style.formatting);
+        CellPlace::of(facts, style, width, height)
     }
 
     /// Which line of the text, counted from 0, stands at a line of the cell; nothing at a line that

@@ -11,7 +11,7 @@ use crate::cell::{
     columns_left, inner_width, push_block_line, push_line_of_width, push_plain_parts,
     shows_texts_whole,
 };
-use crate::facts::{TextFacts, TextKind, single_line_width};
+use crate::facts::{TextKind, single_line_width};
 use crate::pen::{Drawn, Pen};
 use crate::place::CellPlace;
 use pg_config::CellStyle;
@@ -123,8 +123,7 @@ where
                 );
             }
         }
-        let facts = TextFacts::of_text(cell.text, style.formatting);
-        let place = CellPlace::of(facts, style, cell.width, 1);
+        let place = CellPlace::of_text(cell.text, style, cell.width, 1);
         push_block_line(buf, style, color, cell.text, place, cell.width, 1, 0)
     }
 }

@@ -19,5 +19,4 @@ pub mod LinesOfCells
 pub mod SlotsOfCells
 pub mod SingleLines
 pub mod SingleCells
-pub mod LineStyles
 pub mod EqualRowLines

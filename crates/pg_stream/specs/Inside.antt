@@ -3,7 +3,6 @@ pub mod Drawing
 pub mod Slots
 pub mod Turns
 pub mod SingleRows
-pub mod Styles
 pub mod Held
 pub mod Sized
 pub mod OpenCells

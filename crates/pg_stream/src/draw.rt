@@ -1,6 +1,5 @@
 //! What draws the lines of rows and separators, and the cells that are open there.
 
-mod cell_places;
 mod drawing;
 mod lines_of_rows;
 mod open_cell;

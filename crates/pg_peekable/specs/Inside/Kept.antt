@@ -2,13 +2,12 @@
 use Rattle.std.specs.Prelude.{◌≡◌, ℕ, ◌-◌, ◌≤◌, List, Option, IfSome, slice_index_or, None}
 use Rattle.pg_layout.specs.LineCursor.{StandsIn, line_number}
 use Rattle.pg_layout.specs.Text.{Text}
-use Rattle.pg_picture.specs.Inside.Cells.{facts_of, place_of}
+use Rattle.pg_picture.specs.Inside.Cells.{place_in}
 use Rattle.pg_picture.specs.Inside.KeptSeparators.{IsSeparatorOf}
 use Rattle.pg_picture.specs.Pieces.{style_at, separator_text}
 use Rattle.pg_picture.specs.Rectangles.{IsOwner}
 use Rattle.pg_picture.specs.Inside.Rectangles.{rows_height}
 use Rattle.pg_picture.specs.Table.{Table, rect_width, rect_height, separator_items}
-use Rattle.pg_picture.specs.declared.place.CellPlace.{CellPlace}
 use Rattle.pg_peekable.specs.declared.kept.Reading.{Reading}
 use Rattle.pg_peekable.specs.declared.kept.KeptCell.{KeptCell}
 use Rattle.pg_peekable.specs.declared.rectangle.Rectangle.{Rectangle}
@@ -19,14 +18,10 @@ pub record Reads (reading : Reading) (text : Text) : Type 0 where
   pub stands : StandsIn reading.cursor text
   pub next : line_number reading.cursor text ≡ reading.next
 
--- where the text of the cell of a rectangle stands
-abbrev pub place_in : Table → Rectangle → CellPlace
-place_in t r = place_of (facts_of (style_at t.config r.corner).formatting (t.text r.corner)) (style_at t.config r.corner) r.width r.height
-
--- a reading of the text of such a cell
+-- a reading of the text of a rectangle's cell
 pub record IsReading (t : Table) (r : Rectangle) (reading : Reading) : Type 0 where
   pub reads : Reads reading (t.text r.corner)
-  pub place : reading.place ≡ place_in t r
+  pub place : reading.place ≡ place_in (style_at t.config r.corner) (t.text r.corner) r.width r.height
 
 -- it is a cell's rectangle, of whose lines n stand above row k
 pub record IsRectangle (t : Table) (r : Rectangle) (k n : ℕ) : Type 0 where

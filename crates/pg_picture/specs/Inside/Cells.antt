@@ -1,5 +1,5 @@
 -- What is known of a cell before its lines are written: the facts of its text, its style, its text's place.
-use Rattle.std.specs.Prelude.{◌≡◌, ℕ, ◌+◌, ◌-◌, ◌==◌, nat_lt, min, Bool, true, false, not, ◌&&◌, List, [], ◌++◌, length, slice_index_or, Option, Some, None, is_none, unwrap_or, if◌then◌else◌}
+use Rattle.std.specs.Prelude.{◌≡◌, ℕ, ◌+◌, ◌-◌, ◌<◌, ◌≤◌, ◌==◌, nat_lt, min, Bool, true, false, not, ◌&&◌, List, [], ◌++◌, length, slice_index_or, Option, Some, None, is_none, unwrap_or, if◌then◌else◌}
 use Rattle.std.specs.List.{list_all}
 use Rattle.pg_layout.specs.Text.{Text, is_plain_byte, lines_of, width_of, blank_top, blank_bottom, without_blank_ends}
 use Rattle.pg_layout.specs.declared.alignment.Formatting.{Formatting}
@@ -76,6 +76,11 @@ place_of facts style w h =
       left = shared_left style facts.widest w;
     }
 
+-- where they stand in any cell that has room for the text: one of no line shows none
+abbrev pub place_in : Style → Text → ℕ → ℕ → CellPlace
+place_in style text w h =
+    if h == 0 then record { top = 0; shown = 0; skip = 0; left = None } else place_of (facts_of style.formatting text) style w h
+
 -- which of a text's lines stands at line i of the block, if one does
 abbrev pub text_line_at : CellPlace → ℕ → Option ℕ
 text_line_at place i =
@@ -84,6 +89,13 @@ text_line_at place i =
 -- the left share of a line of width v: the widest line's, or its own
 abbrev pub share_of : Style → Option ℕ → ℕ → ℕ → ℕ
 share_of style left w v = unwrap_or left (shares style.across v (inner_width style w)).0
+
+-- a text line that stands at line i of the block has room there, beside its share
+abbrev pub HasRoomFor : Style → CellPlace → ℕ → ℕ → Text → Type 0
+HasRoomFor style place w i line =
+    place.top ≤ i
+    → i < place.top + place.shown
+    → ((style.padding.left.size + style.padding.right.size) + share_of style place.left w (width_of (trimmed_if style.formatting.horizontal_trim line))) + width_of (trimmed_if style.formatting.horizontal_trim line) ≤ w
 
 -- the line of this number, or an empty one
 abbrev pub line_if : Text → Option ℕ → Text

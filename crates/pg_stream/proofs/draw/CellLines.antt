@@ -1,11 +1,10 @@
 -- The next line of an open cell.
-use Rattle.std.proofs.Common.{◌≡◌, ℕ, ◌+◌, ◌<◌, ◌≤◌, sym, ap, ap₂, ◌∙◌, Option, Some, subst}
+use Rattle.std.proofs.Common.{◌≡◌, ℕ, ◌<◌, ap, ap₂, ◌∙◌, Some}
 use Rattle.pg_layout.specs.declared.position.Position.{Position}
-use Rattle.pg_layout.specs.Colors.{Color}
 use Rattle.pg_layout.specs.Position.{at}
-use Rattle.pg_layout.specs.Text.{Text, width_of}
-use Rattle.pg_picture.specs.Inside.Cells.{share_of, text_line_at, line_if, placed_line}
-use Rattle.pg_picture.specs.Pieces.{Style, style_at, trimmed_if, block_line}
+use Rattle.pg_layout.specs.Text.{Text}
+use Rattle.pg_picture.specs.Inside.Cells.{HasRoomFor, text_line_at, line_if, placed_line}
+use Rattle.pg_picture.specs.Pieces.{Style, style_at, block_line}
 use Rattle.pg_picture.specs.Sizes.{height_of_rect}
 use Rattle.pg_picture.specs.Table.{Table}
 use Rattle.pg_picture.specs.declared.place.CellPlace.{CellPlace}
@@ -21,18 +20,17 @@ module _ (t : Table) (x : ℕ) (cell : Placed) (placed : IsPlaced t x cell) (tal
   high = height_of_rect t.config t.height (at cell.begun x)
 
   -- a text line has room
-  pub next-room : (style : Style) → style ≡ style_at t.config (at cell.begun x) → cell.place.top ≤ cell.drawn → cell.drawn < cell.place.top + cell.place.shown
-      → ((style.padding.left.size + style.padding.right.size) + share_of style cell.place.left cell.width (width_of (trimmed_if style.formatting.horizontal_trim line))) + width_of (trimmed_if style.formatting.horizontal_trim line) ≤ cell.width
-  next-room style same below above =
-      let P : Style → Type 0 = λ s. ((s.padding.left.size + s.padding.right.size) + share_of s cell.place.left cell.width (width_of (trimmed_if s.formatting.horizontal_trim line))) + width_of (trimmed_if s.formatting.horizontal_trim line) ≤ cell.width in
-      subst P (sym same) (room-of-line own cell.text cell.width high cell.drawn cell.place line (placed.place tall) is (placed.room tall) below above)
+  pub next-room : (p : Position) (place : CellPlace) (width drawn : ℕ) → p ≡ at cell.begun x → place ≡ cell.place → width ≡ cell.width → drawn ≡ cell.drawn → HasRoomFor (style_at t.config p) place width drawn line
+  next-room p place width drawn here stands wide next =
+      let has : HasRoomFor own cell.place cell.width cell.drawn line = λ below above. room-of-line own cell.text cell.width high cell.drawn cell.place line (placed.place tall) is (placed.room tall) below above in
+      rw (here, stands, wide, next) has
 
   -- and the line is that of the cell's block
-  pub next-line : (p : Position) (style : Style) (color : Option Color) (place : CellPlace) (width drawn : ℕ) → p ≡ at cell.begun x → style ≡ style_at t.config p → color ≡ t.color p → place ≡ cell.place → width ≡ cell.width → drawn ≡ cell.drawn
-      → placed_line style color place width drawn line ≡ slot_block t (slot_of (Some cell)) x
-  next-line p style color place width drawn here same colored stands wide next =
+  pub next-line : (p : Position) (place : CellPlace) (width drawn : ℕ) → p ≡ at cell.begun x → place ≡ cell.place → width ≡ cell.width → drawn ≡ cell.drawn
+      → placed_line (style_at t.config p) (t.color p) place width drawn line ≡ slot_block t (slot_of (Some cell)) x
+  next-line p place width drawn here stands wide next =
       let q : Position = at cell.begun x in
-      ap₂ (λ s c. placed_line s c place width drawn line) (same ∙ ap (λ y. style_at t.config y) here) (colored ∙ ap (λ y. t.color y) here)
+      ap (λ (y : Position). placed_line (style_at t.config y) (t.color y) place width drawn line) here
       ∙ ap (λ (y : CellPlace). placed_line own (t.color q) y width drawn line) stands
       ∙ ap₂ (λ (w d : ℕ). placed_line own (t.color q) cell.place w d line) wide next
       ∙ block_line-at own (t.color q) cell.text cell.width high cell.drawn cell.place line (placed.place tall) is

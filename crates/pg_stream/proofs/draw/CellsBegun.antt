@@ -1,5 +1,5 @@
 -- A cell that begins at a place: its width, its height and the place of its text.
-use Rattle.std.proofs.Common.{◌≡◌, ℕ, ◌+◌, ◌^◌, ◌<◌, true, false, ◌==◌, nat_lt, refl, ◌∙◌, arith, Option, Some, None, if◌then◌else◌}
+use Rattle.std.proofs.Common.{◌≡◌, ℕ, ◌+◌, ◌^◌, ◌<◌, true, nat_lt, refl, ◌∙◌, arith, Option, Some, None, if◌then◌else◌}
 use Rattle.std.proofs.lemmas.Bool.Decides.{nat_tests}
 use Rattle.pg_layout.specs.declared.position.Position.{Position}
 use Rattle.pg_layout.specs.Text.{Text}
@@ -8,6 +8,7 @@ use Rattle.pg_picture.specs.Fits.{cell_fits}
 use Rattle.pg_picture.specs.Pieces.{style_at}
 use Rattle.pg_picture.specs.Sizes.{if_fits, sized, height_of_rect}
 use Rattle.pg_picture.specs.Table.{Table, rect_width}
+use Rattle.pg_picture.proofs.PlacesOfTexts.{place_in-tall}
 use Rattle.pg_picture.proofs.Room.{cell_fits-room}
 use Rattle.pg_picture.proofs.SumsOfSizes.{if_fits-below}
 use Rattle.pg_stream.specs.Placed.{IsPlaced}
@@ -29,6 +30,6 @@ module _ (t : Table) (p : Position) where
   pub placed-new : (text : Text) → cell_fits (style_at t.config p) text (rect_width t p) (height_of_rect t.config t.height p) ≡ true → IsPlaced t p.col (new_cell t p text)
   placed-new text fits = record {
     width = refl;
-    place = λ some. let tall : (height_of_rect t.config t.height p == 0) ≡ false = grind (arith, nat_tests, some) in (rw tall refl);
+    place = λ some. place_in-tall (style_at t.config p) text (rect_width t p) (height_of_rect t.config t.height p) some;
     room = λ some. (cell_fits-room (style_at t.config p) text (rect_width t p) (height_of_rect t.config t.height p) fits some).0;
   }

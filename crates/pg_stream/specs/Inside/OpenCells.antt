@@ -2,14 +2,11 @@
 use Rattle.std.specs.Prelude.{◌≡◌, ℕ, ◌+◌, ◌-◌, ◌<◌, ◌≤◌, ◌^◌, List, length, Option, Some, None}
 use Rattle.pg_config.specs.Spans.{rect_columns}
 use Rattle.pg_layout.specs.LineCursor.{StandsIn, line_number}
-use Rattle.pg_layout.specs.declared.position.Position.{Position}
 use Rattle.pg_layout.specs.Position.{at}
 use Rattle.pg_layout.specs.Text.{Text, lines_of}
-use Rattle.pg_picture.specs.Pieces.{Style, style_at}
 use Rattle.pg_picture.specs.Sizes.{height_of_rect}
 use Rattle.pg_picture.specs.Table.{Table}
 use Rattle.pg_picture.specs.declared.place.CellPlace.{CellPlace}
-use Rattle.pg_stream.specs.Inside.Styles.{DrawsAs}
 use Rattle.pg_stream.specs.Placed.{Placed, AllOpen, IsPlaced}
 
 -- so many more lines of a cell are drawn
@@ -37,13 +34,6 @@ pub record AreOpen (t : Table) (cells : List (Option Placed)) : Type 0 where
 pub record AreDrawn (t : Table) (cells : List (Option Placed)) : Type 0 where
   pub opened : AreOpen t cells
   pub tall : AllOpen (IsTall t) cells
-
--- A style draws the lines of an open cell that begins at p.
-pub record DrawsCell (t : Table) (p : Position) (style : Style) (cell : Placed) : Type 0 where
-  pub begun : p.row ≡ cell.begun
-  pub placed : IsPlaced t p.col cell
-  pub tall : IsTall t p.col cell
-  pub draws : DrawsAs cell.place.left style (style_at t.config p)
 
 -- So many lines may be drawn from line `index` of the body on: they and those of each cell have numbers of 64 bits, and
 -- where there is a line, the cells are drawn.

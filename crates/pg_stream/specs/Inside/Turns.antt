@@ -1,14 +1,13 @@
 -- What becomes of the open cells in one row: cells begin and cells end.
-use Rattle.std.specs.Prelude.{◌≡◌, ℕ, ◌+◌, ◌<◌, ◌≤◌, ◌==◌, Bool, false, not, nat_lt, List, [], ◌∷◌, slice_index_or, Option, Some, None, if◌then◌else◌}
+use Rattle.std.specs.Prelude.{◌≡◌, ℕ, ◌+◌, ◌<◌, ◌≤◌, Bool, false, not, nat_lt, List, [], ◌∷◌, slice_index_or, Option, Some, None, if◌then◌else◌}
 use Rattle.pg_layout.specs.declared.position.Position.{Position}
 use Rattle.pg_layout.specs.Position.{at, is_at}
 use Rattle.pg_layout.specs.Text.{Text}
 use Rattle.pg_config.specs.Spans.{Span, rect_rows, rect_columns, owner}
-use Rattle.pg_picture.specs.Inside.Cells.{facts_of, place_of}
-use Rattle.pg_picture.specs.Pieces.{Style, style_at}
+use Rattle.pg_picture.specs.Inside.Cells.{place_in}
+use Rattle.pg_picture.specs.Pieces.{style_at}
 use Rattle.pg_picture.specs.Sizes.{height_of_rect}
 use Rattle.pg_picture.specs.Table.{Table, rect_width}
-use Rattle.pg_picture.specs.declared.place.CellPlace.{CellPlace}
 use Rattle.pg_stream.specs.Conditions.{HasRoom}
 use Rattle.pg_stream.specs.Placed.{Placed}
 
@@ -18,11 +17,6 @@ pub record IsOwnerAbove (spans : List Span) (k x : ℕ) (cell : Option Placed) :
   pub none : cell ≡ None → (owner spans k x).row < k → (owner spans k x).col ≡ x → ⊥
   pub some : (c : Placed) → cell ≡ Some c → owner spans k x ≡ at c.begun x
   pub above : (c : Placed) → cell ≡ Some c → c.begun < k
-
--- where the lines of a text stand in a cell of so many columns and lines; one of no line shows none
-abbrev pub place_in : Style → Text → ℕ → ℕ → CellPlace
-place_in style text width height =
-    if height == 0 then record { top = 0; shown = 0; skip = 0; left = None } else place_of (facts_of style.formatting text) style width height
 
 -- a cell that begins at p, of which nothing is drawn yet
 abbrev pub new_cell : Table → Position → Text → Placed

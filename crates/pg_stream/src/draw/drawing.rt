@@ -93,7 +93,7 @@ where
             sheet.columns,
         ).unwrap();
         let height = height_of_rows(sheet.config, sheet.dimension, pos, rows).unwrap();
-        let place = self.place_of_text(value.as_str(), pos, width, height);
+        let place = self.pen.place_of(value.as_str(), pos, width, height);
         OpenCell::new(value, pos.row, width, place)
     }
 }

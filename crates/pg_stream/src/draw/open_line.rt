@@ -2,18 +2,18 @@
 
 ghost use Rattle.std.specs.Prelude.{◌≡◌, slice_index_or, None, Some};
 ghost use Rattle.pg_picture.specs.Appending.{Appends};
-ghost use Rattle.pg_picture.specs.Inside.Cells.{style_of};
 ghost use Rattle.pg_picture.specs.Pieces.{written};
-ghost use Rattle.pg_stream.specs.Inside.OpenCells.{AreDrawn, DrawsCell};
+ghost use Rattle.pg_stream.specs.Inside.OpenCells.{AreDrawn};
 ghost use Rattle.pg_stream.specs.Inside.Slots.{slot_block};
 ghost use Rattle.pg_stream.specs.Placed.{slot_of};
 ghost use Rattle.std.proofs.Props.{props};
 
 use crate::draw::{Drawing, OpenCell, OpenCells};
 use pg_layout::{Colors, Dimension, Position};
-use pg_picture::{CellStyle, Drawn, push_block_line_of};
+use pg_picture::{Drawn, PlacedLine};
 use std::alloc::{AllocError, Allocator};
 use std::convert::AsStr;
+use std::marker::PhantomData;
 
 /// A line of a row or a separator: the table that is printed, and the cells that are open there, each of
 /// which shows its next line.
@@ -51,35 +51,14 @@ where
         requires cell { slice_index_or self.now.opened.now column None ≡ Some cell.now }
         ensures { Appends buf.old buf.new result (written (slot_block T.table (slot_of (Some cell.now)) column)) }
     {
-        let pos = Position::new(cell.begun(), column);
-        match &self.table.pen.sheet.all {
-            Some(style) => self.push_line_in_style(buf, style, cell, pos),
-            None => {
-                let style = self.table.style_of_lines(cell.place().left, pos);
-                self.push_line_in_style(buf, &style, cell, pos)
-            }
-        }
-    }
-
-    #[inline(always)]
-    fn push_line_in_style<W: Allocator>(
-        &self,
-        buf: &mut String<W>,
-        style: &CellStyle<'_, B>,
-        cell: &OpenCell<S>,
-        pos: Position,
-    ) -> Result<(), AllocError>
-        requires { DrawsCell T.table pos (style_of style.now) cell.now }
-        ensures { Appends buf.old buf.new result (written (slot_block T.table (slot_of (Some cell.now)) pos.col)) }
-    {
-        push_block_line_of(
-            buf,
-            style,
-            self.table.pen.color_of(pos),
-            cell.line(),
-            cell.place(),
-            cell.width(),
-            cell.drawn(),
-        )
+        let line: PlacedLine<'_, T> = PlacedLine {
+            pos: Position::new(cell.begun(), column),
+            width: cell.width(),
+            place: cell.place(),
+            number: cell.drawn(),
+            text: cell.line(),
+            of: PhantomData,
+        };
+        self.table.pen.push_placed_line(buf, line)
     }
 }

@@ -22,19 +22,10 @@ returns-in-Some g c =
     (ap written (single-whole style _ cell.text.now cell.width (sym c.shows_texts_whole.ensures ∙ c.if-shows_texts_whole.true) c.in-Some.ensures.one)
     ∙ ap₂ (λ s k. written (block_line s k cell.text.now cell.width 1 0)) c.requires.style c.color_of-color.ensures) c.push_line_of_width.ensures
 
-pub of-place-requires-clause-width : goal.of-place-requires-clause-width
-of-place-requires-clause-width g c =
-    let style = style_of c.args.style.now in
+pub of_text-place-requires : goal.of_text-place-requires
+of_text-place-requires g c =
     let cell = c.args.cell in
-    let fits : cell_fits style cell.text.now cell.width 1 ≡ true = ap (λ s. cell_fits s cell.text.now cell.width 1) c.requires.style ∙ cell.has_room in
-    omega (arith, cell_fits-width style cell.text.now cell.width 1 (lit< tt) fits, ap (λ (facts : TextFacts). facts.widest) c.of_text-facts.ensures, facts_of-widest c.args.style.now.formatting cell.text.now)
-
-pub of-place-requires-clause-height : goal.of-place-requires-clause-height
-of-place-requires-clause-height g c =
-    let style = style_of c.args.style.now in
-    let cell = c.args.cell in
-    let fits : cell_fits style cell.text.now cell.width 1 ≡ true = ap (λ s. cell_fits s cell.text.now cell.width 1) c.requires.style ∙ cell.has_room in
-    cell_fits-height style cell.text.now cell.width 1 (lit< tt) fits
+    ap (λ s. cell_fits s cell.text.now cell.width 1) c.requires.style ∙ cell.has_room
 
 pub push_block_line-requires-clause-width : goal.push_block_line-requires-clause-width
 push_block_line-requires-clause-width g c =

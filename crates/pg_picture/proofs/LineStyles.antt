@@ -5,7 +5,7 @@ use Rattle.pg_layout.specs.Text.{Text, width_of}
 use Rattle.pg_picture.specs.Inside.Cells.{share_of, shown_line, placed_line}
 use Rattle.pg_picture.specs.Pieces.{Style, inner_width, trimmed_if}
 use Rattle.pg_picture.specs.declared.place.CellPlace.{CellPlace}
-use Rattle.pg_stream.specs.Inside.Styles.{DrawsAs}
+use Rattle.pg_picture.specs.Inside.Styles.{DrawsAs}
 
 module _ (s t : Style) where
   pub draws-same : (left : Option ℕ) → s ≡ t → DrawsAs left s t

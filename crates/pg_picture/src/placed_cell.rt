@@ -1,0 +1,130 @@
+//! A cell whose lines are drawn one by one: where its text stands, and each line.
+
+ghost use Rattle.std.specs.Prelude.{◌≡◌, ◌+◌, ◌≤◌, true, length};
+ghost use Rattle.pg_layout.specs.Text.{lines_of};
+ghost use Rattle.pg_picture.specs.Appending.{Appends};
+ghost use Rattle.pg_picture.specs.Fits.{cell_fits};
+ghost use Rattle.pg_picture.specs.Pieces.{written, style_at};
+ghost use Rattle.pg_picture.specs.Inside.Cells.{HasRoomFor, style_of, place_in, placed_line};
+ghost use Rattle.pg_picture.specs.Inside.Styles.{DrawsAs};
+ghost use Rattle.std.proofs.Props.{props};
+
+use crate::cell::push_block_line_of;
+use crate::pen::{Drawn, Pen};
+use crate::place::CellPlace;
+use pg_config::CellStyle;
+use pg_layout::{Colors, Dimension, Position};
+use std::alloc::{AllocError, Allocator};
+use std::marker::PhantomData;
+
+/// A line of a cell of so many columns, whose text stands at a place: its number among the cell's lines,
+/// and the one of the text's lines that [`CellPlace::text_line_at`] names, or any text where it names none.
+///
+/// It is for who draws pieces of a table by themselves. Where a text line stands there, the cell has room
+/// for it.
+#[derive(Drop)]
+pub struct PlacedLine<'t, T: Drawn> {
+    pub pos: Position,
+    pub width: usize,
+    pub place: CellPlace,
+    pub number: usize,
+    pub text: &'t str,
+    pub of: PhantomData<T>,
+    ghost has_room: { HasRoomFor (style_at T.table.config pos) place width number text.now } by { Prim.hlevel props },
+}
+
+impl<'s, T, D, C, B> Pen<'s, T, D, C, B>
+where
+    T: Drawn,
+    D: Dimension,
+    C: Colors,
+    B: Allocator,
+{
+    /// Where the lines of a text stand in a cell of so many columns and lines, which has room for it; one
+    /// of no line shows none.
+    pub fn place_of(self, text: &str, pos: Position, width: usize, height: usize) -> CellPlace
+        requires { cell_fits (style_at T.table.config pos) text.now width height ≡ true }
+        ensures place { result ≡ place_in (style_at T.table.config pos) text.now width height }
+        ensures lines { result.skip + result.shown ≤ length (lines_of text.now) }
+    {
+        match &self.sheet.all {
+            Some(style) => CellPlace::of_text(text, style, width, height),
+            None => self.place_in_own_style(text, pos, width, height),
+        }
+    }
+
+    // The same where the cell's style is looked up. It stands out of line, so that the other case has no
+    // room for a style on its stack, which would be cleared.
+    #[inline(never)]
+    fn place_in_own_style(self, text: &str, pos: Position, width: usize, height: usize) -> CellPlace
+        requires { cell_fits (style_at T.table.config pos) text.now width height ≡ true }
+        ensures place { result ≡ place_in (style_at T.table.config pos) text.now width height }
+        ensures lines { result.skip + result.shown ≤ length (lines_of text.now) }
+    {
+        let style = CellStyle::of(self.sheet.config, pos);
+        CellPlace::of_text(text, &style, width, height)
+    }
+
+    /// Appends a line of a cell whose text was placed.
+    ///
+    /// An error comes only where the buffer's room is too small; the buffer then holds a beginning.
+    #[inline(always)]
+    pub fn push_placed_line<A: Allocator>(
+        self,
+        buf: &mut String<A>,
+        line: PlacedLine<'_, T>,
+    ) -> Result<(), AllocError>
+        ensures { Appends buf.old buf.new result (written (placed_line (style_at T.table.config line.entry.pos) (T.table.color line.entry.pos) line.entry.place line.entry.width line.entry.number line.entry.text.now)) }
+    {
+        match &self.sheet.all {
+            Some(style) => self.push_line_in_style(buf, style, line),
+            None => self.push_line_in_own_style(buf, line),
+        }
+    }
+
+    // The same where the cell's style is looked up, out of line as above. Where all lines of the cell have
+    // one left share, its alignments say no more, and aren't looked up.
+    #[inline(never)]
+    fn push_line_in_own_style<A: Allocator>(
+        self,
+        buf: &mut String<A>,
+        line: PlacedLine<'_, T>,
+    ) -> Result<(), AllocError>
+        ensures { Appends buf.old buf.new result (written (placed_line (style_at T.table.config line.entry.pos) (T.table.color line.entry.pos) line.entry.place line.entry.width line.entry.number line.entry.text.now)) }
+    {
+        let style = self.style_of_lines(line.place.left, line.pos);
+        self.push_line_in_style(buf, &style, line)
+    }
+
+    #[inline(always)]
+    fn style_of_lines(self, left: Option<usize>, pos: Position) -> CellStyle<'s, B>
+        ensures { DrawsAs left (style_of result) (style_at T.table.config pos) }
+    {
+        match left {
+            Some(_) => CellStyle::unaligned(self.sheet.config, pos),
+            None => CellStyle::of(self.sheet.config, pos),
+        }
+    }
+
+    #[inline(always)]
+    fn push_line_in_style<A: Allocator>(
+        self,
+        buf: &mut String<A>,
+        style: &CellStyle<'_, B>,
+        line: PlacedLine<'_, T>,
+    ) -> Result<(), AllocError>
+        requires { DrawsAs line.place.left (style_of style.now) (style_at T.table.config line.pos) }
+        ensures { Appends buf.old buf.new result (written (placed_line (style_at T.table.config line.entry.pos) (T.table.color line.entry.pos) line.entry.place line.entry.width line.entry.number line.entry.text.now)) }
+    {
+        let color = self.color_of(line.pos);
+        push_block_line_of(
+            buf,
+            style,
+            color,
+            line.text,
+            line.place,
+            line.width,
+            line.number,
+        )
+    }
+}
