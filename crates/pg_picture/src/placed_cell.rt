@@ -49,20 +49,11 @@ where
     {
         match &self.sheet.all {
             Some(style) => CellPlace::of_text(text, style, width, height),
-            None => self.place_in_own_style(text, pos, width, height),
+            None => {
+                let style = CellStyle::of(self.sheet.config, pos);
+                CellPlace::of_text(text, &style, width, height)
+            }
         }
-    }
-
-    // The same where the cell's style is looked up. It stands out of line, so that the other case has no
-    // room for a style on its stack, which would be cleared.
-    #[inline(never)]
-    fn place_in_own_style(self, text: &str, pos: Position, width: usize, height: usize) -> CellPlace
-        requires { cell_fits (style_at T.table.config pos) text.now width height ≡ true }
-        ensures place { result ≡ place_in (style_at T.table.config pos) text.now width height }
-        ensures lines { result.skip + result.shown ≤ length (lines_of text.now) }
-    {
-        let style = CellStyle::of(self.sheet.config, pos);
-        CellPlace::of_text(text, &style, width, height)
     }
 
     /// Appends a line of a cell whose text was placed.
@@ -78,24 +69,14 @@ where
     {
         match &self.sheet.all {
             Some(style) => self.push_line_in_style(buf, style, line),
-            None => self.push_line_in_own_style(buf, line),
+            None => {
+                let style = self.style_of_lines(line.place.left, line.pos);
+                self.push_line_in_style(buf, &style, line)
+            }
         }
     }
 
-    // The same where the cell's style is looked up, out of line as above. Where all lines of the cell have
-    // one left share, its alignments say no more, and aren't looked up.
-    #[inline(never)]
-    fn push_line_in_own_style<A: Allocator>(
-        self,
-        buf: &mut String<A>,
-        line: PlacedLine<'_, T>,
-    ) -> Result<(), AllocError>
-        ensures { Appends buf.old buf.new result (written (placed_line (style_at T.table.config line.entry.pos) (T.table.color line.entry.pos) line.entry.place line.entry.width line.entry.number line.entry.text.now)) }
-    {
-        let style = self.style_of_lines(line.place.left, line.pos);
-        self.push_line_in_style(buf, &style, line)
-    }
-
+    // Where all lines of a cell have one left share, its alignments say no more, and aren't looked up.
     #[inline(always)]
     fn style_of_lines(self, left: Option<usize>, pos: Position) -> CellStyle<'s, B>
         ensures { DrawsAs left (style_of result) (style_at T.table.config pos) }
