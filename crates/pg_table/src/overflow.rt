@@ -22,7 +22,7 @@ pub enum Overflow<'t> {
 }
 
 /// What a table is fitted to.
-#[derive(Debug, Clone, Copy)]
+#[derive(Drop)]
 pub(crate) struct Within<'l> {
     /// How many terminal columns a line has at most.
     pub(crate) total: usize,
