@@ -69,11 +69,33 @@ where
     {
         match &self.sheet.all {
             Some(style) => self.push_line_in_style(buf, style, line),
-            None => {
-                let style = self.style_of_lines(line.place.left, line.pos);
-                self.push_line_in_style(buf, &style, line)
-            }
+            None => self.push_line_out_of_line(buf, line),
         }
+    }
+
+    // Hands the line to what looks the cell's style up. Room on a stack is cleared when its function begins,
+    // also where that stands in line, so the line's is here, and not where the style of all is at hand.
+    #[inline(always)]
+    fn push_line_out_of_line<A: Allocator>(
+        self,
+        buf: &mut String<A>,
+        line: PlacedLine<'_, T>,
+    ) -> Result<(), AllocError>
+        ensures { Appends buf.old buf.new result (written (placed_line (style_at T.table.config line.entry.pos) (T.table.color line.entry.pos) line.entry.place line.entry.width line.entry.number line.entry.text.now)) }
+    {
+        self.push_line_in_own_style(buf, line)
+    }
+
+    #[inline(never)]
+    fn push_line_in_own_style<A: Allocator>(
+        self,
+        buf: &mut String<A>,
+        line: PlacedLine<'_, T>,
+    ) -> Result<(), AllocError>
+        ensures { Appends buf.old buf.new result (written (placed_line (style_at T.table.config line.entry.pos) (T.table.color line.entry.pos) line.entry.place line.entry.width line.entry.number line.entry.text.now)) }
+    {
+        let style = self.style_of_lines(line.place.left, line.pos);
+        self.push_line_in_style(buf, &style, line)
     }
 
     // Where all lines of a cell have one left share, its alignments say no more, and aren't looked up.
