@@ -1,6 +1,7 @@
 //! Why a query answers no rows.
 
 ghost use Rattle.std.specs.Prelude.{◌≡◌};
+ghost use Rattle.ruled_sql.specs.declared.fault.QueryFault.{QueryFault};
 ghost use Rattle.ruled_sql.specs.declared.fault.SqlFault.TheVariants.{Query};
 
 use sqlite::{Error, ErrorCode};
@@ -35,12 +36,16 @@ pub enum SqlFault {
 }
 
 impl From<AllocError> for QueryFault {
+    ghost from_gives = { λ _ fault. fault ≡ QueryFault.Memory };
+
     fn from(_error: AllocError) -> QueryFault {
         QueryFault::Memory
     }
 }
 
 impl<T: Drop> From<AllocFailed<T>> for QueryFault {
+    ghost from_gives = { λ _ fault. fault ≡ QueryFault.Memory };
+
     fn from(_error: AllocFailed<T>) -> QueryFault {
         QueryFault::Memory
     }
