@@ -1,0 +1,126 @@
+"""The edits of a crate: wrong bodies, each of which the prover must refuse.
+
+Those that the gate tries are files of their own, crates/NAME/must-fail/EDIT.edit. All others are blocks of
+crates/NAME/EDITS, in the order of their names, with an empty line between two. The lines of an edit are
+
+    edit: NAME            in EDITS only, since a file has its own name
+    file: PATH            the file that it changes
+    old: TEXT             a text that is in that file exactly once
+    new: TEXT             what takes its place; further pairs apply to what the earlier ones made
+    function: PATH        the function that the prover refuses, by the prover's name
+    verdict: WORD GOAL..  what it said, in the words that tools/watch-edits explains
+"""
+from dataclasses import dataclass, field
+from pathlib import Path
+
+from crates import TOP
+
+PARTS = ("edit", "file", "old", "new", "function", "verdict")
+
+
+@dataclass
+class Edit:
+    """A wrong body: texts of a crate's files with what takes their place, and what the prover said to it."""
+
+    home: Path
+    name: str
+    in_gate: bool
+    steps: list = field(default_factory=list)
+    function: str = ""
+    verdict: str = ""
+
+    def lines(self):
+        """The lines that an edit has in either place."""
+        named = ""
+        for file, old, new in self.steps:
+            if file != named:
+                yield f"file: {file}"
+            yield f"old: {old}"
+            yield f"new: {new}" if new else "new:"
+            named = file
+        if self.verdict:
+            yield f"function: {self.function}"
+            yield f"verdict: {self.verdict}"
+
+    def text(self):
+        return "".join(f"{line}\n" for line in self.lines())
+
+    def block(self):
+        return f"edit: {self.name}\n{self.text()}"
+
+    def apply(self, texts):
+        """The changed files' texts after this edit, over those that others changed; None if a text isn't there once."""
+        after = dict(texts)
+        for file, old, new in self.steps:
+            path = self.home / file
+            before = after.get(file) or (path.read_text() if path.is_file() else "")
+            if before.count(old) != 1:
+                return None
+            after[file] = before.replace(old, new)
+        return after
+
+
+def parsed(home, text, name=""):
+    """The edit that some lines describe, of the crate in this folder; one with a name of its file is the gate's."""
+    edit, file, old = Edit(home, name, bool(name)), "", ""
+    for line in text.splitlines():
+        word, _, rest = line.partition(":")
+        rest = rest.removeprefix(" ")
+        if word not in PARTS:
+            raise ValueError(f"{home.name}, {edit.name or 'EDITS'}: an edit has no line {line!r}")
+        if word == "edit":
+            edit.name = rest
+        elif word == "file":
+            file = rest
+        elif word == "old":
+            old = rest
+        elif word == "new":
+            edit.steps.append((file, old, rest))
+        else:
+            setattr(edit, word, rest)
+    return edit
+
+
+def read_edits(home):
+    """The edits of the crate in this folder by their names, with those that the gate tries."""
+    page = home / "EDITS"
+    blocks = page.read_text().split("\n\n") if page.is_file() else []
+    found = [parsed(home, block.strip("\n")) for block in blocks]
+    found += [parsed(home, it.read_text(), it.stem) for it in (home / "must-fail").glob("*.edit")]
+    return {edit.name: edit for edit in sorted(found, key=lambda it: it.name)}
+
+
+def write_edits(home, edits):
+    """Writes the edits of the crate in this folder back, each to its place."""
+    ordered = sorted(edits.values(), key=lambda it: it.name)
+    blocks = [edit.block() for edit in ordered if not edit.in_gate]
+    (home / "EDITS").write_text("\n".join(blocks))
+    for edit in ordered:
+        if edit.in_gate:
+            (home / "must-fail" / f"{edit.name}.edit").write_text(edit.text())
+
+
+def faults(home):
+    """What is wrong with the edits of the crate in this folder: each edit's name with it."""
+    page = home / "EDITS"
+    lines = page.read_text().splitlines() if page.is_file() else []
+    names = [line.removeprefix("edit: ") for line in lines if line.startswith("edit: ")]
+    for one, next_one in zip(names, names[1:]):
+        if one >= next_one:
+            yield next_one, "is there twice, or isn't in the order of names"
+    for name in names:
+        if (home / "must-fail" / f"{name}.edit").is_file():
+            yield name, "is in EDITS and in must-fail"
+    for edit in read_edits(home).values():
+        if edit.apply({}) is None:
+            yield edit.name, "names a text that isn't in its file exactly once"
+        if not edit.verdict:
+            yield edit.name, "has no verdict"
+
+
+def check_edits():
+    """Prints what is wrong with the edits of all crates, and returns how many things are."""
+    crates = sorted((TOP / "crates").iterdir())
+    found = [f"{home.name}: {name} {fault}" for home in crates for name, fault in faults(home)]
+    print(*found, f"{sum(len(read_edits(it)) for it in crates)} edits, {len(found)} faults", sep="\n")
+    return len(found)
