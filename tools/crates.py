@@ -1,29 +1,38 @@
-"""The crates of the repository, as crates.txt lists them."""
+"""The crates of the repository, as crates.txt lists them.
+
+`python3 tools/crates.py NAME` prints those that a crate stands on, lowest first, and then that one.
+"""
+import re
+import sys
 from pathlib import Path
 
 TOP = Path(__file__).resolve().parent.parent
 
 
 def crate_lines(text):
-    """The lines of a crates.txt by the crates that they name."""
-    lines = [line.split("#")[0].strip() for line in text.splitlines()]
-    return {line.partition(":")[0].split()[0]: line for line in lines if ":" in line}
+    """The lines of a crates.txt by the crates that they name, without comments."""
+    lines = [line.partition("#")[0].strip() for line in text.splitlines()]
+    return {re.split(r"[\s:]", line, maxsplit=1)[0]: line for line in lines if line}
 
 
-def used_crates(text):
-    """The crates that each crate of a crates.txt uses, those of the kit, too."""
-    return {name: line.partition(":")[2].split() for name, line in crate_lines(text).items()}
+def libraries_of(line):
+    """The libraries that a line of a crates.txt names, those of the kit, too."""
+    return re.findall(r"[^\s,]+", line.partition(":")[2])
 
 
-def uses():
-    """The crates that each crate of this repository uses, those of the kit, too."""
-    return used_crates((TOP / "crates.txt").read_text())
+def own_lines():
+    """The lines of this repository's crates.txt."""
+    return crate_lines((TOP / "crates.txt").read_text())
 
 
-def crates_below(name, used):
-    """The listed crates that a crate stands on, each behind those that it uses itself."""
+def crates_below(name, lines):
+    """The listed crates that a crate stands on, each behind those that it stands on itself."""
     found = []
-    for below in used[name]:
-        if below in used:
-            found += [it for it in [*crates_below(below, used), below] if it not in found]
+    for below in libraries_of(lines[name]):
+        if below in lines:
+            found += [it for it in [*crates_below(below, lines), below] if it not in found]
     return found
+
+
+if __name__ == "__main__":
+    print(*crates_below(sys.argv[1], own_lines()), sys.argv[1], sep="\n")
