@@ -34,5 +34,11 @@ def crates_below(name, lines):
     return found
 
 
+def sources_of(name):
+    """The files that the proof of a crate reads."""
+    folders = [TOP / "crates" / name / part for part in ("src", "specs", "proofs")]
+    return [file for folder in folders for file in sorted(folder.rglob("*")) if file.is_file()]
+
+
 if __name__ == "__main__":
     print(*crates_below(sys.argv[1], own_lines()), sys.argv[1], sep="\n")
