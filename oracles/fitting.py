@@ -12,6 +12,7 @@ counts them are those of the package `regex`, widths are worked out here, from t
 import random
 import sys
 import unicodedata
+from dataclasses import dataclass, field
 
 import regex
 
@@ -140,8 +141,16 @@ def written(text):
     )
 
 
-def random_text(most):
-    return "".join(random.choice(PIECES) for _ in range(random.randrange(most)))
+# What joins with a neighbour, or is a control character, is tried by texts alone.
+PIECES_OF_CELLS = [p for p in PIECES if not any(unicodedata.category(c) == "Cc" and c != "\n" or c in LAM + ALEF for c in p)]
+
+
+def random_text(most, pieces=PIECES):
+    return "".join(random.choice(pieces) for _ in range(random.randrange(most)))
+
+
+def random_rows(rows, columns, most):
+    return [[random_text(most, PIECES_OF_CELLS) for _ in range(columns)] for _ in range(rows)]
 
 
 def tell(lines):
@@ -202,53 +211,78 @@ def shown(rows, widths, heights, sides):
     return lines
 
 
+class Way:
+    """What becomes of a text that is too wide: it is wrapped, anywhere or between words, or cut with a tail."""
+
+    def __init__(self, words):
+        self.words, self.tail = words, words[4:] if words.startswith("cut") else None
+
+    @staticmethod
+    def random():
+        return Way(random.choice(["anywhere", "words", "cut …", "cut ..."]))
+
+    def narrowest(self, text):
+        narrow = least(text, self.words == "words") if self.tail is None else width(self.tail)
+        return min(block_width(text), narrow)
+
+    def fitted(self, text, room):
+        if block_width(text) <= room:
+            return text
+        return "\n".join(wrap(text, room, self.words == "words") if self.tail is None else cut(text, room, self.tail))
+
+
+@dataclass
+class Table:
+    """A table within a width: what it is made of, and what a section says of it."""
+
+    name: str
+    rows: list
+    sides: int
+    total: int
+    way: Way
+    limits: list
+    spans: list = field(default_factory=list)
+
+    def print(self, widths, heights, picture, least_width):
+        print(f": {self.name}\nnatural {widths} {heights}")
+        for row in self.rows:
+            print("|" + "|".join(written_cell(text) for text in row) + "|")
+        for line in picture:
+            print("= " + line.replace(" ", "␣"))
+        print(f"borders ascii\npadding all {self.sides} {self.sides} 0 0")
+        for r, c, h, w in self.spans:
+            if w > 1:
+                print(f"column_span {r} {c} {w}")
+            if h > 1:
+                print(f"row_span {r} {c} {h}")
+        if self.limits:
+            print("limits " + " ".join(map(str, self.limits)))
+        print(f"within {self.total} {self.way.words}")
+        print(f"least {least_width}")
+
+
+def column_range(table, column):
+    """The least width of a column, and its natural one within its limit."""
+    texts = [row[column] for row in table.rows]
+    low, natural = (2 * table.sides + max(map(size, texts)) for size in (table.way.narrowest, block_width))
+    limit = table.limits[column] if column < len(table.limits) else natural
+    return low, max(low, min(natural, limit))
+
+
 def tables(count):
-    global PIECES
-    # what joins with a neighbour, or is a control character, is tried by texts alone
-    PIECES = [p for p in PIECES if not any(unicodedata.category(c) == "Cc" and c != "\n" or c in LAM + ALEF for c in p)]
     for n in range(count):
         columns, sides = random.randrange(1, 4), random.randrange(3)
-        rows = [[random_text(10) for _ in range(columns)] for _ in range(random.randrange(1, 4))]
-        total = random.randrange(30)
-        how = random.choice(["anywhere", "words", "cut …", "cut ..."])
+        rows = random_rows(random.randrange(1, 4), columns, 10)
+        total, way = random.randrange(30), Way.random()
         limits = [random.randrange(1, 20) for _ in range(random.randrange(columns + 1))]
-
-        def narrowest(text):
-            if how.startswith("cut"):
-                return min(block_width(text), width(how[4:]))
-            return min(block_width(text), least(text, how == "words"))
-
-        ranges = []
-        for k in range(columns):
-            low = 2 * sides + max(narrowest(row[k]) for row in rows)
-            natural = 2 * sides + max(block_width(row[k]) for row in rows)
-            limit = limits[k] if k < len(limits) else natural
-            ranges.append((low, max(low, min(natural, limit))))
+        table = Table(f"table {n}", rows, sides, total, way, limits)
+        ranges = [column_range(table, column) for column in range(columns)]
         beside = columns + 1
         widths = narrowed(max(0, total - beside), ranges)
-
-        def fitted(text, w):
-            room = max(0, w - 2 * sides)
-            if block_width(text) <= room:
-                return text
-            if how.startswith("cut"):
-                return "\n".join(cut(text, room, how[4:]))
-            return "\n".join(wrap(text, room, how == "words"))
-
-        rows = [[(text, fitted(text, w)) for text, w in zip(row, widths)] for row in rows]
-        made = [[cell[1] for cell in row] for row in rows]
+        made = [[way.fitted(text, max(0, w - 2 * sides)) for text, w in zip(row, widths)] for row in rows]
         final = [2 * sides + max(block_width(row[k]) for row in made) for k in range(columns)]
         heights = [max(len(text.split("\n")) for text in row) for row in made]
-        print(f": table {n}\nnatural {final} {heights}")
-        for row in rows:
-            print("|" + "|".join(written_cell(cell[0]) for cell in row) + "|")
-        for line in shown(made, final, heights, sides):
-            print("= " + line.replace(" ", "␣"))
-        print(f"borders ascii\npadding all {sides} {sides} 0 0")
-        if limits:
-            print("limits " + " ".join(map(str, limits)))
-        print(f"within {total} {how}")
-        print(f"least {sum(r[0] for r in least_ranges(rows, sides, narrowest)) + beside}")
+        table.print(final, heights, shown(made, final, heights, sides), sum(low for low, _ in ranges) + beside)
 
 
 def shares(lacking, count):
@@ -303,72 +337,61 @@ def painted(cells, widths, heights, sides):
     return ["".join(line) for line in lines]
 
 
+def across(table, size):
+    """The widths of the columns of a table for a size of its texts, those of merged cells shared out."""
+    rows, columns = range(len(table.rows)), range(len(table.rows[0]))
+    singles = [max([2 * table.sides + size(table.rows[r][c]) for r in rows if is_alone(table, r, c)], default=0) for c in columns]
+    needs = [(c, w, max(0, 2 * table.sides + size(table.rows[r][c]) - (w - 1))) for r, c, h, w in table.spans]
+    return widened(singles, needs)
+
+
+def is_alone(table, row, column):
+    """Whether no merged cell has this place."""
+    return not any(r <= row < r + h and c <= column < c + w for r, c, h, w in table.spans)
+
+
+def widths_within(table, natural, low):
+    """The natural widths where they fit and no limit is less, and else narrowed ones."""
+    room = max(0, table.total - len(natural) - 1)
+    bound = [table.limits[k] if k < len(table.limits) else 10 ** 9 for k in range(len(natural))]
+    if all(size <= most for size, most in zip(natural, bound)) and sum(natural) <= room:
+        return natural
+    return narrowed(room, [(least, max(least, min(size, most))) for least, size, most in zip(low, natural, bound)])
+
+
+def cells_within(table, widths):
+    """The places of a table's cells with their texts as they fit: first those alone, then the merged ones."""
+    rows, columns = range(len(table.rows)), range(len(widths))
+    alone = [(r, c, 1, 1) for r in rows for c in columns if is_alone(table, r, c)]
+    for r, c, h, w in alone + table.spans:
+        room = sum(widths[c:c + w]) + w - 1 - 2 * table.sides
+        yield (r, c, h, w), table.way.fitted(table.rows[r][c], max(0, room))
+
+
+def heights_of(cells, rows):
+    """The heights of the rows of these cells, those of merged cells shared out."""
+    lines = [(place, len(text.split("\n"))) for place, text in cells]
+    single = [max([count for (r, _, h, w), count in lines if r == row and (h, w) == (1, 1)], default=0) for row in range(rows)]
+    return widened(single, [(r, h, max(0, count - (h - 1))) for (r, _, h, w), count in lines if (h, w) != (1, 1)])
+
+
 def spanned(count):
-    global PIECES
-    PIECES = [p for p in PIECES if not any(unicodedata.category(c) == "Cc" and c != "\n" or c in LAM + ALEF for c in p)]
     made = 0
     while made < count:
         height, columns, sides = random.randrange(1, 5), random.randrange(1, 5), random.randrange(2)
         spans = random_spans(height, columns)
         if not spans:
             continue
-        rows = [[random_text(9) for _ in range(columns)] for _ in range(height)]
-        total = random.choice([random.randrange(40), 10 ** 6])
-        how = random.choice(["anywhere", "words", "cut …", "cut ..."])
+        rows = random_rows(height, columns, 9)
+        total, way = random.choice([random.randrange(40), 10 ** 6]), Way.random()
         limits = [random.randrange(1, 20) for _ in range(random.choice([0, 0, random.randrange(columns + 1)]))]
-        taken = {(y, x) for r, c, h, w in spans for y in range(r, r + h) for x in range(c, c + w)}
-        alone = [(r, c, 1, 1) for r in range(height) for c in range(columns) if (r, c) not in taken]
-
-        def narrowest(text):
-            if how.startswith("cut"):
-                return min(block_width(text), width(how[4:]))
-            return min(block_width(text), least(text, how == "words"))
-
-        def across(size, texts):
-            singles = [max([2 * sides + size(texts[r][c]) for r, c, _, _ in alone if c == k], default=0) for k in range(columns)]
-            return widened(singles, [(c, w, max(0, 2 * sides + size(texts[r][c]) - (w - 1))) for r, c, h, w in spans])
-
-        natural, low = across(block_width, rows), across(narrowest, rows)
-        beside = columns + 1
-        bound = [limits[k] if k < len(limits) else 10 ** 9 for k in range(columns)]
-        if all(natural[k] <= bound[k] for k in range(columns)) and sum(natural) <= max(0, total - beside):
-            widths = natural
-        else:
-            widths = narrowed(max(0, total - beside), [(low[k], max(low[k], min(natural[k], bound[k]))) for k in range(columns)])
-
-        def fitted(text, room):
-            if block_width(text) <= room:
-                return text
-            if how.startswith("cut"):
-                return "\n".join(cut(text, room, how[4:]))
-            return "\n".join(wrap(text, room, how == "words"))
-
-        cells = []
-        for rect in alone + spans:
-            r, c, h, w = rect
-            cells.append((rect, fitted(rows[r][c], max(0, sum(widths[c:c + w]) + w - 1 - 2 * sides))))
-        tall = [max([len(t.split("\n")) for (r, _, _, _), t in cells[:len(alone)] if r == k], default=0) for k in range(height)]
-        tall = widened(tall, [(r, h, max(0, len(t.split("\n")) - (h - 1))) for (r, _, h, _), t in cells[len(alone):]])
-        print(f": table {made} with spans\nnatural {widths} {tall}")
-        for row in rows:
-            print("|" + "|".join(written_cell(text) for text in row) + "|")
-        for line in painted(cells, widths, tall, sides):
-            print("= " + line.replace(" ", "␣"))
-        print(f"borders ascii\npadding all {sides} {sides} 0 0")
-        for r, c, h, w in spans:
-            if w > 1:
-                print(f"column_span {r} {c} {w}")
-            if h > 1:
-                print(f"row_span {r} {c} {h}")
-        if limits:
-            print("limits " + " ".join(map(str, limits)))
-        print(f"within {total} {how}")
-        print(f"least {sum(low) + beside}")
+        table = Table(f"table {made} with spans", rows, sides, total, way, limits, spans)
+        natural, low = across(table, block_width), across(table, way.narrowest)
+        widths = widths_within(table, natural, low)
+        cells = list(cells_within(table, widths))
+        heights = heights_of(cells, height)
+        table.print(widths, heights, painted(cells, widths, heights, sides), sum(low) + columns + 1)
         made += 1
-
-
-def least_ranges(rows, sides, narrowest):
-    return [(2 * sides + max(narrowest(row[k][0]) for row in rows),) for k in range(len(rows[0]))]
 
 
 def written_cell(text):

@@ -10,6 +10,7 @@ crates/NAME/EDITS, in the order of their names, with an empty line between two. 
     function: PATH        the function that the prover refuses, by the prover's name
     verdict: WORD GOAL..  what it said, in the words that tools/watch-edits explains
 """
+from collections import Counter
 from dataclasses import dataclass, field
 from pathlib import Path
 
@@ -94,7 +95,8 @@ def write_edits(home, edits):
     """Writes the edits of the crate in this folder back, each to its place."""
     ordered = sorted(edits.values(), key=lambda it: it.name)
     blocks = [edit.block() for edit in ordered if not edit.in_gate]
-    (home / "EDITS").write_text("\n".join(blocks))
+    if blocks:
+        (home / "EDITS").write_text("\n".join(blocks))
     for edit in ordered:
         if edit.in_gate:
             (home / "must-fail" / f"{edit.name}.edit").write_text(edit.text())
@@ -119,8 +121,10 @@ def faults(home):
 
 
 def check_edits():
-    """Prints what is wrong with the edits of all crates, and returns how many things are."""
+    """Prints what is wrong with the edits of all crates and how many have each verdict; returns how many faults there are."""
     crates = sorted((TOP / "crates").iterdir())
     found = [f"{home.name}: {name} {fault}" for home in crates for name, fault in faults(home)]
-    print(*found, f"{sum(len(read_edits(it)) for it in crates)} edits, {len(found)} faults", sep="\n")
+    words = Counter(edit.verdict.partition(" ")[0] for home in crates for edit in read_edits(home).values())
+    counts = ", ".join(f"{count} {word or 'without a verdict'}" for word, count in words.most_common())
+    print(*found, f"{words.total()} edits: {counts}; {len(found)} faults", sep="\n")
     return len(found)
