@@ -64,7 +64,7 @@ impl CompactConfig {
         }
     }
 
-    /// The same with these glyphs as borders.
+    /// Sets the glyphs of the borders.
     pub fn set_borders(mut self, borders: Borders<char>) -> CompactConfig
         ensures { settings_of result ≡ record (settings_of self) { borders = borders } }
     {
@@ -79,7 +79,7 @@ impl CompactConfig {
         &self.borders
     }
 
-    /// The same with these colours of the borders' glyphs. An empty colour that is set is a colour:
+    /// Sets the colours of the borders' glyphs. An empty colour that is set is a colour:
     /// on a separator it closes the one that is open.
     pub fn set_borders_color(mut self, borders_color: Borders<ANSIStr<'static>>) -> CompactConfig
         ensures { settings_of result ≡ record (settings_of self) { borders_color = border_colors borders_color.entry } }
@@ -95,7 +95,7 @@ impl CompactConfig {
         &self.borders_color
     }
 
-    /// The same with this margin: columns left and right of the table, lines above and below it.
+    /// Sets the margin: columns left and right of the table, lines above and below it.
     pub fn set_margin(mut self, margin: Sides<Indent>) -> CompactConfig
         ensures { settings_of result ≡ record (settings_of self) { margin = margin } }
     {
@@ -110,7 +110,7 @@ impl CompactConfig {
         self.margin
     }
 
-    /// The same with these colours of the margin; an empty colour is none.
+    /// Sets the colours of the margin; an empty colour is none.
     pub fn set_margin_color(mut self, margin_color: Sides<ANSIStr<'static>>) -> CompactConfig
         ensures { settings_of result ≡ record (settings_of self) { margin_color = side_colors margin_color.entry } }
     {
@@ -125,7 +125,7 @@ impl CompactConfig {
         self.margin_color
     }
 
-    /// The same with this padding of every cell: columns left and right of its text, and lines of
+    /// Sets the padding of every cell: columns left and right of its text, and lines of
     /// spaces above and below it.
     pub fn set_padding(mut self, padding: Sides<Indent>) -> CompactConfig
         ensures { settings_of result ≡ record (settings_of self) { padding = padding } }
@@ -141,7 +141,7 @@ impl CompactConfig {
         self.padding
     }
 
-    /// The same with these colours of the padding; an empty colour is none.
+    /// Sets the colours of the padding; an empty colour is none.
     pub fn set_padding_color(mut self, padding_color: Sides<ANSIStr<'static>>) -> CompactConfig
         ensures { settings_of result ≡ record (settings_of self) { padding_color = side_colors padding_color.entry } }
     {
@@ -156,7 +156,7 @@ impl CompactConfig {
         self.padding_color
     }
 
-    /// The same with this alignment of every text.
+    /// Sets the alignment of every text.
     pub fn set_alignment_horizontal(mut self, alignment: AlignmentHorizontal) -> CompactConfig
         ensures { settings_of result ≡ record (settings_of self) { alignment = alignment } }
     {

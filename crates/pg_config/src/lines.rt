@@ -33,7 +33,16 @@ impl<G, A: Allocator> Model for Lines<G, A> {
 
     ghost Value = { Noted (Parts G) };
 
-    ghost view = { λ l. record { now = record { overrides = record { horizontals = l.horizontals.now; verticals = l.verticals.now; crossings = l.crossings.now }; columns = l.columns.now }; before = record { overrides = record { horizontals = l.horizontals.before; verticals = l.verticals.before; crossings = l.crossings.before }; columns = l.columns.before } } };
+    ghost view = { λ l. record {
+      now = record {
+        overrides = record { horizontals = l.horizontals.now; verticals = l.verticals.now; crossings = l.crossings.now };
+        columns = l.columns.now;
+      };
+      before = record {
+        overrides = record { horizontals = l.horizontals.before; verticals = l.verticals.before; crossings = l.crossings.before };
+        columns = l.columns.before;
+      };
+    } };
 }
 
 impl<G, A: Allocator + Copy> Lines<G, A> {
@@ -78,7 +87,8 @@ impl<G: Drop, A: Allocator + Clone> Lines<G, A> {
         self.put_round(pos, below, right, on_lines(pos, border))
     }
 
-    // The same, with the lines below the cell and right of it.
+    // Sets the glyphs of a border round a cell, of which the row line below and the column line right of it
+    // have these numbers.
     fn put_round(
         &mut self,
         pos: Position,

@@ -6,7 +6,8 @@ ghost use Rattle.pg_layout.specs.Keys.{by_place, in_row, in_column};
 ghost use Rattle.pg_layout.specs.Places.{IsAscending, has_key};
 ghost use Rattle.pg_config.specs.Inside.CrossingMarks.{with_all};
 ghost use Rattle.pg_config.specs.LineGlyphs.{with_glyphs, with_line_crossings};
-ghost use Rattle.pg_config.specs.Overrides.{no_overrides, on_lines, with_border, has_glyph, with_row_line, horizontal_override, vertical_override, crossing_override, overrides_row, overrides_column, sets_rows, sets_columns};
+ghost use Rattle.pg_config.specs.Overrides.{no_overrides, on_lines, with_border, has_glyph, with_row_line, horizontal_override};
+ghost use Rattle.pg_config.specs.Overrides.{vertical_override, crossing_override, overrides_row, overrides_column, sets_rows, sets_columns};
 
 use crate::line_glyphs::LinePlace;
 use crate::lines::Lines;

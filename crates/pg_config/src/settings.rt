@@ -83,7 +83,8 @@ impl<V, A: Allocator> Settings<V, A> {
         self.cells.is_empty() && self.rows.is_empty() && self.columns.is_empty()
     }
 
-    // The same by searches.
+    // The setting of a place, found by searches: the latest of those of its cell, its row and its column, or
+    // that of all places.
     #[tactic(auto, unfolding(crate::specs::Settings::setting_of))]
     fn find(&self, pos: Position) -> Option<&V>
         ensures { option_map (λ x. x.now) result ≡ setting_of self.now pos }

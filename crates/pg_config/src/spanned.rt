@@ -86,7 +86,31 @@ impl<A: Allocator> Model for SpannedConfig<A> {
 
     ghost Value = { Config };
 
-    ghost view = { λ c. record { borders = c.borders; overrides = c.overrides; missing = c.missing; border_colors = c.border_colors; color_overrides = c.color_overrides; border_colored = c.border_colored; horizontal_chars = c.horizontal_chars; vertical_chars = c.vertical_chars; horizontal_colors = c.horizontal_colors; vertical_colors = c.vertical_colors; margin = c.margin; margin_offset = c.margin_offset; margin_color = c.margin_color; padding = c.cells.padding; padding_color = c.cells.padding_color; alignment_horizontal = c.cells.alignment_horizontal; alignment_vertical = c.cells.alignment_vertical; trim_horizontal = c.cells.trim_horizontal; trim_vertical = c.cells.trim_vertical; line_alignment = c.cells.line_alignment; justification = c.cells.justification; justification_color = c.cells.justification_color; spans = c.spans } };
+    ghost view = { λ c. record {
+      borders = c.borders;
+      overrides = c.overrides;
+      missing = c.missing;
+      border_colors = c.border_colors;
+      color_overrides = c.color_overrides;
+      border_colored = c.border_colored;
+      horizontal_chars = c.horizontal_chars;
+      vertical_chars = c.vertical_chars;
+      horizontal_colors = c.horizontal_colors;
+      vertical_colors = c.vertical_colors;
+      margin = c.margin;
+      margin_offset = c.margin_offset;
+      margin_color = c.margin_color;
+      padding = c.cells.padding;
+      padding_color = c.cells.padding_color;
+      alignment_horizontal = c.cells.alignment_horizontal;
+      alignment_vertical = c.cells.alignment_vertical;
+      trim_horizontal = c.cells.trim_horizontal;
+      trim_vertical = c.cells.trim_vertical;
+      line_alignment = c.cells.line_alignment;
+      justification = c.cells.justification;
+      justification_color = c.cells.justification_color;
+      spans = c.spans;
+    } };
 
     ghost invariant = { λ c. c.no_colors ≡ filled None };
 }

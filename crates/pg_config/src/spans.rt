@@ -7,7 +7,8 @@ ghost use Rattle.pg_layout.specs.declared.position.ColumnPlace.{ColumnPlace};
 ghost use Rattle.pg_layout.specs.Keys.{by_columns, column_place};
 ghost use Rattle.pg_layout.specs.Places.{IsAscending, value_at, before, between, last_before, next_from};
 ghost use Rattle.pg_config.specs.declared.spans.SpanSize.{SpanSize};
-ghost use Rattle.pg_config.specs.Spans.{Span, span_size, size_of, with_size, with_column_span, with_row_span, has_column_spans, has_row_spans, in_span, if_left, left_span, is_covered_by_column, is_covered_by_row, is_covered_by_both};
+ghost use Rattle.pg_config.specs.Spans.{Span, span_size, size_of, with_size, with_column_span, with_row_span, has_column_spans, has_row_spans};
+ghost use Rattle.pg_config.specs.Spans.{in_span, if_left, left_span, is_covered_by_column, is_covered_by_row, is_covered_by_both};
 ghost use Rattle.pg_config.specs.Inside.Covered.{is_covered_from, is_covered_from_left};
 
 use crate::extent::Extent;
@@ -118,7 +119,7 @@ impl<A: Allocator> Spans<A> {
         }
     }
 
-    // The same by a search.
+    // The size of the span at a place, or 1 by 1, found by a search of the spans.
     #[tactic(auto, unfolding(crate::specs::Spans::size_of))]
     fn find_size(&self, pos: Position) -> SpanSize
         ensures { result ≡ size_of self.now pos }
@@ -212,7 +213,7 @@ impl<A: Allocator> Spans<A> {
         None
     }
 
-    // The same by a search.
+    // The span that holds a place and begins left of it in its row, found by a search of the spans.
     fn find_left_span(&self, pos: Position) -> Option<Span>
         ensures { result ≡ left_span self.now pos.row pos.col }
     {
@@ -280,7 +281,7 @@ impl<A: Allocator> Spans<A> {
         self.is_covered_between(pos, from, to)
     }
 
-    // The same of those from one place on and up to another.
+    // Whether one of the spans from a place on and up to another covers a place.
     fn is_covered_between(&self, pos: Position, from: ColumnPlace, to: ColumnPlace) -> bool
         requires { before by_columns to from ≡ false }
         ensures { result ≡ list_any (in_span pos.row pos.col) (between by_columns from to self.now) }

@@ -137,7 +137,7 @@ pub fn a_header_in_sharp()
     ensures { picture Known (headed_in sharp sharp_line) ≡ drawing (codes "┌───┬───┐" ∷ codes "│0-0│0-1│" ∷ codes "├───┼───┤" ∷ codes "│1-0│1-1│" ∷ codes "│2-0│2-1│" ∷ codes "└───┴───┘" ∷ []) }
 {}
 
-/// The same line between round corners.
+/// A line below the first row, in single lines between round corners.
 ///
 /// ```text
 /// ╭───┬───╮

@@ -1,7 +1,8 @@
 //! The glyphs of a table's borders, or their colours.
 
 ghost use Rattle.std.specs.Prelude.{◌≡◌, Bool, Option, Some, None, ◌&&◌, is_none, MatchResult};
-ghost use Rattle.pg_layout.specs.Borders.{no_borders, no_border, top_line, cell_line, inner_line, bottom_line, of_lines, has_top, has_bottom, has_left, has_right, has_inner_horizontal, has_inner_vertical};
+ghost use Rattle.pg_layout.specs.Borders.{no_borders, no_border, top_line, cell_line, inner_line, bottom_line, of_lines};
+ghost use Rattle.pg_layout.specs.Borders.{has_top, has_bottom, has_left, has_right, has_inner_horizontal, has_inner_vertical};
 
 use std::alloc::AllocError;
 
@@ -35,9 +36,15 @@ pub struct Borders<T> {
 
 // By their lines: a derived clone lets go, at each of fifteen `?`, of all values that were cloned before it.
 impl<T: Clone> Clone for Borders<T> {
-    ghost is_clone = { λ b clone. ⟦<HorizontalLine<T> as Clone>⟧.is_clone (top_line b) (top_line clone) × ⟦<HorizontalLine<T> as Clone>⟧.is_clone (cell_line b) (cell_line clone) × ⟦<HorizontalLine<T> as Clone>⟧.is_clone (inner_line b) (inner_line clone) × ⟦<HorizontalLine<T> as Clone>⟧.is_clone (bottom_line b) (bottom_line clone) };
+    ghost is_clone = { λ b clone. ⟦<HorizontalLine<T> as Clone>⟧.is_clone (top_line b) (top_line clone)
+        × ⟦<HorizontalLine<T> as Clone>⟧.is_clone (cell_line b) (cell_line clone)
+        × ⟦<HorizontalLine<T> as Clone>⟧.is_clone (inner_line b) (inner_line clone)
+        × ⟦<HorizontalLine<T> as Clone>⟧.is_clone (bottom_line b) (bottom_line clone) };
 
-    ghost is_infallible = { λ b. ⟦<HorizontalLine<T> as Clone>⟧.is_infallible (top_line b) × ⟦<HorizontalLine<T> as Clone>⟧.is_infallible (cell_line b) × ⟦<HorizontalLine<T> as Clone>⟧.is_infallible (inner_line b) × ⟦<HorizontalLine<T> as Clone>⟧.is_infallible (bottom_line b) };
+    ghost is_infallible = { λ b. ⟦<HorizontalLine<T> as Clone>⟧.is_infallible (top_line b)
+        × ⟦<HorizontalLine<T> as Clone>⟧.is_infallible (cell_line b)
+        × ⟦<HorizontalLine<T> as Clone>⟧.is_infallible (inner_line b)
+        × ⟦<HorizontalLine<T> as Clone>⟧.is_infallible (bottom_line b) };
 
     fn clone(&self) -> Result<Borders<T>, AllocError> {
         let b = self;
@@ -60,7 +67,9 @@ fn clone_line<T: Clone>(
     left: &Option<T>,
     right: &Option<T>,
 ) -> Result<HorizontalLine<T>, AllocError>
-    ensures { MatchResult result (⟦<HorizontalLine<T> as Clone>⟧.is_clone (record { main = main.now; intersection = intersection.now; left = left.now; right = right.now })) (λ _. ¬ (⟦<HorizontalLine<T> as Clone>⟧.is_infallible (record { main = main.now; intersection = intersection.now; left = left.now; right = right.now }))) }
+    ensures { MatchResult result
+        (⟦<HorizontalLine<T> as Clone>⟧.is_clone (record { main = main.now; intersection = intersection.now; left = left.now; right = right.now }))
+        (λ _. ¬ (⟦<HorizontalLine<T> as Clone>⟧.is_infallible (record { main = main.now; intersection = intersection.now; left = left.now; right = right.now }))) }
 {
     Ok(HorizontalLine {
         main: main.clone()?,
@@ -230,7 +239,16 @@ impl<T> Border<T> {
         bottom_left: T,
         bottom_right: T,
     ) -> Border<T>
-        ensures { result ≡ record { top = Some top; bottom = Some bottom; left = Some left; right = Some right; top_left = Some top_left; top_right = Some top_right; bottom_left = Some bottom_left; bottom_right = Some bottom_right } }
+        ensures { result ≡ record {
+          top = Some top;
+          bottom = Some bottom;
+          left = Some left;
+          right = Some right;
+          top_left = Some top_left;
+          top_right = Some top_right;
+          bottom_left = Some bottom_left;
+          bottom_right = Some bottom_right;
+        } }
     {
         Border {
             top: Some(top),

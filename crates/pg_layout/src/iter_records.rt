@@ -122,7 +122,9 @@ where
 
     ghost hint = { λ r. r.hint };
 
-    ghost is_readable = { IsGiven (Gives (Becomes I.Item.into_iter_gives (Gives (λ x y. I.Item.Item.text x ≡ y) I.Item.IntoIter.can_next I.Item.IntoIter.next_gives I.Item.IntoIter.remaining)) I.can_next I.next_gives I.remaining) };
+    ghost is_readable = { IsGiven (Gives
+        (Becomes I.Item.into_iter_gives (Gives (λ x y. I.Item.Item.text x ≡ y) I.Item.IntoIter.can_next I.Item.IntoIter.next_gives I.Item.IntoIter.remaining))
+        I.can_next I.next_gives I.remaining) };
 
     fn iter_rows(self) -> IterRows<I> {
         IterRows { iter: self.iter }

@@ -72,7 +72,7 @@ impl<K: Key, V, A: Allocator> Places<K, V, A> {
         self.find(key)
     }
 
-    // The same by a search.
+    // The value of a key, found by a search of the entries.
     fn find(&self, key: K) -> Option<&V>
         ensures { option_map (λ x. x.now) result ≡ value_at K.order key self.now }
     {
@@ -123,7 +123,7 @@ impl<K: Key, V, A: Allocator> Places<K, V, A> {
         self.find_key_from(key)
     }
 
-    // The same by a search.
+    // The first key that is at least this one, found by a search of the entries.
     fn find_key_from(&self, key: K) -> Option<K>
         ensures { result ≡ option_map (λ e. e.0) (next_from K.order key self.now) }
     {

@@ -41,7 +41,9 @@ pub trait Records {
     /// [`IterRecords::new`](crate::IterRecords::new) says.
     fn iter_rows(self) -> Self::Rows
         requires { is_readable self }
-        ensures { Gives (Gives (λ x y. Self.Cell.text x ≡ y) Self.Columns.can_next Self.Columns.next_gives Self.Columns.remaining) Self.Rows.can_next Self.Rows.next_gives Self.Rows.remaining result (texts self) };
+        ensures { Gives
+            (Gives (λ x y. Self.Cell.text x ≡ y) Self.Columns.can_next Self.Columns.next_gives Self.Columns.remaining)
+            Self.Rows.can_next Self.Rows.next_gives Self.Rows.remaining result (texts self) };
 
     /// How many cells each row has.
     fn count_columns(&self) -> usize

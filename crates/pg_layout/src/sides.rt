@@ -59,7 +59,7 @@ impl<T> Sides<T> {
 }
 
 impl<T: Copy> Sides<T> {
-    /// The same value at each side.
+    /// This value at each side.
     pub fn filled(value: T) -> Sides<T>
         ensures { result ≡ record { left = value; right = value; top = value; bottom = value } }
     {

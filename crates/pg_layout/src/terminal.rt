@@ -132,7 +132,7 @@ impl Color {
         Color::of(Hue::Normal(Tint::Cyan))
     }
 
-    /// The same on a ground of this hue.
+    /// Adds a ground of this hue.
     pub fn on(self, hue: Hue) -> Color
         ensures { result ≡ record self { behind = Some hue } }
     {
@@ -142,35 +142,35 @@ impl Color {
         }
     }
 
-    /// The same on a red ground.
+    /// Adds a red ground.
     pub fn on_red(self) -> Color
         ensures { result ≡ record self { behind = Some (Hue.Normal Tint.Red) } }
     {
         self.on(Hue::Normal(Tint::Red))
     }
 
-    /// The same on a green ground.
+    /// Adds a green ground.
     pub fn on_green(self) -> Color
         ensures { result ≡ record self { behind = Some (Hue.Normal Tint.Green) } }
     {
         self.on(Hue::Normal(Tint::Green))
     }
 
-    /// The same on a yellow ground.
+    /// Adds a yellow ground.
     pub fn on_yellow(self) -> Color
         ensures { result ≡ record self { behind = Some (Hue.Normal Tint.Yellow) } }
     {
         self.on(Hue::Normal(Tint::Yellow))
     }
 
-    /// The same on a blue ground.
+    /// Adds a blue ground.
     pub fn on_blue(self) -> Color
         ensures { result ≡ record self { behind = Some (Hue.Normal Tint.Blue) } }
     {
         self.on(Hue::Normal(Tint::Blue))
     }
 
-    /// The same in bold.
+    /// Makes the text bold.
     pub fn bold(self) -> Color
         ensures { result ≡ record self { is_bold = true } }
     {
@@ -180,7 +180,7 @@ impl Color {
         }
     }
 
-    /// The same in italics.
+    /// Makes the text italic.
     pub fn italic(self) -> Color
         ensures { result ≡ record self { is_italic = true } }
     {
@@ -190,7 +190,7 @@ impl Color {
         }
     }
 
-    /// The same, underlined.
+    /// Underlines the text.
     pub fn underlined(self) -> Color
         ensures { result ≡ record self { is_underlined = true } }
     {

@@ -1,6 +1,7 @@
 //! Rows of cells in memory.
 
-ghost use Rattle.std.specs.Prelude.{◌≡◌, ◌==◌, ◌<◌, ◌||◌, ◌++◌, ◌∷◌, if◌then◌else◌, ℕ, not, [], List, slice_index_or, map, length, position, Some, None, Err, MatchOption, IfOk, OnErr, OnOk, option_map};
+ghost use Rattle.std.specs.Prelude.{◌≡◌, ◌==◌, ◌<◌, ◌||◌, ◌++◌, ◌∷◌, if◌then◌else◌, ℕ, not, [], List, slice_index_or};
+ghost use Rattle.std.specs.Prelude.{map, length, position, Some, None, Err, MatchOption, IfOk, OnErr, OnOk, option_map};
 ghost use Rattle.std.specs.Result.{result_err};
 ghost use Rattle.std.specs.Iterator.{YieldsFirstBy, item_count, at_most};
 ghost use Rattle.std.specs.Vec.{vec_len};
@@ -105,7 +106,8 @@ impl<T: Drop, A: Allocator> Drop for OwnedRows<T, A> {
 impl<T: Drop, A: Allocator> Iterator for OwnedRows<T, A> {
     type Item = OwnedColumns<T, A>;
 
-    ghost next_gives = { λ s r t. MatchOption r (into_iter_steps s.rows None t.rows) (λ row. (cells : _) × into_iter_steps s.rows (Some cells) t.rows × ((into_iter_items row.cells ≡ cells.items) × (into_iter_len row.cells ≡ vec_len cells))) };
+    ghost next_gives = { λ s r t. MatchOption r (into_iter_steps s.rows None t.rows)
+        (λ row. (cells : _) × into_iter_steps s.rows (Some cells) t.rows × ((into_iter_items row.cells ≡ cells.items) × (into_iter_len row.cells ≡ vec_len cells))) };
 
     ghost remaining = { λ s. at_most (into_iter_len s.rows) };
 

@@ -4,7 +4,8 @@ ghost use Rattle.std.specs.Prelude.{◌≡◌, ◌<◌, ◌≤◌, ◌+◌, ◌^
 ghost use Rattle.std.specs.List.{range_with_len};
 ghost use Rattle.pg_layout.specs.Borders.{no_border, has_side, ends, horizontal_glyph, vertical_glyph, crossing_glyph};
 ghost use Rattle.pg_config.specs.Overrides.{on_lines, with_border, has_glyph, with_row_line};
-ghost use Rattle.pg_config.specs.Config.{missing_if, count_horizontal, count_vertical, has_horizontal, has_vertical, get_horizontal, get_vertical, get_intersection, get_horizontal_color, get_vertical_color, get_intersection_color, has_equal_row_lines, has_column_lines};
+ghost use Rattle.pg_config.specs.Config.{missing_if, count_horizontal, count_vertical, has_horizontal, has_vertical, get_horizontal, get_vertical};
+ghost use Rattle.pg_config.specs.Config.{get_intersection, get_horizontal_color, get_vertical_color, get_intersection_color, has_equal_row_lines, has_column_lines};
 
 use crate::spanned::SpannedConfig;
 use pg_layout::{ANSIBuf, Border, Borders, HorizontalLine, Position};

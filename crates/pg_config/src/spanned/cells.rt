@@ -3,7 +3,8 @@
 ghost use Rattle.std.specs.Prelude.{◌≡◌, ⊤, option_map, OnOk, OnErr, IsOk, is_some};
 ghost use Rattle.std.specs.Option.{ForSome};
 ghost use Rattle.pg_config.specs.Settings.{no_settings, with_setting, HasRoom};
-ghost use Rattle.pg_config.specs.Config.{get_padding, get_padding_color, get_alignment_horizontal, get_alignment_vertical, get_formatting, get_justification, get_justification_color, has_padding_color, has_justification, has_one_style};
+ghost use Rattle.pg_config.specs.Config.{get_padding, get_padding_color, get_alignment_horizontal, get_alignment_vertical, get_formatting};
+ghost use Rattle.pg_config.specs.Config.{get_justification, get_justification_color, has_padding_color, has_justification, has_one_style};
 ghost use Rattle.pg_config.specs.Cells.{style_at, style_of, IsStyleOfAll};
 
 use crate::settings::Settings;
@@ -30,7 +31,17 @@ pub(crate) struct Cells<A: Allocator> {
 impl<A: Allocator + Copy> Cells<A> {
     /// Nothing is told. Takes no memory.
     pub(super) fn new(alloc: A) -> Cells<A>
-        ensures { result ≡ record { padding = no_settings; padding_color = no_settings; alignment_horizontal = no_settings; alignment_vertical = no_settings; trim_horizontal = no_settings; trim_vertical = no_settings; line_alignment = no_settings; justification = no_settings; justification_color = no_settings } }
+        ensures { result ≡ record {
+          padding = no_settings;
+          padding_color = no_settings;
+          alignment_horizontal = no_settings;
+          alignment_vertical = no_settings;
+          trim_horizontal = no_settings;
+          trim_vertical = no_settings;
+          line_alignment = no_settings;
+          justification = no_settings;
+          justification_color = no_settings;
+        } }
     {
         Cells {
             padding: Settings::new(alloc),
@@ -327,7 +338,7 @@ impl<'a, A: Allocator> CellStyle<'a, A> {
         }
     }
 
-    /// The same but for its alignments, which aren't looked up: left and top.
+    /// The style of the cell at a place but for its alignments, which aren't looked up: left and top.
     #[tactic(auto, unfolding(crate::specs::Cells::style_at))]
     #[inline(always)]
     pub fn unaligned(config: &'a SpannedConfig<A>, pos: Position) -> CellStyle<'a, A>

@@ -3,7 +3,8 @@
 ghost use Rattle.std.specs.Prelude.{◌≡◌, OnOk, OnErr, IsOk, IsSome};
 ghost use Rattle.pg_layout.specs.Keys.{by_columns, column_place};
 ghost use Rattle.pg_layout.specs.Places.{IsAscending, value_at};
-ghost use Rattle.pg_config.specs.Spans.{rect_rows, rect_columns, with_column_span, with_row_span, get_column_span, get_row_span, has_column_spans, has_row_spans, left_span, span_above, is_visible, is_covered_by_column, is_covered_by_row, is_covered_by_both};
+ghost use Rattle.pg_config.specs.Spans.{rect_rows, rect_columns, with_column_span, with_row_span, get_column_span, get_row_span, has_column_spans};
+ghost use Rattle.pg_config.specs.Spans.{has_row_spans, left_span, span_above, is_visible, is_covered_by_column, is_covered_by_row, is_covered_by_both};
 
 use crate::spanned::SpannedConfig;
 use crate::spans::{Span, Spans};
