@@ -1,6 +1,7 @@
 //! Characters over the glyphs of a row line.
 
-ghost use Rattle.std.specs.Prelude.{◌≡◌, [], OnOk, OnErr, IsOk};
+ghost use Rattle.std.specs.Prelude.{◌≡◌, [], false, OnOk, OnErr, IsOk};
+ghost use Rattle.pg_config.specs.Config.{has_horizontal};
 ghost use Rattle.pg_config.specs.LineGlyphs.{with_line_glyphs};
 
 use crate::line_glyphs::over_line;
@@ -18,7 +19,8 @@ impl<A: Allocator + Copy> SpannedConfig<A> {
     /// wider makes its line longer. A row line that isn't there gets none. What is told later, as
     /// other widths, moves none of them.
     ///
-    /// Where memory is refused, nothing changes; without characters none is asked for.
+    /// Where memory is refused, nothing changes; without characters, or for a row line that isn't there,
+    /// none is asked for.
     #[tactic(auto, unfolding(crate::specs::LineGlyphs::with_line_glyphs))]
     pub fn set_line_glyphs<D: Dimension>(
         &mut self,
@@ -32,6 +34,7 @@ impl<A: Allocator + Copy> SpannedConfig<A> {
         ensures ok { OnOk result (self.new ≡ with_line_glyphs row size.0 size.1 (D.width dimension.now) first glyphs.now self.old) }
         ensures err { OnErr result (self.new ≡ self.old) }
         ensures nothing { glyphs.now ≡ [] → IsOk result }
+        ensures absent { has_horizontal self.old row size.0 ≡ false → IsOk result }
     {
         let (rows, columns) = size;
         if glyphs.is_empty() || !self.has_horizontal(row, rows) {
