@@ -12,6 +12,8 @@ pub mod LawsOfTexts
 pub mod LawsOfSpaces
 pub mod LawsOfCutTexts
 pub mod LawsOfControls
+pub mod PrintableBytes
+pub mod RowsByWidth
 pub mod CutRows
 pub mod Levels
 pub mod HandedOut

@@ -1,6 +1,7 @@
 pub mod Wrapping
 pub mod Cutting
 pub mod Controls
+pub mod Printable
 pub mod Rows
 pub mod Narrowing
 pub mod Overlaid

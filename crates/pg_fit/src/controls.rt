@@ -1,10 +1,12 @@
 //! Control characters, which a terminal acts on, as characters that are seen.
 
-ghost use Rattle.std.specs.Prelude.{◌≡◌, IfOk, string_bytes, not, chars};
+ghost use Rattle.std.specs.Prelude.{◌≡◌, ◌+◌, ◌≤◌, true, length, IsTrue, IfOk, string_bytes, not, chars};
 ghost use Rattle.std.specs.List.{list_all};
 ghost use Rattle.pg_fit.specs.Controls.{is_control, sign_of, visible_text};
+ghost use Rattle.pg_fit.specs.Printable.{is_printable, ArePrintable};
 
 use std::alloc::{AllocError, Allocator};
+use std::simd::prelude::*;
 
 // Whether a terminal acts on a character: those below a space but for the line feed, DEL, and those
 // from U+0080 to U+009F.
@@ -31,7 +33,59 @@ fn sign_of(c: char) -> char
 pub fn is_visible(text: &str) -> bool
     ensures { result ≡ list_all (λ c. not (is_control c)) (chars text.now) }
 {
-    text.chars().all(|c| !is_control(c))
+    is_printable(text.as_bytes()) || text.chars().all(|c| !is_control(c))
+}
+
+// Whether each byte is a printable character of ASCII, as nearly all texts of tables are: no other
+// test is needed then, and bytes that are compared in blocks take a tenth of what characters take.
+// Two blocks, which may overlap, hold a text of at most twice their length.
+#[inline(always)]
+fn is_printable(bytes: &[u8]) -> bool
+    ensures { IsTrue result → list_all is_printable bytes.now ≡ true }
+{
+    match bytes.len() {
+        0..4 => bytes.iter().all(|b| *b >= b' ' && *b <= b'~'),
+        4..=8 => has_printable_ends::<4>(bytes),
+        9..=16 => has_printable_ends::<8>(bytes),
+        _ => has_printable_blocks(bytes),
+    }
+}
+
+// Both blocks are tested: a branch between them costs more than the second test.
+#[inline(always)]
+fn has_printable_ends<const N: usize>(bytes: &[u8]) -> bool
+    requires lanes { N ≤ 64 }
+    requires one_block { N ≤ length bytes.now }
+    requires two_blocks { length bytes.now ≤ N + N }
+    ensures { IsTrue result → list_all is_printable bytes.now ≡ true }
+{
+    is_block_printable::<N>(bytes, 0) & is_block_printable::<N>(bytes, bytes.len() - N)
+}
+
+// Out of line, since the texts of most cells are short.
+#[inline(never)]
+fn has_printable_blocks(bytes: &[u8]) -> bool
+    requires { 16 ≤ length bytes.now }
+    ensures { IsTrue result → list_all is_printable bytes.now ≡ true }
+{
+    for block in 0..bytes.len() / 16 {
+        if !is_block_printable::<16>(bytes, 16 * block) {
+            return false;
+        }
+    }
+    is_block_printable::<16>(bytes, bytes.len() - 16)
+}
+
+#[inline(always)]
+fn is_block_printable<const N: usize>(bytes: &[u8], from: usize) -> bool
+    requires lanes { N ≤ 64 }
+    requires room { from + N ≤ length bytes.now }
+    ensures { IsTrue result → ArePrintable bytes.now from (from + N) }
+{
+    let block = Simd::<u8, N>::from_slice(&bytes[from..]);
+    let below = block.simd_lt(Simd::splat(b' ')).to_bitmask();
+    let above = block.simd_gt(Simd::splat(b'~')).to_bitmask();
+    (below == 0) & (above == 0)
 }
 
 /// A text in which control characters are seen, each as a character that takes one column, so that a

@@ -1,6 +1,7 @@
 //! Laws of texts within widths: the contracts of functions that do nothing are the laws.
 
-ghost use Rattle.pg_fit.specs.Laws.{LinesFit, NothingIsLost, OnlySpacesAreLost, FittingTextsStay, LinesStand, WrappedTextsFit, CutLinesFit, CutTextsStay, CutLinesStand, CutTextsFit, VisibleTextsStay, NoControlsAreLeft, SignsTakeOneColumn};
+ghost use Rattle.pg_fit.specs.Laws.{LinesFit, NothingIsLost, OnlySpacesAreLost, FittingTextsStay, LinesStand, WrappedTextsFit, CutLinesFit};
+ghost use Rattle.pg_fit.specs.Laws.{CutTextsStay, CutLinesStand, CutTextsFit, VisibleTextsStay, NoControlsAreLeft, SignsTakeOneColumn};
 ghost use Rattle.pg_fit.specs.Narrowing.{FillsTheRoom, WithinRanges, IsEvenHanded, LimitsHold, StayNatural, EndAtLeast};
 
 /// Each line of a wrapped text is at most as wide as it may be, unless a character is wider. Broken

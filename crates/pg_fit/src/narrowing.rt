@@ -15,7 +15,7 @@ pub struct ColumnRange {
 }
 
 impl ColumnRange {
-    /// The same column, at most so wide, where it can be as narrow: the natural width is lowered.
+    /// Lowers the natural width to this one, or to the least width where that is greater.
     pub fn limited(self, width: usize) -> ColumnRange
         ensures { result ≡ limited width self }
     {

@@ -1,9 +1,9 @@
 //! A row whose texts are cut to the widths of their columns.
 
-ghost use Rattle.std.specs.Prelude.{◌≡◌, ◌&&◌, ◌++◌, IfOk, List, map, length, slice_index_or, string_bytes};
+ghost use Rattle.std.specs.Prelude.{◌≡◌, ◌&&◌, ◌++◌, [], true, IfOk, IsOk, List, map, length, slice_index_or, string_bytes};
 ghost use Rattle.std.specs.Vec.Iter.{into_iter_items};
 ghost use Rattle.pg_layout.specs.Text.{width_of, first_line_of, lines_of};
-ghost use Rattle.pg_fit.specs.Rows.{fitted_text, is_fitting, cut_cell, cut_row};
+ghost use Rattle.pg_fit.specs.Rows.{fitted_text, is_kept, is_fitting, by_width, cut_cell, cut_row};
 
 use crate::cutting::push_cut;
 use pg_layout::{count_lines, first_line, get_line_width};
@@ -60,7 +60,9 @@ fn fit_cell<S: AsStr + Drop, A: Allocator>(
     width: usize,
     tail: &str,
 ) -> Result<Fitted<S, A>, AllocError>
-    ensures { IfOk result (λ fitted. fitted_text S.text fitted ≡ cut_cell tail.now width (S.text cell)) }
+    ensures text { IfOk result (λ fitted. fitted_text S.text fitted ≡ cut_cell tail.now width (S.text cell)) }
+    ensures kept { IfOk result (λ fitted. is_kept fitted ≡ is_fitting width (S.text cell)) }
+    ensures nothing { is_fitting width (S.text cell) ≡ true → IsOk result }
 {
     if is_fitting(cell.as_str(), width) {
         return Ok(Fitted::Kept(cell));
@@ -75,7 +77,7 @@ fn fit_cell<S: AsStr + Drop, A: Allocator>(
 ///
 /// Such a row has room in a table whose rows have one line and whose columns have these widths and
 /// their paddings, so a long text ends no stream of rows. Only cells that are cut take memory, besides
-/// the row itself.
+/// the row itself, and a row without cells takes none.
 ///
 /// ```text
 /// fit_row(alloc, vec![in alloc; "tea", "dried leaves\nof a plant"]?, &[5, 8], "…")? // tea | dried l…
@@ -86,7 +88,9 @@ pub fn fit_row<S: AsStr + Drop, B: Allocator, A: Allocator + Copy>(
     widths: &[usize],
     tail: &str,
 ) -> Result<Vec<Fitted<S, A>, A>, AllocError>
-    ensures { IfOk result (λ row. map (fitted_text S.text) row.items ≡ cut_row tail.now widths.now (map S.text cells.items)) }
+    ensures texts { IfOk result (λ row. map (fitted_text S.text) row.items ≡ cut_row tail.now widths.now (map S.text cells.items)) }
+    ensures kept { IfOk result (λ row. map is_kept row.items ≡ by_width is_fitting widths.now (map S.text cells.items)) }
+    ensures nothing { cells.items ≡ [] → IsOk result }
 {
     let mut row = Vec::with_capacity(alloc, cells.len())?;
     for cell in cells {

@@ -1,8 +1,8 @@
 //! A row whose texts are wrapped in the widths of their columns, and how many lines it needs.
 
-ghost use Rattle.std.specs.Prelude.{◌≡◌, ◌++◌, IfOk, List, map, max, length, slice_index_or};
+ghost use Rattle.std.specs.Prelude.{◌≡◌, ◌++◌, [], true, IfOk, IsOk, List, map, max, length, slice_index_or};
 ghost use Rattle.std.specs.Vec.Iter.{into_iter_items};
-ghost use Rattle.pg_fit.specs.Rows.{fitted_text, wrapped_row, row_height};
+ghost use Rattle.pg_fit.specs.Rows.{fitted_text, is_kept, is_narrow, by_width, wrapped_row, row_height};
 ghost use Rattle.pg_fit.specs.Wrapping.{wrapped};
 
 use crate::row::{Fitted, width_of_column};
@@ -18,7 +18,9 @@ fn wrap_cell<S: AsStr + Drop, A: Allocator>(
     width: usize,
     breaking: Breaking,
 ) -> Result<Fitted<S, A>, AllocError>
-    ensures { IfOk result (λ fitted. fitted_text S.text fitted ≡ wrapped breaking width (S.text cell)) }
+    ensures text { IfOk result (λ fitted. fitted_text S.text fitted ≡ wrapped breaking width (S.text cell)) }
+    ensures kept { IfOk result (λ fitted. is_kept fitted ≡ is_narrow width (S.text cell)) }
+    ensures nothing { is_narrow width (S.text cell) ≡ true → IsOk result }
 {
     if get_text_width(cell.as_str()) <= width {
         return Ok(Fitted::Kept(cell));
@@ -32,7 +34,7 @@ fn wrap_cell<S: AsStr + Drop, A: Allocator>(
 ///
 /// Such a row is as high as [`row_height`] says, and has room in columns of these widths and their
 /// paddings where no character is wider than its column. Only cells that are wrapped take memory, besides
-/// the row itself.
+/// the row itself, and a row without cells takes none.
 ///
 /// ```text
 /// wrap_row(alloc, vec![in alloc; "tea", "dried leaves of a plant"]?, &[5, 12], Breaking::BetweenWords)?
@@ -45,7 +47,9 @@ pub fn wrap_row<S: AsStr + Drop, B: Allocator, A: Allocator + Copy>(
     widths: &[usize],
     breaking: Breaking,
 ) -> Result<Vec<Fitted<S, A>, A>, AllocError>
-    ensures { IfOk result (λ row. map (fitted_text S.text) row.items ≡ wrapped_row breaking widths.now (map S.text cells.items)) }
+    ensures texts { IfOk result (λ row. map (fitted_text S.text) row.items ≡ wrapped_row breaking widths.now (map S.text cells.items)) }
+    ensures kept { IfOk result (λ row. map is_kept row.items ≡ by_width is_narrow widths.now (map S.text cells.items)) }
+    ensures nothing { cells.items ≡ [] → IsOk result }
 {
     let mut row = Vec::with_capacity(alloc, cells.len())?;
     for cell in cells {

@@ -1,41 +1,47 @@
-use Rattle.std.proofs.Common.{◌≡◌, ◌+◌, ◌++◌, ◌∷◌, [], length, map, slice_index_or, append_assoc, append-nil, length-append, sym, ap, ◌∙◌, arith}
+use Rattle.std.proofs.Common.{map, slice_index_or, sym, ap, ◌∙◌, arith}
 use Rattle.std.specs.Vec.Iter.{into_iter_items}
-use Rattle.std.proofs.lemmas.List.{map-append, nil_from_length}
-use Rattle.pg_fit.specs.Rows.{fitted_text, cut_cell, cut_from}
+use Rattle.std.proofs.lemmas.List.{nil_from_length}
+use Rattle.pg_fit.specs.Rows.{fitted_text, is_kept, is_fitting, cut_cell}
+use Rattle.pg_fit.proofs.RowsByWidth.{IsMade-first, IsMade-next, IsMade-all, IsMade-none}
 use Rattle.pg_fit.proofs.row.fit_row.Goals as goal
 
 pub loop-cell-init : goal.loop-cell-init
 loop-cell-init g c =
     let text = g.S.AsStr.text in
-    let tail = c.args.tail.now in
     let widths = c.args.widths.now in
-    ap (λ xs. map (fitted_text text) xs ++ cut_from (length xs) tail widths (map text (into_iter_items c.into_iter-cell-iterator.result))) c.in_ok-row.ensures.items
-    ∙ ap (λ cells. cut_from 0 tail widths (map text cells)) c.into_iter-cell-iterator.ensures.into_iter_gives.0
+    let row = c.in_ok-row.row.items in
+    let left = map text (into_iter_items c.into_iter-cell-iterator.result) in
+    let all = ap (map text) c.into_iter-cell-iterator.ensures.into_iter_gives.0 in
+    (IsMade-first (fitted_text text) (cut_cell c.args.tail.now) widths _ row left c.in_ok-row.ensures.items all, IsMade-first is_kept is_fitting widths _ row left c.in_ok-row.ensures.items all)
 
 pub loop-cell-preserved : goal.loop-cell-preserved
 loop-cell-preserved g c =
     let text = g.S.AsStr.text in
-    let tail = c.args.tail.now in
     let widths = c.args.widths.now in
-    let old = c.loop-cell.row.items in
-    let made = c.in_ok-fitted.fitted in
-    let cell = c.in-Some.cell in
-    let rest = map text (into_iter_items c.next.new.self) in
-    let long : length (old ++ made ∷ []) ≡ length old + 1 = length-append old (made ∷ []) in
-    let is : fitted_text text made ≡ cut_cell tail (slice_index_or widths (length old) 0) (text cell) = c.in_ok-fitted.ensures ∙ ap (λ n. cut_cell tail n (text cell)) (c.width_of_column-width.ensures ∙ ap (λ n. slice_index_or widths n 0) (omega (arith, c.len.ensures, c.loop-cell.row.ok))) in
-    ap (λ xs. map (fitted_text text) xs ++ cut_from (length xs) tail widths rest) c.in_ok-push.ensures.items
-    ∙ ap (λ n. map (fitted_text text) (old ++ made ∷ []) ++ cut_from n tail widths rest) long
-    ∙ ap (λ z. z ++ cut_from (length old + 1) tail widths rest) (map-append (fitted_text text) old (made ∷ []))
-    ∙ append_assoc (map (fitted_text text) old) (fitted_text text made ∷ []) (cut_from (length old + 1) tail widths rest)
-    ∙ ap (λ z. map (fitted_text text) old ++ z ∷ cut_from (length old + 1) tail widths rest) is
-    ∙ ap (λ cells. map (fitted_text text) old ++ cut_from (length old) tail widths (map text cells)) (sym c.in-Some.ensures.steps.0)
-    ∙ c.loop-cell.invariant
+    let taken = ap (map text) c.in-Some.ensures.steps.0 in
+    let room = c.width_of_column-width.ensures ∙ ap (λ n. slice_index_or widths n 0) (omega (arith, c.len.ensures, c.loop-cell.row.ok)) in
+    let made = c.in_ok-fitted.ensures.text ∙ ap (λ n. cut_cell c.args.tail.now n (text c.in-Some.cell)) room in
+    let kept = c.in_ok-fitted.ensures.kept ∙ ap (λ n. is_fitting n (text c.in-Some.cell)) room in
+    (IsMade-next (fitted_text text) (cut_cell c.args.tail.now) widths _ c.loop-cell.row.items _ c.in_ok-fitted.fitted _ _ _ c.in_ok-push.ensures.items taken made c.loop-cell.invariant.0, IsMade-next is_kept is_fitting widths _ c.loop-cell.row.items _ c.in_ok-fitted.fitted _ _ _ c.in_ok-push.ensures.items taken kept c.loop-cell.invariant.1)
 
-pub returns : goal.returns
-returns g c =
+pub returns-clause-texts : goal.returns-clause-texts
+returns-clause-texts g c =
     let text = g.S.AsStr.text in
-    let row = map (fitted_text text) c.loop-cell.row.items in
     let none = nil_from_length (into_iter_items c.loop-cell.cell-iterator) (sym c.loop-cell.cell-iterator.rest.ok.0 ∙ c.in-None.ensures.steps.0) in
-    sym (append-nil row)
-    ∙ ap (λ cells. row ++ cut_from (length c.loop-cell.row.items) c.args.tail.now c.args.widths.now (map text cells)) (sym none)
-    ∙ c.loop-cell.invariant
+    IsMade-all (fitted_text text) (cut_cell c.args.tail.now) c.args.widths.now _ c.loop-cell.row.items _ (ap (map text) none) c.loop-cell.invariant.0
+
+pub returns-clause-kept : goal.returns-clause-kept
+returns-clause-kept g c =
+    let text = g.S.AsStr.text in
+    let none = nil_from_length (into_iter_items c.loop-cell.cell-iterator) (sym c.loop-cell.cell-iterator.rest.ok.0 ∙ c.in-None.ensures.steps.0) in
+    IsMade-all is_kept is_fitting c.args.widths.now _ c.loop-cell.row.items _ (ap (map text) none) c.loop-cell.invariant.1
+
+pub returns-in_err-fitted-clause-nothing : goal.returns-in_err-fitted-clause-nothing
+returns-in_err-fitted-clause-nothing g c = λ empty.
+    let text = g.S.AsStr.text in
+    absurd (omega (arith, IsMade-none is_kept is_fitting c.args.widths.now _ c.loop-cell.row.items _ _ _ (ap (map text) empty) (ap (map text) c.in-Some.ensures.steps.0) c.loop-cell.invariant.1))
+
+pub returns-in_err-push-clause-nothing : goal.returns-in_err-push-clause-nothing
+returns-in_err-push-clause-nothing g c = λ empty.
+    let text = g.S.AsStr.text in
+    absurd (omega (arith, IsMade-none is_kept is_fitting c.args.widths.now _ c.loop-cell.row.items _ _ _ (ap (map text) empty) (ap (map text) c.in-Some.ensures.steps.0) c.loop-cell.invariant.1))

@@ -1,9 +1,11 @@
-use Rattle.std.proofs.Common.{◌≡◌, ◌++◌, length, map}
+use Rattle.std.proofs.Common.{map}
 use Rattle.std.specs.Vec.Iter.{into_iter_items}
-use Rattle.pg_fit.specs.Rows.{fitted_text, cut_from, cut_row}
+use Rattle.pg_fit.specs.Rows.{fitted_text, is_kept, is_fitting, cut_cell}
+use Rattle.pg_fit.proofs.RowsByWidth.{IsMade}
 use Rattle.pg_fit.proofs.row.fit_row.Given as goal
 
 abbrev pub invariant-loop-cell : goal.invariant-loop-cell
 invariant-loop-cell g l =
-    map (fitted_text g.S.AsStr.text) l.row.items ++ cut_from (length l.row.items) l.tail l.widths (map g.S.AsStr.text (into_iter_items l.cell-iterator))
-    ≡ cut_row l.tail l.widths (map g.S.AsStr.text l.fn.cells.items)
+    let text = g.S.AsStr.text in
+    IsMade (fitted_text text) (cut_cell l.tail) l.widths (map text l.fn.cells.items) l.row.items (map text (into_iter_items l.cell-iterator))
+    × IsMade is_kept is_fitting l.widths (map text l.fn.cells.items) l.row.items (map text (into_iter_items l.cell-iterator))

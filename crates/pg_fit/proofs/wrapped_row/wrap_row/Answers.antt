@@ -1,42 +1,48 @@
-use Rattle.std.proofs.Common.{◌≡◌, ◌+◌, ◌++◌, ◌∷◌, [], length, map, slice_index_or, append_assoc, append-nil, length-append, sym, ap, ◌∙◌, arith}
+use Rattle.std.proofs.Common.{map, slice_index_or, sym, ap, ◌∙◌, arith}
 use Rattle.std.specs.Vec.Iter.{into_iter_items}
-use Rattle.std.proofs.lemmas.List.{map-append, nil_from_length}
-use Rattle.pg_fit.specs.Rows.{fitted_text, wrapped_from}
+use Rattle.std.proofs.lemmas.List.{nil_from_length}
+use Rattle.pg_fit.specs.Rows.{fitted_text, is_kept, is_narrow}
 use Rattle.pg_fit.specs.Wrapping.{wrapped}
+use Rattle.pg_fit.proofs.RowsByWidth.{IsMade-first, IsMade-next, IsMade-all, IsMade-none}
 use Rattle.pg_fit.proofs.wrapped_row.wrap_row.Goals as goal
 
 pub loop-cell-init : goal.loop-cell-init
 loop-cell-init g c =
     let text = g.S.AsStr.text in
-    let breaking = c.args.breaking in
     let widths = c.args.widths.now in
-    ap (λ xs. map (fitted_text text) xs ++ wrapped_from (length xs) breaking widths (map text (into_iter_items c.into_iter-cell-iterator.result))) c.in_ok-row.ensures.items
-    ∙ ap (λ cells. wrapped_from 0 breaking widths (map text cells)) c.into_iter-cell-iterator.ensures.into_iter_gives.0
+    let row = c.in_ok-row.row.items in
+    let left = map text (into_iter_items c.into_iter-cell-iterator.result) in
+    let all = ap (map text) c.into_iter-cell-iterator.ensures.into_iter_gives.0 in
+    (IsMade-first (fitted_text text) (wrapped c.args.breaking) widths _ row left c.in_ok-row.ensures.items all, IsMade-first is_kept is_narrow widths _ row left c.in_ok-row.ensures.items all)
 
 pub loop-cell-preserved : goal.loop-cell-preserved
 loop-cell-preserved g c =
     let text = g.S.AsStr.text in
-    let breaking = c.args.breaking in
     let widths = c.args.widths.now in
-    let old = c.loop-cell.row.items in
-    let made = c.in_ok-fitted.fitted in
-    let cell = c.in-Some.cell in
-    let rest = map text (into_iter_items c.next.new.self) in
-    let long : length (old ++ made ∷ []) ≡ length old + 1 = length-append old (made ∷ []) in
-    let is : fitted_text text made ≡ wrapped breaking (slice_index_or widths (length old) 0) (text cell) = c.in_ok-fitted.ensures ∙ ap (λ n. wrapped breaking n (text cell)) (c.width_of_column-width.ensures ∙ ap (λ n. slice_index_or widths n 0) (omega (arith, c.len.ensures, c.loop-cell.row.ok))) in
-    ap (λ xs. map (fitted_text text) xs ++ wrapped_from (length xs) breaking widths rest) c.in_ok-push.ensures.items
-    ∙ ap (λ n. map (fitted_text text) (old ++ made ∷ []) ++ wrapped_from n breaking widths rest) long
-    ∙ ap (λ z. z ++ wrapped_from (length old + 1) breaking widths rest) (map-append (fitted_text text) old (made ∷ []))
-    ∙ append_assoc (map (fitted_text text) old) (fitted_text text made ∷ []) (wrapped_from (length old + 1) breaking widths rest)
-    ∙ ap (λ z. map (fitted_text text) old ++ z ∷ wrapped_from (length old + 1) breaking widths rest) is
-    ∙ ap (λ cells. map (fitted_text text) old ++ wrapped_from (length old) breaking widths (map text cells)) (sym c.in-Some.ensures.steps.0)
-    ∙ c.loop-cell.invariant
+    let taken = ap (map text) c.in-Some.ensures.steps.0 in
+    let room = c.width_of_column-width.ensures ∙ ap (λ n. slice_index_or widths n 0) (omega (arith, c.len.ensures, c.loop-cell.row.ok)) in
+    let made = c.in_ok-fitted.ensures.text ∙ ap (λ n. wrapped c.args.breaking n (text c.in-Some.cell)) room in
+    let kept = c.in_ok-fitted.ensures.kept ∙ ap (λ n. is_narrow n (text c.in-Some.cell)) room in
+    (IsMade-next (fitted_text text) (wrapped c.args.breaking) widths _ c.loop-cell.row.items _ c.in_ok-fitted.fitted _ _ _ c.in_ok-push.ensures.items taken made c.loop-cell.invariant.0, IsMade-next is_kept is_narrow widths _ c.loop-cell.row.items _ c.in_ok-fitted.fitted _ _ _ c.in_ok-push.ensures.items taken kept c.loop-cell.invariant.1)
 
-pub returns : goal.returns
-returns g c =
+pub returns-clause-texts : goal.returns-clause-texts
+returns-clause-texts g c =
     let text = g.S.AsStr.text in
-    let row = map (fitted_text text) c.loop-cell.row.items in
     let none = nil_from_length (into_iter_items c.loop-cell.cell-iterator) (sym c.loop-cell.cell-iterator.rest.ok.0 ∙ c.in-None.ensures.steps.0) in
-    sym (append-nil row)
-    ∙ ap (λ cells. row ++ wrapped_from (length c.loop-cell.row.items) c.args.breaking c.args.widths.now (map text cells)) (sym none)
-    ∙ c.loop-cell.invariant
+    IsMade-all (fitted_text text) (wrapped c.args.breaking) c.args.widths.now _ c.loop-cell.row.items _ (ap (map text) none) c.loop-cell.invariant.0
+
+pub returns-clause-kept : goal.returns-clause-kept
+returns-clause-kept g c =
+    let text = g.S.AsStr.text in
+    let none = nil_from_length (into_iter_items c.loop-cell.cell-iterator) (sym c.loop-cell.cell-iterator.rest.ok.0 ∙ c.in-None.ensures.steps.0) in
+    IsMade-all is_kept is_narrow c.args.widths.now _ c.loop-cell.row.items _ (ap (map text) none) c.loop-cell.invariant.1
+
+pub returns-in_err-fitted-clause-nothing : goal.returns-in_err-fitted-clause-nothing
+returns-in_err-fitted-clause-nothing g c = λ empty.
+    let text = g.S.AsStr.text in
+    absurd (omega (arith, IsMade-none is_kept is_narrow c.args.widths.now _ c.loop-cell.row.items _ _ _ (ap (map text) empty) (ap (map text) c.in-Some.ensures.steps.0) c.loop-cell.invariant.1))
+
+pub returns-in_err-push-clause-nothing : goal.returns-in_err-push-clause-nothing
+returns-in_err-push-clause-nothing g c = λ empty.
+    let text = g.S.AsStr.text in
+    absurd (omega (arith, IsMade-none is_kept is_narrow c.args.widths.now _ c.loop-cell.row.items _ _ _ (ap (map text) empty) (ap (map text) c.in-Some.ensures.steps.0) c.loop-cell.invariant.1))

@@ -1,9 +1,12 @@
-use Rattle.std.proofs.Common.{◌≡◌, ◌++◌, length, map}
+use Rattle.std.proofs.Common.{map}
 use Rattle.std.specs.Vec.Iter.{into_iter_items}
-use Rattle.pg_fit.specs.Rows.{fitted_text, wrapped_from, wrapped_row}
+use Rattle.pg_fit.specs.Rows.{fitted_text, is_kept, is_narrow}
+use Rattle.pg_fit.specs.Wrapping.{wrapped}
+use Rattle.pg_fit.proofs.RowsByWidth.{IsMade}
 use Rattle.pg_fit.proofs.wrapped_row.wrap_row.Given as goal
 
 abbrev pub invariant-loop-cell : goal.invariant-loop-cell
 invariant-loop-cell g l =
-    map (fitted_text g.S.AsStr.text) l.row.items ++ wrapped_from (length l.row.items) l.breaking l.widths (map g.S.AsStr.text (into_iter_items l.cell-iterator))
-    ≡ wrapped_row l.breaking l.widths (map g.S.AsStr.text l.fn.cells.items)
+    let text = g.S.AsStr.text in
+    IsMade (fitted_text text) (wrapped l.breaking) l.widths (map text l.fn.cells.items) l.row.items (map text (into_iter_items l.cell-iterator))
+    × IsMade is_kept is_narrow l.widths (map text l.fn.cells.items) l.row.items (map text (into_iter_items l.cell-iterator))

@@ -1,0 +1,43 @@
+-- Printable bytes, told by vectors of them.
+use Rattle.std.proofs.Common.{ap, eqb, eqb-true, ◌&&◌, ◌≡◌, inl, inr, ◌+◌, ◌-◌, ◌<◌, ◌≤◌, ◌^◌, ◌%◌, ◌*◌, ℕ, suc, true, false, nat_lt, cond, List, [], ◌∷◌, length, get_or, map, replicate, slice_index, refl, sym, ◌∙◌, w8, arith}
+use Rattle.std.specs.List.{list_all}
+use Rattle.std.proofs.lemmas.Bool.{cases_lt, and_from, and_parts}
+use Rattle.std.proofs.lemmas.Bool.Decides.{nat_tests}
+use Rattle.std.proofs.lemmas.List.{length-map}
+use Rattle.std.proofs.lemmas.Simd.{bitmask_splat, none_from_empty_mask, length-chunk, mask_l-mod, tops_compared, zip2_splat_left}
+use lib.Lanes.{zip2, mask_l, top, chunk}
+use mir.Val.{hbits, bits}
+use Rattle.pg_fit.specs.Printable.{is_printable, ArePrintable}
+
+both_sides : (b : ℕ) → nat_lt b 32 ≡ false → nat_lt 126 b ≡ false → is_printable b ≡ true
+both_sides b low high = grind (arith, nat_tests)
+
+pub printable_run : (bs : List ℕ) (i n : ℕ) → i + n ≤ length bs → mask_l (map (λ b. nat_lt b 32) (chunk i n bs)) ≡ 0 → mask_l (map (λ b. nat_lt 126 b) (chunk i n bs)) ≡ 0 → ArePrintable bs i (i + n)
+printable_run bs i n room low high k from to = both_sides (get_or bs k 0) (none_from_empty_mask (λ b. nat_lt b 32) bs i n 0 room low k from to) (none_from_empty_mask (λ b. nat_lt 126 b) bs i n 0 room high k from to)
+
+high_mask : (xs : List ℕ) (n : ℕ) → length xs ≡ n → n ≤ 64 → mask_l (map (top (hbits w8)) (zip2 (λ a b. cond (nat_lt a b) (2 ^ bits w8 - 1) 0) (replicate n 126) xs)) % 2 ^ 64 ≡ mask_l (map (λ b. nat_lt 126 b) xs)
+high_mask xs n long le =
+    ap (λ ms. mask_l ms % 2 ^ 64) (tops_compared w8 nat_lt (replicate n 126) xs ∙ zip2_splat_left nat_lt 126 n xs long)
+    ∙ mask_l-mod (map (λ b. nat_lt 126 b) xs) 64 (omega (arith, length-map xs (λ b. nat_lt 126 b)))
+
+pub run_from_masks : (bs : List ℕ) (i n : ℕ) → n ≤ 64 → i + n ≤ length bs
+    → (eqb (mask_l (map (top (hbits w8)) (zip2 (λ a b. cond (nat_lt a b) (2 ^ bits w8 - 1) 0) (chunk i n bs) (replicate n 32))) % 2 ^ 64) 0
+    && eqb (mask_l (map (top (hbits w8)) (zip2 (λ a b. cond (nat_lt a b) (2 ^ bits w8 - 1) 0) (replicate n 126) (chunk i n bs))) % 2 ^ 64) 0) ≡ true
+    → ArePrintable bs i (i + n)
+run_from_masks bs i n le room h =
+    let long = length-chunk i n bs room in
+    let parts = and_parts _ _ h in
+    printable_run bs i n room (sym (bitmask_splat w8 nat_lt (chunk i n bs) n 32 long le) ∙ eqb-true _ _ parts.0) (sym (high_mask (chunk i n bs) n long le) ∙ eqb-true _ _ parts.1)
+
+all_by_index : (bs : List ℕ) → ((k : ℕ) → k < length bs → is_printable (slice_index bs k) ≡ true) → list_all is_printable bs ≡ true
+all_by_index [] h = refl
+all_by_index (b ∷ bs) h = and_from (is_printable b) (list_all is_printable bs) (h 0 (omega arith)) (all_by_index bs (λ k l. h (suc k) (omega arith)))
+
+pub printable_halves : (bs : List ℕ) (m : ℕ) → m ≤ length bs → length bs ≤ m + m → ArePrintable bs 0 (0 + m) → ArePrintable bs (length bs - m) (length bs - m + m) → list_all is_printable bs ≡ true
+printable_halves bs m le all front back = all_by_index bs (λ k l. elim (cases_lt k m) [ inl h ↦ front k (omega arith) (omega arith) | inr h ↦ back k (omega arith) (omega arith) ])
+
+pub printable_runs : (bs : List ℕ) (i : ℕ) → ArePrintable bs 0 (16 * i) → ArePrintable bs (16 * i) (16 * i + 16) → ArePrintable bs 0 (16 * (i + 1))
+printable_runs bs i before here k from to = elim (cases_lt k (16 * i)) [ inl h ↦ before k from h | inr h ↦ here k h (omega arith) ]
+
+pub printable_to_the_end : (bs : List ℕ) (i : ℕ) → 16 ≤ length bs → length bs ≤ 16 * i + 16 → ArePrintable bs 0 (16 * i) → ArePrintable bs (length bs - 16) (length bs - 16 + 16) → list_all is_printable bs ≡ true
+printable_to_the_end bs i some room before last = all_by_index bs (λ k l. elim (cases_lt k (16 * i)) [ inl h ↦ before k (omega arith) h | inr h ↦ last k (omega arith) (omega arith) ])
