@@ -166,6 +166,31 @@ def read_impl(src, start, file, words):
     return calls, at + 1
 
 
+def read_trait(src, start, file, words):
+    """The functions that a trait provides and no impl may change, and the line behind it."""
+    lines, at, calls, words = src.lines, start, [], dict(words)
+    owner = re.match(r"pub trait (\w+)", lines[start]).group(1)
+    while not lines[at].strip().endswith(("{", "{}")):
+        at += 1
+    if lines[at].strip().endswith("{}"):
+        return [], at + 1
+    at += 1
+    while lines[at] != "}":
+        text = lines[at].strip()
+        if indent_of(lines[at]) == 4 and re.match(r"(final )?fn \w", text):
+            signature, clauses, end = read_function(src, at, 4)
+            if text.startswith("final "):
+                name = owner + "::" + re.search(r"fn (\w+)", text).group(1)
+                signature = signature.replace("final fn ", f"fn {owner}::")
+                calls.append(Call(name, signature, clauses, src.comment_above(at), file, words))
+            at = end
+        elif indent_of(lines[at]) == 4 and GHOST.match(text):
+            at = src.balanced(at)
+        else:
+            at += 1
+    return calls, at + 1
+
+
 def read_data(src, start, file, words):
     """A struct or an enum, and the line behind it."""
     lines, at = src.lines, start
@@ -202,6 +227,9 @@ def read_file(path, file):
             at += 1
         elif re.match(r"impl\b", line):
             found, at = read_impl(src, at, file, words)
+            calls += found
+        elif re.match(r"pub trait \w", line):
+            found, at = read_trait(src, at, file, words)
             calls += found
         elif re.match(r"pub (struct|enum) ", line):
             found, at = read_data(src, at, file, words)

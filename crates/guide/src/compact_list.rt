@@ -1,6 +1,6 @@
 //! A compact list: a line for each row, and one look for all cells.
 
-use pg_compact::CompactGrid;
+use pg_compact::{CompactGrid, TablePrinter};
 use pg_config::CompactConfig;
 use pg_layout::{Borders, EvenDimension, Indent, NoColors, Sides, VecRecords};
 use pg_picture::PrintFault;

@@ -5,7 +5,7 @@ use pg_layout::{
     ANSIBuf, AlignmentHorizontal, AlignmentVertical, Border, Borders, ColorsMap, ConstantDimension,
     Entity, Indent, Position, Sides, VecRecords,
 };
-use pg_peekable::PeekableGrid;
+use pg_peekable::{PeekableGrid, TablePrinter};
 use pg_picture::PrintFault;
 use std::alloc::{AllocError, Global};
 

@@ -2,7 +2,7 @@
 
 use crate::fault::Fault;
 use pg_config::SpannedConfig;
-use pg_grid::PeekableGrid;
+use pg_grid::{PeekableGrid, WholePrinter};
 use pg_layout::{Borders, NoColors, VecRecords};
 use pg_table::heights_for;
 use std::alloc::Global;

@@ -43,6 +43,17 @@ misfit-empty t empty =
       | inr some ↦ (let columns : (t.columns == 0) ≡ true = grind (arith, nat_tests, empty, some) in rw (some, columns) refl)
     ]
 
+-- a table fits where it has no misfit
+pub fits-if-no_misfit : (t : CompactTable) → compact_misfit t ≡ None → CompactFits t
+fits-if-no_misfit t none = λ rows. let some : (t.rows == 0) ≡ false = grind (arith, nat_tests, rows) in rw some at none
+
+pub no_misfit-if-fits : (t : CompactTable) → CompactFits t → compact_misfit t ≡ None
+no_misfit-if-fits t fits =
+    elim (cases_Bool (t.rows == 0)) [
+      | inl none ↦ rw none refl
+      | inr some ↦ (let rows : 0 < t.rows = grind (arith, nat_tests, some) in rw some (fits rows))
+    ]
+
 -- what the totals of a table are that has no misfit
 pub record CompactTotals (t : CompactTable) : Type 0 where
   pub columns : t.columns < 2 ^ 64 - 1

@@ -10,7 +10,7 @@ use Rattle.pg_picture.proofs.FirstPlaces.{compact_misfit-sized}
 use Rattle.pg_picture.proofs.ShownGrids.{compact_shown-fits}
 use Rattle.pg_compact.specs.CompactGrids.{CompactFits}
 
-no_columns-fit : (t : CompactTable) → (t.columns == 0) ≡ true → compact_misfit_of (compact_sized t.config t.width t.columns) ≡ None
+pub no_columns-fit : (t : CompactTable) → (t.columns == 0) ≡ true → compact_misfit_of (compact_sized t.config t.width t.columns) ≡ None
 unfolding compact_misfit_of
 no_columns-fit t none = rw none refl
 

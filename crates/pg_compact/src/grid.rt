@@ -1,9 +1,8 @@
 //! The compact grid: it reads its records once, row by row, and shows the first line of each text.
 
-ghost use Rattle.std.specs.Prelude.{◌≡◌, ◌≤◌, ◌++◌, ◌↔◌, true, Some, Err, IsOk, IfOk, OnOk, string_bytes};
+ghost use Rattle.std.specs.Prelude.{◌≡◌, ◌≤◌, true, IsOk, IfOk, string_bytes};
 ghost use Rattle.pg_picture.specs.Appending.{Appends};
 ghost use Rattle.pg_picture.specs.Picture.{compact_picture};
-ghost use Rattle.pg_picture.specs.Printed.{Prints};
 ghost use Rattle.pg_picture.specs.Sizes.{unless_misfit};
 ghost use Rattle.pg_compact.specs.CompactGrids.{compact_parts, compact_table, compact_misfit, has_no_cells, CompactFits, MayBeRead};
 
@@ -11,7 +10,7 @@ use crate::printer::CompactPrinter;
 use crate::row_edges::RowEdges;
 use pg_config::CompactConfig;
 use pg_layout::{Colors, Dimension, ExactRecords, Records};
-use pg_picture::PrintFault;
+use pg_picture::TablePrinter;
 use pg_picture::fits::{Misfit, compact_fits};
 use std::alloc::{AllocError, Allocator};
 
@@ -59,7 +58,7 @@ where
 {
     /// Appends the picture of the table, whose records may be read (all records in memory may), have
     /// at most `usize::MAX` rows, and in which the columns fit where there are rows: of records that
-    /// know their rows [`CompactGrid::fits`] is the test, and [`CompactGrid::print`] the call that
+    /// know their rows [`CompactGrid::fits`] is the test, and [`TablePrinter::print`] the call that
     /// makes it first. Of a table with no rows or no columns the buffer stays as it was.
     ///
     /// The rows are read once, each as it is printed. Takes no memory but the buffer's. An error
@@ -106,47 +105,42 @@ where
     C: Colors + Drop,
 {
     /// Whether the columns fit: the condition of `build` and `to_string` on its sizes, as a test. It
-    /// answers the first thing that doesn't (`pg_picture::fits::Misfit`), and takes no memory. A table
-    /// with no rows fits. The records stay unread, and their rows can be counted.
+    /// returns the first thing that doesn't (`pg_picture::fits::Misfit`), and takes no memory. A table
+    /// with no rows or no columns fits. The records stay unread, and their rows can be counted.
     pub fn fits(&self) -> Result<(), Misfit>
         ensures exact { result ≡ unless_misfit (compact_misfit (compact_table R.texts R.columns D.width C.color self.now)) }
         ensures fits { IsOk result → CompactFits (compact_table R.texts R.columns D.width C.color self.now) }
         ensures counted { (compact_table R.texts R.columns D.width C.color self.now).rows ≤ usize.MAX }
+        ensures empty { has_no_cells (compact_table R.texts R.columns D.width C.color self.now) ≡ true → IsOk result }
     {
         if self.records.count_rows() == 0 {
             return Ok(());
         }
         compact_fits(self.config, &self.dimension, self.records.count_columns())
     }
+}
 
-    /// Appends the picture of the table, whose records may be read (all records in memory may), if the
-    /// columns fit: `fits`, and then `build`.
-    ///
-    /// A table that doesn't fit is refused with what `fits` answers, and the buffer stays as it was.
-    /// Where memory is refused, the buffer holds a beginning of the picture behind what it held
-    /// before. A table with no rows or no columns fits, and leaves the buffer as it was.
-    pub fn print<A: Allocator>(self, buf: &mut String<A>) -> Result<(), PrintFault>
-        requires readable { MayBeRead R.Records self }
-        ensures prints { Prints (compact_misfit (compact_table R.texts R.columns D.width C.color self.entry)) buf.old buf.new result (compact_picture (compact_table R.texts R.columns D.width C.color self.entry)) }
-        ensures printed { OnOk result (string_bytes buf.new ≡ string_bytes buf.old ++ compact_picture (compact_table R.texts R.columns D.width C.color self.entry)) }
-        ensures misfit { (m : _) → (result ≡ Err (PrintFault.Misfit m)) ↔ (compact_misfit (compact_table R.texts R.columns D.width C.color self.entry) ≡ Some m) }
-        ensures empty { has_no_cells (compact_table R.texts R.columns D.width C.color self.entry) ≡ true → IsOk result × (buf.new ≡ buf.old) }
-    {
-        self.fits()?;
-        self.build(buf)?;
-        Ok(())
+impl<'a, R, D, C> TablePrinter for CompactGrid<R, D, &'a CompactConfig, C>
+where
+    R: ExactRecords + Drop,
+    D: Dimension + Drop,
+    C: Colors + Drop,
+{
+    ghost picture = { λ it. compact_picture (compact_table R.texts R.columns D.width C.color it) };
+
+    ghost misfit = { λ it. compact_misfit (compact_table R.texts R.columns D.width C.color it) };
+
+    ghost is_empty = { λ it. has_no_cells (compact_table R.texts R.columns D.width C.color it) };
+
+    ghost is_readable = { λ it. MayBeRead R.Records it };
+
+    fn fits(&self) -> Result<(), Misfit> {
+        CompactGrid::fits(self)
     }
 
-    /// The picture of the table as a text of its own, under the condition of `print`, as that call
-    /// appends it. A table with no rows or no columns asks for no memory.
-    pub fn text<A: Allocator>(self, alloc: A) -> Result<String<A>, PrintFault>
-        requires readable { MayBeRead R.Records self }
-        ensures misfit { (m : _) → (result ≡ Err (PrintFault.Misfit m)) ↔ (compact_misfit (compact_table R.texts R.columns D.width C.color self.entry) ≡ Some m) }
-        ensures text { IfOk result (λ text. string_bytes text ≡ compact_picture (compact_table R.texts R.columns D.width C.color self.entry)) }
-        ensures empty { has_no_cells (compact_table R.texts R.columns D.width C.color self.entry) ≡ true → IsOk result }
-    {
-        let mut text = String::new(alloc);
-        self.print(&mut text)?;
-        Ok(text)
+    fn build<A: Allocator>(self, buf: &mut String<A>) -> Result<(), AllocError> {
+        // Shows that the rows can be counted.
+        let _rows = self.records.count_rows();
+        CompactGrid::build(self, buf)
     }
 }

@@ -11,3 +11,4 @@ mod short_text;
 mod whole;
 
 pub use crate::grid::CompactGrid;
+pub use pg_picture::{TablePrinter, WholePrinter};

@@ -3,7 +3,7 @@
 use crate::case::Case;
 use crate::grid::Grid;
 use crate::refusal::Refusal;
-use pg_grid::{CompactGrid, IterGrid, PeekableGrid, PrintFault};
+use pg_grid::{CompactGrid, IterGrid, PeekableGrid, PrintFault, TablePrinter};
 use pg_layout::{ConstantDimension, VecRecords};
 use pg_table::{NaturalTable, Table};
 use pg_told::unhinted::Unhinted;
@@ -119,10 +119,14 @@ impl Case<'_> {
         let (config, dimension, colors) = (&self.config, &self.dimension, &self.colors);
         match grid {
             Grid::Peekable => PeekableGrid::new(records, config, dimension, colors).print(buf),
-            Grid::Hinted => IterGrid::new(records, config, dimension, colors).print(memory, buf),
+            Grid::Hinted => {
+                let grid = IterGrid::new(records, config, dimension, colors);
+                grid.with_memory(memory).print(buf)
+            }
             Grid::Unhinted => {
                 let records = Unhinted::new(records);
-                IterGrid::new(records, config, dimension, colors).print(memory, buf)
+                let grid = IterGrid::new(records, config, dimension, colors);
+                grid.with_memory(memory).print(buf)
             }
             Grid::Compact => {
                 CompactGrid::new(records, &self.compact, dimension, colors).print(buf)
@@ -159,10 +163,14 @@ impl Case<'_> {
         let (config, dimension, colors) = (&self.config, &self.dimension, &self.colors);
         match grid {
             Grid::Peekable => PeekableGrid::new(records, config, dimension, colors).text(memory),
-            Grid::Hinted => IterGrid::new(records, config, dimension, colors).text(memory),
+            Grid::Hinted => {
+                let grid = IterGrid::new(records, config, dimension, colors);
+                grid.with_memory(memory).text(memory)
+            }
             Grid::Unhinted => {
                 let records = Unhinted::new(records);
-                IterGrid::new(records, config, dimension, colors).text(memory)
+                let grid = IterGrid::new(records, config, dimension, colors);
+                grid.with_memory(memory).text(memory)
             }
             Grid::Compact => {
                 CompactGrid::new(records, &self.compact, dimension, colors).text(memory)

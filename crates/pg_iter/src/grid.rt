@@ -1,8 +1,8 @@
 //! The streaming grid: it reads its records once, row by row, and draws cells over several rows.
 
+use crate::grid_with_memory::GridWithMemory;
 use pg_config::SpannedConfig;
 use pg_layout::{Colors, Dimension, ExactRecords, PeekableRecords, Records};
-use pg_picture::PrintFault;
 use pg_picture::fits::{Misfit, table_fits};
 use pg_stream::RowPrinter;
 use std::alloc::{AllocError, Allocator};
@@ -35,6 +35,17 @@ impl<R, D, G, C> IterGrid<R, D, G, C> {
             colors,
         }
     }
+
+    /// The grid beside the memory for the cells that go on below their row: what `print`, `text` and
+    /// `print_whole` are calls of.
+    pub fn with_memory<A>(self, alloc: A) -> GridWithMemory<IterGrid<R, D, G, C>, A>
+        ensures { result.grid ≡ self }
+    {
+        GridWithMemory {
+            grid: self,
+            memory: alloc,
+        }
+    }
 }
 
 impl<'a, R, D, C, B> IterGrid<R, D, &'a SpannedConfig<B>, C>
@@ -53,9 +64,9 @@ where
     ghost use Rattle.pg_iter.specs.IterGrids.{MayBeRead, streamed, told};
 
     /// Appends the picture of the table, which fits and whose records may be read (all records in memory
-    /// may): of records in memory [`IterGrid::fits`] is the test, and [`IterGrid::print`] the call that
-    /// makes it first. A table with no rows or no columns appends
-    /// nothing, and asks for no memory.
+    /// may): of records in memory [`IterGrid::fits`] is the test, and `print` of
+    /// [`IterGrid::with_memory`] the call that makes it first. A table with no rows or no columns
+    /// appends nothing, and asks for no memory.
     ///
     /// Where each glyph and each fill takes one column, and no glyph of a column line is missing, all
     /// lines of the body are as wide as the table.
@@ -99,8 +110,8 @@ where
     }
 
     /// The picture of the table as a text of its own, under the conditions of `build`; of records in
-    /// memory `text` is the call that tests them first. An error comes where no memory is found; a
-    /// table with no rows or no columns asks for none.
+    /// memory `text` of [`IterGrid::with_memory`] is the call that tests them first. An error comes where
+    /// no memory is found; a table with no rows or no columns asks for none.
     pub fn to_string<A: Allocator + Copy>(self, alloc: A) -> Result<String<A>, AllocError>
         requires readable { MayBeRead R.Records self }
         requires fits { misfit_of (streamed R.Records D.Dimension C.Colors self) ≡ None }
@@ -120,58 +131,22 @@ where
     C: Colors + Drop,
     B: Allocator,
 {
-    ghost use Rattle.std.specs.Prelude.{◌≡◌, ◌++◌, ◌↔◌, true, Some, None, Err, IsOk, IfOk, OnOk, string_bytes};
+    ghost use Rattle.std.specs.Prelude.{◌≡◌, true, None, IsOk};
     ghost use Rattle.pg_picture.specs.Fits.{misfit_of};
     ghost use Rattle.pg_picture.specs.Sizes.{unless_misfit};
-    ghost use Rattle.pg_picture.specs.Picture.{picture};
     ghost use Rattle.pg_picture.specs.Table.{is_empty};
-    ghost use Rattle.pg_iter.specs.IterGrids.{MayBeRead, streamed, told};
-    ghost use Rattle.pg_picture.specs.Printed.{PrintsOrNothing};
+    ghost use Rattle.pg_iter.specs.IterGrids.{streamed};
 
     /// Whether the table fits: its spans, its totals, and in each cell the text's widest line, the side
     /// paddings and the padding above the text. Lines that a row isn't high enough for are no misfit:
     /// they are left out. It is the condition of `build` and `to_string` on the table's sizes as a test,
-    /// which answers the first thing that doesn't fit (`pg_picture::fits::Misfit`), and takes no memory.
-    /// The rows stay unread.
+    /// which returns the first thing that doesn't fit (`pg_picture::fits::Misfit`), and takes no memory.
+    /// A table with no rows or no columns fits. The rows stay unread.
     pub fn fits(&self) -> Result<(), Misfit>
         ensures exact { result ≡ unless_misfit (misfit_of (streamed R.Records D.Dimension C.Colors self.now)) }
         ensures fits { IsOk result → misfit_of (streamed R.Records D.Dimension C.Colors self.now) ≡ None }
+        ensures empty { is_empty (streamed R.Records D.Dimension C.Colors self.now) ≡ true → IsOk result }
     {
         table_fits(&self.records, self.config, &self.dimension)
-    }
-
-    /// Appends the picture of the table, whose records may be read (all records in memory may), if it
-    /// fits: `fits`, and then `build`.
-    ///
-    /// A table that doesn't fit is refused with what `fits` answers, and the buffer stays as it was.
-    /// Where memory is refused, the buffer holds a beginning of the picture behind what it held
-    /// before.
-    pub fn print<A: Allocator, W: Allocator>(
-        self,
-        alloc: A,
-        buf: &mut String<W>,
-    ) -> Result<(), PrintFault>
-        requires readable { MayBeRead R.Records self }
-        ensures prints { PrintsOrNothing (misfit_of (streamed R.Records D.Dimension C.Colors self.entry)) buf.old buf.new result (picture (told R.Records self.entry) (streamed R.Records D.Dimension C.Colors self.entry)) }
-        ensures printed { OnOk result (string_bytes buf.new ≡ string_bytes buf.old ++ picture (told R.Records self.entry) (streamed R.Records D.Dimension C.Colors self.entry)) }
-        ensures misfit { (m : _) → (result ≡ Err (PrintFault.Misfit m)) ↔ (misfit_of (streamed R.Records D.Dimension C.Colors self.entry) ≡ Some m) }
-        ensures empty { is_empty (streamed R.Records D.Dimension C.Colors self.entry) ≡ true → IsOk result × (buf.new ≡ buf.old) }
-    {
-        self.fits()?;
-        self.build(alloc, buf)?;
-        Ok(())
-    }
-
-    /// The picture of the table as a text of its own, under the condition of `print`, as that call
-    /// appends it. A table with no rows or no columns asks for no memory.
-    pub fn text<A: Allocator + Copy>(self, alloc: A) -> Result<String<A>, PrintFault>
-        requires readable { MayBeRead R.Records self }
-        ensures misfit { (m : _) → (result ≡ Err (PrintFault.Misfit m)) ↔ (misfit_of (streamed R.Records D.Dimension C.Colors self.entry) ≡ Some m) }
-        ensures text { IfOk result (λ text. string_bytes text ≡ picture (told R.Records self.entry) (streamed R.Records D.Dimension C.Colors self.entry)) }
-        ensures empty { is_empty (streamed R.Records D.Dimension C.Colors self.entry) ≡ true → IsOk result }
-    {
-        let mut text = String::new(alloc);
-        self.print(alloc, &mut text)?;
-        Ok(text)
     }
 }

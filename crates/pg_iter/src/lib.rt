@@ -2,6 +2,9 @@
 #![tactic(auto)]
 
 mod grid;
+mod grid_with_memory;
 mod whole;
 
 pub use crate::grid::IterGrid;
+pub use crate::grid_with_memory::GridWithMemory;
+pub use pg_picture::{TablePrinter, WholePrinter};

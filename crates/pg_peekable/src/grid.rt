@@ -4,7 +4,7 @@ use crate::drawing::Drawing;
 use pg_config::SpannedConfig;
 use pg_layout::{Colors, Dimension, ExactRecords, PeekableRecords};
 use pg_picture::fits::{Misfit, body_height, full_width, table_fits};
-use pg_picture::{Drawn, PrintFault, Sheet, push_bottom_margin, push_top_margin};
+use pg_picture::{Drawn, Sheet, TablePrinter, push_bottom_margin, push_top_margin};
 use std::alloc::{AllocError, Allocator};
 use std::marker::{Brand, PhantomData};
 
@@ -45,14 +45,13 @@ where
     C: Colors,
     B: Allocator,
 {
-    ghost use Rattle.std.specs.Prelude.{◌≡◌, ◌++◌, ◌↔◌, true, Some, None, Err, IsOk, IfOk, OnOk, string_bytes};
+    ghost use Rattle.std.specs.Prelude.{◌≡◌, true, None, IsOk, IfOk, string_bytes};
     ghost use Rattle.pg_picture.specs.Appending.{Appends};
     ghost use Rattle.pg_picture.specs.Fits.{misfit_of};
     ghost use Rattle.pg_picture.specs.Grids.{table_of_parts};
     ghost use Rattle.pg_picture.specs.Inside.Following.{body_text};
     ghost use Rattle.pg_picture.specs.Joined.{joined};
     ghost use Rattle.pg_picture.specs.Picture.{picture, picture_lines};
-    ghost use Rattle.pg_picture.specs.Printed.{Prints};
     ghost use Rattle.pg_picture.specs.Sizes.{unless_misfit};
     ghost use Rattle.pg_picture.specs.Straight.{IsStraight};
     ghost use Rattle.pg_picture.specs.Table.{Known, is_empty, table_body};
@@ -61,45 +60,19 @@ where
 
     /// Whether the table fits: its spans, its totals, and in each cell the text's widest line, the side
     /// paddings and the padding above the text. Lines that a row isn't high enough for are no misfit:
-    /// they are left out. It is the condition of `build` and `to_string` as a test, which answers the
-    /// first thing that doesn't fit (`pg_picture::fits::Misfit`), and takes no memory.
+    /// they are left out. It is the condition of `build` and `to_string` as a test, which returns the
+    /// first thing that doesn't fit (`pg_picture::fits::Misfit`), and takes no memory. A table with no
+    /// rows or no columns fits.
     pub fn fits(&self) -> Result<(), Misfit>
         ensures exact { result ≡ unless_misfit (misfit_of (drawn R.Records D.Dimension C.Colors self.now)) }
         ensures fits { IsOk result → misfit_of (drawn R.Records D.Dimension C.Colors self.now) ≡ None }
+        ensures empty { is_empty (drawn R.Records D.Dimension C.Colors self.now) ≡ true → IsOk result }
     {
         table_fits(&self.records, self.config, &self.dimension)
     }
 
-    /// Appends the picture of the table, if it fits: `fits`, and then `build`.
-    ///
-    /// A table that doesn't fit is refused with what `fits` answers, and the buffer stays as it was.
-    /// Where memory is refused, the buffer holds a beginning of the picture behind what it held
-    /// before. A table with no rows or no columns fits, and leaves the buffer as it was.
-    pub fn print<A: Allocator>(&self, buf: &mut String<A>) -> Result<(), PrintFault>
-        ensures prints { Prints (misfit_of (drawn R.Records D.Dimension C.Colors self.now)) buf.old buf.new result (picture Known (drawn R.Records D.Dimension C.Colors self.now)) }
-        ensures printed { OnOk result (string_bytes buf.new ≡ string_bytes buf.old ++ picture Known (drawn R.Records D.Dimension C.Colors self.now)) }
-        ensures misfit { (m : _) → (result ≡ Err (PrintFault.Misfit m)) ↔ (misfit_of (drawn R.Records D.Dimension C.Colors self.now) ≡ Some m) }
-        ensures empty { is_empty (drawn R.Records D.Dimension C.Colors self.now) ≡ true → IsOk result × (buf.new ≡ buf.old) }
-    {
-        self.fits()?;
-        self.build(buf)?;
-        Ok(())
-    }
-
-    /// The picture of the table as a text of its own, if the table fits, as `print` appends it. A table
-    /// with no rows or no columns asks for no memory.
-    pub fn text<A: Allocator>(&self, alloc: A) -> Result<String<A>, PrintFault>
-        ensures misfit { (m : _) → (result ≡ Err (PrintFault.Misfit m)) ↔ (misfit_of (drawn R.Records D.Dimension C.Colors self.now) ≡ Some m) }
-        ensures text { IfOk result (λ text. string_bytes text ≡ picture Known (drawn R.Records D.Dimension C.Colors self.now)) }
-        ensures empty { is_empty (drawn R.Records D.Dimension C.Colors self.now) ≡ true → IsOk result }
-    {
-        let mut text = String::new(alloc);
-        self.print(&mut text)?;
-        Ok(text)
-    }
-
     /// Appends the picture of the table, which fits: [`PeekableGrid::fits`] is the test, and
-    /// [`PeekableGrid::print`] the call that makes it first. Of a table with no rows or no columns the
+    /// [`TablePrinter::print`] the call that makes it first. Of a table with no rows or no columns the
     /// buffer stays as it was.
     ///
     /// Where each glyph and each fill takes one column, and no glyph of a column line is missing, all
@@ -183,5 +156,33 @@ where
             of: PhantomData,
         };
         drawing.push_kept_body(buf)
+    }
+}
+
+/// It is only read while it prints.
+impl<'g, 'a, R, D, C, B> TablePrinter for &'g PeekableGrid<R, &'a SpannedConfig<B>, D, C>
+where
+    R: PeekableRecords + ExactRecords,
+    D: Dimension,
+    C: Colors,
+    B: Allocator,
+{
+    ghost use Rattle.pg_picture.specs.Fits.{misfit_of};
+    ghost use Rattle.pg_picture.specs.Picture.{picture};
+    ghost use Rattle.pg_picture.specs.Table.{Known, is_empty};
+    ghost use Rattle.pg_peekable.specs.Grids.{drawn};
+
+    ghost picture = { λ it. picture Known (drawn R.Records D.Dimension C.Colors it.now) };
+
+    ghost misfit = { λ it. misfit_of (drawn R.Records D.Dimension C.Colors it.now) };
+
+    ghost is_empty = { λ it. is_empty (drawn R.Records D.Dimension C.Colors it.now) };
+
+    fn fits(&self) -> Result<(), Misfit> {
+        PeekableGrid::fits(*self)
+    }
+
+    fn build<A: Allocator>(self, buf: &mut String<A>) -> Result<(), AllocError> {
+        PeekableGrid::build(self, buf)
     }
 }

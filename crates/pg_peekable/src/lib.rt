@@ -14,3 +14,4 @@ mod spanned;
 mod whole;
 
 pub use crate::grid::PeekableGrid;
+pub use pg_picture::{TablePrinter, WholePrinter};

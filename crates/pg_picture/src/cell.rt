@@ -4,6 +4,7 @@ ghost use Rattle.std.specs.Prelude.{◌≡◌, ◌+◌, ◌<◌, ◌≤◌, ◌+
 ghost use Rattle.pg_layout.specs.Colors.{lent_color};
 ghost use Rattle.pg_layout.specs.Text.{lines_of, width_of};
 ghost use Rattle.pg_picture.specs.Appending.{Appends};
+ghost use Rattle.pg_picture.specs.Fits.{cell_fits};
 ghost use Rattle.pg_picture.specs.Pieces.{written, fill, repeated, widest, inner_width, line_with, block_line};
 ghost use Rattle.pg_picture.specs.Inside.Cells.{HasRoomFor, style_of, facts_of, place_of, share_of, line_if, line_parts, placed_line, shows_texts_whole, has_plain_sides};
 
@@ -284,4 +285,23 @@ pub(crate) fn shows_texts_whole<A: Allocator>(style: &CellStyle<'_, A>) -> bool
 {
     let formatting = style.formatting;
     !formatting.horizontal_trim && !formatting.vertical_trim && style.padding.top.size == 0
+}
+
+/// Appends the line of a cell of so many columns and one line.
+///
+/// The cell has room for its text: [`crate::fits::cell_fits`] of height 1 tells it. An error comes only
+/// where the buffer's room is too small; the buffer then holds a beginning.
+#[inline(always)]
+pub fn push_single_line<C: ANSIFmt, B: Allocator, A: Allocator>(
+    buf: &mut String<A>,
+    style: &CellStyle<'_, B>,
+    color: Option<&C>,
+    text: &str,
+    width: usize,
+) -> Result<(), AllocError>
+    requires room { cell_fits (style_of style.now) text.now width 1 ≡ true }
+    ensures { Appends buf.old buf.new result (written (block_line (style_of style.now) (lent_color C.color_of color.entry) text.now width 1 0)) }
+{
+    let place = CellPlace::of_text(text, style, width, 1);
+    push_block_line(buf, style, color, text, place, width, 1, 0)
 }

@@ -24,10 +24,12 @@ pub mod shown;
 mod single_cell;
 mod sized_table;
 mod table_margins;
+mod table_printer;
 mod vertical;
 mod whole_fault;
+mod whole_printer;
 
-pub use crate::cell::push_text_line;
+pub use crate::cell::{push_single_line, push_text_line};
 pub use crate::compact_cell::{push_border_glyph, push_compact_cell, push_compact_indent};
 pub use crate::compact_margin::push_compact_margin;
 pub use crate::compact_run::CompactRun;
@@ -47,6 +49,8 @@ pub use crate::single_cell::SingleCell;
 pub use crate::table_margins::{
     push_bottom_margin, push_left_margin, push_right_margin, push_top_margin,
 };
+pub use crate::table_printer::TablePrinter;
 pub use crate::vertical::{push_vertical, push_vertical_at};
 pub use crate::whole_fault::WholeFault;
+pub use crate::whole_printer::WholePrinter;
 pub use pg_config::CellStyle;

@@ -8,12 +8,11 @@ ghost use Rattle.pg_picture.specs.Inside.Cells.{IsOfKind, style_of, is_simple};
 ghost use Rattle.std.proofs.Props.{props};
 
 use crate::cell::{
-    columns_left, inner_width, push_block_line, push_line_of_width, push_plain_parts,
+    columns_left, inner_width, push_line_of_width, push_plain_parts, push_single_line,
     shows_texts_whole,
 };
 use crate::facts::{TextKind, single_line_width};
 use crate::pen::{Drawn, Pen};
-use crate::place::CellPlace;
 use pg_config::CellStyle;
 use pg_layout::{Colors, Dimension, Position};
 use std::alloc::{AllocError, Allocator};
@@ -123,7 +122,6 @@ where
                 );
             }
         }
-        let place = CellPlace::of_text(cell.text, style, cell.width, 1);
-        push_block_line(buf, style, color, cell.text, place, cell.width, 1, 0)
+        push_single_line(buf, style, color, cell.text, cell.width)
     }
 }

@@ -12,4 +12,6 @@ pub use crate::mode::Mode;
 pub use crate::program::{Ending, run};
 pub use crate::show::print_script;
 pub use pg_picture::PrintFault;
+/// Why the table of a script isn't printed.
+pub use pg_picture::PrintFault as ShowFault;
 pub use pg_script::{Script, ScriptFault, parse_script};

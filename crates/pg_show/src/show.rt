@@ -9,7 +9,7 @@ ghost use Rattle.pg_show.specs.declared.mode.Mode.TheVariants as mode;
 
 use crate::mode::Mode;
 use pg_config::{CompactConfig, SpannedConfig};
-use pg_grid::{CompactGrid, IterGrid, PeekableGrid};
+use pg_grid::{CompactGrid, IterGrid, PeekableGrid, TablePrinter};
 use pg_layout::{Borders, Entity, NoColors};
 use pg_picture::PrintFault;
 use pg_picture::fits::Misfit;
@@ -66,7 +66,8 @@ fn print_streamed<C: Allocator, A: Allocator, B: Allocator>(
     ensures empty { is_empty (table_of_told (told_of_script script.now)) ≡ true → IsOk result × (buf.new ≡ buf.old) }
 {
     let (dimension, colors) = (&script.dimension, &script.colors);
-    IterGrid::new(&script.records, &script.config, dimension, colors).print(alloc, buf)
+    let grid = IterGrid::new(&script.records, &script.config, dimension, colors);
+    grid.with_memory(alloc).print(buf)
 }
 
 // Appends the table of a script, its texts looked up, if it fits.

@@ -7,7 +7,7 @@ use crate::telling::tell;
 use crate::texts::{SAME, records, sizes};
 use anyhow::Result;
 use pg_config::SpannedConfig;
-use pg_grid::{IterGrid, PeekableGrid};
+use pg_grid::{IterGrid, PeekableGrid, TablePrinter};
 use pg_layout::{ColorsMap, ConstantDimension, NoColors, VecRecords};
 use pg_stream::{LiveStream, RowStream, SizedStream};
 use std::alloc::{AllocError, Global};
@@ -138,7 +138,8 @@ fn print_vectors(
         }
         Grid::VectorsPrinted => {
             let records = VecRecords::new(rows)?;
-            Ok(IterGrid::new(records, config, table, NoColors).print(alloc, text)?)
+            let grid = IterGrid::new(records, config, table, NoColors);
+            Ok(grid.with_memory(alloc).print(text)?)
         }
         _ => Ok(()),
     }

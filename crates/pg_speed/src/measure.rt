@@ -8,7 +8,7 @@ use crate::table::Table;
 use crate::texts::{SAME, records, sizes};
 use anyhow::Result;
 use pg_config::{CompactConfig, SpannedConfig};
-use pg_grid::{CompactGrid, IterGrid, PeekableGrid};
+use pg_grid::{CompactGrid, IterGrid, PeekableGrid, TablePrinter};
 use pg_layout::{Colors, ConstantDimension, ExactRecords, NoColors, Records, VecRecords};
 use pg_picture::fits::compact_fits;
 use pg_table::NaturalTable;

@@ -5,7 +5,7 @@ use crate::live::owned;
 use crate::watch::{Buffer, Watch};
 use crate::way::Way;
 use pg_config::CompactConfig;
-use pg_grid::{CompactGrid, IterGrid, PeekableGrid, Unshown, WholeFault};
+use pg_grid::{CompactGrid, IterGrid, PeekableGrid, Unshown, WholeFault, WholePrinter};
 use pg_layout::{NoColors, VecRecords};
 
 impl Case<'_> {
@@ -55,7 +55,8 @@ impl Case<'_> {
         buf: &mut Buffer<'_>,
     ) -> (Result<(), Unshown>, Result<(), WholeFault>) {
         let grid = IterGrid::new(records, &self.config, &self.dimension, &NoColors);
-        (grid.shows_all(), grid.print_whole(watch.memory, buf))
+        let grid = grid.with_memory(watch.memory);
+        (grid.shows_all(), grid.print_whole(buf))
     }
 
     // By the compact grid, which was told nothing.

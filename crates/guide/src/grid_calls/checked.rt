@@ -1,7 +1,7 @@
 //! Calls that test their table themselves: they ask nothing, and refuse a table that doesn't fit.
 
 use pg_config::{CompactConfig, SpannedConfig};
-use pg_grid::{CompactGrid, IterGrid, PeekableGrid, PrintFault};
+use pg_grid::{CompactGrid, IterGrid, PeekableGrid, PrintFault, TablePrinter};
 use pg_layout::{ConstantDimension, NoColors, VecRecords};
 use std::alloc::Global;
 
@@ -24,7 +24,8 @@ pub(crate) fn push_streamed(
     dimension: &ConstantDimension,
     buf: &mut String,
 ) -> Result<(), PrintFault> {
-    IterGrid::new(records, config, dimension, &NoColors).print(alloc, buf)
+    let grid = IterGrid::new(records, config, dimension, &NoColors);
+    grid.with_memory(alloc).print(buf)
 }
 
 /// The text of the table, as the compact grid gives it.

@@ -6,7 +6,7 @@ ghost use Rattle.pg_picture.specs.Picture.{picture};
 ghost use Rattle.pg_picture.specs.Grids.{table_of_parts};
 
 use pg_config::SpannedConfig;
-use pg_grid::{PeekableGrid, PrintFault};
+use pg_grid::{PeekableGrid, PrintFault, TablePrinter};
 use pg_layout::{Colors, Dimension, ExactRecords, PeekableRecords};
 
 /// Appends the picture of the table of these parts.

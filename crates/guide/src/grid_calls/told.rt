@@ -3,7 +3,7 @@
 use crate::fault::Fault;
 use crate::grid_calls::parts::records;
 use pg_config::SpannedConfig;
-use pg_grid::PeekableGrid;
+use pg_grid::{PeekableGrid, TablePrinter};
 use pg_layout::{
     ANSIBuf, AlignmentHorizontal, Borders, ColorsMap, ConstantDimension, Entity, Indent, Position,
     Sides,

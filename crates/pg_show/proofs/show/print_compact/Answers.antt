@@ -1,4 +1,4 @@
-use Rattle.std.proofs.Common.{◌∙◌, ap, map, string_bytes}
+use Rattle.std.proofs.Common.{◌∙◌, ap, map, refl, string_bytes}
 use Rattle.pg_layout.specs.Records.{columns_of}
 use Rattle.pg_config.specs.CompactConfig.{settings_of}
 use Rattle.pg_compact.specs.CompactGrids.{compact_misfit, has_no_cells}
@@ -16,7 +16,7 @@ returns-clause-shows g c =
     let drawn =
     ap (λ parts. compact_table_with (settings_of parts.2.now) parts.1.now.0.items (map (λ row. map string_bytes row) parts.0.now) (columns_of parts.0.now) parts.3.now) c.new.ensures.parts
     ∙ compact_table-script script _ c.of-config.ensures in
-    Shows-checked mode.Compact (told_of_script script) c.args.buf.now c.print.new.buf _ _ (ap compact_misfit drawn ∙ compact_misfit-told (told_of_script script)) (rw (ap compact_picture drawn) at c.print.ensures.prints)
+    Shows-checked mode.Compact (told_of_script script) c.args.buf.now c.print.new.buf _ _ (ap compact_misfit drawn ∙ compact_misfit-told (told_of_script script)) (rw (ap compact_picture drawn) at (c.print.ensures.prints refl))
 
 -- a table without cells fits, and takes no room
 pub returns-clause-empty : goal.returns-clause-empty

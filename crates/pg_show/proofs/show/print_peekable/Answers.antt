@@ -14,7 +14,7 @@ returns-clause-shows g c =
     let drawn =
     ap (λ parts. table_with parts.1.now parts.2.now.0.items parts.2.now.1.items (map (λ row. map string_bytes row) parts.0.now) (columns_of parts.0.now) parts.3.now) c.new.ensures
     ∙ table-script script in
-    Shows-checked mode.Peek (told_of_script script) c.args.buf.now c.print.new.buf _ _ refl (rw drawn at c.print.ensures.prints)
+    Shows-checked mode.Peek (told_of_script script) c.args.buf.now c.print.new.buf _ _ refl (rw drawn at (c.print.ensures.prints refl))
 
 -- a table without cells fits, and takes no room
 pub returns-clause-empty : goal.returns-clause-empty

@@ -12,14 +12,14 @@ pub returns-clause-shows : goal.returns-clause-shows
 returns-clause-shows g c =
     let script = c.args.script.now in
     let drawn =
-    ap (λ parts. table_with parts.1.now parts.2.now.0.items parts.2.now.1.items (map (λ row. map string_bytes row) parts.0.now) (columns_of parts.0.now) parts.3.now) c.new.ensures
+    ap (λ parts. table_with parts.1.now parts.2.now.0.items parts.2.now.1.items (map (λ row. map string_bytes row) parts.0.now) (columns_of parts.0.now) parts.3.now) c.new-grid.ensures
     ∙ table-script script in
-    Shows-checked mode.Iter (told_of_script script) c.args.buf.now c.print.new.buf _ _ refl (rw drawn at c.print.ensures.prints)
+    Shows-checked mode.Iter (told_of_script script) c.args.buf.now c.print.new.buf _ _ refl (rw drawn at (rw c.with_memory.ensures at c.print.ensures.or_nothing))
 
 -- a table without cells asks for nothing that could be refused
 pub returns-clause-empty : goal.returns-clause-empty
 returns-clause-empty g c = λ none.
     let drawn =
-    ap (λ parts. is_empty (table_with parts.1.now parts.2.now.0.items parts.2.now.1.items (map (λ row. map string_bytes row) parts.0.now) (columns_of parts.0.now) parts.3.now)) c.new.ensures
+    ap (λ parts. is_empty (table_with parts.1.now parts.2.now.0.items parts.2.now.1.items (map (λ row. map string_bytes row) parts.0.now) (columns_of parts.0.now) parts.3.now)) c.new-grid.ensures
     ∙ ap is_empty (table-script c.args.script.now) in
-    c.print.ensures.empty (drawn ∙ none)
+    (rw c.with_memory.ensures at c.print.ensures.empty) (drawn ∙ none)

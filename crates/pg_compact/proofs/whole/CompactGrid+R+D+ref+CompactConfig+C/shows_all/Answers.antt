@@ -1,6 +1,6 @@
-use Rattle.std.proofs.Common.{None, ap, ◌∙◌, subst, IsOk}
+use Rattle.std.proofs.Common.{None, ap, ◌∙◌, subst, IsOk, is_ok}
 use Rattle.pg_picture.specs.Shown.{unless_unshown}
-use Rattle.pg_picture.proofs.ShownGrids.{compact_unshown-any_colors, nothing-if-ok}
+use Rattle.pg_picture.proofs.ShownGrids.{compact_unshown-any_colors, compact_unshown-empty, nothing-if-ok}
 use Rattle.pg_compact.specs.CompactGrids.{compact_table}
 use Rattle.pg_compact.proofs.ShownTexts.{shown-fits}
 use Rattle.pg_compact.proofs.whole.CompactGrid+R+D+ref+CompactConfig+C.shows_all.Goals as goal
@@ -10,3 +10,6 @@ returns-clause-exact g c = c.compact_shows_all.ensures ∙ ap unless_unshown (co
 
 pub returns-clause-fits : goal.returns-clause-fits
 returns-clause-fits g c = λ ok. shown-fits _ (nothing-if-ok _ (subst (λ r. IsOk r) (returns-clause-exact g c) ok))
+
+pub returns-clause-empty : goal.returns-clause-empty
+returns-clause-empty g c = λ empty. ap is_ok (returns-clause-exact g c ∙ ap unless_unshown (compact_unshown-empty _ empty))

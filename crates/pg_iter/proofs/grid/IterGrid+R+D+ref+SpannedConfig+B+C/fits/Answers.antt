@@ -1,7 +1,7 @@
-use Rattle.std.proofs.Common.{None, ap, ◌∙◌, subst, IsOk}
+use Rattle.std.proofs.Common.{None, ap, ◌∙◌, subst, IsOk, is_ok}
 use Rattle.pg_picture.specs.Sizes.{unless_misfit}
 use Rattle.pg_iter.specs.IterGrids.{streamed}
-use Rattle.pg_picture.proofs.FittingGrids.{misfit-any_colors, none-if-ok}
+use Rattle.pg_picture.proofs.FittingGrids.{misfit-any_colors, misfit-empty, none-if-ok}
 use Rattle.pg_iter.proofs.grid.IterGrid+R+D+ref+SpannedConfig+B+C.fits.Goals as goal
 
 pub returns-clause-exact : goal.returns-clause-exact
@@ -9,3 +9,6 @@ returns-clause-exact g c = c.table_fits.ensures ∙ ap unless_misfit (misfit-any
 
 pub returns-clause-fits : goal.returns-clause-fits
 returns-clause-fits g c = λ ok. none-if-ok _ (subst (λ r. IsOk r) (returns-clause-exact g c) ok)
+
+pub returns-clause-empty : goal.returns-clause-empty
+returns-clause-empty g c = λ empty. ap is_ok (returns-clause-exact g c ∙ ap unless_misfit (misfit-empty _ empty))

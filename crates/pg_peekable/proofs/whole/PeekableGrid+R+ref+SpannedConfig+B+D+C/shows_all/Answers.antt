@@ -1,7 +1,7 @@
-use Rattle.std.proofs.Common.{None, ap, ◌∙◌, subst, IsOk}
+use Rattle.std.proofs.Common.{None, ap, ◌∙◌, subst, IsOk, is_ok}
 use Rattle.pg_picture.specs.Shown.{unless_unshown}
 use Rattle.pg_peekable.specs.Grids.{drawn}
-use Rattle.pg_picture.proofs.ShownGrids.{unshown-any_colors, nothing-if-ok, shown-fits}
+use Rattle.pg_picture.proofs.ShownGrids.{unshown-any_colors, unshown-empty, nothing-if-ok, shown-fits}
 use Rattle.pg_peekable.proofs.whole.PeekableGrid+R+ref+SpannedConfig+B+D+C.shows_all.Goals as goal
 
 pub returns-clause-exact : goal.returns-clause-exact
@@ -9,3 +9,6 @@ returns-clause-exact g c = c.table_shows_all.ensures ∙ ap unless_unshown (unsh
 
 pub returns-clause-fits : goal.returns-clause-fits
 returns-clause-fits g c = λ ok. shown-fits _ (nothing-if-ok _ (subst (λ r. IsOk r) (returns-clause-exact g c) ok))
+
+pub returns-clause-empty : goal.returns-clause-empty
+returns-clause-empty g c = λ empty. ap is_ok (returns-clause-exact g c ∙ ap unless_unshown (unshown-empty _ empty))

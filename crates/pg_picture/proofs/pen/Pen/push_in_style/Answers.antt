@@ -2,9 +2,8 @@ use Rattle.std.proofs.Common.{◌≡◌, true, ap, ap₂, sym, ◌∙◌, lit<, 
 use Rattle.pg_picture.specs.Fits.{cell_fits}
 use Rattle.pg_picture.specs.Pieces.{Style, written, block_line}
 use Rattle.pg_picture.specs.Inside.Cells.{style_of}
-use Rattle.pg_picture.specs.declared.facts.TextFacts.{TextFacts}
 use Rattle.pg_picture.proofs.Appending.{Appends-text}
-use Rattle.pg_picture.proofs.PlacesOfTexts.{single-whole, room-of-whole, facts_of-widest, cell_fits-width, cell_fits-height}
+use Rattle.pg_picture.proofs.PlacesOfTexts.{single-whole, room-of-whole, cell_fits-width}
 use Rattle.pg_picture.proofs.pen.Pen.push_in_style.Goals as goal
 
 pub push_line_of_width-requires-clause-room : goal.push_line_of_width-requires-clause-room
@@ -22,19 +21,12 @@ returns-in-Some g c =
     (ap written (single-whole style _ cell.text.now cell.width (sym c.shows_texts_whole.ensures ∙ c.if-shows_texts_whole.true) c.in-Some.ensures.one)
     ∙ ap₂ (λ s k. written (block_line s k cell.text.now cell.width 1 0)) c.requires.style c.color_of-color.ensures) c.push_line_of_width.ensures
 
-pub of_text-place-requires : goal.of_text-place-requires
-of_text-place-requires g c =
+pub push_single_line-requires : goal.push_single_line-requires
+push_single_line-requires g c =
     let cell = c.args.cell in
-    ap (λ s. cell_fits s cell.text.now cell.width 1) c.requires.style ∙ cell.has_room
-
-pub push_block_line-requires-clause-width : goal.push_block_line-requires-clause-width
-push_block_line-requires-clause-width g c =
-    let style = style_of c.args.style.now in
-    let cell = c.args.cell in
-    let fits : cell_fits style cell.text.now cell.width 1 ≡ true = ap (λ s. cell_fits s cell.text.now cell.width 1) c.requires.style ∙ cell.has_room in
-    cell_fits-width style cell.text.now cell.width 1 (lit< tt) fits
+    record { room = ap (λ s. cell_fits s cell.text.now cell.width 1) c.requires.style ∙ cell.has_room }
 
 pub returns : goal.returns
 returns g c =
     let cell = c.args.cell in
-    Appends-text (ap₂ (λ s k. written (block_line s k cell.text.now cell.width 1 0)) c.requires.style c.color_of-color.ensures) c.push_block_line.ensures
+    Appends-text (ap₂ (λ s k. written (block_line s k cell.text.now cell.width 1 0)) c.requires.style c.color_of-color.ensures) c.push_single_line.ensures
