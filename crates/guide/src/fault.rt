@@ -6,7 +6,7 @@ use pg_picture::{PrintFault, WholeFault};
 use pg_stream::StreamFault;
 use pg_table::TableFault;
 use std::alloc::{AllocError, AllocFailed};
-use std::io;
+use std::{fmt, io};
 
 /// Why the program ends early.
 #[derive(Debug, Drop)]
@@ -21,6 +21,10 @@ pub(crate) enum Fault {
     Whole(WholeFault),
     /// A row isn't printed.
     Stream(StreamFault),
+    /// This line of an input, counted from 1, isn't a row.
+    Line(usize),
+    /// No program of the guide that reads an input has this name.
+    Name,
     /// Memory was refused.
     Memory,
     /// A read or a write failed.
@@ -78,5 +82,22 @@ impl<T: Drop> From<AllocFailed<T>> for Fault {
 impl From<io::Error> for Fault {
     fn from(error: io::Error) -> Fault {
         Fault::Io(error)
+    }
+}
+
+/// Writes why.
+impl fmt::Display for Fault {
+    fn fmt<W: fmt::Write>(&self, f: &mut fmt::Formatter<W>) -> fmt::Result {
+        match self {
+            Fault::Records(fault) => write!(f, "{fault}"),
+            Fault::Table(fault) => write!(f, "{fault}"),
+            Fault::Print(fault) => write!(f, "{fault}"),
+            Fault::Whole(fault) => write!(f, "{fault}"),
+            Fault::Stream(fault) => write!(f, "{fault}"),
+            Fault::Line(line) => write!(f, "line {line} isn't a row"),
+            Fault::Name => write!(f, "no program of this name reads an input"),
+            Fault::Memory => write!(f, "out of memory"),
+            Fault::Io(error) => write!(f, "{error}"),
+        }
     }
 }

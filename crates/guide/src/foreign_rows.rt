@@ -1,0 +1,61 @@
+//! Other people's texts within so many terminal columns: a row for each line of an input, with a tab between two texts.
+//!
+//! ```text
+//! ╭────┬──────────────────────────┬─────╮
+//! │name│what it is                │where│
+//! ```
+
+use crate::fault::Fault;
+use pg_fit::visible;
+use pg_layout::Borders;
+use pg_table::{Breaking, Overflow, Table, TableFault};
+use std::alloc::{AllocError, Global};
+use std::io::{BufRead, BufReader, Read};
+
+/// The table of the rows within a width.
+pub(crate) fn table_within<R: Read + Drop>(
+    alloc: Global,
+    input: R,
+    width: usize,
+) -> Result<String, Fault> {
+    let rows = rows_of(alloc, input)?;
+    Ok(picture(alloc, rows, width)?)
+}
+
+/// How many columns there are, by the argument or the variable `COLUMNS`, whichever is a number above 0; without
+/// limit if neither is.
+pub(crate) fn width_of(argument: Option<&str>, columns: Option<&str>) -> usize {
+    let said = argument.and_then(|word| number_of(word));
+    let said = said.or_else(|| columns.and_then(|word| number_of(word)));
+    said.unwrap_or(usize::MAX)
+}
+
+// The number above 0 that a word is.
+fn number_of(word: &str) -> Option<usize> {
+    word.parse::<usize>().ok().filter(|n| *n > 0)
+}
+
+// The rows of the input, in which control characters are seen and not sent.
+fn rows_of<R: Read + Drop>(alloc: Global, input: R) -> Result<Vec<Vec<String>>, Fault> {
+    let mut rows = Vec::new(alloc);
+    for line in BufReader::new(alloc, input)?.lines(alloc) {
+        rows.push(row_of(alloc, &line?)?)?;
+    }
+    Ok(rows)
+}
+
+// The texts of a line.
+fn row_of(alloc: Global, line: &str) -> Result<Vec<String>, AllocError> {
+    let mut row = Vec::new(alloc);
+    for text in line.split('\t') {
+        row.push(visible(alloc, text)?)?;
+    }
+    Ok(row)
+}
+
+// The table of these rows within a width.
+fn picture(alloc: Global, rows: Vec<Vec<String>>, width: usize) -> Result<String, TableFault> {
+    let table = Table::new(alloc, rows)?.with_borders(Borders::rounded());
+    let how = Overflow::Wrap(Breaking::BetweenWords);
+    table.within(alloc, width, how)?.to_string(alloc)
+}
