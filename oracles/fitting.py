@@ -1,12 +1,12 @@
 #!/usr/bin/env python3
 """Random texts and tables within widths, and what becomes of them by an implementation of its own.
 
-    oracles/fitting.py texts 10000 > texts      sections of crates/pg_fit_cases
-    oracles/fitting.py tables 1000 > tables     sections of crates/pg_grid_cases
-    oracles/fitting.py spans 1000 > tables      the same, of tables with cells that span others
+    oracles/fitting.py texts 10000 > cases      texts
+    oracles/fitting.py tables 1000 > cases      tables
+    oracles/fitting.py spans 1000 > cases       tables with cells that span others
 
-`(cd crates/pg_fit_cases && rt try < ../../texts)` then makes each of them by the library, and tells what is
-otherwise; of tables likewise, in `crates/pg_grid_cases`. A third argument is the seed. Characters as a reader
+`(cd crates/pg_bench && rt try < ../../cases)` then makes each of them by the library, and reports what differs. A
+third argument is the seed. Characters as a reader
 counts them are those of the package `regex`, widths are worked out here, from the Unicode data of Python.
 """
 import random
@@ -400,4 +400,6 @@ def written_cell(text):
 
 if __name__ == "__main__":
     random.seed(int(sys.argv[3]) if len(sys.argv) > 3 else 1)
-    {"texts": texts, "tables": tables, "spans": spanned}[sys.argv[1]](int(sys.argv[2]))
+    subject = sys.argv[1]
+    print("== texts" if subject == "texts" else "== tables")
+    {"texts": texts, "tables": tables, "spans": spanned}[subject](int(sys.argv[2]))

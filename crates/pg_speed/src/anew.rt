@@ -75,7 +75,7 @@ fn push_live(
     Ok(stream.finish(text)?)
 }
 
-// The same of one row, which is lent each time.
+// Appends all rows of a table, each of which is one row that is lent each time.
 fn push_lent(
     alloc: Global,
     table: &Table,

@@ -10,7 +10,7 @@ pub(crate) struct Case(pub(crate) &'static str, pub(crate) Grid, pub(crate) Tabl
 pub(crate) enum Grid {
     /// The looked-up grid, from texts in memory.
     Peekable,
-    /// The same with colours of cells.
+    /// The looked-up grid, from texts in memory, with colours of cells.
     Colored,
     /// The streaming grid, from texts in memory; it is told how many rows there are.
     Iter,
@@ -19,7 +19,7 @@ pub(crate) enum Grid {
     IterMade,
     /// The compact grid, from texts in memory.
     Compact,
-    /// The same with colours of cells, borders and margins.
+    /// The compact grid, from texts in memory, with colours of cells, borders and margins.
     CompactColored,
     /// The looked-up grid by its checked call, which tests the table in each build, from texts in
     /// memory.
@@ -28,21 +28,21 @@ pub(crate) enum Grid {
     Tested,
     /// A stream of rows, each of which is made when it is pushed.
     Rows,
-    /// The same stream, handed an iterator that makes the rows.
+    /// A stream of rows that is handed an iterator, which makes them.
     Results,
     /// A stream that shows each row at once, which is made when it is pushed.
     Live,
-    /// The same stream, to which one row is lent each time.
+    /// A stream that shows each row at once, to which one row is lent each time.
     Lent,
     /// A stream of rows that bring their heights, each of which is made when it is pushed.
     Sized,
     /// Rows that are made as vectors in each build, and are let go.
     Vectors,
-    /// The same rows; a stream prints them, each behind its test.
+    /// Rows that are made as vectors in each build; a stream prints them, each behind its test.
     VectorsStreamed,
-    /// The same rows; the streaming grid tests the table.
+    /// Rows that are made as vectors in each build; the streaming grid tests the table.
     VectorsTested,
-    /// The same rows; the streaming grid tests the table and prints it.
+    /// Rows that are made as vectors in each build; the streaming grid tests the table and prints it.
     VectorsPrinted,
     /// The looked-up grid at the table's natural sizes, which are worked out in each build, from
     /// texts in memory.
@@ -55,7 +55,7 @@ pub(crate) enum Grid {
 /// ASCII borders, and one space left and right of each text.
 const PLAIN: &[&str] = &["borders ascii", "padding all 1 1 0 0"];
 
-/// The same with lines of a box as borders.
+/// Lines of a box as borders, and one space left and right of each text.
 const BOXED: &[&str] = &["borders modern", "padding all 1 1 0 0"];
 
 /// `PLAIN` with blue borders and gray margins of dots.

@@ -41,7 +41,7 @@ fn spanned_text(alloc: Global, grid: Grid, table: &Table, times: usize) -> Resul
     }
 }
 
-// The same of texts that are there.
+// The text of a table whose texts are in memory, printed so many times.
 fn text_of_records(
     alloc: Global,
     grid: Grid,
@@ -83,7 +83,7 @@ fn looked_up<C: Colors>(
     Ok(text)
 }
 
-// The same by the call that tests the table each time.
+// The text of the looked-up grid by the call that tests the table each time.
 fn checked(
     alloc: Global,
     records: &VecRecords<String>,
@@ -133,7 +133,7 @@ fn streamed(
     Ok(text)
 }
 
-// The same of texts that are made as the grid asks for them.
+// The text of the streaming grid from texts that are made as it asks for them.
 fn streamed_as_made(
     alloc: Global,
     table: &Table,

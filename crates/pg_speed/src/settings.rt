@@ -7,7 +7,7 @@ use pg_layout::{
     ANSIBuf, ANSIStr, AlignmentHorizontal, AlignmentVertical, Borders, ColorsMap, Entity, Indent,
     Position, Sides,
 };
-use pg_told::tell_all;
+use pg_testing::settings::apply_all;
 use std::alloc::{AllocError, Global};
 
 /// The colour of the terminal.
@@ -15,7 +15,7 @@ const PLAIN: &str = "\u{1b}[39m";
 
 /// Tells a configuration all that a table sets.
 pub(crate) fn set(alloc: Global, table: &Table, config: &mut SpannedConfig) -> Result<()> {
-    if tell_all(config, alloc, table.look).is_err() {
+    if apply_all(config, alloc, table.look).is_err() {
         bail!("a look isn't told");
     }
     Ok(span(config, table)?)
@@ -37,7 +37,7 @@ fn span(config: &mut SpannedConfig, table: &Table) -> Result<(), AllocError> {
     Ok(())
 }
 
-// The same in a row.
+// Sets the spans of a row.
 fn span_in_row(config: &mut SpannedConfig, table: &Table, row: usize) -> Result<(), AllocError> {
     let ((_, beside), (rows, columns)) = (table.spans.apart, table.spans.size);
     if beside == 0 {
@@ -84,7 +84,7 @@ pub(crate) fn compact_settings(is_colored: bool) -> CompactConfig {
         .set_margin_color(Sides::filled(ANSIStr::new("\u{1b}[90m", PLAIN)))
 }
 
-// The same colour at all fifteen places.
+// One colour at all fifteen places.
 fn everywhere(color: ANSIStr<'static>) -> Borders<ANSIStr<'static>> {
     Borders {
         top: Some(color),

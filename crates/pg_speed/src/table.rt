@@ -29,9 +29,9 @@ pub(crate) enum Words {
     Lines,
     /// A few wide characters.
     Wide,
-    /// The same line, as many times as the row has lines.
+    /// One line, as many times as the row has lines.
     Long,
-    /// The same three letters in each cell.
+    /// Three letters, which are equal in all cells.
     Same,
 }
 
@@ -56,9 +56,9 @@ pub(crate) enum Telling {
     Nothing,
     /// A colour, a padding and an alignment of each cell, row by row.
     Ordered,
-    /// The same, from the last cell to the first.
+    /// A colour, a padding and an alignment of each cell, from the last cell to the first.
     Reversed,
-    /// The same, each cell far from the one before.
+    /// A colour, a padding and an alignment of each cell, each cell far from the one before.
     Scattered,
     /// A border of each cell, row by row.
     Borders,

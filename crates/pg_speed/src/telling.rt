@@ -94,7 +94,7 @@ fn tell_borders(config: &mut SpannedConfig, table: &Table) -> Result<(), AllocEr
     Ok(())
 }
 
-// The same glyph all round each cell of a row.
+// One glyph all round each cell of a row.
 fn tell_borders_of_row(
     config: &mut SpannedConfig,
     row: usize,

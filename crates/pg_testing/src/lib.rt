@@ -1,10 +1,24 @@
-//! What tests need: memory that is refused on purpose, and streams that fail on purpose.
+//! What tests and programs of cases need: memory that is refused, streams that fail, files of cases, settings as
+//! lines of words, and a report.
 //!
-//! [`ledger`] says which calls fail, [`refusing`] has the allocator, [`streams`] the readers and
-//! the writer, [`repeated`] an iterator that knows little of itself.
+//! [`ledger`] says which calls fail, [`refusing`] has the allocator, [`streams`] the readers and the writer, and
+//! [`trial`] the loop over all failures of a call; [`repeated`] is an iterator that knows little of itself, and
+//! [`unhinted`] are records that don't tell their rows. [`lines`] reads a file of sections, [`settings`] applies a
+//! line to a configuration, and [`report`] counts what is compared.
 #![tactic(auto)]
 
+mod blocks;
+mod fault;
 pub mod ledger;
+mod line;
+pub mod lines;
 pub mod refusing;
 pub mod repeated;
+pub mod report;
+pub mod settings;
 pub mod streams;
+pub mod trial;
+pub mod unhinted;
+
+pub use crate::fault::LineFault;
+pub use crate::line::{Line, texts_of_row};

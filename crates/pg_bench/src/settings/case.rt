@@ -1,0 +1,193 @@
+//! What lines set in a configuration, and what they ask it.
+
+use crate::case::Case;
+use crate::fault::CaseFault;
+use crate::settings::answer::Answer;
+use crate::settings::memory::{Config, Memory};
+use crate::settings::question::write_answers;
+use pg_config::SpannedConfig;
+use pg_layout::{Colors, ColorsMap};
+use pg_testing::refusing::Refusing;
+use pg_testing::report::Report;
+use pg_testing::settings::{Words, apply, set_cell_color};
+use pg_testing::{Line, LineFault};
+use std::alloc::Global;
+
+/// More requests for memory than a setting makes.
+const MANY: u64 = 1000;
+
+/// What is wrong with a setting that is refused memory.
+#[derive(Debug, Clone, Copy)]
+enum SettingMismatch {
+    /// It returns something else, or changes what is watched, where its request of this number is refused.
+    Request(u64),
+    /// Requests came without end.
+    Endless,
+}
+
+/// A configuration as the lines of a section set it, with the colours of cells.
+#[derive(Drop)]
+pub(crate) struct SettingsCase<'a> {
+    alloc: Global,
+    memory: Memory<'a>,
+    // The name of the section, or the empty text before the first one.
+    section: &'a str,
+    config: Config<'a>,
+    colors: ColorsMap<Memory<'a>>,
+    // The questions whose answers a refused setting must not change.
+    watched: Vec<&'a str>,
+    // How many requests for memory were refused in this section.
+    refused: usize,
+}
+
+impl<'a> SettingsCase<'a> {
+    /// No section.
+    pub(crate) fn new(alloc: Global, memory: &'a Refusing<Global>) -> SettingsCase<'a> {
+        SettingsCase {
+            alloc,
+            memory,
+            section: "",
+            config: SpannedConfig::new(memory),
+            colors: ColorsMap::new(memory),
+            watched: Vec::new(alloc),
+            refused: 0,
+        }
+    }
+
+    // Follows a line that sets or asks something.
+    fn follow_words(
+        &mut self,
+        number: usize,
+        line: &'a str,
+        report: &mut Report,
+    ) -> Result<(), CaseFault> {
+        let (word, rest) = line.split_once(' ').unwrap_or((line, ""));
+        match word {
+            "?" => self.ask(number, rest, report),
+            "watch" => Ok(self.watched.push(rest)?),
+            "refused" => {
+                let is_refused = self.refused >= Words::new(rest).last_number()?;
+                report.compare((number, self.section), line, is_refused, true);
+                Ok(())
+            }
+            "again" => self.apply_unchanging(number, rest, Ok(()), report),
+            "never" => self.apply_unchanging(number, rest, Err(LineFault::Memory), report),
+            _ => self.apply_refused(number, line, report),
+        }
+    }
+
+    // Applies a setting, or the colour of a cell.
+    fn apply(&mut self, line: &str) -> Result<(), LineFault> {
+        match line.strip_prefix("color ") {
+            Some(color) => set_cell_color(&mut self.colors, self.memory, color),
+            None => apply(&mut self.config, self.memory, line),
+        }
+    }
+
+    // Applies a setting while each of its requests for memory is refused in turn, until none is.
+    fn apply_refused(
+        &mut self,
+        number: usize,
+        line: &str,
+        report: &mut Report,
+    ) -> Result<(), CaseFault> {
+        let before = self.watched_answers()?;
+        for request in 0..MANY {
+            self.memory.refuse_only(request);
+            let applied = self.apply(line);
+            if !self.memory.has_refused() {
+                return applied.map_err(CaseFault::from);
+            }
+            self.refused = self.refused.saturating_add(1);
+            let after = self.watched_answers()?;
+            if applied != Err(LineFault::Memory) || after.as_str() != before.as_str() {
+                report.refuse(number, line, SettingMismatch::Request(request));
+                return Ok(());
+            }
+        }
+        report.refuse(number, line, SettingMismatch::Endless);
+        Ok(())
+    }
+
+    // Applies a setting that returns this without any request for memory, and changes nothing that is watched.
+    fn apply_unchanging(
+        &mut self,
+        number: usize,
+        line: &str,
+        expected: Result<(), LineFault>,
+        report: &mut Report,
+    ) -> Result<(), CaseFault> {
+        let before = self.watched_answers()?;
+        self.memory.refuse_only(0);
+        let applied = self.apply(line);
+        let is_refused = self.memory.has_refused();
+        let place = (number, self.section);
+        report.compare(place, line, (applied, is_refused), (expected, false));
+        let after = self.watched_answers()?;
+        report.compare(place, line, after.as_str(), before.as_str());
+        Ok(())
+    }
+
+    // What is answered to the questions that are watched.
+    fn watched_answers(&self) -> Result<Answer, CaseFault> {
+        let mut answer = Answer::new(self.alloc);
+        for question in &self.watched {
+            self.write_answers(question, &mut answer)?;
+        }
+        Ok(answer)
+    }
+
+    // Writes what is answered to a question.
+    fn write_answers(&self, question: &str, answer: &mut Answer) -> Result<(), CaseFault> {
+        match question.strip_prefix("get_color ") {
+            Some(place) => {
+                let mut words = Words::new(place);
+                let pos = words.place()?;
+                answer.push_color(self.colors.get_color(pos))
+            }
+            None => write_answers(&self.config, self.alloc, question, answer),
+        }
+    }
+
+    // Compares the answer to a question with the one that stands behind it.
+    fn ask(&self, number: usize, text: &str, report: &mut Report) -> Result<(), CaseFault> {
+        let Some((question, expected)) = text.split_once(" = ") else {
+            return Err(CaseFault::Unknown);
+        };
+        let mut answer = Answer::new(self.alloc);
+        self.write_answers(question, &mut answer)?;
+        let place = (number, self.section);
+        report.compare(place, question, answer.as_str(), expected);
+        Ok(())
+    }
+}
+
+impl<'a> Case<'a> for SettingsCase<'a> {
+    fn follow(
+        &mut self,
+        number: usize,
+        line: &'a str,
+        report: &mut Report,
+    ) -> Result<(), CaseFault> {
+        match Line::of(line) {
+            Line::Comment => Ok(()),
+            Line::Section(section) => {
+                report.count_case();
+                self.section = section;
+                self.config = SpannedConfig::new(self.memory);
+                self.colors = ColorsMap::new(self.memory);
+                self.watched = Vec::new(self.alloc);
+                self.refused = 0;
+                Ok(())
+            }
+            Line::Words(line) if !self.section.is_empty() => self.follow_words(
+                number, line, report,
+            ),
+            _ => Err(CaseFault::Unknown),
+        }
+    }
+
+    fn finish(&mut self, _report: &mut Report) -> Result<(), CaseFault> {
+        Ok(())
+    }
+}

@@ -1,0 +1,217 @@
+//! A table whose rows come one at a time.
+
+use crate::case::Case;
+use crate::fault::CaseFault;
+use crate::streams::printing::check_others;
+use crate::streams::way::Way;
+use pg_config::SpannedConfig;
+use pg_layout::ConstantDimension;
+use pg_testing::report::Report;
+use pg_testing::settings::{Words, apply};
+use pg_testing::{Line, texts_of_row};
+use std::alloc::Global;
+
+/// What a step asks for.
+#[derive(Clone, Copy, PartialEq, Eq)]
+pub(crate) enum StepKind {
+    /// A stream or a printer.
+    Make,
+    /// A row.
+    Row,
+    /// What stands in place of a row that can't be had.
+    Error,
+    /// The end of the table.
+    Finish,
+    /// The end of a table by `close`.
+    Close,
+}
+
+/// A call, and what is told of it.
+#[derive(Drop)]
+pub(crate) struct Step<'a> {
+    pub(crate) kind: StepKind,
+    /// The texts of a row.
+    pub(crate) cells: Vec<&'a str>,
+    /// The height that a row brings.
+    pub(crate) height: usize,
+    /// Whether a row is told to be the last.
+    pub(crate) is_last: bool,
+    /// Whether a row is pushed where others are lent.
+    pub(crate) is_pushed: bool,
+    /// The words of the fault that is answered.
+    pub(crate) fault: Option<&'a str>,
+    /// What a printer tells behind it.
+    pub(crate) note: Option<&'a str>,
+    /// What a printer answers before it, when it is asked whether all lines of the row are shown.
+    pub(crate) shown: Option<&'a str>,
+    /// Whether it appends a line, be it an empty one.
+    has_line: bool,
+    /// How long the text is behind it.
+    pub(crate) bytes: usize,
+}
+
+/// A table as it is told, and how its rows are handed over.
+#[derive(Drop)]
+pub(crate) struct StreamCase<'a> {
+    pub(crate) alloc: Global,
+    /// The name of the section, or the empty text before the first one.
+    pub(crate) section: &'a str,
+    /// The number of the line at which it begins.
+    pub(crate) line: usize,
+    pub(crate) config: SpannedConfig,
+    /// The sizes of columns and rows.
+    pub(crate) dimension: ConstantDimension,
+    pub(crate) ways: Vec<Way>,
+    /// The numbers of rows that are told, if there are any.
+    pub(crate) hints: Vec<Option<usize>>,
+    /// Whether memory is refused, too.
+    pub(crate) is_refused: bool,
+    /// What is called, one after the other.
+    pub(crate) steps: Vec<Step<'a>>,
+    /// What all calls append.
+    pub(crate) text: String,
+}
+
+impl<'a> StreamCase<'a> {
+    /// No section.
+    pub(crate) fn new(alloc: Global) -> StreamCase<'a> {
+        StreamCase {
+            alloc,
+            section: "",
+            line: 0,
+            config: SpannedConfig::new(alloc),
+            dimension: ConstantDimension(Vec::new(alloc), Vec::new(alloc)),
+            ways: Vec::new(alloc),
+            hints: Vec::new(alloc),
+            is_refused: false,
+            steps: Vec::new(alloc),
+            text: String::new(alloc),
+        }
+    }
+
+    // Takes the next step.
+    fn push_step(&mut self, kind: StepKind, cells: Vec<&'a str>) -> Result<(), CaseFault> {
+        let step = Step {
+            kind,
+            cells,
+            height: 1,
+            is_last: false,
+            is_pushed: false,
+            fault: None,
+            note: None,
+            shown: None,
+            has_line: false,
+            bytes: self.text.len(),
+        };
+        Ok(self.steps.push(step)?)
+    }
+
+    // Follows a line that begins with a word.
+    fn push_word(&mut self, line: &'a str) -> Result<(), CaseFault> {
+        let (word, rest) = line.split_once(' ').unwrap_or((line, ""));
+        match word {
+            "by" => self.push_ways(rest),
+            "hints" => self.push_hints(rest),
+            "widths" => set_numbers(&mut self.dimension.0, rest),
+            "heights" => set_numbers(&mut self.dimension.1, rest),
+            "refused" => {
+                self.is_refused = true;
+                Ok(())
+            }
+            "error" => self.push_step(StepKind::Error, Vec::new(self.alloc)),
+            "end" => self.push_step(StepKind::Finish, Vec::new(self.alloc)),
+            "close" => self.push_step(StepKind::Close, Vec::new(self.alloc)),
+            "=" | "!" | "note" | "shown" | "height" | "last" | "pushed" => self.push_told(
+                word, rest,
+            ),
+            _ => Ok(apply(&mut self.config, self.alloc, line)?),
+        }
+    }
+
+    // Takes what is told of the latest step.
+    fn push_told(&mut self, word: &str, rest: &'a str) -> Result<(), CaseFault> {
+        let Some(step) = self.steps.last_mut() else {
+            return Err(CaseFault::Unknown);
+        };
+        match word {
+            "=" => {
+                if step.has_line {
+                    self.text.push('\n')?;
+                }
+                self.text.push_str(rest)?;
+                step.has_line = true;
+                step.bytes = self.text.len();
+            }
+            "!" => step.fault = Some(rest),
+            "note" => step.note = Some(rest),
+            "shown" => step.shown = Some(rest),
+            "height" => step.height = Words::new(rest).last_number()?,
+            "last" => step.is_last = true,
+            _ => step.is_pushed = true,
+        }
+        Ok(())
+    }
+}
+
+impl StreamCase<'_> {
+    // Takes the ways in which the table is printed.
+    fn push_ways(&mut self, names: &str) -> Result<(), CaseFault> {
+        for name in names.split(' ') {
+            self.ways.push(Way::named(name)?)?;
+        }
+        Ok(())
+    }
+
+    // Takes the numbers of rows that are told.
+    fn push_hints(&mut self, words: &str) -> Result<(), CaseFault> {
+        for word in words.split(' ') {
+            let hint = match word {
+                "none" => None,
+                _ => Some(Words::new(word).last_number()?),
+            };
+            self.hints.push(hint)?;
+        }
+        Ok(())
+    }
+}
+
+impl<'a> Case<'a> for StreamCase<'a> {
+    // A section is printed when the next one begins.
+    fn follow(
+        &mut self,
+        number: usize,
+        line: &'a str,
+        report: &mut Report,
+    ) -> Result<(), CaseFault> {
+        match Line::of(line) {
+            Line::Comment => Ok(()),
+            Line::Section(section) => {
+                self.print(report)?;
+                *self = StreamCase::new(self.alloc);
+                self.section = section;
+                self.line = number;
+                self.push_step(StepKind::Make, Vec::new(self.alloc))
+            }
+            Line::Row(row) => {
+                let cells = texts_of_row(self.alloc, row)?;
+                self.push_step(StepKind::Row, cells)
+            }
+            Line::Words(words) => self.push_word(words),
+            Line::Way => Err(CaseFault::Unknown),
+        }
+    }
+
+    fn finish(&mut self, report: &mut Report) -> Result<(), CaseFault> {
+        self.print(report)?;
+        check_others(self.alloc, report)
+    }
+}
+
+// Takes the numbers that words write, in the place of those that are there.
+fn set_numbers(numbers: &mut Vec<usize>, words: &str) -> Result<(), CaseFault> {
+    numbers.clear();
+    for word in words.split(' ') {
+        numbers.push(Words::new(word).last_number()?)?;
+    }
+    Ok(())
+}

@@ -1,0 +1,140 @@
+//! Records that count the cells that were asked of them.
+
+ghost use Rattle.std.specs.Prelude.{None, Some, MatchOption};
+
+use crate::fault::CaseFault;
+use pg_config::SpannedConfig;
+use pg_grid::IterGrid;
+use pg_layout::{ConstantDimension, NoColors, Records, VecRecords};
+use pg_picture::fits::table_fits;
+use pg_testing::refusing::Refusing;
+use pg_testing::report::Report;
+use std::alloc::Global;
+use std::cell::Cell;
+
+/// The cells of a row, which are counted as they are asked for.
+#[derive(Drop)]
+struct CountedCells<'a, I> {
+    cells: I,
+    asked: &'a Cell<usize>,
+}
+
+impl<I: Iterator> Iterator for CountedCells<'_, I> {
+    type Item = I::Item;
+
+    ghost can_next = { λ s. I.can_next s.cells };
+
+    ghost next_gives = { λ s r t. I.next_gives s.cells r t.cells };
+
+    ghost remaining = { λ s. I.remaining s.cells };
+
+    fn next(&mut self) -> Option<I::Item> {
+        self.asked.set(self.asked.get().saturating_add(1));
+        self.cells.next()
+    }
+}
+
+/// Rows whose cells are counted as they are asked for.
+#[derive(Drop)]
+struct CountedRows<'a, I> {
+    rows: I,
+    asked: &'a Cell<usize>,
+}
+
+impl<'a, I: Iterator> Iterator for CountedRows<'a, I>
+where
+    I::Item: Iterator,
+{
+    type Item = CountedCells<'a, I::Item>;
+
+    ghost can_next = { λ s. I.can_next s.rows };
+
+    ghost next_gives = { λ s r t. MatchOption r (I.next_gives s.rows None t.rows) (λ row. I.next_gives s.rows (Some row.cells) t.rows) };
+
+    ghost remaining = { λ s. I.remaining s.rows };
+
+    fn next(&mut self) -> Option<CountedCells<'a, I::Item>> {
+        match self.rows.next() {
+            Some(cells) => Some(CountedCells {
+                cells,
+                asked: self.asked,
+            }),
+            None => None,
+        }
+    }
+}
+
+/// Records whose cells are counted as they are asked for.
+#[derive(Drop)]
+struct Counted<'a, R> {
+    records: R,
+    asked: &'a Cell<usize>,
+}
+
+impl<'a, R: Records> Records for Counted<'a, R> {
+    type Cell = R::Cell;
+
+    type Columns = CountedCells<'a, R::Columns>;
+
+    type Rows = CountedRows<'a, R::Rows>;
+
+    ghost texts = { λ r. R.texts r.records };
+
+    ghost columns = { λ r. R.columns r.records };
+
+    ghost hint = { λ r. R.hint r.records };
+
+    ghost is_readable = { λ r. R.is_readable r.records };
+
+    fn iter_rows(self) -> CountedRows<'a, R::Rows> {
+        CountedRows {
+            rows: self.records.iter_rows(),
+            asked: self.asked,
+        }
+    }
+
+    fn count_columns(&self) -> usize {
+        self.records.count_columns()
+    }
+
+    fn hint_count_rows(&self) -> Option<usize> {
+        self.records.hint_count_rows()
+    }
+}
+
+// Draws records into a buffer without room, which gets no memory; returns whether it was drawn whole.
+fn is_drawn(
+    alloc: Global,
+    records: Counted<'_, &VecRecords<&str>>,
+    config: &SpannedConfig,
+    dimension: &ConstantDimension,
+) -> Result<bool, CaseFault> {
+    table_fits(&records.records, config, dimension)?;
+    let memory = Refusing::from_on(alloc, 0);
+    let mut buf = String::new(&memory);
+    let grid = IterGrid::new(records, config, dimension, NoColors);
+    Ok(grid.build(alloc, &mut buf).is_ok())
+}
+
+/// Cells of a row are drawn as they come: the buffer finds no memory for the first one of a row without
+/// spans, and the others aren't asked for.
+pub(crate) fn check_counted(alloc: Global, report: &mut Report) -> Result<(), CaseFault> {
+    report.count_case();
+    let texts = ["ab", "ab", "ab"].as_slice().to_vec(alloc)?;
+    let mut rows = Vec::new(alloc);
+    rows.push(texts)?;
+    let records = VecRecords::new(rows)?;
+    let widths = [2, 2, 2].as_slice().to_vec(alloc)?;
+    let dimension = ConstantDimension(widths, [1].as_slice().to_vec(alloc)?);
+    let config = SpannedConfig::new(alloc);
+    let asked = Cell::new(0);
+    let counted = Counted {
+        records: &records,
+        asked: &asked,
+    };
+    let is_drawn = is_drawn(alloc, counted, &config, &dimension)?;
+    let place = (0, "cells that are counted");
+    report.compare(place, "build", is_drawn, false);
+    report.compare(place, "build", asked.get(), 1);
+    Ok(())
+}

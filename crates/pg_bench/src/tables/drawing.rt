@@ -1,0 +1,122 @@
+//! How a table is drawn.
+
+use crate::fault::CaseFault;
+use crate::tables::case::TableCase;
+use crate::tables::drawer::Drawer;
+use crate::tables::grid::{Grid, SPANNED};
+use crate::tables::refusal::Refusal;
+use pg_layout::VecRecords;
+use pg_table::{Table, TableFault};
+use pg_testing::report::Report;
+use std::alloc::AllocError;
+
+/// What a buffer holds before.
+pub(crate) const OLD: &str = "log:";
+
+impl<'a> TableCase<'a> {
+    /// Draws the table of the case. Before the first section there is none.
+    pub(crate) fn draw(&mut self, report: &mut Report) {
+        if !self.section.is_empty() {
+            report.count_case();
+            let drawn = self.draw_by_all(report);
+            report.take(self.line, self.section, drawn);
+        }
+    }
+
+    // Draws the table by all that its lines name, unless its rows have several lengths.
+    fn draw_by_all(&mut self, report: &mut Report) -> Result<(), CaseFault> {
+        match VecRecords::new(self.copied_rows()?) {
+            Err(fault) => {
+                let made = Refusal::from(TableFault::from(fault));
+                report.compare(self.place(), "VecRecords::new", Some(made), self.refusal);
+                let made = Table::new(self.alloc, self.copied_rows()?).err();
+                let made = made.map(Refusal::from);
+                report.compare(self.place(), "Table::new", made, self.refusal);
+                Ok(())
+            }
+            Ok(records) => match self.natural {
+                Some(_) => self.draw_naturally(&records, report),
+                None => self.draw_by_grids(&records, report),
+            },
+        }
+    }
+
+    // Draws the table by each grid.
+    fn draw_by_grids(
+        &self,
+        records: &VecRecords<String>,
+        report: &mut Report,
+    ) -> Result<(), CaseFault> {
+        for grid in self.chosen_grids() {
+            self.draw_by(Drawer::Grid(*grid, records), report)?;
+        }
+        Ok(())
+    }
+
+    // The grids that draw the table.
+    fn chosen_grids(&self) -> &[Grid] {
+        if self.grids.is_empty() {
+            return &SPANNED;
+        }
+        self.grids.as_slice()
+    }
+
+    // Draws the table at its natural sizes: as its builder was called, or by both builders.
+    fn draw_naturally(
+        &mut self,
+        records: &VecRecords<String>,
+        report: &mut Report,
+    ) -> Result<(), CaseFault> {
+        let table = match self.table.take() {
+            Some(table) => table,
+            None => {
+                self.draw_by(Drawer::Lent(records), report)?;
+                let (config, colors) = (self.take_config(), self.take_colors());
+                self.new_table()?.with_config(config).with_colors(colors)
+            }
+        };
+        self.draw_by(Drawer::Owned(&table), report)
+    }
+
+    // Draws the table and compares what that gives.
+    fn draw_by(&self, drawer: Drawer<'_>, report: &mut Report) -> Result<(), CaseFault> {
+        match (&self.picture, self.again, self.refusal) {
+            (Some(picture), None, None) => self.draw_whole(drawer, picture, report)?,
+            (Some(picture), Some(again), None) => {
+                self.draw_beginnings(drawer, (picture, again), report)?
+            }
+            (None, None, Some(refusal)) => self.draw_refusal(drawer, refusal, report)?,
+            _ => return Err(CaseFault::Unanswered),
+        }
+        self.list_sizes(drawer, report)?;
+        self.look_within(drawer, report);
+        Ok(())
+    }
+
+    /// The number of the line and the name of the section that lines on mismatches have.
+    pub(crate) fn place(&self) -> (usize, &'a str) {
+        (self.line, self.section)
+    }
+
+    // Draws the table, which fits, behind the text of a buffer, as a text of its own, and while memory is
+    // refused.
+    fn draw_whole(
+        &self,
+        drawer: Drawer<'_>,
+        picture: &str,
+        report: &mut Report,
+    ) -> Result<(), AllocError> {
+        let place = self.place();
+        if let Some(fits) = self.fits(drawer) {
+            report.compare(place, drawer.fits_call(), fits, Ok(()));
+        }
+        let mut buf = String::from_str(self.alloc, OLD)?;
+        let printed = self.print(self.alloc, drawer, &mut buf);
+        report.compare(place, drawer.print_call(), printed, Ok(()));
+        let gained = buf.as_str().strip_prefix(OLD);
+        report.compare(place, drawer.print_call(), gained, Some(picture));
+        let given = self.text(self.alloc, drawer).ok();
+        report.compare(place, drawer.text_call(), given.as_deref(), Some(picture));
+        self.draw_refused(drawer, picture, report)
+    }
+}

@@ -1,0 +1,88 @@
+//! Natural sizes.
+
+use crate::tables::case::TableCase;
+use crate::tables::drawer::Drawer;
+use crate::tables::refusal::Refusal;
+use crate::tables::refused::TableMismatch;
+use pg_layout::ConstantDimension;
+use pg_testing::refusing::Refusing;
+use pg_testing::report::Report;
+use std::alloc::{AllocError, Allocator, Global};
+
+/// What a line `natural` says where sizes pass.
+const NONE: &str = "none";
+
+/// What it says where spans don't fit.
+const SPANS: &str = "spans";
+
+impl TableCase<'_> {
+    /// Lists the natural sizes, where the case has them, with no more requests for memory than there are
+    /// lists: one for each that isn't empty, and none where there are no sizes. With spans or within a
+    /// width there may be more. Then refuses each.
+    pub(crate) fn list_sizes(
+        &self,
+        drawer: Drawer<'_>,
+        report: &mut Report,
+    ) -> Result<(), AllocError> {
+        let sizes = self.natural.unwrap_or("");
+        if sizes.is_empty() {
+            return Ok(());
+        }
+        let memory = Refusing::from_on(self.alloc, self.requests_of_sizes(drawer));
+        let Some(listed) = self.sizes(&memory, drawer) else {
+            return Ok(());
+        };
+        let text = sizes_text(self.alloc, &listed)?;
+        report.compare(self.place(), "natural_dimension", text.as_str(), sizes);
+        let mismatch = self.mismatch_of_sizes(drawer);
+        report.compare(self.place(), "natural_dimension", mismatch, None);
+        Ok(())
+    }
+
+    // How many lists of natural sizes there are that aren't empty.
+    fn lists(&self) -> u64 {
+        match self.natural {
+            Some(NONE | SPANS) => 0,
+            _ => u64::from(!self.rows.is_empty()).saturating_add(u64::from(self.has_cells())),
+        }
+    }
+
+    /// How many requests the listing of natural sizes makes, where there are any: with spans or within a
+    /// width those that come, else one for each list.
+    pub(crate) fn requests_of_sizes(&self, drawer: Drawer<'_>) -> u64 {
+        if self.lists() == 0 || (!self.is_spanned && self.within.is_none()) {
+            return self.lists();
+        }
+        let memory = Refusing::from_on(self.alloc, u64::MAX);
+        drop(self.sizes(&memory, drawer));
+        memory.requests()
+    }
+
+    // Refuses each request for the memory of sizes in turn, alone.
+    fn mismatch_of_sizes(&self, drawer: Drawer<'_>) -> Option<TableMismatch> {
+        for number in 0..self.requests_of_sizes(drawer) {
+            let memory = Refusing::only(self.alloc, number);
+            let listed = self.sizes(&memory, drawer)?;
+            if listed.err() != Some(Refusal::Memory) {
+                return Some(TableMismatch::Request(number));
+            }
+        }
+        None
+    }
+}
+
+// What a line `natural` says of these sizes.
+fn sizes_text<A: Allocator>(
+    alloc: Global,
+    listed: &Result<ConstantDimension<A>, Refusal>,
+) -> Result<String, AllocError> {
+    match listed {
+        Ok(ConstantDimension(widths, heights)) => {
+            let (widths, heights) = (widths.as_slice(), heights.as_slice());
+            Ok(format!(in alloc; "{widths:?} {heights:?}")?)
+        }
+        Err(Refusal::Totals) => String::from_str(alloc, NONE),
+        Err(Refusal::Spans) => String::from_str(alloc, SPANS),
+        Err(refusal) => Ok(format!(in alloc; "{refusal:?}")?),
+    }
+}

@@ -1,0 +1,133 @@
+//! A text, and what becomes of it.
+
+use crate::case::Case;
+use crate::fault::CaseFault;
+use crate::texts::fit_call::{FitCall, RefusedFit, breaking_of, number_of};
+use pg_fit::least_width;
+use pg_testing::report::Report;
+use pg_testing::trial::Trial;
+use pg_testing::{Line, texts_of_row};
+use std::alloc::{AllocError, Global};
+
+/// A text, and a call that fits it.
+#[derive(Drop)]
+pub(crate) struct TextCase<'a> {
+    alloc: Global,
+    section: &'a str,
+    text: &'a str,
+    // The call, and the number of its line.
+    call: Option<(usize, FitCall<'a>)>,
+    // The lines so far of what it is to give.
+    made: Option<String>,
+}
+
+impl<'a> TextCase<'a> {
+    /// No section.
+    pub(crate) fn new(alloc: Global) -> TextCase<'a> {
+        TextCase {
+            alloc,
+            section: "",
+            text: "",
+            call: None,
+            made: None,
+        }
+    }
+
+    // Follows a line that begins with a word.
+    fn push_words(
+        &mut self,
+        number: usize,
+        line: &'a str,
+        report: &mut Report,
+    ) -> Result<(), CaseFault> {
+        let (word, rest) = line.split_once(' ').unwrap_or((line, ""));
+        if word == "=" {
+            return Ok(self.push_line(rest)?);
+        }
+        self.make(report)?;
+        if word == "least" {
+            return self.ask_least(number, rest, report);
+        }
+        self.call = Some((number, FitCall::of(word, rest)?));
+        Ok(())
+    }
+
+    // Takes the next line of what a call gives.
+    fn push_line(&mut self, line: &str) -> Result<(), AllocError> {
+        match &mut self.made {
+            Some(made) => {
+                made.push('\n')?;
+                made.push_str(line)
+            }
+            None => {
+                self.made = Some(String::from_str(self.alloc, line)?);
+                Ok(())
+            }
+        }
+    }
+
+    // Compares the least width.
+    fn ask_least(&self, number: usize, rest: &str, report: &mut Report) -> Result<(), CaseFault> {
+        let (breaking, width) = rest.split_once(' ').ok_or(CaseFault::Unknown)?;
+        let least = least_width(self.text, breaking_of(breaking)?);
+        let place = (number, self.section);
+        report.compare(place, "least_width", least, number_of(width)?);
+        Ok(())
+    }
+
+    // Makes the call of the latest line that has one.
+    fn make(&mut self, report: &mut Report) -> Result<(), CaseFault> {
+        let Some((number, call)) = self.call.take() else {
+            return Ok(());
+        };
+        let expected = self.made.take().ok_or(CaseFault::Unknown)?;
+        let place = (number, self.section);
+        report.count_case();
+        let made = call.made(self.alloc, self.text)?;
+        report.compare(place, call.name(), made.as_str(), expected.as_str());
+        let mut refused = RefusedFit {
+            alloc: self.alloc,
+            call,
+            text: self.text,
+        };
+        report.compare(place, call.name(), refused.failures().err(), None);
+        Ok(())
+    }
+}
+
+impl<'a> Case<'a> for TextCase<'a> {
+    // Where what a call gives ends above the line, the call is made.
+    fn follow(
+        &mut self,
+        number: usize,
+        line: &'a str,
+        report: &mut Report,
+    ) -> Result<(), CaseFault> {
+        match Line::of(line) {
+            Line::Comment => {}
+            Line::Section(section) => {
+                self.make(report)?;
+                self.section = section;
+            }
+            Line::Row(row) => {
+                self.make(report)?;
+                self.text = text_of(self.alloc, row)?;
+            }
+            Line::Words(line) => self.push_words(number, line, report)?,
+            Line::Way => return Err(CaseFault::Unknown),
+        }
+        Ok(())
+    }
+
+    fn finish(&mut self, report: &mut Report) -> Result<(), CaseFault> {
+        self.make(report)
+    }
+}
+
+// The one text of a row.
+fn text_of(alloc: Global, row: &str) -> Result<&str, CaseFault> {
+    match texts_of_row(alloc, row)?.as_slice() {
+        [text] => Ok(*text),
+        _ => Err(CaseFault::Unknown),
+    }
+}

@@ -1,0 +1,83 @@
+//! Calls that fit a text.
+
+use crate::fault::CaseFault;
+use pg_fit::{Breaking, cut, visible, wrap};
+use pg_testing::refusing::Refusing;
+use pg_testing::trial::{Outcome, Trial};
+use std::alloc::{AllocError, Allocator, Global};
+
+/// A call that makes a text of another one.
+#[derive(Debug, Clone, Copy)]
+pub(crate) enum FitCall<'a> {
+    /// `wrap` at a width.
+    Wrap(usize, Breaking),
+    /// `cut` at a width, with a tail.
+    Cut(usize, &'a str),
+    /// `visible`.
+    Visible,
+}
+
+/// The modes of breaking by their names.
+pub(crate) fn breaking_of(word: &str) -> Result<Breaking, CaseFault> {
+    match word {
+        "anywhere" => Ok(Breaking::Anywhere),
+        "words" => Ok(Breaking::BetweenWords),
+        _ => Err(CaseFault::Unknown),
+    }
+}
+
+/// The number that a word says.
+pub(crate) fn number_of(word: &str) -> Result<usize, CaseFault> {
+    word.parse::<usize>().map_err(|_| CaseFault::Unknown)
+}
+
+impl<'a> FitCall<'a> {
+    /// The call of a line, by its first word and the rest.
+    pub(crate) fn of(word: &str, rest: &'a str) -> Result<FitCall<'a>, CaseFault> {
+        let (width, how) = rest.split_once(' ').unwrap_or((rest, ""));
+        match word {
+            "wrap" => Ok(FitCall::Wrap(number_of(width)?, breaking_of(how)?)),
+            "cut" => Ok(FitCall::Cut(number_of(width)?, how)),
+            "visible" if rest.is_empty() => Ok(FitCall::Visible),
+            _ => Err(CaseFault::Unknown),
+        }
+    }
+
+    /// The name of the function that it calls.
+    pub(crate) fn name(self) -> &'static str {
+        match self {
+            FitCall::Wrap(_, _) => "wrap",
+            FitCall::Cut(_, _) => "cut",
+            FitCall::Visible => "visible",
+        }
+    }
+
+    /// What becomes of a text.
+    pub(crate) fn made<A: Allocator>(self, alloc: A, text: &str) -> Result<String<A>, AllocError> {
+        match self {
+            FitCall::Wrap(width, breaking) => wrap(alloc, text, width, breaking),
+            FitCall::Cut(width, tail) => cut(alloc, text, width, tail),
+            FitCall::Visible => visible(alloc, text),
+        }
+    }
+}
+
+/// A call whose requests for memory are refused in turn.
+#[derive(Clone, Copy)]
+pub(crate) struct RefusedFit<'t> {
+    pub(crate) alloc: Global,
+    pub(crate) call: FitCall<'t>,
+    pub(crate) text: &'t str,
+}
+
+impl Trial for RefusedFit<'_> {
+    fn outcome(&mut self, number: u64) -> Outcome {
+        let memory = Refusing::only(self.alloc, number);
+        let is_made = self.call.made(&memory, self.text).is_ok();
+        match (is_made, memory.has_refused()) {
+            (true, false) => Outcome::Whole,
+            (false, true) => Outcome::Failed,
+            _ => Outcome::Wrong,
+        }
+    }
+}

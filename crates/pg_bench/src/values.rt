@@ -1,0 +1,60 @@
+//! Facts about single values, which no section can write: what lines, widths, colours, values by place and records
+//! are, and what the cases are made with.
+
+pub(crate) mod colors;
+pub(crate) mod failing;
+pub(crate) mod given;
+pub(crate) mod places;
+pub(crate) mod pushed;
+pub(crate) mod texts;
+
+use crate::fault::CaseFault;
+use pg_testing::report::Report;
+use std::alloc::Global;
+use std::fmt::Debug;
+
+/// A fact, and the report on what is compared of it.
+#[derive(Drop)]
+pub(crate) struct Fact<'r> {
+    report: &'r mut Report,
+    name: &'static str,
+}
+
+impl<'r> Fact<'r> {
+    /// A fact of this name.
+    pub(crate) fn new(report: &'r mut Report, name: &'static str) -> Fact<'r> {
+        report.count_case();
+        Fact { report, name }
+    }
+
+    /// What a call returns is what is expected.
+    pub(crate) fn same<T: PartialEq + Debug + Drop>(&mut self, answer: T, expected: T) {
+        self.same_at("", answer, expected);
+    }
+
+    /// What a call returns for this text is what is expected.
+    pub(crate) fn same_at<T: PartialEq + Debug + Drop>(
+        &mut self,
+        text: &str,
+        answer: T,
+        expected: T,
+    ) {
+        self.report.compare((0, self.name), text, answer, expected);
+    }
+
+    /// This is so.
+    pub(crate) fn holds(&mut self, is_so: bool) {
+        self.same_at("", is_so, true);
+    }
+}
+
+/// All facts.
+pub(crate) fn check_values(alloc: Global, report: &mut Report) -> Result<(), CaseFault> {
+    texts::check_texts(alloc, report);
+    colors::check_colors(alloc, report)?;
+    places::check_places(alloc, report)?;
+    pushed::check_pushed(alloc, report)?;
+    given::check_given(alloc, report)?;
+    failing::check_failing(alloc, report);
+    Ok(())
+}

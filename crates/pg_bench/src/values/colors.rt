@@ -1,0 +1,112 @@
+//! Colours, and those of cells: which of several counts, which are the same, and what they need memory for.
+
+use crate::fault::CaseFault;
+use crate::values::Fact;
+use pg_layout::{ANSIBuf, ANSIFmt, ANSIStr, Colors, ColorsMap, NoColors, Position, same_color};
+use pg_testing::refusing::Refusing;
+use pg_testing::report::Report;
+use std::alloc::Global;
+
+// A colour with this prefix.
+fn color(alloc: Global, prefix: &str) -> Result<ANSIBuf, CaseFault> {
+    Ok(ANSIBuf::new(alloc, prefix, "</>")?)
+}
+
+// The prefix of a colour, if there is one.
+fn prefix(color: Option<&ANSIBuf>) -> Option<&str> {
+    Some(color?.prefix())
+}
+
+fn the_latest_color_of_a_place_counts(alloc: Global, report: &mut Report) -> Result<(), CaseFault> {
+    let mut fact = Fact::new(report, "the latest color of a place counts");
+    let mut colors = ColorsMap::new(alloc);
+    fact.holds(colors.is_empty() && (&NoColors).is_empty());
+    for name in ["<a>", "<b>"] {
+        colors.set(Position::new(1, 2), color(alloc, name)?)?;
+    }
+    fact.holds(!(&colors).is_empty());
+    fact.same(
+        prefix((&colors).get_color(Position::from((1, 2)))),
+        Some("<b>"),
+    );
+    fact.same(prefix(colors.get_color(Position::new(2, 1))), None);
+    fact.same(prefix(NoColors.get_color(Position::new(1, 2))), None);
+    Ok(())
+}
+
+fn lent_colors_are_equal_by_both_texts(alloc: Global, report: &mut Report) {
+    let mut fact = Fact::new(report, "lent colors are equal by both texts");
+    let red = ANSIStr::new("<r>", "</r>");
+    fact.holds(ANSIStr::default().is_empty() && !ANSIStr::new("", "</r>").is_empty());
+    fact.holds(red == ANSIStr::new("<r>", "</r>") && red != ANSIStr::new("<r>", "</>"));
+}
+
+fn colors_are_equal_by_both_texts(alloc: Global, report: &mut Report) -> Result<(), CaseFault> {
+    let mut fact = Fact::new(report, "colors are equal by both texts");
+    let owned = ANSIBuf::new(alloc, "<r>", "</r>")?;
+    fact.holds(owned == ANSIBuf::new(alloc, "<r>", "</r>")?);
+    fact.holds(owned != ANSIBuf::new(alloc, "<b>", "</r>")? && !owned.is_empty());
+    fact.same((owned.prefix(), owned.suffix()), ("<r>", "</r>"));
+    Ok(())
+}
+
+fn colors_of_two_types_are_the_same_by_both_texts(
+    alloc: Global,
+    report: &mut Report,
+) -> Result<(), CaseFault> {
+    let mut fact = Fact::new(report, "colors of two types are the same by both texts");
+    let red = ANSIStr::new("<r>", "</r>");
+    let owned = ANSIBuf::new(alloc, "<r>", "</r>")?;
+    fact.holds(same_color(Some(&owned), Some(&red)));
+    fact.holds(!same_color(Some(&owned), Some(&ANSIStr::default())));
+    fact.holds(!same_color::<ANSIBuf, ANSIStr<'_>>(None, Some(&red)));
+    fact.holds(same_color::<ANSIBuf, ANSIStr<'_>>(None, None));
+    Ok(())
+}
+
+fn a_color_needs_memory_for_both_texts(alloc: Global, report: &mut Report) {
+    let mut fact = Fact::new(report, "a color needs memory for both texts");
+    for k in 0..3 {
+        for memory in [Refusing::only(alloc, k), Refusing::from_on(alloc, k)] {
+            let made = ANSIBuf::new(&memory, "<r>", "</r>");
+            let texts = made
+                .as_ref()
+                .ok()
+                .map(|color| (color.prefix(), color.suffix()));
+            let wanted = if k < 2 { None } else { Some(("<r>", "</r>")) };
+            fact.same(texts, wanted);
+            fact.same(memory.has_refused(), k < 2);
+        }
+    }
+}
+
+fn a_color_is_made_of_any_two_texts(alloc: Global, report: &mut Report) -> Result<(), CaseFault> {
+    let mut fact = Fact::new(report, "a color is made of any two texts");
+    let long =
+        "a text of more bytes than the short ones together, so that it is a piece of its own";
+    for (prefix, suffix, is_empty) in [
+        ("", "", true),
+        ("<r>", "", false),
+        ("", "</r>", false),
+        ("\u{1b}[31m", "\u{1b}[0m", false),
+        ("日", "本", false),
+        (long, "</r>", false),
+        ("<r>", long, false),
+    ] {
+        let owned = ANSIBuf::new(alloc, prefix, suffix)?;
+        fact.same((owned.prefix(), owned.suffix()), (prefix, suffix));
+        fact.same(owned.is_empty(), is_empty);
+    }
+    Ok(())
+}
+
+/// All facts of this file.
+pub(crate) fn check_colors(alloc: Global, report: &mut Report) -> Result<(), CaseFault> {
+    the_latest_color_of_a_place_counts(alloc, report)?;
+    lent_colors_are_equal_by_both_texts(alloc, report);
+    colors_are_equal_by_both_texts(alloc, report)?;
+    colors_of_two_types_are_the_same_by_both_texts(alloc, report)?;
+    a_color_needs_memory_for_both_texts(alloc, report);
+    a_color_is_made_of_any_two_texts(alloc, report)?;
+    Ok(())
+}

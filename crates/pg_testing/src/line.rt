@@ -1,0 +1,47 @@
+//! What a line of a file of sections is.
+
+use crate::fault::LineFault;
+use std::alloc::Global;
+
+/// A line of a file of sections, without its mark.
+#[derive(Clone, Copy)]
+pub enum Line<'a> {
+    /// It is empty, or begins with `#`.
+    Comment,
+    /// A section of this name begins, as `: name` says.
+    Section(&'a str),
+    /// Another way to do what the section is about begins, as `or` says.
+    Way,
+    /// A row of texts, as `|a|b|`, here without its first bar.
+    Row(&'a str),
+    /// Any other line.
+    Words(&'a str),
+}
+
+impl<'a> Line<'a> {
+    /// What a line says.
+    pub fn of(line: &'a str) -> Line<'a> {
+        if line.is_empty() || line.starts_with('#') {
+            return Line::Comment;
+        }
+        if line == "or" {
+            return Line::Way;
+        }
+        if let Some(name) = line.strip_prefix(": ") {
+            return Line::Section(name);
+        }
+        match line.strip_prefix('|') {
+            Some(row) => Line::Row(row),
+            None => Line::Words(line),
+        }
+    }
+}
+
+/// The texts of a row, which has a bar behind each of them.
+pub fn texts_of_row(alloc: Global, row: &str) -> Result<Vec<&str>, LineFault> {
+    if row.is_empty() {
+        return Ok(Vec::new(alloc));
+    }
+    let row = row.strip_suffix('|').ok_or(LineFault::Unknown)?;
+    Ok(row.split('|').collect(alloc)?)
+}

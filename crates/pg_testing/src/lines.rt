@@ -1,0 +1,74 @@
+//! The lines of a file of cases.
+//!
+//! In each line `␊` is a line feed, `␍` a carriage return, `␛` an escape and `␣` a space; `⟨ab×3⟩` is `ababab`, and
+//! `⟨9b⟩` the character U+009B. A block of lines is followed once for each of several values:
+//!
+//! - `* LINE` is a line of a block. The lines of a block are together, and another line, also an empty one, ends
+//!   it. It is followed once for each value that the last line `each` names. `; ` parts values, and `, ` the parts
+//!   of a value, for which `$1` to `$6` are written in the block.
+//! - `cross 0; 1` has the next blocks followed for each value together with each of these, whose parts are behind
+//!   those that it had.
+//! - `repeat 1000` has the next blocks followed a thousand times.
+
+pub use crate::blocks::NumberedLine;
+use crate::blocks::unfold;
+use std::alloc::{AllocError, Global};
+use std::io::{self, Read};
+
+// What a character of a line means.
+fn meant(c: char) -> char {
+    match c {
+        '␊' => '\n',
+        '␍' => '\r',
+        '␛' => '\u{1b}',
+        '␣' => ' ',
+        _ => c,
+    }
+}
+
+// Appends what is in brackets: a text as often as it says, or the character of a number.
+fn push_bracket(text: &mut String, inner: &str) -> Result<(), AllocError> {
+    if let Some((again, count)) = inner.split_once('×') {
+        for _ in 0..count.parse::<usize>().unwrap_or(0) {
+            text.push_str(again)?;
+        }
+        return Ok(());
+    }
+    match u32::from_str_radix(inner, 16)
+        .ok()
+        .and_then(|number| char::from_u32(number))
+    {
+        Some(c) => text.push(c),
+        None => text.push_str(inner),
+    }
+}
+
+// A line with what its brackets stand for.
+fn without_brackets(alloc: Global, line: &str) -> Result<String, AllocError> {
+    let mut text = String::new(alloc);
+    for part in line.split('⟩') {
+        let (front, inner) = part.split_once('⟨').unwrap_or((part, ""));
+        text.push_str(front)?;
+        push_bracket(&mut text, inner)?;
+    }
+    Ok(text)
+}
+
+// What a line means.
+fn meaning(alloc: Global, line: &str) -> Result<String, AllocError> {
+    let mut text = String::new(alloc);
+    for c in line.chars() {
+        text.push(meant(c))?;
+    }
+    without_brackets(alloc, &text)
+}
+
+/// The lines of an input as they are followed: those of a block once for each value.
+pub fn read_lines<R: Read + Drop>(alloc: Global, input: R) -> io::Result<Vec<NumberedLine>> {
+    let text = io::read_to_string(alloc, input)?;
+    let mut lines = Vec::new(alloc);
+    for line in text.lines() {
+        lines.push(meaning(alloc, line)?)?;
+    }
+    Ok(unfold(alloc, &lines)?)
+}

@@ -1,0 +1,88 @@
+//! Settings of configurations as lines of words.
+//!
+//! ```text
+//! borders ascii
+//! padding row 1 1 1 0 0
+//! alignment_horizontal col 2 right
+//! border 0 1 top=* bottom_left=none
+//! border_color 0 1 top=<red>|</red>
+//! horizontal_char 0 1 start 2 space
+//! margin 1 1:. 0 0
+//! column_span 0 1 3
+//! ```
+//!
+//! A line has the name of a setter of [`SpannedConfig`] without `set_`, and what the setter takes, with single spaces
+//! between the words.
+//!
+//! - A place is its row and its column. `all`, `row 1`, `col 2` and `cell 1 2` are entities.
+//! - A glyph is a character, `space` a space, and `none` is no glyph.
+//! - A colour is its prefix, `|` and its suffix, of which either may be empty. `none` is no colour.
+//! - A side of a padding or a margin is a number of spaces, or a number, `:` and the glyph that fills it.
+//!   The sides are in the order left, right, top, bottom.
+//! - `borders`, `border` and `row_line`, and those for colours, name the places that have a value, as
+//!   `left=|`. The others have none. `borders` may name a look instead, and so may `span_crossings`,
+//!   which has the rows and the columns of a table before it.
+//! - `line_glyphs 1 2 3,5 0 ab` has the row line, the rows of a table, the widths of its columns, the
+//!   first column of the line, and the characters.
+
+mod borders;
+mod cells;
+mod looks;
+mod margins;
+mod named_places;
+mod parts;
+mod places;
+mod words;
+
+use crate::fault::LineFault;
+pub use crate::settings::cells::set_cell_color;
+pub use crate::settings::looks::header_line_named;
+pub use crate::settings::named_places::NamedPlaces;
+pub use crate::settings::words::Words;
+use pg_config::SpannedConfig;
+use std::alloc::Allocator;
+
+/// Applies the setting of a line, as `padding row 1 2 0 0 0`.
+///
+/// A line with too few, too many or unknown words is an error, and so is refused memory: the configuration is then
+/// as it was.
+pub fn apply<A: Allocator + Copy>(
+    config: &mut SpannedConfig<A>,
+    alloc: A,
+    line: &str,
+) -> Result<(), LineFault> {
+    let mut words = Words::new(line);
+    let name = words.word()?;
+    match name {
+        "borders" | "borders_missing" => borders::set_borders(config, name, words),
+        "borders_color" => borders::set_borders_color(config, alloc, words),
+        "border" => borders::set_border(config, words),
+        "border_color" => borders::set_border_color(config, alloc, words),
+        "row_line" => borders::set_row_line(config, words),
+        "span_crossings" => borders::set_span_crossings(config, alloc, words),
+        "line_glyphs" => borders::set_line_glyphs(config, alloc, words),
+        "column_span" | "row_span" => places::set_span(config, name, words),
+        "horizontal_char" | "vertical_char" => places::set_glyph(config, name, words),
+        "horizontal_color" | "vertical_color" => places::set_color(config, alloc, name, words),
+        "margin" | "margin_offset" | "margin_color" => {
+            margins::set_margin(config, alloc, name, words)
+        }
+        "padding_color" | "justification_color" => cells::set_color(config, alloc, name, words),
+        "trim_horizontal" | "trim_vertical" | "line_alignment" => {
+            cells::set_switch(config, name, words)
+        }
+        _ => cells::set_cell(config, name, words),
+    }
+}
+
+/// Applies the settings of these lines, one after the other, up to the first that is an error.
+pub fn apply_all<A: Allocator + Copy>(
+    config: &mut SpannedConfig<A>,
+    alloc: A,
+    lines: &[&str],
+) -> Result<(), LineFault> {
+    for line in lines {
+        apply(config, alloc, line)?;
+    }
+    Ok(())
+}

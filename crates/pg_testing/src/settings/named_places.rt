@@ -1,0 +1,97 @@
+//! Borders, the border of a cell and a row line, whose places have names.
+
+use crate::fault::LineFault;
+use crate::settings::parts::{color_of, glyph_of, named};
+use crate::settings::words::Words;
+use pg_layout::{ANSIBuf, Border, Borders, HorizontalLine};
+use std::alloc::Allocator;
+
+/// What has places with names.
+pub trait NamedPlaces<T> {
+    /// The place of this name.
+    fn place(&mut self, name: &str) -> Result<&mut Option<T>, LineFault>;
+}
+
+impl<T> NamedPlaces<T> for Border<T> {
+    fn place(&mut self, name: &str) -> Result<&mut Option<T>, LineFault> {
+        match name {
+            "top" => Ok(&mut self.top),
+            "bottom" => Ok(&mut self.bottom),
+            "left" => Ok(&mut self.left),
+            "right" => Ok(&mut self.right),
+            "top_left" => Ok(&mut self.top_left),
+            "top_right" => Ok(&mut self.top_right),
+            "bottom_left" => Ok(&mut self.bottom_left),
+            "bottom_right" => Ok(&mut self.bottom_right),
+            _ => Err(LineFault::Unknown),
+        }
+    }
+}
+
+impl<T> NamedPlaces<T> for Borders<T> {
+    fn place(&mut self, name: &str) -> Result<&mut Option<T>, LineFault> {
+        match name {
+            "top" => Ok(&mut self.top),
+            "top_left" => Ok(&mut self.top_left),
+            "top_right" => Ok(&mut self.top_right),
+            "top_intersection" => Ok(&mut self.top_intersection),
+            "bottom" => Ok(&mut self.bottom),
+            "bottom_left" => Ok(&mut self.bottom_left),
+            "bottom_right" => Ok(&mut self.bottom_right),
+            "bottom_intersection" => Ok(&mut self.bottom_intersection),
+            "horizontal" => Ok(&mut self.horizontal),
+            "left_intersection" => Ok(&mut self.left_intersection),
+            "right_intersection" => Ok(&mut self.right_intersection),
+            "intersection" => Ok(&mut self.intersection),
+            "left" => Ok(&mut self.left),
+            "right" => Ok(&mut self.right),
+            "vertical" => Ok(&mut self.vertical),
+            _ => Err(LineFault::Unknown),
+        }
+    }
+}
+
+impl NamedPlaces<char> for HorizontalLine<char> {
+    fn place(&mut self, name: &str) -> Result<&mut Option<char>, LineFault> {
+        match name {
+            "main" => Ok(&mut self.main),
+            "intersection" => Ok(&mut self.intersection),
+            "left" => Ok(&mut self.left),
+            "right" => Ok(&mut self.right),
+            _ => Err(LineFault::Unknown),
+        }
+    }
+}
+
+/// These places, of which those that the words name have their glyphs.
+pub(crate) fn with_glyphs<P: NamedPlaces<char> + Drop>(
+    mut places: P,
+    words: Words<'_>,
+) -> Result<P, LineFault> {
+    let Some(parts) = words.rest() else {
+        return Ok(places);
+    };
+    for part in parts.split(' ') {
+        let (name, word) = named(part)?;
+        let glyph = glyph_of(word)?;
+        *places.place(name)? = glyph;
+    }
+    Ok(places)
+}
+
+/// These places, of which those that the words name have their colours.
+pub(crate) fn with_colors<A: Allocator + Copy, P: NamedPlaces<ANSIBuf<A>> + Drop>(
+    mut places: P,
+    alloc: A,
+    words: Words<'_>,
+) -> Result<P, LineFault> {
+    let Some(parts) = words.rest() else {
+        return Ok(places);
+    };
+    for part in parts.split(' ') {
+        let (name, word) = named(part)?;
+        let color = color_of(alloc, word)?;
+        *places.place(name)? = color;
+    }
+    Ok(places)
+}
