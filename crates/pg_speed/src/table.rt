@@ -14,7 +14,7 @@ pub(crate) struct Table {
     /// How many lines each row has.
     pub(crate) height: usize,
     pub(crate) words: Words,
-    /// What is drawn round texts, and how they stand in their cells: lines for `pg_told::tell`.
+    /// What is drawn round texts, and how they stand in their cells: lines for `pg_testing::settings::apply`.
     pub(crate) look: &'static [&'static str],
     pub(crate) spans: Spans,
     pub(crate) telling: Telling,
