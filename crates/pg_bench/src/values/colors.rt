@@ -17,6 +17,11 @@ fn prefix(color: Option<&ANSIBuf>) -> Option<&str> {
     Some(color?.prefix())
 }
 
+// Whether a colour has these two texts.
+fn has_texts<C: ANSIFmt>(color: &C, prefix: &str, suffix: &str) -> bool {
+    color.prefix() == prefix && color.suffix() == suffix
+}
+
 fn the_latest_color_of_a_place_counts(alloc: Global, report: &mut Report) -> Result<(), CaseFault> {
     let mut fact = Fact::new(report, "the latest color of a place counts");
     let mut colors = ColorsMap::new(alloc);
@@ -46,7 +51,7 @@ fn colors_are_equal_by_both_texts(alloc: Global, report: &mut Report) -> Result<
     let owned = ANSIBuf::new(alloc, "<r>", "</r>")?;
     fact.holds(owned == ANSIBuf::new(alloc, "<r>", "</r>")?);
     fact.holds(owned != ANSIBuf::new(alloc, "<b>", "</r>")? && !owned.is_empty());
-    fact.same((owned.prefix(), owned.suffix()), ("<r>", "</r>"));
+    fact.holds(has_texts(&owned, "<r>", "</r>"));
     Ok(())
 }
 
@@ -69,12 +74,8 @@ fn a_color_needs_memory_for_both_texts(alloc: Global, report: &mut Report) {
     for k in 0..3 {
         for memory in [Refusing::only(alloc, k), Refusing::from_on(alloc, k)] {
             let made = ANSIBuf::new(&memory, "<r>", "</r>");
-            let texts = made
-                .as_ref()
-                .ok()
-                .map(|color| (color.prefix(), color.suffix()));
-            let wanted = if k < 2 { None } else { Some(("<r>", "</r>")) };
-            fact.same(texts, wanted);
+            let is_whole = matches!(&made, Ok(color) if has_texts(color, "<r>", "</r>"));
+            fact.same((made.is_ok(), is_whole), (k >= 2, k >= 2));
             fact.same(memory.has_refused(), k < 2);
         }
     }
@@ -94,7 +95,7 @@ fn a_color_is_made_of_any_two_texts(alloc: Global, report: &mut Report) -> Resul
         ("<r>", long, false),
     ] {
         let owned = ANSIBuf::new(alloc, prefix, suffix)?;
-        fact.same((owned.prefix(), owned.suffix()), (prefix, suffix));
+        fact.holds(has_texts(&owned, prefix, suffix));
         fact.same(owned.is_empty(), is_empty);
     }
     Ok(())
