@@ -3,17 +3,11 @@
 use clap::error::ErrorKind;
 use clap::{Arg, ArgAction, ArgMatches, Command};
 use pg_layout::AlignmentHorizontal;
-use ruled_run::{Log, Request};
-use ruled_view::{Bounds, Breaking, Format, Look, Options, Overflow};
+use ruled_io::{Format, Kind, Log, Request, Rows, Source};
+use ruled_table::{Bounds, Breaking, Look, Options, Overflow};
 use std::alloc::{AllocError, Global};
 use std::env::VarError;
 use std::{env, io};
-
-static LOOKS: [&str; 9] = [
-    "sharp", "rounded", "modern", "extended", "ascii", "dots", "psql", "markdown", "blank",
-];
-
-static FORMATS: [&str; 5] = ["csv", "tsv", "json", "jsonl", "sqlite"];
 
 static SIDES: [&str; 5] = ["auto", "left", "right", "centre", "center"];
 
@@ -23,8 +17,6 @@ pub(crate) struct Wanted {
     /// The file that is read, or `None` for standard input.
     pub(crate) file: Option<String>,
     pub(crate) request: Request,
-    /// How many rows the widths are taken from, where each is shown when it comes.
-    pub(crate) stream: Option<u32>,
 }
 
 /// What the arguments ask for.
@@ -68,7 +60,7 @@ fn with_input<'a>(alloc: Global, command: Command<'a>) -> Result<Command<'a>, Al
             "FORMAT",
             "How rows are written: separated by commas or tabs, as one value of JSON, as lines of JSON, or in a database of SQLite; else the ending of the file's name tells it, or else its first bytes",
         )
-        .value_parser(FORMATS.as_slice()))?
+        .value_parser(Kind::NAMES.as_slice()))?
         .arg(option(
             alloc,
             "query",
@@ -85,7 +77,11 @@ fn with_input<'a>(alloc: Global, command: Command<'a>) -> Result<Command<'a>, Al
 }
 
 // The command with what is shown.
-fn with_shown<'a>(alloc: Global, command: Command<'a>) -> Result<Command<'a>, AllocError> {
+fn with_shown<'a>(
+    alloc: Global,
+    command: Command<'a>,
+    looks: &'a [&'a str],
+) -> Result<Command<'a>, AllocError> {
     command
         .arg(option(
             alloc,
@@ -103,7 +99,7 @@ fn with_shown<'a>(alloc: Global, command: Command<'a>) -> Result<Command<'a>, Al
         .value_parser(clap::value_parser!(u32)))?
         .arg(
             option(alloc, "look", "LOOK", "What the table looks like")
-                .value_parser(LOOKS.as_slice())
+                .value_parser(looks)
                 .default_value("sharp"),
         )?
         .arg(
@@ -196,28 +192,13 @@ fn with_form<'a>(alloc: Global, command: Command<'a>) -> Result<Command<'a>, All
     command.arg(vertical)
 }
 
-fn command<'a>(alloc: Global) -> Result<Command<'a>, AllocError> {
+fn command<'a>(alloc: Global, looks: &'a [&'a str]) -> Result<Command<'a>, AllocError> {
     let command = Command::new(alloc, "ruled")
         .about("Shows rows of separated values, JSON or a database of SQLite as a table")
         .version("0.1.0");
-    let command = with_shown(alloc, with_input(alloc, command)?)?;
+    let command = with_shown(alloc, with_input(alloc, command)?, looks)?;
     let command = with_form(alloc, with_bounds(alloc, command)?)?;
     with_stream(alloc, command)
-}
-
-// The look of this name.
-fn look_of(name: Option<&str>) -> Look {
-    match name.unwrap_or("sharp") {
-        "rounded" => Look::Rounded,
-        "modern" => Look::Modern,
-        "extended" => Look::Extended,
-        "ascii" => Look::Ascii,
-        "dots" => Look::Dots,
-        "psql" => Look::Psql,
-        "markdown" => Look::Markdown,
-        "blank" => Look::Blank,
-        _ => Look::Sharp,
-    }
 }
 
 // The delimiter that a word names: one byte of ASCII that is no quote and ends no line, or a tab.
@@ -232,78 +213,83 @@ fn delimiter_of(word: &str) -> Option<u8> {
     }
 }
 
-// The format of this name, or of files whose names end in it.
-fn format_of(name: &str) -> Option<Format> {
-    match name {
-        "csv" => Some(Format::Separated(b',')),
-        "tsv" | "tab" => Some(Format::Separated(b'\t')),
-        "json" => Some(Format::Json),
-        "jsonl" | "ndjson" => Some(Format::JsonLines),
-        _ => None,
-    }
-}
-
-// The format of a file of this name, where its ending tells it.
-fn format_in(name: &str) -> Option<Format> {
-    let (_, ending) = name.rsplit_once('.')?;
-    format_of(ending)
-}
-
 // The file that is named, where it isn't standard input.
 fn name_in<'m>(found: &'m ArgMatches) -> Option<&'m str> {
     found.get_str("file").filter(|name| *name != "-")
 }
 
-// The format that is asked for, or that the file's name tells, or why there is none.
-fn format_asked(found: &ArgMatches) -> Result<Option<Format>, &'static str> {
-    let asked = found.get_str("format").and_then(format_of);
-    let Some(word) = found.get_str("delimiter") else {
-        return Ok(asked.or(name_in(found).and_then(format_in)));
-    };
-    let Some(delimiter) = delimiter_of(word) else {
+// What the format is that is asked for, where one is.
+fn kind_asked(found: &ArgMatches) -> Result<Option<Kind>, &'static str> {
+    match found.get_str("format") {
+        Some(name) => Ok(Some(Kind::by_name(name).ok_or("no such format")?)),
+        None => Ok(None),
+    }
+}
+
+// What the ending of the file's name tells.
+fn kind_in_name(found: &ArgMatches) -> Option<Kind> {
+    let (_, ending) = name_in(found)?.rsplit_once('.')?;
+    Kind::by_name(ending)
+}
+
+// Rows with this delimiter, unless another format is asked for.
+fn rows_with(delimiter: &str, asked: Option<Kind>) -> Result<Source, &'static str> {
+    let Some(delimiter) = delimiter_of(delimiter) else {
         return Err("a delimiter is one character of ASCII that is no quote, or the word tab");
     };
     match asked {
-        Some(Format::Json) | Some(Format::JsonLines) => Err("JSON has no delimiter"),
-        _ => Ok(Some(Format::Separated(delimiter))),
+        Some(Kind::Rows(Format::Json)) | Some(Kind::Rows(Format::JsonLines)) => {
+            Err("JSON has no delimiter")
+        }
+        Some(Kind::Database) => Err("a database has no delimiter"),
+        Some(Kind::Rows(Format::Separated(_))) | None => {
+            Ok(Source::Rows(Format::Separated(delimiter)))
+        }
     }
 }
 
-// Whether files of this name are databases, where its ending tells it.
-fn is_named_database(name: &str) -> Option<bool> {
-    match name.rsplit_once('.') {
-        Some((_, "db" | "sqlite" | "sqlite3")) => Some(true),
-        _ => None,
+// A database, of which it isn't known what stands in its logs.
+fn database(query: Option<String>) -> Source {
+    Source::Database {
+        query,
+        log: Log::Unknown,
     }
 }
 
-// Whether the input is a database, where that is told: by the format or a query, or else by the file's
-// name. `format` is what is known of another format.
-fn database_asked(
-    found: &ArgMatches,
-    format: Option<Format>,
-) -> Result<Option<bool>, &'static str> {
-    let is_separated = found.get_str("delimiter").is_some();
-    let has_query = found.get_str("query").is_some();
-    let told = found.get_str("format").map(|word| word == "sqlite");
-    match told {
-        Some(true) | None if has_query && !is_separated => Ok(Some(true)),
-        Some(true) if is_separated => Err("a database has no delimiter"),
-        _ if has_query => Err("only a database takes a query"),
-        Some(told) => Ok(Some(told)),
-        None if format.is_some() => Ok(Some(false)),
-        None => Ok(name_in(found).and_then(is_named_database)),
+// What the input is, but for a query: by what is asked for, by the file's name, or by its first bytes.
+fn source_without_query(found: &ArgMatches, asked: Option<Kind>) -> Result<Source, &'static str> {
+    if let Some(delimiter) = found.get_str("delimiter") {
+        return rows_with(delimiter, asked);
     }
+    Ok(match asked.or(kind_in_name(found)) {
+        Some(Kind::Rows(format)) => Source::Rows(format),
+        Some(Kind::Database) => database(None),
+        None => Source::Seen(Log::Unknown),
+    })
 }
 
-// The format that is asked for, and whether the input is a database, or why there is none.
-fn input_asked(found: &ArgMatches) -> Result<(Option<Format>, Option<bool>), &'static str> {
-    let format = format_asked(found)?;
-    let is_database = database_asked(found, format)?;
-    if is_database == Some(true) && found.get_one::<u32>("stream").is_some() {
+// What the input is, but for the words of a query, or why it can't be.
+fn source_asked(found: &ArgMatches) -> Result<Source, &'static str> {
+    let asked = kind_asked(found)?;
+    let mut source = source_without_query(found, asked)?;
+    if found.get_str("query").is_some() {
+        if found.get_str("delimiter").is_some() || matches!(asked, Some(Kind::Rows(_))) {
+            return Err("only a database takes a query");
+        }
+        source = database(None);
+    }
+    if matches!(source, Source::Database { .. }) && found.get_one::<u32>("stream").is_some() {
         return Err("a database can't be streamed");
     }
-    Ok((format, is_database))
+    Ok(source)
+}
+
+// What the table looks like.
+fn look_asked(found: &ArgMatches) -> Result<Look, &'static str> {
+    if found.get_flag("markdown") {
+        return Ok(Look::Markdown);
+    }
+    Look::by_name(found.get_str("look").unwrap_or("sharp")).ok_or("no such look")
 }
 
 // The names that were listed.
@@ -375,22 +361,14 @@ fn copy_of(alloc: Global, text: Option<&str>) -> Result<Option<String>, AllocErr
     }
 }
 
-// What was asked for.
-fn table_of(
+// How rows are shown.
+fn view_of(
     alloc: Global,
     found: &ArgMatches,
-    format: Option<Format>,
-    is_database: Option<bool>,
+    look: Look,
     columns: Option<u32>,
-) -> Result<Wanted, AllocError> {
-    let is_markdown = found.get_flag("markdown");
-    let look = if is_markdown {
-        Look::Markdown
-    } else {
-        look_of(found.get_str("look"))
-    };
-    let options = Options {
-        format,
+) -> Result<Options, AllocError> {
+    Ok(Options {
         look,
         has_header: !found.get_flag("no-header"),
         columns: names_of(alloc, found.get_strs("columns"))?,
@@ -399,18 +377,37 @@ fn table_of(
         is_vertical: found.get_flag("vertical"),
         bounds: bounds_of(alloc, found, columns)?,
         is_raw: found.get_flag("raw"),
-        is_markdown,
-    };
-    let request = Request {
-        options,
-        is_database,
-        query: copy_of(alloc, found.get_str("query"))?,
-        log: Log::Unknown,
+        is_markdown: found.get_flag("markdown"),
+    })
+}
+
+// When rows are shown.
+fn rows_of(found: &ArgMatches) -> Rows {
+    match found.get_one::<u32>("stream") {
+        Some(count) => Rows::FromFirst(count.max(1) as usize),
+        None => Rows::AtOnce,
+    }
+}
+
+// What was asked for, of this source and in this look.
+fn table_of(
+    alloc: Global,
+    found: &ArgMatches,
+    source: Source,
+    look: Look,
+    columns: Option<u32>,
+) -> Result<Wanted, AllocError> {
+    let source = match found.get_str("query") {
+        Some(query) => database(Some(String::from_str(alloc, query)?)),
+        None => source,
     };
     Ok(Wanted {
         file: copy_of(alloc, name_in(found))?,
-        request,
-        stream: found.get_one::<u32>("stream"),
+        request: Request {
+            source,
+            rows: rows_of(found),
+            view: view_of(alloc, found, look, columns)?,
+        },
     })
 }
 
@@ -423,24 +420,49 @@ fn columns_told(rt: &HostRuntime) -> io::Result<Option<u32>> {
     }
 }
 
+// The names of all looks.
+fn looks(alloc: Global) -> Result<Vec<&'static str>, AllocError> {
+    let mut names = Vec::new(alloc);
+    for look in Look::ALL {
+        names.push(look.name())?;
+    }
+    Ok(names)
+}
+
+// Prints what clap says of the arguments, its help among it, and answers the exit status.
+fn tell(rt: &HostRuntime, said: &clap::Error) -> io::Result<u8> {
+    let status = said.exit_code() as u8;
+    match said.print(rt) {
+        Err(error) if error.kind() == io::ErrorKind::OutOfMemory => Err(error),
+        Err(error) if status == 0 && error.kind() != io::ErrorKind::BrokenPipe => {
+            let _ = eprintln!(rt; "ruled: write failed");
+            Ok(5)
+        }
+        _ => Ok(status),
+    }
+}
+
+// What the input is, and what its table looks like, or why they can't be.
+fn input_and_look(found: &ArgMatches) -> Result<(Source, Look), &'static str> {
+    Ok((source_asked(found)?, look_asked(found)?))
+}
+
 /// Reads the arguments, and tells what clap has to say of them.
 pub(crate) fn read_arguments(rt: &HostRuntime) -> io::Result<Asked> {
     let words: Vec<String> = env::args(rt)?.collect(rt.alloc())?;
-    let command = command(rt.alloc())?;
+    let looks = looks(rt.alloc())?;
+    let command = command(rt.alloc(), &looks)?;
     let found = match command.try_get_matches_from(words.as_slice()) {
         Ok(found) => found,
         Err(error) if matches!(error.kind(), ErrorKind::OutOfMemory) => {
             return Err(io::ErrorKind::OutOfMemory.into());
         }
-        Err(error) => {
-            error.print(rt)?;
-            return Ok(Asked::Told(error.exit_code() as u8));
-        }
+        Err(error) => return Ok(Asked::Told(tell(rt, &error)?)),
     };
-    match input_asked(&found) {
-        Ok((format, is_database)) => {
+    match input_and_look(&found) {
+        Ok((source, look)) => {
             let columns = columns_told(rt)?;
-            Ok(Asked::Table(table_of(rt.alloc(), &found, format, is_database, columns)?))
+            Ok(Asked::Table(table_of(rt.alloc(), &found, source, look, columns)?))
         }
         Err(told) => {
             eprintln!(rt; "ruled: {told}")?;

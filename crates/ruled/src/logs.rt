@@ -1,6 +1,6 @@
 //! The logs beside the file of a database.
 
-use ruled_run::Log;
+use ruled_io::Log;
 use std::io::{ErrorKind, Read};
 use std::{fs, io};
 

@@ -7,8 +7,7 @@ mod logs;
 
 use crate::arguments::{Asked, Wanted, read_arguments};
 use crate::logs::log_beside;
-use ruled_run::{Request, run};
-use ruled_view::run_stream;
+use ruled_io::{Request, Source, run};
 use std::fs::File;
 use std::io::{BufWriter, ErrorKind, Read, Write};
 use std::process::ExitCode;
@@ -23,49 +22,31 @@ fn words_of(error: &io::Error) -> &'static str {
     }
 }
 
-// Opens the file of this name, once it is known what stands in the logs beside it.
+// Opens the file of this name, once it is known what stands in the logs beside it, where it may be a database.
 fn open(rt: &HostRuntime, name: &str, request: &mut Request) -> io::Result<File> {
-    request.log = log_beside(rt, name)?;
+    if !matches!(request.source, Source::Rows(_)) {
+        request.source.set_log(log_beside(rt, name)?);
+    }
     fs::open(rt, name)
 }
 
-// Shows the table of an input row by row, at the widths of so many first ones, and answers the exit status.
-fn show_stream<R: Read + Drop>(
-    rt: &HostRuntime,
-    request: &Request,
-    rows: u32,
-    input: R,
-) -> io::Result<u8> {
+// Shows the table of an input, and answers the exit status.
+fn show_input<R: Read + Drop>(rt: &HostRuntime, request: &Request, input: R) -> io::Result<u8> {
     let mut out = BufWriter::new(rt.alloc(), rt.stdout())?;
-    let (options, rows) = (&request.options, rows.max(1) as usize);
-    let ending = run_stream(rt.alloc(), options, rows, input, &mut out, &mut rt.stderr());
+    let status = run(rt.alloc(), request, input, &mut out, &mut rt.stderr()).status();
     // What a write that failed has left isn't written once more.
     let _parts = out.into_parts();
-    Ok(ending.status())
-}
-
-// Shows the table of an input, all at once or row by row, and answers the exit status.
-fn show_input<R: Read + Drop>(
-    rt: &HostRuntime,
-    request: &Request,
-    stream: Option<u32>,
-    mut input: R,
-) -> io::Result<u8> {
-    if let Some(rows) = stream {
-        return show_stream(rt, request, rows, input);
-    }
-    let (mut out, mut err) = (rt.stdout(), rt.stderr());
-    Ok(run(rt.alloc(), request, &mut input, &mut out, &mut err).status())
+    Ok(status)
 }
 
 // Shows the table that is wanted, and answers the exit status. An error is want of memory.
 fn show(rt: &HostRuntime, wanted: Wanted) -> io::Result<u8> {
     let mut request = wanted.request;
     let Some(name) = &wanted.file else {
-        return show_input(rt, &request, wanted.stream, rt.stdin());
+        return show_input(rt, &request, rt.stdin());
     };
     match open(rt, name.as_str(), &mut request) {
-        Ok(file) => show_input(rt, &request, wanted.stream, file),
+        Ok(file) => show_input(rt, &request, file),
         Err(error) if error.kind() == ErrorKind::OutOfMemory => Err(error),
         Err(error) => {
             let _ = writeln!(rt.stderr(), "ruled: {name}: {}", words_of(&error));

@@ -1,7 +1,8 @@
 //! Cases of a file.
 
-use crate::words::{push_input, set_option, split_times};
-use ruled_view::{Bounds, Breaking, Format, Look, Options, Overflow, run, run_stream};
+use crate::words::{push_bytes, push_input, set_bytes, set_option, split_times};
+use ruled_io::{Format, Log, Request, Rows, Source, run};
+use ruled_table::{Bounds, Breaking, Look, Options, Overflow};
 use std::alloc::{AllocError, Global};
 use std::io;
 
@@ -9,9 +10,9 @@ use std::io;
 #[derive(Drop)]
 pub(crate) struct Case {
     name: String,
-    options: Options,
-    // From how many rows widths are taken, where each row is shown when it comes.
-    stream: Option<usize>,
+    request: Request,
+    // The input of the case above.
+    above: Vec<u8>,
     input: Vec<u8>,
     // What is shown of a table.
     shown: String,
@@ -21,10 +22,9 @@ pub(crate) struct Case {
 }
 
 impl Case {
-    /// A case of this name without an input.
-    pub(crate) fn new(alloc: Global, name: &str) -> Result<Case, AllocError> {
-        let options = Options {
-            format: Some(Format::Separated(b',')),
+    /// A case of this name without an input, below a case with this one.
+    pub(crate) fn new(alloc: Global, name: &str, above: Vec<u8>) -> Result<Case, AllocError> {
+        let view = Options {
             look: Look::Sharp,
             has_header: true,
             columns: Vec::new(alloc),
@@ -41,8 +41,12 @@ impl Case {
         };
         Ok(Case {
             name: String::from_str(alloc, name)?,
-            options,
-            stream: None,
+            request: Request {
+                source: Source::Rows(Format::Separated(b',')),
+                rows: Rows::AtOnce,
+                view,
+            },
+            above,
             input: Vec::new(alloc),
             shown: String::new(alloc),
             status: 0,
@@ -50,14 +54,25 @@ impl Case {
         })
     }
 
+    /// Its input.
+    pub(crate) fn into_input(self) -> Vec<u8> {
+        self.input
+    }
+
     /// Reads a line of the file, and answers whether it is understood.
     pub(crate) fn read(&mut self, alloc: Global, line: &str) -> Result<bool, AllocError> {
         let (mark, text) = line.split_once(' ').unwrap_or((line, ""));
         match mark {
             "" | "#" => Ok(true),
-            "@" => self.set_option(alloc, text),
+            "@" => set_option(alloc, &mut self.request, text),
             ">" => {
                 push_input(&mut self.input, text)?;
+                Ok(true)
+            }
+            ">x" => push_bytes(&mut self.input, text),
+            ">@" => set_bytes(alloc, &mut self.input, text),
+            ">^" => {
+                self.input.extend_from_slice(&self.above)?;
                 Ok(true)
             }
             "=" => {
@@ -68,17 +83,6 @@ impl Case {
             "!" => self.set_told(text),
             ">*" | "=*" => self.push_times(mark, text),
             _ => Ok(false),
-        }
-    }
-
-    // Takes an option and its value.
-    fn set_option(&mut self, alloc: Global, text: &str) -> Result<bool, AllocError> {
-        match text.strip_prefix("stream ") {
-            Some(rows) => {
-                self.stream = rows.parse().ok();
-                Ok(self.stream.is_some())
-            }
-            None => set_option(alloc, &mut self.options, text),
         }
     }
 
@@ -123,12 +127,8 @@ impl Case {
     /// Runs the case, and answers whether it answers as told. Another answer is printed.
     pub(crate) fn is_as_told(&self, rt: &HostRuntime) -> io::Result<bool> {
         let (mut out, mut err) = (Vec::new(rt.alloc()), Vec::new(rt.alloc()));
-        let (options, mut input) = (&self.options, self.input.as_slice());
-        let ending = match self.stream {
-            Some(rows) => run_stream(rt.alloc(), options, rows, input, &mut out, &mut err),
-            None => run(rt.alloc(), options, &mut input, &mut out, &mut err),
-        };
-        let status = ending.status();
+        let input = self.input.as_slice();
+        let status = run(rt.alloc(), &self.request, input, &mut out, &mut err).status();
         let is_right = status == self.status
             && out.as_slice() == self.shown.as_bytes()
             && err.as_slice() == self.told.as_bytes();

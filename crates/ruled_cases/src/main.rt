@@ -1,5 +1,4 @@
-//! The program `ruled_cases`: it runs the cases of a file on standard input by [`ruled_view::run`], or by
-//! [`ruled_view::run_stream`] where the option `stream` has a number of rows, and tells which of them
+//! The program `ruled_cases`: it runs the cases of a file on standard input by [`ruled_io::run`], and tells which of them
 //! answer otherwise than the file says.
 //!
 //! ```text
@@ -17,6 +16,8 @@
 //!   Behind a line with `␃` at its end there is no line feed.
 //! - `=` has a line that is shown, with `␣` for a space at its end. `!` has the exit status and the line
 //!   that is told; without it the status is 0, and nothing is told.
+//! - `>x` has bytes of the input, each as two hexadecimal digits, with spaces between some, and `*` and a number behind
+//!   those that stand so many times. `>^` has the input of the case above, and `>@` a place and bytes that stand there.
 //! - `>*` and `=*` have a number and a text that stands so many times, with no line feed behind it.
 //! - Empty lines and those with `#` are comments.
 //!
@@ -34,11 +35,11 @@ use std::process::ExitCode;
 // Runs the cases of a text, and answers how many there are, or `None` where one was told.
 fn check(rt: &HostRuntime, text: &str) -> io::Result<Option<usize>> {
     let (mut count, mut is_right) = (0usize, true);
-    let mut case = Case::new(rt.alloc(), "")?;
+    let mut case = Case::new(rt.alloc(), "", Vec::new(rt.alloc()))?;
     for line in text.lines() {
         if let Some(name) = line.strip_prefix(": ") {
             is_right &= case.is_as_told(rt)?;
-            case = Case::new(rt.alloc(), name)?;
+            case = Case::new(rt.alloc(), name, case.into_input())?;
             count = count.saturating_add(1);
         } else if !case.read(rt.alloc(), line)? {
             println!(rt; "not understood: {line}")?;

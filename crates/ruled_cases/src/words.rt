@@ -1,32 +1,39 @@
 //! What the lines of a case say.
 
 use pg_layout::AlignmentHorizontal;
-use ruled_view::{Format, Look, Options, Overflow};
+use ruled_io::{Format, Kind, Log, Request, Rows, Source};
+use ruled_table::{Look, Options, Overflow};
 use std::alloc::{AllocError, Global};
 
-// The look of this name.
-fn look_of(name: &str) -> Option<Look> {
-    match name {
-        "sharp" => Some(Look::Sharp),
-        "rounded" => Some(Look::Rounded),
-        "modern" => Some(Look::Modern),
-        "extended" => Some(Look::Extended),
-        "ascii" => Some(Look::Ascii),
-        "dots" => Some(Look::Dots),
-        "psql" => Some(Look::Psql),
-        "markdown" => Some(Look::Markdown),
-        "blank" => Some(Look::Blank),
+// The source that a word names: that of a format, or the one that the input shows.
+fn source_of(word: &str) -> Option<Source> {
+    if word == "seen" {
+        return Some(Source::Seen(Log::Empty));
+    }
+    match Kind::by_name(word)? {
+        Kind::Rows(format) => Some(Source::Rows(format)),
+        Kind::Database => Some(Source::Database {
+            query: None,
+            log: Log::Empty,
+        }),
+    }
+}
+
+// What is known of a log, as a word says it.
+fn log_of(word: &str) -> Option<Log> {
+    match word {
+        "empty" => Some(Log::Empty),
+        "filled" => Some(Log::Filled),
+        "unknown" => Some(Log::Unknown),
         _ => None,
     }
 }
 
-// The format that a word names, where it names one, or the one that the input shows.
-fn format_of(word: &str) -> Option<Option<Format>> {
+// The byte between two fields that a word names.
+fn delimiter_of(word: &str) -> u8 {
     match word {
-        "seen" => Some(None),
-        "json" => Some(Some(Format::Json)),
-        "jsonl" => Some(Some(Format::JsonLines)),
-        _ => None,
+        "tab" => b'\t',
+        _ => word.as_bytes().first().copied().unwrap_or(b','),
     }
 }
 
@@ -41,46 +48,87 @@ fn side_of(word: &str) -> Option<Option<AlignmentHorizontal>> {
     }
 }
 
+// Sets how rows are shown, where there is an option of this name with this value.
+fn set_view(
+    alloc: Global,
+    view: &mut Options,
+    name: &str,
+    value: &str,
+) -> Result<Option<()>, AllocError> {
+    match name {
+        "no-header" => view.has_header = false,
+        "raw" => view.is_raw = true,
+        "vertical" => view.is_vertical = true,
+        "markdown" => {
+            view.look = Look::Markdown;
+            view.is_markdown = true;
+        }
+        "head" => view.head = value.parse().ok(),
+        "width" => view.bounds.width = value.parse().ok(),
+        "limit" => view.bounds.limits.push(value.parse().ok())?,
+        "cut" => view.bounds.overflow = Overflow::Cut("…"),
+        "look" => match Look::by_name(value) {
+            Some(look) => view.look = look,
+            None => return Ok(None),
+        },
+        "align" => match side_of(value) {
+            Some(side) => view.sides.push(side)?,
+            None => return Ok(None),
+        },
+        "column" => view.columns.push(String::from_str(alloc, value)?)?,
+        _ => return Ok(None),
+    }
+    Ok(Some(()))
+}
+
+// Sets what the input is, where there is an option of this name with this value.
+fn set_input(
+    alloc: Global,
+    request: &mut Request,
+    name: &str,
+    value: &str,
+) -> Result<Option<()>, AllocError> {
+    let source = match name {
+        "format" => source_of(value),
+        "delimiter" => Some(Source::Rows(Format::Separated(delimiter_of(value)))),
+        "query" => Some(Source::Database {
+            query: Some(String::from_str(alloc, value)?),
+            log: request.source.log(),
+        }),
+        "log" => {
+            let Some(log) = log_of(value) else {
+                return Ok(None);
+            };
+            request.source.set_log(log);
+            return Ok(Some(()));
+        }
+        _ => None,
+    };
+    let Some(source) = source else {
+        return Ok(None);
+    };
+    request.source = source;
+    Ok(Some(()))
+}
+
 /// Sets an option, and answers whether there is one of this name with this value.
 pub(crate) fn set_option(
     alloc: Global,
-    options: &mut Options,
+    request: &mut Request,
     text: &str,
 ) -> Result<bool, AllocError> {
     let (name, value) = text.split_once(' ').unwrap_or((text, ""));
-    match name {
-        "no-header" => options.has_header = false,
-        "raw" => options.is_raw = true,
-        "vertical" => options.is_vertical = true,
-        "markdown" => {
-            options.look = Look::Markdown;
-            options.is_markdown = true;
-        }
-        "delimiter" if value == "tab" => options.format = Some(Format::Separated(b'\t')),
-        "delimiter" => {
-            let delimiter = value.as_bytes().first().copied().unwrap_or(b',');
-            options.format = Some(Format::Separated(delimiter));
-        }
-        "format" => match format_of(value) {
-            Some(format) => options.format = format,
-            None => return Ok(false),
-        },
-        "head" => options.head = value.parse().ok(),
-        "width" => options.bounds.width = value.parse().ok(),
-        "limit" => options.bounds.limits.push(value.parse().ok())?,
-        "cut" => options.bounds.overflow = Overflow::Cut("…"),
-        "look" => match look_of(value) {
-            Some(look) => options.look = look,
-            None => return Ok(false),
-        },
-        "align" => match side_of(value) {
-            Some(side) => options.sides.push(side)?,
-            None => return Ok(false),
-        },
-        "column" => options.columns.push(String::from_str(alloc, value)?)?,
-        _ => return Ok(false),
+    if name == "stream" {
+        let Ok(count) = value.parse() else {
+            return Ok(false);
+        };
+        request.rows = Rows::FromFirst(count);
+        return Ok(true);
     }
-    Ok(true)
+    if set_input(alloc, request, name, value)?.is_some() {
+        return Ok(true);
+    }
+    Ok(set_view(alloc, &mut request.view, name, value)?.is_some())
 }
 
 /// The number and the text of a line that has both.
@@ -118,4 +166,51 @@ pub(crate) fn push_input(input: &mut Vec<u8>, line: &str) -> Result<(), AllocErr
         }
     }
     input.extend_from_slice(end.as_bytes())
+}
+
+// The bytes that pairs of hexadecimal digits stand for, if these are such pairs.
+fn push_digits(bytes: &mut Vec<u8>, digits: &str) -> Result<bool, AllocError> {
+    for pair in digits.as_bytes().chunks(2) {
+        let byte = str::from_utf8(pair).ok();
+        let Some(byte) = byte.and_then(|pair| u8::from_str_radix(pair, 16).ok()) else {
+            return Ok(false);
+        };
+        bytes.push(byte)?;
+    }
+    Ok(true)
+}
+
+/// Appends bytes, and answers whether the words of the line stand for some: each has two hexadecimal digits for each
+/// byte, and may have a star and a number behind them, which says how many times they stand.
+pub(crate) fn push_bytes(input: &mut Vec<u8>, line: &str) -> Result<bool, AllocError> {
+    for word in line.split(' ') {
+        let (digits, times) = word.split_once('*').unwrap_or((word, "1"));
+        let Ok(times) = times.parse::<usize>() else {
+            return Ok(false);
+        };
+        for _ in 0..times {
+            if !push_digits(input, digits)? {
+                return Ok(false);
+            }
+        }
+    }
+    Ok(true)
+}
+
+/// Sets the bytes from a place on, and answers whether the line has a number, pairs of digits, and room for them.
+pub(crate) fn set_bytes(alloc: Global, input: &mut [u8], line: &str) -> Result<bool, AllocError> {
+    let Some((place, digits)) = split_times(line) else {
+        return Ok(false);
+    };
+    let mut bytes = Vec::new(alloc);
+    if !push_digits(&mut bytes, digits)? {
+        return Ok(false);
+    }
+    for (offset, byte) in bytes.iter().enumerate() {
+        match place.checked_add(offset).and_then(|at| input.get_mut(at)) {
+            Some(old) => *old = *byte,
+            None => return Ok(false),
+        }
+    }
+    Ok(true)
 }

@@ -1,0 +1,11 @@
+mod Causes
+mod LatePieces
+mod LinesRead
+mod PiecesRead
+mod RowsWithin
+mod SheetRows
+mod SheetTexts
+mod Shown
+mod StreamedRows
+mod Told
+mod Written

@@ -1,0 +1,145 @@
+-- Why a run shows no table, or not all of it.
+use Rattle.std.specs.Prelude.{◌≡◌, ◌⊎◌, ℕ, Bool, true, false, Option, Some, None, Result, Ok, Err}
+use Rattle.pg_stream.specs.declared.fault.StreamFault.{StreamFault}
+use Rattle.pg_stream.specs.declared.fault.StreamFault.TheVariants as stream
+use Rattle.ruled_csv.specs.declared.fault.RowsFault.{RowsFault}
+use Rattle.ruled_csv.specs.declared.fault.RowsFault.TheVariants as rows
+use Rattle.ruled_csv.specs.Faults as csv
+use Rattle.ruled_json.specs.declared.fault.JsonFault.{JsonFault}
+use Rattle.ruled_json.specs.declared.fault.JsonFault.TheVariants as json_faults
+use Rattle.ruled_json.specs.Faults as json
+use Rattle.ruled_sql.specs.declared.fault.QueryFault.TheVariants as query
+use Rattle.ruled_sql.specs.declared.fault.SqlFault.{SqlFault}
+use Rattle.ruled_sql.specs.declared.fault.SqlFault.TheVariants as sql
+use Rattle.ruled_table.specs.declared.fault.ViewFault.{ViewFault}
+use Rattle.ruled_table.specs.declared.fault.ViewFault.TheVariants as view
+use Rattle.ruled_io.specs.declared.fault.InputFault.{InputFault}
+use Rattle.ruled_io.specs.declared.fault.InputFault.TheVariants.{Rows, Json, Sql, NoQuery, Log, Stream, Column, Totals, Memory}
+use Rattle.ruled_io.specs.declared.fault.RunFault.{RunFault}
+use Rattle.ruled_io.specs.declared.fault.RunFault.TheVariants.{Input, Read, Closed, Write}
+
+-- ---- exit statuses
+
+abbrev pub status_of_input : InputFault → ℕ
+status_of_input (Rows fault) = 2
+status_of_input (Json fault) = 2
+status_of_input (Sql fault) = 2
+status_of_input NoQuery = 2
+status_of_input Log = 2
+status_of_input (Stream fault) = 2
+status_of_input (Column name) = 2
+status_of_input Totals = 3
+status_of_input Memory = 4
+
+-- 0 where nobody reads what is written
+abbrev pub status_of : RunFault → ℕ
+status_of (Input fault) = status_of_input fault
+status_of Read = 5
+status_of Closed = 0
+status_of Write = 5
+
+-- the exit status of a run that ended so
+abbrev pub status_after : Option RunFault → ℕ
+status_after None = 0
+status_after (Some fault) = status_of fault
+
+-- ---- kinds of faults
+
+-- whether a fault says that memory was refused, and not that the bytes or what is asked of them are wrong
+abbrev pub is_memory : InputFault → Bool
+is_memory (Rows fault) = false
+is_memory (Json fault) = false
+is_memory (Sql fault) = false
+is_memory NoQuery = false
+is_memory Log = false
+is_memory (Stream fault) = false
+is_memory (Column name) = false
+is_memory Totals = false
+is_memory Memory = true
+
+-- whether memory, a read or a write failed
+abbrev pub is_failure : RunFault → Bool
+is_failure (Input fault) = is_memory fault
+is_failure Read = true
+is_failure Closed = true
+is_failure Write = true
+
+-- whether a write failed
+abbrev pub is_of_write : RunFault → Bool
+is_of_write (Input fault) = false
+is_of_write Read = false
+is_of_write Closed = true
+is_of_write Write = true
+
+-- memory or a read failed
+abbrev pub IsOfRead : RunFault → Type 0
+IsOfRead fault = (fault ≡ Input Memory) ⊎ (fault ≡ Read)
+
+-- ---- what they tell
+
+-- a fault, but for the line on which its row begins, or on which it is seen
+abbrev pub but_line_in : InputFault → InputFault
+but_line_in (Rows fault) = Rows (csv.but_line fault)
+but_line_in (Json fault) = Json (json.but_line fault)
+but_line_in (Sql fault) = Sql fault
+but_line_in NoQuery = NoQuery
+but_line_in Log = Log
+but_line_in (Stream fault) = Stream fault
+but_line_in (Column name) = Column name
+but_line_in Totals = Totals
+but_line_in Memory = Memory
+
+abbrev pub but_line : RunFault → RunFault
+but_line (Input fault) = Input (but_line_in fault)
+but_line Read = Read
+but_line Closed = Closed
+but_line Write = Write
+
+-- a result tells the right fault, or that memory was refused; where it is an `Ok` there is none
+abbrev pub Tells : {X : Type 0} → Option InputFault → Result X InputFault → Type 0
+Tells right (Ok x) = right ≡ None
+Tells right (Err fault) = is_memory fault ≡ false → right ≡ Some (but_line_in fault)
+
+-- a run's result tells it, or that memory, a read or a write failed
+abbrev pub TellsRun : {X : Type 0} → Option RunFault → Result X RunFault → Type 0
+TellsRun right (Ok x) = right ≡ None
+TellsRun right (Err fault) = is_failure fault ≡ false → right ≡ Some (but_line fault)
+
+-- ---- faults of what is called
+
+abbrev pub fault_of_rows : RowsFault → InputFault
+fault_of_rows (rows.OpenQuote line) = Rows (rows.OpenQuote line)
+fault_of_rows (rows.BehindQuote line) = Rows (rows.BehindQuote line)
+fault_of_rows (rows.Length row line fields columns) = Rows (rows.Length row line fields columns)
+fault_of_rows (rows.Encoding row line) = Rows (rows.Encoding row line)
+fault_of_rows rows.Memory = Memory
+
+abbrev pub fault_of_json : JsonFault → InputFault
+fault_of_json (json_faults.Encoding place) = Json (json_faults.Encoding place)
+fault_of_json (json_faults.Syntax place) = Json (json_faults.Syntax place)
+fault_of_json json_faults.NoRecords = Json json_faults.NoRecords
+fault_of_json (json_faults.NoObject place) = Json (json_faults.NoObject place)
+fault_of_json json_faults.Memory = Memory
+
+abbrev pub fault_of_sql : SqlFault → InputFault
+fault_of_sql sql.Database = Sql sql.Database
+fault_of_sql sql.Damage = Sql sql.Damage
+fault_of_sql (sql.Query (query.Refused error)) = Sql (sql.Query (query.Refused error))
+fault_of_sql (sql.Query query.Change) = Sql (sql.Query query.Change)
+fault_of_sql (sql.Query (query.Encoding row)) = Sql (sql.Query (query.Encoding row))
+fault_of_sql (sql.Query query.Memory) = Memory
+fault_of_sql sql.Memory = Memory
+
+abbrev pub fault_of_view : ViewFault → InputFault
+fault_of_view (view.Column name) = Column name
+fault_of_view view.Totals = Totals
+fault_of_view view.Memory = Memory
+
+abbrev pub of_view : ViewFault → RunFault
+of_view fault = Input (fault_of_view fault)
+
+abbrev pub fault_of_stream : StreamFault → RunFault
+fault_of_stream (stream.Misfit misfit) = Input Totals
+fault_of_stream (stream.Row row) = Input Totals
+fault_of_stream stream.Open = Input Totals
+fault_of_stream stream.Memory = Input Memory

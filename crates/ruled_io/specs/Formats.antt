@@ -1,0 +1,82 @@
+-- The format of bytes, by its name or by what they show.
+use Rattle.std.specs.Prelude.{ℕ, ◌==◌, ◌&&◌, ◌||◌, ◌++◌, ◌∷◌, [], not, codes, bytes_eq, nat_eq, List, find, take, position, Bool, Option, Some, None, if◌then◌else◌}
+use Rattle.std.specs.List.{list_any, starts_with}
+use Rattle.std.specs.Option.{option_map_or}
+use Rattle.csv.specs.Reading.{strip_bom}
+use Rattle.json.specs.Word.{is_space}
+use Rattle.ruled_json.specs.Faults.{is_value}
+use Rattle.ruled_io.specs.declared.formats.Format.{Format}
+use Rattle.ruled_io.specs.declared.formats.Format.TheVariants.{Separated, Json, JsonLines}
+use Rattle.ruled_io.specs.declared.formats.Kind.{Kind}
+use Rattle.ruled_io.specs.declared.formats.Kind.TheVariants.{Rows, Database}
+
+-- ---- names
+
+abbrev pub kind_named : List ℕ → Option Kind
+kind_named name =
+    if bytes_eq name (codes "csv") then Some (Rows (Separated 44))
+    else if bytes_eq name (codes "tsv") || bytes_eq name (codes "tab") then Some (Rows (Separated 9))
+    else if bytes_eq name (codes "json") then Some (Rows Json)
+    else if bytes_eq name (codes "jsonl") || bytes_eq name (codes "ndjson") then Some (Rows JsonLines)
+    else if bytes_eq name (codes "sqlite") || bytes_eq name (codes "sqlite3") || bytes_eq name (codes "db") then Some Database
+    else None
+
+-- ---- what bytes show
+
+-- the first byte that is no space, tab, line feed or carriage return
+abbrev pub first_sign : List ℕ → Option ℕ
+first_sign bytes = find (λ byte. not (is_space byte)) bytes
+
+-- what stands in front of the first line feed
+abbrev pub first_line : List ℕ → List ℕ
+first_line bytes = option_map_or (λ feed. take feed bytes) (position (λ byte. byte == 10) bytes) bytes
+
+abbrev pub has : ℕ → List ℕ → Bool
+has byte bytes = list_any (λ other. other == byte) bytes
+
+-- a tab where the first line has one and no comma, else a comma
+abbrev pub delimiter_seen : List ℕ → ℕ
+delimiter_seen bytes = if has 9 (first_line bytes) && not (has 44 (first_line bytes)) then 9 else 44
+
+-- what begins with an opening brace is one JSON value, where it is one, and else a value on each line
+abbrev pub format_of_braces : List ℕ → Format
+format_of_braces bytes = if is_value bytes then Json else JsonLines
+
+-- what begins with an opening bracket is JSON, and what begins with neither has its fields apart
+abbrev pub format_from : Option ℕ → List ℕ → Format
+format_from None bytes = Separated (delimiter_seen bytes)
+format_from (Some sign) bytes =
+    if sign == 91 then Json
+    else if sign == 123 then format_of_braces bytes
+    else Separated (delimiter_seen bytes)
+
+-- the format that bytes show
+abbrev pub format_seen : List ℕ → Format
+format_seen bytes = format_from (first_sign bytes) bytes
+
+-- the format that is told, or else the one that the bytes show, without a byte order mark at their front
+abbrev pub format_in : Option Format → List ℕ → Format
+format_in (Some format) bytes = format
+format_in None bytes = format_seen (strip_bom bytes)
+
+-- what the file of a database of SQLite begins with
+abbrev pub mark : List ℕ
+mark = codes "SQLite format 3" ++ 0 ∷ []
+
+abbrev pub is_database : List ℕ → Bool
+is_database bytes = starts_with nat_eq bytes mark
+
+-- ---- rows that are shown one after another
+
+-- what begins with an opening brace has a value on each line
+abbrev pub format_from_line : Option ℕ → List ℕ → Format
+format_from_line None line = Separated (delimiter_seen line)
+format_from_line (Some sign) line =
+    if sign == 91 then Json
+    else if sign == 123 then JsonLines
+    else Separated (delimiter_seen line)
+
+-- the format that is told, or else the one that the first line shows
+abbrev pub format_of_line : Option Format → List ℕ → Format
+format_of_line (Some format) line = format
+format_of_line None line = format_from_line (first_sign (strip_bom line)) (strip_bom line)

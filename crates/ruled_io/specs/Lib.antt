@@ -1,0 +1,10 @@
+pub mod Faults
+pub mod Formats
+pub mod Input
+pub mod LateRows
+pub mod Pieces
+pub mod Requests
+pub mod Runs
+pub mod Sheet
+pub mod Stream
+pub mod Writing

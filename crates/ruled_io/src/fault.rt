@@ -1,0 +1,312 @@
+//! Why a run shows no table, or not all of it.
+
+ghost use Rattle.std.specs.Prelude.{◌≡◌};
+ghost use Rattle.ruled_io.specs.Faults as spec;
+ghost use Rattle.ruled_io.specs.declared.fault.InputFault.TheVariants.{Memory};
+ghost use Rattle.ruled_io.specs.declared.fault.RunFault.TheVariants.{Input};
+
+use crate::request::{Log, Request};
+use pg_stream::StreamFault;
+use ruled_csv::RowsFault;
+use ruled_json::{JsonFault, Place};
+use ruled_sql::{QueryFault, SqlFault};
+use ruled_table::ViewFault;
+use std::alloc::{AllocError, AllocFailed};
+use std::io::Write;
+use std::{fmt, io};
+
+/// Why rows can't be shown one after another.
+#[derive(Clone, Copy)]
+pub enum StreamedFault {
+    /// One value of JSON holds all rows.
+    Value,
+    /// The input is a database.
+    Database,
+    /// The first pieces of the input have no row.
+    NoRow,
+    /// The object on this line, counted from 1, has a member that none of the first ones has.
+    Member { line: usize },
+}
+
+/// Why an input has no table: its bytes, what is asked of it, or want of memory.
+#[derive(Clone, Copy)]
+pub enum InputFault {
+    /// The bytes of separated values hold no rows.
+    Rows(RowsFault),
+    /// The bytes of JSON hold no rows.
+    Json(JsonFault),
+    /// The database can't be opened, or the query has no rows.
+    Sql(SqlFault),
+    /// The input is a database, and no query says which rows are shown.
+    NoQuery,
+    /// Rows of the database may stand in a log that isn't read.
+    Log,
+    /// Rows can't be shown one after another.
+    Stream(StreamedFault),
+    /// Row 0 has no field of this name, of those that [`ruled_table::Options::columns`] lists, counted from 0.
+    Column(usize),
+    /// The sizes of the table are too large.
+    Totals,
+    /// Memory was refused.
+    Memory,
+}
+
+/// Why a run shows no table, or not all of it.
+#[derive(Clone, Copy)]
+pub enum RunFault {
+    /// The input has no table.
+    Input(InputFault),
+    /// A read failed.
+    Read,
+    /// Nobody reads what is written.
+    Closed,
+    /// A write failed.
+    Write,
+}
+
+impl From<AllocError> for InputFault {
+    ghost from_gives = { λ _ fault. fault ≡ Memory };
+
+    fn from(_error: AllocError) -> InputFault {
+        InputFault::Memory
+    }
+}
+
+impl<T: Drop> From<AllocFailed<T>> for InputFault {
+    ghost from_gives = { λ _ fault. fault ≡ Memory };
+
+    fn from(_error: AllocFailed<T>) -> InputFault {
+        InputFault::Memory
+    }
+}
+
+impl From<RowsFault> for InputFault {
+    ghost from_gives = { λ found fault. fault ≡ spec.fault_of_rows found };
+
+    fn from(fault: RowsFault) -> InputFault {
+        match fault {
+            RowsFault::Memory => InputFault::Memory,
+            _ => InputFault::Rows(fault),
+        }
+    }
+}
+
+impl From<JsonFault> for InputFault {
+    ghost from_gives = { λ found fault. fault ≡ spec.fault_of_json found };
+
+    fn from(fault: JsonFault) -> InputFault {
+        match fault {
+            JsonFault::Memory => InputFault::Memory,
+            _ => InputFault::Json(fault),
+        }
+    }
+}
+
+impl From<SqlFault> for InputFault {
+    ghost from_gives = { λ found fault. fault ≡ spec.fault_of_sql found };
+
+    fn from(fault: SqlFault) -> InputFault {
+        match fault {
+            SqlFault::Memory | SqlFault::Query(QueryFault::Memory) => InputFault::Memory,
+            _ => InputFault::Sql(fault),
+        }
+    }
+}
+
+impl From<ViewFault> for InputFault {
+    ghost from_gives = { λ found fault. fault ≡ spec.fault_of_view found };
+
+    fn from(fault: ViewFault) -> InputFault {
+        match fault {
+            ViewFault::Column(name) => InputFault::Column(name),
+            ViewFault::Totals => InputFault::Totals,
+            ViewFault::Memory => InputFault::Memory,
+        }
+    }
+}
+
+impl From<InputFault> for RunFault {
+    ghost from_gives = { λ found fault. fault ≡ Input found };
+
+    fn from(fault: InputFault) -> RunFault {
+        RunFault::Input(fault)
+    }
+}
+
+impl From<AllocError> for RunFault {
+    ghost from_gives = { λ _ fault. fault ≡ Input Memory };
+
+    fn from(_error: AllocError) -> RunFault {
+        RunFault::Input(InputFault::Memory)
+    }
+}
+
+impl<T: Drop> From<AllocFailed<T>> for RunFault {
+    ghost from_gives = { λ _ fault. fault ≡ Input Memory };
+
+    fn from(_error: AllocFailed<T>) -> RunFault {
+        RunFault::Input(InputFault::Memory)
+    }
+}
+
+impl From<ViewFault> for RunFault {
+    ghost from_gives = { λ found fault. fault ≡ spec.of_view found };
+
+    fn from(fault: ViewFault) -> RunFault {
+        RunFault::Input(InputFault::from(fault))
+    }
+}
+
+impl From<StreamFault> for RunFault {
+    ghost from_gives = { λ found fault. fault ≡ spec.fault_of_stream found };
+
+    fn from(fault: StreamFault) -> RunFault {
+        match fault {
+            StreamFault::Memory => RunFault::Input(InputFault::Memory),
+            _ => RunFault::Input(InputFault::Totals),
+        }
+    }
+}
+
+/// Writes what is wrong.
+impl fmt::Display for StreamedFault {
+    fn fmt<W: fmt::Write>(&self, f: &mut fmt::Formatter<W>) -> fmt::Result {
+        match self {
+            StreamedFault::Value => write!(f, "one value of JSON can't be streamed"),
+            StreamedFault::Database => write!(f, "a database can't be streamed"),
+            StreamedFault::NoRow => write!(f, "the first lines have no row"),
+            StreamedFault::Member { line } => write!(
+                f,
+                "line {line}: a member that none of the first rows has"
+            ),
+        }
+    }
+}
+
+// A fault of rows that stand behind so many lines.
+fn rows_behind(fault: RowsFault, lines: usize) -> RowsFault {
+    match fault {
+        RowsFault::OpenQuote { line } => RowsFault::OpenQuote {
+            line: line.saturating_add(lines),
+        },
+        RowsFault::BehindQuote { line } => RowsFault::BehindQuote {
+            line: line.saturating_add(lines),
+        },
+        RowsFault::Length {
+            row,
+            line,
+            fields,
+            columns,
+        } => RowsFault::Length {
+            row,
+            line: line.saturating_add(lines),
+            fields,
+            columns,
+        },
+        RowsFault::Encoding { row, line } => RowsFault::Encoding {
+            row,
+            line: line.saturating_add(lines),
+        },
+        RowsFault::Memory => RowsFault::Memory,
+    }
+}
+
+// A place behind so many lines.
+fn place_behind(place: Place, lines: usize) -> Place {
+    match place {
+        Place::Line(line) => Place::Line(line.saturating_add(lines)),
+        _ => place,
+    }
+}
+
+// A fault of JSON that stands behind so many lines.
+fn json_behind(fault: JsonFault, lines: usize) -> JsonFault {
+    match fault {
+        JsonFault::Encoding(place) => JsonFault::Encoding(place_behind(place, lines)),
+        JsonFault::Syntax(place) => JsonFault::Syntax(place_behind(place, lines)),
+        JsonFault::NoObject(place) => JsonFault::NoObject(place_behind(place, lines)),
+        JsonFault::NoRecords | JsonFault::Memory => fault,
+    }
+}
+
+impl InputFault {
+    /// This fault, of rows that stand behind so many lines.
+    pub(crate) fn behind(self, lines: usize) -> InputFault
+        ensures { spec.is_memory result ≡ spec.is_memory self }
+    {
+        match self {
+            InputFault::Rows(fault) => InputFault::Rows(rows_behind(fault, lines)),
+            InputFault::Json(fault) => InputFault::Json(json_behind(fault, lines)),
+            InputFault::Stream(StreamedFault::Member { line }) => {
+                InputFault::Stream(StreamedFault::Member {
+                    line: line.saturating_add(lines),
+                })
+            }
+            _ => self,
+        }
+    }
+
+    // The exit status that tells of it.
+    fn status(self) -> u8
+        ensures { result ≡ spec.status_of_input self }
+    {
+        match self {
+            InputFault::Totals => 3,
+            InputFault::Memory => 4,
+            _ => 2,
+        }
+    }
+
+    // Writes the line that tells of it. An error is the writer's.
+    fn tell<W: Write>(self, request: &Request, err: &mut W) -> io::Result<()> {
+        match self {
+            InputFault::Rows(fault) => writeln!(err, "{fault}"),
+            InputFault::Json(fault) => writeln!(err, "{fault}"),
+            InputFault::Sql(fault) => writeln!(err, "{fault}"),
+            InputFault::NoQuery => writeln!(
+                err,
+                "of a database --query says which rows, as --query 'select name from sqlite_schema'"
+            ),
+            InputFault::Log => writeln!(err, "{}", words_of(request.source.log())),
+            InputFault::Stream(fault) => writeln!(err, "{fault}"),
+            InputFault::Column(name) => {
+                let name = request.view.columns.get(name);
+                writeln!(err, "no column {}", name.map_or("", |name| name.as_str()))
+            }
+            InputFault::Totals => writeln!(err, "the sizes are too large"),
+            InputFault::Memory => writeln!(err, "out of memory"),
+        }
+    }
+}
+
+// What is said of a log that isn't read.
+fn words_of(log: Log) -> &'static str {
+    match log {
+        Log::Unknown => "a database in WAL mode, whose log can't be seen",
+        _ => "a log beside the database may have rows that its file lacks",
+    }
+}
+
+impl RunFault {
+    /// The exit status that tells of it: 0 where nobody reads what is written.
+    pub fn status(self) -> u8
+        ensures { result ≡ spec.status_of self }
+    {
+        match self {
+            RunFault::Input(fault) => fault.status(),
+            RunFault::Closed => 0,
+            RunFault::Read | RunFault::Write => 5,
+        }
+    }
+
+    // Writes the line that tells of it. An error is the writer's.
+    pub(crate) fn tell<W: Write>(self, request: &Request, err: &mut W) -> io::Result<()> {
+        write!(err, "ruled: ")?;
+        match self {
+            RunFault::Input(fault) => fault.tell(request, err)?,
+            RunFault::Read => writeln!(err, "read failed")?,
+            RunFault::Closed | RunFault::Write => writeln!(err, "write failed")?,
+        }
+        err.flush()
+    }
+}

@@ -1,0 +1,42 @@
+//! The rows that an input holds.
+
+ghost use Rattle.std.specs.Prelude.{◌≡◌, map, IfOk};
+ghost use Rattle.csv.specs.Records.{fields_of};
+ghost use Rattle.ruled_io.specs.Faults.{Tells};
+ghost use Rattle.ruled_io.specs.Input.{format_fault, input_fault, rows_in, rows_of};
+
+use crate::fault::InputFault;
+use crate::formats::{Format, format_in};
+use csv::StringRecord;
+use ruled_csv::{read_rows, without_mark};
+use ruled_json::read_line_rows;
+use std::alloc::Global;
+
+/// The rows that bytes of this format hold.
+pub(crate) fn rows_of(
+    alloc: Global,
+    format: Format,
+    bytes: &[u8],
+) -> Result<Vec<StringRecord>, InputFault>
+    ensures rows { IfOk result (λ rows. map fields_of rows.items ≡ rows_of format bytes.now) }
+    ensures fault { Tells (format_fault format bytes.now) result }
+{
+    match format {
+        Format::Separated(delimiter) => Ok(read_rows(alloc, delimiter, bytes)?),
+        Format::Json => Ok(ruled_json::read_rows(alloc, without_mark(bytes))?),
+        Format::JsonLines => Ok(read_line_rows(alloc, without_mark(bytes))?),
+    }
+}
+
+/// The rows that bytes hold, of which the first is row 0, or why there are none.
+pub(crate) fn rows_in(
+    alloc: Global,
+    told: Option<Format>,
+    bytes: &[u8],
+) -> Result<Vec<StringRecord>, InputFault>
+    ensures rows { IfOk result (λ rows. map fields_of rows.items ≡ rows_in told bytes.now) }
+    ensures fault { Tells (input_fault told bytes.now) result }
+{
+    let format = format_in(alloc, told, bytes)?;
+    rows_of(alloc, format, bytes)
+}

@@ -1,0 +1,21 @@
+//! A run of the command `ruled`: a request, a reader and two writers in, the table of the rows that are asked of the
+//! input out, all at once or row by row. All that is read and written of the command is here.
+#![tactic(auto)]
+
+mod fault;
+mod formats;
+mod input;
+mod late_rows;
+mod pieces;
+mod program;
+mod request;
+mod sheet;
+mod stream;
+mod text;
+mod write;
+
+pub use crate::fault::{InputFault, RunFault, StreamedFault};
+pub use crate::formats::{Format, Kind};
+pub use crate::program::{Ending, run};
+pub use crate::request::{Log, Request, Rows, Source};
+pub use crate::text::view;

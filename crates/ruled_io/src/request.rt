@@ -1,0 +1,125 @@
+//! What is asked of a run.
+
+ghost use Rattle.std.specs.Prelude.{◌≡◌, option_map};
+ghost use Rattle.ruled_io.specs.Requests as spec;
+
+use crate::formats::{Format, is_database};
+use ruled_sql::keeps_log;
+use ruled_table::Options;
+
+/// What is known of the logs beside the file of a database.
+#[derive(Clone, Copy)]
+pub enum Log {
+    /// None has rows.
+    Empty,
+    /// One may have rows that the file lacks.
+    Filled,
+    /// They can't be seen, as those of standard input. Rows may stand in one where the database is in
+    /// WAL mode.
+    Unknown,
+}
+
+impl Log {
+    // Whether rows of the database with these bytes may stand in a log.
+    pub(crate) fn hides_rows(self, bytes: &[u8]) -> bool
+        ensures { result ≡ spec.hides_rows self bytes.now }
+    {
+        match self {
+            Log::Empty => false,
+            Log::Filled => true,
+            Log::Unknown => keeps_log(bytes),
+        }
+    }
+}
+
+/// What an input is.
+#[derive(Drop)]
+pub enum Source {
+    /// Rows in this format.
+    Rows(Format),
+    /// Rows in the format that the first bytes show: what begins with `[` is JSON; what begins with `{` is JSON
+    /// where it is one value, and else JSON lines; anything else has tabs between its fields where the first line
+    /// has a tab and no comma, and else commas. A database, which the first bytes show, too, is refused, since no
+    /// query says which of its rows are shown.
+    Seen(Log),
+    /// A database of SQLite, of which this statement of SQL says which rows are shown. Without one it is refused.
+    Database { query: Option<String>, log: Log },
+}
+
+impl Source {
+    // The format of its rows, where it is told.
+    pub(crate) fn format(&self) -> Option<Format>
+        ensures { result ≡ spec.format_told self.now }
+    {
+        match self {
+            Source::Rows(format) => Some(*format),
+            Source::Seen(_) | Source::Database { .. } => None,
+        }
+    }
+
+    // Whether it is a database, where these are its bytes, or the first of them.
+    pub(crate) fn is_database(&self, bytes: &[u8]) -> bool
+        ensures { result ≡ spec.holds_database self.now bytes.now }
+    {
+        match self {
+            Source::Rows(_) => false,
+            Source::Seen(_) => is_database(bytes),
+            Source::Database { .. } => true,
+        }
+    }
+
+    // The query of a database, where there is one.
+    pub(crate) fn query(&self) -> Option<&str>
+        ensures { option_map (λ query. query.now) result ≡ spec.query_of self.now }
+    {
+        match self {
+            Source::Database {
+                query: Some(query),
+                ..
+            } => Some(query.as_str()),
+            _ => None,
+        }
+    }
+
+    /// What is known of its logs.
+    pub fn log(&self) -> Log
+        ensures { result ≡ spec.log_of self.now }
+    {
+        match self {
+            Source::Rows(_) => Log::Empty,
+            Source::Seen(log) => *log,
+            Source::Database { log, .. } => *log,
+        }
+    }
+
+    /// Takes what is known of the logs beside its file.
+    pub fn set_log(&mut self, known: Log)
+        ensures { self.new ≡ spec.with_log known self.old }
+    {
+        match self {
+            Source::Rows(_) => {}
+            Source::Seen(log) => *log = known,
+            Source::Database { log, .. } => *log = known,
+        }
+    }
+}
+
+/// When rows are shown.
+#[derive(Clone, Copy)]
+pub enum Rows {
+    /// All at once, behind the last one.
+    AtOnce,
+    /// Each when it comes, with the widths and the sides of the first so many, at least one, and of a header.
+    FromFirst(usize),
+}
+
+/// What is asked of a run.
+#[derive(Drop)]
+pub struct Request {
+    /// What the input is.
+    pub source: Source,
+    /// When its rows are shown.
+    pub rows: Rows,
+    /// How they are shown.
+    pub view: Options,
+}

@@ -1,0 +1,52 @@
+use Rattle.std.proofs.Common.{◌≡◌, ◌∙◌, ℕ, List, None, Ok, Option, ap}
+use Rattle.pg_layout.specs.Records.{columns_of}
+use Rattle.pg_layout.specs.Text.{Text}
+use Rattle.pg_picture.specs.Table.{Table}
+use Rattle.pg_fit.specs.Overlaid.{overlaid}
+use Rattle.pg_table.specs.Fitted.{fit_fault, fit_fault_of, fitted_of, fitted_table, fitted_texts}
+use Rattle.pg_table.specs.Printing.{sizes_fault}
+use Rattle.pg_table.specs.Spanning.{spanned_widths}
+use Rattle.pg_table.specs.declared.fault.TableFault.{TableFault}
+use Rattle.ruled_table.specs.Bounds.{limits_of, width_of}
+use Rattle.ruled_table.specs.LentRows.{texts_of}
+use Rattle.ruled_table.specs.declared.lent_rows.LentRows.{LentRows}
+use Rattle.ruled_table.proofs.Sizes.{drawn-sizes-fault, later-table-told, table-told, widths-are}
+use Rattle.ruled_table.proofs.widths.fitted_sizes.Goals as goal
+
+abbrev columns_in : LentRows → ℕ
+columns_in records = columns_of (texts_of records)
+
+pub returns-clause-fault : goal.returns-clause-fault
+returns-clause-fault c =
+    let bounds = c.args.bounds.now in
+    let config = c.args.config.now in
+    let texts : List (List Text) = texts_of c.args.records in
+    let columns : ℕ = columns_of texts in
+    let fitted = c.in_ok-fitted.fitted in
+    let table : ℕ → List ℕ → Table = λ width limits. fitted_table bounds.overflow width limits config texts columns (λ place. None) in
+    let limits : c.deref.result.now ≡ limits_of bounds.limits.items columns = c.deref.ensures.value ∙ c.in_ok-limits.ensures ∙ ap (limits_of bounds.limits.items) c.count_columns.ensures.value in
+    let drawn =
+    c.in_ok-fitted.ensures.table
+    ∙ ap (λ parts. fitted_of bounds.overflow c.width.result c.deref.result.now texts_of columns_in (λ colors place. None) parts) c.new-table.ensures
+    ∙ ap (λ (n : ℕ). table n c.deref.result.now) c.width.ensures
+    ∙ ap (table (width_of bounds.width)) limits
+    in
+    let all : List ℕ = limits_of bounds.limits.items columns in
+    let later : Option TableFault = sizes_fault config (fitted_texts bounds.overflow (width_of bounds.width) all config texts columns) columns in
+    let same = drawn-sizes-fault fitted.widths.items (spanned_widths bounds.overflow (width_of bounds.width) all config texts columns) fitted.config.now config (overlaid texts_of columns_in fitted.records) (fitted_texts bounds.overflow (width_of bounds.width) all config texts columns) (columns_in fitted.records.records) columns (λ place. None) (λ place. None) drawn in
+    let none = table-told (fit_fault config texts columns) _ (Ok fitted) (ap (λ parts. fit_fault_of texts_of columns_in parts) c.new-table.ensures) c.in_ok-fitted.ensures.fault c.in_ok-fitted.ensures.memory in
+    later-table-told (fit_fault config texts columns) later c.natural_dimension.result none (table-told later _ c.natural_dimension.result same c.natural_dimension.ensures.fault c.natural_dimension.ensures.memory)
+
+pub returns-clause-widths : goal.returns-clause-widths
+returns-clause-widths c =
+    let bounds = c.args.bounds.now in
+    let config = c.args.config.now in
+    let texts : List (List Text) = texts_of c.args.records in
+    let table : ℕ → List ℕ → Table = λ width limits. fitted_table bounds.overflow width limits config texts (columns_of texts) (λ place. None) in
+    let limits : c.deref.result.now ≡ limits_of bounds.limits.items (columns_of texts) = c.deref.ensures.value ∙ c.in_ok-limits.ensures ∙ ap (limits_of bounds.limits.items) c.count_columns.ensures.value in
+    let drawn =
+    c.in_ok-fitted.ensures.table
+    ∙ ap (λ parts. fitted_of bounds.overflow c.width.result c.deref.result.now texts_of columns_in (λ colors place. None) parts) c.new-table.ensures
+    in
+    widths-are c.natural_dimension.result _ (table (width_of bounds.width) (limits_of bounds.limits.items (columns_of texts))).width c.natural_dimension.ensures.widths
+    (ap (λ (t : Table). t.width) (drawn ∙ ap (λ (n : ℕ). table n c.deref.result.now) c.width.ensures ∙ ap (table (width_of bounds.width)) limits))

@@ -1,0 +1,12 @@
+pub mod Blocks
+pub mod Bounds
+pub mod Columns
+pub mod Escapes
+pub mod Faults
+pub mod LentRows
+pub mod Look
+pub mod Numbers
+pub mod Sides
+pub mod Tables
+pub mod View
+pub mod Widths

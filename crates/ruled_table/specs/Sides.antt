@@ -1,0 +1,48 @@
+-- At which side of its cells the texts of a column stand.
+use Rattle.std.specs.Prelude.{ℕ, ◌||◌, Bool, List, [], drop, slice_index_or, fold, Option, unwrap_or, if◌then◌else◌}
+use Rattle.std.specs.List.{list_all, range_with_len}
+use Rattle.pg_layout.specs.Records.{columns_of}
+use Rattle.pg_layout.specs.Text.{Text}
+use Rattle.pg_layout.specs.declared.alignment.AlignmentHorizontal.{AlignmentHorizontal}
+use Rattle.pg_layout.specs.declared.alignment.AlignmentHorizontal.TheVariants.{Left, Center, Right}
+use Rattle.pg_layout.specs.declared.position.Entity.TheVariants.{Column}
+use Rattle.pg_config.specs.Config.{Config}
+use Rattle.pg_config.specs.Settings.{Settings, with_setting}
+use Rattle.ruled_table.specs.Columns.{told_of}
+use Rattle.ruled_table.specs.Numbers.{is_blank, is_number}
+
+-- ---- columns of numbers
+
+-- the rows below a header
+abbrev pub body_of : {X : Type 0} → Bool → List X → List X
+body_of has_header rows = if has_header then drop 1 rows else rows
+
+abbrev pub is_numeric_text : Text → Bool
+is_numeric_text text = is_blank text || is_number text
+
+-- each text of the column is a number or blank
+abbrev pub is_numeric : List (List Text) → ℕ → Bool
+is_numeric rows column = list_all (λ row. is_numeric_text (slice_index_or row column [])) rows
+
+-- ---- sides
+
+-- where nothing is said, numbers stand at the right
+abbrev pub side_of : Bool → List (Option AlignmentHorizontal) → List (List Text) → ℕ → AlignmentHorizontal
+side_of has_header sides rows column =
+    unwrap_or (told_of sides column) (if is_numeric (body_of has_header rows) column then Right else Left)
+
+-- ---- their settings
+
+-- the left is where texts stand without a setting
+abbrev pub with_side : ℕ → AlignmentHorizontal → Settings AlignmentHorizontal → Settings AlignmentHorizontal
+with_side column Left settings = settings
+with_side column Center settings = with_setting (Column column) Center settings
+with_side column Right settings = with_setting (Column column) Right settings
+
+-- so many columns at these sides
+abbrev pub with_sides : (ℕ → AlignmentHorizontal) → ℕ → Settings AlignmentHorizontal → Settings AlignmentHorizontal
+with_sides side columns settings = fold (λ settings column. with_side column (side column) settings) settings (range_with_len 0 columns)
+
+-- the columns of these rows at their sides
+abbrev pub sided : Bool → List (Option AlignmentHorizontal) → List (List Text) → Config → Config
+sided has_header sides rows config = record config { alignment_horizontal = with_sides (side_of has_header sides rows) (columns_of rows) config.alignment_horizontal }

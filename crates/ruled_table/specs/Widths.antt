@@ -1,0 +1,90 @@
+-- What a table looks like whose first rows are known, and the texts of the others within its columns.
+use Rattle.std.specs.Prelude.{◌≡◌, ◌≢◌, ℕ, ◌+◌, ◌-◌, nat_le, List, [], ◌∷◌, length, slice_index_or, Option, Some, None, Result, Ok, Err, if◌then◌else◌}
+use Rattle.std.specs.Option.{option_or}
+use Rattle.pg_layout.specs.Records.{columns_of}
+use Rattle.pg_layout.specs.Text.{Text, text_width_of}
+use Rattle.pg_layout.specs.declared.dimension.ConstantDimension.{ConstantDimension}
+use Rattle.pg_config.specs.Config.{Config}
+use Rattle.pg_fit.specs.Cutting.{cut_text}
+use Rattle.pg_fit.specs.Wrapping.{wrapped}
+use Rattle.pg_picture.specs.Table.{Table}
+use Rattle.pg_table.specs.Fitted.{fit_fault, fitted_texts}
+use Rattle.pg_table.specs.Natural as natural
+use Rattle.pg_table.specs.Printing.{sizes_fault}
+use Rattle.pg_table.specs.declared.fault.TableFault.{TableFault}
+use Rattle.pg_table.specs.declared.fault.TableFault.TheVariants as table
+use Rattle.pg_table.specs.declared.overflow.Overflow.{Overflow}
+use Rattle.pg_table.specs.declared.overflow.Overflow.TheVariants.{Wrap, Cut}
+use Rattle.pg_table.specs.declared.sizes.Axis.TheVariants.{Columns}
+use Rattle.ruled_table.specs.Bounds.{are_told, bounded_table, fitted_within, limits_of, width_of}
+use Rattle.ruled_table.specs.Tables.{with_line}
+use Rattle.ruled_table.specs.View.{line_in, sided_config}
+use Rattle.ruled_table.specs.declared.bounds.Bounds.{Bounds}
+use Rattle.ruled_table.specs.declared.options.Options.{Options}
+
+-- ---- its look
+
+-- what the table of these rows looks like
+abbrev pub first_config : Options → List (List Text) → Config
+first_config options rows = with_line (line_in options) (length rows) (columns_of rows) (sided_config options rows)
+
+-- ---- the widths of its columns
+
+-- the widths that sizes tell
+abbrev pub widths_in : {A : Type 0} → ConstantDimension A → ℕ → ℕ
+widths_in sizes = λ column. slice_index_or sizes.0.items column 0
+
+-- those of the table of these rows: at its natural sizes, within bounds, and within them where some are told
+abbrev pub natural_widths : Config → List (List Text) → List ℕ
+natural_widths config rows = natural.natural_sizes Columns config rows (columns_of rows)
+
+abbrev pub fitted_widths : Bounds → Config → List (List Text) → ℕ → ℕ
+fitted_widths bounds config rows = (fitted_within bounds config rows).width
+
+abbrev pub widths_of : Bounds → Config → List (List Text) → ℕ → ℕ
+widths_of bounds config rows = (bounded_table bounds config rows).width
+
+-- why they aren't told: within bounds that of the texts that are fitted to them
+abbrev pub natural_fault : Config → List (List Text) → Option TableFault
+natural_fault config rows = sizes_fault config rows (columns_of rows)
+
+abbrev pub fitted_fault : Bounds → Config → List (List Text) → Option TableFault
+fitted_fault bounds config rows =
+    let texts = fitted_texts bounds.overflow (width_of bounds.width) (limits_of bounds.limits.items (columns_of rows)) config rows (columns_of rows) in
+    option_or (fit_fault config rows (columns_of rows)) (sizes_fault config texts (columns_of rows))
+
+abbrev pub widths_fault : Bounds → Config → List (List Text) → Option TableFault
+widths_fault bounds config rows = if are_told bounds then fitted_fault bounds config rows else natural_fault config rows
+
+-- ---- texts within their columns
+
+-- a text of which a line is wider than its column, cut to it
+abbrev pub narrowed : ℕ → Text → Text
+narrowed width text = if nat_le (text_width_of text) width then text else cut_text width (226 ∷ 128 ∷ 166 ∷ []) text
+
+abbrev pub overflowed : Overflow → ℕ → Text → Text
+overflowed (Wrap breaking) width text = narrowed width (wrapped breaking width text)
+overflowed (Cut tail) width text = cut_text width tail.now text
+
+-- a text as it is where it has room, and else wrapped, or cut
+abbrev pub text_within : Overflow → ℕ → Text → Text
+text_within overflow width text = if nat_le (text_width_of text) width then text else overflowed overflow width text
+
+-- a space stands at each side of a text
+abbrev pub room_of : (ℕ → ℕ) → ℕ → ℕ
+room_of width column = width column - 2
+
+-- the texts of a row from column k on
+abbrev pub texts_within : ℕ → Overflow → (ℕ → ℕ) → List Text → List Text
+texts_within k overflow width [] = []
+texts_within k overflow width (text ∷ texts) = text_within overflow (room_of width k) text ∷ texts_within (k + 1) overflow width texts
+
+abbrev pub row_within : Overflow → (ℕ → ℕ) → List Text → List Text
+row_within overflow width row = texts_within 0 overflow width row
+
+-- ---- as contracts see it
+
+-- an answer is the fault of a table, or tells that memory was refused
+abbrev pub TellsTable : {X : Type 0} → Option TableFault → Result X TableFault → Type 0
+TellsTable right (Ok x) = right ≡ None
+TellsTable right (Err fault) = fault ≢ table.Memory → right ≡ Some fault

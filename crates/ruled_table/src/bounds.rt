@@ -1,0 +1,93 @@
+//! How wide a table may be.
+
+ghost use Rattle.std.specs.Prelude.{◌≡◌, ◌≢◌, string_bytes, Err, IfOk, IsOk, None, is_none, false};
+ghost use Rattle.pg_picture.specs.Picture.{picture};
+ghost use Rattle.pg_picture.specs.Table.{Known};
+ghost use Rattle.pg_table.specs.declared.fault.TableFault.{TableFault};
+ghost use Rattle.pg_layout.specs.Records.{columns_of};
+ghost use Rattle.ruled_table.specs.Bounds as spec;
+ghost use Rattle.ruled_table.specs.LentRows.{texts_of};
+
+use crate::columns::told_of;
+use crate::lent_rows::LentRows;
+use pg_config::SpannedConfig;
+use pg_layout::{NoColors, Records};
+use pg_table::{NaturalTable, Overflow, TableFault};
+use std::alloc::{AllocError, Global};
+
+/// How wide a table may be, and what becomes of texts that are wider than their columns.
+///
+/// Where a table is wider than told its columns are narrowed, the widest first. A column is as wide as
+/// its widest character at least, where texts are wrapped, and as the sign that they end with, where
+/// they are cut; so a table of many columns may still be wider.
+#[derive(Drop)]
+pub struct Bounds {
+    /// How many columns of a terminal a line takes at most; without it as many as are wanted.
+    pub width: Option<u32>,
+    /// How many columns of a terminal the texts of each column take at most that is shown; one limit
+    /// alone is that of all. A column of which nothing is said, or `None`, has no limit.
+    pub limits: Vec<Option<u32>>,
+    /// What becomes of texts that are wider than their columns.
+    pub overflow: Overflow<'static>,
+}
+
+// The greatest width of a column, whose texts may take so many columns: a space stands at each side.
+fn limit_of(columns: Option<u32>) -> usize
+    ensures { result ≡ spec.limit_of columns }
+{
+    match columns {
+        Some(columns) => columns as usize + 2,
+        None => usize::MAX,
+    }
+}
+
+impl Bounds {
+    /// Whether there are any.
+    pub(crate) fn are_told(&self) -> bool
+        ensures { result ≡ spec.are_told self.now }
+    {
+        self.width.is_some() || !self.limits.is_empty()
+    }
+
+    /// The greatest width of a line.
+    pub(crate) fn width(&self) -> usize
+        ensures { result ≡ spec.width_of self.now.width }
+    {
+        match self.width {
+            Some(width) => width as usize,
+            None => usize::MAX,
+        }
+    }
+
+    /// The greatest width of each of so many columns.
+    pub(crate) fn limits(&self, alloc: Global, columns: usize) -> Result<Vec<usize>, AllocError>
+        ensures { IfOk result (λ limits. limits.items ≡ spec.limits_of self.now.limits.items columns) }
+    {
+        let mut limits = Vec::with_capacity(alloc, columns)?;
+        for column in 0..columns {
+            limits.push(limit_of(told_of(&self.limits, column)))?;
+        }
+        Ok(limits)
+    }
+
+    /// The picture of the table of these rows within the bounds, where some are told, and else at its
+    /// natural sizes.
+    pub(crate) fn picture(
+        &self,
+        alloc: Global,
+        config: &SpannedConfig,
+        rows: LentRows<'_>,
+    ) -> Result<String, TableFault>
+        ensures text { IfOk result (λ text. string_bytes text ≡ picture Known (spec.bounded_table self.now config.now (texts_of rows.entry))) }
+        ensures ok { IsOk result → spec.bounded_fault self.now config.now (texts_of rows.entry) ≡ None }
+        ensures fault { (fault : TableFault) → result ≡ Err fault → fault ≢ TableFault.Memory → is_none (spec.bounded_fault self.now config.now (texts_of rows.entry)) ≡ false }
+    {
+        let table = NaturalTable::new(rows, config, &NoColors);
+        if !self.are_told() {
+            return table.to_string(alloc);
+        }
+        let limits = self.limits(alloc, rows.count_columns())?;
+        let fitted = table.within_limits(alloc, self.width(), &limits, self.overflow)?;
+        fitted.to_string(alloc)
+    }
+}

@@ -1,0 +1,106 @@
+//! The columns that are shown.
+
+ghost use Rattle.std.specs.Prelude.{◌≡◌, [], map, option_map, slice_index_or, IfOk};
+ghost use Rattle.std.specs.List.{range_with_len};
+ghost use Rattle.csv.specs.Records.{fields_of};
+ghost use Rattle.ruled_table.specs.Columns.{column_of, column_fault, columns_in, missing_name, named_columns, places_of, told_of};
+ghost use Rattle.ruled_table.specs.Faults.{Tells};
+ghost use Rattle.ruled_table.specs.declared.fault.ViewFault.TheVariants.{Column};
+
+use crate::fault::ViewFault;
+use csv::StringRecord;
+use std::alloc::{AllocError, Global};
+
+/// What is said of a column: one word alone is for all.
+pub(crate) fn told_of<T: Copy>(words: &[Option<T>], column: usize) -> Option<T>
+    ensures { result ≡ told_of words.now column }
+{
+    match words {
+        [word] => *word,
+        _ => words.get(column).copied().unwrap_or(None),
+    }
+}
+
+/// A field of a row, or an empty text where there is none.
+pub fn field_at(fields: &StringRecord, place: usize) -> &str
+    ensures { result.now ≡ slice_index_or (fields_of fields.now) place [] }
+{
+    match fields.get(place) {
+        Some(field) => field,
+        None => "",
+    }
+}
+
+/// The first column of this name.
+pub fn column_of(header: &StringRecord, name: &str) -> Option<usize>
+    ensures { result ≡ column_of (fields_of header.now) name.now }
+{
+    (0..header.len()).find(|place| field_at(header, *place) == name)
+}
+
+// The first name that no column has.
+fn missing_name(header: &StringRecord, names: &[String]) -> Option<usize>
+    ensures { result ≡ missing_name (fields_of header.now) names.now }
+{
+    names
+        .iter()
+        .position(|name| column_of(header, name).is_none())
+}
+
+// So many columns, from the first one on.
+fn first_columns(alloc: Global, count: usize) -> Result<Vec<usize>, AllocError>
+    ensures { IfOk result (λ places. places.items ≡ range_with_len 0 count) }
+{
+    let mut places = Vec::with_capacity(alloc, count)?;
+    for place in 0..count {
+        places.push(place)?;
+    }
+    Ok(places)
+}
+
+// The columns of these names, of those that there are.
+fn named_columns(
+    alloc: Global,
+    names: &[String],
+    header: &StringRecord,
+) -> Result<Vec<usize>, AllocError>
+    ensures { IfOk result (λ places. places.items ≡ named_columns names.now (fields_of header.now)) }
+{
+    names
+        .iter()
+        .filter_map(|name| column_of(header, name))
+        .collect(alloc)
+}
+
+// The columns that are shown of rows with this header.
+fn columns_in(
+    alloc: Global,
+    names: &[String],
+    header: &StringRecord,
+) -> Result<Vec<usize>, ViewFault>
+    ensures places { IfOk result (λ places. places.items ≡ columns_in names.now (fields_of header.now)) }
+    ensures fault { Tells (option_map Column (missing_name (fields_of header.now) names.now)) result }
+{
+    if let Some(name) = missing_name(header, names) {
+        return Err(ViewFault::Column(name));
+    }
+    if names.is_empty() {
+        return Ok(first_columns(alloc, header.len())?);
+    }
+    Ok(named_columns(alloc, names, header)?)
+}
+
+/// The places of the columns that are shown, or the first name that no column has.
+pub fn places_of(
+    alloc: Global,
+    names: &[String],
+    rows: &[StringRecord],
+) -> Result<Vec<usize>, ViewFault>
+    ensures places { IfOk result (λ places. places.items ≡ places_of names.now (map fields_of rows.now)) }
+    ensures fault { Tells (column_fault names.now (map fields_of rows.now)) result }
+{
+    match rows {
+        [] => Ok(Vec::new(alloc)),
+        [header, ..] => columns_in(alloc, names, header),
+    }
+}

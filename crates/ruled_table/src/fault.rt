@@ -1,0 +1,46 @@
+//! Why rows have no table.
+
+ghost use Rattle.std.specs.Prelude.{◌≡◌, ◌⊎◌};
+ghost use Rattle.pg_table.specs.declared.fault.TableFault.{TableFault};
+ghost use Rattle.ruled_table.specs.declared.fault.ViewFault.TheVariants.{Memory, Totals};
+
+use pg_table::TableFault;
+use std::alloc::{AllocError, AllocFailed};
+
+/// Why rows have no table.
+#[derive(Clone, Copy)]
+pub enum ViewFault {
+    /// Row 0 has no field of this name, of those that [`crate::Options::columns`] lists, counted from 0.
+    Column(usize),
+    /// The sizes of the table are too large.
+    Totals,
+    /// Memory was refused.
+    Memory,
+}
+
+impl From<AllocError> for ViewFault {
+    ghost from_gives = { λ _ fault. fault ≡ Memory };
+
+    fn from(_error: AllocError) -> ViewFault {
+        ViewFault::Memory
+    }
+}
+
+impl<T: Drop> From<AllocFailed<T>> for ViewFault {
+    ghost from_gives = { λ _ fault. fault ≡ Memory };
+
+    fn from(_error: AllocFailed<T>) -> ViewFault {
+        ViewFault::Memory
+    }
+}
+
+/// Why a table isn't printed.
+pub(crate) fn fault_in(fault: TableFault) -> ViewFault
+    ensures two { result ≡ Memory ⊎ result ≡ Totals }
+    ensures memory { fault ≡ TableFault.Memory → result ≡ Memory }
+{
+    match fault {
+        TableFault::Memory => ViewFault::Memory,
+        _ => ViewFault::Totals,
+    }
+}

@@ -1,0 +1,145 @@
+//! The rows that are shown: a record whose fields show as they stand is taken as it is, and else made anew.
+
+ghost use Rattle.std.specs.Cow.{cow_str_bytes};
+ghost use Rattle.std.specs.Prelude.{◌≡◌, map, true, IfOk};
+ghost use Rattle.csv.specs.Records.{fields_of};
+ghost use Rattle.ruled_table.specs.View.{heads, seen_text, shown_text, limit_of};
+
+use crate::columns::field_at;
+use crate::escapes::{escaped, is_plain_text};
+use crate::options::Options;
+use csv::StringRecord;
+use pg_fit::{is_visible, visible};
+use std::alloc::{AllocError, Global};
+use std::borrow::CowStr;
+
+// Whether nothing of a text has to be made visible: it is to be sent as it is, or has no control characters.
+fn is_seen(is_raw: bool, text: &str) -> bool
+    ensures { result ≡ true → seen_text is_raw text.now ≡ text.now }
+{
+    if !is_raw {
+        return is_visible(text);
+    }
+    true
+}
+
+// A text in which control characters are seen, unless it is to be sent as it is.
+fn seen_text(alloc: Global, is_raw: bool, text: &str) -> Result<CowStr<'_>, AllocError>
+    ensures { IfOk result (λ seen. cow_str_bytes seen ≡ seen_text is_raw text.now) }
+{
+    if is_raw {
+        return Ok(CowStr::Borrowed(text));
+    }
+    if is_visible(text) {
+        return Ok(CowStr::Borrowed(text));
+    }
+    Ok(CowStr::Owned(visible(alloc, text)?))
+}
+
+/// A text as it is shown: lent where it stands as it is, and else made.
+pub fn shown_text<'a>(
+    alloc: Global,
+    options: &Options,
+    text: &'a str,
+) -> Result<CowStr<'a>, AllocError>
+    ensures { IfOk result (λ shown. cow_str_bytes shown ≡ shown_text options.now text.now) }
+{
+    let seen = seen_text(alloc, options.is_raw, text)?;
+    if !options.is_markdown {
+        return Ok(seen);
+    }
+    if is_plain_text(seen.as_str()) {
+        return Ok(seen);
+    }
+    Ok(CowStr::Owned(escaped(alloc, seen.as_str())?))
+}
+
+// Whether a text is shown as it stands.
+fn stands(options: &Options, text: &str) -> bool
+    ensures { result ≡ true → shown_text options.now text.now ≡ text.now }
+{
+    if !is_seen(options.is_raw, text) {
+        return false;
+    }
+    if !options.is_markdown {
+        return true;
+    }
+    is_plain_text(text)
+}
+
+// Whether each field of a record is.
+fn all_stand(options: &Options, fields: &StringRecord) -> bool
+    ensures { result ≡ true → map (shown_text options.now) (fields_of fields.now) ≡ fields_of fields.now }
+{
+    for place in 0..fields.len() {
+        if !stands(options, field_at(fields, place)) {
+            return false;
+        }
+    }
+    true
+}
+
+// A record of the texts that are shown of a record's fields.
+fn made_record(
+    alloc: Global,
+    options: &Options,
+    fields: &StringRecord,
+) -> Result<StringRecord, AllocError>
+    ensures { IfOk result (λ shown. fields_of shown ≡ map (shown_text options.now) (fields_of fields.now)) }
+{
+    let mut shown = StringRecord::new(alloc);
+    for place in 0..fields.len() {
+        let text = shown_text(alloc, options, field_at(fields, place))?;
+        shown.push_field(text.as_str())?;
+    }
+    Ok(shown)
+}
+
+// A record of the texts that are shown of a record's fields: itself, where each is shown as it stands.
+fn shown_record(
+    alloc: Global,
+    options: &Options,
+    fields: StringRecord,
+) -> Result<StringRecord, AllocError>
+    ensures { IfOk result (λ shown. fields_of shown ≡ map (shown_text options.now) (fields_of fields)) }
+{
+    if all_stand(options, &fields) {
+        return Ok(fields);
+    }
+    made_record(alloc, options, &fields)
+}
+
+/// Records of the texts that are shown of these.
+pub fn shown_records(
+    alloc: Global,
+    options: &Options,
+    records: Vec<StringRecord>,
+) -> Result<Vec<StringRecord>, AllocError>
+    ensures { IfOk result (λ rows. map fields_of rows.items ≡ map (map (shown_text options.now)) (map fields_of records.items)) }
+{
+    let mut rows = Vec::with_capacity(alloc, records.len())?;
+    for fields in records {
+        let row = shown_record(alloc, options, fields)?;
+        rows.push(row)?;
+    }
+    Ok(rows)
+}
+
+// How many rows are shown at most, where that is told.
+fn limit_of(options: &Options) -> Option<usize>
+    ensures { result ≡ limit_of options.now }
+{
+    let rows = options.head? as usize;
+    Some(if options.has_header { rows + 1 } else { rows })
+}
+
+/// The rows that are shown.
+pub(crate) fn heads(options: &Options, rows: Vec<StringRecord>) -> Vec<StringRecord>
+    ensures { map fields_of result.items ≡ heads options.now (map fields_of rows.items) }
+{
+    let mut heads = rows;
+    if let Some(limit) = limit_of(options) {
+        heads.truncate(limit);
+    }
+    heads
+}

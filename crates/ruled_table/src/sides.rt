@@ -1,0 +1,99 @@
+//! At which side of its cells the texts of a column stand.
+
+ghost use Rattle.std.specs.Prelude.{◌≡◌, [], slice_index_or, OnOk};
+ghost use Rattle.std.specs.List.{list_all};
+ghost use Rattle.csv.specs.Records.{fields_of};
+ghost use Rattle.pg_layout.specs.Records.{columns_of};
+ghost use Rattle.ruled_table.specs.LentRows.{fields_at, texts_of};
+ghost use Rattle.ruled_table.specs.Sides as spec;
+
+use crate::columns::told_of;
+use crate::lent_rows::{LentRows, text_in};
+use crate::numbers::{is_blank, is_number};
+use csv::StringRecord;
+use pg_config::SpannedConfig;
+use pg_layout::{AlignmentHorizontal, Entity, Records};
+use std::alloc::AllocError;
+
+// Whether the text of a row in this column is a number or blank.
+fn has_number(fields: &StringRecord, places: &[usize], column: usize) -> bool
+    ensures { result ≡ spec.is_numeric_text (slice_index_or (fields_at places.now (fields_of fields.now)) column []) }
+{
+    let text = text_in(fields, places, column);
+    is_blank(text) || is_number(text)
+}
+
+// Whether each row has a number or a blank text in the column.
+fn have_numbers(records: &[StringRecord], places: &[usize], column: usize) -> bool
+    ensures { result ≡ list_all (λ fields. spec.is_numeric_text (slice_index_or (fields_at places.now (fields_of fields)) column [])) records.now }
+{
+    records
+        .iter()
+        .all(|fields| has_number(fields, places, column))
+}
+
+// Whether each text of the column is a number or blank.
+fn is_numeric(rows: LentRows<'_>, column: usize) -> bool
+    ensures { result ≡ spec.is_numeric (texts_of rows.entry) column }
+{
+    have_numbers(rows.records, rows.places, column)
+}
+
+// The records below a header.
+fn body_of(has_header: bool, records: &[StringRecord]) -> &[StringRecord]
+    ensures { result.now ≡ spec.body_of has_header records.now }
+{
+    match records {
+        [_, body @ ..] if has_header => body,
+        _ => records,
+    }
+}
+
+// The side of a column.
+fn side_of(
+    has_header: bool,
+    sides: &[Option<AlignmentHorizontal>],
+    rows: LentRows<'_>,
+    column: usize,
+) -> AlignmentHorizontal
+    ensures { result ≡ spec.side_of has_header sides.now (texts_of rows.entry) column }
+{
+    let body = LentRows {
+        records: body_of(has_header, rows.records),
+        places: rows.places,
+    };
+    match told_of(sides, column) {
+        Some(side) => side,
+        None if is_numeric(body, column) => AlignmentHorizontal::Right,
+        None => AlignmentHorizontal::Left,
+    }
+}
+
+// Sets the side of a column.
+fn set_side(
+    config: &mut SpannedConfig,
+    column: usize,
+    side: AlignmentHorizontal,
+) -> Result<(), AllocError>
+    ensures { OnOk result (config.new ≡ record config.old { alignment_horizontal = spec.with_side column side config.old.alignment_horizontal }) }
+{
+    match side {
+        AlignmentHorizontal::Left => Ok(()),
+        _ => config.set_alignment_horizontal(Entity::Column(column), side),
+    }
+}
+
+/// Sets the side of each column of these rows: that which is said of it, or else the right of numbers.
+pub(crate) fn set_sides(
+    config: &mut SpannedConfig,
+    has_header: bool,
+    sides: &[Option<AlignmentHorizontal>],
+    rows: LentRows<'_>,
+) -> Result<(), AllocError>
+    ensures { OnOk result (config.new ≡ spec.sided has_header sides.now (texts_of rows.entry) config.old) }
+{
+    for column in 0..rows.count_columns() {
+        set_side(config, column, side_of(has_header, sides, rows, column))?;
+    }
+    Ok(())
+}

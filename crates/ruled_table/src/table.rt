@@ -1,0 +1,144 @@
+//! The text of the table of rows.
+
+ghost use Rattle.std.specs.Prelude.{◌≡◌, ◌∷◌, ◌++◌, [], map, string_bytes, IfOk, OnOk};
+ghost use Rattle.csv.specs.Records.{fields_of};
+ghost use Rattle.pg_picture.specs.Picture.{picture};
+ghost use Rattle.pg_picture.specs.Table.{Known};
+ghost use Rattle.ruled_table.specs.Bounds.{bounded_fault, bounded_table};
+ghost use Rattle.ruled_table.specs.Faults.{Tells, totals_of};
+ghost use Rattle.ruled_table.specs.LentRows.{texts_of};
+ghost use Rattle.ruled_table.specs.Tables.{fault_with, text_with, with_line};
+ghost use Rattle.ruled_table.specs.View.{line_in, look_config, sided_config, table_fault, table_text, text_of, totals_fault};
+
+use crate::blocks::blocks_of;
+use crate::bounds::Bounds;
+use crate::columns::places_of;
+use crate::fault::{ViewFault, fault_in};
+use crate::lent_rows::LentRows;
+use crate::look::Look;
+use crate::options::Options;
+use crate::rows::{heads, shown_records};
+use crate::sides::set_sides;
+use csv::StringRecord;
+use pg_config::SpannedConfig;
+use pg_layout::{Entity, ExactRecords, HorizontalLine, Indent, Records, Sides};
+use std::alloc::{AllocError, Global};
+
+/// What a table looks like, but for the line below its header.
+pub(crate) fn look_config(alloc: Global, look: Look) -> Result<SpannedConfig, AllocError>
+    ensures { IfOk result (λ config. config ≡ look_config look) }
+{
+    let (beside, none) = (Indent::spaced(1), Indent::zero());
+    let mut config = SpannedConfig::new(alloc);
+    config.set_borders(look.borders());
+    config.set_padding(Entity::Global, Sides::new(beside, beside, none, none))?;
+    Ok(config)
+}
+
+/// The line below a header, where the table has one.
+pub(crate) fn line_in(options: &Options) -> Option<HorizontalLine<char>>
+    ensures { result ≡ line_in options.now }
+{
+    if options.has_header {
+        options.look.header_line()
+    } else {
+        None
+    }
+}
+
+/// What the table of these rows looks like, but for that line.
+pub(crate) fn sided_config(
+    alloc: Global,
+    options: &Options,
+    rows: LentRows<'_>,
+) -> Result<SpannedConfig, AllocError>
+    ensures { IfOk result (λ config. config ≡ sided_config options.now (texts_of rows.entry)) }
+{
+    let mut config = look_config(alloc, options.look)?;
+    set_sides(&mut config, options.has_header, &options.sides, rows)?;
+    Ok(config)
+}
+
+/// Sets the line below a header, where the table has one, and rows below it.
+pub(crate) fn set_line_below(
+    config: &mut SpannedConfig,
+    line: Option<HorizontalLine<char>>,
+    rows: usize,
+    columns: usize,
+) -> Result<(), AllocError>
+    ensures { OnOk result (config.new ≡ with_line line rows columns config.old) }
+{
+    match line {
+        Some(line) if rows > 1 => config.set_row_line(1, columns, line),
+        _ => Ok(()),
+    }
+}
+
+// The picture of the table of these rows within its bounds, and a line feed.
+fn picture_of(
+    alloc: Global,
+    bounds: &Bounds,
+    config: &SpannedConfig,
+    rows: LentRows<'_>,
+) -> Result<String, ViewFault>
+    ensures text { IfOk result (λ text. string_bytes text ≡ picture Known (bounded_table bounds.now config.now (texts_of rows.entry)) ++ 10 ∷ []) }
+    ensures fault { Tells (totals_of (bounded_fault bounds.now config.now (texts_of rows.entry))) result }
+{
+    let mut text = bounds.picture(alloc, config, rows).map_err(fault_in)?;
+    text.push('\n')?;
+    Ok(text)
+}
+
+/// The text of the table of these rows, with this line below row 0, within its bounds.
+pub(crate) fn text_with(
+    alloc: Global,
+    bounds: &Bounds,
+    config: SpannedConfig,
+    line: Option<HorizontalLine<char>>,
+    rows: LentRows<'_>,
+) -> Result<String, ViewFault>
+    ensures text { IfOk result (λ text. string_bytes text ≡ text_with bounds.now config line (texts_of rows.entry)) }
+    ensures fault { Tells (fault_with bounds.now config line (texts_of rows.entry)) result }
+{
+    let (count, columns) = (rows.count_rows(), rows.count_columns());
+    if count == 0 {
+        return Ok(String::new(alloc));
+    }
+    let mut config = config;
+    set_line_below(&mut config, line, count, columns)?;
+    picture_of(alloc, bounds, &config, rows)
+}
+
+// The text of the table of the rows that are shown.
+fn text_of(alloc: Global, options: &Options, rows: LentRows<'_>) -> Result<String, ViewFault>
+    ensures text { IfOk result (λ text. string_bytes text ≡ text_of options.now (texts_of rows.entry)) }
+    ensures fault { Tells (totals_fault options.now (texts_of rows.entry)) result }
+{
+    if options.is_vertical {
+        return blocks_of(alloc, &options.bounds, options.look, rows);
+    }
+    let config = sided_config(alloc, options, rows)?;
+    text_with(alloc, &options.bounds, config, line_in(options), rows)
+}
+
+/// The text of the table of these rows, of which the first is row 0, and a line feed behind it; of no
+/// rows the empty text.
+///
+/// The fault is that of the names of columns, or of the sizes of the table, in this order, or want of
+/// memory.
+pub fn view_rows(
+    alloc: Global,
+    options: &Options,
+    rows: Vec<StringRecord>,
+) -> Result<String, ViewFault>
+    ensures text { IfOk result (λ text. string_bytes text ≡ table_text options.now (map fields_of rows.items)) }
+    ensures fault { Tells (table_fault options.now (map fields_of rows.items)) result }
+{
+    let places = places_of(alloc, &options.columns, &rows)?;
+    let shown = shown_records(alloc, options, heads(options, rows))?;
+    let rows = LentRows {
+        records: &shown,
+        places: &places,
+    };
+    text_of(alloc, options, rows)
+}

@@ -1,0 +1,137 @@
+//! What a table looks like whose first rows are known, and the texts of the others within its columns.
+
+ghost use Rattle.std.specs.Cow.{cow_str_bytes};
+ghost use Rattle.std.specs.Prelude.{◌≡◌, string_bytes, IfOk};
+ghost use Rattle.ruled_table.specs.Faults.{Tells, totals_of};
+ghost use Rattle.ruled_table.specs.LentRows.{texts_of};
+ghost use Rattle.ruled_table.specs.Widths as spec;
+
+use crate::bounds::Bounds;
+use crate::fault::{ViewFault, fault_in};
+use crate::lent_rows::LentRows;
+use crate::options::Options;
+use crate::table::{line_in, set_line_below, sided_config};
+use pg_config::SpannedConfig;
+use pg_fit::{cut, wrap};
+use pg_layout::{ConstantDimension, ExactRecords, NoColors, Records, get_text_width};
+use pg_table::{NaturalTable, Overflow, TableFault};
+use std::alloc::{AllocError, Global};
+use std::borrow::CowStr;
+
+/// What the table looks like whose first rows are these: a header alone has no line below it.
+pub fn first_config(
+    alloc: Global,
+    options: &Options,
+    rows: LentRows<'_>,
+) -> Result<SpannedConfig, AllocError>
+    ensures { IfOk result (λ config. config ≡ spec.first_config options.now (texts_of rows.entry)) }
+{
+    let mut config = sided_config(alloc, options, rows)?;
+    let (count, columns) = (rows.count_rows(), rows.count_columns());
+    set_line_below(&mut config, line_in(options), count, columns)?;
+    Ok(config)
+}
+
+// The natural sizes of a table of these records.
+fn natural_sizes(
+    alloc: Global,
+    config: &SpannedConfig,
+    records: LentRows<'_>,
+) -> Result<ConstantDimension, TableFault>
+    ensures widths { IfOk result (λ sizes. sizes.0.items ≡ spec.natural_widths config.now (texts_of records.entry)) }
+    ensures fault { spec.TellsTable (spec.natural_fault config.now (texts_of records.entry)) result }
+{
+    NaturalTable::new(records, config, &NoColors).natural_dimension(alloc)
+}
+
+// The sizes of a table of these records within the bounds that are told.
+fn fitted_sizes(
+    alloc: Global,
+    bounds: &Bounds,
+    config: &SpannedConfig,
+    records: LentRows<'_>,
+) -> Result<ConstantDimension, TableFault>
+    ensures fault { spec.TellsTable (spec.fitted_fault bounds.now config.now (texts_of records.entry)) result }
+    ensures widths { IfOk result (λ sizes. spec.widths_in sizes ≡ spec.fitted_widths bounds.now config.now (texts_of records.entry)) }
+{
+    let limits = bounds.limits(alloc, records.count_columns())?;
+    let table = NaturalTable::new(records, config, &NoColors);
+    let fitted = table.within_limits(alloc, bounds.width(), &limits, bounds.overflow)?;
+    fitted.natural_dimension(alloc)
+}
+
+// The sizes of a table of these records within its bounds.
+fn sizes_of(
+    alloc: Global,
+    bounds: &Bounds,
+    config: &SpannedConfig,
+    records: LentRows<'_>,
+) -> Result<ConstantDimension, TableFault>
+    ensures widths { IfOk result (λ sizes. spec.widths_in sizes ≡ spec.widths_of bounds.now config.now (texts_of records.entry)) }
+    ensures fault { spec.TellsTable (spec.widths_fault bounds.now config.now (texts_of records.entry)) result }
+{
+    if bounds.are_told() {
+        return fitted_sizes(alloc, bounds, config, records);
+    }
+    natural_sizes(alloc, config, records)
+}
+
+/// The sizes that a table of these rows has within the bounds.
+pub fn sizes_of_rows(
+    alloc: Global,
+    bounds: &Bounds,
+    config: &SpannedConfig,
+    rows: LentRows<'_>,
+) -> Result<ConstantDimension, ViewFault>
+    ensures widths { IfOk result (λ sizes. spec.widths_in sizes ≡ spec.widths_of bounds.now config.now (texts_of rows.entry)) }
+    ensures fault { Tells (totals_of (spec.widths_fault bounds.now config.now (texts_of rows.entry))) result }
+{
+    sizes_of(alloc, bounds, config, rows).map_err(fault_in)
+}
+
+// A text as it is, where it takes at most so many columns, and else cut to them.
+fn narrowed(alloc: Global, width: usize, text: String) -> Result<String, AllocError>
+    ensures { IfOk result (λ narrow. string_bytes narrow ≡ spec.narrowed width (string_bytes text)) }
+{
+    if get_text_width(&text) <= width {
+        return Ok(text);
+    }
+    cut(alloc, &text, width, "…")
+}
+
+// A text that takes more columns, wrapped, or cut.
+fn overflowed(
+    alloc: Global,
+    overflow: Overflow<'_>,
+    width: usize,
+    text: &str,
+) -> Result<String, AllocError>
+    ensures { IfOk result (λ shown. string_bytes shown ≡ spec.overflowed overflow.entry width text.now) }
+{
+    match overflow {
+        Overflow::Wrap(breaking) => narrowed(alloc, width, wrap(alloc, text, width, breaking)?),
+        Overflow::Cut(tail) => cut(alloc, text, width, tail),
+    }
+}
+
+/// A text within so many columns: as it is where it takes no more, and else wrapped, or cut.
+pub fn text_within(
+    alloc: Global,
+    overflow: Overflow<'_>,
+    width: usize,
+    text: CowStr<'_>,
+) -> Result<String, AllocError>
+    ensures { IfOk result (λ shown. string_bytes shown ≡ spec.text_within overflow.entry width (cow_str_bytes text.entry)) }
+{
+    if get_text_width(text.as_str()) <= width {
+        return text.into_owned(alloc);
+    }
+    overflowed(alloc, overflow, width, text.as_str())
+}
+
+/// How many columns the texts of a column may take, of which a space stands at each side.
+pub fn room_of(widths: &ConstantDimension, column: usize) -> usize
+    ensures { result ≡ spec.room_of (spec.widths_in widths.now) column }
+{
+    widths.0.get(column).copied().unwrap_or(0).saturating_sub(2)
+}

@@ -1,8 +1,0 @@
-use Rattle.std.proofs.Common.{◌≡◌}
-use Rattle.ruled_view.specs.LentRows.{texts_of}
-use Rattle.ruled_view.specs.Sides.{side_of, with_sides}
-use Rattle.ruled_view.proofs.sides.set_sides.Given as goal
-
-abbrev pub invariant-loop-column : goal.invariant-loop-column
-invariant-loop-column l =
-    l.config ≡ record l.fn.config { alignment_horizontal = with_sides (side_of l.fn.has_header l.fn.sides (texts_of l.fn.rows)) l.column l.fn.config.alignment_horizontal }
