@@ -1,3 +1,5 @@
 mod Marks
+mod Readers
 mod Scans
+mod TextFaults
 mod TextRows

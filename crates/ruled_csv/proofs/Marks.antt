@@ -1,9 +1,13 @@
 -- A byte order mark at the front of bytes.
-use Rattle.std.proofs.Common.{◌≡◌, ◌∙◌, ◌∷◌, [], ◌&&◌, ℕ, List, Bool, nat_eq, take, drop, true, false, refl, sym}
-use Rattle.std.specs.Prelude.{◌==◌}
+use Rattle.std.proofs.Common.{◌≡◌, ◌∙◌, ◌∷◌, [], ◌++◌, ◌&&◌, inl, inr, ℕ, List, Bool, Some, None, nat_eq, take, drop, true, false, refl, sym, ap}
+use Rattle.std.specs.Prelude.{◌==◌, fold}
 use Rattle.std.specs.Cmp.Lexicographic.{pointwise}
-use Rattle.std.proofs.lemmas.Bool.{and_parts}
+use Rattle.std.proofs.lemmas.Bool.{and_parts, cases_Bool, eqb-true, false≢true}
 use Rattle.csv.specs.Reading.{is_bom, strip_bom}
+use Rattle.ruled_csv.specs.Inside.{Scan, ends_mark, front_after, scan_of, scan_start}
+use Rattle.ruled_csv.specs.declared.fault.RowsFault.{RowsFault}
+use Rattle.ruled_csv.specs.declared.reader.Front.TheVariants as front
+use Rattle.ruled_csv.proofs.Scans.{fault-stays, scan-append}
 
 -- the bytes of the mark
 abbrev mark : List ℕ
@@ -34,3 +38,102 @@ no_mark [] e = refl
 no_mark (a ∷ []) e = refl
 no_mark (a ∷ b ∷ []) e = refl
 no_mark (a ∷ b ∷ c ∷ rest) e = let is : is_bom a b c ≡ false = sym (tests a b c) ∙ e in rw is refl
+
+-- ---- byte by byte
+
+-- behind three bytes no mark ends
+third : (a b c : ℕ) → front_after (front_after (front_after front.Start a) b) c ≡ front.Text
+third a b c = elim (cases_Bool (a == 0xEF)) [
+  | inl is-true ↦ elim (cases_Bool (b == 0xBB)) [
+    | inl both ↦ rw (is-true, both) refl
+    | inr is-false ↦ rw (is-true, is-false) refl
+  ]
+  | inr is-false ↦ rw is-false refl
+]
+
+late : (text : List ℕ) → fold front_after front.Text text ≡ front.Text
+late [] = refl
+late (byte ∷ text) = late text
+
+none-late : (a b c : ℕ) (text : List ℕ) (byte : ℕ) → ends_mark (fold front_after (front_after (front_after (front_after front.Start a) b) c) text) byte ≡ false
+none-late a b c text byte = rw (third a b c, late text) refl
+
+-- a byte that ends a mark is its third one
+pub mark-ends : (before : List ℕ) (byte : ℕ) → ends_mark (fold front_after front.Start before) byte ≡ true → (before ≡ 0xEF ∷ 0xBB ∷ []) × (byte ≡ 0xBF)
+mark-ends [] byte e = absurd (false≢true e)
+mark-ends (a ∷ []) byte e = elim (cases_Bool (a == 0xEF)) [
+  | inl is-true ↦ absurd (false≢true (rw is-true at e))
+  | inr is-false ↦ absurd (false≢true (rw is-false at e))
+]
+mark-ends (a ∷ b ∷ []) byte e = elim (cases_Bool (a == 0xEF)) [
+  | inl is-true ↦ elim (cases_Bool (b == 0xBB)) [
+    | inl both ↦ (rw (eqb-true a 0xEF is-true, eqb-true b 0xBB both) refl, eqb-true byte 0xBF (rw (is-true, both) at e))
+    | inr is-false ↦ absurd (false≢true (rw (is-true, is-false) at e))
+  ]
+  | inr is-false ↦ absurd (false≢true (rw is-false at e))
+]
+mark-ends (a ∷ b ∷ c ∷ text) byte e = absurd (false≢true (sym (none-late a b c text byte) ∙ e))
+
+-- and each other byte joins the text
+pub strip-more : (before : List ℕ) (byte : ℕ) → ends_mark (fold front_after front.Start before) byte ≡ false → strip_bom (before ++ byte ∷ []) ≡ strip_bom before ++ byte ∷ []
+unfolding strip_bom
+strip-more [] byte e = refl
+strip-more (a ∷ []) byte e = refl
+strip-more (a ∷ b ∷ []) byte e = elim (cases_Bool (a == 0xEF)) [
+  | inl is-true ↦ elim (cases_Bool (b == 0xBB)) [
+    | inl both ↦ let other : (byte == 0xBF) ≡ false = rw (is-true, both) at e in rw (is-true, both, other) refl
+    | inr is-false ↦ rw (is-true, is-false) refl
+  ]
+  | inr is-false ↦ rw is-false refl
+]
+strip-more (a ∷ b ∷ c ∷ text) byte e = elim (cases_Bool (is_bom a b c)) [
+  | inl is-true ↦ rw is-true refl
+  | inr is-false ↦ rw is-false refl
+]
+
+-- among the first two bytes of a mark no row ends, and nothing is wrong
+abbrev Begins : ℕ → Type 0
+Begins delimiter = ((scan_of delimiter (0xEF ∷ 0xBB ∷ [])).rows ≡ []) × ((scan_of delimiter (0xEF ∷ [])).fault ≡ None) × ((scan_of delimiter (0xEF ∷ 0xBB ∷ [])).fault ≡ None)
+
+pub mark-begins : (delimiter : ℕ) → Begins delimiter
+mark-begins delimiter = elim (cases_Bool (0xEF == delimiter)) [
+  | inl is-true ↦ elim (cases_Bool (0xBB == delimiter)) [
+    | inl both ↦ rw (is-true, both) (refl, refl, refl)
+    | inr is-false ↦ rw (is-true, is-false) (refl, refl, refl)
+  ]
+  | inr is-false ↦ elim (cases_Bool (0xBB == delimiter)) [
+    | inl is-true ↦ rw (is-false, is-true) (refl, refl, refl)
+    | inr neither ↦ rw (is-false, neither) (refl, refl, refl)
+  ]
+]
+
+bom-begins : (a b c : ℕ) → is_bom a b c ≡ true → (a ≡ 0xEF) × (b ≡ 0xBB)
+bom-begins a b c e =
+    let parts = and_parts ((a == 0xEF) && (b == 0xBB)) (c == 0xBF) e in
+    let front = and_parts (a == 0xEF) (b == 0xBB) parts.0 in
+    (eqb-true a 0xEF front.0, eqb-true b 0xBB front.1)
+
+no-fault : {fault : RowsFault} → ¬ (None ≡ Some fault)
+no-fault e = let f = e in cc
+
+-- a fault of bytes is one of all that stand in front of others
+pub fault-behind-mark : (delimiter : ℕ) (bytes behind : List ℕ) (fault : RowsFault) → (scan_of delimiter (strip_bom bytes)).fault ≡ Some fault → (scan_of delimiter (strip_bom (bytes ++ behind))).fault ≡ Some fault
+unfolding strip_bom
+fault-behind-mark delimiter [] behind fault found = absurd (no-fault found)
+fault-behind-mark delimiter (a ∷ []) [] fault found = found
+fault-behind-mark delimiter (a ∷ []) (b ∷ []) fault found = fault-stays delimiter (scan_of delimiter (a ∷ [])) (b ∷ []) fault found
+fault-behind-mark delimiter (a ∷ []) (b ∷ c ∷ rest) fault found = elim (cases_Bool (is_bom a b c)) [
+  | inl is-true ↦ absurd (no-fault (sym (mark-begins delimiter).1 ∙ (rw (bom-begins a b c is-true).0 at found)))
+  | inr is-false ↦ rw is-false (fault-stays delimiter (scan_of delimiter (a ∷ [])) (b ∷ c ∷ rest) fault found)
+]
+fault-behind-mark delimiter (a ∷ b ∷ []) [] fault found = found
+fault-behind-mark delimiter (a ∷ b ∷ []) (c ∷ rest) fault found = elim (cases_Bool (is_bom a b c)) [
+  | inl is-true ↦ absurd (no-fault (sym (mark-begins delimiter).2 ∙ (rw ((bom-begins a b c is-true).0, (bom-begins a b c is-true).1) at found)))
+  | inr is-false ↦ rw is-false (fault-stays delimiter (scan_of delimiter (a ∷ b ∷ [])) (c ∷ rest) fault found)
+]
+fault-behind-mark delimiter (a ∷ b ∷ c ∷ rest) behind fault found = elim (cases_Bool (is_bom a b c)) [
+  | inl is-true ↦ rw is-true (ap (λ (s : Scan). s.fault) (scan-append delimiter scan_start rest behind) ∙ fault-stays delimiter (scan_of delimiter rest) behind fault (rw is-true at found))
+  | inr is-false ↦
+      let text = a ∷ b ∷ c ∷ rest in
+      rw is-false (ap (λ (s : Scan). s.fault) (scan-append delimiter scan_start text behind) ∙ fault-stays delimiter (scan_of delimiter text) behind fault (rw is-false at found))
+]

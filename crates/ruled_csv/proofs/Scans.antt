@@ -1,86 +1,124 @@
--- The rows of a scan over bytes.
-use Rattle.std.proofs.Common.{◌≡◌, ◌≤◌, ◌∙◌, ℕ, zero, suc, true, false, List, [], ◌∷◌, ◌++◌, length, Option, Some, None, refl, sym, ap, append-nil, append_assoc, add-one, arith}
-use Rattle.csv.specs.Machine.{Read, next_record, ends_at_end, is_end, step, fields_after, field_after}
+-- The rows of a scan over a text.
+use Rattle.std.proofs.Common.{◌≡◌, ◌≤◌, ◌∙◌, ℕ, zero, suc, ◌-◌, Bool, true, false, List, [], ◌∷◌, ◌++◌, length, length-append, take, Some, None, inl, inr, refl, sym, ap, append-nil, append_assoc, add-one, arith}
+use Rattle.std.specs.Prelude.{◌==◌, if◌then◌else◌}
+use Rattle.std.specs.List.{cons_option}
+use Rattle.std.proofs.lemmas.Bool.{cases_Bool}
+use Rattle.std.proofs.lemmas.List.Sums.{fold-append}
+use Rattle.std.proofs.Math.Seq.{take-append_seam}
+use Rattle.csv.specs.Machine.{ends_at_end, field_after, fields_after, is_end, next_record, step}
 use Rattle.csv.specs.Reading.{records, records_from, records_next}
-use Rattle.csv.specs.Records.{fields_of}
-use Rattle.csv.specs.declared.parser.Action.{Action}
 use Rattle.csv.specs.declared.parser.State.{State}
 use Rattle.csv.specs.declared.parser.State.TheVariants as st
-use Rattle.ruled_csv.specs.Inside.{action_of, next_row, state_of, step_of}
-use Rattle.ruled_csv.specs.Rows.{config_of}
-use Rattle.ruled_csv.specs.declared.scanner.Act.{Act}
-use Rattle.ruled_csv.specs.declared.scanner.Scanner.{Scanner}
-use Rattle.ruled_csv.specs.declared.scanner.Standing.{Standing}
-use Rattle.ruled_csv.specs.declared.scanner.Step.{Step}
+use Rattle.ruled_csv.specs.Inside.{Scan, last_row, scan_after, scan_from, scan_of, scan_start, with_row}
+use Rattle.ruled_csv.specs.Quotes.{state_from}
+use Rattle.ruled_csv.specs.Rows.{config_of, ended_in}
 
--- ---- a byte
+-- ---- the rows of csv
 
--- a step by its parts
-pub step-parts : (s : Step) (next : Standing) (act : Act) (found : State × Action) → next ≡ s.next → s.act ≡ act → step_of s ≡ found → (state_of next, action_of act) ≡ found
-step-parts s next act found behind does is = rw (behind, sym does) is
-
-module _ (delimiter byte : ℕ) (s s2 : State) (act : Action) (fields fields2 : List (List ℕ)) (field rest : List ℕ) (is : (s2, act) ≡ step (config_of delimiter) s byte) (ended : fields2 ≡ fields_after act fields field) where
-  -- the row goes on behind it
-  pub byte-on : (delimiter2 : ℕ) (field2 : List ℕ) → is_end act ≡ false → delimiter2 ≡ delimiter → field2 ≡ field_after act byte field
-      → next_record (config_of delimiter) s fields field (byte ∷ rest) ≡ next_record (config_of delimiter2) s2 fields2 field2 rest
-  unfolding next_record
-  byte-on delimiter2 field2 on same joined = rw (sym is, on, same, ended, joined) refl
-
-  -- or ends with it
-  pub byte-ends : is_end act ≡ true → next_record (config_of delimiter) s fields field (byte ∷ rest) ≡ Some (fields2, s2, rest)
-  unfolding next_record
-  byte-ends ends = rw (sym is, ends, ended) refl
-
--- no byte is left
-pub end-row : (delimiter : ℕ) (s : State) (fields fields2 : List (List ℕ)) (field : List ℕ) → ends_at_end s ≡ true → fields2 ≡ fields ++ (field ∷ []) → next_record (config_of delimiter) s fields field [] ≡ Some (fields2, st.StartRecord, [])
-unfolding next_record
-end-row delimiter s fields fields2 field ends ended = rw (ends, ended) refl
-
-pub end-none : (delimiter : ℕ) (s : State) (fields : List (List ℕ)) (field : List ℕ) → ends_at_end s ≡ false → next_record (config_of delimiter) s fields field [] ≡ None
-unfolding next_record
-end-none delimiter s fields field none = rw none refl
-
--- another row begins
-pub row-begins : (delimiter : ℕ) (s : Scanner) (at : Standing) (rest : List ℕ) → s.delimiter ≡ delimiter → s.standing ≡ at → fields_of s.row ≡ [] → s.field.items ≡ [] → next_row s rest ≡ next_record (config_of delimiter) (state_of at) [] [] rest
-row-begins delimiter s at rest same stands none empty = rw (same, stands, none, empty) refl
-
--- ---- all of them
-
--- these rows, the one at hand and those behind it are all
-abbrev pub Scans : ℕ → List (List (List ℕ)) → Option Read → List ℕ → List (List (List ℕ)) → Type 0
-Scans delimiter done next rest all = (n : ℕ) × (length rest ≤ n) × (done ++ records_next (records_from (config_of delimiter) n) next ≡ all)
-
-pub scans-begin : (delimiter : ℕ) (bytes : List ℕ) (done : List (List (List ℕ))) (next : Option Read) → done ≡ [] → next ≡ next_record (config_of delimiter) st.StartRecord [] [] bytes → Scans delimiter done next bytes (records (config_of delimiter) bytes)
-unfolding records_from
-scans-begin delimiter bytes done next none is = (
-  length bytes,
-  omega arith,
-  rw (none, is) (sym (ap (λ (n : ℕ). records_from (config_of delimiter) n st.StartRecord bytes) (add-one (length bytes)))),
-)
-
--- the row at hand goes on behind a byte
-pub scans-on : (delimiter byte : ℕ) (done : List (List (List ℕ))) (next next2 : Option Read) (rest : List ℕ) (all : List (List (List ℕ))) → Scans delimiter done next (byte ∷ rest) all → next ≡ next2 → Scans delimiter done next2 rest all
-scans-on delimiter byte done next next2 rest all (n, enough, is) same = (n, omega arith, ap (λ (o : Option Read). done ++ records_next (records_from (config_of delimiter) n) o) (sym same) ∙ is)
-
--- or ends with it
-pub scans-more : (delimiter byte : ℕ) (done done2 : List (List (List ℕ))) (row : List (List ℕ)) (s : State) (next next2 : Option Read) (rest : List ℕ) (all : List (List (List ℕ))) → Scans delimiter done next (byte ∷ rest) all
-    → next ≡ Some (row, s, rest) → next2 ≡ next_record (config_of delimiter) s [] [] rest → done2 ≡ done ++ (row ∷ []) → Scans delimiter done2 next2 rest all
-unfolding records_from
-scans-more delimiter byte done done2 row s next next2 rest all (zero, enough, is) ends begins more = absurd (omega arith)
-scans-more delimiter byte done done2 row s next next2 rest all (suc n, enough, is) ends begins more = (
-  n,
-  omega arith,
-  rw (more, begins) (append_assoc done (row ∷ []) (records_next (records_from (config_of delimiter) n) (next_record (config_of delimiter) s [] [] rest)) ∙ (rw ends at is)),
-)
+-- the rows of a text from a state on, with the fields and the field at hand
+abbrev rest : ℕ → State → List (List ℕ) → List ℕ → List ℕ → List (List (List ℕ))
+rest delimiter s fields field [] = cons_option (if ends_at_end s then Some (fields ++ field ∷ []) else None) []
+rest delimiter s fields field (byte ∷ text) =
+    if is_end (step (config_of delimiter) s byte).1 then fields_after (step (config_of delimiter) s byte).1 fields field ∷ rest delimiter (step (config_of delimiter) s byte).0 [] [] text
+    else rest delimiter (step (config_of delimiter) s byte).0 (fields_after (step (config_of delimiter) s byte).1 fields field) (field_after (step (config_of delimiter) s byte).1 byte field) text
 
 no-rows : (delimiter n : ℕ) → records_from (config_of delimiter) n st.StartRecord [] ≡ []
 unfolding records_from next_record
 no-rows delimiter zero = refl
 no-rows delimiter (suc n) = refl
 
--- no byte is left
-pub scans-last : (delimiter : ℕ) (done done2 : List (List (List ℕ))) (row : List (List ℕ)) (next : Option Read) (rest : List ℕ) (all : List (List (List ℕ))) → Scans delimiter done next rest all → next ≡ Some (row, st.StartRecord, []) → done2 ≡ done ++ (row ∷ []) → done2 ≡ all
-scans-last delimiter done done2 row next rest all (n, enough, is) ends more = more ∙ ap (λ (rows : List (List (List ℕ))). done ++ (row ∷ rows)) (sym (no-rows delimiter n)) ∙ (rw ends at is)
+rest-is : (delimiter n : ℕ) (s : State) (fields : List (List ℕ)) (field text : List ℕ) → length text ≤ n
+    → records_next (records_from (config_of delimiter) n) (next_record (config_of delimiter) s fields field text) ≡ rest delimiter s fields field text
+unfolding records_from next_record
+rest-is delimiter n s fields field [] enough = elim (cases_Bool (ends_at_end s)) [
+  | inl ends ↦ rw ends (ap (λ (rows : List (List (List ℕ))). (fields ++ field ∷ []) ∷ rows) (no-rows delimiter n))
+  | inr none ↦ rw none refl
+]
+rest-is delimiter zero s fields field (byte ∷ text) enough = absurd (omega arith)
+rest-is delimiter (suc n) s fields field (byte ∷ text) enough =
+    let done = step (config_of delimiter) s byte in
+    elim (cases_Bool (is_end (step (config_of delimiter) s byte).1)) [
+      | inl ends ↦ rw ends (ap (λ (rows : List (List (List ℕ))). fields_after done.1 fields field ∷ rows) (rest-is delimiter n done.0 [] [] text (omega arith)))
+      | inr on ↦ rw on (rest-is delimiter (suc n) done.0 (fields_after done.1 fields field) (field_after done.1 byte field) text (omega arith))
+    ]
 
-pub scans-none : (delimiter : ℕ) (done : List (List (List ℕ))) (next : Option Read) (rest : List ℕ) (all : List (List (List ℕ))) → Scans delimiter done next rest all → next ≡ None → done ≡ all
-scans-none delimiter done next rest all (n, enough, is) none = sym (append-nil done) ∙ (rw none at is)
+records-are-rest : (delimiter : ℕ) (text : List ℕ) → records (config_of delimiter) text ≡ rest delimiter st.StartRecord [] [] text
+unfolding records_from
+records-are-rest delimiter text =
+    ap (λ (n : ℕ). records_from (config_of delimiter) n st.StartRecord text) (add-one (length text)) ∙ rest-is delimiter (length text) st.StartRecord [] [] text (omega arith)
+
+-- ---- those of a scan
+
+-- a byte ends a row, or none
+byte-rows : (delimiter : ℕ) (text : List ℕ) (s : State) (ends : Bool) (rows : List (List (List ℕ))) (fields : List (List ℕ)) (field : List ℕ)
+    → rows ++ (if ends then fields ∷ rest delimiter s [] [] text else rest delimiter s fields field text)
+    ≡ with_row rows (if ends then Some fields else None) ++ rest delimiter s (if ends then [] else fields) (if ends then [] else field) text
+byte-rows delimiter text s true rows fields field = sym (append_assoc rows (fields ∷ []) (rest delimiter s [] [] text))
+byte-rows delimiter text s false rows fields field = ap (λ (xs : List (List (List ℕ))). xs ++ rest delimiter s fields field text) (sym (append-nil rows))
+
+rest-scanned : (delimiter : ℕ) (scan : Scan) (text : List ℕ) → scan.rows ++ rest delimiter scan.hand.state scan.hand.fields scan.hand.field text
+    ≡ with_row (scan_from delimiter scan text).rows (last_row (scan_from delimiter scan text).hand)
+rest-scanned delimiter scan [] = refl
+rest-scanned delimiter scan (byte ∷ text) =
+    let done = step (config_of delimiter) scan.hand.state byte in
+    byte-rows delimiter text done.0 (is_end done.1) scan.rows (fields_after done.1 scan.hand.fields scan.hand.field) (field_after done.1 byte scan.hand.field)
+    ∙ rest-scanned delimiter (scan_after delimiter scan byte) text
+
+-- all rows of a text: those that ended, and the one at hand
+pub records-scanned : (delimiter : ℕ) (text : List ℕ) → records (config_of delimiter) text ≡ with_row (scan_of delimiter text).rows (last_row (scan_of delimiter text).hand)
+records-scanned delimiter text = records-are-rest delimiter text ∙ rest-scanned delimiter scan_start text
+
+-- a letter ends no row, and belongs to one
+letter-joins : (delimiter : ℕ) (s : State) → (is_end (step (config_of delimiter) s 120).1 ≡ false) × (ends_at_end (step (config_of delimiter) s 120).0 ≡ true)
+letter-joins delimiter s = elim (cases_Bool (120 == delimiter)) [
+  | inl is ↦ go s is
+  | inr other ↦ go2 s other
+] where
+  go : (s : State) → (120 == delimiter) ≡ true → (is_end (step (config_of delimiter) s 120).1 ≡ false) × (ends_at_end (step (config_of delimiter) s 120).0 ≡ true)
+  go st.StartRecord is = rw is (refl, refl)
+  go st.StartField is = rw is (refl, refl)
+  go st.InField is = rw is (refl, refl)
+  go st.InQuoted is = (refl, refl)
+  go st.AfterQuote is = rw is (refl, refl)
+  go st.InEscape is = (refl, refl)
+  go st.InComment is = (refl, refl)
+  go st.AfterCr is = rw is (refl, refl)
+
+  go2 : (s : State) → (120 == delimiter) ≡ false → (is_end (step (config_of delimiter) s 120).1 ≡ false) × (ends_at_end (step (config_of delimiter) s 120).0 ≡ true)
+  go2 st.StartRecord is = rw is (refl, refl)
+  go2 st.StartField is = rw is (refl, refl)
+  go2 st.InField is = rw is (refl, refl)
+  go2 st.InQuoted is = (refl, refl)
+  go2 st.AfterQuote is = rw is (refl, refl)
+  go2 st.InEscape is = (refl, refl)
+  go2 st.InComment is = (refl, refl)
+  go2 st.AfterCr is = rw is (refl, refl)
+
+all-but-last : {X : Type 0} (xs : List X) (x : X) → take (length (xs ++ x ∷ []) - 1) (xs ++ x ∷ []) ≡ xs
+all-but-last xs x =
+    let long : length (xs ++ x ∷ []) - 1 ≡ length xs = omega (arith, length-append xs (x ∷ [])) in
+    rw long (take-append_seam xs (x ∷ []))
+
+-- the rows that end in a text are those that a scan has found
+pub ended-scanned : (delimiter : ℕ) (text : List ℕ) → ended_in delimiter text ≡ (scan_of delimiter text).rows
+ended-scanned delimiter text =
+    let s = scan_of delimiter text in
+    let letter = letter-joins delimiter s.hand.state in
+    let behind = fold-append (scan_after delimiter) scan_start text (120 ∷ []) in
+    let all = records-scanned delimiter (text ++ 120 ∷ []) ∙ ap (λ (t : Scan). with_row t.rows (last_row t.hand)) behind in
+    let rows = rw (letter.0, letter.1, append-nil s.rows) at all in
+    ap (λ (rs : List (List (List ℕ))). take (length rs - 1) rs) rows ∙ all-but-last s.rows _
+
+-- ---- what else it has
+
+pub state-scanned : (delimiter : ℕ) (scan : Scan) (text : List ℕ) → (scan_from delimiter scan text).hand.state ≡ state_from delimiter scan.hand.state text
+state-scanned delimiter scan [] = refl
+state-scanned delimiter scan (byte ∷ text) = state-scanned delimiter (scan_after delimiter scan byte) text
+
+-- a scan over two texts
+pub scan-append : (delimiter : ℕ) (scan : Scan) (text more : List ℕ) → scan_from delimiter scan (text ++ more) ≡ scan_from delimiter (scan_from delimiter scan text) more
+scan-append delimiter scan text more = fold-append (scan_after delimiter) scan text more
+
+pub fault-stays : (delimiter : ℕ) (scan : Scan) (text : List ℕ) (fault : _) → scan.fault ≡ Some fault → (scan_from delimiter scan text).fault ≡ Some fault
+fault-stays delimiter scan [] fault found = found
+fault-stays delimiter scan (byte ∷ text) fault found = fault-stays delimiter (scan_after delimiter scan byte) text fault (rw found refl)

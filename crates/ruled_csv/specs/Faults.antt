@@ -1,10 +1,11 @@
 -- Why rows can't be read.
-use Rattle.std.specs.Prelude.{◌≡◌, ◌≢◌, ℕ, ◌+◌, ◌==◌, not, List, [], ◌∷◌, length, Option, Some, None, Result, Ok, Err, if◌then◌else◌}
+use Rattle.std.specs.Prelude.{◌≡◌, ◌≢◌, ℕ, ◌+◌, ◌-◌, ◌^◌, min, ◌==◌, not, List, [], ◌∷◌, length, take, Option, Some, None, Result, Ok, Err, is_none, if◌then◌else◌}
 use Rattle.std.specs.List.{list_all}
 use Rattle.std.specs.Option.{option_or}
 use Rattle.std.specs.Str.{is_utf8}
-use Rattle.ruled_csv.specs.Quotes.{quote_fault}
-use Rattle.ruled_csv.specs.Rows.{columns_of, rows_of}
+use Rattle.csv.specs.Reading.{records, strip_bom}
+use Rattle.ruled_csv.specs.Quotes.{first_behind_quote, quote_fault}
+use Rattle.ruled_csv.specs.Rows.{columns_of, config_of, ended_in}
 use Rattle.ruled_csv.specs.declared.fault.RowsFault.{RowsFault}
 use Rattle.ruled_csv.specs.declared.fault.RowsFault.TheVariants.{OpenQuote, BehindQuote, Length, Encoding, Memory}
 
@@ -21,11 +22,15 @@ abbrev pub Tells : {X : Type 0} → Option RowsFault → Result X RowsFault → 
 Tells right (Ok x) = right ≡ None
 Tells right (Err fault) = fault ≢ Memory → right ≡ Some (but_line fault)
 
+-- a row's number, up to the largest that a counter holds
+abbrev pub number_of : ℕ → ℕ
+number_of row = min row (2 ^ 64 - 1)
+
 -- what is wrong with a row: another number of fields than row 0 has, or a field that is no UTF-8
 abbrev pub row_fault : ℕ → ℕ → List (List ℕ) → Option RowsFault
 row_fault columns row fields =
-    if not (length fields == columns) then Some (Length row 0 (length fields) columns)
-    else if not (list_all is_utf8 fields) then Some (Encoding row 0)
+    if not (length fields == columns) then Some (Length (number_of row) 0 (length fields) columns)
+    else if not (list_all is_utf8 fields) then Some (Encoding (number_of row) 0)
     else None
 
 -- what is wrong with the first bad one of these rows, which are those from this row on
@@ -33,7 +38,22 @@ abbrev pub first_fault : ℕ → ℕ → List (List (List ℕ)) → Option RowsF
 first_fault columns row [] = None
 first_fault columns row (fields ∷ rows) = option_or (row_fault columns row fields) (first_fault columns (row + 1) rows)
 
--- what is wrong with bytes: their quotes, or a row
-abbrev pub rows_fault : ℕ → List ℕ → Option RowsFault
-rows_fault delimiter bytes =
-    option_or (quote_fault delimiter bytes) (first_fault (columns_of (rows_of delimiter bytes)) 0 (rows_of delimiter bytes))
+-- a text up to this place
+abbrev pub up_to : Option ℕ → List ℕ → List ℕ
+up_to None text = text
+up_to (Some n) text = take n text
+
+module _ (delimiter : ℕ) (text : List ℕ) where
+  -- the rows whose quotes stand where they may: all, or those that end above the quote that doesn't
+  abbrev pub quoted_rows : List (List (List ℕ))
+  quoted_rows =
+      if is_none (quote_fault delimiter text) then records (config_of delimiter) text
+      else ended_in delimiter (up_to (first_behind_quote delimiter text) text)
+
+  -- what is wrong with a text: the first bad row of these, or else the quote
+  abbrev pub text_fault : Option RowsFault
+  text_fault = option_or (first_fault (columns_of quoted_rows) 0 quoted_rows) (quote_fault delimiter text)
+
+-- what is wrong with bytes, without a byte order mark at their front
+unfoldable pub rows_fault : ℕ → List ℕ → Option RowsFault
+rows_fault delimiter bytes = text_fault delimiter (strip_bom bytes)

@@ -1,18 +1,30 @@
--- What only bodies and their proofs need: no contract of a call from outside stands on it.
-use Rattle.std.specs.Prelude.{ℕ, List, Option}
-use Rattle.csv.specs.Machine.{Read, next_record}
-use Rattle.csv.specs.Records.{fields_of}
+-- What only bodies and their proofs need. Of it contracts of calls from outside have only what a reader holds (`HasRead`).
+use Rattle.std.specs.Prelude.{◌≡◌, ℕ, ◌+◌, ◌-◌, ◌^◌, min, ◌==◌, ◌&&◌, ◌||◌, not, Bool, true, false, List, [], ◌∷◌, ◌++◌, fold, length, Option, Some, None, if◌then◌else◌}
+use Rattle.std.specs.List.{cons_option}
+use Rattle.std.specs.Option.{option_or}
+use Rattle.csv.specs.Machine.{ends_at_end, field_after, fields_after, is_end, step}
+use Rattle.csv.specs.Records.{fields_of, partial_of}
 use Rattle.csv.specs.declared.parser.Action.{Action}
 use Rattle.csv.specs.declared.parser.Action.TheVariants as act
 use Rattle.csv.specs.declared.parser.State.{State}
 use Rattle.csv.specs.declared.parser.State.TheVariants as st
-use Rattle.ruled_csv.specs.Rows.{config_of}
+use Rattle.ruled_csv.specs.Faults.{number_of, row_fault}
+use Rattle.ruled_csv.specs.Quotes.{is_closing, is_plain, is_quoted}
+use Rattle.ruled_csv.specs.Rows.{columns_of, config_of}
+use Rattle.ruled_csv.specs.declared.fault.RowsFault.{RowsFault}
+use Rattle.ruled_csv.specs.declared.fault.RowsFault.TheVariants.{OpenQuote, BehindQuote}
+use Rattle.ruled_csv.specs.declared.lines.Lines.{Lines}
+use Rattle.ruled_csv.specs.declared.reader.Front.{Front}
+use Rattle.ruled_csv.specs.declared.reader.Front.TheVariants as front
+use Rattle.ruled_csv.specs.declared.reader.RowReader.{RowReader}
 use Rattle.ruled_csv.specs.declared.scanner.Act.{Act}
-use Rattle.ruled_csv.specs.declared.scanner.Act.TheVariants.{Pass, Join, EndField, EndRow}
+use Rattle.ruled_csv.specs.declared.scanner.Act.TheVariants as does
 use Rattle.ruled_csv.specs.declared.scanner.Scanner.{Scanner}
 use Rattle.ruled_csv.specs.declared.scanner.Standing.{Standing}
 use Rattle.ruled_csv.specs.declared.scanner.Standing.TheVariants as at
 use Rattle.ruled_csv.specs.declared.scanner.Step.{Step}
+
+-- ---- a byte
 
 -- where the machine of csv stands
 abbrev pub state_of : Standing → State
@@ -25,14 +37,164 @@ state_of at.Closing = st.AfterQuote
 
 -- what it does
 abbrev pub action_of : Act → Action
-action_of Pass = act.Skip
-action_of Join = act.Copy
-action_of EndField = act.EndField
-action_of EndRow = act.EndRecord
+action_of does.Pass = act.Skip
+action_of does.Open = act.Skip
+action_of does.Join = act.Copy
+action_of does.Behind = act.Copy
+action_of does.EndField = act.EndField
+action_of does.EndRow = act.EndRecord
 
 abbrev pub step_of : Step → State × Action
 step_of step = (state_of step.next, action_of step.act)
 
--- the row at hand of a scan over these bytes, and what is left behind it
-abbrev pub next_row : Scanner → List ℕ → Option Read
-next_row s bytes = next_record (config_of s.delimiter) (state_of s.standing) (fields_of s.row) s.field.items bytes
+-- it opens a quote
+abbrev pub is_open : Act → Bool
+is_open does.Pass = false
+is_open does.Open = true
+is_open does.Join = false
+is_open does.Behind = false
+is_open does.EndField = false
+is_open does.EndRow = false
+
+-- it is text behind a closing quote
+abbrev pub is_act_behind : Act → Bool
+is_act_behind does.Pass = false
+is_act_behind does.Open = false
+is_act_behind does.Join = false
+is_act_behind does.Behind = true
+is_act_behind does.EndField = false
+is_act_behind does.EndRow = false
+
+-- no quote of its field stands in front
+abbrev pub is_bare : State → Bool
+is_bare state = not (is_quoted state || is_closing state)
+
+-- a byte opens a quote
+abbrev pub opens : State → State → Bool
+opens before state = is_bare before && not (is_bare state)
+
+-- a byte is text behind a closing quote
+abbrev pub is_behind : State → State → Bool
+is_behind before state = is_closing before && is_plain state
+
+-- ---- lines
+
+abbrev pub lines_start : Lines
+lines_start = record { line = 1; is_behind_return = false }
+
+abbrev pub lines_after : Lines → ℕ → Lines
+lines_after lines byte = record {
+  line = if (byte == 13) || ((byte == 10) && not lines.is_behind_return) then min (lines.line + 1) (2 ^ 64 - 1) else lines.line;
+  is_behind_return = byte == 13;
+}
+
+-- ---- the row at hand
+
+pub record Hand : Type 0 where
+  pub state : State
+  pub fields : List (List ℕ)
+  pub field : List ℕ
+  pub lines : Lines
+  -- the line of the quote that was opened last
+  pub opened : ℕ
+
+abbrev pub hand_of : Scanner → Hand
+hand_of s = record { state = state_of s.standing; fields = fields_of s.row; field = partial_of s.row ++ s.field.items; lines = s.lines; opened = s.opened }
+
+-- no row is at hand
+abbrev pub empty_hand : Hand
+empty_hand = record { state = st.StartRecord; fields = []; field = []; lines = lines_start; opened = 1 }
+
+module _ (delimiter : ℕ) (hand : Hand) (byte : ℕ) where
+  -- what a byte does to it
+  abbrev pub done : State × Action
+  done = step (config_of delimiter) hand.state byte
+
+  abbrev pub hand_after : Hand
+  hand_after = record {
+    state = done.0;
+    fields = if is_end done.1 then [] else fields_after done.1 hand.fields hand.field;
+    field = if is_end done.1 then [] else field_after done.1 byte hand.field;
+    lines = lines_after hand.lines byte;
+    opened = if opens hand.state done.0 then hand.lines.line else hand.opened;
+  }
+
+  -- the row that ends with the byte
+  abbrev pub row_ended : Option (List (List ℕ))
+  row_ended = if is_end done.1 then Some (fields_after done.1 hand.fields hand.field) else None
+
+  -- the byte is text behind a closing quote
+  abbrev pub behind_fault : Option RowsFault
+  behind_fault = if is_behind hand.state done.0 then Some (BehindQuote hand.lines.line) else None
+
+-- the row that ends where no byte is left
+abbrev pub last_row : Hand → Option (List (List ℕ))
+last_row hand = if ends_at_end hand.state then Some (hand.fields ++ hand.field ∷ []) else None
+
+-- a quote is open there
+abbrev pub open_fault : Hand → Option RowsFault
+open_fault hand = if is_quoted hand.state then Some (OpenQuote hand.opened) else None
+
+-- ---- a text
+
+-- the rows that ended, the one at hand, and the first fault of those
+pub record Scan : Type 0 where
+  pub rows : List (List (List ℕ))
+  pub hand : Hand
+  pub fault : Option RowsFault
+
+-- a row behind these, where there is one, and what is wrong with it
+abbrev pub with_row : List (List (List ℕ)) → Option (List (List ℕ)) → List (List (List ℕ))
+with_row rows row = rows ++ cons_option row []
+
+abbrev pub fault_below : List (List (List ℕ)) → Option (List (List ℕ)) → Option RowsFault
+fault_below rows None = None
+fault_below rows (Some row) = row_fault (columns_of (rows ++ row ∷ [])) (length rows) row
+
+abbrev pub scan_after : ℕ → Scan → ℕ → Scan
+scan_after delimiter scan byte = record {
+  rows = with_row scan.rows (row_ended delimiter scan.hand byte);
+  hand = hand_after delimiter scan.hand byte;
+  fault = option_or scan.fault (option_or (behind_fault delimiter scan.hand byte) (fault_below scan.rows (row_ended delimiter scan.hand byte)));
+}
+
+abbrev pub scan_start : Scan
+scan_start = record { rows = []; hand = empty_hand; fault = None }
+
+abbrev pub scan_from : ℕ → Scan → List ℕ → Scan
+scan_from delimiter scan text = fold (scan_after delimiter) scan text
+
+abbrev pub scan_of : ℕ → List ℕ → Scan
+scan_of delimiter text = scan_from delimiter scan_start text
+
+-- ---- bytes
+
+-- what stands in front of the next byte
+abbrev pub front_after : Front → ℕ → Front
+front_after front.Start byte = if byte == 0xEF then front.First else front.Text
+front_after front.First byte = if byte == 0xBB then front.Second else front.Text
+front_after front.Second byte = front.Text
+front_after front.Text byte = front.Text
+
+-- a byte is the last one of a byte order mark
+abbrev pub ends_mark : Front → ℕ → Bool
+ends_mark front.Start byte = false
+ends_mark front.First byte = false
+ends_mark front.Second byte = byte == 0xBF
+ends_mark front.Text byte = false
+
+-- how many columns these rows have, if there is one
+abbrev pub columns_known : List (List (List ℕ)) → Option ℕ
+columns_known [] = None
+columns_known (row ∷ rows) = Some (length row)
+
+-- so many rows stand above, of so many columns
+abbrev pub Counts : List (List (List ℕ)) → ℕ → Option ℕ → Type 0
+Counts above rows columns = (rows ≡ number_of (length above)) × (columns ≡ columns_known above)
+
+-- what a reader has of a scan
+pub record Holds (delimiter : ℕ) (scan : Scan) (reader : RowReader) : Type 0 where
+  pub delimiter_is : reader.scanner.delimiter ≡ delimiter
+  pub hand : hand_of reader.scanner ≡ scan.hand
+  pub counts : Counts scan.rows reader.rows reader.columns
+  pub right : scan.fault ≡ None

@@ -1,4 +1,6 @@
 pub mod Rows
-pub mod Faults
+pub mod Lines
 pub mod Quotes
+pub mod Faults
+pub mod Reading
 pub mod Inside

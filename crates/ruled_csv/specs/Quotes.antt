@@ -1,82 +1,88 @@
--- Where quotes may stand: a quote at the start of a field opens it, the next one that isn't doubled closes it, and behind
--- that one the field ends. Elsewhere a quote stands for itself.
-use Rattle.std.specs.Prelude.{ℕ, ◌+◌, ◌-◌, ◌^◌, min, ◌==◌, ◌||◌, Bool, true, false, List, fold, Option, Some, None, if◌then◌else◌}
-use Rattle.csv.specs.Reading.{strip_bom}
+-- Where quotes may stand. The reading of `csv` opens a quote at the start of a field and closes it at the next one that isn't
+-- doubled; a right text closes each quote, and ends the field behind it.
+use Rattle.std.specs.Prelude.{ℕ, zero, suc, ◌+◌, ◌&&◌, ◌||◌, Bool, true, false, List, fold, length, take, Option, Some, None, option_map, if◌then◌else◌}
+use Rattle.std.specs.List.{find, range_with_len}
+use Rattle.std.specs.Option.{option_or}
+use Rattle.csv.specs.Machine.{step}
+use Rattle.csv.specs.declared.parser.State.{State}
+use Rattle.csv.specs.declared.parser.State.TheVariants as st
+use Rattle.ruled_csv.specs.Lines.{line_behind}
+use Rattle.ruled_csv.specs.Rows.{config_of}
 use Rattle.ruled_csv.specs.declared.fault.RowsFault.{RowsFault}
 use Rattle.ruled_csv.specs.declared.fault.RowsFault.TheVariants.{OpenQuote, BehindQuote}
-use Rattle.ruled_csv.specs.declared.quotes.Place.{Place}
-use Rattle.ruled_csv.specs.declared.quotes.Place.TheVariants.{Start, Plain, Quoted, Closing, Behind}
-use Rattle.ruled_csv.specs.declared.quotes.Walk.{Walk}
 
--- a byte that ends a field, outside of quotes
-abbrev pub ends_field : ℕ → ℕ → Bool
-ends_field delimiter byte = (byte == delimiter) || ((byte == 10) || (byte == 13))
+-- where the reading of `csv` stands behind these bytes, from a state on
+abbrev pub state_from : ℕ → State → List ℕ → State
+state_from delimiter state bytes = fold (λ s byte. (step (config_of delimiter) s byte).0) state bytes
 
--- what stands in front of the next byte, by what stands in front of this one
-abbrev pub place_after : ℕ → Place → ℕ → Place
-place_after delimiter Start byte = if byte == 34 then Quoted else if ends_field delimiter byte then Start else Plain
-place_after delimiter Plain byte = if ends_field delimiter byte then Start else Plain
-place_after delimiter Quoted byte = if byte == 34 then Closing else Quoted
-place_after delimiter Closing byte = if byte == 34 then Quoted else if ends_field delimiter byte then Start else Behind
-place_after delimiter Behind byte = Behind
+abbrev pub state_behind : ℕ → List ℕ → State
+state_behind delimiter bytes = state_from delimiter st.StartRecord bytes
 
--- the line of the next byte, by that of this one; it stays where text stands behind a quote
-abbrev pub line_after : Place → ℕ → ℕ → ℕ
-line_after Start line byte = if byte == 10 then min (line + 1) (2 ^ 64 - 1) else line
-line_after Plain line byte = if byte == 10 then min (line + 1) (2 ^ 64 - 1) else line
-line_after Quoted line byte = if byte == 10 then min (line + 1) (2 ^ 64 - 1) else line
-line_after Closing line byte = if byte == 10 then min (line + 1) (2 ^ 64 - 1) else line
-line_after Behind line byte = line
+-- a quote is open
+abbrev pub is_quoted : State → Bool
+is_quoted st.StartRecord = false
+is_quoted st.StartField = false
+is_quoted st.InField = false
+is_quoted st.InQuoted = true
+is_quoted st.AfterQuote = false
+is_quoted st.InEscape = false
+is_quoted st.InComment = false
+is_quoted st.AfterCr = false
 
--- the line of the first byte of the field at hand
-abbrev pub opened_after : Place → ℕ → ℕ → ℕ
-opened_after Start line opened = line
-opened_after Plain line opened = opened
-opened_after Quoted line opened = opened
-opened_after Closing line opened = opened
-opened_after Behind line opened = opened
+-- a quote stands in front that closes the field, or is the first of two that stand for one
+abbrev pub is_closing : State → Bool
+is_closing st.StartRecord = false
+is_closing st.StartField = false
+is_closing st.InField = false
+is_closing st.InQuoted = false
+is_closing st.AfterQuote = true
+is_closing st.InEscape = false
+is_closing st.InComment = false
+is_closing st.AfterCr = false
 
--- a walk over one byte more
-abbrev pub walk_after : ℕ → Walk → ℕ → Walk
-walk_after delimiter walk byte = record {
-  place = place_after delimiter walk.place byte;
-  line = line_after walk.place walk.line byte;
-  opened = opened_after walk.place walk.line walk.opened;
-}
+-- text of a field stands in front that is in no quotes
+abbrev pub is_plain : State → Bool
+is_plain st.StartRecord = false
+is_plain st.StartField = false
+is_plain st.InField = true
+is_plain st.InQuoted = false
+is_plain st.AfterQuote = false
+is_plain st.InEscape = false
+is_plain st.InComment = false
+is_plain st.AfterCr = false
 
--- a walk that begins, on line 1
-abbrev pub walk_start : Walk
-walk_start = record { place = Start; line = 1; opened = 1 }
+module _ (delimiter : ℕ) (text : List ℕ) where
+  -- the byte at this place is text behind a closing quote
+  abbrev pub is_behind_quote : ℕ → Bool
+  is_behind_quote n = is_closing (state_behind delimiter (take n text)) && is_plain (state_behind delimiter (take (n + 1) text))
 
--- what is wrong where it ends
-abbrev pub fault_at : Place → ℕ → ℕ → Option RowsFault
-fault_at Start line opened = None
-fault_at Plain line opened = None
-fault_at Quoted line opened = Some (OpenQuote opened)
-fault_at Closing line opened = None
-fault_at Behind line opened = Some (BehindQuote line)
+  -- the first such place
+  abbrev pub first_behind_quote : Option ℕ
+  first_behind_quote = find is_behind_quote (range_with_len 0 (length text))
 
-abbrev pub walk_fault : Walk → Option RowsFault
-walk_fault walk = fault_at walk.place walk.line walk.opened
+  -- the place of the quote that the field at this place begins with: the last one, up to it, in front of which there is none
+  abbrev pub quote_at : ℕ → ℕ
+  quote_at zero = zero
+  quote_at (suc n) =
+      let state = state_behind delimiter (take (suc n) text) in
+      if is_quoted state || is_closing state then quote_at n else suc n
 
--- what is wrong with the quotes of these bytes, without a byte order mark at their front
-unfoldable pub quote_fault : ℕ → List ℕ → Option RowsFault
-quote_fault delimiter bytes = walk_fault (fold (walk_after delimiter) walk_start (strip_bom bytes))
+  -- the last quote is open at the end
+  abbrev pub open_fault : Option RowsFault
+  open_fault =
+      if is_quoted (state_behind delimiter text) then Some (OpenQuote (line_behind (take (quote_at (length text)) text)))
+      else None
+
+  -- what is wrong with the quotes: text behind one, or else one that is open at the end
+  abbrev pub quote_fault : Option RowsFault
+  quote_fault = option_or (option_map (λ n. BehindQuote (line_behind (take n text))) first_behind_quote) open_fault
 
 -- ---- line by line
 
--- a quote is open
-abbrev pub is_quoted : Place → Bool
-is_quoted Start = false
-is_quoted Plain = false
-is_quoted Quoted = true
-is_quoted Closing = false
-is_quoted Behind = false
-
--- what stands in front of a line, by whether a quote is open there
-abbrev pub place_behind : Bool → Place
-place_behind is_open = if is_open then Quoted else Start
+-- where the reading stands in front of a line, by whether a quote is open there
+abbrev pub state_in_front : Bool → State
+state_in_front is_open = if is_open then st.InQuoted else st.StartRecord
 
 -- whether a quote is open behind a line
 unfoldable pub leaves_open : ℕ → Bool → List ℕ → Bool
-leaves_open delimiter is_open line = is_quoted (fold (place_after delimiter) (place_behind is_open) line)
+leaves_open delimiter is_open line = is_quoted (state_from delimiter (state_in_front is_open) line)

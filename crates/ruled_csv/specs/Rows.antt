@@ -1,5 +1,5 @@
 -- The rows that bytes of separated values hold.
-use Rattle.std.specs.Prelude.{ℕ, List, [], ◌∷◌, length}
+use Rattle.std.specs.Prelude.{ℕ, ◌-◌, List, [], ◌∷◌, ◌++◌, length, take}
 use Rattle.csv.specs.declared.parser.Config.{Config}
 use Rattle.csv.specs.Reading.{default_config, records, strip_bom}
 
@@ -10,6 +10,16 @@ config_of delimiter = record default_config { delimiter = delimiter }
 -- the rows of these bytes, without a byte order mark at their front: each is the list of its fields
 abbrev pub rows_of : ℕ → List ℕ → List (List (List ℕ))
 rows_of delimiter bytes = records (config_of delimiter) (strip_bom bytes)
+
+-- the rows that end in a text, whatever follows it: with a letter behind the text, all but the one that has the letter
+abbrev pub ended_in : ℕ → List ℕ → List (List (List ℕ))
+ended_in delimiter text =
+    let rows = records (config_of delimiter) (text ++ 120 ∷ []) in
+    take (length rows - 1) rows
+
+-- and those of these bytes
+abbrev pub ended_rows : ℕ → List ℕ → List (List (List ℕ))
+ended_rows delimiter bytes = ended_in delimiter (strip_bom bytes)
 
 -- how many columns rows have: as many as row 0 has fields
 abbrev pub columns_of : List (List (List ℕ)) → ℕ

@@ -2,10 +2,13 @@
 #![tactic(auto)]
 
 mod fault;
+mod lines;
 mod quotes;
+mod reader;
 mod records;
 mod scanner;
 
 pub use crate::fault::RowsFault;
 pub use crate::quotes::{leaves_open, without_mark};
+pub use crate::reader::RowReader;
 pub use crate::records::read_rows;

@@ -1,12 +1,16 @@
 //! Rows that are read byte by byte.
 
-ghost use Rattle.std.specs.Prelude.{◌≡◌, ◌++◌, ◌∷◌, ℕ, List, [], true, false, Some, None, Ok, IfOk, OnOk};
-ghost use Rattle.csv.specs.Machine.{ends_at_end, in_field, start_field, step};
-ghost use Rattle.csv.specs.Records.{fields_of, partial_of};
+ghost use Rattle.std.specs.Prelude.{◌≡◌, ◌++◌, ◌∷◌, ℕ, [], false, true, not, IfOk, OnOk, option_map};
+ghost use Rattle.csv.specs.Machine.{in_field, start_field, step};
+ghost use Rattle.csv.specs.Records.{fields_of};
 ghost use Rattle.csv.specs.declared.parser.State.TheVariants as st;
-ghost use Rattle.ruled_csv.specs.Inside.{next_row, state_of, step_of};
+ghost use Rattle.ruled_csv.specs.Faults.{Tells};
+ghost use Rattle.ruled_csv.specs.Inside.{behind_fault, empty_hand, hand_after, hand_of, is_act_behind, is_bare, is_behind, is_open, last_row, open_fault, opens, row_ended, state_of, step_of};
+ghost use Rattle.ruled_csv.specs.Quotes.{is_plain, is_quoted};
 ghost use Rattle.ruled_csv.specs.Rows.{config_of};
 
+use crate::fault::RowsFault;
+use crate::lines::Lines;
 use csv::ByteRecord;
 use std::alloc::{AllocError, Global};
 
@@ -32,8 +36,12 @@ pub(crate) enum Standing {
 pub(crate) enum Act {
     /// Nothing more.
     Pass,
+    /// It opens a quote.
+    Open,
     /// It joins the field at hand.
     Join,
+    /// It joins the field at hand, though the quote closed that it begins with.
+    Behind,
     /// It ends the field at hand.
     EndField,
     /// It ends the field at hand, and its row.
@@ -49,7 +57,10 @@ pub(crate) struct Step {
 
 // What a byte does that can't open a quote.
 fn plain_step(delimiter: u8, byte: u8) -> Step
-    ensures { step_of result ≡ in_field (config_of delimiter) byte }
+    ensures step { step_of result ≡ in_field (config_of delimiter) byte }
+    ensures opens { is_open result.act ≡ false }
+    ensures behind { is_act_behind result.act ≡ false }
+    ensures bare { is_bare (state_of result.next) ≡ true }
 {
     let (next, act) = match byte {
         _ if byte == delimiter => (Standing::Field, Act::EndField),
@@ -60,14 +71,33 @@ fn plain_step(delimiter: u8, byte: u8) -> Step
     Step { next, act }
 }
 
+// What a byte does behind a closing quote.
+fn behind_step(delimiter: u8, byte: u8) -> Step
+    ensures step { step_of result ≡ in_field (config_of delimiter) byte }
+    ensures opens { is_open result.act ≡ false }
+    ensures behind { is_act_behind result.act ≡ is_plain (state_of result.next) }
+    ensures bare { is_bare (state_of result.next) ≡ true }
+{
+    let step = plain_step(delimiter, byte);
+    match step.act {
+        Act::Join => Step {
+            next: step.next,
+            act: Act::Behind,
+        },
+        _ => step,
+    }
+}
+
 // What the first byte of a field does.
 fn first_step(delimiter: u8, byte: u8) -> Step
-    ensures { step_of result ≡ start_field (config_of delimiter) byte }
+    ensures step { step_of result ≡ start_field (config_of delimiter) byte }
+    ensures opens { is_open result.act ≡ not (is_bare (state_of result.next)) }
+    ensures behind { is_act_behind result.act ≡ false }
 {
     if byte == b'"' {
         return Step {
             next: Standing::Quoted,
-            act: Act::Pass,
+            act: Act::Open,
         };
     }
     plain_step(delimiter, byte)
@@ -75,7 +105,9 @@ fn first_step(delimiter: u8, byte: u8) -> Step
 
 // What a byte does between quotes.
 fn quoted_step(byte: u8) -> Step
-    ensures { (delimiter : ℕ) → step_of result ≡ step (config_of delimiter) st.InQuoted byte }
+    ensures step { (delimiter : ℕ) → step_of result ≡ step (config_of delimiter) st.InQuoted byte }
+    ensures opens { is_open result.act ≡ false }
+    ensures behind { is_act_behind result.act ≡ false }
 {
     let (next, act) = if byte == b'"' {
         (Standing::Closing, Act::Pass)
@@ -88,7 +120,9 @@ fn quoted_step(byte: u8) -> Step
 impl Standing {
     // What the byte behind this does.
     fn step(self, delimiter: u8, byte: u8) -> Step
-        ensures { step_of result ≡ step (config_of delimiter) (state_of self) byte }
+        ensures step { step_of result ≡ step (config_of delimiter) (state_of self) byte }
+        ensures opens { is_open result.act ≡ opens (state_of self) (state_of result.next) }
+        ensures behind { is_act_behind result.act ≡ is_behind (state_of self) (state_of result.next) }
     {
         match self {
             Standing::Row | Standing::Return if byte == b'\r' || byte == b'\n' => Step {
@@ -102,15 +136,27 @@ impl Standing {
                 next: Standing::Quoted,
                 act: Act::Join,
             },
-            Standing::Closing => plain_step(delimiter, byte),
+            Standing::Closing => behind_step(delimiter, byte),
         }
     }
 
-    // Whether a row ends here where no byte is left.
-    fn ends_row(self) -> bool
-        ensures { result ≡ ends_at_end (state_of self) }
+    /// What stands in front of the byte behind this one.
+    pub(crate) fn after(self, delimiter: u8, byte: u8) -> Standing
+        ensures { state_of result ≡ (step (config_of delimiter) (state_of self) byte).0 }
     {
-        !matches!(self, Standing::Row | Standing::Return)
+        self.step(delimiter, byte).next
+    }
+
+    /// Whether a quote is open.
+    pub(crate) fn is_quoted(self) -> bool
+        ensures { result ≡ is_quoted (state_of self) }
+    {
+        matches!(self, Standing::Quoted)
+    }
+
+    // Whether no row is at hand.
+    fn is_between(self) -> bool {
+        matches!(self, Standing::Row | Standing::Return)
     }
 }
 
@@ -121,32 +167,50 @@ pub(crate) struct Scanner {
     standing: Standing,
     row: ByteRecord,
     field: Vec<u8>,
+    lines: Lines,
+    // The line of the quote that was opened last.
+    opened: usize,
+    // The line on which the row at hand begins, or the one that ended.
+    begun: usize,
 }
 
 impl Scanner {
     /// A scan that begins.
     pub(crate) fn new(alloc: Global, delimiter: u8) -> Scanner
         ensures delimiter { result.delimiter ≡ delimiter }
-        ensures standing { result.standing ≡ Standing.Row }
-        ensures fields { fields_of result.row ≡ [] }
-        ensures whole { partial_of result.row ≡ [] }
-        ensures field { result.field.items ≡ [] }
+        ensures hand { hand_of result ≡ empty_hand }
     {
         Scanner {
             delimiter,
             standing: Standing::Row,
             row: ByteRecord::new(alloc),
             field: Vec::new(alloc),
+            lines: Lines::new(),
+            opened: 1,
+            begun: 1,
         }
+    }
+
+    /// Begins anew.
+    pub(crate) fn restart(&mut self)
+        ensures delimiter { self.new.delimiter ≡ self.old.delimiter }
+        ensures hand { hand_of self.new ≡ empty_hand }
+    {
+        self.standing = Standing::Row;
+        self.row.clear();
+        self.field.clear();
+        self.lines = Lines::new();
+        self.opened = 1;
+    }
+
+    /// The line on which the row begins that ended last.
+    pub(crate) fn begun(&self) -> usize {
+        self.begun
     }
 
     // Ends the field at hand.
     fn end_field(&mut self) -> Result<(), AllocError>
-        requires { partial_of self.old.row ≡ [] }
-        ensures fields { OnOk result (fields_of self.new.row ≡ fields_of self.old.row ++ (self.old.field.items ∷ [])) }
-        ensures whole { OnOk result (partial_of self.new.row ≡ []) }
-        ensures field { OnOk result (self.new.field.items ≡ []) }
-        ensures standing { self.new.standing ≡ self.old.standing }
+        ensures hand { OnOk result (hand_of self.new ≡ record (hand_of self.old) { fields = (hand_of self.old).fields ++ ((hand_of self.old).field ∷ []); field = [] }) }
         ensures delimiter { self.new.delimiter ≡ self.old.delimiter }
     {
         self.row.push_field(&self.field)?;
@@ -154,58 +218,60 @@ impl Scanner {
         Ok(())
     }
 
-    /// Reads a byte, and tells whether the row at hand ends with it.
-    pub(crate) fn read(&mut self, byte: u8) -> Result<bool, AllocError>
-        requires { partial_of self.old.row ≡ [] }
-        ensures goes_on { result ≡ Ok false → (rest : List ℕ) → next_row self.old (byte ∷ rest) ≡ next_row self.new rest }
-        ensures ends { result ≡ Ok true → (rest : List ℕ) → next_row self.old (byte ∷ rest) ≡ Some (fields_of self.new.row, state_of self.new.standing, rest) }
-        ensures field { result ≡ Ok true → self.new.field.items ≡ [] }
-        ensures whole { OnOk result (partial_of self.new.row ≡ []) }
+    // Ends the row at hand, in place of which another one begins.
+    fn end_row(&mut self) -> Result<ByteRecord, AllocError>
+        ensures row { IfOk result (λ row. fields_of row ≡ (hand_of self.old).fields ++ ((hand_of self.old).field ∷ [])) }
+        ensures hand { OnOk result (hand_of self.new ≡ record (hand_of self.old) { fields = []; field = [] }) }
         ensures delimiter { self.new.delimiter ≡ self.old.delimiter }
     {
-        let step = self.standing.step(self.delimiter, byte);
-        self.standing = step.next;
-        match step.act {
-            Act::Pass => Ok(false),
-            Act::Join => {
-                self.field.push(byte)?;
-                Ok(false)
-            }
-            Act::EndField => {
-                self.end_field()?;
-                Ok(false)
-            }
-            Act::EndRow => {
-                self.end_field()?;
-                Ok(true)
-            }
-        }
-    }
-
-    /// Tells whether a row ends where no byte is left.
-    pub(crate) fn end(&mut self) -> Result<bool, AllocError>
-        requires { partial_of self.old.row ≡ [] }
-        ensures row { result ≡ Ok true → next_row self.old [] ≡ Some (fields_of self.new.row, st.StartRecord, []) }
-        ensures none { result ≡ Ok false → next_row self.old [] ≡ None }
-    {
-        if self.standing.ends_row() {
-            self.end_field()?;
-            return Ok(true);
-        }
-        Ok(false)
-    }
-
-    /// The row that ended, in place of which another one begins.
-    pub(crate) fn take(&mut self) -> Result<ByteRecord, AllocError>
-        ensures row { IfOk result (λ row. fields_of row ≡ fields_of self.old.row) }
-        ensures fields { OnOk result (fields_of self.new.row ≡ []) }
-        ensures whole { OnOk result (partial_of self.new.row ≡ []) }
-        ensures field { self.new.field.items ≡ self.old.field.items }
-        ensures standing { self.new.standing ≡ self.old.standing }
-        ensures delimiter { self.new.delimiter ≡ self.old.delimiter }
-    {
+        self.end_field()?;
         let row = self.row.clone()?;
         self.row.clear();
         Ok(row)
+    }
+
+    /// Reads a byte, and gives the row that ends with it.
+    pub(crate) fn read(&mut self, byte: u8) -> Result<Option<ByteRecord>, RowsFault>
+        ensures row { IfOk result (λ found. option_map fields_of found ≡ row_ended self.old.delimiter (hand_of self.old) byte) }
+        ensures hand { OnOk result (hand_of self.new ≡ hand_after self.old.delimiter (hand_of self.old) byte) }
+        ensures fault { Tells (behind_fault self.old.delimiter (hand_of self.old) byte) result }
+        ensures delimiter { self.new.delimiter ≡ self.old.delimiter }
+    {
+        let step = self.standing.step(self.delimiter, byte);
+        let line = self.lines.line();
+        if self.standing.is_between() {
+            self.begun = line;
+        }
+        self.standing = step.next;
+        self.lines = self.lines.after(byte);
+        match step.act {
+            Act::Pass => Ok(None),
+            Act::Open => {
+                self.opened = line;
+                Ok(None)
+            }
+            Act::Join => {
+                self.field.push(byte)?;
+                Ok(None)
+            }
+            Act::Behind => Err(RowsFault::BehindQuote { line }),
+            Act::EndField => {
+                self.end_field()?;
+                Ok(None)
+            }
+            Act::EndRow => Ok(Some(self.end_row()?)),
+        }
+    }
+
+    /// The row that ends where no byte is left.
+    pub(crate) fn end(&mut self) -> Result<Option<ByteRecord>, RowsFault>
+        ensures row { IfOk result (λ found. option_map fields_of found ≡ last_row (hand_of self.old)) }
+        ensures fault { Tells (open_fault (hand_of self.old)) result }
+    {
+        match self.standing {
+            Standing::Row | Standing::Return => Ok(None),
+            Standing::Quoted => Err(RowsFault::OpenQuote { line: self.opened }),
+            _ => Ok(Some(self.end_row()?)),
+        }
     }
 }

@@ -1,0 +1,176 @@
+-- What a reader has of the bytes that it has read.
+use Rattle.std.proofs.Common.{◌≡◌, ◌≢◌, ◌∙◌, ◌<◌, ◌≤◌, ℕ, zero, suc, ◌+◌, false, true, List, [], ◌∷◌, ◌++◌, length, take, drop, get_or, Option, Some, None, Result, Ok, Err, refl, sym, ap, subst, append-nil, append_assoc, arith}
+use Rattle.std.specs.Prelude.{fold}
+use Rattle.std.specs.Result.{IsErrAnd}
+use Rattle.std.proofs.lemmas.List.{take-append-drop, take_more}
+use Rattle.std.proofs.lemmas.List.Sums.{fold-append}
+use Rattle.csv.specs.Reading.{strip_bom}
+use Rattle.ruled_csv.specs.Faults.{Tells, but_line, rows_fault}
+use Rattle.ruled_csv.specs.Inside.{Holds, Scan, empty_hand, ends_mark, fault_below, front_after, hand_of, last_row, open_fault, row_ended, scan_after, scan_of, scan_start, with_row}
+use Rattle.ruled_csv.specs.Reading.{AppendsRest, Foretells, HasRead}
+use Rattle.ruled_csv.specs.Rows.{ended_rows, rows_of}
+use Rattle.ruled_csv.specs.declared.fault.RowsFault.{RowsFault}
+use Rattle.ruled_csv.specs.declared.fault.RowsFault.TheVariants.{Memory}
+use Rattle.ruled_csv.specs.declared.reader.Front.{Front}
+use Rattle.ruled_csv.specs.declared.reader.Front.TheVariants as front
+use Rattle.ruled_csv.specs.declared.reader.RowReader.{RowReader}
+use Rattle.ruled_csv.specs.declared.scanner.Scanner.{Scanner}
+use Rattle.ruled_csv.proofs.Marks.{fault-behind-mark, mark-begins, mark-ends, strip-more}
+use Rattle.ruled_csv.proofs.Scans.{ended-scanned, records-scanned, scan-append}
+use Rattle.ruled_csv.proofs.TextFaults.{fault-found, fault-last}
+
+-- ---- bytes
+
+ended-is : (delimiter : ℕ) (bytes : List ℕ) → ended_rows delimiter bytes ≡ (scan_of delimiter (strip_bom bytes)).rows
+ended-is delimiter bytes = ended-scanned delimiter (strip_bom bytes)
+
+front-next : (before : List ℕ) (byte : ℕ) (old new : Front) → old ≡ fold front_after front.Start before → new ≡ front_after old byte → new ≡ fold front_after front.Start (before ++ byte ∷ [])
+front-next before byte old new is after = after ∙ ap (λ (f : Front). front_after f byte) is ∙ sym (fold-append front_after front.Start before (byte ∷ []))
+
+-- a byte that ends no mark is scanned
+pub scan-next : (delimiter : ℕ) (before : List ℕ) (byte : ℕ) → ends_mark (fold front_after front.Start before) byte ≡ false
+    → scan_of delimiter (strip_bom (before ++ byte ∷ [])) ≡ scan_after delimiter (scan_of delimiter (strip_bom before)) byte
+scan-next delimiter before byte none = ap (scan_of delimiter) (strip-more before byte none) ∙ scan-append delimiter scan_start (strip_bom before) (byte ∷ [])
+
+-- and behind one that does there is none yet
+marked : (delimiter : ℕ) (before : List ℕ) (byte : ℕ) → ends_mark (fold front_after front.Start before) byte ≡ true
+    → (scan_of delimiter (strip_bom (before ++ byte ∷ [])) ≡ scan_start) × ((scan_of delimiter (strip_bom before)).rows ≡ [])
+unfolding strip_bom
+marked delimiter before byte ends =
+    let (front, last) = mark-ends before byte ends in
+    (rw (front, last) refl, rw front (mark-begins delimiter).0)
+
+-- rows that are appended, of bytes that stand behind others
+pub appends-rows : (delimiter : ℕ) (before after : List ℕ) (old new : List (List (List ℕ))) (row : Option (List (List ℕ)))
+    → (scan_of delimiter (strip_bom after)).rows ≡ with_row (scan_of delimiter (strip_bom before)).rows row → new ≡ with_row old row → AppendsRest (ended_rows delimiter before) (ended_rows delimiter after) old new
+appends-rows delimiter before after old new row rows is = (with_row [] row, is, rw (ended-is delimiter before, ended-is delimiter after) (sym rows))
+
+pub appends-none : (above old : List (List (List ℕ))) → AppendsRest above above old old
+appends-none above old = ([], sym (append-nil old), append-nil above)
+
+pub appends-more : (above between all old mid new : List (List (List ℕ))) → AppendsRest above between old mid → AppendsRest between all mid new → AppendsRest above all old new
+appends-more above between all old mid new (first, mid-is, between-is) (second, new-is, all-is) = (
+  first ++ second,
+  new-is ∙ ap (λ (rows : List (List (List ℕ))). rows ++ second) mid-is ∙ append_assoc old first second,
+  sym (append_assoc above first second) ∙ ap (λ (rows : List (List (List ℕ))). rows ++ second) between-is ∙ all-is,
+)
+
+-- ---- a byte more
+
+-- the last byte of a mark
+pub read-mark : (delimiter : ℕ) (before : List ℕ) (byte : ℕ) (old new : RowReader) → HasRead delimiter before old → ends_mark old.front byte ≡ true
+    → new.front ≡ front_after old.front byte → new.scanner.delimiter ≡ old.scanner.delimiter → hand_of new.scanner ≡ empty_hand → new.rows ≡ old.rows → new.columns ≡ old.columns
+    → HasRead delimiter (before ++ byte ∷ []) new
+read-mark delimiter before byte old new read ends after same empty rows columns =
+    let (anew, none) = marked delimiter before byte (sym (ap (λ (f : Front). ends_mark f byte) read.front) ∙ ends) in
+    record {
+      front = front-next before byte old.front new.front read.front after;
+      scan = subst (λ (s : Scan). Holds delimiter s new) (sym anew) (record {
+        delimiter_is = same ∙ read.scan.delimiter_is;
+        hand = empty;
+        counts = (rows ∙ (rw none at read.scan.counts.0), columns ∙ (rw none at read.scan.counts.1));
+        right = refl;
+      });
+    }
+
+pub mark-rows : (delimiter : ℕ) (before : List ℕ) (byte : ℕ) (old : RowReader) (rows : List (List (List ℕ))) → HasRead delimiter before old → ends_mark old.front byte ≡ true
+    → AppendsRest (ended_rows delimiter before) (ended_rows delimiter (before ++ byte ∷ [])) rows rows
+mark-rows delimiter before byte old rows read ends =
+    let (anew, none) = marked delimiter before byte (sym (ap (λ (f : Front). ends_mark f byte) read.front) ∙ ends) in
+    ([], sym (append-nil rows), append-nil (ended_rows delimiter before) ∙ ended-is delimiter before ∙ none ∙ ap (λ (s : Scan). s.rows) (sym anew) ∙ sym (ended-is delimiter (before ++ byte ∷ [])))
+
+-- each other byte
+module _ (delimiter : ℕ) (before : List ℕ) (byte : ℕ) (old : RowReader) (read : HasRead delimiter before old) (none : ends_mark old.front byte ≡ false) where
+  next-is : scan_of delimiter (strip_bom (before ++ byte ∷ [])) ≡ scan_after delimiter (scan_of delimiter (strip_bom before)) byte
+  next-is = scan-next delimiter before byte (sym (ap (λ (f : Front). ends_mark f byte) read.front) ∙ none)
+
+  -- whatever stands in front of the next one, its scan is that of the text
+  pub holds-still : (now : RowReader) → now.scanner ≡ old.scanner → now.rows ≡ old.rows → now.columns ≡ old.columns → Holds delimiter (scan_of delimiter (strip_bom before)) now
+  holds-still now scanner rows columns = record {
+    delimiter_is = ap (λ (s : Scanner). s.delimiter) scanner ∙ read.scan.delimiter_is;
+    hand = ap hand_of scanner ∙ read.scan.hand;
+    counts = (rows ∙ read.scan.counts.0, columns ∙ read.scan.counts.1);
+    right = read.scan.right;
+  }
+
+  pub read-scanned : (new : RowReader) → new.front ≡ front_after old.front byte → Holds delimiter (scan_after delimiter (scan_of delimiter (strip_bom before)) byte) new → HasRead delimiter (before ++ byte ∷ []) new
+  read-scanned new after holds = record {
+    front = front-next before byte old.front new.front read.front after;
+    scan = subst (λ (s : Scan). Holds delimiter s new) (sym next-is) holds;
+  }
+
+  pub rows-scanned : (above new : List (List (List ℕ))) → new ≡ with_row above (row_ended delimiter (scan_of delimiter (strip_bom before)).hand byte)
+      → AppendsRest (ended_rows delimiter before) (ended_rows delimiter (before ++ byte ∷ [])) above new
+  rows-scanned above new is = appends-rows delimiter before (before ++ byte ∷ []) above new (row_ended delimiter (scan_of delimiter (strip_bom before)).hand byte) (ap (λ (s : Scan). s.rows) next-is) is
+
+  pub fault-scanned : (behind : List ℕ) (fault : RowsFault) → (scan_after delimiter (scan_of delimiter (strip_bom before)) byte).fault ≡ Some fault → rows_fault delimiter ((before ++ byte ∷ []) ++ behind) ≡ Some fault
+  unfolding rows_fault
+  fault-scanned behind fault found =
+      fault-found delimiter (strip_bom ((before ++ byte ∷ []) ++ behind)) fault (fault-behind-mark delimiter (before ++ byte ∷ []) behind fault (ap (λ (s : Scan). s.fault) next-is ∙ found))
+
+-- ---- no byte is left
+
+module _ (delimiter : ℕ) (bytes : List ℕ) (reader : RowReader) (read : HasRead delimiter bytes reader) where
+  -- a quote that is open is the fault of all bytes
+  pub fault-open : (fault : RowsFault) → open_fault (hand_of reader.scanner) ≡ Some fault → rows_fault delimiter bytes ≡ Some fault
+  unfolding rows_fault
+  fault-open fault is = fault-last delimiter (strip_bom bytes) read.scan.right ∙ rw (← read.scan.hand, is) refl
+
+  -- and else what is wrong with the last row
+  pub fault-end : (row : Option (List (List ℕ))) → open_fault (hand_of reader.scanner) ≡ None → row ≡ last_row (hand_of reader.scanner)
+      → rows_fault delimiter bytes ≡ fault_below (scan_of delimiter (strip_bom bytes)).rows row
+  unfolding rows_fault
+  fault-end row none is = fault-last delimiter (strip_bom bytes) read.scan.right ∙ rw (← read.scan.hand, none, is) refl
+
+  -- which stands below those that ended
+  pub rows-end : (row : Option (List (List ℕ))) (above new : List (List (List ℕ))) → row ≡ last_row (hand_of reader.scanner) → new ≡ with_row above row → AppendsRest (ended_rows delimiter bytes) (rows_of delimiter bytes) above new
+  rows-end row above new is all = (
+    with_row [] row,
+    all,
+    rw (ended-is delimiter bytes, records-scanned delimiter (strip_bom bytes), ← read.scan.hand, is) refl,
+  )
+
+-- ---- what is told
+
+pub told-on : {X : Type 0} (found : RowsFault) (wrong right : Option RowsFault) (result : Result X RowsFault) → (found ≢ Memory → wrong ≡ Some (but_line found)) → ((fault : RowsFault) → wrong ≡ Some fault → right ≡ Some fault)
+    → IsErrAnd result (λ fault. fault ≡ found) → Tells right result
+told-on found wrong right (Ok x) is on told = absurd told
+told-on found wrong right (Err fault) is on told = λ other. on (but_line fault) (is (λ e. other (told ∙ e)) ∙ ap (λ (f : RowsFault). Some (but_line f)) (sym told))
+
+pub foretold-on : {X : Type 0} (found : RowsFault) (right : Option RowsFault) (result : Result X RowsFault) → (found ≢ Memory → right ≡ Some (but_line found))
+    → IsErrAnd result (λ fault. fault ≡ found) → Foretells right result
+foretold-on found right (Ok x) is told = absurd told
+foretold-on found right (Err fault) is told = λ other. is (λ e. other (told ∙ e)) ∙ ap (λ (f : RowsFault). Some (but_line f)) (sym told)
+
+pub foretold : {X : Type 0} (wrong right : Option RowsFault) (result : Result X RowsFault) → ((fault : RowsFault) → wrong ≡ Some fault → right ≡ Some fault) → Foretells wrong result → Foretells right result
+foretold wrong right (Ok x) on told = tt
+foretold wrong right (Err fault) on told = λ other. on (but_line fault) (told other)
+
+-- ---- bytes among others
+
+pub take-whole : (bytes : List ℕ) (i : ℕ) → length bytes ≤ i → take i bytes ≡ bytes
+take-whole [] zero past = refl
+take-whole [] (suc i) past = refl
+take-whole (byte ∷ bytes) zero past = absurd (omega arith)
+take-whole (byte ∷ bytes) (suc i) past = ap (λ (xs : List ℕ). byte ∷ xs) (take-whole bytes i (omega (arith, past)))
+
+-- the bytes up to a place, with those in front of all
+pub front-more : (before bytes : List ℕ) (i : ℕ) → i < length bytes → before ++ take (i + 1) bytes ≡ (before ++ take i bytes) ++ get_or bytes i 0 ∷ []
+front-more before bytes i within = ap (λ (xs : List ℕ). before ++ xs) (take_more bytes i 0 within) ∙ sym (append_assoc before (take i bytes) (get_or bytes i 0 ∷ []))
+
+pub front-whole : (before bytes behind : List ℕ) (i : ℕ) → i < length bytes → ((before ++ take i bytes) ++ get_or bytes i 0 ∷ []) ++ (drop (i + 1) bytes ++ behind) ≡ (before ++ bytes) ++ behind
+front-whole before bytes behind i within =
+    ap (λ (xs : List ℕ). xs ++ (drop (i + 1) bytes ++ behind)) (sym (front-more before bytes i within))
+    ∙ sym (append_assoc (before ++ take (i + 1) bytes) (drop (i + 1) bytes) behind)
+    ∙ ap (λ (xs : List ℕ). xs ++ behind) (append_assoc before (take (i + 1) bytes) (drop (i + 1) bytes) ∙ ap (λ (xs : List ℕ). before ++ xs) (take-append-drop (i + 1) bytes))
+
+pub none-ended : (delimiter : ℕ) → ended_rows delimiter [] ≡ []
+unfolding strip_bom
+none-ended delimiter = ended-is delimiter []
+
+-- all rows are given: those that end among the bytes, and then the last one
+pub all-given : (delimiter : ℕ) (bytes : List ℕ) (old mid new : List (List (List ℕ))) → old ≡ [] → AppendsRest (ended_rows delimiter []) (ended_rows delimiter bytes) old mid → AppendsRest (ended_rows delimiter bytes) (rows_of delimiter bytes) mid new
+    → new ≡ rows_of delimiter bytes
+all-given delimiter bytes old mid new none read last =
+    let (rows, is, all) = appends-more (ended_rows delimiter []) (ended_rows delimiter bytes) (rows_of delimiter bytes) old mid new read last in
+    is ∙ ap (λ (xs : List (List (List ℕ))). xs ++ rows) (none ∙ sym (none-ended delimiter)) ∙ all

@@ -1,0 +1,312 @@
+-- What is wrong with a text, by a scan over it.
+use Rattle.std.proofs.Common.{◌≡◌, ◌≤◌, ◌<◌, ◌∙◌, ℕ, zero, suc, ◌+◌, ◌-◌, unwrap_or, subst, Bool, true, false, List, [], ◌∷◌, ◌++◌, length, length-append, take, Option, Some, None, inl, inr, refl, sym, ap, append-nil, append_assoc, add-one, arith}
+use Rattle.std.specs.Prelude.{◌==◌, ◌||◌, ◌^◌, min, not, if◌then◌else◌, fold, option_map, is_none}
+use Rattle.std.specs.List.{count_by, find, range_with_len, zip}
+use Rattle.std.specs.Option.{option_or}
+use Rattle.std.proofs.lemmas.Bool.{cases_Bool, false≢true, true≢false}
+use Rattle.std.proofs.lemmas.List.{take-append-le}
+use Rattle.std.proofs.lemmas.List.Folds.{find-append}
+use Rattle.std.proofs.lemmas.List.Sums.{sum_by-append}
+use Rattle.std.proofs.Math.Seq.{take-append_seam}
+use Rattle.csv.specs.Reading.{records}
+use Rattle.csv.specs.declared.parser.State.{State}
+use Rattle.ruled_csv.specs.Faults.{first_fault, row_fault, text_fault, up_to}
+use Rattle.ruled_csv.specs.Inside as scan
+use Rattle.ruled_csv.specs.Inside.{Hand, Scan, behind_fault, fault_below, is_bare, is_behind, last_row, lines_after, lines_start, row_ended, scan_after, scan_from, scan_of, scan_start, with_row}
+use Rattle.ruled_csv.specs.Lines.{ends_line, line_behind}
+use Rattle.ruled_csv.specs.Quotes.{first_behind_quote, is_behind_quote, is_closing, is_quoted, open_fault, quote_at, quote_fault, state_behind}
+use Rattle.ruled_csv.specs.Rows.{columns_of, config_of, ended_in}
+use Rattle.ruled_csv.specs.declared.fault.RowsFault.{RowsFault}
+use Rattle.ruled_csv.specs.declared.fault.RowsFault.TheVariants.{OpenQuote, BehindQuote}
+use Rattle.ruled_csv.specs.declared.lines.Lines.{Lines}
+use Rattle.ruled_csv.proofs.Scans.{ended-scanned, records-scanned, scan-append, state-scanned}
+
+-- ---- byte by byte
+
+-- what holds of no text, and of a text with a byte more, holds of each
+by-bytes : (P : List ℕ → Type 0) → P [] → ((text : List ℕ) (byte : ℕ) → P text → P (text ++ byte ∷ [])) → (text : List ℕ) → P text
+by-bytes P none more text = go [] text none where
+  go : (front text : List ℕ) → P front → P (front ++ text)
+  go front [] holds = subst P (sym (append-nil front)) holds
+  go front (byte ∷ text) holds = subst P (append_assoc front (byte ∷ []) text) (go (front ++ byte ∷ []) text (more front byte holds))
+
+scan-more : (delimiter : ℕ) (text : List ℕ) (byte : ℕ) → scan_of delimiter (text ++ byte ∷ []) ≡ scan_after delimiter (scan_of delimiter text) byte
+scan-more delimiter text byte = scan-append delimiter scan_start text (byte ∷ [])
+
+state-is : (delimiter : ℕ) (text : List ℕ) → (scan_of delimiter text).hand.state ≡ state_behind delimiter text
+state-is delimiter text = state-scanned delimiter scan_start text
+
+-- the front of a text with a byte more
+front-of : (text : List ℕ) (byte n : ℕ) → n ≤ length text → take n (text ++ byte ∷ []) ≡ take n text
+front-of text byte n within = take-append-le n text (byte ∷ []) within
+
+take-all : (text : List ℕ) → take (length text) text ≡ text
+take-all [] = refl
+take-all (byte ∷ text) = ap (λ (xs : List ℕ). byte ∷ xs) (take-all text)
+
+-- ---- lines
+
+lines-scanned : (delimiter : ℕ) (s : Scan) (text : List ℕ) → (scan_from delimiter s text).hand.lines ≡ fold lines_after s.hand.lines text
+lines-scanned delimiter s [] = refl
+lines-scanned delimiter s (byte ∷ text) = lines-scanned delimiter (scan_after delimiter s byte) text
+
+abbrev count-at : (count before : ℕ) → Lines
+count-at count before = record { line = min (1 + count) (2 ^ 64 - 1); is_behind_return = before == 13 }
+
+-- a byte that ends a line, or none, in front of others
+lines-step : (ends : Bool) (count byte rest : ℕ) (text : List ℕ) → ((n : ℕ) → (fold lines_after (count-at n byte) text).line ≡ min (1 + (n + rest)) (2 ^ 64 - 1))
+    → (fold lines_after (record { line = if ends then min (min (1 + count) (2 ^ 64 - 1) + 1) (2 ^ 64 - 1) else min (1 + count) (2 ^ 64 - 1); is_behind_return = byte == 13 }) text).line
+    ≡ min (1 + (count + ((0 + (if ends then 1 else 0)) + rest))) (2 ^ 64 - 1)
+lines-step true count byte rest text behind =
+    let step : min (min (1 + count) (2 ^ 64 - 1) + 1) (2 ^ 64 - 1) ≡ min (1 + (count + 1)) (2 ^ 64 - 1) = omega arith in
+    let sum : (count + 1) + rest ≡ count + ((0 + 1) + rest) = omega arith in
+    ap (λ (n : ℕ). (fold lines_after (record { line = n; is_behind_return = byte == 13 }) text).line) step
+    ∙ behind (count + 1)
+    ∙ ap (λ (n : ℕ). min (1 + n) (2 ^ 64 - 1)) sum
+lines-step false count byte rest text behind =
+    let sum : count + rest ≡ count + ((0 + 0) + rest) = omega arith in
+    behind count ∙ ap (λ (n : ℕ). min (1 + n) (2 ^ 64 - 1)) sum
+
+lines-counted : (count before : ℕ) (text : List ℕ) → (fold lines_after (count-at count before) text).line ≡ min (1 + (count + count_by ends_line (zip (before ∷ text) text))) (2 ^ 64 - 1)
+lines-counted count before [] = let sum : count ≡ count + 0 = omega arith in ap (λ (n : ℕ). min (1 + n) (2 ^ 64 - 1)) sum
+lines-counted count before (byte ∷ text) =
+    let tail = zip (byte ∷ text) text in
+    lines-step (ends_line (before, byte)) count byte (count_by ends_line tail) text (λ n. lines-counted n byte text)
+    ∙ ap (λ (n : ℕ). min (1 + (count + n)) (2 ^ 64 - 1)) (sym (sum_by-append (λ pair. if ends_line pair then 1 else 0) ((before, byte) ∷ []) tail))
+
+-- the line at which a scan has come
+line-is : (delimiter : ℕ) (text : List ℕ) → (scan_of delimiter text).hand.lines.line ≡ line_behind text
+line-is delimiter text =
+    let all = count_by ends_line (zip (0 ∷ text) text) in
+    let sum : 0 + all ≡ all = omega arith in
+    ap (λ (lines : Lines). lines.line) (lines-scanned delimiter scan_start text) ∙ lines-counted 0 0 text ∙ ap (λ (n : ℕ). min (1 + n) (2 ^ 64 - 1)) sum
+
+-- ---- text behind a quote
+
+range-more : (a n : ℕ) → range_with_len a (suc n) ≡ range_with_len a n ++ (a + n) ∷ []
+range-more a zero = ap (λ (k : ℕ). k ∷ []) (omega arith)
+range-more a (suc n) = ap (λ (ks : List ℕ). a ∷ ks) (range-more (a + 1) n ∙ ap (λ (k : ℕ). range_with_len (a + 1) n ++ k ∷ []) (omega arith))
+
+find-same : (p q : ℕ → Bool) (a n : ℕ) → ((k : ℕ) → k < a + n → p k ≡ q k) → find p (range_with_len a n) ≡ find q (range_with_len a n)
+find-same p q a zero same = refl
+find-same p q a (suc n) same =
+    rw (same a (omega arith), find-same p q (a + 1) n (λ k within. same k (omega (arith, within)))) refl
+
+find-within : (p : ℕ → Bool) (a n k : ℕ) → find p (range_with_len a n) ≡ Some k → k < a + n
+find-within p a zero k found = let e = found in cc
+find-within p a (suc n) k found = elim (cases_Bool (p a)) [
+  | inl is-true ↦ let is : a ≡ k = some-same (rw is-true at found) in omega (arith, is)
+  | inr is-false ↦ let below = find-within p (a + 1) n k (rw is-false at found) in omega (arith, below)
+] where
+  some-same : {x y : ℕ} → Some x ≡ Some y → x ≡ y
+  some-same e = ap (λ (o : Option ℕ). unwrap_or o 0) e
+
+-- the place of the byte behind a text, if this is so
+abbrev place-of : List ℕ → Bool → Option ℕ
+place-of text here = if here then Some (length text) else None
+
+-- whether the byte behind a text is text behind a quote
+abbrev next-behind : ℕ → List ℕ → ℕ → Option ℕ
+next-behind delimiter text byte = place-of text (is_behind (state_behind delimiter text) (state_behind delimiter (text ++ byte ∷ [])))
+
+first-more : (delimiter : ℕ) (text : List ℕ) (byte : ℕ) → first_behind_quote delimiter (text ++ byte ∷ []) ≡ option_or (first_behind_quote delimiter text) (next-behind delimiter text byte)
+first-more delimiter text byte =
+    let all = text ++ byte ∷ [] in
+    let n = length text in
+    let long : length all ≡ suc n = omega (arith, length-append text (byte ∷ [])) in
+    let nought : 0 + n ≡ n = omega arith in
+    let before = find-same (is_behind_quote delimiter all) (is_behind_quote delimiter text) 0 n (λ k within. rw (front-of text byte k (omega arith), front-of text byte (k + 1) (omega arith)) refl) in
+    let here = ap (λ (xs : List ℕ). is_closing (state_behind delimiter xs)) (take-append_seam text (byte ∷ [])) in
+    let whole : take (n + 1) all ≡ all = ap (λ (k : ℕ). take k all) (add-one n ∙ sym long) ∙ take-all all in
+    ap (λ (k : ℕ). find (is_behind_quote delimiter all) (range_with_len 0 k)) long
+    ∙ ap (find (is_behind_quote delimiter all)) (range-more 0 n ∙ ap (λ (k : ℕ). range_with_len 0 n ++ k ∷ []) nought)
+    ∙ find-append (is_behind_quote delimiter all) (range_with_len 0 n) (n ∷ [])
+    ∙ rw (before, here, whole) refl
+
+-- ---- rows
+
+-- what is wrong with the first bad one of these rows
+abbrev fault-of : List (List (List ℕ)) → Option RowsFault
+fault-of rows = first_fault (columns_of rows) 0 rows
+
+or-assoc : {X : Type 0} (a b c : Option X) → option_or (option_or a b) c ≡ option_or a (option_or b c)
+or-assoc None b c = refl
+or-assoc (Some x) b c = refl
+
+or-none : {X : Type 0} (a : Option X) → option_or a None ≡ a
+or-none None = refl
+or-none (Some x) = refl
+
+rows-more : (columns k m : ℕ) (rows : List (List (List ℕ))) (row : List (List ℕ)) → m ≡ k + length rows → first_fault columns k (rows ++ row ∷ []) ≡ option_or (first_fault columns k rows) (row_fault columns m row)
+rows-more columns k m [] row at = or-none (row_fault columns k row) ∙ ap (λ (n : ℕ). row_fault columns n row) (omega (arith, at))
+rows-more columns k m (fields ∷ rows) row at =
+    ap (option_or (row_fault columns k fields)) (rows-more columns (k + 1) m rows row (omega (arith, at)))
+    ∙ sym (or-assoc (row_fault columns k fields) (first_fault columns (k + 1) rows) (row_fault columns m row))
+
+fault-with : (rows : List (List (List ℕ))) (found : Option (List (List ℕ))) → fault-of (with_row rows found) ≡ option_or (fault-of rows) (fault_below rows found)
+fault-with rows None = ap fault-of (append-nil rows) ∙ sym (or-none (fault-of rows))
+fault-with [] (Some row) = or-none (row_fault (length row) 0 row)
+fault-with (first ∷ rows) (Some row) = rows-more (length first) 0 (length (first ∷ rows)) (first ∷ rows) row (omega arith)
+
+-- ---- a text
+
+-- the fault of the rows up to a place, or else of the text that stands there behind a quote
+abbrev found-at : ℕ → List ℕ → Option ℕ → Option RowsFault
+found-at delimiter text place = option_or (fault-of (scan_of delimiter (up_to place text)).rows) (option_map (λ n. BehindQuote (line_behind (take n text))) place)
+
+module _ (delimiter : ℕ) (text : List ℕ) (byte : ℕ) (holds : (scan_of delimiter text).fault ≡ found-at delimiter text (first_behind_quote delimiter text)) where
+  found-before : (n : ℕ) → first_behind_quote delimiter text ≡ Some n → (scan_of delimiter (text ++ byte ∷ [])).fault ≡ found-at delimiter (text ++ byte ∷ []) (first_behind_quote delimiter (text ++ byte ∷ []))
+  found-before n is =
+      let within = find-within (is_behind_quote delimiter text) 0 (length text) n is in
+      let front = front-of text byte n (omega (arith, within)) in
+      let place : first_behind_quote delimiter (text ++ byte ∷ []) ≡ Some n = rw is at (first-more delimiter text byte) in
+      let before = rw is at holds in
+      ap (λ (s : Scan). s.fault) (scan-more delimiter text byte)
+      ∙ rw (before, place, front) (or-assoc (fault-of (scan_of delimiter (take n text)).rows) (Some (BehindQuote (line_behind (take n text)))) _)
+
+  -- the byte is text behind a quote, or not
+  decide : (here : Bool)
+      → option_or (fault-of (scan_of delimiter text).rows) (option_or (if here then Some (BehindQuote (scan_of delimiter text).hand.lines.line) else None) (fault_below (scan_of delimiter text).rows (row_ended delimiter (scan_of delimiter text).hand byte)))
+      ≡ found-at delimiter (text ++ byte ∷ []) (if here then Some (length text) else None)
+  decide true =
+      ap (λ (line : ℕ). option_or (fault-of (scan_of delimiter text).rows) (Some (BehindQuote line))) (line-is delimiter text)
+      ∙ sym (ap (λ (xs : List ℕ). option_or (fault-of (scan_of delimiter xs).rows) (Some (BehindQuote (line_behind xs)))) (take-append_seam text (byte ∷ [])))
+  decide false =
+      sym (fault-with (scan_of delimiter text).rows (row_ended delimiter (scan_of delimiter text).hand byte))
+      ∙ ap (λ (t : Scan). fault-of t.rows) (sym (scan-more delimiter text byte))
+      ∙ sym (or-none (fault-of (scan_of delimiter (text ++ byte ∷ [])).rows))
+
+  found-next : first_behind_quote delimiter text ≡ None → (scan_of delimiter (text ++ byte ∷ [])).fault ≡ found-at delimiter (text ++ byte ∷ []) (first_behind_quote delimiter (text ++ byte ∷ []))
+  found-next none =
+      let all = text ++ byte ∷ [] in
+      let s = scan_of delimiter text in
+      let row = row_ended delimiter s.hand byte in
+      let after = (scan_after delimiter s byte).hand.state in
+      let next = scan-more delimiter text byte in
+      let before : s.fault ≡ fault-of s.rows = (rw none at holds) ∙ or-none (fault-of s.rows) in
+      let behind = ap (λ (state : State). place-of text (is_behind state (state_behind delimiter all))) (sym (state-is delimiter text))
+      ∙ ap (λ (state : State). place-of text (is_behind s.hand.state state)) (sym (state-is delimiter all) ∙ ap (λ (t : Scan). t.hand.state) next) in
+      let place = first-more delimiter text byte ∙ ap (λ (o : Option ℕ). option_or o (next-behind delimiter text byte)) none ∙ behind in
+      ap (λ (t : Scan). t.fault) next
+      ∙ ap (λ (f : Option RowsFault). option_or f (option_or (behind_fault delimiter s.hand byte) (fault_below s.rows row))) before
+      ∙ decide (is_behind s.hand.state after)
+      ∙ ap (found-at delimiter all) (sym place)
+
+fault-scanned : (delimiter : ℕ) (text : List ℕ) → (scan_of delimiter text).fault ≡ found-at delimiter text (first_behind_quote delimiter text)
+fault-scanned delimiter = by-bytes (λ text. (scan_of delimiter text).fault ≡ found-at delimiter text (first_behind_quote delimiter text)) refl more where
+  more : (text : List ℕ) (byte : ℕ) → (scan_of delimiter text).fault ≡ found-at delimiter text (first_behind_quote delimiter text)
+      → (scan_of delimiter (text ++ byte ∷ [])).fault ≡ found-at delimiter (text ++ byte ∷ []) (first_behind_quote delimiter (text ++ byte ∷ []))
+  more text byte holds = go (first_behind_quote delimiter text) refl where
+    go : (place : Option ℕ) → first_behind_quote delimiter text ≡ place → (scan_of delimiter (text ++ byte ∷ [])).fault ≡ found-at delimiter (text ++ byte ∷ []) (first_behind_quote delimiter (text ++ byte ∷ []))
+    go (Some n) is = found-before delimiter text byte holds n is
+    go None none = found-next delimiter text byte holds none
+
+-- ---- the quote that is open
+
+quote-same : (delimiter : ℕ) (text : List ℕ) (byte n : ℕ) → n ≤ length text → quote_at delimiter (text ++ byte ∷ []) n ≡ quote_at delimiter text n
+quote-same delimiter text byte zero within = refl
+quote-same delimiter text byte (suc n) within = rw (front-of text byte (suc n) within, quote-same delimiter text byte n (omega (arith, within))) refl
+
+quote-within : (delimiter : ℕ) (text : List ℕ) (n : ℕ) → quote_at delimiter text n ≤ n
+quote-within delimiter text zero = omega arith
+quote-within delimiter text (suc n) = elim (cases_Bool (is_quoted (state_behind delimiter (take (suc n) text)) || is_closing (state_behind delimiter (take (suc n) text)))) [
+  | inl within ↦ rw within (omega (arith, quote-within delimiter text n))
+  | inr bare ↦ rw bare (omega arith)
+]
+
+quote-bare : (delimiter : ℕ) (text : List ℕ) (n : ℕ) → is_bare (state_behind delimiter (take n text)) ≡ true → quote_at delimiter text n ≡ n
+quote-bare delimiter text zero bare = refl
+quote-bare delimiter text (suc n) bare = rw (not-true _ bare) refl where
+  not-true : (b : Bool) → not b ≡ true → b ≡ false
+  not-true false e = refl
+  not-true true e = absurd (false≢true e)
+
+abbrev Opened : ℕ → List ℕ → Type 0
+Opened delimiter text = is_bare (state_behind delimiter text) ≡ false → (scan_of delimiter text).hand.opened ≡ line_behind (take (quote_at delimiter text (length text)) text)
+
+opened-is : (delimiter : ℕ) (text : List ℕ) → Opened delimiter text
+opened-is delimiter = by-bytes (Opened delimiter) (λ none. absurd (true≢false none)) more where
+  not-false : (b : Bool) → not b ≡ false → b ≡ true
+  not-false true e = refl
+  not-false false e = absurd (true≢false e)
+
+  more : (text : List ℕ) (byte : ℕ) → Opened delimiter text → Opened delimiter (text ++ byte ∷ [])
+  more text byte before within =
+      let all = text ++ byte ∷ [] in
+      let n = length text in
+      let s = scan_of delimiter text in
+      let next = scan-more delimiter text byte in
+      let long : length all ≡ suc n = omega (arith, length-append text (byte ∷ [])) in
+      let whole : take (suc n) all ≡ all = ap (λ (k : ℕ). take k all) (sym long) ∙ take-all all in
+      let place : quote_at delimiter all (length all) ≡ quote_at delimiter text n = rw (long, whole, not-false _ within) (quote-same delimiter text byte n (omega arith)) in
+      let front = ap (λ (k : ℕ). line_behind (take k all)) place ∙ ap line_behind (front-of text byte (quote_at delimiter text n) (quote-within delimiter text n)) in
+      let after : is_bare (scan_after delimiter s byte).hand.state ≡ false = rw (← ap (λ (t : Scan). t.hand.state) next, state-is delimiter all) within in
+      ap (λ (t : Scan). t.hand.opened) next ∙ elim (cases_Bool (is_bare s.hand.state)) [
+        | inl bare ↦
+            let at = quote-bare delimiter text n (rw (take-all text, ← state-is delimiter text) bare) in
+            rw (bare, after) (line-is delimiter text ∙ sym (front ∙ ap (λ (k : ℕ). line_behind (take k text)) at ∙ ap line_behind (take-all text)))
+        | inr inside ↦ rw inside (before (rw (← state-is delimiter text) inside) ∙ sym front)
+      ]
+
+-- ---- the faults of bytes
+
+text-fault-by : (delimiter : ℕ) (text : List ℕ) (place : Option ℕ) (quote : Option RowsFault) → first_behind_quote delimiter text ≡ place → quote_fault delimiter text ≡ quote
+    → text_fault delimiter text ≡ option_or (fault-of (if is_none quote then records (config_of delimiter) text else ended_in delimiter (up_to place text))) quote
+text-fault-by delimiter text place quote at is = rw (is, at) refl
+
+open-is : (delimiter : ℕ) (text : List ℕ) → open_fault delimiter text ≡ scan.open_fault (scan_of delimiter text).hand
+open-is delimiter text =
+    let state = state-is delimiter text in
+    elim (cases_Bool (is_quoted (state_behind delimiter text))) [
+      | inl quoted ↦ rw (state, quoted) (ap (λ (line : ℕ). Some (OpenQuote line)) (sym (opened-is delimiter text (rw quoted refl))))
+      | inr none ↦ rw (state, none) refl
+    ]
+
+-- with no fault so far, what is wrong in the end is wrong with the row at hand
+pub fault-last : (delimiter : ℕ) (text : List ℕ) → (scan_of delimiter text).fault ≡ None
+    → text_fault delimiter text ≡ option_or (scan.open_fault (scan_of delimiter text).hand) (fault_below (scan_of delimiter text).rows (last_row (scan_of delimiter text).hand))
+fault-last delimiter text right = go (first_behind_quote delimiter text) refl where
+  last : first_behind_quote delimiter text ≡ None → fault-of (scan_of delimiter text).rows ≡ None → (quote : Option RowsFault) → quote_fault delimiter text ≡ quote
+      → text_fault delimiter text ≡ option_or quote (fault_below (scan_of delimiter text).rows (last_row (scan_of delimiter text).hand))
+  last none clean None is =
+      text-fault-by delimiter text None None none is
+      ∙ or-none _
+      ∙ ap fault-of (records-scanned delimiter text)
+      ∙ fault-with (scan_of delimiter text).rows (last_row (scan_of delimiter text).hand)
+      ∙ rw clean refl
+  last none clean (Some fault) is =
+      text-fault-by delimiter text None (Some fault) none is
+      ∙ ap (λ (rows : List (List (List ℕ))). option_or (fault-of rows) (Some fault)) (ended-scanned delimiter text)
+      ∙ rw clean refl
+
+  go : (place : Option ℕ) → first_behind_quote delimiter text ≡ place
+      → text_fault delimiter text ≡ option_or (scan.open_fault (scan_of delimiter text).hand) (fault_below (scan_of delimiter text).rows (last_row (scan_of delimiter text).hand))
+  go None none =
+      let clean = sym (or-none (fault-of (scan_of delimiter text).rows)) ∙ sym (rw none at (fault-scanned delimiter text)) ∙ right in
+      last none clean (scan.open_fault (scan_of delimiter text).hand) (rw none (open-is delimiter text))
+  go (Some n) is = absurd (never (fault-of (scan_of delimiter (take n text)).rows) _ (sym (rw is at (fault-scanned delimiter text)) ∙ right)) where
+    never : (before : Option RowsFault) (fault : RowsFault) → ¬ (option_or before (Some fault) ≡ None)
+    never None fault e = let f = e in cc
+    never (Some x) fault e = let f = e in cc
+
+-- and a fault that was found is that of the text
+pub fault-found : (delimiter : ℕ) (text : List ℕ) (fault : RowsFault) → (scan_of delimiter text).fault ≡ Some fault → text_fault delimiter text ≡ Some fault
+fault-found delimiter text fault found = go (first_behind_quote delimiter text) refl where
+  late : (quote : Option RowsFault) → first_behind_quote delimiter text ≡ None → fault-of (scan_of delimiter text).rows ≡ Some fault → quote_fault delimiter text ≡ quote → text_fault delimiter text ≡ Some fault
+  late None none bad is =
+      text-fault-by delimiter text None None none is
+      ∙ ap (λ (rows : List (List (List ℕ))). option_or (fault-of rows) None) (records-scanned delimiter text)
+      ∙ ap (λ (f : Option RowsFault). option_or f None) (fault-with (scan_of delimiter text).rows (last_row (scan_of delimiter text).hand))
+      ∙ rw bad refl
+  late (Some other) none bad is =
+      text-fault-by delimiter text None (Some other) none is
+      ∙ ap (λ (rows : List (List (List ℕ))). option_or (fault-of rows) (Some other)) (ended-scanned delimiter text)
+      ∙ rw bad refl
+
+  go : (place : Option ℕ) → first_behind_quote delimiter text ≡ place → text_fault delimiter text ≡ Some fault
+  go None none = late (quote_fault delimiter text) none (sym (or-none (fault-of (scan_of delimiter text).rows)) ∙ sym (rw none at (fault-scanned delimiter text)) ∙ found) refl
+  go (Some n) is =
+      text-fault-by delimiter text (Some n) (Some (BehindQuote (line_behind (take n text)))) is (rw is refl)
+      ∙ ap (λ (rows : List (List (List ℕ))). option_or (fault-of rows) (Some (BehindQuote (line_behind (take n text))))) (ended-scanned delimiter (take n text))
+      ∙ sym (rw is at (fault-scanned delimiter text))
+      ∙ found

@@ -1,0 +1,10 @@
+use Rattle.std.proofs.Common.{ℕ, List, ◌++◌, map, take}
+use Rattle.csv.specs.Records.{fields_of}
+use Rattle.ruled_csv.specs.Reading.{AppendsRest, HasRead}
+use Rattle.ruled_csv.specs.Rows.{ended_rows}
+use Rattle.ruled_csv.proofs.reader.RowReader.read.Given as goal
+
+abbrev pub invariant-loop-byte : goal.invariant-loop-byte
+invariant-loop-byte l = (delimiter : ℕ) (before : List ℕ) → HasRead delimiter before l.fn.self
+    → HasRead delimiter (before ++ take l.byte-index l.bytes) l.reader
+    × AppendsRest (ended_rows delimiter before) (ended_rows delimiter (before ++ take l.byte-index l.bytes)) (map fields_of l.fn.rows.items) (map fields_of l.rows.items)

@@ -1,0 +1,24 @@
+-- A reader to which the bytes of rows come one piece after another.
+use Rattle.std.specs.Prelude.{◌≡◌, ◌≢◌, ℕ, List, fold, ◌++◌, ⊤, Option, Some, Result, Ok, Err}
+use Rattle.csv.specs.Reading.{strip_bom}
+use Rattle.ruled_csv.specs.Faults.{but_line}
+use Rattle.ruled_csv.specs.Inside.{Holds, front_after, scan_of}
+use Rattle.ruled_csv.specs.declared.fault.RowsFault.{RowsFault}
+use Rattle.ruled_csv.specs.declared.fault.RowsFault.TheVariants.{Memory}
+use Rattle.ruled_csv.specs.declared.reader.Front.TheVariants as front
+use Rattle.ruled_csv.specs.declared.reader.RowReader.{RowReader}
+
+-- A reader has read these bytes, and found nothing wrong. What it holds of them is no matter of a caller, who has this from
+-- `new` of no bytes, and from `read` of more and more.
+pub record HasRead (delimiter : ℕ) (bytes : List ℕ) (reader : RowReader) : Type 0 where
+  pub front : reader.front ≡ fold front_after front.Start bytes
+  pub scan : Holds delimiter (scan_of delimiter (strip_bom bytes)) reader
+
+-- behind the old rows stand those which with the rows above are all of these
+abbrev pub AppendsRest : {R : Type 0} → List R → List R → List R → List R → Type 0
+AppendsRest {R} above all old new = (rows : List R) × (new ≡ old ++ rows) × (above ++ rows ≡ all)
+
+-- a fault, but want of memory, is this one
+abbrev pub Foretells : {X : Type 0} → Option RowsFault → Result X RowsFault → Type 0
+Foretells right (Ok x) = ⊤
+Foretells right (Err fault) = fault ≢ Memory → right ≡ Some (but_line fault)

@@ -1,0 +1,48 @@
+//! The lines of bytes.
+
+ghost use Rattle.std.specs.Prelude.{◌≡◌};
+ghost use Rattle.ruled_csv.specs.Inside.{lines_after, lines_start};
+
+/// A count of lines, of which LF, CRLF and a lone CR each end one.
+#[derive(Clone, Copy)]
+pub(crate) struct Lines {
+    // The line of the next byte, counted from 1.
+    line: usize,
+    // Whether a carriage return stands in front of it, with which a line feed ends one line.
+    is_behind_return: bool,
+}
+
+impl Lines {
+    /// A count that begins.
+    pub(crate) fn new() -> Lines
+        ensures { result ≡ lines_start }
+    {
+        Lines {
+            line: 1,
+            is_behind_return: false,
+        }
+    }
+
+    /// The line of the next byte, counted from 1.
+    pub(crate) fn line(self) -> usize
+        ensures { result ≡ self.line }
+    {
+        self.line
+    }
+
+    /// The count behind this byte.
+    pub(crate) fn after(self, byte: u8) -> Lines
+        ensures { result ≡ lines_after self byte }
+    {
+        let is_return = byte == b'\r';
+        let line = if is_return || byte == b'\n' && !self.is_behind_return {
+            self.line.saturating_add(1)
+        } else {
+            self.line
+        };
+        Lines {
+            line,
+            is_behind_return: is_return,
+        }
+    }
+}

@@ -1,0 +1,175 @@
+//! Rows, of which the bytes come one piece after another.
+
+ghost use Rattle.std.specs.Prelude.{◌≡◌, ◌≢◌, ◌++◌, ◌∷◌, [], ℕ, List, map, Err, Some, IfOk, OnOk};
+ghost use Rattle.csv.specs.Records.{fields_of};
+ghost use Rattle.ruled_csv.specs.Faults.{Tells, number_of, row_fault, rows_fault};
+ghost use Rattle.ruled_csv.specs.Inside.{Counts, Holds, Scan, ends_mark, fault_below, front_after, row_ended, scan_after, with_row};
+ghost use Rattle.ruled_csv.specs.Reading.{AppendsRest, Foretells, HasRead};
+ghost use Rattle.ruled_csv.specs.Rows.{ended_rows, rows_of};
+ghost use Rattle.ruled_csv.specs.declared.fault.RowsFault.{RowsFault};
+ghost use Rattle.ruled_csv.specs.declared.fault.RowsFault.TheVariants.{Memory};
+
+use crate::fault::RowsFault;
+use crate::scanner::Scanner;
+use csv::{ByteRecord, StringRecord};
+use std::alloc::Global;
+
+/// What stands in front of a byte.
+#[derive(Clone, Copy)]
+pub(crate) enum Front {
+    /// No byte.
+    Start,
+    /// The first byte of a byte order mark.
+    First,
+    /// The first two.
+    Second,
+    /// Bytes that are no beginning of one, or behind one.
+    Text,
+}
+
+impl Front {
+    // What stands in front of the byte behind this one.
+    fn after(self, byte: u8) -> Front
+        ensures { result ≡ front_after self byte }
+    {
+        match self {
+            Front::Start if byte == 0xef => Front::First,
+            Front::First if byte == 0xbb => Front::Second,
+            _ => Front::Text,
+        }
+    }
+
+    // Whether this byte is the last one of a byte order mark.
+    fn ends_mark(self, byte: u8) -> bool
+        ensures { result ≡ ends_mark self byte }
+    {
+        matches!(self, Front::Second) && byte == 0xbf
+    }
+}
+
+// The text of a row, which begins on this line, or what is wrong with it.
+fn text_of(
+    fields: ByteRecord,
+    row: usize,
+    line: usize,
+    columns: usize,
+) -> Result<StringRecord, RowsFault>
+    ensures same { IfOk result (λ text. fields_of text ≡ fields_of fields) }
+    ensures fault { (number : ℕ) → row ≡ number_of number → Tells (row_fault columns number (fields_of fields)) result }
+{
+    let count = fields.len();
+    if count != columns {
+        return Err(RowsFault::Length {
+            row,
+            line,
+            fields: count,
+            columns,
+        });
+    }
+    match StringRecord::from_byte_record(fields) {
+        Ok(text) => Ok(text),
+        Err(_) => Err(RowsFault::Encoding { row, line }),
+    }
+}
+
+/// A reader of rows, to which their bytes come one piece after another, of any lengths.
+///
+/// Each row is given with the bytes that end it. Fields are parted by the byte `delimiter`, and quoted as in CSV; LF, CRLF and
+/// a lone CR end a row, an empty line is no row, and a byte order mark at the very front is left out.
+///
+/// A fault ends the reading. It is that of the first bad row, whatever stands behind it: one with another number of fields
+/// than row 0, with a field that isn't UTF-8, with text behind a closing quote, or with a quote that isn't closed.
+#[derive(Drop)]
+pub struct RowReader {
+    front: Front,
+    scanner: Scanner,
+    // How many rows were given.
+    rows: usize,
+    // How many columns they have.
+    columns: Option<usize>,
+}
+
+impl RowReader {
+    /// A reader that has read nothing.
+    pub fn new(alloc: Global, delimiter: u8) -> RowReader
+        ensures { HasRead delimiter [] result }
+    {
+        RowReader {
+            front: Front::Start,
+            scanner: Scanner::new(alloc, delimiter),
+            rows: 0,
+            columns: None,
+        }
+    }
+
+    // Gives a row that ended below these.
+    fn give(&mut self, fields: ByteRecord, rows: &mut Vec<StringRecord>) -> Result<(), RowsFault>
+        ensures front { self.new.front ≡ self.old.front }
+        ensures scanner { self.new.scanner ≡ self.old.scanner }
+        ensures rows { OnOk result (map fields_of rows.new.items ≡ map fields_of rows.old.items ++ fields_of fields ∷ []) }
+        ensures kept { (fault : RowsFault) → result ≡ Err fault → fault ≢ Memory → rows.new.items ≡ rows.old.items }
+        ensures counted { (above : List (List (List ℕ))) → Counts above self.old.rows self.old.columns → OnOk result (Counts (above ++ fields_of fields ∷ []) self.new.rows self.new.columns) }
+        ensures fault { (above : List (List (List ℕ))) → Counts above self.old.rows self.old.columns → Tells (fault_below above (Some (fields_of fields))) result }
+    {
+        let columns = self.columns.unwrap_or(fields.len());
+        let text = text_of(fields, self.rows, self.scanner.begun(), columns)?;
+        rows.push(text)?;
+        self.rows = self.rows.saturating_add(1);
+        self.columns = Some(columns);
+        Ok(())
+    }
+
+    // Reads a byte of the text behind a byte order mark.
+    fn scan(&mut self, byte: u8, rows: &mut Vec<StringRecord>) -> Result<(), RowsFault>
+        ensures front { self.new.front ≡ self.old.front }
+        ensures read { (delimiter : ℕ) (scan : Scan) → Holds delimiter scan self.old → OnOk result (Holds delimiter (scan_after delimiter scan byte) self.new) }
+        ensures rows { (delimiter : ℕ) (scan : Scan) → Holds delimiter scan self.old → OnOk result (map fields_of rows.new.items ≡ with_row (map fields_of rows.old.items) (row_ended delimiter scan.hand byte)) }
+        ensures kept { (fault : RowsFault) → result ≡ Err fault → fault ≢ Memory → rows.new.items ≡ rows.old.items }
+        ensures fault { (delimiter : ℕ) (scan : Scan) → Holds delimiter scan self.old → Foretells (scan_after delimiter scan byte).fault result }
+    {
+        match self.scanner.read(byte)? {
+            Some(fields) => self.give(fields, rows),
+            None => Ok(()),
+        }
+    }
+
+    // Reads a byte.
+    fn read_byte(&mut self, byte: u8, rows: &mut Vec<StringRecord>) -> Result<(), RowsFault>
+        ensures read { (delimiter : ℕ) (before : List ℕ) → HasRead delimiter before self.old → OnOk result (HasRead delimiter (before ++ byte ∷ []) self.new) }
+        ensures rows { (delimiter : ℕ) (before : List ℕ) → HasRead delimiter before self.old → OnOk result (AppendsRest (ended_rows delimiter before) (ended_rows delimiter (before ++ byte ∷ [])) (map fields_of rows.old.items) (map fields_of rows.new.items)) }
+        ensures fault { (delimiter : ℕ) (before behind : List ℕ) → HasRead delimiter before self.old → Foretells (rows_fault delimiter ((before ++ byte ∷ []) ++ behind)) result }
+    {
+        let ends_mark = self.front.ends_mark(byte);
+        self.front = self.front.after(byte);
+        if ends_mark {
+            self.scanner.restart();
+            return Ok(());
+        }
+        self.scan(byte, rows)
+    }
+
+    /// Reads the next bytes, and appends the rows that end among them.
+    pub fn read(self, bytes: &[u8], rows: &mut Vec<StringRecord>) -> Result<RowReader, RowsFault>
+        ensures read { (delimiter : ℕ) (before : List ℕ) → HasRead delimiter before self → IfOk result (λ reader. HasRead delimiter (before ++ bytes.now) reader) }
+        ensures rows { (delimiter : ℕ) (before : List ℕ) → HasRead delimiter before self → OnOk result (AppendsRest (ended_rows delimiter before) (ended_rows delimiter (before ++ bytes.now)) (map fields_of rows.old.items) (map fields_of rows.new.items)) }
+        ensures fault { (delimiter : ℕ) (before behind : List ℕ) → HasRead delimiter before self → Foretells (rows_fault delimiter ((before ++ bytes.now) ++ behind)) result }
+    {
+        let mut reader = self;
+        for byte in bytes {
+            reader.read_byte(*byte, rows)?;
+        }
+        Ok(reader)
+    }
+
+    /// Ends the reading, behind which no byte is left, and appends the row that ends with it.
+    pub fn finish(self, rows: &mut Vec<StringRecord>) -> Result<(), RowsFault>
+        ensures rows { (delimiter : ℕ) (bytes : List ℕ) → HasRead delimiter bytes self → OnOk result (AppendsRest (ended_rows delimiter bytes) (rows_of delimiter bytes) (map fields_of rows.old.items) (map fields_of rows.new.items)) }
+        ensures fault { (delimiter : ℕ) (bytes : List ℕ) → HasRead delimiter bytes self → Tells (rows_fault delimiter bytes) result }
+    {
+        let mut reader = self;
+        match reader.scanner.end()? {
+            Some(fields) => reader.give(fields, rows),
+            None => Ok(()),
+        }
+    }
+}
