@@ -1,7 +1,6 @@
 -- Lemmas of this crate.
 pub mod KeyOrders
 pub mod PlacesOrder
-pub mod PlainBytes
 pub mod PlacesLookups
 mod PlacesInTrees
 pub mod PlacesSearches

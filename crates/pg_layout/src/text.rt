@@ -91,7 +91,7 @@ pub fn count_lines(text: &str) -> usize
 pub fn is_plain(bytes: &[u8]) -> bool
     ensures { result ≡ list_all is_plain_byte bytes.now }
 {
-    bytes.is_ascii() && !bytes.contains(&b'\n')
+    bytes.iter().all(|b| b.is_ascii() && *b != b'\n')
 }
 
 /// How many terminal columns a line takes, by Unicode's rules of widths.
