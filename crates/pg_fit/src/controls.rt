@@ -37,7 +37,7 @@ pub fn is_visible(text: &str) -> bool
 }
 
 // Whether each byte is a printable character of ASCII, as nearly all texts of tables are: no other
-// test is needed then, and bytes that are compared in blocks take a tenth of what characters take.
+// test is needed then, and bytes that are compared in blocks cost less than characters.
 // Two blocks, which may overlap, hold a text of at most twice their length.
 #[inline(always)]
 fn is_printable(bytes: &[u8]) -> bool
