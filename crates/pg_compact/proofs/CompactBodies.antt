@@ -19,7 +19,7 @@ use Rattle.pg_picture.proofs.JoinedLines.{continued-nil, continued-line, continu
 use Rattle.pg_picture.proofs.Pictures.{continued-any}
 use Rattle.pg_picture.proofs.Ranges.{range-more, range-cut}
 use Rattle.pg_compact.specs.declared.printer.CompactPrinter.{CompactPrinter}
-use Rattle.pg_compact.specs.Inside.Drawing.{printed_table, lines_between, lines_of_row, head_lines, foot_lines}
+use Rattle.pg_compact.specs.Inside.PrintedTable.{printed_table, lines_between, lines_of_row, head_lines, foot_lines}
 
 -- ---- lines after others
 

@@ -15,7 +15,7 @@ use Rattle.pg_config.specs.CompactConfig.{CompactSettings, settings_of}
 use Rattle.pg_picture.specs.CompactLines.{CompactTable, compact_indent, colored_glyph, compact_cell_of, with_margins, between_sides, text_row, padding_row}
 use Rattle.pg_picture.proofs.Ranges.{range-more, range-cut}
 use Rattle.pg_compact.specs.declared.printer.CompactPrinter.{CompactPrinter}
-use Rattle.pg_compact.specs.Inside.Drawing.{AreRows, printed_table, inner_glyph, text_column, padding_column}
+use Rattle.pg_compact.specs.Inside.PrintedTable.{AreRows, printed_table, inner_glyph, text_column, padding_column}
 use Rattle.pg_compact.specs.Inside.RowEdges.{row_start, row_end}
 
 -- the texts of k columns and of one more

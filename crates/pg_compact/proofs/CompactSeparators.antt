@@ -11,7 +11,7 @@ use Rattle.pg_picture.specs.CompactLines.{CompactTable, Part, part_if, main_part
 use Rattle.pg_picture.specs.Inside.Following.{open_parts, open_color}
 use Rattle.pg_picture.proofs.Ranges.{range-more, range-add}
 use Rattle.pg_picture.proofs.CutsOfParts.{open_parts-append, open_color-append, parts_after-close}
-use Rattle.pg_compact.specs.Inside.Drawing.{column_parts}
+use Rattle.pg_compact.specs.Inside.PrintedTable.{column_parts}
 
 -- parts in two groups
 pub open_parts-two : (c : Option Color) {all : List Part} (a b : List Part) {d : Option Color} → all ≡ a ++ b → d ≡ open_color c a → open_parts c a ++ open_parts d b ≡ open_parts c all

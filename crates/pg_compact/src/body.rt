@@ -11,7 +11,7 @@ ghost use Rattle.pg_picture.specs.Joined.{continued, fed};
 ghost use Rattle.pg_picture.specs.Inside.Following.{feed_before, lines_before};
 ghost use Rattle.pg_picture.specs.Picture.{compact_picture};
 ghost use Rattle.pg_compact.specs.CompactGrids.{has_no_cells, CompactFits};
-ghost use Rattle.pg_compact.specs.Inside.Drawing.{printed_table, IsRow, AreRows, IsInnerSeparator, lines_between, line_colors, lines_of_row, head_lines, foot_lines};
+ghost use Rattle.pg_compact.specs.Inside.PrintedTable.{printed_table, IsRow, AreRows, IsInnerSeparator, lines_between, line_colors, lines_of_row, head_lines, foot_lines};
 
 use crate::printer::CompactPrinter;
 use crate::separators::{bottom_line, top_line};

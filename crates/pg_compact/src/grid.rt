@@ -42,7 +42,7 @@ impl<R, D, G, C> CompactGrid<R, D, G, C> {
 }
 
 impl<R, D, G, C: Drop> CompactGrid<R, D, G, C> {
-    /// The same grid with these colours in place of its own.
+    /// The grid with these colours in place of its own.
     pub fn with_colors<Colors>(self, colors: Colors) -> CompactGrid<R, D, G, Colors>
         ensures parts { compact_parts result ≡ ((compact_parts self).0, (compact_parts self).1, (compact_parts self).2, colors) }
     {

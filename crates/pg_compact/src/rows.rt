@@ -6,7 +6,7 @@ ghost use Rattle.pg_layout.specs.Colors.{str_color};
 ghost use Rattle.std.specs.Iterator.{IsFinite};
 ghost use Rattle.pg_picture.specs.Appending.{Appends};
 ghost use Rattle.pg_picture.specs.CompactLines.{padding_row, text_row, compact_cell_of, compact_indent};
-ghost use Rattle.pg_compact.specs.Inside.Drawing.{printed_table, IsRow, inner_glyph, text_column, padding_column};
+ghost use Rattle.pg_compact.specs.Inside.PrintedTable.{printed_table, IsRow, inner_glyph, text_column, padding_column};
 ghost use Rattle.pg_compact.specs.Inside.RowEdges.{row_start, row_end};
 ghost use Rattle.pg_config.specs.CompactConfig.{settings_of};
 
@@ -127,7 +127,7 @@ impl<D: Dimension, C: Colors> CompactPrinter<'_, D, C> {
     }
 
     // The spaces of a column, after the glyph between it and the one before.
-    #[tactic(auto, unfolding(crate::specs::Inside::Drawing::padding_column))]
+    #[tactic(auto, unfolding(crate::specs::Inside::PrintedTable::padding_column))]
     fn push_blank<A: Allocator>(
         &self,
         buf: &mut String<A>,
@@ -142,7 +142,7 @@ impl<D: Dimension, C: Colors> CompactPrinter<'_, D, C> {
     }
 
     // The glyph between a column and the one before it.
-    #[tactic(auto, unfolding(crate::specs::Inside::Drawing::inner_glyph))]
+    #[tactic(auto, unfolding(crate::specs::Inside::PrintedTable::inner_glyph))]
     fn push_inner_glyph<A: Allocator>(
         &self,
         buf: &mut String<A>,

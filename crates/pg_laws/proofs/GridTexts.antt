@@ -12,7 +12,7 @@ use Rattle.pg_layout.specs.declared.dimension.Dimension as dimension
 use Rattle.pg_layout.specs.declared.colors.Colors as colors
 use Rattle.pg_iter.specs.declared.grid.IterGrid.{IterGrid}
 use Rattle.pg_peekable.specs.declared.grid.PeekableGrid.{PeekableGrid}
-use Rattle.pg_peekable.specs.Grids.{drawn}
+use Rattle.pg_peekable.specs.Grids.{printed_table}
 use Rattle.pg_iter.specs.IterGrids.{streamed}
 use Rattle.pg_laws.specs.GridLaws.{KnowsMargins, HaveSameParts, TextsAreOne}
 
@@ -24,7 +24,7 @@ hint-idle t None (inr starts) = hints_are_idle t starts.0 starts.1
 
 module _ {R Cell Columns Rows D C Color : Type 0} (records : records.Ghosts R Cell Columns Rows) (dimension : dimension.Ghosts D) (colors : colors.Ghosts C Color) where
   -- grids of the same parts have the same table
-  same-table : (streaming : IterGrid R D (Bor Config) C) (looking : PeekableGrid R (Bor Config) D C) → HaveSameParts streaming looking → streamed records dimension colors streaming ≡ drawn records dimension colors looking
+  same-table : (streaming : IterGrid R D (Bor Config) C) (looking : PeekableGrid R (Bor Config) D C) → HaveSameParts streaming looking → streamed records dimension colors streaming ≡ printed_table records dimension colors looking
   same-table streaming looking same = rw (same.records, same.config, same.dimension, same.colors) refl
 
   pub texts-are-one : TextsAreOne records dimension colors

@@ -10,7 +10,7 @@ use Rattle.pg_layout.specs.declared.dimension.Dimension as dimension
 use Rattle.pg_layout.specs.declared.colors.Colors as colors
 use Rattle.pg_iter.specs.declared.grid.IterGrid.{IterGrid}
 use Rattle.pg_peekable.specs.declared.grid.PeekableGrid.{PeekableGrid}
-use Rattle.pg_peekable.specs.Grids.{drawn, peekable_parts}
+use Rattle.pg_peekable.specs.Grids.{printed_table, peekable_parts}
 use Rattle.pg_iter.specs.IterGrids.{iter_parts, streamed, told}
 
 -- the number of rows is given, or no side margin has an offset that counts from the end
@@ -28,4 +28,4 @@ pub record HaveSameParts {R D C : Type 0} (streaming : IterGrid R D (Bor Config)
 abbrev pub TextsAreOne : {R Cell Columns Rows D C Color : Type 0} → records.Ghosts R Cell Columns Rows → dimension.Ghosts D → colors.Ghosts C Color → Type 0
 TextsAreOne {R} {Cell} {Columns} {Rows} {D} {C} records dimension colors = (streaming : IterGrid R D (Bor Config) C) (looking : PeekableGrid R (Bor Config) D C) → HaveSameParts streaming looking
     → KnowsMargins (streamed records dimension colors streaming) (records.hint (iter_parts streaming).0)
-    → picture (told records streaming) (streamed records dimension colors streaming) ≡ picture Known (drawn records dimension colors looking)
+    → picture (told records streaming) (streamed records dimension colors streaming) ≡ picture Known (printed_table records dimension colors looking)

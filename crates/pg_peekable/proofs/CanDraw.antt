@@ -14,7 +14,7 @@ use Rattle.pg_picture.proofs.Rooms.{fits, cell_fits_plain}
 use Rattle.pg_picture.proofs.FittingTables.{totals_facts}
 use Rattle.pg_picture.proofs.OwnersOfPlaces.{InOrder}
 use Rattle.pg_picture.proofs.SumsOfSizes.{some_answer}
-use Rattle.pg_peekable.specs.Inside.Drawn.{CanDraw, HasNoSpans}
+use Rattle.pg_peekable.specs.Inside.LookedUpTable.{CanDraw, HasNoSpans}
 
 pub can_draw : (t : Table) → IsAscending by_columns t.config.spans → misfit_of t ≡ None → is_empty t ≡ false → CanDraw t
 can_draw t ascending fitting some =

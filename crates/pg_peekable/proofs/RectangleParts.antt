@@ -14,7 +14,7 @@ use Rattle.pg_picture.proofs.SumsOfSizes.{sum_by-from_more}
 use Rattle.pg_picture.proofs.FittingTables.{RectInside, rect_width-sized, rect_height_fits, width_answer, height_answer}
 use Rattle.pg_picture.proofs.OwnersOfPlaces.{InOrder, left_sound, size_of_corner}
 use Rattle.pg_picture.proofs.DrawnRectangles.{rect_of, rows_height-fits, line_place, line_inside, sep_place, sep_inside, corner_owns, corner_from, corner_to, corner_inside}
-use Rattle.pg_peekable.specs.Inside.Drawn.{CanDraw}
+use Rattle.pg_peekable.specs.Inside.LookedUpTable.{CanDraw}
 use Rattle.pg_peekable.specs.Inside.Kept.{IsRectangle}
 use Rattle.pg_peekable.specs.Inside.Walks.{IsOwnerOf, OwnsRow}
 use Rattle.pg_peekable.specs.declared.rectangle.Rectangle.{Rectangle}

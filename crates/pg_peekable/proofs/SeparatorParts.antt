@@ -13,7 +13,7 @@ use Rattle.pg_picture.specs.Inside.Rectangles.{columns_or_one}
 use Rattle.pg_picture.proofs.CutsOfItems.{items_after-append, items_after-one, last_color-append, last_color-one}
 use Rattle.pg_picture.proofs.OwnersOfPlaces.{InOrder}
 use Rattle.pg_picture.proofs.WalksOfRows.{walk_step, width_above-positive, width_above-inside, next_start, separator_part_inner, separator_part_border, separator_part_block, above_some}
-use Rattle.pg_peekable.specs.Inside.Drawn.{starts}
+use Rattle.pg_peekable.specs.Inside.LookedUpTable.{starts}
 
 -- a block behind other items: the cut before it, and its line
 pub block-text : (c : Option Color) (items : List Item) {d : Option Color} (line : List Piece) {drawn : List Piece} → d ≡ last_color c items → drawn ≡ line

@@ -17,8 +17,8 @@ abbrev pub peekable_table : {R D C : Type 0} → (R → List (List Text)) → (R
 peekable_table texts columns width height color grid = table_of_parts texts columns width height color grid.records grid.config.now grid.dimension grid.colors
 
 -- the same from what the types of its parts tell of them
-abbrev pub drawn : {R Cell Columns Rows D C Color : Type 0} → records.Ghosts R Cell Columns Rows → dimension.Ghosts D → colors.Ghosts C Color → PeekableGrid R (Bor Config) D C → Table
-drawn records dimension colors grid = peekable_table records.texts records.columns dimension.width dimension.height colors.color grid
+abbrev pub printed_table : {R Cell Columns Rows D C Color : Type 0} → records.Ghosts R Cell Columns Rows → dimension.Ghosts D → colors.Ghosts C Color → PeekableGrid R (Bor Config) D C → Table
+printed_table records dimension colors grid = peekable_table records.texts records.columns dimension.width dimension.height colors.color grid
 
 -- what a looked-up grid is made of
 abbrev pub peekable_parts : {R G D C : Type 0} → PeekableGrid R G D C → R × G × D × C

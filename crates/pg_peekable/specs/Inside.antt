@@ -1,6 +1,6 @@
 -- What only bodies and their proofs need: no contract of a call from outside stands on it.
-pub mod Drawn
-pub mod DrawnProps
+pub mod TableMarker
+pub mod LookedUpTableProps
 pub mod Kept
 pub mod Lines
 pub mod Walks

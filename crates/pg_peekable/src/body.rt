@@ -9,17 +9,17 @@ ghost use Rattle.pg_picture.specs.Marks.{sep, line as line_mark, only_if, marks_
 ghost use Rattle.pg_picture.specs.Table.{Known, table_body};
 ghost use Rattle.pg_peekable.specs.Inside.Lines.{HasRow, HasRoom};
 
-use crate::drawing::Drawing;
 use crate::kept::KeptCells;
 use crate::lines::{LineOfRow, Separator};
+use crate::looked_up_table::LookedUpTable;
 use pg_layout::{Colors, Dimension, PeekableRecords};
-use pg_picture::Drawn;
+use pg_picture::TableMarker;
 use std::alloc::{AllocError, Allocator};
 use std::marker::PhantomData;
 
-impl<'g, T, R, D, C, B> Drawing<'g, T, R, D, C, B>
+impl<'g, T, R, D, C, B> LookedUpTable<'g, T, R, D, C, B>
 where
-    T: Drawn,
+    T: TableMarker,
     R: PeekableRecords,
     D: Dimension,
     C: Colors,

@@ -1,10 +1,10 @@
 //! The looked-up grid: it reads its records at any place.
 
-use crate::drawing::Drawing;
+use crate::looked_up_table::LookedUpTable;
 use pg_config::SpannedConfig;
 use pg_layout::{Colors, Dimension, ExactRecords, PeekableRecords};
 use pg_picture::fits::{Misfit, body_height, full_width, table_fits};
-use pg_picture::{Drawn, Sheet, TablePrinter, push_bottom_margin, push_top_margin};
+use pg_picture::{Sheet, TableMarker, TablePrinter, push_bottom_margin, push_top_margin};
 use std::alloc::{AllocError, Allocator};
 use std::marker::{Brand, PhantomData};
 
@@ -55,8 +55,8 @@ where
     ghost use Rattle.pg_picture.specs.Sizes.{unless_misfit};
     ghost use Rattle.pg_picture.specs.Straight.{IsStraight};
     ghost use Rattle.pg_picture.specs.Table.{Known, is_empty, table_body};
-    ghost use Rattle.pg_peekable.specs.Grids.{drawn};
-    ghost use Rattle.pg_peekable.specs.Inside.Drawn.{CanDraw, IsFull, IsShapeOf};
+    ghost use Rattle.pg_peekable.specs.Grids.{printed_table};
+    ghost use Rattle.pg_peekable.specs.Inside.LookedUpTable.{CanDraw, IsFull, IsShapeOf};
 
     /// Whether the table fits: its spans, its totals, and in each cell the text's widest line, the side
     /// paddings and the padding above the text. Lines that a row isn't high enough for are no misfit:
@@ -64,9 +64,9 @@ where
     /// first thing that doesn't fit (`pg_picture::fits::Misfit`), and takes no memory. A table with no
     /// rows or no columns fits.
     pub fn fits(&self) -> Result<(), Misfit>
-        ensures exact { result ≡ unless_misfit (misfit_of (drawn R.Records D.Dimension C.Colors self.now)) }
-        ensures fits { IsOk result → misfit_of (drawn R.Records D.Dimension C.Colors self.now) ≡ None }
-        ensures empty { is_empty (drawn R.Records D.Dimension C.Colors self.now) ≡ true → IsOk result }
+        ensures exact { result ≡ unless_misfit (misfit_of (printed_table R.Records D.Dimension C.Colors self.now)) }
+        ensures fits { IsOk result → misfit_of (printed_table R.Records D.Dimension C.Colors self.now) ≡ None }
+        ensures empty { is_empty (printed_table R.Records D.Dimension C.Colors self.now) ≡ true → IsOk result }
     {
         table_fits(&self.records, self.config, &self.dimension)
     }
@@ -83,10 +83,10 @@ where
     /// behind what it held before.
     #[tactic(auto, using(pg_picture::proofs::StraightColumns::is_straight))]
     pub fn build<A: Allocator>(&self, buf: &mut String<A>) -> Result<(), AllocError>
-        requires fits { misfit_of (drawn R.Records D.Dimension C.Colors self.now) ≡ None }
-        ensures appends { Appends buf.old buf.new result (picture Known (drawn R.Records D.Dimension C.Colors self.now)) }
-        ensures straight { IsStraight (drawn R.Records D.Dimension C.Colors self.now) }
-        ensures empty { is_empty (drawn R.Records D.Dimension C.Colors self.now) ≡ true → IsOk result × (buf.new ≡ buf.old) }
+        requires fits { misfit_of (printed_table R.Records D.Dimension C.Colors self.now) ≡ None }
+        ensures appends { Appends buf.old buf.new result (picture Known (printed_table R.Records D.Dimension C.Colors self.now)) }
+        ensures straight { IsStraight (printed_table R.Records D.Dimension C.Colors self.now) }
+        ensures empty { is_empty (printed_table R.Records D.Dimension C.Colors self.now) ≡ true → IsOk result × (buf.new ≡ buf.old) }
     {
         let rows = self.records.count_rows();
         let columns = self.records.count_columns();
@@ -100,9 +100,9 @@ where
     /// call that tests it first. An error comes where no memory is found; a table with no rows or no
     /// columns asks for none.
     pub fn to_string<A: Allocator>(&self, alloc: A) -> Result<String<A>, AllocError>
-        requires fits { misfit_of (drawn R.Records D.Dimension C.Colors self.now) ≡ None }
-        ensures text { IfOk result (λ text. string_bytes text ≡ picture Known (drawn R.Records D.Dimension C.Colors self.now)) }
-        ensures empty { is_empty (drawn R.Records D.Dimension C.Colors self.now) ≡ true → IsOk result }
+        requires fits { misfit_of (printed_table R.Records D.Dimension C.Colors self.now) ≡ None }
+        ensures text { IfOk result (λ text. string_bytes text ≡ picture Known (printed_table R.Records D.Dimension C.Colors self.now)) }
+        ensures empty { is_empty (printed_table R.Records D.Dimension C.Colors self.now) ≡ true → IsOk result }
     {
         let mut text = String::new(alloc);
         self.build(&mut text)?;
@@ -115,8 +115,8 @@ where
         rows: usize,
         columns: usize,
     ) -> Result<(), AllocError>
-        requires full { IsFull (drawn R.Records D.Dimension C.Colors self.now) rows columns }
-        ensures { Appends buf.old buf.new result (joined (picture_lines Known (drawn R.Records D.Dimension C.Colors self.now))) }
+        requires full { IsFull (printed_table R.Records D.Dimension C.Colors self.now) rows columns }
+        ensures { Appends buf.old buf.new result (joined (picture_lines Known (printed_table R.Records D.Dimension C.Colors self.now))) }
     {
         // Shows that the spans stand in order.
         let _spans = self.config.spans();
@@ -136,7 +136,7 @@ where
         push_bottom_margin(buf, self.config, width, is_first && height == 0)
     }
 
-    fn push_drawn<T: Drawn, A: Allocator>(
+    fn push_drawn<T: TableMarker, A: Allocator>(
         &self,
         buf: &mut String<A>,
         sheet: Sheet<'_, D, C, B>,
@@ -147,7 +147,7 @@ where
         requires can { CanDraw T.table }
         ensures { Appends buf.old buf.new result (body_text Known T.table T.table.config.margin.top.size 0 (table_body T.table)) }
     {
-        let drawing: Drawing<'_, T, R, D, C, B> = Drawing {
+        let table: LookedUpTable<'_, T, R, D, C, B> = LookedUpTable {
             records: &self.records,
             rows,
             is_colored: !sheet.colors.is_empty(),
@@ -155,7 +155,7 @@ where
             sheet,
             of: PhantomData,
         };
-        drawing.push_kept_body(buf)
+        table.push_kept_body(buf)
     }
 }
 
@@ -170,13 +170,13 @@ where
     ghost use Rattle.pg_picture.specs.Fits.{misfit_of};
     ghost use Rattle.pg_picture.specs.Picture.{picture};
     ghost use Rattle.pg_picture.specs.Table.{Known, is_empty};
-    ghost use Rattle.pg_peekable.specs.Grids.{drawn};
+    ghost use Rattle.pg_peekable.specs.Grids.{printed_table};
 
-    ghost picture = { λ it. picture Known (drawn R.Records D.Dimension C.Colors it.now) };
+    ghost picture = { λ it. picture Known (printed_table R.Records D.Dimension C.Colors it.now) };
 
-    ghost misfit = { λ it. misfit_of (drawn R.Records D.Dimension C.Colors it.now) };
+    ghost misfit = { λ it. misfit_of (printed_table R.Records D.Dimension C.Colors it.now) };
 
-    ghost is_empty = { λ it. is_empty (drawn R.Records D.Dimension C.Colors it.now) };
+    ghost is_empty = { λ it. is_empty (printed_table R.Records D.Dimension C.Colors it.now) };
 
     fn fits(&self) -> Result<(), Misfit> {
         PeekableGrid::fits(*self)

@@ -9,7 +9,7 @@ ghost use Rattle.std.proofs.Props.{props};
 
 use crate::rectangle::Rectangle;
 use pg_layout::{LineCursor, Position};
-use pg_picture::{CellPlace, Drawn, SeparatorKeeper};
+use pg_picture::{CellPlace, SeparatorKeeper, TableMarker};
 use std::alloc::{AllocError, Allocator};
 use std::marker::PhantomData;
 
@@ -98,7 +98,7 @@ pub(super) struct KeptCell {
 }
 
 /// The rectangle of a cell, and how many of its lines stand above a row.
-pub(super) struct KeptRectangle<T: Drawn> {
+pub(super) struct KeptRectangle<T: TableMarker> {
     pub(super) rectangle: Rectangle,
     pub(super) row: usize,
     pub(super) above: usize,
@@ -106,7 +106,7 @@ pub(super) struct KeptRectangle<T: Drawn> {
     ghost is: { IsRectangle T.table rectangle row above } by { Prim.hlevel props },
 }
 
-impl<T: Drawn> Clone for KeptRectangle<T> {
+impl<T: TableMarker> Clone for KeptRectangle<T> {
     ghost is_clone = { λ rectangle clone. clone ≡ rectangle };
 
     ghost is_infallible = { λ _. ⊤ };
@@ -116,7 +116,7 @@ impl<T: Drawn> Clone for KeptRectangle<T> {
     }
 }
 
-impl<T: Drawn> Copy for KeptRectangle<T> {}
+impl<T: TableMarker> Copy for KeptRectangle<T> {}
 
 /// No slot of so many columns holds anything.
 pub(super) fn no_slots<T: Copy, const COLUMNS: usize>() -> [Option<T>; COLUMNS]
@@ -128,7 +128,7 @@ pub(super) fn no_slots<T: Copy, const COLUMNS: usize>() -> [Option<T>; COLUMNS]
 /// What is kept of the cells of a table whose left column has a slot, at most one for each column,
 /// and the text of a separator between two rows, if all of these are equal.
 #[derive(Drop)]
-pub(super) struct KeptCells<'k, T: Drawn> {
+pub(super) struct KeptCells<'k, T: TableMarker> {
     cells: &'k mut [Option<KeptCell>],
     rectangles: &'k mut [Option<KeptRectangle<T>>],
     separator: SeparatorKeeper<'k>,
@@ -137,7 +137,7 @@ pub(super) struct KeptCells<'k, T: Drawn> {
     ghost is_separator: { IfSome separator.text (IsSeparator T.table) } by { Prim.hlevel props },
 }
 
-impl<'k, T: Drawn> KeptCells<'k, T> {
+impl<'k, T: TableMarker> KeptCells<'k, T> {
     // Nothing is kept in these slots, which are as many as there are columns of which it may be,
     // and in the room of the separator.
     #[inline(always)]

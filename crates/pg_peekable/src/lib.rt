@@ -2,10 +2,10 @@
 #![tactic(auto)]
 
 mod body;
-mod drawing;
 mod grid;
 mod kept;
 mod lines;
+mod looked_up_table;
 mod rectangle;
 mod rows;
 mod separators;

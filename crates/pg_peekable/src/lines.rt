@@ -3,12 +3,12 @@
 ghost use Rattle.pg_peekable.specs.Inside.Lines.{IsLine, IsSeparatorLine};
 ghost use Rattle.std.proofs.Props.{props};
 
-use pg_picture::Drawn;
+use pg_picture::TableMarker;
 use std::marker::PhantomData;
 
 /// A line of a row: the row, how many lines it has, and the line's number in it.
 #[derive(Drop)]
-pub(crate) struct LineOfRow<T: Drawn> {
+pub(crate) struct LineOfRow<T: TableMarker> {
     pub(crate) row: usize,
     pub(crate) height: usize,
     pub(crate) number: usize,
@@ -18,7 +18,7 @@ pub(crate) struct LineOfRow<T: Drawn> {
 
 /// A separator that is there: the row below it, or how many rows there are for the last one.
 #[derive(Drop)]
-pub(crate) struct Separator<T: Drawn> {
+pub(crate) struct Separator<T: TableMarker> {
     pub(crate) row: usize,
     pub(crate) of: PhantomData<T>,
     ghost is: { IsSeparatorLine T.table row } by { Prim.hlevel props },

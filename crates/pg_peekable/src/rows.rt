@@ -10,27 +10,27 @@ ghost use Rattle.pg_peekable.specs.Inside.Kept.{IsReading};
 ghost use Rattle.pg_peekable.specs.Inside.Lines.{IsCellLine, rectangle_at};
 ghost use Rattle.std.proofs.Props.{props};
 
-use crate::drawing::Drawing;
 use crate::kept::{KeptCells, Reading};
 use crate::lines::LineOfRow;
+use crate::looked_up_table::LookedUpTable;
 use crate::rectangle::Rectangle;
 use pg_layout::{Colors, Dimension, PeekableRecords, Position};
-use pg_picture::{Drawn, PlacedLine, SingleCell, TextKind};
+use pg_picture::{PlacedLine, SingleCell, TableMarker, TextKind};
 use std::alloc::{AllocError, Allocator};
 use std::marker::PhantomData;
 
 /// A line of a cell, which has room for its text: the cell's rectangle, and the number of the line.
 #[derive(Drop)]
-struct CellLine<T: Drawn> {
+struct CellLine<T: TableMarker> {
     rectangle: Rectangle,
     number: usize,
     of: PhantomData<T>,
     ghost is: { IsCellLine T.table rectangle number } by { Prim.hlevel props },
 }
 
-impl<'g, T, R, D, C, B> Drawing<'g, T, R, D, C, B>
+impl<'g, T, R, D, C, B> LookedUpTable<'g, T, R, D, C, B>
 where
-    T: Drawn,
+    T: TableMarker,
     R: PeekableRecords,
     D: Dimension,
     C: Colors,

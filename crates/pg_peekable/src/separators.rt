@@ -9,16 +9,16 @@ ghost use Rattle.pg_picture.specs.Inside.Following.{items_after, last_color};
 ghost use Rattle.pg_picture.specs.Table.{separator_items, separator_part, crossing_at, border_items};
 ghost use Rattle.pg_peekable.specs.Inside.Lines.{IsInner};
 
-use crate::drawing::Drawing;
 use crate::kept::KeptCells;
 use crate::lines::Separator;
+use crate::looked_up_table::LookedUpTable;
 use pg_layout::{ANSIBuf, Colors, Dimension, PeekableRecords, Position};
-use pg_picture::{Drawn, Run, push_text};
+use pg_picture::{Run, TableMarker, push_text};
 use std::alloc::{AllocError, Allocator};
 
-impl<'g, T, R, D, C, B> Drawing<'g, T, R, D, C, B>
+impl<'g, T, R, D, C, B> LookedUpTable<'g, T, R, D, C, B>
 where
-    T: Drawn,
+    T: TableMarker,
     R: PeekableRecords,
     D: Dimension,
     C: Colors,

@@ -5,10 +5,10 @@ ghost use Rattle.pg_picture.specs.Appending.{Appends};
 ghost use Rattle.pg_picture.specs.Inside.Following.{body_text};
 ghost use Rattle.pg_picture.specs.Table.{Known, table_body};
 
-use crate::drawing::Drawing;
 use crate::kept::{KeptCell, KeptCells, KeptRectangle, no_slots};
+use crate::looked_up_table::LookedUpTable;
 use pg_layout::{Colors, Dimension, PeekableRecords};
-use pg_picture::{Drawn, SEPARATOR_ROOM};
+use pg_picture::{SEPARATOR_ROOM, TableMarker};
 use std::alloc::{AllocError, Allocator};
 
 /// How many columns a table has at most that needs few slots.
@@ -20,9 +20,9 @@ const SOME: usize = 128;
 /// For how many columns something is kept at most.
 const MANY: usize = 1024;
 
-impl<'g, T, R, D, C, B> Drawing<'g, T, R, D, C, B>
+impl<'g, T, R, D, C, B> LookedUpTable<'g, T, R, D, C, B>
 where
-    T: Drawn,
+    T: TableMarker,
     R: PeekableRecords,
     D: Dimension,
     C: Colors,

@@ -13,20 +13,20 @@ ghost use Rattle.pg_picture.specs.Table.{row_part, separator_part, vertical, blo
 ghost use Rattle.pg_picture.specs.Inside.Rectangles.{rows_height};
 ghost use Rattle.pg_peekable.specs.Inside.Walks.{BeginsHere, BeginsAbove, IsOwnerOf, OwnsRow, IsRowFrom};
 
-use crate::drawing::Drawing;
 use crate::kept::{KeptCells, KeptRectangle};
 use crate::lines::{LineOfRow, Separator};
+use crate::looked_up_table::LookedUpTable;
 use crate::rectangle::Rectangle;
 use pg_config::Span;
 use pg_layout::{ANSIBuf, Colors, Dimension, PeekableRecords, Position};
 use pg_picture::fits::{columns_of, height_of_rows, width_of_columns};
-use pg_picture::{Drawn, Run};
+use pg_picture::{Run, TableMarker};
 use std::alloc::{AllocError, Allocator};
 use std::marker::PhantomData;
 
-impl<'g, T, R, D, C, B> Drawing<'g, T, R, D, C, B>
+impl<'g, T, R, D, C, B> LookedUpTable<'g, T, R, D, C, B>
 where
-    T: Drawn,
+    T: TableMarker,
     R: PeekableRecords,
     D: Dimension,
     C: Colors,

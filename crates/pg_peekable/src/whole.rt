@@ -18,16 +18,16 @@ where
     ghost use Rattle.pg_picture.specs.Fits.{misfit_of};
     ghost use Rattle.pg_picture.specs.Shown.{unshown_of, unless_unshown};
     ghost use Rattle.pg_picture.specs.Table.{is_empty};
-    ghost use Rattle.pg_peekable.specs.Grids.{drawn};
+    ghost use Rattle.pg_peekable.specs.Grids.{printed_table};
 
     /// Whether the table fits, and shows each line of its texts: else the first thing that doesn't fit, as
     /// `fits` returns it, and where all fits the first cell that isn't high enough for its lines below
     /// the padding above them. Rows that no height was told for are 0 high. Takes no memory. A table
     /// with no rows or no columns shows all.
     pub fn shows_all(&self) -> Result<(), Unshown>
-        ensures exact { result ≡ unless_unshown (unshown_of (drawn R.Records D.Dimension C.Colors self.now)) }
-        ensures fits { IsOk result → misfit_of (drawn R.Records D.Dimension C.Colors self.now) ≡ None }
-        ensures empty { is_empty (drawn R.Records D.Dimension C.Colors self.now) ≡ true → IsOk result }
+        ensures exact { result ≡ unless_unshown (unshown_of (printed_table R.Records D.Dimension C.Colors self.now)) }
+        ensures fits { IsOk result → misfit_of (printed_table R.Records D.Dimension C.Colors self.now) ≡ None }
+        ensures empty { is_empty (printed_table R.Records D.Dimension C.Colors self.now) ≡ true → IsOk result }
     {
         table_shows_all(&self.records, self.config, &self.dimension)
     }
@@ -41,9 +41,9 @@ where
     B: Allocator,
 {
     ghost use Rattle.pg_picture.specs.Shown.{unshown_of};
-    ghost use Rattle.pg_peekable.specs.Grids.{drawn};
+    ghost use Rattle.pg_peekable.specs.Grids.{printed_table};
 
-    ghost unshown = { λ it. unshown_of (drawn R.Records D.Dimension C.Colors it.now) };
+    ghost unshown = { λ it. unshown_of (printed_table R.Records D.Dimension C.Colors it.now) };
 
     fn shows_all(&self) -> Result<(), Unshown> {
         PeekableGrid::shows_all(*self)

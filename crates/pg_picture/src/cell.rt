@@ -105,7 +105,7 @@ fn push_parts<C: ANSIFmt, B: Allocator, A: Allocator>(
     push_right_side(buf, style, rest)
 }
 
-// The same where the sides are of one character without colours, which isn't asked of each side then.
+// Appends the parts of a line whose sides are of one character without colours: no side is tested.
 #[inline(always)]
 pub(crate) fn push_plain_parts<C: ANSIFmt, B: Allocator, A: Allocator>(
     buf: &mut String<A>,

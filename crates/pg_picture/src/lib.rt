@@ -37,7 +37,7 @@ pub use crate::facts::{TextFacts, TextKind, count_empty_lines, text_width};
 pub use crate::fault::PrintFault;
 pub use crate::fill::{push_char, push_text};
 pub use crate::margin::{push_feed, push_margin_lines, push_side_margin};
-pub use crate::pen::{Drawn, Pen};
+pub use crate::pen::{Pen, TableMarker};
 pub use crate::piece::push_fill;
 pub use crate::place::CellPlace;
 pub use crate::placed_cell::PlacedLine;

@@ -31,19 +31,19 @@ use std::marker::{Brand, PhantomData};
 /// that of its sheet. That `Brand` has a table of nothing below is no contradiction: all that is called is
 /// proved for every table, so a call may pick any, and the one below is taken only where none is picked.
 /// There it proves nothing false, since a [`Pen`] is made only where its sheet is shown to be the word's.
-pub trait Drawn {
+pub trait TableMarker {
     /// The table.
     ghost table: { Table };
 }
 
-impl Drawn for Brand {
+impl TableMarker for Brand {
     ghost table = { no_table };
 }
 
 /// Draws the pieces of a table's lines: by its sheet, and the word for it.
 ///
 /// It is for who draws pieces of a table by themselves.
-pub struct Pen<'s, T: Drawn, D: Dimension, C: Colors, B: Allocator> {
+pub struct Pen<'s, T: TableMarker, D: Dimension, C: Colors, B: Allocator> {
     pub sheet: &'s Sheet<'s, D, C, B>,
     /// Whether a cell may have a colour.
     pub is_colored: bool,
@@ -52,7 +52,7 @@ pub struct Pen<'s, T: Drawn, D: Dimension, C: Colors, B: Allocator> {
     ghost is_plain: { is_colored ≡ false → (pos : Position) → T.table.color pos ≡ None } by { Prim.hlevel props },
 }
 
-impl<'s, T: Drawn, D: Dimension, C: Colors, B: Allocator> Clone for Pen<'s, T, D, C, B> {
+impl<'s, T: TableMarker, D: Dimension, C: Colors, B: Allocator> Clone for Pen<'s, T, D, C, B> {
     ghost is_clone = { λ x y. y ≡ x };
 
     ghost is_infallible = { λ _. ⊤ };
@@ -62,11 +62,11 @@ impl<'s, T: Drawn, D: Dimension, C: Colors, B: Allocator> Clone for Pen<'s, T, D
     }
 }
 
-impl<'s, T: Drawn, D: Dimension, C: Colors, B: Allocator> Copy for Pen<'s, T, D, C, B> {}
+impl<'s, T: TableMarker, D: Dimension, C: Colors, B: Allocator> Copy for Pen<'s, T, D, C, B> {}
 
 impl<'s, T, D, C, B> Pen<'s, T, D, C, B>
 where
-    T: Drawn,
+    T: TableMarker,
     D: Dimension,
     C: Colors,
     B: Allocator,

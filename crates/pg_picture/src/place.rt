@@ -51,7 +51,7 @@ impl CellPlace {
         }
     }
 
-    // The same of a text, in any cell that has room for it: one of no line shows none.
+    // The place of a text in any cell that has room for it: a cell of no line shows none.
     #[inline(always)]
     pub(crate) fn of_text<A: Allocator>(
         text: &str,

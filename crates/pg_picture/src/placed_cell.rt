@@ -10,7 +10,7 @@ ghost use Rattle.pg_picture.specs.Inside.Styles.{DrawsAs};
 ghost use Rattle.std.proofs.Props.{props};
 
 use crate::cell::push_block_line_of;
-use crate::pen::{Drawn, Pen};
+use crate::pen::{Pen, TableMarker};
 use crate::place::CellPlace;
 use pg_config::CellStyle;
 use pg_layout::{Colors, Dimension, Position};
@@ -23,7 +23,7 @@ use std::marker::PhantomData;
 /// It is for who draws pieces of a table by themselves. Where a text line stands there, the cell has room
 /// for it.
 #[derive(Drop)]
-pub struct PlacedLine<'t, T: Drawn> {
+pub struct PlacedLine<'t, T: TableMarker> {
     pub pos: Position,
     pub width: usize,
     pub place: CellPlace,
@@ -35,7 +35,7 @@ pub struct PlacedLine<'t, T: Drawn> {
 
 impl<'s, T, D, C, B> Pen<'s, T, D, C, B>
 where
-    T: Drawn,
+    T: TableMarker,
     D: Dimension,
     C: Colors,
     B: Allocator,

@@ -92,7 +92,7 @@ impl<'a, D, C, B: Allocator> Sheet<'a, D, C, B> {
         }
     }
 
-    /// The same with other sizes; how wide its lines are, and how many the body has, stays as it was told.
+    /// The sheet with other sizes; how wide its lines are, and how many the body has, stays as it was set.
     pub fn with_dimension<'s, E>(&'s self, dimension: &'s E) -> Sheet<'s, E, C, B>
         ensures config { result.config.now ≡ self.now.config.now }
         ensures dimension { result.dimension.now ≡ dimension.now }

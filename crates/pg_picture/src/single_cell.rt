@@ -12,7 +12,7 @@ use crate::cell::{
     shows_texts_whole,
 };
 use crate::facts::{TextKind, single_line_width};
-use crate::pen::{Drawn, Pen};
+use crate::pen::{Pen, TableMarker};
 use pg_config::CellStyle;
 use pg_layout::{Colors, Dimension, Position};
 use std::alloc::{AllocError, Allocator};
@@ -22,7 +22,7 @@ use std::marker::PhantomData;
 ///
 /// It is for who draws pieces of a table by themselves.
 #[derive(Drop)]
-pub struct SingleCell<'t, T: Drawn> {
+pub struct SingleCell<'t, T: TableMarker> {
     pub pos: Position,
     pub width: usize,
     pub text: &'t str,
@@ -34,7 +34,7 @@ pub struct SingleCell<'t, T: Drawn> {
 
 impl<'s, T, D, C, B> Pen<'s, T, D, C, B>
 where
-    T: Drawn,
+    T: TableMarker,
     D: Dimension,
     C: Colors,
     B: Allocator,
@@ -61,8 +61,8 @@ where
         }
     }
 
-    // The same where the cell's style is looked up. It stands out of line, so that the code of the other
-    // cases is small enough to stand in line.
+    // Appends the line in the cell's own style, which is looked up. It is out of line, so that the code of
+    // the other cases is small enough to be in line.
     #[inline(never)]
     fn push_in_own_style<A: Allocator>(
         self,
@@ -75,7 +75,7 @@ where
         self.push_in_style(buf, &style, cell)
     }
 
-    // The same in a style that is simple to draw.
+    // Appends the line in a style that is simple to draw.
     #[inline(always)]
     fn push_simple<A: Allocator>(
         self,
@@ -103,7 +103,7 @@ where
         )
     }
 
-    // The same in any style. It is rare enough to stand out of line.
+    // Appends the line in any style. It is rare enough to be out of line.
     #[inline(never)]
     fn push_in_style<A: Allocator>(
         self,

@@ -1,5 +1,5 @@
 -- What only bodies and their proofs need: no contract of a call from outside stands on it.
-pub mod Drawing
+pub mod StreamedTable
 pub mod Slots
 pub mod Turns
 pub mod SingleRows

@@ -15,7 +15,7 @@ use Rattle.pg_config.specs.Config.{Config, get_formatting}
 use Rattle.pg_fit.specs.Overlaid.{Overlay, text_or, other_text, row_from, overlaid}
 use Rattle.pg_layout.specs.Colors.{Color}
 use Rattle.pg_picture.specs.Pieces.{widest}
-use Rattle.pg_picture.specs.Table.{Table as Drawn, full_width}
+use Rattle.pg_picture.specs.Table.{Table as PrintedTable, full_width}
 use Rattle.pg_table.specs.declared.overflow.Overflow.{Overflow}
 use Rattle.pg_table.specs.declared.sizes.Axis.TheVariants.{Columns}
 use Rattle.pg_table.specs.Natural.{paddings, natural_sizes, natural_table}
@@ -175,7 +175,7 @@ overlaid-fitted f g o how total limits config below =
 
 -- the same where the records below are known, and the table that these make
 module _ {R Z : Type 0} (f : R → List (List Text)) (g : R → ℕ) (o : Overlay R Z) (r : R) (is : o.records ≡ r) (how : Overflow) (total : ℕ) (limits : List ℕ) (config : Config) (spanless : HasPlainWidths config (length (f r)) (g r)) (below : AreFittedBelow how total limits config (f r) (g r) (g r) (other_text o.others (f r))) (color : Position → Option Color) where
-  abbrev drawn : Drawn
+  abbrev drawn : PrintedTable
   drawn = natural_table config (overlaid f g o) (g o.records) color
 
   pub texts-are : overlaid f g o ≡ column_texts how total limits config (f r) (g r)
@@ -193,7 +193,7 @@ module _ {R Z : Type 0} (f : R → List (List Text)) (g : R → ℕ) (o : Overla
   columns-limited plain k h =
       omega (
         arith,
-        ap (λ (t : Drawn). t.width k) table-is,
+        ap (λ (t : PrintedTable). t.width k) table-is,
         width-at config (column_texts how total limits config (f r) (g r)) (g r) color k h,
         columns-narrow how total limits config (f r) (g r) spanless (λ p i j. below.room plain p i j) k h,
       )

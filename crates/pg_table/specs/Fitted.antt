@@ -13,7 +13,7 @@ use Rattle.pg_fit.specs.declared.narrowing.ColumnRange.{ColumnRange}
 use Rattle.pg_fit.specs.Narrowing.{limited, narrowed}
 use Rattle.pg_fit.specs.Overlaid.{overlaid}
 use Rattle.pg_picture.specs.Fits.{spans_fit}
-use Rattle.pg_picture.specs.Table.{Table as Drawn}
+use Rattle.pg_picture.specs.Table.{Table as PrintedTable}
 use Rattle.pg_table.specs.Natural.{paddings, natural_sizes, all_fit}
 unfoldable pub use Rattle.pg_table.specs.Overflowing.{fitted_text}
 pub use Rattle.pg_table.specs.Overflowing.{overflowed, least_overflowed, least_text_width, HasPlainTail, beside_columns, limit_of}
@@ -77,7 +77,7 @@ module _ (how : Overflow) (total : ℕ) (limits : List ℕ) (config : Config) (t
   fitted_texts = if keeps_spans config texts columns then spanned_texts how (spanned_widths how total limits config texts columns) config texts columns else column_texts how total limits config texts columns
 
   -- the table, at the natural sizes of these texts; where a span is kept its columns are as wide as they were narrowed to
-  abbrev pub fitted_table : (Position → Option Color) → Drawn
+  abbrev pub fitted_table : (Position → Option Color) → PrintedTable
   fitted_table color = table_from (spanned_widths how total limits config texts columns) config fitted_texts columns color
 
 -- nothing is too wide: each column at its natural width is within its limit, and a line of them within the total
@@ -104,8 +104,8 @@ least_fault how config texts columns =
 -- ---- tables
 
 -- what a fitted table draws, by what its records and its colours tell
-abbrev pub drawn_fitted : {R C B A : Type 0} → (R → List (List Text)) → (R → ℕ) → (C → Position → Option Color) → FittedTable R C B A → Drawn
-drawn_fitted texts columns color t = table_from t.widths.items t.config.now (overlaid texts columns t.records) (columns t.records.records) (color t.colors.now)
+abbrev pub printed_fitted_table : {R C B A : Type 0} → (R → List (List Text)) → (R → ℕ) → (C → Position → Option Color) → FittedTable R C B A → PrintedTable
+printed_fitted_table texts columns color t = table_from t.widths.items t.config.now (overlaid texts columns t.records) (columns t.records.records) (color t.colors.now)
 
 -- its natural sizes
 abbrev pub sizes_fitted : {R C B A : Type 0} → (R → List (List Text)) → (R → ℕ) → Axis → FittedTable R C B A → List ℕ
@@ -117,7 +117,7 @@ abbrev pub sizes_fault_fitted : {R C B A : Type 0} → (R → List (List Text)) 
 sizes_fault_fitted texts columns t = sizes_fault t.config.now (overlaid texts columns t.records) (columns t.records.records)
 
 -- the table of lent parts, fitted
-abbrev pub fitted_of : {R C : Type 0} → Overflow → ℕ → List ℕ → (R → List (List Text)) → (R → ℕ) → (C → Position → Option Color) → R × Config × C → Drawn
+abbrev pub fitted_of : {R C : Type 0} → Overflow → ℕ → List ℕ → (R → List (List Text)) → (R → ℕ) → (C → Position → Option Color) → R × Config × C → PrintedTable
 fitted_of how total limits texts columns color (records, config, colors) = fitted_table how total limits config (texts records) (columns records) (color colors)
 
 -- why it isn't fitted, and the width of a line whose columns are as narrow as they can be
@@ -138,7 +138,7 @@ abbrev pub least_fault_of : {R C : Type 0} → Overflow → (R → List (List Te
 least_fault_of how texts columns (records, config, colors) = least_fault how config (texts records) (columns records)
 
 -- the same of a table with rows of its own, by the texts of its cells; and what it draws, fitted, over these rows
-abbrev pub fitted_rows : {T : Type 0} → Overflow → ℕ → List ℕ → (T → Text) → Parts T → Drawn
+abbrev pub fitted_rows : {T : Type 0} → Overflow → ℕ → List ℕ → (T → Text) → Parts T → PrintedTable
 fitted_rows how total limits text t = fitted_table how total limits t.config (map (λ row. map text row) t.rows) (columns_of t.rows) (λ place. color_at place t.colors)
 
 abbrev pub fit_fault_rows : {T : Type 0} → (T → Text) → Parts T → Option TableFault
@@ -159,5 +159,5 @@ keeps_spans_rows text t = keeps_spans t.config (map (λ row. map text row) t.row
 abbrev pub least_at_rows : {T : Type 0} → Overflow → (T → Text) → Parts T → ℕ → ℕ
 least_at_rows how text t k = least_width_at how t.config (map (λ row. map text row) t.rows) (columns_of t.rows) k
 
-abbrev pub drawn_rows : {T B A : Type 0} → (T → Text) → FittedTable (Bor (List (List T))) (List (Position × Color)) B A → Drawn
-drawn_rows text t = drawn_fitted (λ r. map (λ row. map text row) r.now) (λ r. columns_of r.now) (λ colors place. color_at place colors) t
+abbrev pub drawn_rows : {T B A : Type 0} → (T → Text) → FittedTable (Bor (List (List T))) (List (Position × Color)) B A → PrintedTable
+drawn_rows text t = printed_fitted_table (λ r. map (λ row. map text row) r.now) (λ r. columns_of r.now) (λ colors place. color_at place colors) t

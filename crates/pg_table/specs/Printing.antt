@@ -10,7 +10,7 @@ use Rattle.pg_layout.specs.Text.{Text}
 use Rattle.pg_config.specs.Config.{Config, default_config}
 use Rattle.pg_config.specs.Overrides.{with_row_line}
 use Rattle.pg_picture.specs.Fits.{spans_fit, totals_fit}
-use Rattle.pg_picture.specs.Table.{Table as Drawn, is_empty}
+use Rattle.pg_picture.specs.Table.{Table as PrintedTable, is_empty}
 use Rattle.pg_picture.specs.Appending.{AppendsOrNothing}
 use Rattle.pg_table.specs.Natural.{natural_sizes, natural_table, all_fit, cells_fit}
 use Rattle.pg_table.specs.declared.fault.TableFault.{TableFault}
@@ -22,7 +22,7 @@ use Rattle.pg_table.specs.declared.sizes.Axis.TheVariants.{Columns, Rows}
 -- ---- faults
 
 -- why a table with cells isn't printed at its natural sizes: its spans don't fit, or its totals are no numbers
-unfoldable pub fault_of : Drawn → Option TableFault
+unfoldable pub fault_of : PrintedTable → Option TableFault
 fault_of t =
     if is_empty t then None
     else if not (spans_fit t.config.spans t.rows t.columns) then Some Spans
@@ -30,12 +30,12 @@ fault_of t =
     else None
 
 -- a span is kept
-abbrev pub is_spanned : Drawn → Bool
+abbrev pub is_spanned : PrintedTable → Bool
 is_spanned t = not (length t.config.spans == 0)
 
 -- What a call that works out the sizes of a table may answer: its fault; and want of memory where it has none, or where it
 -- has spans and its totals are no numbers, which is known only where there is memory for its sizes.
-abbrev pub CanFail : Drawn → TableFault → Type 0
+abbrev pub CanFail : PrintedTable → TableFault → Type 0
 CanFail t fault = (fault_of t ≡ Some fault) ⊎ ((fault ≡ Memory) × ((fault_of t ≡ None) ⊎ ((fault_of t ≡ Some Totals) × (is_spanned t ≡ true))))
 
 -- A table with a fault is refused and the buffer stays as it was. Any other table is appended, and nothing but
@@ -59,8 +59,8 @@ abbrev pub natural_parts : {R C B : Type 0} → NaturalTable R C B → R × Conf
 natural_parts t = (t.records, t.config.now, t.colors.now)
 
 -- the table that it draws, by what its records and its colours tell
-abbrev pub drawn_of : {R C : Type 0} → (R → List (List Text)) → (R → ℕ) → (C → Position → Option Color) → R × Config × C → Drawn
-drawn_of texts columns color (records, config, colors) = natural_table config (texts records) (columns records) (color colors)
+abbrev pub printed_table_of : {R C : Type 0} → (R → List (List Text)) → (R → ℕ) → (C → Position → Option Color) → R × Config × C → PrintedTable
+printed_table_of texts columns color (records, config, colors) = natural_table config (texts records) (columns records) (color colors)
 
 -- its natural sizes, by what its records tell
 abbrev pub sizes_of : {R C : Type 0} → (R → List (List Text)) → (R → ℕ) → Axis → R × Config × C → List ℕ
@@ -77,8 +77,8 @@ pub record Parts (T : Type 0) : Type 0 where
   pub colors : List (Position × Color)
 
 -- the table that it draws, by the texts of its cells
-abbrev pub drawn : {T : Type 0} → (T → Text) → Parts T → Drawn
-drawn text t = natural_table t.config (map (λ row. map text row) t.rows) (columns_of t.rows) (λ place. color_at place t.colors)
+abbrev pub printed_table : {T : Type 0} → (T → Text) → Parts T → PrintedTable
+printed_table text t = natural_table t.config (map (λ row. map text row) t.rows) (columns_of t.rows) (λ place. color_at place t.colors)
 
 -- a configuration that was told ASCII borders alone
 abbrev pub ascii_config : Config

@@ -46,10 +46,10 @@ where
     ghost use Rattle.pg_fit.specs.Overlaid.{other_text};
     ghost use Rattle.pg_picture.specs.Sizes.{if_fits};
     ghost use Rattle.pg_picture.specs.Table.{full_width, is_empty};
-    ghost use Rattle.pg_table.specs.Fitted.{HasPlainTail, limit_of, drawn_fitted, fitted_of, fit_fault_of, least_at, least_width_of, least_fault_of, IsNarrowOf};
+    ghost use Rattle.pg_table.specs.Fitted.{HasPlainTail, limit_of, printed_fitted_table, fitted_of, fit_fault_of, least_at, least_width_of, least_fault_of, IsNarrowOf};
     ghost use Rattle.pg_table.specs.Spanning.{keeps_spans};
     ghost use Rattle.pg_table.specs.Inside.Fitting.{HasPlainWidths, AreFittedBelow, IsFitted, plain_full_width};
-    ghost use Rattle.pg_table.specs.Printing.{drawn_of, natural_parts};
+    ghost use Rattle.pg_table.specs.Printing.{printed_table_of, natural_parts};
 
     /// The width of a line, in terminal columns, where each column is as narrow as wrapping or cutting
     /// can make it, the side margins and the column lines among it. Of a table that keeps no spans no
@@ -101,11 +101,11 @@ where
         width: usize,
         how: Overflow,
     ) -> Result<FittedTable<'a, R, C, B, A>, TableFault>
-        ensures table { IfOk result (λ fitted. drawn_fitted R.texts R.columns C.color fitted ≡ fitted_of how.entry width [] R.texts R.columns C.color (natural_parts self.now)) }
-        ensures bound { HasPlainTail how.entry → IfOk result (λ fitted. full_width (drawn_fitted R.texts R.columns C.color fitted) ≤ max width (least_width_of how.entry R.texts R.columns (natural_parts self.now))) }
+        ensures table { IfOk result (λ fitted. printed_fitted_table R.texts R.columns C.color fitted ≡ fitted_of how.entry width [] R.texts R.columns C.color (natural_parts self.now)) }
+        ensures bound { HasPlainTail how.entry → IfOk result (λ fitted. full_width (printed_fitted_table R.texts R.columns C.color fitted) ≤ max width (least_width_of how.entry R.texts R.columns (natural_parts self.now))) }
         ensures fault { (fault : TableFault) → fit_fault_of R.texts R.columns (natural_parts self.now) ≡ Some fault → result ≡ Err fault }
         ensures memory { (fault : TableFault) → fit_fault_of R.texts R.columns (natural_parts self.now) ≡ None → result ≡ Err fault → fault ≡ TableFault.Memory }
-        ensures empty { is_empty (drawn_of R.texts R.columns C.color (natural_parts self.now)) ≡ true → IsOk result }
+        ensures empty { is_empty (printed_table_of R.texts R.columns C.color (natural_parts self.now)) ≡ true → IsOk result }
         ensures narrow { fit_fault_of R.texts R.columns (natural_parts self.now) ≡ None → self.now.config.now.spans ≡ [] → IsNarrowOf width [] R.texts R.columns (natural_parts self.now) → IsOk result }
     {
         self.within_limits(alloc, width, &[], how)
@@ -129,12 +129,12 @@ where
         limits: &[usize],
         how: Overflow,
     ) -> Result<FittedTable<'a, R, C, B, A>, TableFault>
-        ensures table { IfOk result (λ fitted. drawn_fitted R.texts R.columns C.color fitted ≡ fitted_of how.entry width limits.now R.texts R.columns C.color (natural_parts self.now)) }
-        ensures bound { HasPlainTail how.entry → IfOk result (λ fitted. full_width (drawn_fitted R.texts R.columns C.color fitted) ≤ max width (least_width_of how.entry R.texts R.columns (natural_parts self.now))) }
-        ensures limits { HasPlainTail how.entry → IfOk result (λ fitted. (k : ℕ) → k < R.columns self.now.records → (drawn_fitted R.texts R.columns C.color fitted).width k ≤ max (least_at how.entry R.texts R.columns (natural_parts self.now) k) (limit_of limits.now k)) }
+        ensures table { IfOk result (λ fitted. printed_fitted_table R.texts R.columns C.color fitted ≡ fitted_of how.entry width limits.now R.texts R.columns C.color (natural_parts self.now)) }
+        ensures bound { HasPlainTail how.entry → IfOk result (λ fitted. full_width (printed_fitted_table R.texts R.columns C.color fitted) ≤ max width (least_width_of how.entry R.texts R.columns (natural_parts self.now))) }
+        ensures limits { HasPlainTail how.entry → IfOk result (λ fitted. (k : ℕ) → k < R.columns self.now.records → (printed_fitted_table R.texts R.columns C.color fitted).width k ≤ max (least_at how.entry R.texts R.columns (natural_parts self.now) k) (limit_of limits.now k)) }
         ensures fault { (fault : TableFault) → fit_fault_of R.texts R.columns (natural_parts self.now) ≡ Some fault → result ≡ Err fault }
         ensures memory { (fault : TableFault) → fit_fault_of R.texts R.columns (natural_parts self.now) ≡ None → result ≡ Err fault → fault ≡ TableFault.Memory }
-        ensures empty { is_empty (drawn_of R.texts R.columns C.color (natural_parts self.now)) ≡ true → IsOk result }
+        ensures empty { is_empty (printed_table_of R.texts R.columns C.color (natural_parts self.now)) ≡ true → IsOk result }
         ensures narrow { fit_fault_of R.texts R.columns (natural_parts self.now) ≡ None → self.now.config.now.spans ≡ [] → IsNarrowOf width limits.now R.texts R.columns (natural_parts self.now) → IsOk result }
     {
         let mut records = OverlaidRecords::new(alloc, self.records);
@@ -163,7 +163,7 @@ where
         requires { records.old.others ≡ [] }
         ensures fault { (fault : TableFault) → fit_fault_of R.texts R.columns (natural_parts self.now) ≡ Some fault → result ≡ Err fault }
         ensures memory { (fault : TableFault) → fit_fault_of R.texts R.columns (natural_parts self.now) ≡ None → result ≡ Err fault → fault ≡ TableFault.Memory }
-        ensures empty { is_empty (drawn_of R.texts R.columns C.color (natural_parts self.now)) ≡ true → IsOk result }
+        ensures empty { is_empty (printed_table_of R.texts R.columns C.color (natural_parts self.now)) ≡ true → IsOk result }
         ensures narrow { fit_fault_of R.texts R.columns (natural_parts self.now) ≡ None → self.now.config.now.spans ≡ [] → IsNarrowOf within.now.total within.now.limits.now R.texts R.columns (natural_parts self.now) → IsOk result }
         ensures records { records.new.records ≡ records.old.records }
         ensures fits { IfOk result (λ widths. IsFitted within.now.how within.now.total within.now.limits.now self.now.config.now (R.texts self.now.records) (R.columns self.now.records) widths.items (other_text records.new.others (R.texts self.now.records))) }
@@ -186,7 +186,7 @@ where
         requires plain { keeps_spans self.now.config.now (R.texts self.now.records) (R.columns self.now.records) ≡ false }
         ensures fault { (fault : TableFault) → fit_fault_of R.texts R.columns (natural_parts self.now) ≡ Some fault → result ≡ Err fault }
         ensures memory { (fault : TableFault) → fit_fault_of R.texts R.columns (natural_parts self.now) ≡ None → result ≡ Err fault → fault ≡ TableFault.Memory }
-        ensures empty { is_empty (drawn_of R.texts R.columns C.color (natural_parts self.now)) ≡ true → IsOk result }
+        ensures empty { is_empty (printed_table_of R.texts R.columns C.color (natural_parts self.now)) ≡ true → IsOk result }
         ensures narrow { fit_fault_of R.texts R.columns (natural_parts self.now) ≡ None → IsNarrowOf within.now.total within.now.limits.now R.texts R.columns (natural_parts self.now) → IsOk result }
         ensures records { records.new.records ≡ records.old.records }
         ensures plain { OnOk result (HasPlainWidths self.now.config.now (length (R.texts self.now.records)) (R.columns self.now.records)) }
@@ -211,7 +211,7 @@ where
     ghost use Rattle.pg_picture.specs.Straight.{IsStraight};
     ghost use Rattle.pg_picture.specs.Table.{Known, is_empty};
     ghost use Rattle.pg_fit.specs.Overlaid.{overlaid};
-    ghost use Rattle.pg_table.specs.Fitted.{drawn_fitted, sizes_fitted, sizes_fault_fitted};
+    ghost use Rattle.pg_table.specs.Fitted.{printed_fitted_table, sizes_fitted, sizes_fault_fitted};
     ghost use Rattle.pg_table.specs.Spanning.{keeps_spans};
     ghost use Rattle.pg_table.specs.Even.{IsEven, IsEvenText, IsNarrowLook};
     ghost use Rattle.pg_table.specs.Printing.{fault_of, is_spanned, CanFail, Prints};
@@ -264,8 +264,8 @@ where
 
     /// Whether the table can be printed, as [`NaturalTable::fits`] tells.
     pub fn fits<D: Allocator + Copy>(&self, alloc: D) -> Result<(), TableFault>
-        ensures ok { IsOk result → fault_of (drawn_fitted R.texts R.columns C.color self.now) ≡ None }
-        ensures fault { (fault : TableFault) → result ≡ Err fault → CanFail (drawn_fitted R.texts R.columns C.color self.now) fault }
+        ensures ok { IsOk result → fault_of (printed_fitted_table R.texts R.columns C.color self.now) ≡ None }
+        ensures fault { (fault : TableFault) → result ≡ Err fault → CanFail (printed_fitted_table R.texts R.columns C.color self.now) fault }
     {
         if self.keeps_spans() {
             return self.told().fits(alloc);
@@ -280,11 +280,11 @@ where
         alloc: D,
         buf: &mut String<W>,
     ) -> Result<(), TableFault>
-        ensures prints { Prints (is_spanned (drawn_fitted R.texts R.columns C.color self.now)) (fault_of (drawn_fitted R.texts R.columns C.color self.now)) buf.old buf.new result (picture Known (drawn_fitted R.texts R.columns C.color self.now)) }
-        ensures printed { OnOk result (string_bytes buf.new ≡ string_bytes buf.old ++ picture Known (drawn_fitted R.texts R.columns C.color self.now)) }
-        ensures empty { is_empty (drawn_fitted R.texts R.columns C.color self.now) ≡ true → IsOk result × (buf.new ≡ buf.old) }
-        ensures straight { IsOk result → IsStraight (drawn_fitted R.texts R.columns C.color self.now) }
-        ensures even { IsOk result → IsEven (drawn_fitted R.texts R.columns C.color self.now) }
+        ensures prints { Prints (is_spanned (printed_fitted_table R.texts R.columns C.color self.now)) (fault_of (printed_fitted_table R.texts R.columns C.color self.now)) buf.old buf.new result (picture Known (printed_fitted_table R.texts R.columns C.color self.now)) }
+        ensures printed { OnOk result (string_bytes buf.new ≡ string_bytes buf.old ++ picture Known (printed_fitted_table R.texts R.columns C.color self.now)) }
+        ensures empty { is_empty (printed_fitted_table R.texts R.columns C.color self.now) ≡ true → IsOk result × (buf.new ≡ buf.old) }
+        ensures straight { IsOk result → IsStraight (printed_fitted_table R.texts R.columns C.color self.now) }
+        ensures even { IsOk result → IsEven (printed_fitted_table R.texts R.columns C.color self.now) }
     {
         if self.keeps_spans() {
             return self.told().print(alloc, buf);
@@ -295,11 +295,11 @@ where
     /// The picture of the table as a text of its own; errors as those of [`FittedTable::print`]. A table
     /// with no rows or no columns asks for no memory.
     pub fn to_string<D: Allocator + Copy>(&self, alloc: D) -> Result<String<D>, TableFault>
-        ensures text { IfOk result (λ text. string_bytes text ≡ picture Known (drawn_fitted R.texts R.columns C.color self.now)) }
+        ensures text { IfOk result (λ text. string_bytes text ≡ picture Known (printed_fitted_table R.texts R.columns C.color self.now)) }
         ensures even { IsNarrowLook self.now.config.now → IfOk result (λ text. IsEvenText (string_bytes text)) }
-        ensures ok { IsOk result → fault_of (drawn_fitted R.texts R.columns C.color self.now) ≡ None }
-        ensures fault { (fault : TableFault) → result ≡ Err fault → CanFail (drawn_fitted R.texts R.columns C.color self.now) fault }
-        ensures empty { is_empty (drawn_fitted R.texts R.columns C.color self.now) ≡ true → IsOk result }
+        ensures ok { IsOk result → fault_of (printed_fitted_table R.texts R.columns C.color self.now) ≡ None }
+        ensures fault { (fault : TableFault) → result ≡ Err fault → CanFail (printed_fitted_table R.texts R.columns C.color self.now) fault }
+        ensures empty { is_empty (printed_fitted_table R.texts R.columns C.color self.now) ≡ true → IsOk result }
     {
         let mut text = String::new(alloc);
         self.print(alloc, &mut text)?;

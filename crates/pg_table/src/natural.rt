@@ -57,7 +57,7 @@ where
     ghost use Rattle.pg_picture.specs.Sizes.{if_fits};
     ghost use Rattle.pg_table.specs.Even.{IsEven};
     ghost use Rattle.pg_table.specs.Spanning.{keeps_spans};
-    ghost use Rattle.pg_table.specs.Printing.{fault_of, is_spanned, drawn_of, natural_parts, sizes_of, sizes_fault_of, CanFail, Prints};
+    ghost use Rattle.pg_table.specs.Printing.{fault_of, is_spanned, printed_table_of, natural_parts, sizes_of, sizes_fault_of, CanFail, Prints};
     ghost use Rattle.pg_table.specs.declared.sizes.Axis.TheVariants.{Columns, Rows};
 
     /// The natural widths of the columns and the natural heights of the rows, in terminal columns
@@ -100,7 +100,7 @@ where
         &self,
         alloc: A,
     ) -> Result<ConstantDimension<A>, TableFault>
-        requires { is_empty (drawn_of R.texts R.columns C.color (natural_parts self.now)) ≡ true }
+        requires { is_empty (printed_table_of R.texts R.columns C.color (natural_parts self.now)) ≡ true }
         ensures fault { (fault : TableFault) → sizes_fault_of R.texts R.columns (natural_parts self.now) ≡ Some fault → result ≡ Err fault }
         ensures memory { (fault : TableFault) → sizes_fault_of R.texts R.columns (natural_parts self.now) ≡ None → result ≡ Err fault → fault ≡ TableFault.Memory }
         ensures widths { IfOk result (λ d. d.0.items ≡ sizes_of R.texts R.columns Columns (natural_parts self.now)) }
@@ -119,8 +119,8 @@ where
     /// `alloc` gives the memory for the sizes. Where it is refused, a table without a span is still told
     /// by its totals, and only then answered by `Memory`; one with a span is answered by `Memory`.
     pub fn fits<A: Allocator + Copy>(&self, alloc: A) -> Result<(), TableFault>
-        ensures ok { IsOk result → fault_of (drawn_of R.texts R.columns C.color (natural_parts self.now)) ≡ None }
-        ensures fault { (fault : TableFault) → result ≡ Err fault → CanFail (drawn_of R.texts R.columns C.color (natural_parts self.now)) fault }
+        ensures ok { IsOk result → fault_of (printed_table_of R.texts R.columns C.color (natural_parts self.now)) ≡ None }
+        ensures fault { (fault : TableFault) → result ≡ Err fault → CanFail (printed_table_of R.texts R.columns C.color (natural_parts self.now)) fault }
     {
         if self.is_empty() {
             return Ok(());
@@ -142,11 +142,11 @@ where
         alloc: A,
         buf: &mut String<W>,
     ) -> Result<(), TableFault>
-        ensures prints { Prints (is_spanned (drawn_of R.texts R.columns C.color (natural_parts self.now))) (fault_of (drawn_of R.texts R.columns C.color (natural_parts self.now))) buf.old buf.new result (picture Known (drawn_of R.texts R.columns C.color (natural_parts self.now))) }
-        ensures printed { OnOk result (string_bytes buf.new ≡ string_bytes buf.old ++ picture Known (drawn_of R.texts R.columns C.color (natural_parts self.now))) }
-        ensures empty { is_empty (drawn_of R.texts R.columns C.color (natural_parts self.now)) ≡ true → IsOk result × (buf.new ≡ buf.old) }
-        ensures straight { IsOk result → IsStraight (drawn_of R.texts R.columns C.color (natural_parts self.now)) }
-        ensures even { IsOk result → IsEven (drawn_of R.texts R.columns C.color (natural_parts self.now)) }
+        ensures prints { Prints (is_spanned (printed_table_of R.texts R.columns C.color (natural_parts self.now))) (fault_of (printed_table_of R.texts R.columns C.color (natural_parts self.now))) buf.old buf.new result (picture Known (printed_table_of R.texts R.columns C.color (natural_parts self.now))) }
+        ensures printed { OnOk result (string_bytes buf.new ≡ string_bytes buf.old ++ picture Known (printed_table_of R.texts R.columns C.color (natural_parts self.now))) }
+        ensures empty { is_empty (printed_table_of R.texts R.columns C.color (natural_parts self.now)) ≡ true → IsOk result × (buf.new ≡ buf.old) }
+        ensures straight { IsOk result → IsStraight (printed_table_of R.texts R.columns C.color (natural_parts self.now)) }
+        ensures even { IsOk result → IsEven (printed_table_of R.texts R.columns C.color (natural_parts self.now)) }
     {
         if self.is_empty() {
             return Ok(());
@@ -159,10 +159,10 @@ where
     /// The picture of the table at its natural sizes as a text of its own; errors as those of
     /// [`NaturalTable::print`]. A table with no rows or no columns asks for no memory.
     pub fn to_string<A: Allocator + Copy>(&self, alloc: A) -> Result<String<A>, TableFault>
-        ensures text { IfOk result (λ text. string_bytes text ≡ picture Known (drawn_of R.texts R.columns C.color (natural_parts self.now))) }
-        ensures ok { IsOk result → fault_of (drawn_of R.texts R.columns C.color (natural_parts self.now)) ≡ None }
-        ensures fault { (fault : TableFault) → result ≡ Err fault → CanFail (drawn_of R.texts R.columns C.color (natural_parts self.now)) fault }
-        ensures empty { is_empty (drawn_of R.texts R.columns C.color (natural_parts self.now)) ≡ true → IsOk result }
+        ensures text { IfOk result (λ text. string_bytes text ≡ picture Known (printed_table_of R.texts R.columns C.color (natural_parts self.now))) }
+        ensures ok { IsOk result → fault_of (printed_table_of R.texts R.columns C.color (natural_parts self.now)) ≡ None }
+        ensures fault { (fault : TableFault) → result ≡ Err fault → CanFail (printed_table_of R.texts R.columns C.color (natural_parts self.now)) fault }
+        ensures empty { is_empty (printed_table_of R.texts R.columns C.color (natural_parts self.now)) ≡ true → IsOk result }
     {
         let mut text = String::new(alloc);
         self.print(alloc, &mut text)?;
@@ -171,11 +171,11 @@ where
 
     // The natural sizes of a table with cells that has no fault.
     fn sized<A: Allocator + Copy>(&self, alloc: A) -> Result<ConstantDimension<A>, TableFault>
-        requires { is_empty (drawn_of R.texts R.columns C.color (natural_parts self.now)) ≡ false }
+        requires { is_empty (printed_table_of R.texts R.columns C.color (natural_parts self.now)) ≡ false }
         ensures widths { IfOk result (λ d. d.0.items ≡ sizes_of R.texts R.columns Columns (natural_parts self.now)) }
         ensures heights { IfOk result (λ d. d.1.items ≡ sizes_of R.texts R.columns Rows (natural_parts self.now)) }
-        ensures ok { IsOk result → fault_of (drawn_of R.texts R.columns C.color (natural_parts self.now)) ≡ None }
-        ensures fault { (fault : TableFault) → result ≡ Err fault → CanFail (drawn_of R.texts R.columns C.color (natural_parts self.now)) fault }
+        ensures ok { IsOk result → fault_of (printed_table_of R.texts R.columns C.color (natural_parts self.now)) ≡ None }
+        ensures fault { (fault : TableFault) → result ≡ Err fault → CanFail (printed_table_of R.texts R.columns C.color (natural_parts self.now)) fault }
     {
         if !self.spans_fit() {
             return Err(TableFault::Spans);
@@ -195,9 +195,9 @@ where
 
     // What is answered where memory is refused for the sizes of a table with cells whose spans fit.
     fn fault_without_memory(&self) -> TableFault
-        requires some { is_empty (drawn_of R.texts R.columns C.color (natural_parts self.now)) ≡ false }
+        requires some { is_empty (printed_table_of R.texts R.columns C.color (natural_parts self.now)) ≡ false }
         requires fit { spans_fit self.now.config.now.spans (length (R.texts self.now.records)) (R.columns self.now.records) ≡ true }
-        ensures { CanFail (drawn_of R.texts R.columns C.color (natural_parts self.now)) result }
+        ensures { CanFail (printed_table_of R.texts R.columns C.color (natural_parts self.now)) result }
     {
         if self.config.spans().is_empty() && !self.totals_fit() {
             TableFault::Totals
@@ -210,7 +210,7 @@ where
     fn totals_fit_at<A: Allocator>(&self, dimension: &ConstantDimension<A>) -> bool
         requires widths { dimension.now.0.items ≡ sizes_of R.texts R.columns Columns (natural_parts self.now) }
         requires heights { dimension.now.1.items ≡ sizes_of R.texts R.columns Rows (natural_parts self.now) }
-        ensures { result ≡ totals_fit (drawn_of R.texts R.columns C.color (natural_parts self.now)) }
+        ensures { result ≡ totals_fit (printed_table_of R.texts R.columns C.color (natural_parts self.now)) }
     {
         let (rows, columns) = (self.records.count_rows(), self.records.count_columns());
         totals_fit(self.config, dimension, rows, columns)
@@ -236,7 +236,7 @@ where
     }
 
     pub(crate) fn is_empty(&self) -> bool
-        ensures { result ≡ is_empty (drawn_of R.texts R.columns C.color (natural_parts self.now)) }
+        ensures { result ≡ is_empty (printed_table_of R.texts R.columns C.color (natural_parts self.now)) }
     {
         self.records.count_rows() == 0 || self.records.count_columns() == 0
     }
@@ -252,9 +252,9 @@ where
     // span are at most `usize::MAX`.
     #[tactic(auto, unfolding(pg_picture::specs::Fits::totals_fit))]
     fn totals_fit(&self) -> bool
-        requires some { is_empty (drawn_of R.texts R.columns C.color (natural_parts self.now)) ≡ false }
+        requires some { is_empty (printed_table_of R.texts R.columns C.color (natural_parts self.now)) ≡ false }
         requires plain { self.now.config.now.spans ≡ [] }
-        ensures { result ≡ totals_fit (drawn_of R.texts R.columns C.color (natural_parts self.now)) }
+        ensures { result ≡ totals_fit (printed_table_of R.texts R.columns C.color (natural_parts self.now)) }
     {
         self.records.count_rows() < usize::MAX
             && self.records.count_columns() < usize::MAX
@@ -266,9 +266,9 @@ where
     // `usize::MAX`.
     fn full_width(&self) -> Option<usize>
         requires count { R.columns self.now.records < usize.MAX }
-        requires some { is_empty (drawn_of R.texts R.columns C.color (natural_parts self.now)) ≡ false }
+        requires some { is_empty (printed_table_of R.texts R.columns C.color (natural_parts self.now)) ≡ false }
         requires plain { self.now.config.now.spans ≡ [] }
-        ensures { result ≡ if_fits (full_width (drawn_of R.texts R.columns C.color (natural_parts self.now))) }
+        ensures { result ≡ if_fits (full_width (printed_table_of R.texts R.columns C.color (natural_parts self.now))) }
     {
         let margin = self.config.get_margin();
         let verticals = self.config.count_vertical(self.records.count_columns());
@@ -279,9 +279,9 @@ where
     // How many lines the body has, or None where they pass `usize::MAX`.
     fn body_height(&self) -> Option<usize>
         requires count { length (R.texts self.now.records) < usize.MAX }
-        requires some { is_empty (drawn_of R.texts R.columns C.color (natural_parts self.now)) ≡ false }
+        requires some { is_empty (printed_table_of R.texts R.columns C.color (natural_parts self.now)) ≡ false }
         requires plain { self.now.config.now.spans ≡ [] }
-        ensures { result ≡ if_fits (body_height (drawn_of R.texts R.columns C.color (natural_parts self.now))) }
+        ensures { result ≡ if_fits (body_height (printed_table_of R.texts R.columns C.color (natural_parts self.now))) }
     {
         let horizontals = self.config.count_horizontal(self.records.count_rows());
         plus(self.sizes().total(Axis::Rows), horizontals)
@@ -295,8 +295,8 @@ where
     ) -> Result<(), AllocError>
         requires widths { dimension.0.items ≡ sizes_of R.texts R.columns Columns (natural_parts self.now) }
         requires heights { dimension.1.items ≡ sizes_of R.texts R.columns Rows (natural_parts self.now) }
-        requires fits { misfit_of (drawn_of R.texts R.columns C.color (natural_parts self.now)) ≡ None }
-        ensures { Appends buf.old buf.new result (picture Known (drawn_of R.texts R.columns C.color (natural_parts self.now))) }
+        requires fits { misfit_of (printed_table_of R.texts R.columns C.color (natural_parts self.now)) ≡ None }
+        ensures { Appends buf.old buf.new result (picture Known (printed_table_of R.texts R.columns C.color (natural_parts self.now))) }
     {
         PeekableGrid::new(self.records, self.config, dimension, self.colors).build(buf)
     }

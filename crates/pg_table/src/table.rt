@@ -152,7 +152,7 @@ impl<T: AsStr + Drop, A: Allocator> Table<T, A> {
     ghost use Rattle.pg_table.specs.Fitted.{HasPlainTail, limit_of, drawn_rows, fitted_rows, fit_fault_rows, keeps_spans_rows, least_at_rows, least_fault_rows, least_width_rows, IsNarrowRows};
     ghost use Rattle.pg_table.specs.Natural.{natural_sizes};
     ghost use Rattle.pg_table.specs.Even.{IsEven, IsEvenText, IsNarrowLook, is_of_line_glyphs};
-    ghost use Rattle.pg_table.specs.Printing.{fault_of, is_spanned, sizes_fault, drawn, with_header_line, CanFail, Prints};
+    ghost use Rattle.pg_table.specs.Printing.{fault_of, is_spanned, sizes_fault, printed_table, with_header_line, CanFail, Prints};
     ghost use Rattle.pg_table.specs.declared.sizes.Axis.TheVariants.{Columns, Rows};
 
     /// Draws a line between row 0 and row 1, and no other row line but those of the borders. A glyph
@@ -227,11 +227,11 @@ impl<T: AsStr + Drop, A: Allocator> Table<T, A> {
         alloc: B,
         buf: &mut String<W>,
     ) -> Result<(), TableFault>
-        ensures prints { Prints (is_spanned (drawn T.text self.now)) (fault_of (drawn T.text self.now)) buf.old buf.new result (picture Known (drawn T.text self.now)) }
-        ensures printed { OnOk result (string_bytes buf.new ≡ string_bytes buf.old ++ picture Known (drawn T.text self.now)) }
-        ensures empty { is_empty (drawn T.text self.now) ≡ true → IsOk result × (buf.new ≡ buf.old) }
-        ensures straight { IsOk result → IsStraight (drawn T.text self.now) }
-        ensures even { IsOk result → IsEven (drawn T.text self.now) }
+        ensures prints { Prints (is_spanned (printed_table T.text self.now)) (fault_of (printed_table T.text self.now)) buf.old buf.new result (picture Known (printed_table T.text self.now)) }
+        ensures printed { OnOk result (string_bytes buf.new ≡ string_bytes buf.old ++ picture Known (printed_table T.text self.now)) }
+        ensures empty { is_empty (printed_table T.text self.now) ≡ true → IsOk result × (buf.new ≡ buf.old) }
+        ensures straight { IsOk result → IsStraight (printed_table T.text self.now) }
+        ensures even { IsOk result → IsEven (printed_table T.text self.now) }
     {
         self.natural().print(alloc, buf)
     }
@@ -239,11 +239,11 @@ impl<T: AsStr + Drop, A: Allocator> Table<T, A> {
     /// The picture of the table at its natural sizes as a text of its own; errors as those of
     /// [`Table::print`]. A table with no rows or no columns asks for no memory.
     pub fn to_string<B: Allocator + Copy>(&self, alloc: B) -> Result<String<B>, TableFault>
-        ensures text { IfOk result (λ text. string_bytes text ≡ picture Known (drawn T.text self.now)) }
+        ensures text { IfOk result (λ text. string_bytes text ≡ picture Known (printed_table T.text self.now)) }
         ensures even { IsNarrowLook self.now.config → IfOk result (λ text. IsEvenText (string_bytes text)) }
-        ensures ok { IsOk result → fault_of (drawn T.text self.now) ≡ None }
-        ensures fault { (fault : TableFault) → result ≡ Err fault → CanFail (drawn T.text self.now) fault }
-        ensures empty { is_empty (drawn T.text self.now) ≡ true → IsOk result }
+        ensures ok { IsOk result → fault_of (printed_table T.text self.now) ≡ None }
+        ensures fault { (fault : TableFault) → result ≡ Err fault → CanFail (printed_table T.text self.now) fault }
+        ensures empty { is_empty (printed_table T.text self.now) ≡ true → IsOk result }
     {
         self.natural().to_string(alloc)
     }
@@ -285,7 +285,7 @@ impl<T: AsStr + Drop, A: Allocator> Table<T, A> {
         ensures bound { HasPlainTail how.entry → IfOk result (λ fitted. full_width (drawn_rows T.text fitted) ≤ max width (least_width_rows how.entry T.text self.now)) }
         ensures fault { (fault : TableFault) → fit_fault_rows T.text self.now ≡ Some fault → result ≡ Err fault }
         ensures memory { (fault : TableFault) → fit_fault_rows T.text self.now ≡ None → result ≡ Err fault → fault ≡ TableFault.Memory }
-        ensures empty { is_empty (drawn T.text self.now) ≡ true → IsOk result }
+        ensures empty { is_empty (printed_table T.text self.now) ≡ true → IsOk result }
         ensures narrow { fit_fault_rows T.text self.now ≡ None → self.now.config.spans ≡ [] → IsNarrowRows width [] T.text self.now → IsOk result }
     {
         self.natural().within(alloc, width, how)
@@ -304,7 +304,7 @@ impl<T: AsStr + Drop, A: Allocator> Table<T, A> {
         ensures limits { HasPlainTail how.entry → IfOk result (λ fitted. (k : ℕ) → k < columns_of self.now.rows → (drawn_rows T.text fitted).width k ≤ max (least_at_rows how.entry T.text self.now k) (limit_of limits.now k)) }
         ensures fault { (fault : TableFault) → fit_fault_rows T.text self.now ≡ Some fault → result ≡ Err fault }
         ensures memory { (fault : TableFault) → fit_fault_rows T.text self.now ≡ None → result ≡ Err fault → fault ≡ TableFault.Memory }
-        ensures empty { is_empty (drawn T.text self.now) ≡ true → IsOk result }
+        ensures empty { is_empty (printed_table T.text self.now) ≡ true → IsOk result }
         ensures narrow { fit_fault_rows T.text self.now ≡ None → self.now.config.spans ≡ [] → IsNarrowRows width limits.now T.text self.now → IsOk result }
     {
         self.natural().within_limits(alloc, width, limits, how)

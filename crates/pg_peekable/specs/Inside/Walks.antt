@@ -3,7 +3,7 @@ use Rattle.std.specs.Prelude.{◌≡◌, ℕ, ◌<◌, ◌≤◌, true, Option}
 use Rattle.pg_config.specs.Spans.{Span, corner, rect_rows, rect_columns, is_left, left_span, span_above}
 use Rattle.pg_picture.specs.Rectangles.{IsOwner}
 use Rattle.pg_picture.specs.Table.{Table}
-use Rattle.pg_peekable.specs.Inside.Drawn.{starts}
+use Rattle.pg_peekable.specs.Inside.LookedUpTable.{starts}
 
 -- in row r a cell begins at column x, or the rectangle of this span
 pub record BeginsHere (t : Table) (r x : ℕ) (s : Option Span) : Type 0 where

@@ -27,7 +27,8 @@ pub fn spans_fit<A: Allocator>(config: &SpannedConfig<A>, rows: usize, columns: 
     all_fit(spans, rows, columns) && all_apart(spans)
 }
 
-/// The same without a bound on the rows.
+/// Whether every rectangle of a cell with a span has at least one row and one column, ends within so
+/// many columns, and shares no place with another one. Takes no memory.
 #[tactic(auto, unfolding(crate::specs::Fits::spans_fit_columns))]
 pub fn spans_fit_columns<A: Allocator>(config: &SpannedConfig<A>, columns: usize) -> bool
     ensures { result ≡ spans_fit_columns config.now.spans columns }
@@ -113,7 +114,8 @@ fn rows_apart<A: Allocator>(spans: &Spans<A>) -> bool
     true
 }
 
-// The same of one rectangle, by a search in each column that it has and in which one begins.
+// Whether a rectangle shares no place with those to its right, by a search in each of its columns in which
+// one begins.
 fn is_apart<A: Allocator>(span: Span, spans: &Spans<A>) -> bool
     requires end { HasEnd span }
     requires ascending { IsAscending by_columns spans.now }

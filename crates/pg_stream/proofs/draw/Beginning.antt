@@ -10,7 +10,7 @@ use Rattle.pg_config.specs.Spans.{Span, owner, rect_rows, rect_columns}
 use Rattle.pg_picture.specs.Fits.{spans_fit_columns}
 use Rattle.pg_picture.specs.Table.{Table}
 use Rattle.pg_picture.proofs.Owners.{Apart, HasOwners, owner-columns}
-use Rattle.pg_stream.specs.Inside.Drawing.{column_end, reach}
+use Rattle.pg_stream.specs.Inside.StreamedTable.{column_end, reach}
 use Rattle.pg_stream.specs.Placed.{Placed, AllOpen}
 use Rattle.pg_stream.specs.Inside.Turns.{IsOwnerAbove, new_cell, begin_cell, mapped, cells_begun}
 use Rattle.pg_stream.proofs.draw.PartsOfLists.{partly, partly-below, partly-above, partly-at, partly-set, set-same, set-other, drop-first, drop-some}

@@ -8,7 +8,7 @@ use Rattle.pg_picture.specs.Pieces.{Item, separator_text}
 use Rattle.pg_picture.specs.Table.{Table}
 use Rattle.pg_picture.proofs.EqualSeparators.{crossing_at-same, horizontal-same, equal_when}
 use Rattle.pg_picture.proofs.PlainPictures.{flat_map-same}
-use Rattle.pg_stream.specs.Inside.Drawing.{open_separator_part, open_separator, IsSeparator}
+use Rattle.pg_stream.specs.Inside.StreamedTable.{open_separator_part, open_separator, IsSeparator}
 use Rattle.pg_stream.specs.Placed.{Placed}
 use Rattle.pg_stream.proofs.printer.Ending.{reach-empty}
 use Rattle.pg_stream.proofs.printer.Starting.{none-at}

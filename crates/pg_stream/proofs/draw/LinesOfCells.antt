@@ -14,7 +14,7 @@ use Rattle.pg_picture.specs.Pieces.{Item}
 use Rattle.pg_picture.specs.Table.{Table, rect_width, is_inside, vertical, is_covered, crossing_at, crossing, border_items, border_glyph}
 use Rattle.pg_picture.proofs.Owners.{HasOwners}
 use Rattle.pg_picture.proofs.Ranges.{range-more}
-use Rattle.pg_stream.specs.Inside.Drawing.{open_part, open_line, reach, cell_items, open_separator_part, open_separator}
+use Rattle.pg_stream.specs.Inside.StreamedTable.{open_part, open_line, reach, cell_items, open_separator_part, open_separator}
 use Rattle.pg_stream.specs.Placed.{Placed, slot_of, slots_of}
 use Rattle.pg_stream.specs.Inside.Slots.{slot_part, slot_line, slot_column, slot_separator_part, slot_separator}
 use Rattle.pg_stream.specs.Inside.Turns.{IsOwnerAbove}

@@ -8,7 +8,7 @@ use Rattle.pg_picture.specs.Pieces.{Piece, written}
 use Rattle.pg_picture.specs.Table.{Table, vertical}
 use Rattle.pg_picture.proofs.PiecesOfLines.{written-append, written-nil}
 use Rattle.pg_picture.proofs.Ranges.{range-more, range-cut}
-use Rattle.pg_stream.specs.Inside.Drawing.{open_part, open_line, line_at, open_line_at, open_lines}
+use Rattle.pg_stream.specs.Inside.StreamedTable.{open_part, open_line, line_at, open_line_at, open_lines}
 use Rattle.pg_stream.specs.Placed.{Placed, slot_of}
 use Rattle.pg_stream.specs.Inside.OpenCells.{draw_cell}
 use Rattle.pg_stream.specs.Inside.Slots.{slot_block}

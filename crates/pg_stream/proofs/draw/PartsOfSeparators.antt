@@ -10,7 +10,7 @@ use Rattle.pg_picture.specs.Pieces.{Piece, block, written, cut, with_cuts, separ
 use Rattle.pg_picture.specs.Inside.Following.{items_after, last_color}
 use Rattle.pg_picture.specs.Table.{Table, crossing_at}
 use Rattle.pg_picture.proofs.CutsOfItems.{items_after-append, items_after-one, last_color-append, with_cuts-close}
-use Rattle.pg_stream.specs.Inside.Drawing.{column_end, reach, cell_items, open_separator_part, open_separator}
+use Rattle.pg_stream.specs.Inside.StreamedTable.{column_end, reach, cell_items, open_separator_part, open_separator}
 use Rattle.pg_stream.specs.Placed.{Placed}
 
 -- where k columns end, and one more

@@ -9,7 +9,7 @@ use Rattle.pg_layout.specs.Text.{greatest}
 use Rattle.pg_layout.proofs.Greatest.{greatest-reaches}
 use Rattle.pg_config.specs.Spans.{Span, rect_rows, rect_columns, owner, is_left, begins_above}
 use Rattle.pg_picture.proofs.Owners.{HasOwners}
-use Rattle.pg_stream.specs.Inside.Drawing.{column_end, reach}
+use Rattle.pg_stream.specs.Inside.StreamedTable.{column_end, reach}
 use Rattle.pg_stream.specs.Placed.{Placed}
 use Rattle.pg_stream.specs.Inside.Turns.{IsOwnerAbove}
 

@@ -6,7 +6,7 @@ use Rattle.pg_picture.specs.Joined.{continued}
 use Rattle.pg_picture.specs.Inside.Margins.{line_start, line_end}
 use Rattle.pg_picture.specs.Pieces.{written, separator_text}
 use Rattle.pg_picture.specs.Table.{Table, margin_line}
-use Rattle.pg_stream.specs.Inside.Drawing.{open_separator, line_at, above_text, below_text, top_text}
+use Rattle.pg_stream.specs.Inside.StreamedTable.{open_separator, line_at, above_text, below_text, top_text}
 use Rattle.pg_stream.specs.Placed.{Placed}
 use Rattle.pg_stream.specs.Inside.Slots.{separator_height}
 use Rattle.pg_stream.proofs.draw.PartsOfLines.{line_at-parts}

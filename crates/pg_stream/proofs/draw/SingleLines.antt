@@ -10,7 +10,7 @@ use Rattle.pg_picture.specs.Pieces.{style_at, block_line, written}
 use Rattle.pg_picture.specs.Sizes.{height_of_rect}
 use Rattle.pg_picture.specs.Table.{Table, vertical}
 use Rattle.pg_picture.proofs.PlainTables.{owner_plain, rect_rows_plain, rect_width_plain}
-use Rattle.pg_stream.specs.Inside.Drawing.{open_part, open_line, line_at, open_lines, open_line_at}
+use Rattle.pg_stream.specs.Inside.StreamedTable.{open_part, open_line, line_at, open_lines, open_line_at}
 use Rattle.pg_stream.specs.Open.{Slot, open_at_row, open_before}
 use Rattle.pg_stream.specs.Placed.{Placed, slot_of, slots_of}
 use Rattle.pg_stream.specs.Inside.OpenCells.{draw_cell}

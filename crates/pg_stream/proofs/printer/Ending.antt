@@ -19,7 +19,7 @@ use Rattle.pg_picture.proofs.JoinedLines.{continued-nil, continued-append}
 use Rattle.pg_picture.proofs.Owners.{owner-own, owner-ends}
 use Rattle.pg_picture.proofs.Pictures.{continued-any, none-of-two}
 use Rattle.pg_picture.proofs.Ranges.{range-more}
-use Rattle.pg_stream.specs.Inside.Drawing.{reach, open_separator_part, open_separator, below_text}
+use Rattle.pg_stream.specs.Inside.StreamedTable.{reach, open_separator_part, open_separator, below_text}
 use Rattle.pg_stream.specs.Placed.{Placed, slots_of, AllOpen}
 use Rattle.pg_stream.specs.Printers.{IsSound}
 use Rattle.pg_stream.specs.Printing.{Printing, hint_of, text_known, table_known, lines_below, lines_printed, finish_lines, finish_text}

@@ -17,7 +17,7 @@ use Rattle.pg_picture.specs.Table.{Table, Hint, Known, Unknown, side_margin, sid
 use Rattle.pg_picture.proofs.BodyLines.{body_lines-nil}
 use Rattle.pg_picture.proofs.JoinedLines.{continued-nil, continued-append, continued-line}
 use Rattle.pg_picture.proofs.Pictures.{none-of-two}
-use Rattle.pg_stream.specs.Inside.Drawing.{open_line, line_at, open_line_at, open_lines, above_text, below_text, top_text, open_separator}
+use Rattle.pg_stream.specs.Inside.StreamedTable.{open_line, line_at, open_line_at, open_lines, above_text, below_text, top_text, open_separator}
 use Rattle.pg_stream.specs.Placed.{Placed}
 use Rattle.pg_stream.specs.Inside.OpenCells.{draw_cell}
 use Rattle.pg_stream.proofs.printer.RowsOfTables.{SameHeight, blank_same, other}

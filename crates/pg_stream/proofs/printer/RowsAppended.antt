@@ -20,7 +20,7 @@ use Rattle.pg_picture.proofs.JoinedLines.{continued-append}
 use Rattle.pg_picture.proofs.Owners.{Apart, owner-ends}
 use Rattle.pg_picture.proofs.Pictures.{length-top}
 use Rattle.pg_stream.specs.Conditions.{HaveRoom}
-use Rattle.pg_stream.specs.Inside.Drawing.{open_lines, open_line, open_separator, above_text, top_text}
+use Rattle.pg_stream.specs.Inside.StreamedTable.{open_lines, open_line, open_separator, above_text, top_text}
 use Rattle.pg_stream.specs.Open.{Slot, open_before}
 use Rattle.pg_stream.specs.Placed.{Placed, slots_of, AllOpen, IsPlaced}
 use Rattle.pg_stream.specs.Inside.OpenCells.{draw_cell}

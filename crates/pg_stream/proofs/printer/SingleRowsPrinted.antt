@@ -4,7 +4,7 @@ use Rattle.pg_layout.specs.Text.{Text}
 use Rattle.pg_picture.specs.Fits.{spans_fit}
 use Rattle.pg_picture.specs.Pieces.{written}
 use Rattle.pg_picture.specs.Table.{Table}
-use Rattle.pg_stream.specs.Inside.Drawing.{line_at, above_text, top_text}
+use Rattle.pg_stream.specs.Inside.StreamedTable.{line_at, above_text, top_text}
 use Rattle.pg_stream.specs.Placed.{Placed, slots_of}
 use Rattle.pg_stream.specs.Printers.{IsSound}
 use Rattle.pg_stream.specs.Printing.{Printing, table_known, row_text}

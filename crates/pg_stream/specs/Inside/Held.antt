@@ -2,7 +2,7 @@
 use Rattle.std.specs.Prelude.{◌≡◌, ℕ, map, Option, None, IfSome, option_map}
 use Rattle.pg_layout.specs.Text.{Text}
 use Rattle.pg_picture.specs.Table.{Table}
-use Rattle.pg_stream.specs.Inside.Drawing.{IsSeparator}
+use Rattle.pg_stream.specs.Inside.StreamedTable.{IsSeparator}
 use Rattle.pg_stream.specs.Printers.{now_of, IsSound}
 use Rattle.pg_stream.specs.Streams.{Streaming}
 use Rattle.pg_stream.specs.declared.printer.frame.Frame.{Frame}

@@ -3,18 +3,18 @@
 ghost use Rattle.std.specs.Prelude.{◌≡◌, ◌<◌, map, OnOk};
 ghost use Rattle.pg_picture.specs.Appending.{Appends};
 ghost use Rattle.pg_picture.specs.Pieces.{written};
-ghost use Rattle.pg_stream.specs.Inside.Drawing.{open_part, open_line, line_at, open_lines};
+ghost use Rattle.pg_stream.specs.Inside.StreamedTable.{open_part, open_line, line_at, open_lines};
 ghost use Rattle.pg_stream.specs.Inside.OpenCells.{draw_cell, MayDraw};
 
-use crate::draw::{Drawing, OpenCells, OpenLine};
+use crate::draw::{OpenCells, OpenLine, StreamedTable};
 use pg_layout::{Colors, Dimension, Position};
-use pg_picture::Drawn;
+use pg_picture::TableMarker;
 use std::alloc::{AllocError, Allocator};
 use std::convert::AsStr;
 
-impl<'f, T, D, C, B> Drawing<'f, T, D, C, B>
+impl<'f, T, D, C, B> StreamedTable<'f, T, D, C, B>
 where
-    T: Drawn,
+    T: TableMarker,
     D: Dimension,
     C: Colors,
     B: Allocator,
@@ -44,7 +44,7 @@ where
 
 impl<'f, 'o, T, S, D, C, B, A> OpenLine<'f, 'o, T, S, D, C, B, A>
 where
-    T: Drawn,
+    T: TableMarker,
     S: AsStr + Drop,
     D: Dimension,
     C: Colors,

@@ -8,9 +8,9 @@ ghost use Rattle.pg_stream.specs.Inside.Slots.{slot_block};
 ghost use Rattle.pg_stream.specs.Placed.{slot_of};
 ghost use Rattle.std.proofs.Props.{props};
 
-use crate::draw::{Drawing, OpenCell, OpenCells};
+use crate::draw::{OpenCell, OpenCells, StreamedTable};
 use pg_layout::{Colors, Dimension, Position};
-use pg_picture::{Drawn, PlacedLine};
+use pg_picture::{PlacedLine, TableMarker};
 use std::alloc::{AllocError, Allocator};
 use std::convert::AsStr;
 use std::marker::PhantomData;
@@ -21,21 +21,21 @@ use std::marker::PhantomData;
 pub(crate) struct OpenLine<
     'f,
     'o,
-    T: Drawn,
+    T: TableMarker,
     S: AsStr,
     D: Dimension,
     C: Colors,
     B: Allocator,
     A: Allocator,
 > {
-    pub(crate) table: Drawing<'f, T, D, C, B>,
+    pub(crate) table: StreamedTable<'f, T, D, C, B>,
     pub(crate) opened: &'o OpenCells<S, A>,
     ghost are_drawn: { AreDrawn T.table opened.now } by { Prim.hlevel props },
 }
 
 impl<'f, 'o, T, S, D, C, B, A> OpenLine<'f, 'o, T, S, D, C, B, A>
 where
-    T: Drawn,
+    T: TableMarker,
     S: AsStr + Drop,
     D: Dimension,
     C: Colors,

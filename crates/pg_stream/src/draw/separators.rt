@@ -7,20 +7,20 @@ ghost use Rattle.pg_layout.specs.Position.{at};
 ghost use Rattle.pg_picture.specs.Appending.{Appends};
 ghost use Rattle.pg_picture.specs.Pieces.{separator_text};
 ghost use Rattle.pg_picture.specs.Inside.Following.{items_after, last_color};
-ghost use Rattle.pg_stream.specs.Inside.Drawing.{column_end, reach, cell_items, open_separator_part, open_separator, above_text, below_text, IsSeparator, IsBetween, MaySeparate};
+ghost use Rattle.pg_stream.specs.Inside.StreamedTable.{column_end, reach, cell_items, open_separator_part, open_separator, above_text, below_text, IsSeparator, IsBetween, MaySeparate};
 ghost use Rattle.pg_stream.specs.Placed.{AllOpen};
 ghost use Rattle.pg_stream.specs.Inside.OpenCells.{draw_cell};
 ghost use Rattle.pg_stream.specs.Inside.Slots.{separator_height};
 
-use crate::draw::{Drawing, OpenCells, OpenLine};
+use crate::draw::{OpenCells, OpenLine, StreamedTable};
 use pg_layout::{ANSIBuf, Colors, Dimension, Position};
-use pg_picture::{Drawn, Run, SeparatorKeeper, push_text};
+use pg_picture::{Run, SeparatorKeeper, TableMarker, push_text};
 use std::alloc::{AllocError, Allocator};
 use std::convert::AsStr;
 
-impl<'f, T, D, C, B> Drawing<'f, T, D, C, B>
+impl<'f, T, D, C, B> StreamedTable<'f, T, D, C, B>
 where
-    T: Drawn,
+    T: TableMarker,
     D: Dimension,
     C: Colors,
     B: Allocator,
@@ -74,7 +74,7 @@ where
 
 impl<'f, 'o, T, S, D, C, B, A> OpenLine<'f, 'o, T, S, D, C, B, A>
 where
-    T: Drawn,
+    T: TableMarker,
     S: AsStr + Drop,
     D: Dimension,
     C: Colors,

@@ -7,19 +7,19 @@ ghost use Rattle.pg_picture.specs.Appending.{Appends};
 ghost use Rattle.pg_picture.specs.Inside.Cells.{IsOfKind};
 ghost use Rattle.pg_picture.specs.Pieces.{written};
 ghost use Rattle.pg_stream.specs.Conditions.{HasRoom};
-ghost use Rattle.pg_stream.specs.Inside.Drawing.{line_at};
+ghost use Rattle.pg_stream.specs.Inside.StreamedTable.{line_at};
 ghost use Rattle.pg_stream.specs.Inside.SingleRows.{IsSingle, IsSingleRow, single_part, single_line};
 
-use crate::draw::Drawing;
+use crate::draw::StreamedTable;
 use pg_layout::{Colors, Dimension, Position};
-use pg_picture::{Drawn, SingleCell, TextKind};
+use pg_picture::{SingleCell, TableMarker, TextKind};
 use std::alloc::{AllocError, Allocator};
 use std::convert::AsStr;
 use std::marker::PhantomData;
 
-impl<'f, T, D, C, B> Drawing<'f, T, D, C, B>
+impl<'f, T, D, C, B> StreamedTable<'f, T, D, C, B>
 where
-    T: Drawn,
+    T: TableMarker,
     D: Dimension,
     C: Colors,
     B: Allocator,

@@ -8,19 +8,19 @@ ghost use Rattle.pg_layout.specs.Records.{AlwaysGives};
 ghost use Rattle.pg_layout.specs.Text.{Text};
 ghost use Rattle.pg_picture.specs.Fits.{spans_fit_columns};
 ghost use Rattle.pg_stream.specs.Conditions.{HaveRoom};
-ghost use Rattle.pg_stream.specs.Inside.Drawing.{column_end};
+ghost use Rattle.pg_stream.specs.Inside.StreamedTable.{column_end};
 ghost use Rattle.pg_stream.specs.Placed.{AllOpen};
 ghost use Rattle.pg_stream.specs.Inside.Turns.{IsOwnerAbove, MayBegin, begin_cell, cells_begun, is_done, close_cell, cells_closed};
 
-use crate::draw::{Drawing, OpenCells};
+use crate::draw::{OpenCells, StreamedTable};
 use pg_layout::{Colors, Dimension, Position};
-use pg_picture::Drawn;
+use pg_picture::TableMarker;
 use std::alloc::Allocator;
 use std::convert::AsStr;
 
-impl<'f, T, D, C, B> Drawing<'f, T, D, C, B>
+impl<'f, T, D, C, B> StreamedTable<'f, T, D, C, B>
 where
-    T: Drawn,
+    T: TableMarker,
     D: Dimension,
     C: Colors,
     B: Allocator,

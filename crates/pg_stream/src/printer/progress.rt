@@ -13,11 +13,11 @@ ghost use Rattle.pg_stream.specs.Printing.{row_text, rows_text, finish_text, aft
 ghost use Rattle.pg_picture.specs.Inside.Sheets.{bare_table};
 ghost use Rattle.pg_stream.specs.Streams.{AppendsIf};
 
-use crate::draw::{Drawing, OpenCells, OpenLine};
+use crate::draw::{OpenCells, OpenLine, StreamedTable};
 use crate::fault::StreamFault;
 use crate::printer::Frame;
 use pg_layout::{Colors, Dimension};
-use pg_picture::{Drawn, Pen, SEPARATOR_ROOM, SeparatorKeeper, TextKind};
+use pg_picture::{Pen, SEPARATOR_ROOM, SeparatorKeeper, TableMarker, TextKind};
 use std::alloc::{AllocError, Allocator, Global};
 use std::convert::AsStr;
 use std::marker::PhantomData;
@@ -47,7 +47,7 @@ impl<S: AsStr + Drop, A: Allocator> Progress<'_, S, A> {
         buf: &mut String<W>,
     ) -> Result<(), AllocError>
     where
-        T: Drawn,
+        T: TableMarker,
         D: Dimension,
         C: Colors,
         B: Allocator,
@@ -64,20 +64,20 @@ impl<S: AsStr + Drop, A: Allocator> Progress<'_, S, A> {
         if frame.is_single(self.rows) {
             return self.push_single::<T, D, C, B, S, I, W>(frame, cells, kind, is_last, buf);
         }
-        let drawing: Drawing<'_, T, D, C, B> = Drawing {
+        let table: StreamedTable<'_, T, D, C, B> = StreamedTable {
             pen: Pen {
                 sheet: &frame.sheet,
                 is_colored: true,
                 of: PhantomData,
             },
         };
-        let height = drawing.pen.height_of(self.rows);
-        drawing.push_top(buf, self.rows)?;
-        let next = drawing.push_above(&mut self.cells, &mut self.kept, buf, self.lines, self.rows)?;
+        let height = table.pen.height_of(self.rows);
+        table.push_top(buf, self.rows)?;
+        let next = table.push_above(&mut self.cells, &mut self.kept, buf, self.lines, self.rows)?;
         let below = next + height;
-        drawing.begin(&mut self.cells, cells, self.rows);
-        drawing.push_lines(&mut self.cells, buf, next, self.rows)?;
-        drawing.close(&mut self.cells, self.rows);
+        table.begin(&mut self.cells, cells, self.rows);
+        table.push_lines(&mut self.cells, buf, next, self.rows)?;
+        table.close(&mut self.cells, self.rows);
         self.end_row(below, is_last);
         Ok(())
     }
@@ -91,7 +91,7 @@ impl<S: AsStr + Drop, A: Allocator> Progress<'_, S, A> {
         buf: &mut String<W>,
     ) -> Result<(), StreamFault>
     where
-        T: Drawn,
+        T: TableMarker,
         D: Dimension,
         C: Colors,
         B: Allocator,
@@ -121,7 +121,7 @@ impl<S: AsStr + Drop, A: Allocator> Progress<'_, S, A> {
         buf: &mut String<W>,
     ) -> Result<(), AllocError>
     where
-        T: Drawn,
+        T: TableMarker,
         D: Dimension,
         C: Colors,
         B: Allocator,
@@ -183,7 +183,7 @@ impl<S: AsStr + Drop, A: Allocator> Progress<'_, S, A> {
         buf: &mut String<W>,
     ) -> Result<(), AllocError>
     where
-        T: Drawn,
+        T: TableMarker,
         D: Dimension,
         C: Colors,
         B: Allocator,
@@ -197,7 +197,7 @@ impl<S: AsStr + Drop, A: Allocator> Progress<'_, S, A> {
         if self.rows == 0 {
             return Ok(());
         }
-        let drawing: Drawing<'_, T, D, C, B> = Drawing {
+        let table: StreamedTable<'_, T, D, C, B> = StreamedTable {
             pen: Pen {
                 sheet: &frame.sheet,
                 is_colored: true,
@@ -205,13 +205,13 @@ impl<S: AsStr + Drop, A: Allocator> Progress<'_, S, A> {
             },
         };
         let line = OpenLine {
-            table: drawing,
+            table,
             opened: &self.cells,
         };
         line.push_below(buf, self.lines, self.rows)?;
-        let has_last = drawing.pen.has_horizontal(self.rows, self.rows);
+        let has_last = table.pen.has_horizontal(self.rows, self.rows);
         let is_first = frame.sheet.begins_with_body;
-        drawing
+        table
             .pen
             .push_bottom(buf, is_bare(is_first, self.lines, has_last))
     }
@@ -224,7 +224,7 @@ impl<S: AsStr + Drop, A: Allocator> Progress<'_, S, A> {
         buf: &mut String<W>,
     ) -> Result<(), AllocError>
     where
-        T: Drawn,
+        T: TableMarker,
         D: Dimension,
         C: Colors,
         B: Allocator,

@@ -10,7 +10,7 @@ ghost use Rattle.pg_stream.specs.Printers.{printing, now_of};
 use crate::fault::StreamFault;
 use crate::printer::{Frame, Progress, RowPrinter};
 use pg_layout::{Colors, Dimension};
-use pg_picture::Drawn;
+use pg_picture::TableMarker;
 use pg_picture::fits::spans_fit;
 use std::alloc::Allocator;
 use std::convert::AsStr;
@@ -46,7 +46,7 @@ impl<S: AsStr + Drop, A: Allocator> Progress<'_, S, A> {
         buf: &mut String<W>,
     ) -> Result<(), StreamFault>
     where
-        T: Drawn,
+        T: TableMarker,
         D: Dimension,
         C: Colors,
         B: Allocator,

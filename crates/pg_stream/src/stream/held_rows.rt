@@ -13,7 +13,7 @@ ghost use Rattle.pg_stream.specs.Streams.{held_text, HeldFits, after_push, rows_
 use crate::fault::{RowsFault, StreamFault};
 use crate::printer::{Frame, Progress};
 use pg_layout::{Colors, Dimension};
-use pg_picture::{Drawn, SEPARATOR_ROOM, SeparatorKeeper};
+use pg_picture::{SEPARATOR_ROOM, SeparatorKeeper, TableMarker};
 use std::alloc::{Allocator, Global};
 use std::convert::AsStr;
 
@@ -34,7 +34,7 @@ impl<S: AsStr + Drop, A: Allocator, V: Allocator> HeldRows<'_, S, A, V> {
         buf: &mut String<W>,
     ) -> Result<(), StreamFault>
     where
-        T: Drawn,
+        T: TableMarker,
         D: Dimension,
         C: Colors,
         B: Allocator,
@@ -59,7 +59,7 @@ impl<S: AsStr + Drop, A: Allocator, V: Allocator> HeldRows<'_, S, A, V> {
         buf: &mut String<W>,
     ) -> Result<(), StreamFault>
     where
-        T: Drawn,
+        T: TableMarker,
         D: Dimension,
         C: Colors,
         B: Allocator,
@@ -93,7 +93,7 @@ impl<S: AsStr + Drop, A: Allocator, V: Allocator> HeldRows<'_, S, A, V> {
         buf: &mut String<W>,
     ) -> Result<(), StreamFault>
     where
-        T: Drawn,
+        T: TableMarker,
         D: Dimension,
         C: Colors,
         B: Allocator,
@@ -122,7 +122,7 @@ impl<S: AsStr + Drop, A: Allocator, V: Allocator> HeldRows<'_, S, A, V> {
         buf: &mut String<W>,
     ) -> Result<(), RowsFault<E>>
     where
-        T: Drawn,
+        T: TableMarker,
         D: Dimension,
         C: Colors,
         B: Allocator,

@@ -15,12 +15,12 @@ ghost use Rattle.pg_stream.specs.Printing.{row_text, after_row};
 ghost use Rattle.pg_stream.specs.Streams.{AppendsIf};
 ghost use Rattle.pg_stream.specs.declared.fault.StreamFault.{StreamFault};
 
-use crate::draw::Drawing;
+use crate::draw::StreamedTable;
 use crate::fault::StreamFault;
 use crate::printer::{Frame, Progress};
 use crate::stream::LiveStream;
 use pg_layout::{Colors, Dimension};
-use pg_picture::{Drawn, Pen, TextKind};
+use pg_picture::{Pen, TableMarker, TextKind};
 use std::alloc::{AllocError, Allocator};
 use std::convert::AsStr;
 use std::marker::{Brand, PhantomData};
@@ -84,7 +84,7 @@ impl<S: AsStr + Drop, A: Allocator> Progress<'_, S, A> {
         buf: &mut String<W>,
     ) -> Result<(), AllocError>
     where
-        T: Drawn,
+        T: TableMarker,
         D: Dimension,
         C: Colors,
         B: Allocator,
@@ -100,18 +100,18 @@ impl<S: AsStr + Drop, A: Allocator> Progress<'_, S, A> {
         ensures appends { (texts : List Text) → AlwaysGives (λ x y. X.text x ≡ y) I.next_gives cells texts → Appends buf.old buf.new result (row_text (now_of T.table frame.now.hint self.old) texts is_last) }
         ensures after { (texts : List Text) → AlwaysGives (λ x y. X.text x ≡ y) I.next_gives cells texts → OnOk result (now_of T.table frame.now.hint self.new ≡ after_row (now_of T.table frame.now.hint self.old) texts is_last) }
     {
-        let drawing: Drawing<'_, T, D, C, B> = Drawing {
+        let table: StreamedTable<'_, T, D, C, B> = StreamedTable {
             pen: Pen {
                 sheet: &frame.sheet,
                 is_colored: true,
                 of: PhantomData,
             },
         };
-        drawing.push_top(buf, self.rows)?;
-        let next = drawing.push_above(&mut self.cells, &mut self.kept, buf, self.lines, self.rows)?;
-        let height = drawing.pen.height_of(self.rows);
+        table.push_top(buf, self.rows)?;
+        let next = table.push_above(&mut self.cells, &mut self.kept, buf, self.lines, self.rows)?;
+        let height = table.pen.height_of(self.rows);
         let below = next + height;
-        drawing.push_single_row(buf, next, self.rows, cells, kind)?;
+        table.push_single_row(buf, next, self.rows, cells, kind)?;
         self.end_row(below, is_last);
         Ok(())
     }

@@ -11,7 +11,7 @@ use Rattle.pg_picture.specs.Fits.{body_height}
 use Rattle.pg_picture.proofs.Appending.{Appends-text, ◌then◌, stopped}
 use Rattle.pg_picture.proofs.FittingTables.{some_is, totals_facts}
 use Rattle.pg_picture.proofs.HeightsOfRectangles.{length-table_body}
-use Rattle.pg_peekable.specs.Grids.{drawn}
+use Rattle.pg_peekable.specs.Grids.{printed_table}
 use Rattle.pg_picture.proofs.SumsOfSizes.{is_some_answer}
 use Rattle.pg_peekable.proofs.CanDraw.{can_draw, width-answer, height-answer}
 use Rattle.pg_picture.proofs.Pictures.{picture-parts}
@@ -20,34 +20,34 @@ use Rattle.pg_peekable.proofs.grid.PeekableGrid+R+ref+SpannedConfig+B+D+C.push_p
 
 pub full_width-requires : goal.full_width-requires
 full_width-requires g c =
-    let t = drawn g.R.Records g.D.Dimension g.C.Colors c.args.self.now in
+    let t = printed_table g.R.Records g.D.Dimension g.C.Colors c.args.self.now in
     let can = can_draw t c.spans-spans.ensures.ascending c.requires.full.fits c.requires.full.some in
     omega (arith, c.requires.full.columns, (totals_facts t can.fits.totals).columns)
 
 pub body_height-requires : goal.body_height-requires
 body_height-requires g c =
-    let t = drawn g.R.Records g.D.Dimension g.C.Colors c.args.self.now in
+    let t = printed_table g.R.Records g.D.Dimension g.C.Colors c.args.self.now in
     let can = can_draw t c.spans-spans.ensures.ascending c.requires.full.fits c.requires.full.some in
     omega (arith, c.requires.full.rows, (totals_facts t can.fits.totals).rows)
 
 pub unwrap-width-requires : goal.unwrap-width-requires
 unwrap-width-requires g c =
-    let t = drawn g.R.Records g.D.Dimension g.C.Colors c.args.self.now in
+    let t = printed_table g.R.Records g.D.Dimension g.C.Colors c.args.self.now in
     let can = can_draw t c.spans-spans.ensures.ascending c.requires.full.fits c.requires.full.some in
     is_some_answer (width-answer t c.args.columns can c.requires.full.columns c.full_width.ensures)
 
 pub unwrap-height-requires : goal.unwrap-height-requires
 unwrap-height-requires g c =
-    let t = drawn g.R.Records g.D.Dimension g.C.Colors c.args.self.now in
+    let t = printed_table g.R.Records g.D.Dimension g.C.Colors c.args.self.now in
     let can = can_draw t c.spans-spans.ensures.ascending c.requires.full.fits c.requires.full.some in
     is_some_answer (height-answer t c.args.rows can c.requires.full.rows c.body_height.ensures)
 
 pub push_drawn-requires-clause-can : goal.push_drawn-requires-clause-can
-push_drawn-requires-clause-can g c = can_draw (drawn g.R.Records g.D.Dimension g.C.Colors c.args.self.now) c.spans-spans.ensures.ascending c.requires.full.fits c.requires.full.some
+push_drawn-requires-clause-can g c = can_draw (printed_table g.R.Records g.D.Dimension g.C.Colors c.args.self.now) c.spans-spans.ensures.ascending c.requires.full.fits c.requires.full.some
 
 pub push_drawn-requires-clause-shape : goal.push_drawn-requires-clause-shape
 push_drawn-requires-clause-shape g c =
-    let t = drawn g.R.Records g.D.Dimension g.C.Colors c.args.self.now in
+    let t = printed_table g.R.Records g.D.Dimension g.C.Colors c.args.self.now in
     let can = can_draw t c.spans-spans.ensures.ascending c.requires.full.fits c.requires.full.some in
     let height : c.unwrap-height.result ≡ length (table_body t) =
     some_is c.unwrap-height.result (body_height t) (sym c.unwrap-height.ensures ∙ height-answer t c.args.rows can c.requires.full.rows c.body_height.ensures) ∙ sym (length-table_body t) in
@@ -62,7 +62,7 @@ push_drawn-requires-clause-is g c =
 
 pub returns-in_err-push_top_margin : goal.returns-in_err-push_top_margin
 returns-in_err-push_top_margin g c =
-    let t = drawn g.R.Records g.D.Dimension g.C.Colors c.args.self.now in
+    let t = printed_table g.R.Records g.D.Dimension g.C.Colors c.args.self.now in
     let can = can_draw t c.spans-spans.ensures.ascending c.requires.full.fits c.requires.full.some in
     let wide = some_is c.unwrap-width.result (full_width t) (sym c.unwrap-width.ensures ∙ width-answer t c.args.columns can c.requires.full.columns c.full_width.ensures) in
     let high = some_is c.unwrap-height.result (body_height t) (sym c.unwrap-height.ensures ∙ height-answer t c.args.rows can c.requires.full.rows c.body_height.ensures) ∙ sym (length-table_body t) in
@@ -76,7 +76,7 @@ returns-in_err-push_top_margin g c =
 
 pub returns-in_err-push_drawn : goal.returns-in_err-push_drawn
 returns-in_err-push_drawn g c =
-    let t = drawn g.R.Records g.D.Dimension g.C.Colors c.args.self.now in
+    let t = printed_table g.R.Records g.D.Dimension g.C.Colors c.args.self.now in
     let can = can_draw t c.spans-spans.ensures.ascending c.requires.full.fits c.requires.full.some in
     let wide = some_is c.unwrap-width.result (full_width t) (sym c.unwrap-width.ensures ∙ width-answer t c.args.columns can c.requires.full.columns c.full_width.ensures) in
     let high = some_is c.unwrap-height.result (body_height t) (sym c.unwrap-height.ensures ∙ height-answer t c.args.rows can c.requires.full.rows c.body_height.ensures) ∙ sym (length-table_body t) in
@@ -89,7 +89,7 @@ returns-in_err-push_drawn g c =
 
 pub returns : goal.returns
 returns g c =
-    let t = drawn g.R.Records g.D.Dimension g.C.Colors c.args.self.now in
+    let t = printed_table g.R.Records g.D.Dimension g.C.Colors c.args.self.now in
     let can = can_draw t c.spans-spans.ensures.ascending c.requires.full.fits c.requires.full.some in
     let wide = some_is c.unwrap-width.result (full_width t) (sym c.unwrap-width.ensures ∙ width-answer t c.args.columns can c.requires.full.columns c.full_width.ensures) in
     let high = some_is c.unwrap-height.result (body_height t) (sym c.unwrap-height.ensures ∙ height-answer t c.args.rows can c.requires.full.rows c.body_height.ensures) ∙ sym (length-table_body t) in

@@ -1,11 +1,11 @@
 use Rattle.std.proofs.Common.{None, ap, ◌∙◌, subst, IsOk, is_ok}
 use Rattle.pg_picture.specs.Shown.{unless_unshown}
-use Rattle.pg_peekable.specs.Grids.{drawn}
+use Rattle.pg_peekable.specs.Grids.{printed_table}
 use Rattle.pg_picture.proofs.ShownGrids.{unshown-any_colors, unshown-empty, nothing-if-ok, shown-fits}
 use Rattle.pg_peekable.proofs.whole.PeekableGrid+R+ref+SpannedConfig+B+D+C.shows_all.Goals as goal
 
 pub returns-clause-exact : goal.returns-clause-exact
-returns-clause-exact g c = c.table_shows_all.ensures ∙ ap unless_unshown (unshown-any_colors (drawn g.R.Records g.D.Dimension g.C.Colors c.args.self.now) (λ p. None))
+returns-clause-exact g c = c.table_shows_all.ensures ∙ ap unless_unshown (unshown-any_colors (printed_table g.R.Records g.D.Dimension g.C.Colors c.args.self.now) (λ p. None))
 
 pub returns-clause-fits : goal.returns-clause-fits
 returns-clause-fits g c = λ ok. shown-fits _ (nothing-if-ok _ (subst (λ r. IsOk r) (returns-clause-exact g c) ok))

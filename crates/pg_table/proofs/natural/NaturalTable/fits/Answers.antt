@@ -1,7 +1,7 @@
 use Rattle.std.proofs.Common.{sym, ◌∙◌}
-use Rattle.pg_table.specs.Printing.{drawn_of, natural_parts}
+use Rattle.pg_table.specs.Printing.{printed_table_of, natural_parts}
 use Rattle.pg_table.proofs.Faults.{fault-empty}
 use Rattle.pg_table.proofs.natural.NaturalTable.fits.Goals as goal
 
 pub returns-then-is_empty-clause-ok : goal.returns-then-is_empty-clause-ok
-returns-then-is_empty-clause-ok g c = λ ok. fault-empty (drawn_of g.R.Records.texts g.R.Records.columns g.C.Colors.color (natural_parts c.args.self.now)) (sym c.is_empty.ensures ∙ c.if-is_empty.true)
+returns-then-is_empty-clause-ok g c = λ ok. fault-empty (printed_table_of g.R.Records.texts g.R.Records.columns g.C.Colors.color (natural_parts c.args.self.now)) (sym c.is_empty.ensures ∙ c.if-is_empty.true)

@@ -1,6 +1,6 @@
 use Rattle.std.proofs.Common.{refl, sym, ◌∙◌}
 use Rattle.pg_picture.specs.Table.{Table}
-use Rattle.pg_table.specs.Printing.{drawn_of, natural_parts}
+use Rattle.pg_table.specs.Printing.{printed_table_of, natural_parts}
 use Rattle.pg_table.specs.declared.fault.TableFault.TheVariants.{Spans, Totals}
 use Rattle.pg_table.proofs.Faults.{fault-spans, fault-totals, fault-fits, can-fail}
 use Rattle.pg_table.proofs.TotalsOfSizes.{cells-past}
@@ -8,23 +8,23 @@ use Rattle.pg_table.proofs.natural.NaturalTable.sized.Goals as goal
 
 pub returns-then-not-spans_fit-clause-fault : goal.returns-then-not-spans_fit-clause-fault
 returns-then-not-spans_fit-clause-fault g c = λ fault e.
-    let t : Table = (drawn_of g.R.Records.texts g.R.Records.columns g.C.Colors.color (natural_parts c.args.self.now)) in
+    let t : Table = (printed_table_of g.R.Records.texts g.R.Records.columns g.C.Colors.color (natural_parts c.args.self.now)) in
     can-fail t _ Spans fault refl e (fault-spans t c.requires (sym c.spans_fit.ensures.fit ∙ c.if-not-spans_fit.true))
 
 pub returns-then-totals_fit_at-clause-ok : goal.returns-then-totals_fit_at-clause-ok
 returns-then-totals_fit_at-clause-ok g c = λ ok.
-    let t : Table = (drawn_of g.R.Records.texts g.R.Records.columns g.C.Colors.color (natural_parts c.args.self.now)) in
+    let t : Table = (printed_table_of g.R.Records.texts g.R.Records.columns g.C.Colors.color (natural_parts c.args.self.now)) in
     fault-fits t c.requires (sym c.spans_fit.ensures.fit ∙ c.if-not-spans_fit.false) (sym c.totals_fit_at.ensures ∙ c.if-totals_fit_at.true)
 
 pub returns-else-totals_fit_at-clause-fault : goal.returns-else-totals_fit_at-clause-fault
 returns-else-totals_fit_at-clause-fault g c = λ fault e.
-    let t : Table = (drawn_of g.R.Records.texts g.R.Records.columns g.C.Colors.color (natural_parts c.args.self.now)) in
+    let t : Table = (printed_table_of g.R.Records.texts g.R.Records.columns g.C.Colors.color (natural_parts c.args.self.now)) in
     can-fail t _ Totals fault refl e (fault-totals t c.requires (sym c.spans_fit.ensures.fit ∙ c.if-not-spans_fit.false) (sym c.totals_fit_at.ensures ∙ c.if-totals_fit_at.false))
 
 pub returns-in-Ok-None-clause-fault : goal.returns-in-Ok-None-clause-fault
 returns-in-Ok-None-clause-fault g c = λ fault e.
     let self = c.args.self.now in
-    let t : Table = (drawn_of g.R.Records.texts g.R.Records.columns g.C.Colors.color (natural_parts c.args.self.now)) in
+    let t : Table = (printed_table_of g.R.Records.texts g.R.Records.columns g.C.Colors.color (natural_parts c.args.self.now)) in
     let fit = sym c.spans_fit.ensures.fit ∙ c.if-not-spans_fit.false in
     let past = rw (c.in-Ok-None.is, c.in-Ok-None.field-0-is, c.sizes.ensures.records, c.sizes.ensures.config) at c.measured.ensures.sized in
     can-fail t _ Totals fault refl e (fault-totals t c.requires fit

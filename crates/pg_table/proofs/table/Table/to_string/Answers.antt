@@ -1,7 +1,7 @@
 use Rattle.std.proofs.Common.{map}
 use Rattle.pg_layout.specs.ColorsMap.{color_at}
 use Rattle.pg_layout.specs.Records.{columns_of}
-use Rattle.pg_table.specs.Printing.{drawn}
+use Rattle.pg_table.specs.Printing.{printed_table}
 use Rattle.pg_table.proofs.StraightTables.{even, even-text}
 use Rattle.pg_table.proofs.table.Table.to_string.Goals as goal
 
@@ -15,5 +15,5 @@ pub returns-clause-even : goal.returns-clause-even
 returns-clause-even g c = λ look.
     let self = c.args.self.now in
     let text = rw (c.natural.ensures.records, c.natural.ensures.config, c.natural.ensures.colors) at c.to_string.ensures.text in
-    even-text c.to_string.result (drawn g.T.AsStr.text self) text
+    even-text c.to_string.result (printed_table g.T.AsStr.text self) text
     (λ ok. even self.config (map (λ row. map g.T.AsStr.text row) self.rows) (columns_of self.rows) (λ place. color_at place self.colors) (returns-clause-ok g c ok) look)

@@ -9,7 +9,7 @@ use Rattle.pg_stream.proofs.draw.open_line.OpenLine.push_cell_line.Goals as goal
 
 pub invariant_of-line : goal.invariant_of-line
 invariant_of-line g c =
-    let t = g.T.Drawn.table in
+    let t = g.T.TableMarker.table in
     let x = c.args.column in
     let drawn = c.args.self.now.are_drawn in
     let placed : IsPlaced t x c.args.cell.now = rw c.requires.cell at (drawn.opened.placed x) in
@@ -19,7 +19,7 @@ invariant_of-line g c =
 
 pub returns : goal.returns
 returns g c =
-    let t = g.T.Drawn.table in
+    let t = g.T.TableMarker.table in
     let x = c.args.column in
     let drawn = c.args.self.now.are_drawn in
     let placed : IsPlaced t x c.args.cell.now = rw c.requires.cell at (drawn.opened.placed x) in

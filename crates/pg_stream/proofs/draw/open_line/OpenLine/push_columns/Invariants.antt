@@ -2,11 +2,11 @@ use Rattle.std.proofs.Common.{◌≡◌, flat_map}
 use Rattle.std.specs.List.{range_with_len}
 use Rattle.pg_picture.proofs.Appending.{Gained}
 use Rattle.pg_picture.specs.Inside.Following.{items_after, last_color}
-use Rattle.pg_stream.specs.Inside.Drawing.{reach, open_separator_part}
+use Rattle.pg_stream.specs.Inside.StreamedTable.{reach, open_separator_part}
 use Rattle.pg_stream.proofs.draw.open_line.OpenLine.push_columns.Given as goal
 
 abbrev pub invariant-loop-column : goal.invariant-loop-column
 invariant-loop-column g l =
-    let t = g.T.Drawn.table in
+    let t = g.T.TableMarker.table in
     let so_far = flat_map (open_separator_part t l.rows l.self.opened.now l.row) (range_with_len 0 l.column) in
     record { gained : Gained l.fn.buf l.buf (items_after l.fn.run so_far); color : l.run ≡ last_color l.fn.run so_far; ends : l.end ≡ reach t.config.spans l.self.opened.now l.column }

@@ -12,21 +12,21 @@ use Rattle.pg_stream.proofs.printer.Ending.{finish-none, no_cells, finish_text-i
 use Rattle.pg_stream.proofs.printer.progress.Progress.push_end.Goals as goal
 
 pub returns-then-self-eq0-clause-appends : goal.returns-then-self-eq0-clause-appends
-returns-then-self-eq0-clause-appends g c = Appends-text (finish-none (now_of g.T.Drawn.table c.args.frame.now.hint c.args.self.now) (omega arith)) (Gained-all (Gained-none c.args.buf.now))
+returns-then-self-eq0-clause-appends g c = Appends-text (finish-none (now_of g.T.TableMarker.table c.args.frame.now.hint c.args.self.now) (omega arith)) (Gained-all (Gained-none c.args.buf.now))
 
 pub invariant_of-line : goal.invariant_of-line
 invariant_of-line g c =
-    let s : Printing = now_of g.T.Drawn.table c.args.frame.now.hint c.args.self.now in
+    let s : Printing = now_of g.T.TableMarker.table c.args.frame.now.hint c.args.self.now in
     let w = c.args.frame.now.sheet.width in
     let h = c.args.frame.now.sheet.height in
     let cells = c.args.self.now.cells in
     let some : 0 < c.args.self.now.rows = omega arith in
     let ended : c.args.self.now.is_ended ≡ true = ended_of c.args.self.now.rows c.args.self.now.is_ended c.requires.ended some in
-    record { are_drawn = record { opened = record { columns = c.requires.sound.printer.whole; inside = no_cells s w h cells refl c.requires.sound.printer ended _; placed = c.requires.sound.printer.placed }; tall = no_cells s w h cells refl c.requires.sound.printer ended (IsTall g.T.Drawn.table) } }
+    record { are_drawn = record { opened = record { columns = c.requires.sound.printer.whole; inside = no_cells s w h cells refl c.requires.sound.printer ended _; placed = c.requires.sound.printer.placed }; tall = no_cells s w h cells refl c.requires.sound.printer ended (IsTall g.T.TableMarker.table) } }
 
 pub returns-in_err-push_below-clause-appends : goal.returns-in_err-push_below-clause-appends
 returns-in_err-push_below-clause-appends g c =
-    let s : Printing = now_of g.T.Drawn.table c.args.frame.now.hint c.args.self.now in
+    let s : Printing = now_of g.T.TableMarker.table c.args.frame.now.hint c.args.self.now in
     let w = c.args.frame.now.sheet.width in
     let h = c.args.frame.now.sheet.height in
     let cells = c.args.self.now.cells in
@@ -37,7 +37,7 @@ returns-in_err-push_below-clause-appends g c =
 
 pub returns-clause-appends : goal.returns-clause-appends
 returns-clause-appends g c =
-    let s : Printing = now_of g.T.Drawn.table c.args.frame.now.hint c.args.self.now in
+    let s : Printing = now_of g.T.TableMarker.table c.args.frame.now.hint c.args.self.now in
     let w = c.args.frame.now.sheet.width in
     let h = c.args.frame.now.sheet.height in
     let cells = c.args.self.now.cells in

@@ -18,7 +18,7 @@ use Rattle.pg_stream.proofs.printer.progress.Progress.push_row.Goals as goal
 
 pub returns-in_err-push_top-clause-appends : goal.returns-in_err-push_top-clause-appends
 returns-in_err-push_top-clause-appends g c = λ texts gives.
-    let s : Printing = now_of g.T.Drawn.table c.args.frame.now.hint c.args.self.now in
+    let s : Printing = now_of g.T.TableMarker.table c.args.frame.now.hint c.args.self.now in
     let w = c.args.frame.now.sheet.width in
     let h = c.args.frame.now.sheet.height in
     let cells = c.args.self.now.cells in
@@ -28,7 +28,7 @@ returns-in_err-push_top-clause-appends g c = λ texts gives.
 
 pub push_above-requires : goal.push_above-requires
 push_above-requires g c =
-    let s : Printing = now_of g.T.Drawn.table c.args.frame.now.hint c.args.self.now in
+    let s : Printing = now_of g.T.TableMarker.table c.args.frame.now.hint c.args.self.now in
     let w = c.args.frame.now.sheet.width in
     let h = c.args.frame.now.sheet.height in
     let cells = c.args.self.now.cells in
@@ -48,7 +48,7 @@ push_above-requires g c =
 
 pub returns-in_err-next-clause-appends : goal.returns-in_err-next-clause-appends
 returns-in_err-next-clause-appends g c = λ texts gives.
-    let s : Printing = now_of g.T.Drawn.table c.args.frame.now.hint c.args.self.now in
+    let s : Printing = now_of g.T.TableMarker.table c.args.frame.now.hint c.args.self.now in
     let w = c.args.frame.now.sheet.width in
     let h = c.args.frame.now.sheet.height in
     let cells = c.args.self.now.cells in
@@ -58,7 +58,7 @@ returns-in_err-next-clause-appends g c = λ texts gives.
 
 pub begin-requires-clause-above : goal.begin-requires-clause-above
 begin-requires-clause-above g c =
-    let s : Printing = now_of g.T.Drawn.table c.args.frame.now.hint c.args.self.now in
+    let s : Printing = now_of g.T.TableMarker.table c.args.frame.now.hint c.args.self.now in
     let w = c.args.frame.now.sheet.width in
     let h = c.args.frame.now.sheet.height in
     let cells = c.args.self.now.cells in
@@ -72,8 +72,8 @@ begin-requires-clause-given g c =
 
 pub push_lines-requires : goal.push_lines-requires
 push_lines-requires g c =
-    let s : Printing = now_of g.T.Drawn.table c.args.frame.now.hint c.args.self.now in
-    let t = g.T.Drawn.table in
+    let s : Printing = now_of g.T.TableMarker.table c.args.frame.now.hint c.args.self.now in
+    let t = g.T.TableMarker.table in
     let w = c.args.frame.now.sheet.width in
     let h = c.args.frame.now.sheet.height in
     let cells = c.args.self.now.cells in
@@ -91,8 +91,8 @@ push_lines-requires g c =
 
 pub returns-in_err-push_lines-clause-appends : goal.returns-in_err-push_lines-clause-appends
 returns-in_err-push_lines-clause-appends g c = λ texts gives.
-    let s : Printing = now_of g.T.Drawn.table c.args.frame.now.hint c.args.self.now in
-    let t = g.T.Drawn.table in
+    let s : Printing = now_of g.T.TableMarker.table c.args.frame.now.hint c.args.self.now in
+    let t = g.T.TableMarker.table in
     let w = c.args.frame.now.sheet.width in
     let h = c.args.frame.now.sheet.height in
     let cells = c.args.self.now.cells in
@@ -105,8 +105,8 @@ returns-in_err-push_lines-clause-appends g c = λ texts gives.
 
 pub close-requires-clause-columns : goal.close-requires-clause-columns
 close-requires-clause-columns g c =
-    let s : Printing = now_of g.T.Drawn.table c.args.frame.now.hint c.args.self.now in
-    let t = g.T.Drawn.table in
+    let s : Printing = now_of g.T.TableMarker.table c.args.frame.now.hint c.args.self.now in
+    let t = g.T.TableMarker.table in
     let w = c.args.frame.now.sheet.width in
     let h = c.args.frame.now.sheet.height in
     let cells = c.args.self.now.cells in
@@ -117,8 +117,8 @@ close-requires-clause-columns g c =
 
 pub close-requires-clause-begun : goal.close-requires-clause-begun
 close-requires-clause-begun g c =
-    let s : Printing = now_of g.T.Drawn.table c.args.frame.now.hint c.args.self.now in
-    let t = g.T.Drawn.table in
+    let s : Printing = now_of g.T.TableMarker.table c.args.frame.now.hint c.args.self.now in
+    let t = g.T.TableMarker.table in
     let w = c.args.frame.now.sheet.width in
     let h = c.args.frame.now.sheet.height in
     let cells = c.args.self.now.cells in
@@ -129,15 +129,15 @@ close-requires-clause-begun g c =
 
 pub overflow_add-below : goal.overflow_add-below
 overflow_add-below g c =
-    let s : Printing = now_of g.T.Drawn.table c.args.frame.now.hint c.args.self.now in
+    let s : Printing = now_of g.T.TableMarker.table c.args.frame.now.hint c.args.self.now in
     let fits = c.requires.fits.2 in
     let both = length_of_row s.table.config s.table.height s.rows in
     omega (arith, fits.lines, both, c.in_ok-next.ensures.index, c.height_of-height.ensures)
 
 pub returns-clause-sound : goal.returns-clause-sound
 returns-clause-sound g c =
-    let s : Printing = now_of g.T.Drawn.table c.args.frame.now.hint c.args.self.now in
-    let t = g.T.Drawn.table in
+    let s : Printing = now_of g.T.TableMarker.table c.args.frame.now.hint c.args.self.now in
+    let t = g.T.TableMarker.table in
     let w = c.args.frame.now.sheet.width in
     let h = c.args.frame.now.sheet.height in
     let cells = c.args.self.now.cells in
@@ -147,7 +147,7 @@ returns-clause-sound g c =
     let drawn = c.in_ok-push_lines.ensures.drawn ∙ ap (map (draw_cell (s.table.height s.rows))) now in
     let left = c.close.ensures ∙ ap (λ l. cells_closed s.table.config.spans s.rows l) drawn in
     let lines = ap₂ (λ (a b : ℕ). a + b) c.in_ok-next.ensures.index c.height_of-height.ensures in
-    subst (IsSoundAt g.T.Drawn.table c.args.frame.now) (sym c.end_row.ensures) (record {
+    subst (IsSoundAt g.T.TableMarker.table c.args.frame.now) (sym c.end_row.ensures) (record {
       printer =
           subst (λ n. IsSound (record s { rows = s.rows + 1; lines = n; is_ended = c.args.is_last; slots = slots_of c.close.new.opened }) t w h c.close.new.opened) (sym lines)
           (subst (λ l. IsSound (record s { rows = s.rows + 1; lines = (s.lines + separator_height s.table.config s.rows) + s.table.height s.rows; is_ended = c.args.is_last; slots = slots_of l }) t w h l) (sym left)
@@ -157,8 +157,8 @@ returns-clause-sound g c =
 
 pub returns-clause-appends : goal.returns-clause-appends
 returns-clause-appends g c = λ texts gives.
-    let s : Printing = now_of g.T.Drawn.table c.args.frame.now.hint c.args.self.now in
-    let t = g.T.Drawn.table in
+    let s : Printing = now_of g.T.TableMarker.table c.args.frame.now.hint c.args.self.now in
+    let t = g.T.TableMarker.table in
     let w = c.args.frame.now.sheet.width in
     let h = c.args.frame.now.sheet.height in
     let cells = c.args.self.now.cells in
@@ -171,8 +171,8 @@ returns-clause-appends g c = λ texts gives.
 
 pub returns-clause-after : goal.returns-clause-after
 returns-clause-after g c = λ texts gives.
-    let s : Printing = now_of g.T.Drawn.table c.args.frame.now.hint c.args.self.now in
-    let t = g.T.Drawn.table in
+    let s : Printing = now_of g.T.TableMarker.table c.args.frame.now.hint c.args.self.now in
+    let t = g.T.TableMarker.table in
     let w = c.args.frame.now.sheet.width in
     let h = c.args.frame.now.sheet.height in
     let cells = c.args.self.now.cells in
@@ -182,7 +182,7 @@ returns-clause-after g c = λ texts gives.
     let drawn = c.in_ok-push_lines.ensures.drawn ∙ ap (map (draw_cell (s.table.height s.rows))) now in
     let left = c.close.ensures ∙ ap (λ l. cells_closed s.table.config.spans s.rows l) drawn in
     let lines = ap₂ (λ (a b : ℕ). a + b) c.in_ok-next.ensures.index c.height_of-height.ensures in
-    ap (now_of g.T.Drawn.table c.args.frame.now.hint) c.end_row.ensures
+    ap (now_of g.T.TableMarker.table c.args.frame.now.hint) c.end_row.ensures
     ∙ ap₂ (λ (l : List (Option Placed)) (n : ℕ). record s { rows = s.rows + 1; lines = n; is_ended = c.args.is_last; slots = slots_of l }) left lines
     ∙ after-is s w h cells refl sound c.args.is_last fits.hint fits.spans texts
 

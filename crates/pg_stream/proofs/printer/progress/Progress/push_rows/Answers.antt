@@ -21,7 +21,7 @@ loop-next-init g c =
 pub push_row-requires-clause-fits : goal.push_row-requires-clause-fits
 push_row-requires-clause-fits g c =
     let is_row = Gives (λ x y. g.S.AsStr.text x ≡ y) g.Cells.Iterator.can_next g.Cells.Iterator.next_gives g.Cells.Iterator.remaining in
-    let s : Printing = now_of g.T.Drawn.table c.args.frame.now.hint c.loop-next.progress in
+    let s : Printing = now_of g.T.TableMarker.table c.args.frame.now.hint c.loop-next.progress in
     let (cells, texts, from, fit) = c.loop-next.invariant.2 in
     let next = next-row is_row g.Rows.Iterator.next_gives _ _ _ texts from.others c.in-Some.ensures.steps in
     (cells, from.first.gives, (row-fits s cells texts next.cells next.others next.all fit).0, λ x here plain. cc)
@@ -29,7 +29,7 @@ push_row-requires-clause-fits g c =
 pub returns-in_err-push_row : goal.returns-in_err-push_row
 returns-in_err-push_row g c = λ cells texts from.
     let is_row = Gives (λ x y. g.S.AsStr.text x ≡ y) g.Cells.Iterator.can_next g.Cells.Iterator.next_gives g.Cells.Iterator.remaining in
-    let s : Printing = now_of g.T.Drawn.table c.args.frame.now.hint c.loop-next.progress in
+    let s : Printing = now_of g.T.TableMarker.table c.args.frame.now.hint c.loop-next.progress in
     let now = c.loop-next.invariant.3 cells texts from in
     let next = next-row is_row g.Rows.Iterator.next_gives _ _ _ now.texts now.from.others c.in-Some.ensures.steps in
     refused (rows_text (after_row s now.cells false) (next.cells ∷ next.others)) (now.is ∙ ap (λ t. now.so_far ++ t) (rows_text-more s now.cells now.texts next.cells next.others next.all))
@@ -38,7 +38,7 @@ returns-in_err-push_row g c = λ cells texts from.
 pub loop-next-preserved : goal.loop-next-preserved
 loop-next-preserved g c =
     let is_row = Gives (λ x y. g.S.AsStr.text x ≡ y) g.Cells.Iterator.can_next g.Cells.Iterator.next_gives g.Cells.Iterator.remaining in
-    let s : Printing = now_of g.T.Drawn.table c.args.frame.now.hint c.loop-next.progress in
+    let s : Printing = now_of g.T.TableMarker.table c.args.frame.now.hint c.loop-next.progress in
     let goes = c.in-Some.ensures.goes.on c.loop-next.invariant.1 in
     let (cells, texts, from, fit) = c.loop-next.invariant.2 in
     let next = next-row is_row g.Rows.Iterator.next_gives _ _ _ texts from.others c.in-Some.ensures.steps in
@@ -65,7 +65,7 @@ loop-next-preserved g c =
 pub returns-in_err-push_row-2 : goal.returns-in_err-push_row-2
 returns-in_err-push_row-2 g c = λ cells texts from.
     let is_row = Gives (λ x y. g.S.AsStr.text x ≡ y) g.Cells.Iterator.can_next g.Cells.Iterator.next_gives g.Cells.Iterator.remaining in
-    let s : Printing = now_of g.T.Drawn.table c.args.frame.now.hint c.loop-next.progress in
+    let s : Printing = now_of g.T.TableMarker.table c.args.frame.now.hint c.loop-next.progress in
     let now = c.loop-next.invariant.3 cells texts from in
     let ended = no-row is_row g.Rows.Iterator.next_gives _ _ now.texts now.from.others c.in-None.ensures.steps in
     refused (finish_text (after_row s now.cells true)) (now.is ∙ ap (λ t. now.so_far ++ t) (rows_text-last s now.cells now.texts ended))
@@ -80,7 +80,7 @@ push_end-requires-clause-ended g c =
 pub returns : goal.returns
 returns g c = λ cells texts from.
     let is_row = Gives (λ x y. g.S.AsStr.text x ≡ y) g.Cells.Iterator.can_next g.Cells.Iterator.next_gives g.Cells.Iterator.remaining in
-    let s : Printing = now_of g.T.Drawn.table c.args.frame.now.hint c.loop-next.progress in
+    let s : Printing = now_of g.T.TableMarker.table c.args.frame.now.hint c.loop-next.progress in
     let now = c.loop-next.invariant.3 cells texts from in
     let ended = no-row is_row g.Rows.Iterator.next_gives _ _ now.texts now.from.others c.in-None.ensures.steps in
     let after = c.in_ok-push_row-2.ensures.after now.cells now.from.first.gives in

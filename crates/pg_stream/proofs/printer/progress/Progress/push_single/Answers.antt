@@ -13,7 +13,7 @@ use Rattle.pg_stream.proofs.printer.progress.Progress.push_single.Goals as goal
 
 pub returns-in_err-push_top-clause-appends : goal.returns-in_err-push_top-clause-appends
 returns-in_err-push_top-clause-appends g c = λ texts gives.
-    let s : Printing = now_of g.T.Drawn.table c.args.frame.now.hint c.args.self.now in
+    let s : Printing = now_of g.T.TableMarker.table c.args.frame.now.hint c.args.self.now in
     let w = c.args.frame.now.sheet.width in
     let h = c.args.frame.now.sheet.height in
     let cells = c.args.self.now.cells in
@@ -23,7 +23,7 @@ returns-in_err-push_top-clause-appends g c = λ texts gives.
 
 pub push_above-requires : goal.push_above-requires
 push_above-requires g c =
-    let s : Printing = now_of g.T.Drawn.table c.args.frame.now.hint c.args.self.now in
+    let s : Printing = now_of g.T.TableMarker.table c.args.frame.now.hint c.args.self.now in
     let w = c.args.frame.now.sheet.width in
     let h = c.args.frame.now.sheet.height in
     let cells = c.args.self.now.cells in
@@ -43,7 +43,7 @@ push_above-requires g c =
 
 pub returns-in_err-next-clause-appends : goal.returns-in_err-next-clause-appends
 returns-in_err-next-clause-appends g c = λ texts gives.
-    let s : Printing = now_of g.T.Drawn.table c.args.frame.now.hint c.args.self.now in
+    let s : Printing = now_of g.T.TableMarker.table c.args.frame.now.hint c.args.self.now in
     let w = c.args.frame.now.sheet.width in
     let h = c.args.frame.now.sheet.height in
     let cells = c.args.self.now.cells in
@@ -53,7 +53,7 @@ returns-in_err-next-clause-appends g c = λ texts gives.
 
 pub push_single_row-requires : goal.push_single_row-requires
 push_single_row-requires g c =
-    let s : Printing = now_of g.T.Drawn.table c.args.frame.now.hint c.args.self.now in
+    let s : Printing = now_of g.T.TableMarker.table c.args.frame.now.hint c.args.self.now in
     let fits = c.requires.fits.2 in
     record {
       single = (
@@ -65,7 +65,7 @@ push_single_row-requires g c =
 
 pub returns-in_err-push_single_row-clause-appends : goal.returns-in_err-push_single_row-clause-appends
 returns-in_err-push_single_row-clause-appends g c = λ texts gives.
-    let s : Printing = now_of g.T.Drawn.table c.args.frame.now.hint c.args.self.now in
+    let s : Printing = now_of g.T.TableMarker.table c.args.frame.now.hint c.args.self.now in
     let w = c.args.frame.now.sheet.width in
     let h = c.args.frame.now.sheet.height in
     let cells = c.args.self.now.cells in
@@ -77,8 +77,8 @@ returns-in_err-push_single_row-clause-appends g c = λ texts gives.
 
 pub returns-clause-sound : goal.returns-clause-sound
 returns-clause-sound g c =
-    let s : Printing = now_of g.T.Drawn.table c.args.frame.now.hint c.args.self.now in
-    let t = g.T.Drawn.table in
+    let s : Printing = now_of g.T.TableMarker.table c.args.frame.now.hint c.args.self.now in
+    let t = g.T.TableMarker.table in
     let w = c.args.frame.now.sheet.width in
     let h = c.args.frame.now.sheet.height in
     let cells = c.args.self.now.cells in
@@ -87,7 +87,7 @@ returns-clause-sound g c =
     let one : s.table.height s.rows ≡ 1 = c.requires.single.height in
     let left = c.in_ok-next.ensures.drawn ∙ single-left s w h cells refl sound c.args.is_last fits.hint fits.spans c.requires.single.alone one c.requires.fits.0 in
     let lines = ap₂ (λ (a b : ℕ). a + b) c.in_ok-next.ensures.index c.height_of-height.ensures in
-    subst (IsSoundAt g.T.Drawn.table c.args.frame.now) (sym c.end_row.ensures) (record {
+    subst (IsSoundAt g.T.TableMarker.table c.args.frame.now) (sym c.end_row.ensures) (record {
       printer =
           subst (λ n. IsSound (record s { rows = s.rows + 1; lines = n; is_ended = c.args.is_last; slots = slots_of c.push_above.new.opened }) t w h c.push_above.new.opened) (sym lines)
           (subst (λ l. IsSound (record s { rows = s.rows + 1; lines = (s.lines + separator_height s.table.config s.rows) + s.table.height s.rows; is_ended = c.args.is_last; slots = slots_of l }) t w h l) (sym left)
@@ -97,7 +97,7 @@ returns-clause-sound g c =
 
 pub returns-clause-appends : goal.returns-clause-appends
 returns-clause-appends g c = λ texts gives.
-    let s : Printing = now_of g.T.Drawn.table c.args.frame.now.hint c.args.self.now in
+    let s : Printing = now_of g.T.TableMarker.table c.args.frame.now.hint c.args.self.now in
     let w = c.args.frame.now.sheet.width in
     let h = c.args.frame.now.sheet.height in
     let cells = c.args.self.now.cells in
@@ -109,7 +109,7 @@ returns-clause-appends g c = λ texts gives.
 
 pub returns-clause-after : goal.returns-clause-after
 returns-clause-after g c = λ texts gives.
-    let s : Printing = now_of g.T.Drawn.table c.args.frame.now.hint c.args.self.now in
+    let s : Printing = now_of g.T.TableMarker.table c.args.frame.now.hint c.args.self.now in
     let w = c.args.frame.now.sheet.width in
     let h = c.args.frame.now.sheet.height in
     let cells = c.args.self.now.cells in
@@ -118,13 +118,13 @@ returns-clause-after g c = λ texts gives.
     let one : s.table.height s.rows ≡ 1 = c.requires.single.height in
     let left = c.in_ok-next.ensures.drawn ∙ single-left s w h cells refl sound c.args.is_last fits.hint fits.spans c.requires.single.alone one texts in
     let lines = ap₂ (λ (a b : ℕ). a + b) c.in_ok-next.ensures.index c.height_of-height.ensures in
-    ap (now_of g.T.Drawn.table c.args.frame.now.hint) c.end_row.ensures
+    ap (now_of g.T.TableMarker.table c.args.frame.now.hint) c.end_row.ensures
     ∙ ap₂ (λ (l : List (Option Placed)) (n : ℕ). record s { rows = s.rows + 1; lines = n; is_ended = c.args.is_last; slots = slots_of l }) left lines
     ∙ after-is s w h cells refl sound c.args.is_last fits.hint fits.spans texts
 
 pub overflow_add-below : goal.overflow_add-below
 overflow_add-below g c =
-    let s : Printing = now_of g.T.Drawn.table c.args.frame.now.hint c.args.self.now in
+    let s : Printing = now_of g.T.TableMarker.table c.args.frame.now.hint c.args.self.now in
     let fits = c.requires.fits.2 in
     let both = length_of_row s.table.config s.table.height s.rows in
     omega (arith, fits.lines, both, c.in_ok-next.ensures.index, c.height_of-height.ensures)

@@ -16,16 +16,16 @@ loop-row-init g c =
     rw (c.into_iter-row-iterator.ensures.into_iter_gives, c.with_room-pushed.ensures) (
       c.requires.can,
       c.requires.ends,
-      λ items left. none-streamed (Unit {0}) (λ x. result_map_both (λ row. map g.S.AsStr.text row.items) (λ error. error) x) g.I.Iterator.next_gives c.args.buf.now c.args.rows (streamed g.S.AsStr.text g.T.Drawn.table c.args.frame.now.hint c.args.self) items left,
+      λ items left. none-streamed (Unit {0}) (λ x. result_map_both (λ row. map g.S.AsStr.text row.items) (λ error. error) x) g.I.Iterator.next_gives c.args.buf.now c.args.rows (streamed g.S.AsStr.text g.T.TableMarker.table c.args.frame.now.hint c.args.self) items left,
       (record { printer = c.requires.sound.0.printer; kept = tt }, c.requires.sound.1),
-      no-items c.args.buf.now (streamed g.S.AsStr.text g.T.Drawn.table c.args.frame.now.hint c.args.self),
+      no-items c.args.buf.now (streamed g.S.AsStr.text g.T.TableMarker.table c.args.frame.now.hint c.args.self),
       untouched g.I.Iterator.next_gives c.args.self.held c.args.rows c.args.buf.now,
     )
 
 pub returns-in-Err-clause-prints : goal.returns-in-Err-clause-prints
 returns-in-Err-clause-prints g c =
-    let now : Streaming = streamed g.S.AsStr.text g.T.Drawn.table c.args.frame.now.hint c.loop-row.pushed in
-    let began : Streaming = streamed g.S.AsStr.text g.T.Drawn.table c.args.frame.now.hint c.args.self in
+    let now : Streaming = streamed g.S.AsStr.text g.T.TableMarker.table c.args.frame.now.hint c.loop-row.pushed in
+    let began : Streaming = streamed g.S.AsStr.text g.T.TableMarker.table c.args.frame.now.hint c.args.self in
     let view : Result _ g.row.E.Denot → Result (List Text) g.row.E.Denot = λ x. result_map_both (λ row. map g.S.AsStr.text row.items) (λ error. error) x in
     λ items left.
     streamed-fails (Unit {0}) view g.I.Iterator.next_gives now began items c.in-Err.error
@@ -33,16 +33,16 @@ returns-in-Err-clause-prints g c =
 
 pub returns-in-Err-clause-runs : goal.returns-in-Err-clause-runs
 returns-in-Err-clause-runs g c =
-    let now : Streaming = streamed g.S.AsStr.text g.T.Drawn.table c.args.frame.now.hint c.loop-row.pushed in
-    let began : Streaming = streamed g.S.AsStr.text g.T.Drawn.table c.args.frame.now.hint c.args.self in
+    let now : Streaming = streamed g.S.AsStr.text g.T.TableMarker.table c.args.frame.now.hint c.loop-row.pushed in
+    let began : Streaming = streamed g.S.AsStr.text g.T.TableMarker.table c.args.frame.now.hint c.args.self in
     let view : Result _ g.row.E.Denot → Result (List Text) g.row.E.Denot = λ x. result_map_both (λ row. map g.S.AsStr.text row.items) (λ error. error) x in
     rw (← c.into_iter-row-iterator.ensures.into_iter_gives) (results-fail view g.I.Iterator.next_gives c.loop-row.yielded now began c.in-Err.error c.in-Some.row c.loop-row.yielded_by c.loop-row.invariant.4 c.in-Some.ensures.steps (ap view c.in-Err.is))
 
 pub returns-in_err-push-clause-prints : goal.returns-in_err-push-clause-prints
 returns-in_err-push-clause-prints g c =
     let p = err_from_is_err_and c.from_residual.result c.from_residual.ensures.1 in
-    let now : Streaming = streamed g.S.AsStr.text g.T.Drawn.table c.args.frame.now.hint c.loop-row.pushed in
-    let began : Streaming = streamed g.S.AsStr.text g.T.Drawn.table c.args.frame.now.hint c.args.self in
+    let now : Streaming = streamed g.S.AsStr.text g.T.TableMarker.table c.args.frame.now.hint c.loop-row.pushed in
+    let began : Streaming = streamed g.S.AsStr.text g.T.TableMarker.table c.args.frame.now.hint c.args.self in
     let view : Result _ g.row.E.Denot → Result (List Text) g.row.E.Denot = λ x. result_map_both (λ row. map g.S.AsStr.text row.items) (λ error. error) x in
     let cells : List Text = map g.S.AsStr.text c.in-Ok.cells.items in
     rw (p.1, p.2) (λ items left.
@@ -52,8 +52,8 @@ returns-in_err-push-clause-prints g c =
 pub returns-in_err-push-clause-runs : goal.returns-in_err-push-clause-runs
 returns-in_err-push-clause-runs g c =
     let p = err_from_is_err_and c.from_residual.result c.from_residual.ensures.1 in
-    let now : Streaming = streamed g.S.AsStr.text g.T.Drawn.table c.args.frame.now.hint c.loop-row.pushed in
-    let began : Streaming = streamed g.S.AsStr.text g.T.Drawn.table c.args.frame.now.hint c.args.self in
+    let now : Streaming = streamed g.S.AsStr.text g.T.TableMarker.table c.args.frame.now.hint c.loop-row.pushed in
+    let began : Streaming = streamed g.S.AsStr.text g.T.TableMarker.table c.args.frame.now.hint c.args.self in
     let view : Result _ g.row.E.Denot → Result (List Text) g.row.E.Denot = λ x. result_map_both (λ row. map g.S.AsStr.text row.items) (λ error. error) x in
     let cells : List Text = map g.S.AsStr.text c.in-Ok.cells.items in
     rw (p.1, p.2, ← c.into_iter-row-iterator.ensures.into_iter_gives) (results-stop view g.I.Iterator.next_gives c.loop-row.yielded now began c.in_err-push.field-0.0 c.in-Some.row cells c.loop-row.yielded_by c.loop-row.invariant.4 c.in-Some.ensures.steps (ap view c.in-Ok.is) c.in_err-push.ensures.prints)
@@ -61,9 +61,9 @@ returns-in_err-push-clause-runs g c =
 pub loop-row-preserved : goal.loop-row-preserved
 loop-row-preserved g c =
     let goes = c.in-Some.ensures.goes.on c.loop-row.invariant.1 in
-    let now : Streaming = streamed g.S.AsStr.text g.T.Drawn.table c.args.frame.now.hint c.loop-row.pushed in
-    let next : Streaming = streamed g.S.AsStr.text g.T.Drawn.table c.args.frame.now.hint c.push.new.self in
-    let began : Streaming = streamed g.S.AsStr.text g.T.Drawn.table c.args.frame.now.hint c.args.self in
+    let now : Streaming = streamed g.S.AsStr.text g.T.TableMarker.table c.args.frame.now.hint c.loop-row.pushed in
+    let next : Streaming = streamed g.S.AsStr.text g.T.TableMarker.table c.args.frame.now.hint c.push.new.self in
+    let began : Streaming = streamed g.S.AsStr.text g.T.TableMarker.table c.args.frame.now.hint c.args.self in
     let view : Result _ g.row.E.Denot → Result (List Text) g.row.E.Denot = λ x. result_map_both (λ row. map g.S.AsStr.text row.items) (λ error. error) x in
     let cells : List Text = map g.S.AsStr.text c.in-Ok.cells.items in (
       goes.0,
@@ -79,8 +79,8 @@ loop-row-preserved g c =
 pub returns-in_err-finish-clause-prints : goal.returns-in_err-finish-clause-prints
 returns-in_err-finish-clause-prints g c =
     let p = err_from_is_err_and c.from_residual-in_err-finish.result c.from_residual-in_err-finish.ensures.1 in
-    let now : Streaming = streamed g.S.AsStr.text g.T.Drawn.table c.args.frame.now.hint c.loop-row.pushed in
-    let began : Streaming = streamed g.S.AsStr.text g.T.Drawn.table c.args.frame.now.hint c.args.self in
+    let now : Streaming = streamed g.S.AsStr.text g.T.TableMarker.table c.args.frame.now.hint c.loop-row.pushed in
+    let began : Streaming = streamed g.S.AsStr.text g.T.TableMarker.table c.args.frame.now.hint c.args.self in
     let view : Result _ g.row.E.Denot → Result (List Text) g.row.E.Denot = λ x. result_map_both (λ row. map g.S.AsStr.text row.items) (λ error. error) x in
     rw (p.1, p.2) (λ items left.
     streamed-ends (Unit {0}) view g.I.Iterator.next_gives c.finish.new.buf now began items (Err (RowsFault.Stream c.in_err-finish.field-0.0)) (c.loop-row.invariant.2 items left) c.in-None.ensures.steps c.in_err-finish.ensures.prints)
@@ -88,22 +88,22 @@ returns-in_err-finish-clause-prints g c =
 pub returns-in_err-finish-clause-runs : goal.returns-in_err-finish-clause-runs
 returns-in_err-finish-clause-runs g c =
     let p = err_from_is_err_and c.from_residual-in_err-finish.result c.from_residual-in_err-finish.ensures.1 in
-    let now : Streaming = streamed g.S.AsStr.text g.T.Drawn.table c.args.frame.now.hint c.loop-row.pushed in
-    let began : Streaming = streamed g.S.AsStr.text g.T.Drawn.table c.args.frame.now.hint c.args.self in
+    let now : Streaming = streamed g.S.AsStr.text g.T.TableMarker.table c.args.frame.now.hint c.loop-row.pushed in
+    let began : Streaming = streamed g.S.AsStr.text g.T.TableMarker.table c.args.frame.now.hint c.args.self in
     let view : Result _ g.row.E.Denot → Result (List Text) g.row.E.Denot = λ x. result_map_both (λ row. map g.S.AsStr.text row.items) (λ error. error) x in
     rw (p.1, p.2, ← c.into_iter-row-iterator.ensures.into_iter_gives) (results-end-err view g.I.Iterator.next_gives c.loop-row.yielded now began c.in_err-finish.field-0.0 c.loop-row.yielded_by c.loop-row.invariant.4 c.in-None.ensures.steps c.in_err-finish.ensures.prints)
 
 pub returns-clause-prints : goal.returns-clause-prints
 returns-clause-prints g c =
-    let now : Streaming = streamed g.S.AsStr.text g.T.Drawn.table c.args.frame.now.hint c.loop-row.pushed in
-    let began : Streaming = streamed g.S.AsStr.text g.T.Drawn.table c.args.frame.now.hint c.args.self in
+    let now : Streaming = streamed g.S.AsStr.text g.T.TableMarker.table c.args.frame.now.hint c.loop-row.pushed in
+    let began : Streaming = streamed g.S.AsStr.text g.T.TableMarker.table c.args.frame.now.hint c.args.self in
     let view : Result _ g.row.E.Denot → Result (List Text) g.row.E.Denot = λ x. result_map_both (λ row. map g.S.AsStr.text row.items) (λ error. error) x in
     λ items left. streamed-ends (Unit {0}) view g.I.Iterator.next_gives c.finish.new.buf now began items (Ok tt) (c.loop-row.invariant.2 items left) c.in-None.ensures.steps (refl, c.in_ok-finish.ensures.prints)
 
 pub returns-clause-runs : goal.returns-clause-runs
 returns-clause-runs g c =
-    let now : Streaming = streamed g.S.AsStr.text g.T.Drawn.table c.args.frame.now.hint c.loop-row.pushed in
-    let began : Streaming = streamed g.S.AsStr.text g.T.Drawn.table c.args.frame.now.hint c.args.self in
+    let now : Streaming = streamed g.S.AsStr.text g.T.TableMarker.table c.args.frame.now.hint c.loop-row.pushed in
+    let began : Streaming = streamed g.S.AsStr.text g.T.TableMarker.table c.args.frame.now.hint c.args.self in
     let view : Result _ g.row.E.Denot → Result (List Text) g.row.E.Denot = λ x. result_map_both (λ row. map g.S.AsStr.text row.items) (λ error. error) x in
     rw (← c.into_iter-row-iterator.ensures.into_iter_gives) (results-end-ok view g.I.Iterator.next_gives c.loop-row.yielded now began c.loop-row.yielded_by c.loop-row.invariant.4 c.in-None.ensures.steps c.in_ok-finish.ensures.prints)
 

@@ -1,6 +1,0 @@
-use Rattle.std.proofs.Common.{◌≡◌, ◌-◌}
-use Rattle.pg_picture.specs.Inside.Rectangles.{rows_height}
-use Rattle.pg_peekable.proofs.drawing.Drawing.lines_above.Given as goal
-
-abbrev pub invariant-loop-above : goal.invariant-loop-above
-invariant-loop-above g l = l.lines ≡ rows_height g.T.Drawn.table l.fn.known.rectangle.corner.row (l.above - l.fn.known.rectangle.corner.row)
