@@ -1,5 +1,5 @@
 //! The program `ruled`: it shows rows of separated values, JSON or a database of SQLite, from a file or from
-//! standard input, as a table. `docs/RULED.md` is its manual.
+//! standard input, as a table. `docs/use/RULED.md` is its manual.
 #![tactic(auto)]
 
 mod arguments;
