@@ -51,7 +51,8 @@ impl<A: Allocator + Copy> EntityColors<A> {
 }
 
 impl<A: Allocator> EntityColors<A> {
-    /// Gives the cells of an entity this colour. One of two empty texts takes theirs away.
+    /// Gives the cells of an entity this colour. A colour of two empty texts is one, too: nothing is
+    /// written round their texts, and [`Colors::get_color`] returns it.
     ///
     /// An error where memory is refused, or where 2^64 - 1 colours were told since the last one for all
     /// cells; then nothing changes. A colour for all cells takes no memory, nor does one for an entity

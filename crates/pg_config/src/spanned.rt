@@ -1,6 +1,6 @@
 //! What a table is told.
 
-ghost use Rattle.std.specs.Prelude.{◌≡◌, None};
+ghost use Rattle.std.specs.Prelude.{◌≡◌, [], None};
 ghost use Rattle.pg_config.specs.Config.{filled, default_config};
 
 use crate::offsets::Offsets;
@@ -130,7 +130,8 @@ impl<A: Allocator + Copy> SpannedConfig<A> {
     /// Takes no memory.
     #[tactic(auto, unfolding(crate::specs::Config::default_config))]
     pub fn new(alloc: A) -> SpannedConfig<A>
-        ensures { result ≡ default_config }
+        ensures told { result ≡ default_config }
+        ensures spans { result.spans ≡ [] }
     {
         SpannedConfig {
             borders: Borders::empty(),
