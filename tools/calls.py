@@ -57,11 +57,6 @@ class Lines:
             said.insert(0, self.lines[at].strip()[len("///") :].strip())
         return first_sentence(said)
 
-    def head(self):
-        """The first sentence of the file's own comment."""
-        said = [line[len("//!") :].strip() for line in self.lines if line.startswith("//!")]
-        return first_sentence(said)
-
 
 CLAUSE = re.compile(r"(requires|ensures)(\*?)(?: (\w+))? \{")
 GHOST = re.compile(r"ghost (\w+)(: \{|: | = \{)")
