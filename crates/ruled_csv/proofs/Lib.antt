@@ -1,5 +1,6 @@
 mod Marks
-mod Readers
+pub mod Readers
 mod Scans
+pub mod SoundRows
 mod TextFaults
 mod TextRows

@@ -1,6 +1,6 @@
 -- A byte order mark at the front of bytes.
 use Rattle.std.proofs.Common.{◌≡◌, ◌∙◌, ◌∷◌, [], ◌++◌, ◌&&◌, inl, inr, ℕ, List, Bool, Some, None, nat_eq, take, drop, true, false, refl, sym, ap}
-use Rattle.std.specs.Prelude.{◌==◌, fold}
+use Rattle.std.specs.Prelude.{◌==◌, ◌⊎◌, fold}
 use Rattle.std.specs.Cmp.Lexicographic.{pointwise}
 use Rattle.std.proofs.lemmas.Bool.{and_parts, cases_Bool, eqb-true, false≢true}
 use Rattle.csv.specs.Reading.{is_bom, strip_bom}
@@ -91,19 +91,26 @@ strip-more (a ∷ b ∷ c ∷ text) byte e = elim (cases_Bool (is_bom a b c)) [
   | inr is-false ↦ rw is-false refl
 ]
 
--- among the first two bytes of a mark no row ends, and nothing is wrong
-abbrev Begins : ℕ → Type 0
-Begins delimiter = ((scan_of delimiter (0xEF ∷ 0xBB ∷ [])).rows ≡ []) × ((scan_of delimiter (0xEF ∷ [])).fault ≡ None) × ((scan_of delimiter (0xEF ∷ 0xBB ∷ [])).fault ≡ None)
+-- in a text no row ends, and nothing is wrong
+abbrev pub IsBare : ℕ → List ℕ → Type 0
+IsBare delimiter text = ((scan_of delimiter text).rows ≡ []) × ((scan_of delimiter text).fault ≡ None)
 
-pub mark-begins : (delimiter : ℕ) → Begins delimiter
+-- among the first two bytes of a mark none does
+begins-one : (delimiter : ℕ) → IsBare delimiter (0xEF ∷ [])
+begins-one delimiter = elim (cases_Bool (0xEF == delimiter)) [
+  | inl is-true ↦ rw is-true (refl, refl)
+  | inr is-false ↦ rw is-false (refl, refl)
+]
+
+pub mark-begins : (delimiter : ℕ) → IsBare delimiter (0xEF ∷ 0xBB ∷ [])
 mark-begins delimiter = elim (cases_Bool (0xEF == delimiter)) [
   | inl is-true ↦ elim (cases_Bool (0xBB == delimiter)) [
-    | inl both ↦ rw (is-true, both) (refl, refl, refl)
-    | inr is-false ↦ rw (is-true, is-false) (refl, refl, refl)
+    | inl both ↦ rw (is-true, both) (refl, refl)
+    | inr is-false ↦ rw (is-true, is-false) (refl, refl)
   ]
   | inr is-false ↦ elim (cases_Bool (0xBB == delimiter)) [
-    | inl is-true ↦ rw (is-false, is-true) (refl, refl, refl)
-    | inr neither ↦ rw (is-false, neither) (refl, refl, refl)
+    | inl is-true ↦ rw (is-false, is-true) (refl, refl)
+    | inr neither ↦ rw (is-false, neither) (refl, refl)
   ]
 ]
 
@@ -113,27 +120,36 @@ bom-begins a b c e =
     let front = and_parts (a == 0xEF) (b == 0xBB) parts.0 in
     (eqb-true a 0xEF front.0, eqb-true b 0xBB front.1)
 
-no-fault : {fault : RowsFault} → ¬ (None ≡ Some fault)
-no-fault e = let f = e in cc
-
--- a fault of bytes is one of all that stand in front of others
-pub fault-behind-mark : (delimiter : ℕ) (bytes behind : List ℕ) (fault : RowsFault) → (scan_of delimiter (strip_bom bytes)).fault ≡ Some fault → (scan_of delimiter (strip_bom (bytes ++ behind))).fault ≡ Some fault
+-- bytes in front of others lose a mark as all do, unless it ends behind them
+pub mark-parts : (delimiter : ℕ) (bytes behind : List ℕ) → (strip_bom (bytes ++ behind) ≡ strip_bom bytes ++ behind) ⊎ IsBare delimiter (strip_bom bytes)
 unfolding strip_bom
-fault-behind-mark delimiter [] behind fault found = absurd (no-fault found)
-fault-behind-mark delimiter (a ∷ []) [] fault found = found
-fault-behind-mark delimiter (a ∷ []) (b ∷ []) fault found = fault-stays delimiter (scan_of delimiter (a ∷ [])) (b ∷ []) fault found
-fault-behind-mark delimiter (a ∷ []) (b ∷ c ∷ rest) fault found = elim (cases_Bool (is_bom a b c)) [
-  | inl is-true ↦ absurd (no-fault (sym (mark-begins delimiter).1 ∙ (rw (bom-begins a b c is-true).0 at found)))
-  | inr is-false ↦ rw is-false (fault-stays delimiter (scan_of delimiter (a ∷ [])) (b ∷ c ∷ rest) fault found)
+mark-parts delimiter [] behind = inr (refl, refl)
+mark-parts delimiter (a ∷ []) [] = inl refl
+mark-parts delimiter (a ∷ []) (b ∷ []) = inl refl
+mark-parts delimiter (a ∷ []) (b ∷ c ∷ rest) = elim (cases_Bool (is_bom a b c)) [
+  | inl is-true ↦ inr (rw (bom-begins a b c is-true).0 (begins-one delimiter))
+  | inr is-false ↦ inl (rw is-false refl)
 ]
-fault-behind-mark delimiter (a ∷ b ∷ []) [] fault found = found
-fault-behind-mark delimiter (a ∷ b ∷ []) (c ∷ rest) fault found = elim (cases_Bool (is_bom a b c)) [
-  | inl is-true ↦ absurd (no-fault (sym (mark-begins delimiter).2 ∙ (rw ((bom-begins a b c is-true).0, (bom-begins a b c is-true).1) at found)))
-  | inr is-false ↦ rw is-false (fault-stays delimiter (scan_of delimiter (a ∷ b ∷ [])) (c ∷ rest) fault found)
+mark-parts delimiter (a ∷ b ∷ []) [] = inl refl
+mark-parts delimiter (a ∷ b ∷ []) (c ∷ rest) = elim (cases_Bool (is_bom a b c)) [
+  | inl is-true ↦ inr (rw ((bom-begins a b c is-true).0, (bom-begins a b c is-true).1) (mark-begins delimiter))
+  | inr is-false ↦ inl (rw is-false refl)
 ]
-fault-behind-mark delimiter (a ∷ b ∷ c ∷ rest) behind fault found = elim (cases_Bool (is_bom a b c)) [
-  | inl is-true ↦ rw is-true (ap (λ (s : Scan). s.fault) (scan-append delimiter scan_start rest behind) ∙ fault-stays delimiter (scan_of delimiter rest) behind fault (rw is-true at found))
-  | inr is-false ↦
-      let text = a ∷ b ∷ c ∷ rest in
-      rw is-false (ap (λ (s : Scan). s.fault) (scan-append delimiter scan_start text behind) ∙ fault-stays delimiter (scan_of delimiter text) behind fault (rw is-false at found))
+mark-parts delimiter (a ∷ b ∷ c ∷ rest) behind = elim (cases_Bool (is_bom a b c)) [
+  | inl is-true ↦ inl (rw is-true refl)
+  | inr is-false ↦ inl (rw is-false refl)
 ]
+
+-- a fault of bytes isn't in the first ones of a mark
+pub marked-fault : (delimiter : ℕ) (bytes behind : List ℕ) (fault : RowsFault) → (scan_of delimiter (strip_bom bytes)).fault ≡ Some fault → strip_bom (bytes ++ behind) ≡ strip_bom bytes ++ behind
+marked-fault delimiter bytes behind fault found = elim (mark-parts delimiter bytes behind) [
+  | inl parts ↦ parts
+  | inr bare ↦ let none = sym bare.1 ∙ found in cc
+]
+
+-- and so it is one of all that are in front of others
+pub fault-behind-mark : (delimiter : ℕ) (bytes behind : List ℕ) (fault : RowsFault) → (scan_of delimiter (strip_bom bytes)).fault ≡ Some fault → (scan_of delimiter (strip_bom (bytes ++ behind))).fault ≡ Some fault
+fault-behind-mark delimiter bytes behind fault found =
+    ap (λ (text : List ℕ). (scan_of delimiter text).fault) (marked-fault delimiter bytes behind fault found)
+    ∙ ap (λ (s : Scan). s.fault) (scan-append delimiter scan_start (strip_bom bytes) behind)
+    ∙ fault-stays delimiter (scan_of delimiter (strip_bom bytes)) behind fault found

@@ -1,13 +1,13 @@
 -- What a reader has of the bytes that it has read.
-use Rattle.std.proofs.Common.{◌≡◌, ◌≢◌, ◌∙◌, ◌<◌, ◌≤◌, ℕ, zero, suc, ◌+◌, false, true, List, [], ◌∷◌, ◌++◌, length, take, drop, get_or, Option, Some, None, Result, Ok, Err, refl, sym, ap, subst, append-nil, append_assoc, arith}
-use Rattle.std.specs.Prelude.{fold}
+use Rattle.std.proofs.Common.{◌≡◌, ◌≢◌, ◌∙◌, ◌<◌, ◌≤◌, ℕ, zero, suc, ◌+◌, false, true, List, [], ◌∷◌, ◌++◌, length, take, drop, get_or, Option, Some, None, Result, Ok, Err, inl, inr, refl, sym, ap, subst, append-nil, append_assoc, arith}
+use Rattle.std.specs.Prelude.{fold, map, OnErr}
 use Rattle.std.specs.Result.{IsErrAnd}
 use Rattle.std.proofs.lemmas.List.{take-append-drop, take_more}
 use Rattle.std.proofs.lemmas.List.Sums.{fold-append}
 use Rattle.csv.specs.Reading.{strip_bom}
-use Rattle.ruled_csv.specs.Faults.{Tells, but_line, rows_fault}
+use Rattle.ruled_csv.specs.Faults.{Tells, but_line, rows_fault, sound_rows, sound_rows_in}
 use Rattle.ruled_csv.specs.Inside.{Holds, Scan, empty_hand, ends_mark, fault_below, front_after, hand_of, last_row, open_fault, row_ended, scan_after, scan_of, scan_start, with_row}
-use Rattle.ruled_csv.specs.Reading.{AppendsRest, Foretells, HasRead}
+use Rattle.ruled_csv.specs.Reading.{AppendsRest, AppendsSome, Foretells, HasRead, OnFault}
 use Rattle.ruled_csv.specs.Rows.{ended_rows, rows_of}
 use Rattle.ruled_csv.specs.declared.fault.RowsFault.{RowsFault}
 use Rattle.ruled_csv.specs.declared.fault.RowsFault.TheVariants.{Memory}
@@ -15,8 +15,9 @@ use Rattle.ruled_csv.specs.declared.reader.Front.{Front}
 use Rattle.ruled_csv.specs.declared.reader.Front.TheVariants as front
 use Rattle.ruled_csv.specs.declared.reader.RowReader.{RowReader}
 use Rattle.ruled_csv.specs.declared.scanner.Scanner.{Scanner}
-use Rattle.ruled_csv.proofs.Marks.{fault-behind-mark, mark-begins, mark-ends, strip-more}
+use Rattle.ruled_csv.proofs.Marks.{fault-behind-mark, mark-begins, mark-ends, mark-parts, marked-fault, strip-more}
 use Rattle.ruled_csv.proofs.Scans.{ended-scanned, records-scanned, scan-append}
+use Rattle.ruled_csv.proofs.SoundRows.{ended-first, stops-at, stops-last}
 use Rattle.ruled_csv.proofs.TextFaults.{fault-found, fault-last}
 
 -- ---- bytes
@@ -54,6 +55,14 @@ appends-more above between all old mid new (first, mid-is, between-is) (second, 
   new-is ∙ ap (λ (rows : List (List (List ℕ))). rows ++ second) mid-is ∙ append_assoc old first second,
   sym (append_assoc above first second) ∙ ap (λ (rows : List (List (List ℕ))). rows ++ second) between-is ∙ all-is,
 )
+
+-- rows that stay, below which all is what was there already
+pub appends-to : (above between all old mid new : List (List (List ℕ))) → AppendsRest above between old mid → all ≡ between → new ≡ mid → AppendsRest above all old new
+appends-to above between all old mid new (rows, mid-is, between-is) same stay = (rows, stay ∙ mid-is, between-is ∙ sym same)
+
+pub appends-first : (above between all old mid new more : List (List (List ℕ))) → AppendsRest above between old mid → all ≡ between ++ more → new ≡ mid → AppendsSome above all old new
+appends-first above between all old mid new more (rows, mid-is, between-is) first stay =
+    (rows, more, stay ∙ mid-is, ap (λ (rs : List (List (List ℕ))). rs ++ more) between-is ∙ sym first)
 
 -- ---- a byte more
 
@@ -108,6 +117,29 @@ module _ (delimiter : ℕ) (before : List ℕ) (byte : ℕ) (old : RowReader) (r
   fault-scanned behind fault found =
       fault-found delimiter (strip_bom ((before ++ byte ∷ []) ++ behind)) fault (fault-behind-mark delimiter (before ++ byte ∷ []) behind fault (ap (λ (s : Scan). s.fault) next-is ∙ found))
 
+  -- and the rows above a fault are those that ended in front of the byte
+  pub sound-scanned : (behind : List ℕ) (fault : RowsFault) → (scan_after delimiter (scan_of delimiter (strip_bom before)) byte).fault ≡ Some fault → sound_rows delimiter ((before ++ byte ∷ []) ++ behind) ≡ ended_rows delimiter before
+  unfolding sound_rows
+  sound-scanned behind fault found =
+      let parts = marked-fault delimiter (before ++ byte ∷ []) behind fault (ap (λ (s : Scan). s.fault) next-is ∙ found) in
+      let text = strip-more before byte (sym (ap (λ (f : Front). ends_mark f byte) read.front) ∙ none) in
+      ap (sound_rows_in delimiter) (parts ∙ ap (λ (xs : List ℕ). xs ++ behind) text)
+      ∙ stops-at delimiter (strip_bom before) byte behind read.scan.right fault found
+      ∙ sym (ended-is delimiter before)
+
+-- where a reader has read bytes, the rows that ended in them are the first sound ones of all bytes
+pub ended-sound : (delimiter : ℕ) (before behind : List ℕ) (reader : RowReader) → HasRead delimiter before reader
+    → (more : List (List (List ℕ))) × (sound_rows delimiter (before ++ behind) ≡ ended_rows delimiter before ++ more)
+unfolding sound_rows
+ended-sound delimiter before behind reader read = elim (mark-parts delimiter before behind) [
+  | inl parts ↦
+      let (more, rows) = ended-first delimiter (strip_bom before) behind read.scan.right in
+      (more, ap (sound_rows_in delimiter) parts ∙ rows ∙ ap (λ (rs : List (List (List ℕ))). rs ++ more) (sym (ended-is delimiter before)))
+  | inr bare ↦
+      let all = sound_rows_in delimiter (strip_bom (before ++ behind)) in
+      (all, ap (λ (rs : List (List (List ℕ))). rs ++ all) (sym (ended-is delimiter before ∙ bare.0)))
+]
+
 -- ---- no byte is left
 
 module _ (delimiter : ℕ) (bytes : List ℕ) (reader : RowReader) (read : HasRead delimiter bytes reader) where
@@ -130,6 +162,18 @@ module _ (delimiter : ℕ) (bytes : List ℕ) (reader : RowReader) (read : HasRe
     rw (ended-is delimiter bytes, records-scanned delimiter (strip_bom bytes), ← read.scan.hand, is) refl,
   )
 
+  -- above a fault no row is left
+  pub sound-end : (fault : RowsFault) → rows_fault delimiter bytes ≡ Some fault → sound_rows delimiter bytes ≡ ended_rows delimiter bytes
+  unfolding rows_fault sound_rows
+  sound-end fault wrong = stops-last delimiter (strip_bom bytes) read.scan.right fault wrong ∙ sym (ended-is delimiter bytes)
+
+  pub sound-told : {X R : Type 0} (result : Result X RowsFault) (view : R → List (List ℕ)) (old new : List R) → Tells (rows_fault delimiter bytes) result → OnErr result (new ≡ old)
+      → OnFault result (AppendsRest (ended_rows delimiter bytes) (sound_rows delimiter bytes) (map view old) (map view new))
+  sound-told (Ok x) view old new told kept = tt
+  sound-told (Err fault) view old new told kept = λ other.
+      let ended = ended_rows delimiter bytes in
+      appends-to ended ended (sound_rows delimiter bytes) (map view old) (map view old) (map view new) (appends-none ended (map view old)) (sound-end (but_line fault) (told other)) (ap (map view) kept)
+
 -- ---- what is told
 
 pub told-on : {X : Type 0} (found : RowsFault) (wrong right : Option RowsFault) (result : Result X RowsFault) → (found ≢ Memory → wrong ≡ Some (but_line found)) → ((fault : RowsFault) → wrong ≡ Some fault → right ≡ Some fault)
@@ -145,6 +189,19 @@ foretold-on found right (Err fault) is told = λ other. is (λ e. other (told �
 pub foretold : {X : Type 0} (wrong right : Option RowsFault) (result : Result X RowsFault) → ((fault : RowsFault) → wrong ≡ Some fault → right ≡ Some fault) → Foretells wrong result → Foretells right result
 foretold wrong right (Ok x) on told = tt
 foretold wrong right (Err fault) on told = λ other. on (but_line fault) (told other)
+
+pub on-foretold : {X : Type 0} {P : Type 0} (wrong : Option RowsFault) (result : Result X RowsFault) → ((fault : RowsFault) → wrong ≡ Some fault → P) → Foretells wrong result → OnFault result P
+on-foretold wrong (Ok x) on told = tt
+on-foretold wrong (Err fault) on told = λ other. on (but_line fault) (told other)
+
+pub on-fault : {X : Type 0} {P : Type 0} (found : RowsFault) (result : Result X RowsFault) → (found ≢ Memory → P) → IsErrAnd result (λ fault. fault ≡ found) → OnFault result P
+on-fault found (Ok x) on told = tt
+on-fault found (Err fault) on told = λ other. on (λ e. other (told ∙ e))
+
+-- what holds in any case
+pub on-error : {X E P : Type 0} (result : Result X E) → P → OnErr result P
+on-error (Ok x) holds = tt
+on-error (Err e) holds = holds
 
 -- ---- bytes among others
 
@@ -163,6 +220,11 @@ front-whole before bytes behind i within =
     ap (λ (xs : List ℕ). xs ++ (drop (i + 1) bytes ++ behind)) (sym (front-more before bytes i within))
     ∙ sym (append_assoc (before ++ take (i + 1) bytes) (drop (i + 1) bytes) behind)
     ∙ ap (λ (xs : List ℕ). xs ++ behind) (append_assoc before (take (i + 1) bytes) (drop (i + 1) bytes) ∙ ap (λ (xs : List ℕ). before ++ xs) (take-append-drop (i + 1) bytes))
+
+pub front-parts : (before bytes behind : List ℕ) (i : ℕ) → (before ++ take i bytes) ++ (drop i bytes ++ behind) ≡ (before ++ bytes) ++ behind
+front-parts before bytes behind i =
+    sym (append_assoc (before ++ take i bytes) (drop i bytes) behind)
+    ∙ ap (λ (xs : List ℕ). xs ++ behind) (append_assoc before (take i bytes) (drop i bytes) ∙ ap (λ (xs : List ℕ). before ++ xs) (take-append-drop i bytes))
 
 pub none-ended : (delimiter : ℕ) → ended_rows delimiter [] ≡ []
 unfolding strip_bom

@@ -10,7 +10,7 @@ use Rattle.std.proofs.lemmas.List.Sums.{sum_by-append}
 use Rattle.std.proofs.Math.Seq.{take-append_seam}
 use Rattle.csv.specs.Reading.{records}
 use Rattle.csv.specs.declared.parser.State.{State}
-use Rattle.ruled_csv.specs.Faults.{first_fault, row_fault, text_fault, up_to}
+use Rattle.ruled_csv.specs.Faults.{first_fault, quoted_rows, row_fault, text_fault, up_to}
 use Rattle.ruled_csv.specs.Inside as scan
 use Rattle.ruled_csv.specs.Inside.{Hand, Scan, behind_fault, fault_below, is_bare, is_behind, last_row, lines_after, lines_start, row_ended, scan_after, scan_from, scan_of, scan_start, with_row}
 use Rattle.ruled_csv.specs.Lines.{ends_line, line_behind}
@@ -24,7 +24,7 @@ use Rattle.ruled_csv.proofs.Scans.{ended-scanned, records-scanned, scan-append, 
 -- ---- byte by byte
 
 -- what holds of no text, and of a text with a byte more, holds of each
-by-bytes : (P : List ℕ → Type 0) → P [] → ((text : List ℕ) (byte : ℕ) → P text → P (text ++ byte ∷ [])) → (text : List ℕ) → P text
+pub by-bytes : (P : List ℕ → Type 0) → P [] → ((text : List ℕ) (byte : ℕ) → P text → P (text ++ byte ∷ [])) → (text : List ℕ) → P text
 by-bytes P none more text = go [] text none where
   go : (front text : List ℕ) → P front → P (front ++ text)
   go front [] holds = subst P (sym (append-nil front)) holds
@@ -102,14 +102,14 @@ find-within p a (suc n) k found = elim (cases_Bool (p a)) [
   some-same e = ap (λ (o : Option ℕ). unwrap_or o 0) e
 
 -- the place of the byte behind a text, if this is so
-abbrev place-of : List ℕ → Bool → Option ℕ
+abbrev pub place-of : List ℕ → Bool → Option ℕ
 place-of text here = if here then Some (length text) else None
 
 -- whether the byte behind a text is text behind a quote
 abbrev next-behind : ℕ → List ℕ → ℕ → Option ℕ
 next-behind delimiter text byte = place-of text (is_behind (state_behind delimiter text) (state_behind delimiter (text ++ byte ∷ [])))
 
-first-more : (delimiter : ℕ) (text : List ℕ) (byte : ℕ) → first_behind_quote delimiter (text ++ byte ∷ []) ≡ option_or (first_behind_quote delimiter text) (next-behind delimiter text byte)
+pub first-more : (delimiter : ℕ) (text : List ℕ) (byte : ℕ) → first_behind_quote delimiter (text ++ byte ∷ []) ≡ option_or (first_behind_quote delimiter text) (next-behind delimiter text byte)
 first-more delimiter text byte =
     let all = text ++ byte ∷ [] in
     let n = length text in
@@ -123,10 +123,21 @@ first-more delimiter text byte =
     ∙ find-append (is_behind_quote delimiter all) (range_with_len 0 n) (n ∷ [])
     ∙ rw (before, here, whole) refl
 
+-- which a scan knows by the states in front of the byte and behind it
+pub first-next : (delimiter : ℕ) (text : List ℕ) (byte : ℕ) → first_behind_quote delimiter text ≡ None
+    → first_behind_quote delimiter (text ++ byte ∷ []) ≡ place-of text (is_behind (scan_of delimiter text).hand.state (scan_after delimiter (scan_of delimiter text) byte).hand.state)
+first-next delimiter text byte none =
+    let all = text ++ byte ∷ [] in
+    let s = scan_of delimiter text in
+    first-more delimiter text byte
+    ∙ ap (λ (o : Option ℕ). option_or o (next-behind delimiter text byte)) none
+    ∙ ap (λ (state : State). place-of text (is_behind state (state_behind delimiter all))) (sym (state-is delimiter text))
+    ∙ ap (λ (state : State). place-of text (is_behind s.hand.state state)) (sym (state-is delimiter all) ∙ ap (λ (t : Scan). t.hand.state) (scan-more delimiter text byte))
+
 -- ---- rows
 
 -- what is wrong with the first bad one of these rows
-abbrev fault-of : List (List (List ℕ)) → Option RowsFault
+abbrev pub fault-of : List (List (List ℕ)) → Option RowsFault
 fault-of rows = first_fault (columns_of rows) 0 rows
 
 or-assoc : {X : Type 0} (a b c : Option X) → option_or (option_or a b) c ≡ option_or a (option_or b c)
@@ -182,15 +193,11 @@ module _ (delimiter : ℕ) (text : List ℕ) (byte : ℕ) (holds : (scan_of deli
       let s = scan_of delimiter text in
       let row = row_ended delimiter s.hand byte in
       let after = (scan_after delimiter s byte).hand.state in
-      let next = scan-more delimiter text byte in
       let before : s.fault ≡ fault-of s.rows = (rw none at holds) ∙ or-none (fault-of s.rows) in
-      let behind = ap (λ (state : State). place-of text (is_behind state (state_behind delimiter all))) (sym (state-is delimiter text))
-      ∙ ap (λ (state : State). place-of text (is_behind s.hand.state state)) (sym (state-is delimiter all) ∙ ap (λ (t : Scan). t.hand.state) next) in
-      let place = first-more delimiter text byte ∙ ap (λ (o : Option ℕ). option_or o (next-behind delimiter text byte)) none ∙ behind in
-      ap (λ (t : Scan). t.fault) next
+      ap (λ (t : Scan). t.fault) (scan-more delimiter text byte)
       ∙ ap (λ (f : Option RowsFault). option_or f (option_or (behind_fault delimiter s.hand byte) (fault_below s.rows row))) before
       ∙ decide (is_behind s.hand.state after)
-      ∙ ap (found-at delimiter all) (sym place)
+      ∙ ap (found-at delimiter all) (sym (first-next delimiter text byte none))
 
 fault-scanned : (delimiter : ℕ) (text : List ℕ) → (scan_of delimiter text).fault ≡ found-at delimiter text (first_behind_quote delimiter text)
 fault-scanned delimiter = by-bytes (λ text. (scan_of delimiter text).fault ≡ found-at delimiter text (first_behind_quote delimiter text)) refl more where
@@ -250,11 +257,15 @@ opened-is delimiter = by-bytes (Opened delimiter) (λ none. absurd (true≢false
 
 -- ---- the faults of bytes
 
+pub quoted-by : (delimiter : ℕ) (text : List ℕ) (place : Option ℕ) (quote : Option RowsFault) → first_behind_quote delimiter text ≡ place → quote_fault delimiter text ≡ quote
+    → quoted_rows delimiter text ≡ (if is_none quote then records (config_of delimiter) text else ended_in delimiter (up_to place text))
+quoted-by delimiter text place quote at is = rw (is, at) refl
+
 text-fault-by : (delimiter : ℕ) (text : List ℕ) (place : Option ℕ) (quote : Option RowsFault) → first_behind_quote delimiter text ≡ place → quote_fault delimiter text ≡ quote
     → text_fault delimiter text ≡ option_or (fault-of (if is_none quote then records (config_of delimiter) text else ended_in delimiter (up_to place text))) quote
-text-fault-by delimiter text place quote at is = rw (is, at) refl
+text-fault-by delimiter text place quote at is = ap (λ (rows : List (List (List ℕ))). option_or (fault-of rows) (quote_fault delimiter text)) (quoted-by delimiter text place quote at is) ∙ ap (option_or _) is
 
-open-is : (delimiter : ℕ) (text : List ℕ) → open_fault delimiter text ≡ scan.open_fault (scan_of delimiter text).hand
+pub open-is : (delimiter : ℕ) (text : List ℕ) → open_fault delimiter text ≡ scan.open_fault (scan_of delimiter text).hand
 open-is delimiter text =
     let state = state-is delimiter text in
     elim (cases_Bool (is_quoted (state_behind delimiter text))) [
@@ -262,32 +273,35 @@ open-is delimiter text =
       | inr none ↦ rw (state, none) refl
     ]
 
--- with no fault so far, what is wrong in the end is wrong with the row at hand
+-- with no fault so far, no text is behind a quote, and no row is bad
+pub clean : (delimiter : ℕ) (text : List ℕ) → (scan_of delimiter text).fault ≡ None → (first_behind_quote delimiter text ≡ None) × (fault-of (scan_of delimiter text).rows ≡ None)
+clean delimiter text right = go (first_behind_quote delimiter text) refl where
+  never : (before : Option RowsFault) (fault : RowsFault) → ¬ (option_or before (Some fault) ≡ None)
+  never None fault e = let f = e in cc
+  never (Some x) fault e = let f = e in cc
+
+  go : (place : Option ℕ) → first_behind_quote delimiter text ≡ place → (first_behind_quote delimiter text ≡ None) × (fault-of (scan_of delimiter text).rows ≡ None)
+  go None none = (none, sym (or-none (fault-of (scan_of delimiter text).rows)) ∙ sym (rw none at (fault-scanned delimiter text)) ∙ right)
+  go (Some n) is = absurd (never (fault-of (scan_of delimiter (take n text)).rows) _ (sym (rw is at (fault-scanned delimiter text)) ∙ right))
+
+-- and what is wrong in the end is wrong with the row at hand
 pub fault-last : (delimiter : ℕ) (text : List ℕ) → (scan_of delimiter text).fault ≡ None
     → text_fault delimiter text ≡ option_or (scan.open_fault (scan_of delimiter text).hand) (fault_below (scan_of delimiter text).rows (last_row (scan_of delimiter text).hand))
-fault-last delimiter text right = go (first_behind_quote delimiter text) refl where
-  last : first_behind_quote delimiter text ≡ None → fault-of (scan_of delimiter text).rows ≡ None → (quote : Option RowsFault) → quote_fault delimiter text ≡ quote
-      → text_fault delimiter text ≡ option_or quote (fault_below (scan_of delimiter text).rows (last_row (scan_of delimiter text).hand))
-  last none clean None is =
-      text-fault-by delimiter text None None none is
-      ∙ or-none _
-      ∙ ap fault-of (records-scanned delimiter text)
-      ∙ fault-with (scan_of delimiter text).rows (last_row (scan_of delimiter text).hand)
-      ∙ rw clean refl
-  last none clean (Some fault) is =
-      text-fault-by delimiter text None (Some fault) none is
-      ∙ ap (λ (rows : List (List (List ℕ))). option_or (fault-of rows) (Some fault)) (ended-scanned delimiter text)
-      ∙ rw clean refl
-
-  go : (place : Option ℕ) → first_behind_quote delimiter text ≡ place
-      → text_fault delimiter text ≡ option_or (scan.open_fault (scan_of delimiter text).hand) (fault_below (scan_of delimiter text).rows (last_row (scan_of delimiter text).hand))
-  go None none =
-      let clean = sym (or-none (fault-of (scan_of delimiter text).rows)) ∙ sym (rw none at (fault-scanned delimiter text)) ∙ right in
-      last none clean (scan.open_fault (scan_of delimiter text).hand) (rw none (open-is delimiter text))
-  go (Some n) is = absurd (never (fault-of (scan_of delimiter (take n text)).rows) _ (sym (rw is at (fault-scanned delimiter text)) ∙ right)) where
-    never : (before : Option RowsFault) (fault : RowsFault) → ¬ (option_or before (Some fault) ≡ None)
-    never None fault e = let f = e in cc
-    never (Some x) fault e = let f = e in cc
+fault-last delimiter text right =
+    let (none, sound) = clean delimiter text right in
+    last none sound (scan.open_fault (scan_of delimiter text).hand) (rw none (open-is delimiter text)) where
+      last : first_behind_quote delimiter text ≡ None → fault-of (scan_of delimiter text).rows ≡ None → (quote : Option RowsFault) → quote_fault delimiter text ≡ quote
+          → text_fault delimiter text ≡ option_or quote (fault_below (scan_of delimiter text).rows (last_row (scan_of delimiter text).hand))
+      last none sound None is =
+          text-fault-by delimiter text None None none is
+          ∙ or-none _
+          ∙ ap fault-of (records-scanned delimiter text)
+          ∙ fault-with (scan_of delimiter text).rows (last_row (scan_of delimiter text).hand)
+          ∙ rw sound refl
+      last none sound (Some fault) is =
+          text-fault-by delimiter text None (Some fault) none is
+          ∙ ap (λ (rows : List (List (List ℕ))). option_or (fault-of rows) (Some fault)) (ended-scanned delimiter text)
+          ∙ rw sound refl
 
 -- and a fault that was found is that of the text
 pub fault-found : (delimiter : ℕ) (text : List ℕ) (fault : RowsFault) → (scan_of delimiter text).fault ≡ Some fault → text_fault delimiter text ≡ Some fault

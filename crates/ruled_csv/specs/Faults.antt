@@ -1,6 +1,6 @@
 -- Why rows can't be read.
-use Rattle.std.specs.Prelude.{◌≡◌, ◌≢◌, ℕ, ◌+◌, ◌-◌, ◌^◌, min, ◌==◌, not, List, [], ◌∷◌, length, take, Option, Some, None, Result, Ok, Err, is_none, if◌then◌else◌}
-use Rattle.std.specs.List.{list_all}
+use Rattle.std.specs.Prelude.{◌≡◌, ◌≢◌, ℕ, ◌+◌, ◌-◌, ◌^◌, min, ◌==◌, not, Bool, List, [], ◌∷◌, length, take, Option, Some, None, Result, Ok, Err, is_none, if◌then◌else◌}
+use Rattle.std.specs.List.{list_all, take_while}
 use Rattle.std.specs.Option.{option_or}
 use Rattle.std.specs.Str.{is_utf8}
 use Rattle.csv.specs.Reading.{records, strip_bom}
@@ -33,6 +33,10 @@ row_fault columns row fields =
     else if not (list_all is_utf8 fields) then Some (Encoding (number_of row) 0)
     else None
 
+-- nothing is wrong with a row, of so many columns
+abbrev pub is_sound : ℕ → List (List ℕ) → Bool
+is_sound columns fields = is_none (row_fault columns 0 fields)
+
 -- what is wrong with the first bad one of these rows, which are those from this row on
 abbrev pub first_fault : ℕ → ℕ → List (List (List ℕ)) → Option RowsFault
 first_fault columns row [] = None
@@ -54,6 +58,14 @@ module _ (delimiter : ℕ) (text : List ℕ) where
   abbrev pub text_fault : Option RowsFault
   text_fault = option_or (first_fault (columns_of quoted_rows) 0 quoted_rows) (quote_fault delimiter text)
 
+  -- those rows above the first bad one
+  abbrev pub sound_rows_in : List (List (List ℕ))
+  sound_rows_in = take_while (is_sound (columns_of quoted_rows)) quoted_rows
+
 -- what is wrong with bytes, without a byte order mark at their front
 unfoldable pub rows_fault : ℕ → List ℕ → Option RowsFault
 rows_fault delimiter bytes = text_fault delimiter (strip_bom bytes)
+
+-- the rows of bytes above the first bad one: all, where nothing is wrong
+unfoldable pub sound_rows : ℕ → List ℕ → List (List (List ℕ))
+sound_rows delimiter bytes = sound_rows_in delimiter (strip_bom bytes)

@@ -22,3 +22,12 @@ AppendsRest {R} above all old new = (rows : List R) × (new ≡ old ++ rows) × 
 abbrev pub Foretells : {X : Type 0} → Option RowsFault → Result X RowsFault → Type 0
 Foretells right (Ok x) = ⊤
 Foretells right (Err fault) = fault ≢ Memory → right ≡ Some (but_line fault)
+
+-- behind the old rows are some which, below the rows above, are the first of all
+abbrev pub AppendsSome : {R : Type 0} → List R → List R → List R → List R → Type 0
+AppendsSome {R} above all old new = (rows : List R) × (more : List R) × (new ≡ old ++ rows) × ((above ++ rows) ++ more ≡ all)
+
+-- where a fault is reported, but for want of memory, this holds
+abbrev pub OnFault : {X : Type 0} → Result X RowsFault → Type 0 → Type 0
+OnFault (Ok x) P = ⊤
+OnFault (Err fault) P = fault ≢ Memory → P

@@ -1,13 +1,11 @@
 //! Rows, of which the bytes come one piece after another.
 
-ghost use Rattle.std.specs.Prelude.{◌≡◌, ◌≢◌, ◌++◌, ◌∷◌, [], ℕ, List, map, Err, Some, IfOk, OnOk};
+ghost use Rattle.std.specs.Prelude.{◌≡◌, ◌++◌, ◌∷◌, [], ℕ, List, map, Some, IfOk, OnErr, OnOk};
 ghost use Rattle.csv.specs.Records.{fields_of};
-ghost use Rattle.ruled_csv.specs.Faults.{Tells, number_of, row_fault, rows_fault};
+ghost use Rattle.ruled_csv.specs.Faults.{Tells, number_of, row_fault, rows_fault, sound_rows};
 ghost use Rattle.ruled_csv.specs.Inside.{Counts, Holds, Scan, ends_mark, fault_below, front_after, row_ended, scan_after, with_row};
-ghost use Rattle.ruled_csv.specs.Reading.{AppendsRest, Foretells, HasRead};
+ghost use Rattle.ruled_csv.specs.Reading.{AppendsRest, AppendsSome, Foretells, HasRead, OnFault};
 ghost use Rattle.ruled_csv.specs.Rows.{ended_rows, rows_of};
-ghost use Rattle.ruled_csv.specs.declared.fault.RowsFault.{RowsFault};
-ghost use Rattle.ruled_csv.specs.declared.fault.RowsFault.TheVariants.{Memory};
 
 use crate::fault::RowsFault;
 use crate::scanner::Scanner;
@@ -107,7 +105,7 @@ impl RowReader {
         ensures front { self.new.front ≡ self.old.front }
         ensures scanner { self.new.scanner ≡ self.old.scanner }
         ensures rows { OnOk result (map fields_of rows.new.items ≡ map fields_of rows.old.items ++ fields_of fields ∷ []) }
-        ensures kept { (fault : RowsFault) → result ≡ Err fault → fault ≢ Memory → rows.new.items ≡ rows.old.items }
+        ensures kept { OnErr result (rows.new.items ≡ rows.old.items) }
         ensures counted { (above : List (List (List ℕ))) → Counts above self.old.rows self.old.columns → OnOk result (Counts (above ++ fields_of fields ∷ []) self.new.rows self.new.columns) }
         ensures fault { (above : List (List (List ℕ))) → Counts above self.old.rows self.old.columns → Tells (fault_below above (Some (fields_of fields))) result }
     {
@@ -124,7 +122,7 @@ impl RowReader {
         ensures front { self.new.front ≡ self.old.front }
         ensures read { (delimiter : ℕ) (scan : Scan) → Holds delimiter scan self.old → OnOk result (Holds delimiter (scan_after delimiter scan byte) self.new) }
         ensures rows { (delimiter : ℕ) (scan : Scan) → Holds delimiter scan self.old → OnOk result (map fields_of rows.new.items ≡ with_row (map fields_of rows.old.items) (row_ended delimiter scan.hand byte)) }
-        ensures kept { (fault : RowsFault) → result ≡ Err fault → fault ≢ Memory → rows.new.items ≡ rows.old.items }
+        ensures kept { OnErr result (rows.new.items ≡ rows.old.items) }
         ensures fault { (delimiter : ℕ) (scan : Scan) → Holds delimiter scan self.old → Foretells (scan_after delimiter scan byte).fault result }
     {
         match self.scanner.read(byte)? {
@@ -138,6 +136,9 @@ impl RowReader {
         ensures read { (delimiter : ℕ) (before : List ℕ) → HasRead delimiter before self.old → OnOk result (HasRead delimiter (before ++ byte ∷ []) self.new) }
         ensures rows { (delimiter : ℕ) (before : List ℕ) → HasRead delimiter before self.old → OnOk result (AppendsRest (ended_rows delimiter before) (ended_rows delimiter (before ++ byte ∷ [])) (map fields_of rows.old.items) (map fields_of rows.new.items)) }
         ensures fault { (delimiter : ℕ) (before behind : List ℕ) → HasRead delimiter before self.old → Foretells (rows_fault delimiter ((before ++ byte ∷ []) ++ behind)) result }
+        ensures sound { (delimiter : ℕ) (before behind : List ℕ) → HasRead delimiter before self.old → OnFault result
+            (sound_rows delimiter ((before ++ byte ∷ []) ++ behind) ≡ ended_rows delimiter before) }
+        ensures kept { OnErr result (rows.new.items ≡ rows.old.items) }
     {
         let ends_mark = self.front.ends_mark(byte);
         self.front = self.front.after(byte);
@@ -148,11 +149,17 @@ impl RowReader {
         self.scan(byte, rows)
     }
 
-    /// Reads the next bytes, and appends the rows that end among them.
+    /// Reads the next bytes, and appends the rows that end among them: with a fault, those above the first bad row.
     pub fn read(self, bytes: &[u8], rows: &mut Vec<StringRecord>) -> Result<RowReader, RowsFault>
         ensures read { (delimiter : ℕ) (before : List ℕ) → HasRead delimiter before self → IfOk result (λ reader. HasRead delimiter (before ++ bytes.now) reader) }
         ensures rows { (delimiter : ℕ) (before : List ℕ) → HasRead delimiter before self → OnOk result (AppendsRest (ended_rows delimiter before) (ended_rows delimiter (before ++ bytes.now)) (map fields_of rows.old.items) (map fields_of rows.new.items)) }
         ensures fault { (delimiter : ℕ) (before behind : List ℕ) → HasRead delimiter before self → Foretells (rows_fault delimiter ((before ++ bytes.now) ++ behind)) result }
+        ensures sound { (delimiter : ℕ) (before behind : List ℕ) → HasRead delimiter before self → OnFault result
+            (AppendsRest (ended_rows delimiter before) (sound_rows delimiter ((before ++ bytes.now) ++ behind))
+            (map fields_of rows.old.items) (map fields_of rows.new.items)) }
+        ensures cut { (delimiter : ℕ) (before behind : List ℕ) → HasRead delimiter before self → OnErr result
+            (AppendsSome (ended_rows delimiter before) (sound_rows delimiter ((before ++ bytes.now) ++ behind))
+            (map fields_of rows.old.items) (map fields_of rows.new.items)) }
     {
         let mut reader = self;
         for byte in bytes {
@@ -161,10 +168,14 @@ impl RowReader {
         Ok(reader)
     }
 
-    /// Ends the reading, behind which no byte is left, and appends the row that ends with it.
+    /// Ends the reading, behind which no byte is left, and appends the row that ends with it, unless it is bad.
     pub fn finish(self, rows: &mut Vec<StringRecord>) -> Result<(), RowsFault>
         ensures rows { (delimiter : ℕ) (bytes : List ℕ) → HasRead delimiter bytes self → OnOk result (AppendsRest (ended_rows delimiter bytes) (rows_of delimiter bytes) (map fields_of rows.old.items) (map fields_of rows.new.items)) }
         ensures fault { (delimiter : ℕ) (bytes : List ℕ) → HasRead delimiter bytes self → Tells (rows_fault delimiter bytes) result }
+        ensures sound { (delimiter : ℕ) (bytes : List ℕ) → HasRead delimiter bytes self → OnFault result
+            (AppendsRest (ended_rows delimiter bytes) (sound_rows delimiter bytes)
+            (map fields_of rows.old.items) (map fields_of rows.new.items)) }
+        ensures kept { OnErr result (rows.new.items ≡ rows.old.items) }
     {
         let mut reader = self;
         match reader.scanner.end()? {

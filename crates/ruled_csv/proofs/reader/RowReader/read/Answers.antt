@@ -1,10 +1,10 @@
-use Rattle.std.proofs.Common.{◌≡◌, ◌≢◌, ◌<◌, ◌≤◌, ◌+◌, List, ℕ, ◌++◌, Some, drop, length, map, take, append-nil, sym, subst}
+use Rattle.std.proofs.Common.{◌≡◌, ◌≢◌, ◌<◌, ◌≤◌, ◌+◌, List, ℕ, ◌++◌, Some, drop, length, map, take, ◌∙◌, append-nil, ap, sym, subst}
 use Rattle.csv.specs.Records.{fields_of}
-use Rattle.ruled_csv.specs.Faults.{but_line, rows_fault}
+use Rattle.ruled_csv.specs.Faults.{but_line, rows_fault, sound_rows}
 use Rattle.ruled_csv.specs.Reading.{AppendsRest, HasRead}
 use Rattle.ruled_csv.specs.Rows.{ended_rows}
 use Rattle.ruled_csv.specs.declared.fault.RowsFault.TheVariants.{Memory}
-use Rattle.ruled_csv.proofs.Readers.{appends-more, appends-none, foretold-on, front-more, front-whole, take-whole}
+use Rattle.ruled_csv.proofs.Readers.{appends-first, appends-more, appends-none, appends-to, ended-sound, foretold-on, front-more, front-parts, front-whole, on-error, on-fault, take-whole}
 use Rattle.ruled_csv.proofs.reader.RowReader.read.Goals as goal
 
 pub loop-byte-init : goal.loop-byte-init
@@ -49,3 +49,25 @@ returns-clause-rows c = λ delimiter before read.
     let past : length c.args.bytes.now ≤ c.loop-byte.byte-index = c.loop-byte-test.false in
     subst (λ (bytes : List ℕ). AppendsRest (ended_rows delimiter before) (ended_rows delimiter (before ++ bytes)) (map fields_of c.args.rows.now.items) (map fields_of c.loop-byte.rows.items))
     (take-whole c.args.bytes.now c.loop-byte.byte-index past) (c.loop-byte.invariant delimiter before read).1
+
+pub returns-in_err-read_byte-clause-sound : goal.returns-in_err-read_byte-clause-sound
+returns-in_err-read_byte-clause-sound c = λ delimiter before behind read.
+    let bytes = c.args.bytes.now in
+    let i = c.loop-byte.byte-index in
+    let within : i < length bytes = c.loop-byte-test.true in
+    let (now, rows) = c.loop-byte.invariant delimiter before read in
+    let found = c.in_err-read_byte.field-0.0 in
+    let failed = c.in_err-read_byte.ensures in
+    let all = ap (sound_rows delimiter) (sym (front-whole before bytes behind i within)) in
+    on-fault found c.from_residual.result
+    (λ other. appends-to _ _ _ _ _ _ rows (all ∙ failed.sound delimiter (before ++ take i bytes) (drop (i + 1) bytes ++ behind) now other) (ap (map fields_of) failed.kept))
+    c.from_residual.ensures.1
+
+pub returns-in_err-read_byte-clause-cut : goal.returns-in_err-read_byte-clause-cut
+returns-in_err-read_byte-clause-cut c = λ delimiter before behind read.
+    let bytes = c.args.bytes.now in
+    let i = c.loop-byte.byte-index in
+    let (now, rows) = c.loop-byte.invariant delimiter before read in
+    let (more, first) = ended-sound delimiter (before ++ take i bytes) (drop i bytes ++ behind) c.loop-byte.reader now in
+    let all = ap (sound_rows delimiter) (sym (front-parts before bytes behind i)) ∙ first in
+    on-error c.from_residual.result (appends-first _ _ _ _ _ _ more rows all (ap (map fields_of) c.in_err-read_byte.ensures.kept))

@@ -3,7 +3,7 @@ use Rattle.std.proofs.lemmas.Result.{on_ok_weaker}
 use Rattle.csv.specs.Reading.{strip_bom}
 use Rattle.csv.specs.Records.{fields_of}
 use Rattle.ruled_csv.specs.Inside.{ends_mark, scan_after, scan_of}
-use Rattle.ruled_csv.proofs.Readers.{fault-scanned, foretold, holds-still, mark-rows, read-mark, read-scanned, rows-scanned}
+use Rattle.ruled_csv.proofs.Readers.{fault-scanned, foretold, holds-still, mark-rows, on-foretold, read-mark, read-scanned, rows-scanned, sound-scanned}
 use Rattle.ruled_csv.proofs.reader.RowReader.read_byte.Goals as goal
 
 pub returns-then-ends_mark-clause-read : goal.returns-then-ends_mark-clause-read
@@ -31,3 +31,9 @@ returns-clause-fault c = λ delimiter before behind read.
     let none : ends_mark c.args.self.now.front c.args.byte ≡ false = sym c.ends_mark-ends_mark.ensures ∙ c.if-ends_mark.false in
     let holds = holds-still delimiter before c.args.byte c.args.self.now read none _ refl refl refl in
     foretold (scan_after delimiter (scan_of delimiter (strip_bom before)) c.args.byte).fault _ c.scan.result (fault-scanned delimiter before c.args.byte c.args.self.now read none behind) (c.scan.ensures.fault delimiter (scan_of delimiter (strip_bom before)) holds)
+
+pub returns-clause-sound : goal.returns-clause-sound
+returns-clause-sound c = λ delimiter before behind read.
+    let none : ends_mark c.args.self.now.front c.args.byte ≡ false = sym c.ends_mark-ends_mark.ensures ∙ c.if-ends_mark.false in
+    let holds = holds-still delimiter before c.args.byte c.args.self.now read none _ refl refl refl in
+    on-foretold (scan_after delimiter (scan_of delimiter (strip_bom before)) c.args.byte).fault c.scan.result (sound-scanned delimiter before c.args.byte c.args.self.now read none behind) (c.scan.ensures.fault delimiter (scan_of delimiter (strip_bom before)) holds)
