@@ -29,7 +29,7 @@ def written_by(tool, *words):
 def lay_out(program, folder):
     """Puts the stripped program, its launcher, its page and its completions below a folder; returns the files."""
     write(folder / PROGRAM, program.read_bytes(), 0o755)
-    subprocess.run(["strip", folder / PROGRAM], check=True)
+    subprocess.run(["strip", "--remove-section=.comment", folder / PROGRAM], check=True)
     write(folder / COMMAND, (HERE / "ruled-launcher").read_bytes(), 0o755)
     write(folder / PAGE, gzip.compress(written_by("man-page", program), 9, mtime=0))
     for shell, name in COMPLETIONS.items():

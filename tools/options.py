@@ -52,5 +52,5 @@ def options_of(program):
 
 
 def version_of(program):
-    """The version that a program tells, without its name."""
-    return said_by(program, "--version").split(maxsplit=1)[1].strip()
+    """The version that a program reports, without its name and the logic that it is proved with."""
+    return said_by(program, "--version").split()[1]
