@@ -41,13 +41,24 @@ def measured():
     return {name: int(seconds) for seconds, name in CRATE.findall(text)}, float(HEX.search(text)[1])
 
 
+def seconds_for(names):
+    """The seconds of processor of proofs of these crates, on the machine of the measured run."""
+    seconds, _ = measured()
+    return sum(seconds.get(name, 150) for name in names)
+
+
+def gigabytes_for(names):
+    """About how many gigabytes the proofs of these crates keep in their folders out/: 2.3 MB a second."""
+    return max(1, round(seconds_for(names) * 2.3 / 1000))
+
+
 def minutes_for(names):
     """About how many minutes proofs of these crates take on this machine, one after another.
 
     A crate's proof keeps some two processors busy, however many there are.
     """
-    seconds, hex_there = measured()
+    _, hex_there = measured()
     with tempfile.TemporaryDirectory() as folder:
         speed = hex_seconds(pathlib.Path(folder)) / hex_there
     processors = min(2, len(os.sched_getaffinity(0)))
-    return round(sum(seconds.get(name, 150) for name in names) * speed / processors / 60)
+    return round(seconds_for(names) * speed / processors / 60)
