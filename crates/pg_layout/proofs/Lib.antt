@@ -8,6 +8,7 @@ mod PlacesExchanged
 pub mod PlacesInColor
 pub mod TextLines
 pub mod TextWidths
+pub mod PlainBytes
 pub mod TrimmedLines
 pub mod Greatest
 pub mod LineNumbers

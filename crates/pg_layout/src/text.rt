@@ -1,13 +1,15 @@
 //! The lines of a text, how many terminal columns they take, and which of them are blank.
 
-ghost use Rattle.std.specs.Prelude.{◌≡◌, ◌==◌, ◌&&◌, ◌||◌, ◌<◌, ◌-◌, ◌∷◌, [], ℕ, length, slice_index, slice_index_or, option_map};
+ghost use Rattle.std.specs.Prelude.{◌≡◌, ◌==◌, ◌&&◌, ◌||◌, ◌+◌, ◌<◌, ◌≤◌, ◌-◌, ◌∷◌, [], ℕ, length, slice_index, slice_index_or, option_map};
 ghost use Rattle.std.specs.Char.{is_ascii_graphic};
 ghost use Rattle.std.specs.Str.{trim};
 ghost use Rattle.std.specs.List.{list_all, position_or_len};
 ghost use Rattle.std.specs.Iterator.{YieldsFirstRef, item_count};
+ghost use Rattle.std.specs.Simd.Lanes.{chunk};
 ghost use Rattle.pg_layout.specs.Text.{lines_of, lines_left, width_of, text_width_of, is_blank, first_line_of, is_plain_byte};
 
 use std::marker::Model;
+use std::simd::prelude::*;
 use unicode_width::UnicodeWidthStr;
 
 /// The lines of a text that are left, as slices of it. [`get_lines`] makes it.
@@ -91,7 +93,50 @@ pub fn count_lines(text: &str) -> usize
 pub fn is_plain(bytes: &[u8]) -> bool
     ensures { result ≡ list_all is_plain_byte bytes.now }
 {
-    bytes.iter().all(|b| b.is_ascii() && *b != b'\n')
+    match bytes.len() {
+        0..4 => bytes.iter().all(|b| b.is_ascii() && *b != b'\n'),
+        4..=8 => has_plain_ends::<4>(bytes),
+        9..=16 => has_plain_ends::<8>(bytes),
+        _ => has_plain_blocks(bytes),
+    }
+}
+
+// Two blocks, which may overlap, hold a text of at most twice their length.
+// Both blocks are tested: a branch between them costs more than the second test.
+#[inline(always)]
+fn has_plain_ends<const N: usize>(bytes: &[u8]) -> bool
+    requires lanes { N ≤ 64 }
+    requires one_block { N ≤ length bytes.now }
+    requires two_blocks { length bytes.now ≤ N + N }
+    ensures { result ≡ list_all is_plain_byte bytes.now }
+{
+    is_block_plain::<N>(bytes, 0) & is_block_plain::<N>(bytes, bytes.len() - N)
+}
+
+// Out of line, since the texts of most cells are short.
+#[inline(never)]
+fn has_plain_blocks(bytes: &[u8]) -> bool
+    requires { 16 ≤ length bytes.now }
+    ensures { result ≡ list_all is_plain_byte bytes.now }
+{
+    for block in 0..bytes.len() / 16 {
+        if !is_block_plain::<16>(bytes, 16 * block) {
+            return false;
+        }
+    }
+    is_block_plain::<16>(bytes, bytes.len() - 16)
+}
+
+#[inline(always)]
+fn is_block_plain<const N: usize>(bytes: &[u8], from: usize) -> bool
+    requires lanes { N ≤ 64 }
+    requires room { from + N ≤ length bytes.now }
+    ensures { result ≡ list_all is_plain_byte (chunk from N bytes.now) }
+{
+    let block = Simd::<u8, N>::from_slice(&bytes[from..]);
+    let feeds = block.simd_eq(Simd::splat(b'\n')).to_bitmask();
+    let above = block.simd_gt(Simd::splat(0x7f)).to_bitmask();
+    (feeds == 0) & (above == 0)
 }
 
 /// How many terminal columns a line takes, by Unicode's rules of widths.

@@ -1,0 +1,17 @@
+use Rattle.std.proofs.Common.{◌∙◌, ◌*◌, sym, ap, take, arith}
+use Rattle.std.specs.List.{list_all}
+use Rattle.pg_layout.specs.Text.{is_plain_byte}
+use Rattle.pg_layout.proofs.PlainBytes.{all_by_last, all_of_chunk, all_of_more, false_where_part_is}
+use Rattle.pg_layout.proofs.text.has_plain_blocks.Goals as goal
+
+pub loop-block-preserved : goal.loop-block-preserved
+loop-block-preserved c =
+    ap (λ k. list_all is_plain_byte (take k c.args.bytes.now)) (omega arith)
+    ∙ all_of_more is_plain_byte (16 * c.loop-block.block) 16 c.args.bytes.now c.loop-block.invariant (sym c.is_block_plain.ensures ∙ c.if-not-is_block_plain.false)
+
+pub returns : goal.returns
+returns c = c.is_block_plain-2.ensures ∙ all_by_last is_plain_byte (16 * c.loop-block.block) 16 c.args.bytes.now c.requires (omega (arith, c.loop-block-test.false)) c.loop-block.invariant
+
+pub returns-then-not-is_block_plain : goal.returns-then-not-is_block_plain
+returns-then-not-is_block_plain c =
+    false_where_part_is _ _ (all_of_chunk is_plain_byte (16 * c.loop-block.block) 16 c.args.bytes.now) (sym c.is_block_plain.ensures ∙ c.if-not-is_block_plain.true)
