@@ -225,6 +225,7 @@ fn json_behind(fault: JsonFault, lines: usize) -> JsonFault {
         JsonFault::Encoding(place) => JsonFault::Encoding(place_behind(place, lines)),
         JsonFault::Syntax(place) => JsonFault::Syntax(place_behind(place, lines)),
         JsonFault::NoObject(place) => JsonFault::NoObject(place_behind(place, lines)),
+        JsonFault::NoColumn(place) => JsonFault::NoColumn(place_behind(place, lines)),
         JsonFault::NoRecords | JsonFault::Memory => fault,
     }
 }

@@ -1,4 +1,12 @@
+pub mod AtOnce
+pub mod Beginnings
+mod Marks
 mod Members
-mod Views
+mod Padding
+mod Pieces
+mod Results
+mod StreamedLines
+mod Tables
 mod Texts
+mod Views
 mod Walks

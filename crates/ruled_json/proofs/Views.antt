@@ -32,7 +32,7 @@ list_view [] = refl
 list_view (v ∷ vs) = ap (λ (js : List Json). value_view v ∷ js) (list_view vs)
 
 -- a name is among texts
-among : {Z : Type 0} (name : List ℕ) (texts : List (String Z))
+pub among : {Z : Type 0} (name : List ℕ) (texts : List (String Z))
     → list_any (λ (text : String Z). bytes_eq name (string_bytes text)) texts ≡ list_any (bytes_eq name) (map string_bytes texts)
 among name [] = refl
 among name (text ∷ texts) = ap (λ (b : Bool). bytes_eq name (string_bytes text) || b) (among name texts)

@@ -32,57 +32,9 @@ pub columns_more : (values more : List Json) → columns_of (values ++ more) ≡
 columns_more values more =
     ap (fold with_name []) (flat_map-append names_in values more) ∙ fold-append with_name [] (flat_map names_in values) (flat_map names_in more)
 
--- what is found on one line more
-found_next : (find : List ℕ → Option Json) (lines : List (Bor (List ℕ))) (i : ℕ) (d : Bor (List ℕ)) → i < length lines
-    → filter_map find (map (λ (line : Bor (List ℕ)). line.now) (take (i + 1) lines))
-    ≡ filter_map find (map (λ (line : Bor (List ℕ)). line.now) (take i lines)) ++ cons_option (find (get_or lines i d).now) []
-found_next find lines i d within =
-    ap (filter_map find) (map_more (λ (line : Bor (List ℕ)). line.now) lines i d within)
-    ∙ filter_map-append find (map (λ (line : Bor (List ℕ)). line.now) (take i lines)) ((get_or lines i d).now ∷ [])
-
--- the rows of records, with and without columns
-pub no_rows : (records : List Json) → (length (columns_of records) == 0) ≡ true → table_of records ≡ []
-no_rows records empty = rw empty refl
-
-pub whole_table : (records : List Json) (columns : List (List ℕ)) (start rows : List (List (List ℕ))) → columns ≡ columns_of records → (length columns == 0) ≡ false
-    → start ≡ columns ∷ [] → rows ≡ start ++ map (row_of columns) records → rows ≡ table_of records
-whole_table records columns start rows is some begins made =
-    let here : (length (columns_of records) == 0) ≡ false = ap (λ (names : List (List ℕ)). length names == 0) (sym is) ∙ some in
-    made ∙ ap (λ (first : List (List (List ℕ))). first ++ map (row_of columns) records) begins
-    ∙ ap (λ (names : List (List ℕ)). names ∷ map (row_of names) records) is ∙ (rw here refl)
-
 -- the row of a record, of the names as texts
 pub whole_row : {Z : Type 0} (names items : List (String Z)) (value : Json) (n : ℕ) (row : List (List ℕ)) → items ≡ names → length items ≤ n
     → row ≡ map (λ (name : String Z). cell_text (get (string_bytes name) value)) (take n items) → row ≡ row_of (map string_bytes names) value
 whole_row {Z} names items value n row same all made =
     made ∙ ap (map (λ (name : String Z). cell_text (get (string_bytes name) value))) (take_all n items all ∙ same)
     ∙ sym (map-map (λ (column : List ℕ). cell_text (get column value)) string_bytes names)
-
--- the columns, the fault and the rows of one line more
-pub columns_line : (lines : List (Bor (List ℕ))) (i : ℕ) (d : Bor (List ℕ)) (old new : List (List ℕ)) → i < length lines
-    → new ≡ fold with_name old (flat_map names_in (cons_option (record_on (get_or lines i d).now) []))
-    → old ≡ columns_of (filter_map record_on (map (λ (line : Bor (List ℕ)). line.now) (take i lines)))
-    → new ≡ columns_of (filter_map record_on (map (λ (line : Bor (List ℕ)). line.now) (take (i + 1) lines)))
-columns_line lines i d old new within added before =
-    let more : List Json = cons_option (record_on (get_or lines i d).now) [] in
-    let found : List Json = filter_map record_on (map (λ (line : Bor (List ℕ)). line.now) (take i lines)) in
-    added ∙ ap (λ (names : List (List ℕ)). fold with_name names (flat_map names_in more)) before ∙ sym (columns_more found more)
-    ∙ sym (ap columns_of (found_next record_on lines i d within))
-
-pub fault_line : (lines : List (Bor (List ℕ))) (i n : ℕ) (d : Bor (List ℕ)) (fault : Option JsonFault) → i < length lines → line_fault n (get_or lines i d).now ≡ None
-    → fault ≡ first_line_fault n (map (λ (line : Bor (List ℕ)). line.now) (drop i lines))
-    → fault ≡ first_line_fault (n + 1) (map (λ (line : Bor (List ℕ)). line.now) (drop (i + 1) lines))
-fault_line lines i n d fault within none before =
-    let later : Option JsonFault = first_line_fault (n + 1) (map (λ (line : Bor (List ℕ)). line.now) (drop (i + 1) lines)) in
-    before ∙ ap (λ (left : List (Bor (List ℕ))). first_line_fault n (map (λ (line : Bor (List ℕ)). line.now) left)) (drop_more lines i d within)
-    ∙ ap (λ (first : Option JsonFault). option_or first later) none
-
-pub rows_line : (row : Json → List (List ℕ)) (lines : List (Bor (List ℕ))) (i : ℕ) (d : Bor (List ℕ)) (start old new : List (List (List ℕ))) → i < length lines
-    → new ≡ old ++ map row (cons_option (record_on (get_or lines i d).now) [])
-    → old ≡ start ++ map row (filter_map record_on (map (λ (line : Bor (List ℕ)). line.now) (take i lines)))
-    → new ≡ start ++ map row (filter_map record_on (map (λ (line : Bor (List ℕ)). line.now) (take (i + 1) lines)))
-rows_line row lines i d start old new within added before =
-    let more : List Json = cons_option (record_on (get_or lines i d).now) [] in
-    let found : List Json = filter_map record_on (map (λ (line : Bor (List ℕ)). line.now) (take i lines)) in
-    added ∙ ap (λ (rows : List (List (List ℕ))). rows ++ map row more) before ∙ append_assoc start (map row found) (map row more)
-    ∙ ap (λ (rows : List (List (List ℕ))). start ++ rows) (sym (ap (map row) (found_next record_on lines i d within) ∙ map-append row found more))

@@ -1,11 +1,11 @@
 -- Why JSON holds no rows.
-use Rattle.std.specs.Prelude.{◌≡◌, ◌≢◌, ℕ, ◌+◌, not, ◌&&◌, Bool, List, [], ◌∷◌, Option, Some, None, is_none, is_some, option_and_then, Result, Ok, Err, if◌then◌else◌}
+use Rattle.std.specs.Prelude.{◌≡◌, ◌≢◌, ℕ, ◌+◌, ◌-◌, ◌^◌, min, ◌==◌, take, length, count_by, not, ◌&&◌, Bool, List, [], ◌∷◌, Option, Some, None, is_none, is_some, option_and_then, Result, Ok, Err, if◌then◌else◌}
 use Rattle.std.specs.Option.{option_or}
 use Rattle.std.specs.Str.{is_utf8}
 use Rattle.json.specs.Json.{Json, null, boolean, number, string, array, object, document}
 use Rattle.ruled_json.specs.Rows.{is_blank, lines_of, list_of}
 use Rattle.ruled_json.specs.declared.fault.JsonFault.{JsonFault}
-use Rattle.ruled_json.specs.declared.fault.JsonFault.TheVariants.{Encoding, Syntax, NoRecords, NoObject, Memory}
+use Rattle.ruled_json.specs.declared.fault.JsonFault.TheVariants.{Encoding, Syntax, NoRecords, NoObject, NoColumn, Memory}
 use Rattle.ruled_json.specs.declared.place.Place.{Place}
 use Rattle.ruled_json.specs.declared.place.Place.TheVariants.{Near, Record, Line}
 
@@ -21,6 +21,7 @@ but_line (Encoding place) = Encoding (but_near place)
 but_line (Syntax place) = Syntax (but_near place)
 but_line NoRecords = NoRecords
 but_line (NoObject place) = NoObject (but_near place)
+but_line (NoColumn place) = NoColumn (but_near place)
 but_line Memory = Memory
 
 -- a result tells the right fault, or that memory was refused; where it is an `Ok` there is none
@@ -72,10 +73,15 @@ line_fault n line =
     if is_blank line then None
     else option_or (text_fault (Line n) line) (option_and_then (record_fault (Line n)) (document line))
 
+-- the number of the line behind this one and its line feed, as an editor counts: LF, CRLF and a lone CR each end a line. It
+-- grows up to the largest that a counter holds
+abbrev pub line_after : ℕ → List ℕ → ℕ
+line_after n line = min (n + (count_by (λ byte. byte == 13) (take (length line - 1) line) + 1)) (2 ^ 64 - 1)
+
 -- what is wrong with the first bad one of these lines, which are those from this number on
 abbrev pub first_line_fault : ℕ → List (List ℕ) → Option JsonFault
 first_line_fault n [] = None
-first_line_fault n (line ∷ lines) = option_or (line_fault n line) (first_line_fault (n + 1) lines)
+first_line_fault n (line ∷ lines) = option_or (line_fault n line) (first_line_fault (line_after n line) lines)
 
 -- what is wrong with bytes that are to have a value on each line
 unfoldable pub line_rows_fault : List ℕ → Option JsonFault

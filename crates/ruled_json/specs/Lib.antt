@@ -1,2 +1,4 @@
 pub mod Rows
 pub mod Faults
+pub mod Streamed
+pub mod Reading

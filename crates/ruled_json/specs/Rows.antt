@@ -28,6 +28,10 @@ with_name names name = if list_any (bytes_eq name) names then names else names +
 abbrev pub columns_of : List Json → List (List ℕ)
 columns_of records = fold with_name [] (flat_map names_in records)
 
+-- whether each member of a record has one of these columns
+abbrev pub has_all : List (List ℕ) → Json → Bool
+has_all columns value = list_all (λ name. list_any (bytes_eq name) columns) (names_in value)
+
 -- ---- rows
 
 -- the text of a member: that of a string, a number as it was written, an array or an object without spaces, and none where
@@ -45,10 +49,13 @@ cell_text (Some (object ms)) = print (json_tokens (object ms))
 abbrev pub row_of : List (List ℕ) → Json → List (List ℕ)
 row_of columns value = map (λ column. cell_text (get column value)) columns
 
--- the rows of records: the header and theirs; where no record has a member, there are none
+-- the header and the rows of records in these columns; where there is no column, there are none
+abbrev pub table_in : List (List ℕ) → List Json → List (List (List ℕ))
+table_in columns records = if length columns == 0 then [] else columns ∷ map (row_of columns) records
+
+-- the rows of records, in the columns of all of them
 abbrev pub table_of : List Json → List (List (List ℕ))
-table_of records =
-    if length (columns_of records) == 0 then [] else columns_of records ∷ map (row_of (columns_of records)) records
+table_of records = table_in (columns_of records) records
 
 -- ---- the records of a value
 
@@ -86,6 +93,9 @@ is_blank line = list_all is_space line
 abbrev pub record_on : List ℕ → Option Json
 record_on line = if is_blank line then None else document line
 
+abbrev pub records_on : List (List ℕ) → List Json
+records_on lines = filter_map record_on lines
+
 -- the rows of the values that the lines of these bytes are
 unfoldable pub line_rows_of : List ℕ → List (List (List ℕ))
-line_rows_of bytes = table_of (filter_map record_on (lines_of bytes))
+line_rows_of bytes = table_of (records_on (lines_of bytes))

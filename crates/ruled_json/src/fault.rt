@@ -18,6 +18,8 @@ pub enum JsonFault {
     NoRecords,
     /// The value is no object.
     NoObject(Place),
+    /// The object has a member that none of the first records has, which say the columns.
+    NoColumn(Place),
     /// Memory was refused.
     Memory,
 }
@@ -46,6 +48,10 @@ impl fmt::Display for JsonFault {
             JsonFault::Syntax(place) => write!(f, "{place}not JSON"),
             JsonFault::NoRecords => write!(f, "neither an array nor an object"),
             JsonFault::NoObject(place) => write!(f, "{place}not an object"),
+            JsonFault::NoColumn(place) => write!(
+                f,
+                "{place}a member that none of the first rows has"
+            ),
             JsonFault::Memory => write!(f, "out of memory"),
         }
     }

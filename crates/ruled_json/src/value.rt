@@ -1,6 +1,6 @@
 //! Rows of one value.
 
-ghost use Rattle.std.specs.Prelude.{◌≡◌, All, Some, fold, map, string_bytes, IfOk};
+ghost use Rattle.std.specs.Prelude.{◌≡◌, All, IsUtf8, Some, fold, map, string_bytes, IfOk, OnErr};
 ghost use Rattle.csv.specs.Records.{fields_of};
 ghost use Rattle.json.specs.Json.{document};
 ghost use Rattle.json.specs.Tree.{HasNumbers};
@@ -8,8 +8,8 @@ ghost use Rattle.json.specs.Value.{value_view};
 ghost use Rattle.ruled_json.specs.Faults.{Tells, but_near, first_fault, is_value, record_fault, rows_fault, text_fault, value_fault};
 ghost use Rattle.ruled_json.specs.Rows.{columns_of, records_in, rows_of, table_of};
 
-use crate::columns::Columns;
 use crate::fault::JsonFault;
+use crate::member_names::MemberNames;
 use crate::place::{Place, offset_of_fault};
 use csv::StringRecord;
 use json::{Error, Scratch, Value, is_valid};
@@ -43,9 +43,10 @@ pub(crate) fn value_of<'a>(
     }
 }
 
-/// Whether bytes are one JSON value.
+/// Whether bytes are one JSON value. It asks for memory only where they are UTF-8.
 pub fn is_value(alloc: Global, bytes: &[u8]) -> Result<bool, AllocError>
-    ensures { IfOk result (λ is. is ≡ is_value bytes.now) }
+    ensures value { IfOk result (λ is. is ≡ is_value bytes.now) }
+    ensures refused { OnErr result (IsUtf8 bytes.now) }
 {
     match str::from_utf8(bytes) {
         Ok(text) => is_valid(text, &mut Scratch::new(alloc)),
@@ -89,10 +90,10 @@ fn records_in<'v, 'a>(value: &'v Value<'a>) -> Result<&'v [Value<'a>], JsonFault
 }
 
 // The columns of records.
-fn columns_of(alloc: Global, records: &[Value<'_>]) -> Result<Columns, AllocError>
+fn columns_of(alloc: Global, records: &[Value<'_>]) -> Result<MemberNames, AllocError>
     ensures { IfOk result (λ columns. map string_bytes columns.names.keys ≡ columns_of (map value_view records.now)) }
 {
-    let mut columns = Columns::new(alloc);
+    let mut columns = MemberNames::new(alloc);
     for record in records {
         columns.add_record(alloc, record)?;
     }

@@ -1,0 +1,13 @@
+use Rattle.std.proofs.Common.{◌≡◌, ◌∙◌, ◌∷◌, ◌++◌, [], ap, sym, map, length, string_bytes}
+use Rattle.std.specs.Prelude.{◌==◌}
+use Rattle.std.proofs.lemmas.List.{map-append}
+use Rattle.csv.specs.Records.{fields_of}
+use Rattle.json.specs.Value.{value_view}
+use Rattle.ruled_json.specs.Reading.{columns_in}
+use Rattle.ruled_json.proofs.Tables.{no-row-behind, row-behind}
+use Rattle.ruled_json.proofs.line_table.LineTable.push_late.Goals as goal
+
+pub returns-clause-rows : goal.returns-clause-rows
+returns-clause-rows c = λ above.
+    row-behind (columns_in c.args.self.now) above (value_view c.args.value.now) (map fields_of c.args.rows.now.items) (map fields_of c.push.new.self.items) (sym c.is_empty.ensures ∙ c.if-is_empty.false)
+    (ap (map fields_of) c.in_ok-push.ensures.items ∙ map-append fields_of c.args.rows.now.items (c.in_ok-row.field-0 ∷ []) ∙ ap (λ row. map fields_of c.args.rows.now.items ++ row ∷ []) c.in_ok-row.ensures)

@@ -1,0 +1,144 @@
+//! Lines of JSON, of which the bytes come one piece after another.
+
+ghost use Rattle.std.specs.Prelude.{◌≡◌, ◌∷◌, ◌++◌, [], ℕ, List, false, map, IfOk, OnOk};
+ghost use Rattle.csv.specs.Reading.{strip_bom};
+ghost use Rattle.csv.specs.Records.{fields_of};
+ghost use Rattle.ruled_json.specs.Faults.{Tells};
+ghost use Rattle.ruled_json.specs.Reading.{AppendsRest, Foretells, HasLines, HasRead, NoFeed, OnFault, without_front};
+ghost use Rattle.ruled_json.specs.Rows.{records_on};
+ghost use Rattle.ruled_json.specs.Streamed.{ended_line_rows, ended_table, fault_behind, sound_line_rows, streamed_line_fault, streamed_table};
+
+use crate::fault::JsonFault;
+use crate::line_table::LineTable;
+use crate::lines::split_line;
+use csv::StringRecord;
+use json::Scratch;
+use std::alloc::{AllocError, Global};
+use std::mem;
+
+// The bytes without a byte order mark at their front.
+fn without_mark(bytes: &[u8]) -> &[u8]
+    ensures { result.now ≡ strip_bom bytes.now }
+{
+    match bytes.strip_prefix(&[0xef, 0xbb, 0xbf]) {
+        Some(rest) => rest,
+        None => bytes,
+    }
+}
+
+// The text of a line, which at the front of the input may have a byte order mark.
+fn line_text(is_front: bool, line: &[u8]) -> &[u8]
+    ensures { result.now ≡ without_front is_front line.now }
+{
+    if is_front { without_mark(line) } else { line }
+}
+
+// Appends bytes.
+fn push_bytes(line: &mut Vec<u8>, bytes: &[u8]) -> Result<(), AllocError>
+    ensures { OnOk result (line.new.items ≡ line.old.items ++ bytes.now) }
+{
+    line.extend_from_slice(bytes)
+}
+
+/// A reader of lines of JSON, to which their bytes come one piece after another, of any lengths.
+///
+/// Line feeds part the lines. Each holds an object, or is blank and no row. The first `records` objects say the columns: the
+/// names of their members, each where it is first seen. Their rows and the header are given with the line that the last of
+/// them ends, and each later row with its line. A byte order mark at the very front is left out.
+///
+/// A fault ends the reading, behind the rows above it. It is that of the first bad line, whatever stands behind it: one that
+/// is no object, or behind the first `records` objects one with a member that no column has.
+#[derive(Drop)]
+pub struct LineReader {
+    alloc: Global,
+    table: LineTable,
+    // The bytes of a line whose line feed hasn't come.
+    line: Vec<u8>,
+    // Whether it is the first line.
+    is_front: bool,
+}
+
+impl LineReader {
+    /// A reader that has read nothing.
+    pub fn new(alloc: Global, records: usize) -> LineReader
+        ensures { HasRead records [] result }
+    {
+        LineReader {
+            alloc,
+            table: LineTable::new(alloc, records),
+            line: Vec::new(alloc),
+            is_front: true,
+        }
+    }
+
+    // Reads a line.
+    fn read_line(
+        &mut self,
+        scratch: &mut Scratch,
+        line: &[u8],
+        rows: &mut Vec<StringRecord>,
+    ) -> Result<(), JsonFault>
+        ensures kept { (self.new.line ≡ self.old.line) × (self.new.is_front ≡ false) }
+        ensures read { (records : ℕ) (above : List (List ℕ)) → HasLines records above self.old.table → OnOk result (HasLines records (above ++ without_front self.old.is_front line.now ∷ []) self.new.table) }
+        ensures rows { (records : ℕ) (above : List (List ℕ)) → HasLines records above self.old.table → OnOk result (AppendsRest (ended_table records (records_on above)) (ended_table records (records_on (above ++ without_front self.old.is_front line.now ∷ []))) (map fields_of rows.old.items) (map fields_of rows.new.items)) }
+        ensures fault { (records : ℕ) (above : List (List ℕ)) → HasLines records above self.old.table → Tells (fault_behind records above (without_front self.old.is_front line.now)) result }
+        ensures sound { (records : ℕ) (above : List (List ℕ)) → HasLines records above self.old.table → OnFault result (AppendsRest (ended_table records (records_on above)) (streamed_table records (records_on above)) (map fields_of rows.old.items) (map fields_of rows.new.items)) }
+    {
+        let text = line_text(self.is_front, line);
+        self.is_front = false;
+        self.table.read(scratch, text, rows)
+    }
+
+    // Reads the bytes in front of a line feed, and the line feed.
+    fn end_line(
+        &mut self,
+        scratch: &mut Scratch,
+        bytes: &[u8],
+        rows: &mut Vec<StringRecord>,
+    ) -> Result<(), JsonFault>
+        requires within { NoFeed bytes.now }
+        ensures read { (records : ℕ) (before : List ℕ) → HasRead records before self.old → OnOk result (HasRead records (before ++ (bytes.now ++ 10 ∷ [])) self.new) }
+        ensures rows { (records : ℕ) (before : List ℕ) → HasRead records before self.old → OnOk result (AppendsRest (ended_line_rows records before) (ended_line_rows records (before ++ (bytes.now ++ 10 ∷ []))) (map fields_of rows.old.items) (map fields_of rows.new.items)) }
+        ensures fault { (records : ℕ) (before behind : List ℕ) → HasRead records before self.old → Foretells (streamed_line_fault records (before ++ (bytes.now ++ 10 ∷ behind))) result }
+        ensures sound { (records : ℕ) (before behind : List ℕ) → HasRead records before self.old → OnFault result (AppendsRest (ended_line_rows records before) (sound_line_rows records (before ++ (bytes.now ++ 10 ∷ behind))) (map fields_of rows.old.items) (map fields_of rows.new.items)) }
+    {
+        let mut line = mem::replace(&mut self.line, Vec::new(self.alloc));
+        if line.is_empty() {
+            return self.read_line(scratch, bytes, rows);
+        }
+        push_bytes(&mut line, bytes)?;
+        self.read_line(scratch, line.as_slice(), rows)
+    }
+
+    /// Reads the next bytes, and appends the rows that are complete with them.
+    pub fn read(self, bytes: &[u8], rows: &mut Vec<StringRecord>) -> Result<LineReader, JsonFault>
+        ensures read { (records : ℕ) (before : List ℕ) → HasRead records before self → IfOk result (λ reader. HasRead records (before ++ bytes.now) reader) }
+        ensures rows { (records : ℕ) (before : List ℕ) → HasRead records before self → OnOk result (AppendsRest (ended_line_rows records before) (ended_line_rows records (before ++ bytes.now)) (map fields_of rows.old.items) (map fields_of rows.new.items)) }
+        ensures fault { (records : ℕ) (before behind : List ℕ) → HasRead records before self → Foretells (streamed_line_fault records ((before ++ bytes.now) ++ behind)) result }
+        ensures sound { (records : ℕ) (before behind : List ℕ) → HasRead records before self → OnFault result (AppendsRest (ended_line_rows records before) (sound_line_rows records ((before ++ bytes.now) ++ behind)) (map fields_of rows.old.items) (map fields_of rows.new.items)) }
+    {
+        let mut reader = self;
+        let mut scratch = Scratch::new(reader.alloc);
+        let mut rest = bytes;
+        while let Some((line, behind)) = split_line(rest) {
+            reader.end_line(&mut scratch, line, rows)?;
+            rest = behind;
+        }
+        push_bytes(&mut reader.line, rest)?;
+        Ok(reader)
+    }
+
+    /// Ends the reading, behind which no byte is left, and appends the rows that are left.
+    pub fn finish(self, rows: &mut Vec<StringRecord>) -> Result<(), JsonFault>
+        ensures rows { (records : ℕ) (bytes : List ℕ) → HasRead records bytes self → OnOk result (AppendsRest (ended_line_rows records bytes) (sound_line_rows records bytes) (map fields_of rows.old.items) (map fields_of rows.new.items)) }
+        ensures fault { (records : ℕ) (bytes : List ℕ) → HasRead records bytes self → Tells (streamed_line_fault records bytes) result }
+        ensures sound { (records : ℕ) (bytes : List ℕ) → HasRead records bytes self → OnFault result (AppendsRest (ended_line_rows records bytes) (sound_line_rows records bytes) (map fields_of rows.old.items) (map fields_of rows.new.items)) }
+    {
+        let mut reader = self;
+        let mut scratch = Scratch::new(reader.alloc);
+        let line = mem::replace(&mut reader.line, Vec::new(reader.alloc));
+        reader.read_line(&mut scratch, line.as_slice(), rows)?;
+        reader.table.finish(rows)?;
+        Ok(())
+    }
+}

@@ -1,0 +1,183 @@
+//! The table of records, each on a line.
+
+ghost use Rattle.std.specs.Prelude.{◌≡◌, ◌∷◌, ◌++◌, [], ℕ, List, fold, length, map, None, Some, IfOk, OnOk, if◌then◌else◌};
+ghost use Rattle.csv.specs.Records.{fields_of};
+ghost use Rattle.json.specs.Json.{Json};
+ghost use Rattle.json.specs.Tree.{HasNumbers};
+ghost use Rattle.json.specs.Value.{value_view};
+ghost use Rattle.ruled_json.specs.Faults.{Tells, line_rows_fault};
+ghost use Rattle.ruled_json.specs.Reading.{AppendsRest, HasLines, HasRecords, OnFault, columns_in, padded};
+ghost use Rattle.ruled_json.specs.Rows.{has_all, line_rows_of, names_in, records_on, row_of, table_in, with_name};
+ghost use Rattle.ruled_json.specs.Streamed.{ended_table, fault_behind, late_fault, streamed_table};
+ghost use Rattle.ruled_json.specs.declared.fault.JsonFault.TheVariants.{NoColumn};
+ghost use Rattle.ruled_json.specs.declared.place.Place.TheVariants.{Line};
+
+use crate::fault::JsonFault;
+use crate::lines::{line_after, lines_of, record_on};
+use crate::member_names::MemberNames;
+use crate::place::Place;
+use csv::StringRecord;
+use json::{Scratch, Value};
+use std::alloc::{AllocError, Global};
+use std::mem;
+
+/// The table of records, each on a line, of which the first ones say the columns.
+#[derive(Drop)]
+pub(crate) struct LineTable {
+    alloc: Global,
+    // The columns.
+    names: MemberNames,
+    // How many records are still to come that say columns.
+    left: usize,
+    // The rows of those that came, until the last one is there. Each ends with the columns that were known then.
+    held: Vec<StringRecord>,
+    // The number of the next line.
+    number: usize,
+}
+
+impl LineTable {
+    /// The table of no lines, whose columns so many records say.
+    pub(crate) fn new(alloc: Global, records: usize) -> LineTable
+        ensures { HasLines records [] result }
+    {
+        LineTable {
+            alloc,
+            names: MemberNames::new(alloc),
+            left: records,
+            held: Vec::new(alloc),
+            number: 1,
+        }
+    }
+
+    // Appends the header and the rows that are held.
+    fn push_held(&mut self, rows: &mut Vec<StringRecord>) -> Result<(), AllocError>
+        ensures kept { (self.new.names ≡ self.old.names) × (self.new.left ≡ self.old.left) × (self.new.number ≡ self.old.number) }
+        ensures rows { (records : List Json) → map (padded (length (columns_in self.old))) (map fields_of self.old.held.items) ≡ map (row_of (columns_in self.old)) records → OnOk result (map fields_of rows.new.items ≡ map fields_of rows.old.items ++ table_in (columns_in self.old) records) }
+    {
+        if self.names.is_empty() {
+            return Ok(());
+        }
+        rows.push(self.names.header(self.alloc)?)?;
+        let held = mem::replace(&mut self.held, Vec::new(self.alloc));
+        for row in held {
+            let padded = self.names.padded(row)?;
+            rows.push(padded)?;
+        }
+        Ok(())
+    }
+
+    // Holds the row of a record that says columns.
+    fn hold(&mut self, value: &Value<'_>) -> Result<(), AllocError>
+        requires numbers { HasNumbers (value_view value.now) }
+        ensures kept { (self.new.left ≡ self.old.left) × (self.new.number ≡ self.old.number) }
+        ensures columns { OnOk result (columns_in self.new ≡ fold with_name (columns_in self.old) (names_in (value_view value.now))) }
+        ensures held { OnOk result (map fields_of self.new.held.items ≡ map fields_of self.old.held.items ++ row_of (columns_in self.new) (value_view value.now) ∷ []) }
+    {
+        self.names.add_record(self.alloc, value)?;
+        let row = self.names.row(self.alloc, value)?;
+        self.held.push(row)?;
+        Ok(())
+    }
+
+    // Appends the row of a record on the line of this number, where the columns are known.
+    fn push_late(
+        &self,
+        number: usize,
+        value: &Value<'_>,
+        rows: &mut Vec<StringRecord>,
+    ) -> Result<(), JsonFault>
+        requires numbers { HasNumbers (value_view value.now) }
+        ensures fault { Tells (if has_all (columns_in self.now) (value_view value.now) then None else Some (NoColumn (Line number))) result }
+        ensures rows { (above : List Json) → OnOk result (AppendsRest (table_in (columns_in self.now) above) (table_in (columns_in self.now) (above ++ value_view value.now ∷ [])) (map fields_of rows.old.items) (map fields_of rows.new.items)) }
+        ensures sound { OnFault result (map fields_of rows.new.items ≡ map fields_of rows.old.items) }
+    {
+        if !self.names.has_all(value) {
+            return Err(JsonFault::NoColumn(Place::Line(number)));
+        }
+        if self.names.is_empty() {
+            return Ok(());
+        }
+        rows.push(self.names.row(self.alloc, value)?)?;
+        Ok(())
+    }
+
+    // Appends the row of a record on the line of this number, or holds it until all columns are known.
+    fn take(
+        &mut self,
+        number: usize,
+        value: &Value<'_>,
+        rows: &mut Vec<StringRecord>,
+    ) -> Result<(), JsonFault>
+        requires numbers { HasNumbers (value_view value.now) }
+        ensures number { self.new.number ≡ self.old.number }
+        ensures read { (records : ℕ) (above : List Json) → HasRecords records above self.old → OnOk result (HasRecords records (above ++ value_view value.now ∷ []) self.new) }
+        ensures rows { (records : ℕ) (above : List Json) → HasRecords records above self.old → OnOk result (AppendsRest (ended_table records above) (ended_table records (above ++ value_view value.now ∷ [])) (map fields_of rows.old.items) (map fields_of rows.new.items)) }
+        ensures fault { (records : ℕ) (above : List Json) → HasRecords records above self.old → Tells (late_fault records above number (value_view value.now)) result }
+        ensures sound { (records : ℕ) (above : List Json) → HasRecords records above self.old → OnFault result (AppendsRest (ended_table records above) (streamed_table records above) (map fields_of rows.old.items) (map fields_of rows.new.items)) }
+    {
+        if self.left == 0 {
+            return self.push_late(number, value, rows);
+        }
+        self.hold(value)?;
+        self.left -= 1;
+        if self.left == 0 {
+            self.push_held(rows)?;
+        }
+        Ok(())
+    }
+
+    /// Reads a line, and appends the rows that are complete with it. Where the line is bad, it appends the rows above it that
+    /// were held.
+    pub(crate) fn read(
+        &mut self,
+        scratch: &mut Scratch,
+        line: &[u8],
+        rows: &mut Vec<StringRecord>,
+    ) -> Result<(), JsonFault>
+        ensures read { (records : ℕ) (above : List (List ℕ)) → HasLines records above self.old → OnOk result (HasLines records (above ++ line.now ∷ []) self.new) }
+        ensures rows { (records : ℕ) (above : List (List ℕ)) → HasLines records above self.old → OnOk result (AppendsRest (ended_table records (records_on above)) (ended_table records (records_on (above ++ line.now ∷ []))) (map fields_of rows.old.items) (map fields_of rows.new.items)) }
+        ensures fault { (records : ℕ) (above : List (List ℕ)) → HasLines records above self.old → Tells (fault_behind records above line.now) result }
+        ensures sound { (records : ℕ) (above : List (List ℕ)) → HasLines records above self.old → OnFault result (AppendsRest (ended_table records (records_on above)) (streamed_table records (records_on above)) (map fields_of rows.old.items) (map fields_of rows.new.items)) }
+    {
+        let number = self.number;
+        self.number = line_after(number, line);
+        match record_on(self.alloc, scratch, line, number) {
+            Ok(Some(value)) => self.take(number, &value, rows),
+            Ok(None) => Ok(()),
+            Err(fault) => {
+                self.finish(rows)?;
+                Err(fault)
+            }
+        }
+    }
+
+    /// Appends the rows that are held, behind which no line is left.
+    pub(crate) fn finish(&mut self, rows: &mut Vec<StringRecord>) -> Result<(), AllocError>
+        ensures rest { (records : ℕ) (above : List Json) → HasRecords records above self.old → OnOk result (AppendsRest (ended_table records above) (streamed_table records above) (map fields_of rows.old.items) (map fields_of rows.new.items)) }
+    {
+        if self.left == 0 {
+            return Ok(());
+        }
+        self.push_held(rows)
+    }
+}
+
+/// The rows that lines of JSON hold: a header and a row for each line, which is an object, as
+/// [`read_rows`](crate::read_rows) has them of an array of these objects. A blank line is no row.
+///
+/// What is wrong is told of the first bad line; and else nothing but want of memory.
+pub fn read_line_rows(alloc: Global, bytes: &[u8]) -> Result<Vec<StringRecord>, JsonFault>
+    ensures rows { IfOk result (λ rows. map fields_of rows.items ≡ line_rows_of bytes.now) }
+    ensures fault { Tells (line_rows_fault bytes.now) result }
+{
+    let lines = lines_of(alloc, bytes)?;
+    let count = lines.len();
+    let mut table = LineTable::new(alloc, count);
+    let mut scratch = Scratch::new(alloc);
+    let mut rows = Vec::new(alloc);
+    for line in &lines {
+        table.read(&mut scratch, line, &mut rows)?;
+    }
+    table.finish(&mut rows)?;
+    Ok(rows)
+}

@@ -1,0 +1,200 @@
+//! The columns of records, and their rows.
+
+ghost use Rattle.std.specs.Prelude.{◌≡◌, ◌==◌, ℕ, List, ◌∷◌, ◌++◌, [], fold, length, map, string_bytes, IfOk, IfSome, OnOk, option_map};
+ghost use Rattle.std.specs.List.{list_all, list_any};
+ghost use Rattle.std.specs.Str.{bytes_eq};
+ghost use Rattle.csv.specs.Records.{fields_of};
+ghost use Rattle.indexmap.specs.IndexMap.{get_by};
+ghost use Rattle.json.specs.Find.{get, get_member};
+ghost use Rattle.json.specs.Tree.{HasNumbers};
+ghost use Rattle.json.specs.Value.{members_view, value_view};
+ghost use Rattle.ruled_json.specs.Reading.{padded};
+ghost use Rattle.ruled_json.specs.Rows.{cell_text, has_all, names_in, row_of, with_name};
+
+use csv::StringRecord;
+use indexmap::{IndexMap, IndexSet};
+use json::{Value, to_vec};
+use std::alloc::{AllocError, Global};
+
+// How many columns there are at most whose members are looked for one by one.
+const NARROW: usize = 32;
+
+// The members of an object, and no members of another value.
+fn members_of<'v, 'a>(value: &'v Value<'a>) -> &'v [(&'a str, Value<'a>)]
+    ensures names { map (λ m. m.0.now) result.now ≡ names_in (value_view value.now) }
+    ensures members { (name : List ℕ) → get_member name (members_view result.now) ≡ get name (value_view value.now) }
+{
+    match value {
+        Value::Object(members) => members.as_slice(),
+        _ => &[],
+    }
+}
+
+// The members of an object by their names, of those of one name the last one.
+fn members_by_name<'v, 'a>(
+    alloc: Global,
+    value: &'v Value<'a>,
+) -> Result<IndexMap<&'a str, &'v Value<'a>>, AllocError>
+    ensures { IfOk result (λ members. (name : List ℕ) → option_map (λ v. value_view v.now) (get_by (λ known. bytes_eq name known.now) members) ≡ get name (value_view value.now)) }
+{
+    let list = members_of(value);
+    let mut members = IndexMap::with_capacity(alloc, list.len())?;
+    for member in list {
+        members.insert(member.0, &member.1)?;
+    }
+    Ok(members)
+}
+
+// The member of this name.
+fn member_named<'v, 'a>(
+    members: &IndexMap<&'a str, &'v Value<'a>>,
+    name: &str,
+) -> Option<&'v Value<'a>>
+    ensures { result ≡ get_by (λ known. bytes_eq name.now known.now) members.now }
+{
+    members.get(name).copied()
+}
+
+// Appends the text of a member to a row.
+fn push_cell(
+    alloc: Global,
+    row: &mut StringRecord,
+    value: Option<&Value<'_>>,
+) -> Result<(), AllocError>
+    requires numbers { IfSome value (λ v. HasNumbers (value_view v.now)) }
+    ensures { OnOk result (fields_of row.new ≡ fields_of row.old ++ cell_text (option_map (λ v. value_view v.now) value.entry) ∷ []) }
+{
+    match value {
+        None | Some(Value::Null) => row.push_field(""),
+        Some(Value::Number(text)) | Some(Value::String(text)) => row.push_field(text),
+        Some(value) => {
+            let bytes = to_vec(alloc, value)?;
+            row.push_field(unsafe { str::from_utf8_unchecked(&bytes) })
+        }
+    }
+}
+
+/// The names of columns, in the order in which they were first seen.
+#[derive(Drop)]
+pub(crate) struct MemberNames {
+    names: IndexSet<String>,
+}
+
+impl MemberNames {
+    /// No column.
+    pub(crate) fn new(alloc: Global) -> MemberNames
+        ensures { map string_bytes result.names.keys ≡ [] }
+    {
+        MemberNames {
+            names: IndexSet::new(alloc),
+        }
+    }
+
+    /// Whether there is no column.
+    pub(crate) fn is_empty(&self) -> bool
+        ensures { result ≡ (length (map string_bytes self.now.names.keys) == 0) }
+    {
+        self.names.is_empty()
+    }
+
+    // Whether there is a column of this name.
+    fn has(&self, name: &str) -> bool
+        ensures { result ≡ list_any (bytes_eq name.now) (map string_bytes self.now.names.keys) }
+    {
+        self.names.contains(name)
+    }
+
+    // Whether each of these members has a column.
+    fn has_each(&self, members: &[(&str, Value<'_>)]) -> bool
+        ensures { result ≡ list_all (λ member. list_any (bytes_eq member.0.now) (map string_bytes self.now.names.keys)) members.now }
+    {
+        members.iter().all(|member| self.has(member.0))
+    }
+
+    /// Whether each member of a record has a column.
+    pub(crate) fn has_all(&self, value: &Value<'_>) -> bool
+        ensures { result ≡ has_all (map string_bytes self.now.names.keys) (value_view value.now) }
+    {
+        self.has_each(members_of(value))
+    }
+
+    // Adds a column of this name, unless there is one.
+    fn add(&mut self, alloc: Global, name: &str) -> Result<(), AllocError>
+        ensures { OnOk result (map string_bytes self.new.names.keys ≡ with_name (map string_bytes self.old.names.keys) name.now) }
+    {
+        if !self.names.contains(name) {
+            let text = String::from_str(alloc, name)?;
+            self.names.insert(text)?;
+        }
+        Ok(())
+    }
+
+    /// Adds the columns of a record that aren't there yet.
+    pub(crate) fn add_record(&mut self, alloc: Global, value: &Value<'_>) -> Result<(), AllocError>
+        ensures { OnOk result (map string_bytes self.new.names.keys ≡ fold with_name (map string_bytes self.old.names.keys) (names_in (value_view value.now))) }
+    {
+        for member in members_of(value) {
+            self.add(alloc, member.0)?;
+        }
+        Ok(())
+    }
+
+    /// The header.
+    pub(crate) fn header(&self, alloc: Global) -> Result<StringRecord, AllocError>
+        ensures { IfOk result (λ row. fields_of row ≡ map string_bytes self.now.names.keys) }
+    {
+        let mut row = StringRecord::new(alloc);
+        for name in self.names.as_slice() {
+            row.push_field(name.as_str())?;
+        }
+        Ok(row)
+    }
+
+    // The row of a record of few columns.
+    fn narrow_row(&self, alloc: Global, value: &Value<'_>) -> Result<StringRecord, AllocError>
+        requires numbers { HasNumbers (value_view value.now) }
+        ensures { IfOk result (λ row. fields_of row ≡ row_of (map string_bytes self.now.names.keys) (value_view value.now)) }
+    {
+        let mut row = StringRecord::new(alloc);
+        for name in self.names.as_slice() {
+            push_cell(alloc, &mut row, value.get(name.as_str()))?;
+        }
+        Ok(row)
+    }
+
+    // The row of a record of many columns.
+    fn wide_row(&self, alloc: Global, value: &Value<'_>) -> Result<StringRecord, AllocError>
+        requires numbers { HasNumbers (value_view value.now) }
+        ensures { IfOk result (λ row. fields_of row ≡ row_of (map string_bytes self.now.names.keys) (value_view value.now)) }
+    {
+        let members = members_by_name(alloc, value)?;
+        let mut row = StringRecord::new(alloc);
+        for name in self.names.as_slice() {
+            push_cell(alloc, &mut row, member_named(&members, name.as_str()))?;
+        }
+        Ok(row)
+    }
+
+    /// The row of a record.
+    pub(crate) fn row(&self, alloc: Global, value: &Value<'_>) -> Result<StringRecord, AllocError>
+        requires numbers { HasNumbers (value_view value.now) }
+        ensures { IfOk result (λ row. fields_of row ≡ row_of (map string_bytes self.now.names.keys) (value_view value.now)) }
+    {
+        if self.names.len() <= NARROW {
+            self.narrow_row(alloc, value)
+        } else {
+            self.wide_row(alloc, value)
+        }
+    }
+
+    /// A row with empty cells in the columns behind its own.
+    pub(crate) fn padded(&self, row: StringRecord) -> Result<StringRecord, AllocError>
+        ensures { IfOk result (λ padded_row. fields_of padded_row ≡ padded (length (map string_bytes self.now.names.keys)) (fields_of row)) }
+    {
+        let mut row = row;
+        for _count in row.len()..self.names.len() {
+            row.push_field("")?;
+        }
+        Ok(row)
+    }
+}
