@@ -2,6 +2,7 @@ pub mod Faults
 pub mod Formats
 pub mod Input
 pub mod LateRows
+pub mod Names
 pub mod Pieces
 pub mod Requests
 pub mod Runs

@@ -5,6 +5,7 @@ ghost use Rattle.ruled_io.specs.Faults as spec;
 ghost use Rattle.ruled_io.specs.declared.fault.InputFault.TheVariants.{Memory};
 ghost use Rattle.ruled_io.specs.declared.fault.RunFault.TheVariants.{Input};
 
+use crate::name::Quoted;
 use crate::request::{Log, Request};
 use pg_stream::StreamFault;
 use ruled_csv::RowsFault;
@@ -272,7 +273,8 @@ impl InputFault {
             InputFault::Stream(fault) => writeln!(err, "{fault}"),
             InputFault::Column(name) => {
                 let name = request.view.columns.get(name);
-                writeln!(err, "no column {}", name.map_or("", |name| name.as_str()))
+                let name = Quoted(name.map_or("", |name| name.as_str()));
+                writeln!(err, "no column {name}")
             }
             InputFault::Totals => writeln!(err, "the sizes are too large"),
             InputFault::Memory => writeln!(err, "out of memory"),

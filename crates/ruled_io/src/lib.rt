@@ -6,6 +6,7 @@ mod fault;
 mod formats;
 mod input;
 mod late_rows;
+mod name;
 mod pieces;
 mod program;
 mod request;
@@ -16,6 +17,7 @@ mod write;
 
 pub use crate::fault::{InputFault, RunFault, StreamedFault};
 pub use crate::formats::{Format, Kind};
+pub use crate::name::{OneLine, Quoted};
 pub use crate::program::{Ending, run};
 pub use crate::request::{Log, Request, Rows, Source};
 pub use crate::text::view;
