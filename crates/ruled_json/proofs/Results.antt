@@ -1,6 +1,7 @@
 -- What is said of a result, from what is said of another one.
-use Rattle.std.proofs.Common.{◌≡◌, ◌≢◌, ◌∙◌, Option, None, Some, Result, Ok, Err, refl, sym, ap}
+use Rattle.std.proofs.Common.{◌≡◌, ◌≢◌, ◌∙◌, Bool, true, false, Option, None, Some, Result, Ok, Err, refl, sym, ap}
 use Rattle.std.specs.Prelude.{IsErrAnd, OnOk}
+use Rattle.std.specs.Bool.{OnTrue}
 use Rattle.ruled_json.specs.Faults.{Tells, but_line}
 use Rattle.ruled_json.specs.Reading.{Foretells, OnFault}
 use Rattle.ruled_json.specs.declared.fault.JsonFault.{JsonFault}
@@ -39,3 +40,7 @@ pub foretold-handed-on : {X : Type 0} (right : Option JsonFault) (found : JsonFa
     → IsErrAnd r (λ (fault : JsonFault). fault ≡ found) → Foretells right r
 foretold-handed-on right found (Ok x) h told = absurd told
 foretold-handed-on right found (Err fault) h told = λ counts. h (λ e. counts (told ∙ e)) ∙ ap (λ (f : JsonFault). Some (but_line f)) (sym told)
+
+pub on-true : (b : Bool) (P : Type 0) → b ≡ true → OnTrue b P → P
+on-true true P e p = p
+on-true false P e p = absurd (cc)

@@ -1,7 +1,9 @@
 -- Values as they are read, and as the definitions have them.
-use Rattle.std.proofs.Common.{◌≡◌, ◌∙◌, ◌∷◌, ◌||◌, ℕ, List, [], map, Vec, Bool, String, string_bytes, true, inl, inr, Option, None, Some, option_map, IfSome, All, ◌<◌, length, get_or, subst, refl, sym, ap}
+use Rattle.std.proofs.Common.{◌≡◌, ◌∙◌, ◌∷◌, ◌||◌, ℕ, List, [], map, Vec, Bool, String, string_bytes, true, false, inl, inr, Option, None, Some, option_map, IfSome, All, ◌<◌, length, get_or, subst, refl, sym, ap}
 use Rattle.std.specs.List.{list_any}
+use Rattle.std.specs.Bool.{OnTrue}
 use Rattle.std.specs.Borrow.{Bor}
+use Rattle.std.proofs.lemmas.List.Folds.{list_any_at}
 use Rattle.std.specs.Str.{bytes_eq}
 use Rattle.std.specs.String.{string_eq}
 use Rattle.indexmap.specs.IndexSet.{insert_key}
@@ -48,6 +50,17 @@ pub added_as : {Z : Type 0} (name : List ℕ) (texts new : List (String Z)) (tex
     → map string_bytes new ≡ with_name (map string_bytes texts) name
 added_as {Z} name texts new text inserted is =
     ap (map string_bytes) inserted ∙ added texts text ∙ ap (with_name (map string_bytes texts)) is
+
+-- the text at a place is among all
+pub column-at : {Z : Type 0} (name known : List ℕ) (texts items : List (String Z)) (i : ℕ) (x : String Z) (b : Bool) → items ≡ texts → i < length items → x ≡ get_or items i x
+    → known ≡ string_bytes x → b ≡ bytes_eq name known → OnTrue b (list_any (bytes_eq name) (map string_bytes texts) ≡ true)
+column-at name known texts items i x false same within is text found = tt
+column-at {Z} name known texts items i x true same within is text found =
+    let test : String Z → Bool = λ t. bytes_eq name (string_bytes t) in
+    sym (among name texts) ∙ ap (list_any test) (sym same) ∙ list_any_at test items i x within (ap test (sym is) ∙ ap (bytes_eq name) (sym text) ∙ sym found)
+
+pub no-new-name : (columns : List (List ℕ)) (name : List ℕ) → list_any (bytes_eq name) columns ≡ true → columns ≡ with_name columns name
+no-new-name columns name there = rw there refl
 
 pub kept : {Z : Type 0} (name : List ℕ) (texts : List (String Z)) → list_any (λ (text : String Z). bytes_eq name (string_bytes text)) texts ≡ true
     → map string_bytes texts ≡ with_name (map string_bytes texts) name

@@ -8,6 +8,7 @@ mod lines;
 mod member_names;
 mod place;
 mod value;
+mod walk;
 
 pub use crate::fault::JsonFault;
 pub use crate::line_reader::LineReader;

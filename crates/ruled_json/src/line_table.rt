@@ -57,6 +57,7 @@ impl LineTable {
         if self.names.is_empty() {
             return Ok(());
         }
+        rows.reserve(self.held.len().saturating_add(1))?;
         rows.push(self.names.header(self.alloc)?)?;
         let held = mem::replace(&mut self.held, Vec::new(self.alloc));
         for row in held {

@@ -14,13 +14,6 @@ use json::{Scratch, Value};
 use memchr::memchr;
 use std::alloc::{AllocError, Global};
 
-/// What line feeds part.
-pub(crate) fn lines_of(alloc: Global, bytes: &[u8]) -> Result<Vec<&[u8]>, AllocError>
-    ensures { IfOk result (λ lines. map (λ line. line.now) lines.items ≡ lines_of bytes.now) }
-{
-    bytes.split(|byte| *byte == b'\n').collect(alloc)
-}
-
 /// The bytes in front of the first line feed and those behind it, where there is one.
 pub(crate) fn split_line(bytes: &[u8]) -> Option<(&[u8], &[u8])>
     ensures parts { IfSome result (λ parts. bytes.now ≡ parts.0.now ++ 10 ∷ parts.1.now) }
@@ -29,6 +22,20 @@ pub(crate) fn split_line(bytes: &[u8]) -> Option<(&[u8], &[u8])>
 {
     let end = memchr(b'\n', bytes)?;
     Some((&bytes[..end], &bytes[end + 1..]))
+}
+
+/// What line feeds part.
+pub(crate) fn lines_of(alloc: Global, bytes: &[u8]) -> Result<Vec<&[u8]>, AllocError>
+    ensures { IfOk result (λ lines. map (λ line. line.now) lines.items ≡ lines_of bytes.now) }
+{
+    let mut lines = Vec::new(alloc);
+    let mut rest = bytes;
+    while let Some((line, behind)) = split_line(rest) {
+        lines.push(line)?;
+        rest = behind;
+    }
+    lines.push(rest)?;
+    Ok(lines)
 }
 
 // Whether a line is blank.

@@ -1,6 +1,7 @@
 //! The columns of records, and their rows.
 
-ghost use Rattle.std.specs.Prelude.{◌≡◌, ◌==◌, ℕ, List, ◌∷◌, ◌++◌, [], fold, length, map, string_bytes, IfOk, IfSome, OnOk, option_map};
+ghost use Rattle.std.specs.Prelude.{◌≡◌, ◌==◌, ℕ, List, ◌∷◌, ◌++◌, [], fold, length, map, string_bytes, true, IfOk, IfSome, OnOk, option_map};
+ghost use Rattle.std.specs.Bool.{OnTrue};
 ghost use Rattle.std.specs.List.{list_all, list_any};
 ghost use Rattle.std.specs.Str.{bytes_eq};
 ghost use Rattle.csv.specs.Records.{fields_of};
@@ -18,6 +19,9 @@ use std::alloc::{AllocError, Global};
 
 // How many columns there are at most whose members are looked for one by one.
 const NARROW: usize = 32;
+
+// How many bytes of a cell a row has room for before it grows.
+const CELL: usize = 12;
 
 // The members of an object, and no members of another value.
 fn members_of<'v, 'a>(value: &'v Value<'a>) -> &'v [(&'a str, Value<'a>)]
@@ -53,6 +57,13 @@ fn member_named<'v, 'a>(
     ensures { result ≡ get_by (λ known. bytes_eq name.now known.now) members.now }
 {
     members.get(name).copied()
+}
+
+// Whether a name is this text.
+fn is_text(name: &str, text: &str) -> bool
+    ensures { result ≡ bytes_eq name.now text.now }
+{
+    name == text
 }
 
 // Appends the text of a member to a row.
@@ -104,11 +115,26 @@ impl MemberNames {
         self.names.contains(name)
     }
 
+    // Whether there is a column of this name, for which this place is looked at first.
+    fn has_at(&self, at: usize, name: &str) -> bool
+        ensures { result ≡ list_any (bytes_eq name.now) (map string_bytes self.now.names.keys) }
+    {
+        if self.stands_at(at, name) {
+            return true;
+        }
+        self.has(name)
+    }
+
     // Whether each of these members has a column.
     fn has_each(&self, members: &[(&str, Value<'_>)]) -> bool
         ensures { result ≡ list_all (λ member. list_any (bytes_eq member.0.now) (map string_bytes self.now.names.keys)) members.now }
     {
-        members.iter().all(|member| self.has(member.0))
+        for (at, member) in members.iter().enumerate() {
+            if !self.has_at(at, member.0) {
+                return false;
+            }
+        }
+        true
     }
 
     /// Whether each member of a record has a column.
@@ -129,12 +155,34 @@ impl MemberNames {
         Ok(())
     }
 
+    // Whether the column at this place has this name.
+    fn stands_at(&self, at: usize, name: &str) -> bool
+        ensures { OnTrue result (list_any (bytes_eq name.now) (map string_bytes self.now.names.keys) ≡ true) }
+    {
+        let names = self.names.as_slice();
+        if at >= names.len() {
+            return false;
+        }
+        is_text(name, names[at].as_str())
+    }
+
+    // Adds a column of this name, unless there is one, for which this place is looked at first.
+    fn add_at(&mut self, alloc: Global, at: usize, name: &str) -> Result<(), AllocError>
+        ensures { OnOk result (map string_bytes self.new.names.keys ≡ with_name (map string_bytes self.old.names.keys) name.now) }
+    {
+        if self.stands_at(at, name) {
+            return Ok(());
+        }
+        self.add(alloc, name)
+    }
+
     /// Adds the columns of a record that aren't there yet.
     pub(crate) fn add_record(&mut self, alloc: Global, value: &Value<'_>) -> Result<(), AllocError>
         ensures { OnOk result (map string_bytes self.new.names.keys ≡ fold with_name (map string_bytes self.old.names.keys) (names_in (value_view value.now))) }
     {
-        for member in members_of(value) {
-            self.add(alloc, member.0)?;
+        let members = members_of(value);
+        for (at, member) in members.iter().enumerate() {
+            self.add_at(alloc, at, member.0)?;
         }
         Ok(())
     }
@@ -150,12 +198,20 @@ impl MemberNames {
         Ok(row)
     }
 
+    // A row of no cells, with room for some.
+    fn empty_row(&self, alloc: Global) -> Result<StringRecord, AllocError>
+        ensures { IfOk result (λ row. fields_of row ≡ []) }
+    {
+        let count = self.names.len();
+        StringRecord::with_capacity(alloc, count.saturating_mul(CELL), count)
+    }
+
     // The row of a record of few columns.
     fn narrow_row(&self, alloc: Global, value: &Value<'_>) -> Result<StringRecord, AllocError>
         requires numbers { HasNumbers (value_view value.now) }
         ensures { IfOk result (λ row. fields_of row ≡ row_of (map string_bytes self.now.names.keys) (value_view value.now)) }
     {
-        let mut row = StringRecord::new(alloc);
+        let mut row = self.empty_row(alloc)?;
         for name in self.names.as_slice() {
             push_cell(alloc, &mut row, value.get(name.as_str()))?;
         }
@@ -168,7 +224,7 @@ impl MemberNames {
         ensures { IfOk result (λ row. fields_of row ≡ row_of (map string_bytes self.now.names.keys) (value_view value.now)) }
     {
         let members = members_by_name(alloc, value)?;
-        let mut row = StringRecord::new(alloc);
+        let mut row = self.empty_row(alloc)?;
         for name in self.names.as_slice() {
             push_cell(alloc, &mut row, member_named(&members, name.as_str()))?;
         }

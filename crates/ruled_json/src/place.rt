@@ -3,8 +3,6 @@
 ghost use Rattle.std.specs.Prelude.{◌≡◌};
 ghost use Rattle.ruled_json.specs.Faults.{but_near};
 
-use json::{MAX_DEPTH, Reader, Scratch};
-use std::alloc::Global;
 use std::fmt;
 
 /// Where something is wrong.
@@ -30,26 +28,18 @@ impl Place {
     }
 }
 
-// The line of this byte, counted from 1.
+// The line of this byte, counted from 1: LF, CRLF and a lone CR each end one.
 fn line_of(bytes: &[u8], offset: usize) -> usize {
-    let above = bytes
+    let above = bytes.get(..offset).unwrap_or(bytes);
+    let ends = above
         .iter()
-        .take(offset)
-        .filter(|byte| **byte == b'\n')
+        .filter(|byte| matches!(**byte, b'\n' | b'\r'))
         .count();
-    above.saturating_add(1)
-}
-
-/// At which byte it is seen that a text is no JSON value.
-pub(crate) fn offset_of_fault(alloc: Global, text: &str) -> usize {
-    let mut scratch = Scratch::new(alloc);
-    let Ok(mut reader) = Reader::new(text, &mut scratch) else {
-        return 0;
-    };
-    if reader.skip_value(MAX_DEPTH).is_ok() {
-        let _ = reader.next();
-    }
-    reader.offset()
+    let pairs = above
+        .windows(2)
+        .filter(|pair| matches!(*pair, [b'\r', b'\n']))
+        .count();
+    ends.saturating_sub(pairs).saturating_add(1)
 }
 
 /// Writes what stands before the words of a fault.

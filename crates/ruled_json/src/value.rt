@@ -10,7 +10,8 @@ ghost use Rattle.ruled_json.specs.Rows.{columns_of, records_in, rows_of, table_o
 
 use crate::fault::JsonFault;
 use crate::member_names::MemberNames;
-use crate::place::{Place, offset_of_fault};
+use crate::place::Place;
+use crate::walk::offset_of_bad;
 use csv::StringRecord;
 use json::{Error, Scratch, Value, is_valid};
 use std::alloc::{AllocError, Global};
@@ -36,7 +37,7 @@ pub(crate) fn value_of<'a>(
     match Value::parse(alloc, text, scratch) {
         Ok(value) => Ok(value),
         Err(Error::Invalid) => {
-            let offset = offset_of_fault(alloc, text);
+            let offset = offset_of_bad(alloc, text);
             Err(JsonFault::Syntax(place.at(bytes, offset)))
         }
         Err(_) => Err(JsonFault::Memory),
