@@ -129,6 +129,15 @@ pub(crate) fn single_line_width(text: &str, kind: TextKind) -> Option<usize>
     if is_plain_text(text, kind) {
         return Some(text.len());
     }
+    width_if_single(text)
+}
+
+// The same of any text. It is out of line, since most are plain: what is round it keeps more in registers.
+#[inline(never)]
+fn width_if_single(text: &str) -> Option<usize>
+    ensures one { IfSome result (λ _. lines_of text.now ≡ text.now ∷ []) }
+    ensures width { IfSome result (λ width. width ≡ width_of text.now) }
+{
     if has_no_feed(text.as_bytes()) {
         return Some(text.width());
     }

@@ -32,7 +32,7 @@ pub fn push_vertical<C: ANSIFmt, A: Allocator>(
 /// border's colour, else in the colour set for that line; nothing where no glyph stands.
 ///
 /// An error comes only where the buffer's room is too small; the buffer then holds a beginning.
-#[inline(always)]
+#[inline(never)]
 pub fn push_vertical_at<B: Allocator, A: Allocator>(
     buf: &mut String<A>,
     config: &SpannedConfig<B>,
