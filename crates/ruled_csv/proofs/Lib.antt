@@ -1,5 +1,6 @@
 mod Marks
 pub mod Readers
+mod Runs
 mod Scans
 pub mod SoundRows
 mod TextFaults

@@ -1,11 +1,13 @@
 -- A byte order mark at the front of bytes.
-use Rattle.std.proofs.Common.{◌≡◌, ◌∙◌, ◌∷◌, [], ◌++◌, ◌&&◌, inl, inr, ℕ, List, Bool, Some, None, nat_eq, take, drop, true, false, refl, sym, ap}
+use Rattle.std.proofs.Common.{◌≡◌, ◌∙◌, ◌∷◌, [], ◌++◌, ◌&&◌, inl, inr, ℕ, List, Bool, Some, None, nat_eq, take, drop, true, false, refl, sym, ap, append-nil, append_assoc}
 use Rattle.std.specs.Prelude.{◌==◌, ◌⊎◌, fold}
 use Rattle.std.specs.Cmp.Lexicographic.{pointwise}
 use Rattle.std.proofs.lemmas.Bool.{and_parts, cases_Bool, eqb-true, false≢true}
+use Rattle.std.proofs.lemmas.List.Sums.{fold-append}
 use Rattle.csv.specs.Reading.{is_bom, strip_bom}
 use Rattle.ruled_csv.specs.Inside.{Scan, ends_mark, front_after, scan_of, scan_start}
 use Rattle.ruled_csv.specs.declared.fault.RowsFault.{RowsFault}
+use Rattle.ruled_csv.specs.declared.reader.Front.{Front}
 use Rattle.ruled_csv.specs.declared.reader.Front.TheVariants as front
 use Rattle.ruled_csv.proofs.Scans.{fault-stays, scan-append}
 
@@ -51,7 +53,7 @@ third a b c = elim (cases_Bool (a == 0xEF)) [
   | inr is-false ↦ rw is-false refl
 ]
 
-late : (text : List ℕ) → fold front_after front.Text text ≡ front.Text
+pub late : (text : List ℕ) → fold front_after front.Text text ≡ front.Text
 late [] = refl
 late (byte ∷ text) = late text
 
@@ -90,6 +92,17 @@ strip-more (a ∷ b ∷ c ∷ text) byte e = elim (cases_Bool (is_bom a b c)) [
   | inl is-true ↦ rw is-true refl
   | inr is-false ↦ rw is-false refl
 ]
+
+-- behind the place of a mark all bytes do
+pub strip-late : (before text : List ℕ) → fold front_after front.Start before ≡ front.Text → strip_bom (before ++ text) ≡ strip_bom before ++ text
+strip-late before [] past = ap strip_bom (append-nil before) ∙ sym (append-nil (strip_bom before))
+strip-late before (byte ∷ text) past =
+    let none : ends_mark (fold front_after front.Start before) byte ≡ false = ap (λ (f : Front). ends_mark f byte) past in
+    let next = fold-append front_after front.Start before (byte ∷ []) ∙ ap (λ (f : Front). front_after f byte) past in
+    ap strip_bom (sym (append_assoc before (byte ∷ []) text))
+    ∙ strip-late (before ++ byte ∷ []) text next
+    ∙ ap (λ (xs : List ℕ). xs ++ text) (strip-more before byte none)
+    ∙ append_assoc (strip_bom before) (byte ∷ []) text
 
 -- in a text no row ends, and nothing is wrong
 abbrev pub IsBare : ℕ → List ℕ → Type 0

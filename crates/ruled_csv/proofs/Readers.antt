@@ -6,7 +6,7 @@ use Rattle.std.proofs.lemmas.List.{take-append-drop, take_more}
 use Rattle.std.proofs.lemmas.List.Sums.{fold-append}
 use Rattle.csv.specs.Reading.{strip_bom}
 use Rattle.ruled_csv.specs.Faults.{Tells, but_line, rows_fault, sound_rows, sound_rows_in}
-use Rattle.ruled_csv.specs.Inside.{Holds, Scan, empty_hand, ends_mark, fault_below, front_after, hand_of, last_row, open_fault, row_ended, scan_after, scan_of, scan_start, with_row}
+use Rattle.ruled_csv.specs.Inside.{Holds, Joins, Scan, empty_hand, ends_mark, fault_below, front_after, hand_of, last_row, open_fault, row_ended, scan_after, scan_of, scan_start, with_row}
 use Rattle.ruled_csv.specs.Reading.{AppendsRest, AppendsSome, Foretells, HasRead, OnFault}
 use Rattle.ruled_csv.specs.Rows.{ended_rows, rows_of}
 use Rattle.ruled_csv.specs.declared.fault.RowsFault.{RowsFault}
@@ -15,7 +15,7 @@ use Rattle.ruled_csv.specs.declared.reader.Front.{Front}
 use Rattle.ruled_csv.specs.declared.reader.Front.TheVariants as front
 use Rattle.ruled_csv.specs.declared.reader.RowReader.{RowReader}
 use Rattle.ruled_csv.specs.declared.scanner.Scanner.{Scanner}
-use Rattle.ruled_csv.proofs.Marks.{fault-behind-mark, mark-begins, mark-ends, mark-parts, marked-fault, strip-more}
+use Rattle.ruled_csv.proofs.Marks.{fault-behind-mark, late, mark-begins, mark-ends, mark-parts, marked-fault, strip-late, strip-more}
 use Rattle.ruled_csv.proofs.Scans.{ended-scanned, records-scanned, scan-append}
 use Rattle.ruled_csv.proofs.SoundRows.{ended-first, stops-at, stops-last}
 use Rattle.ruled_csv.proofs.TextFaults.{fault-found, fault-last}
@@ -126,6 +126,31 @@ module _ (delimiter : ℕ) (before : List ℕ) (byte : ℕ) (old : RowReader) (r
       ap (sound_rows_in delimiter) (parts ∙ ap (λ (xs : List ℕ). xs ++ behind) text)
       ∙ stops-at delimiter (strip_bom before) byte behind read.scan.right fault found
       ∙ sym (ended-is delimiter before)
+
+-- ---- a run
+
+module _ (delimiter : ℕ) (before run : List ℕ) (old new : RowReader) (read : HasRead delimiter before old) (past : old.front ≡ front.Text)
+    (joins : Joins old.scanner.delimiter run (hand_of old.scanner) (hand_of new.scanner)) where
+  run-is : scan_of delimiter (strip_bom (before ++ run)) ≡ record (scan_of delimiter (strip_bom before)) { hand = hand_of new.scanner }
+  run-is =
+      let joined = subst (λ (d : ℕ). Joins d run (hand_of old.scanner) (hand_of new.scanner)) read.scan.delimiter_is joins in
+      ap (scan_of delimiter) (strip-late before run (sym read.front ∙ past))
+      ∙ scan-append delimiter scan_start (strip_bom before) run
+      ∙ joined (scan_of delimiter (strip_bom before)) (sym read.scan.hand)
+
+  pub read-run : new.front ≡ old.front → new.scanner.delimiter ≡ old.scanner.delimiter → new.rows ≡ old.rows → new.columns ≡ old.columns → HasRead delimiter (before ++ run) new
+  read-run same delimiters rows columns = record {
+    front = same ∙ past ∙ sym (fold-append front_after front.Start before run ∙ ap (λ (f : Front). fold front_after f run) (sym read.front ∙ past) ∙ late run);
+    scan = subst (λ (s : Scan). Holds delimiter s new) (sym run-is) (record {
+      delimiter_is = delimiters ∙ read.scan.delimiter_is;
+      hand = refl;
+      counts = (rows ∙ read.scan.counts.0, columns ∙ read.scan.counts.1);
+      right = read.scan.right;
+    });
+  }
+
+  pub rows-run : ended_rows delimiter (before ++ run) ≡ ended_rows delimiter before
+  rows-run = ended-is delimiter (before ++ run) ∙ ap (λ (s : Scan). s.rows) run-is ∙ sym (ended-is delimiter before)
 
 -- where a reader has read bytes, the rows that ended in them are the first sound ones of all bytes
 pub ended-sound : (delimiter : ℕ) (before behind : List ℕ) (reader : RowReader) → HasRead delimiter before reader

@@ -8,6 +8,7 @@ use Rattle.csv.specs.declared.parser.Action.{Action}
 use Rattle.csv.specs.declared.parser.Action.TheVariants as act
 use Rattle.csv.specs.declared.parser.State.{State}
 use Rattle.csv.specs.declared.parser.State.TheVariants as st
+use Rattle.memchr.specs.Find.{is_byte3}
 use Rattle.ruled_csv.specs.Faults.{number_of, row_fault}
 use Rattle.ruled_csv.specs.Quotes.{is_closing, is_plain, is_quoted}
 use Rattle.ruled_csv.specs.Rows.{columns_of, config_of}
@@ -88,6 +89,10 @@ lines_after lines byte = record {
   is_behind_return = byte == 13;
 }
 
+-- behind text that ends no line
+abbrev pub calm_lines : Lines → Lines
+calm_lines lines = record { line = lines.line; is_behind_return = false }
+
 -- ---- the row at hand
 
 pub record Hand : Type 0 where
@@ -166,6 +171,33 @@ scan_from delimiter scan text = fold (scan_after delimiter) scan text
 
 abbrev pub scan_of : ℕ → List ℕ → Scan
 scan_of delimiter text = scan_from delimiter scan_start text
+
+-- ---- a run: bytes of which none is a quote and none ends a line
+
+abbrev pub is_calm : ℕ → Bool
+is_calm byte = not (is_byte3 34 13 10 byte)
+
+-- behind a byte of a run that is in no quotes: what is in front of the next one, and the fields with the one at hand
+abbrev pub state_behind : ℕ → State → ℕ → State
+state_behind delimiter state byte = if byte == delimiter then st.StartField else st.InField
+
+abbrev pub fields_behind : ℕ → List (List ℕ) × List ℕ → ℕ → List (List ℕ) × List ℕ
+fields_behind delimiter (fields, field) byte = if byte == delimiter then (fields ++ field ∷ [], []) else (fields, field ++ byte ∷ [])
+
+-- the fields that a run cuts off
+abbrev pub cut_fields : ℕ → Hand → List ℕ → List (List ℕ) × List ℕ
+cut_fields delimiter hand run = fold (fields_behind delimiter) (hand.fields, hand.field) run
+
+abbrev pub hand_cut : ℕ → Hand → List ℕ → Hand
+hand_cut delimiter hand run = record hand {
+  state = fold (state_behind delimiter) hand.state run;
+  fields = (cut_fields delimiter hand run).0;
+  field = (cut_fields delimiter hand run).1;
+}
+
+-- among these bytes no row ends and nothing is wrong, and behind them this row is at hand
+abbrev pub Joins : ℕ → List ℕ → Hand → Hand → Type 0
+Joins delimiter text old new = (scan : Scan) → scan.hand ≡ old → scan_from delimiter scan text ≡ record scan { hand = new }
 
 -- ---- bytes
 

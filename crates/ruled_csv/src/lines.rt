@@ -1,7 +1,7 @@
 //! The lines of bytes.
 
 ghost use Rattle.std.specs.Prelude.{◌≡◌};
-ghost use Rattle.ruled_csv.specs.Inside.{lines_after, lines_start};
+ghost use Rattle.ruled_csv.specs.Inside.{calm_lines, lines_after, lines_start};
 
 /// A count of lines, of which LF, CRLF and a lone CR each end one.
 #[derive(Clone, Copy)]
@@ -28,6 +28,16 @@ impl Lines {
         ensures { result ≡ self.line }
     {
         self.line
+    }
+
+    /// The count behind bytes that end no line.
+    pub(crate) fn behind_text(self) -> Lines
+        ensures { result ≡ calm_lines self }
+    {
+        Lines {
+            line: self.line,
+            is_behind_return: false,
+        }
     }
 
     /// The count behind this byte.

@@ -1,6 +1,6 @@
 //! Rows, of which the bytes come one piece after another.
 
-ghost use Rattle.std.specs.Prelude.{◌≡◌, ◌++◌, ◌∷◌, [], ℕ, List, map, Some, IfOk, OnErr, OnOk};
+ghost use Rattle.std.specs.Prelude.{◌≡◌, ◌≤◌, ◌++◌, ◌∷◌, [], ℕ, List, length, map, take, Some, IfOk, OnErr, OnOk};
 ghost use Rattle.csv.specs.Records.{fields_of};
 ghost use Rattle.ruled_csv.specs.Faults.{Tells, number_of, row_fault, rows_fault, sound_rows};
 ghost use Rattle.ruled_csv.specs.Inside.{Counts, Holds, Scan, ends_mark, fault_below, front_after, row_ended, scan_after, with_row};
@@ -10,7 +10,7 @@ ghost use Rattle.ruled_csv.specs.Rows.{ended_rows, rows_of};
 use crate::fault::RowsFault;
 use crate::scanner::Scanner;
 use csv::{ByteRecord, StringRecord};
-use std::alloc::Global;
+use std::alloc::{AllocError, Global};
 
 /// What stands in front of a byte.
 #[derive(Clone, Copy)]
@@ -149,6 +149,18 @@ impl RowReader {
         self.scan(byte, rows)
     }
 
+    // Reads the next bytes as far as no row ends and nothing is wrong, and returns how many they are: as many as are seen at once.
+    fn read_run(&mut self, bytes: &[u8]) -> Result<usize, AllocError>
+        ensures within { IfOk result (λ count. count ≤ length bytes.now) }
+        ensures read { (delimiter : ℕ) (before : List ℕ) → HasRead delimiter before self.old → IfOk result (λ count. HasRead delimiter (before ++ take count bytes.now) self.new) }
+        ensures rows { (delimiter : ℕ) (before : List ℕ) → HasRead delimiter before self.old → IfOk result (λ count. ended_rows delimiter (before ++ take count bytes.now) ≡ ended_rows delimiter before) }
+    {
+        match self.front {
+            Front::Text => self.scanner.read_run(bytes),
+            _ => Ok(0),
+        }
+    }
+
     /// Reads the next bytes, and appends the rows that end among them: with a fault, those above the first bad row.
     pub fn read(self, bytes: &[u8], rows: &mut Vec<StringRecord>) -> Result<RowReader, RowsFault>
         ensures read { (delimiter : ℕ) (before : List ℕ) → HasRead delimiter before self → IfOk result (λ reader. HasRead delimiter (before ++ bytes.now) reader) }
@@ -162,8 +174,12 @@ impl RowReader {
             (map fields_of rows.old.items) (map fields_of rows.new.items)) }
     {
         let mut reader = self;
-        for byte in bytes {
-            reader.read_byte(*byte, rows)?;
+        let mut at = 0;
+        while at < bytes.len() {
+            reader.read_byte(bytes[at], rows)?;
+            at += 1;
+            let run = reader.read_run(&bytes[at..])?;
+            at += run;
         }
         Ok(reader)
     }

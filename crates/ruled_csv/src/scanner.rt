@@ -1,17 +1,19 @@
 //! Rows that are read byte by byte.
 
-ghost use Rattle.std.specs.Prelude.{◌≡◌, ◌++◌, ◌∷◌, ℕ, [], false, true, not, IfOk, OnOk, option_map};
+ghost use Rattle.std.specs.Prelude.{◌≡◌, ◌<◌, ◌≤◌, ◌++◌, ◌∷◌, ℕ, [], false, true, not, IfOk, IsTrue, OnOk, length, option_map, take};
+ghost use Rattle.std.specs.List.{list_all};
 ghost use Rattle.csv.specs.Machine.{in_field, start_field, step};
 ghost use Rattle.csv.specs.Records.{fields_of};
 ghost use Rattle.csv.specs.declared.parser.State.TheVariants as st;
 ghost use Rattle.ruled_csv.specs.Faults.{Tells};
-ghost use Rattle.ruled_csv.specs.Inside.{behind_fault, empty_hand, hand_after, hand_of, is_act_behind, is_bare, is_behind, is_open, last_row, open_fault, opens, row_ended, state_of, step_of};
-ghost use Rattle.ruled_csv.specs.Quotes.{is_plain, is_quoted};
+ghost use Rattle.ruled_csv.specs.Inside.{Joins, behind_fault, empty_hand, hand_after, hand_cut, hand_of, is_act_behind, is_bare, is_behind, is_calm, is_open, last_row, open_fault, opens, row_ended, state_of, step_of};
+ghost use Rattle.ruled_csv.specs.Quotes.{is_closing, is_plain, is_quoted};
 ghost use Rattle.ruled_csv.specs.Rows.{config_of};
 
 use crate::fault::RowsFault;
 use crate::lines::Lines;
 use csv::ByteRecord;
+use memchr::memchr3;
 use std::alloc::{AllocError, Global};
 
 /// What stands in front of a byte.
@@ -117,6 +119,14 @@ fn quoted_step(byte: u8) -> Step
     Step { next, act }
 }
 
+// How many bytes there are in front of the first quote and of the first end of a line.
+fn run_of(bytes: &[u8]) -> usize
+    ensures within { result ≤ length bytes.now }
+    ensures calm { IsTrue (list_all is_calm (take result bytes.now)) }
+{
+    memchr3(b'"', b'\r', b'\n', bytes).unwrap_or(bytes.len())
+}
+
 impl Standing {
     // What the byte behind this does.
     fn step(self, delimiter: u8, byte: u8) -> Step
@@ -152,6 +162,13 @@ impl Standing {
         ensures { result ≡ is_quoted (state_of self) }
     {
         matches!(self, Standing::Quoted)
+    }
+
+    // Whether a quote stands in front that may close its field.
+    fn is_closing(self) -> bool
+        ensures { result ≡ is_closing (state_of self) }
+    {
+        matches!(self, Standing::Closing)
     }
 
     // Whether no row is at hand.
@@ -228,6 +245,78 @@ impl Scanner {
         let row = self.row.clone()?;
         self.row.clear();
         Ok(row)
+    }
+
+    // Ends the field at hand, to which these bytes belong, too.
+    fn end_field_with(&mut self, bytes: &[u8]) -> Result<(), AllocError>
+        ensures hand { OnOk result (hand_of self.new ≡ record (hand_of self.old) { fields = (hand_of self.old).fields ++ (((hand_of self.old).field ++ bytes.now) ∷ []); field = [] }) }
+        ensures delimiter { self.new.delimiter ≡ self.old.delimiter }
+    {
+        if self.field.is_empty() {
+            return self.row.push_field(bytes);
+        }
+        self.field.extend_from_slice(bytes)?;
+        self.end_field()
+    }
+
+    // Reads a run in no quotes.
+    fn cut_run(&mut self, run: &[u8]) -> Result<(), AllocError>
+        ensures hand { OnOk result (hand_of self.new ≡ hand_cut self.old.delimiter (hand_of self.old) run.now) }
+        ensures delimiter { self.new.delimiter ≡ self.old.delimiter }
+    {
+        let delimiter = self.delimiter;
+        let mut standing = self.standing;
+        let mut start = 0;
+        for at in 0..run.len() {
+            if run[at] != delimiter {
+                standing = Standing::Plain;
+                continue;
+            }
+            self.end_field_with(&run[start..at])?;
+            standing = Standing::Field;
+            start = at + 1;
+        }
+        self.standing = standing;
+        self.field.extend_from_slice(&run[start..])
+    }
+
+    // Reads a run.
+    fn join_run(&mut self, run: &[u8]) -> Result<(), AllocError>
+        requires calm { IsTrue (list_all is_calm run.now) }
+        requires some { 0 < length run.now }
+        requires open { is_closing (state_of self.old.standing) ≡ false }
+        ensures hand { OnOk result (Joins self.old.delimiter run.now (hand_of self.old) (hand_of self.new)) }
+        ensures delimiter { self.new.delimiter ≡ self.old.delimiter }
+    {
+        self.begun = if self.standing.is_between() {
+            self.lines.line()
+        } else {
+            self.begun
+        };
+        self.lines = self.lines.behind_text();
+        if self.standing.is_quoted() {
+            self.field.extend_from_slice(run)
+        } else {
+            self.cut_run(run)
+        }
+    }
+
+    /// Reads the next bytes as far as none is a quote and none ends a line, and returns how many they are. Behind a quote that
+    /// may close its field it reads none.
+    pub(crate) fn read_run(&mut self, bytes: &[u8]) -> Result<usize, AllocError>
+        ensures within { IfOk result (λ count. count ≤ length bytes.now) }
+        ensures hand { IfOk result (λ count. Joins self.old.delimiter (take count bytes.now) (hand_of self.old) (hand_of self.new)) }
+        ensures delimiter { self.new.delimiter ≡ self.old.delimiter }
+    {
+        if self.standing.is_closing() {
+            return Ok(0);
+        }
+        let count = run_of(bytes);
+        if count == 0 {
+            return Ok(0);
+        }
+        self.join_run(&bytes[..count])?;
+        Ok(count)
     }
 
     /// Reads a byte, and gives the row that ends with it.

@@ -1,61 +1,60 @@
-use Rattle.std.proofs.Common.{◌≡◌, ◌≢◌, ◌<◌, ◌≤◌, ◌+◌, List, ℕ, ◌++◌, Some, drop, length, map, take, ◌∙◌, append-nil, ap, sym, subst}
+use Rattle.std.proofs.Common.{◌≡◌, ◌≢◌, ◌<◌, ◌≤◌, ◌+◌, ◌∙◌, List, ℕ, ◌++◌, ◌∷◌, [], Some, drop, get_or, length, length-drop, map, take, append_assoc, arith, ap, refl, sym, subst}
+use Rattle.std.proofs.lemmas.List.{take_rest}
+use Rattle.std.proofs.Math.Seq.{take-add}
 use Rattle.csv.specs.Records.{fields_of}
 use Rattle.ruled_csv.specs.Faults.{but_line, rows_fault, sound_rows}
 use Rattle.ruled_csv.specs.Reading.{AppendsRest, HasRead}
 use Rattle.ruled_csv.specs.Rows.{ended_rows}
 use Rattle.ruled_csv.specs.declared.fault.RowsFault.TheVariants.{Memory}
-use Rattle.ruled_csv.proofs.Readers.{appends-first, appends-more, appends-none, appends-to, ended-sound, foretold-on, front-more, front-parts, front-whole, on-error, on-fault, take-whole}
+use Rattle.ruled_csv.proofs.Readers.{appends-first, appends-more, appends-to, ended-sound, foretold-on, front-more, front-parts, front-whole, on-error, on-fault}
 use Rattle.ruled_csv.proofs.reader.RowReader.read.Goals as goal
 
-pub loop-byte-init : goal.loop-byte-init
-loop-byte-init c = λ delimiter before read.
-    let rows = map fields_of c.args.rows.now.items in
-    let none = sym (append-nil before) in (
-      subst (λ (bytes : List ℕ). HasRead delimiter bytes c.args.self) none read,
-      subst (λ (bytes : List ℕ). AppendsRest (ended_rows delimiter before) (ended_rows delimiter bytes) rows rows) none (appends-none (ended_rows delimiter before) rows),
-    )
-
-pub loop-byte-preserved : goal.loop-byte-preserved
-loop-byte-preserved c = λ delimiter before read.
+pub loop-at-preserved : goal.loop-at-preserved
+loop-at-preserved c =
     let bytes = c.args.bytes.now in
-    let i = c.loop-byte.byte-index in
-    let within : i < length bytes = c.loop-byte-test.true in
-    let (now, rows) = c.loop-byte.invariant delimiter before read in
-    let more = sym (front-more before bytes i within) in
-    let next = c.in_ok-read_byte.ensures in (
-      subst (λ (all : List ℕ). HasRead delimiter all c.read_byte.new.self) more (next.read delimiter (before ++ take i bytes) now),
-      subst (λ (all : List ℕ). AppendsRest (ended_rows delimiter before) (ended_rows delimiter all) (map fields_of c.args.rows.now.items) (map fields_of c.read_byte.new.rows.items)) more
-          (appends-more _ _ _ _ _ _ rows (next.rows delimiter (before ++ take i bytes) now)),
+    let i = c.loop-at.at in
+    let count = c.in_ok-run.run' in
+    let within : i < length bytes = c.loop-at-test.true in
+    let ran = c.in_ok-run.ensures in
+    let rest = take_rest bytes (i + 1) in
+    let short : count ≤ length (drop (i + 1) bytes) = subst (λ (xs : List ℕ). count ≤ length xs) rest ran.within in (
+      omega (arith, length-drop (i + 1) bytes, within, short),
+      λ delimiter before read.
+          let (now, rows) = c.loop-at.invariant.1 delimiter before read in
+          let next = c.in_ok-read_byte.ensures in
+          let more = sym (front-more before bytes i within) in
+          let front = before ++ take (i + 1) bytes in
+          let byte-read = subst (λ (all : List ℕ). HasRead delimiter all c.read_byte.new.self) more (next.read delimiter (before ++ take i bytes) now) in
+          let byte-rows =
+          subst (λ (all : List ℕ). AppendsRest (ended_rows delimiter before) (ended_rows delimiter all) (map fields_of c.args.rows.now.items) (map fields_of c.read_byte.new.rows.items)) more
+          (appends-more _ _ _ _ _ _ rows (next.rows delimiter (before ++ take i bytes) now)) in
+          let run-read : HasRead delimiter (front ++ take count (drop (i + 1) bytes)) c.read_run.new.self =
+          subst (λ (xs : List ℕ). HasRead delimiter (front ++ take count xs) c.read_run.new.self) rest (ran.read delimiter front byte-read) in
+          let run-rows : ended_rows delimiter (front ++ take count (drop (i + 1) bytes)) ≡ ended_rows delimiter front =
+          subst (λ (xs : List ℕ). ended_rows delimiter (front ++ take count xs) ≡ ended_rows delimiter front) rest (ran.rows delimiter front byte-read) in
+          let behind = append_assoc before (take (i + 1) bytes) (take count (drop (i + 1) bytes)) ∙ ap (λ (xs : List ℕ). before ++ xs) (sym (take-add (i + 1) count bytes)) in (
+            subst (λ (all : List ℕ). HasRead delimiter all c.read_run.new.self) behind run-read,
+            appends-to _ _ _ _ _ _ byte-rows (ap (ended_rows delimiter) (sym behind) ∙ run-rows) refl,
+          ),
     )
 
 pub returns-in_err-read_byte-clause-fault : goal.returns-in_err-read_byte-clause-fault
 returns-in_err-read_byte-clause-fault c = λ delimiter before behind read.
     let bytes = c.args.bytes.now in
-    let i = c.loop-byte.byte-index in
-    let within : i < length bytes = c.loop-byte-test.true in
-    let (now, rows) = c.loop-byte.invariant delimiter before read in
+    let i = c.loop-at.at in
+    let within : i < length bytes = c.loop-at-test.true in
+    let (now, rows) = c.loop-at.invariant.1 delimiter before read in
     let found = c.in_err-read_byte.field-0.0 in
     let told = subst (λ (all : List ℕ). found ≢ Memory → rows_fault delimiter all ≡ Some (but_line found)) (front-whole before bytes behind i within)
     (c.in_err-read_byte.ensures.fault delimiter (before ++ take i bytes) (drop (i + 1) bytes ++ behind) now) in
     foretold-on found (rows_fault delimiter ((before ++ bytes) ++ behind)) c.from_residual.result told c.from_residual.ensures.1
 
-pub returns-clause-read : goal.returns-clause-read
-returns-clause-read c = λ delimiter before read.
-    let past : length c.args.bytes.now ≤ c.loop-byte.byte-index = c.loop-byte-test.false in
-    subst (λ (bytes : List ℕ). HasRead delimiter (before ++ bytes) c.loop-byte.reader) (take-whole c.args.bytes.now c.loop-byte.byte-index past) (c.loop-byte.invariant delimiter before read).0
-
-pub returns-clause-rows : goal.returns-clause-rows
-returns-clause-rows c = λ delimiter before read.
-    let past : length c.args.bytes.now ≤ c.loop-byte.byte-index = c.loop-byte-test.false in
-    subst (λ (bytes : List ℕ). AppendsRest (ended_rows delimiter before) (ended_rows delimiter (before ++ bytes)) (map fields_of c.args.rows.now.items) (map fields_of c.loop-byte.rows.items))
-    (take-whole c.args.bytes.now c.loop-byte.byte-index past) (c.loop-byte.invariant delimiter before read).1
-
 pub returns-in_err-read_byte-clause-sound : goal.returns-in_err-read_byte-clause-sound
 returns-in_err-read_byte-clause-sound c = λ delimiter before behind read.
     let bytes = c.args.bytes.now in
-    let i = c.loop-byte.byte-index in
-    let within : i < length bytes = c.loop-byte-test.true in
-    let (now, rows) = c.loop-byte.invariant delimiter before read in
+    let i = c.loop-at.at in
+    let within : i < length bytes = c.loop-at-test.true in
+    let (now, rows) = c.loop-at.invariant.1 delimiter before read in
     let found = c.in_err-read_byte.field-0.0 in
     let failed = c.in_err-read_byte.ensures in
     let all = ap (sound_rows delimiter) (sym (front-whole before bytes behind i within)) in
@@ -66,8 +65,24 @@ returns-in_err-read_byte-clause-sound c = λ delimiter before behind read.
 pub returns-in_err-read_byte-clause-cut : goal.returns-in_err-read_byte-clause-cut
 returns-in_err-read_byte-clause-cut c = λ delimiter before behind read.
     let bytes = c.args.bytes.now in
-    let i = c.loop-byte.byte-index in
-    let (now, rows) = c.loop-byte.invariant delimiter before read in
-    let (more, first) = ended-sound delimiter (before ++ take i bytes) (drop i bytes ++ behind) c.loop-byte.reader now in
+    let i = c.loop-at.at in
+    let (now, rows) = c.loop-at.invariant.1 delimiter before read in
+    let (more, first) = ended-sound delimiter (before ++ take i bytes) (drop i bytes ++ behind) c.loop-at.reader now in
     let all = ap (sound_rows delimiter) (sym (front-parts before bytes behind i)) ∙ first in
     on-error c.from_residual.result (appends-first _ _ _ _ _ _ more rows all (ap (map fields_of) c.in_err-read_byte.ensures.kept))
+
+pub returns-in_err-run-clause-cut : goal.returns-in_err-run-clause-cut
+returns-in_err-run-clause-cut c = λ delimiter before behind read.
+    let bytes = c.args.bytes.now in
+    let i = c.loop-at.at in
+    let within : i < length bytes = c.loop-at-test.true in
+    let (now, rows) = c.loop-at.invariant.1 delimiter before read in
+    let next = c.in_ok-read_byte.ensures in
+    let byte = sym (front-more before bytes i within) in
+    let byte-read = subst (λ (all : List ℕ). HasRead delimiter all c.read_byte.new.self) byte (next.read delimiter (before ++ take i bytes) now) in
+    let byte-rows =
+    subst (λ (all : List ℕ). AppendsRest (ended_rows delimiter before) (ended_rows delimiter all) (map fields_of c.args.rows.now.items) (map fields_of c.read_byte.new.rows.items)) byte
+    (appends-more _ _ _ _ _ _ rows (next.rows delimiter (before ++ take i bytes) now)) in
+    let (more, first) = ended-sound delimiter (before ++ take (i + 1) bytes) (drop (i + 1) bytes ++ behind) c.read_byte.new.self byte-read in
+    let all = ap (sound_rows delimiter) (sym (front-parts before bytes behind (i + 1))) ∙ first in
+    on-error _ (appends-first _ _ _ _ _ _ more byte-rows all refl)

@@ -1,0 +1,15 @@
+use Rattle.std.proofs.Common.{◌≡◌, ◌≤◌, ◌++◌, take}
+use Rattle.std.specs.Prelude.{fold}
+use Rattle.std.specs.List.{slice_range}
+use Rattle.ruled_csv.specs.Inside.{fields_behind, hand_of, state_behind, state_of}
+use Rattle.ruled_csv.proofs.scanner.Scanner.cut_run.Given as goal
+
+abbrev pub invariant-loop-at : goal.invariant-loop-at
+invariant-loop-at l =
+    let old = hand_of l.fn.self in
+    let now = hand_of l.self in
+    (l.start ≤ l.at)
+    × (l.self.delimiter ≡ l.fn.self.delimiter)
+    × (now ≡ record old { fields = now.fields; field = now.field })
+    × (fold (fields_behind l.fn.self.delimiter) (old.fields, old.field) (take l.at l.run) ≡ (now.fields, now.field ++ slice_range l.run l.start l.at))
+    × (state_of l.standing ≡ fold (state_behind l.fn.self.delimiter) (state_of l.fn.self.standing) (take l.at l.run))
