@@ -1,9 +1,9 @@
 -- Why the least width of a line isn't told, and what is told of one that may be none.
-use Rattle.std.proofs.Common.{◌≡◌, ℕ, ◌-◌, ◌^◌, ◌<◌, ◌≤◌, ◌&&◌, Bool, true, false, not, nat_lt, cond, List, [], map, length, slice_index_or, refl, sym, ap, ◌∙◌, arith, Option, Some, None, is_some, Result, Err, is_ok, IfOk, IsOk}
+use Rattle.std.proofs.Common.{◌≡◌, ℕ, ◌-◌, ◌^◌, ◌<◌, ◌≤◌, ◌&&◌, Bool, true, false, not, nat_lt, cond, List, [], map, length, slice_index_or, refl, sym, ap, ◌∙◌, arith, Option, Some, None, is_some, Result, Err, is_ok, IfOk, IsOk, inl, inr}
 use Rattle.std.specs.List.{range_with_len}
 use Rattle.std.specs.Option.{ok_or}
 use Rattle.std.specs.Result.{result_err}
-use Rattle.std.proofs.lemmas.Bool.{and_from, and_right, and_left, false≢true}
+use Rattle.std.proofs.lemmas.Bool.{and_from, and_right, and_left, cases_Bool, false≢true}
 use Rattle.std.proofs.lemmas.Bool.Decides.{nat_tests}
 use Rattle.pg_layout.specs.Text.{Text}
 use Rattle.pg_config.specs.Config.{Config}
@@ -65,6 +65,14 @@ module _ (how : Overflow) (config : Config) (texts : List (List Text)) (columns 
   least-none : misfits ≡ false → (counted && nat_lt full (2 ^ 64)) ≡ true → least_fault how config texts columns ≡ None
   unfolding least_fault
   least-none fit all = rw (fit, all) refl
+
+  -- spans that fit, or that aren't kept, are never why
+  pub least-no_spans : misfits ≡ false → least_fault how config texts columns ≡ Some Spans → ⊥
+  least-no_spans fit told =
+      elim (cases_Bool (counted && nat_lt full (2 ^ 64))) [
+        | inl all ↦ (let none = least-none fit all in cc)
+        | inr past ↦ (let totals = least-past fit past in cc)
+      ]
 
   pub least-uncounted : misfits ≡ false → counted ≡ false → least_fault how config texts columns ≡ Some Totals
   least-uncounted fit many = least-past fit (and_left counted (nat_lt full (2 ^ 64)) many)

@@ -17,6 +17,7 @@ pub mod RoomOfNeeds
 pub mod ShownCells
 pub mod TotalsOfSizes
 pub mod CellsAndSizes
+pub mod UntitledTables
 pub mod TrimmedWidths
 pub mod FittedTexts
 pub mod LeastColumns

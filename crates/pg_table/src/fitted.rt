@@ -65,7 +65,9 @@ where
     ) -> Result<usize, TableFault>
         ensures width { IfOk result (λ width. width ≡ least_width_of how.entry R.texts R.columns (natural_parts self.now)) }
         ensures ok { IsOk result → least_fault_of how.entry R.texts R.columns (natural_parts self.now) ≡ None }
-        ensures fault { (fault : TableFault) → result ≡ Err fault → (least_fault_of how.entry R.texts R.columns (natural_parts self.now) ≡ Some fault) ⊎ ((fault ≡ TableFault.Memory) × (keeps_spans self.now.config.now (R.texts self.now.records) (R.columns self.now.records) ≡ true)) }
+        ensures spans { least_fault_of how.entry R.texts R.columns (natural_parts self.now) ≡ Some TableFault.Spans → result ≡ Err TableFault.Spans }
+        ensures fault { (fault : TableFault) → result ≡ Err fault → (least_fault_of how.entry R.texts R.columns (natural_parts self.now) ≡ Some fault)
+            ⊎ ((fault ≡ TableFault.Memory) × (keeps_spans self.now.config.now (R.texts self.now.records) (R.columns self.now.records) ≡ true)) }
     {
         if self.keeps_spans() {
             return self.spanned_least_width(alloc, how);
@@ -73,8 +75,8 @@ where
         self.plain_least_width(how).ok_or(TableFault::Totals)
     }
 
-    // The same of a table that keeps no spans, or None where it passes `usize::MAX` or the columns are too
-    // many to count.
+    // The width of a line of a table that keeps no spans, where each column is as narrow as it can be, or
+    // None where it passes `usize::MAX` or the columns are too many to count.
     fn plain_least_width(&self, how: Overflow) -> Option<usize>
         ensures { result ≡ (if nat_lt (R.columns self.now.records) (2 ^ 64 - 1) then if_fits (plain_full_width how.entry self.now.config.now (R.texts self.now.records) (R.columns self.now.records)) else None) }
     {
@@ -111,7 +113,7 @@ where
         self.within_limits(alloc, width, &[], how)
     }
 
-    /// The same, where the first columns have limits of their own, their paddings among them:
+    /// [`NaturalTable::within`] where the first columns have limits of their own, their paddings among them:
     /// `limits[0]` is the greatest width of column 0, `usize::MAX` is no limit, and columns behind the
     /// last have none. With a width of `usize::MAX` the limits alone count.
     ///
@@ -175,7 +177,8 @@ where
         Ok(Vec::new(alloc))
     }
 
-    // The same of a table that keeps no spans.
+    // Sets other texts for the cells of a table that keeps no spans, where they are too wide for their
+    // columns.
     fn fit_plain<A: Allocator + Copy>(
         &self,
         alloc: A,
@@ -217,7 +220,7 @@ where
     ghost use Rattle.pg_table.specs.Printing.{fault_of, is_spanned, CanFail, Prints};
     ghost use Rattle.pg_table.specs.declared.sizes.Axis.TheVariants.{Columns, Rows};
 
-    // The same table over the records with their fitted texts.
+    // The table over the records with their fitted texts.
     fn natural(&self) -> NaturalTable<'_, &OverlaidRecords<R, A>, C, B>
         ensures records { result.records.now ≡ self.now.records }
         ensures config { result.config.now ≡ self.now.config.now }
@@ -226,7 +229,7 @@ where
         NaturalTable::new(&self.records, self.config, self.colors)
     }
 
-    // The same, with columns of at least the widths that they were narrowed to.
+    // The table with columns of at least the widths that they were narrowed to.
     fn told(&self) -> ToldTable<'_, &OverlaidRecords<R, A>, C, B>
         ensures records { result.table.records.now ≡ self.now.records }
         ensures config { result.table.config.now ≡ self.now.config.now }
@@ -266,6 +269,7 @@ where
     pub fn fits<D: Allocator + Copy>(&self, alloc: D) -> Result<(), TableFault>
         ensures ok { IsOk result → fault_of (printed_fitted_table R.texts R.columns C.color self.now) ≡ None }
         ensures fault { (fault : TableFault) → result ≡ Err fault → CanFail (printed_fitted_table R.texts R.columns C.color self.now) fault }
+        ensures empty { is_empty (printed_fitted_table R.texts R.columns C.color self.now) ≡ true → IsOk result }
     {
         if self.keeps_spans() {
             return self.told().fits(alloc);

@@ -27,7 +27,7 @@ fn are_numbers(sizes: &[usize])
     ensures { all_fit sizes.now ≡ true }
 {}
 
-// The same of widths and heights.
+// Shows that all widths and all heights are numbers of 64 bits.
 #[inline(always)]
 fn both_are_numbers<A: Allocator>(sizes: &ConstantDimension<A>)
     ensures widths { all_fit sizes.now.0.items ≡ true }
@@ -202,7 +202,7 @@ impl<'a, R: PeekableRecords + ExactRecords, B: Allocator> NaturalSizes<'a, R, B>
         Some((across, down))
     }
 
-    // The same of all cells with a span, in their order.
+    // What each cell with a span needs of its columns and of its rows, in the order of the spans.
     fn needs<A: Allocator + Copy>(
         &self,
         alloc: A,
@@ -292,7 +292,8 @@ impl<'a, R: PeekableRecords + ExactRecords, B: Allocator> NaturalSizes<'a, R, B>
         }
     }
 
-    /// The same, with columns that are at least so wide.
+    /// The natural sizes of a table that keeps spans, with columns that are at least so wide; None as
+    /// by [`NaturalSizes::measured`].
     pub(crate) fn measured_from<A: Allocator + Copy>(
         &self,
         alloc: A,
@@ -328,7 +329,7 @@ impl<'a, R: PeekableRecords + ExactRecords, B: Allocator> NaturalSizes<'a, R, B>
         true
     }
 
-    // The same of each shown cell in a row.
+    // Whether the width and the height of each shown cell in a row are at most `usize::MAX`.
     fn row_fits(&self, row: usize) -> bool
         requires { row < length (R.texts self.now.records) }
         ensures { result ≡ list_all (λ c. not (is_visible self.now.config.now.spans (at row c)) || is_sized self.now.config.now (text_at (R.texts self.now.records)) (at row c)) (range_with_len 0 (R.columns self.now.records)) }

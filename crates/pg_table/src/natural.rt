@@ -81,21 +81,37 @@ where
         if !self.spans_fit() {
             return Err(TableFault::Spans);
         }
-        let sizes = self.sizes();
-        match sizes.measured(alloc) {
+        match self.sizes().measured(alloc) {
             Ok(Some(dimension)) => Ok(dimension),
             Ok(None) => Err(TableFault::Totals),
-            Err(_) => {
-                if sizes.cells_fit() {
-                    Err(TableFault::Memory)
-                } else {
-                    Err(TableFault::Totals)
-                }
-            }
+            Err(_) => Err(self.sizes_fault().unwrap_or(TableFault::Memory)),
         }
     }
 
-    // The same of a table without cells.
+    // Why the table has no natural sizes: its spans don't fit, or a size passes `usize::MAX`. Takes no
+    // memory.
+    pub(crate) fn sizes_fault(&self) -> Option<TableFault>
+        ensures { result ≡ sizes_fault_of R.texts R.columns (natural_parts self.now) }
+    {
+        let sizes = self.sizes();
+        if self.is_empty() {
+            return if sizes.fit() {
+                None
+            } else {
+                Some(TableFault::Totals)
+            };
+        }
+        if !self.spans_fit() {
+            return Some(TableFault::Spans);
+        }
+        if sizes.cells_fit() {
+            None
+        } else {
+            Some(TableFault::Totals)
+        }
+    }
+
+    // The natural sizes of a table without cells.
     fn dimension_without_cells<A: Allocator + Copy>(
         &self,
         alloc: A,
@@ -121,11 +137,11 @@ where
     pub fn fits<A: Allocator + Copy>(&self, alloc: A) -> Result<(), TableFault>
         ensures ok { IsOk result → fault_of (printed_table_of R.texts R.columns C.color (natural_parts self.now)) ≡ None }
         ensures fault { (fault : TableFault) → result ≡ Err fault → CanFail (printed_table_of R.texts R.columns C.color (natural_parts self.now)) fault }
+        ensures empty { is_empty (printed_table_of R.texts R.columns C.color (natural_parts self.now)) ≡ true → IsOk result }
     {
-        if self.is_empty() {
-            return Ok(());
+        if !self.is_empty() {
+            self.sized(alloc)?;
         }
-        self.sized(alloc)?;
         Ok(())
     }
 

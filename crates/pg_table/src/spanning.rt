@@ -109,7 +109,7 @@ impl<'a, R: PeekableRecords + ExactRecords, B: Allocator> NaturalSizes<'a, R, B>
         Some(width)
     }
 
-    // The same of all columns.
+    // How wide the cells without a span of each column are at least, or None where that passes `usize::MAX`.
     fn least_singles<A: Allocator>(
         &self,
         alloc: A,
@@ -149,7 +149,8 @@ impl<'a, R: PeekableRecords + ExactRecords, B: Allocator> NaturalSizes<'a, R, B>
         })
     }
 
-    // The same of all cells with a span, in their order.
+    // What each cell with a span needs at least of its columns, in the order of the spans, or None where a
+    // least width passes `usize::MAX`.
     fn least_needs<A: Allocator>(
         &self,
         alloc: A,
@@ -254,7 +255,7 @@ impl<'a, R: PeekableRecords + ExactRecords, B: Allocator> NaturalSizes<'a, R, B>
         self.fit_cell(alloc, how, room, pos, fitted)
     }
 
-    // The same of all cells in a row.
+    // Sets other texts for the shown cells in a row whose texts are too wide for their columns.
     fn fit_row<A: Allocator + Copy>(
         &self,
         alloc: A,

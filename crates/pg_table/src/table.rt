@@ -88,6 +88,7 @@ impl<T, A: Allocator> Table<T, A> {
     ghost use Rattle.std.specs.Prelude.{◌≡◌, true};
     ghost use Rattle.pg_config.specs.Settings.{with_setting};
     ghost use Rattle.pg_table.specs.Even.{IsNarrowLook, are_line_glyphs, are_line_fills};
+    ghost use Rattle.pg_table.specs.OwnRows.{aligned};
 
     /// The table with this padding of all cells. Takes no memory.
     pub fn with_padding(mut self, padding: Sides<Indent>) -> Table<T, A>
@@ -104,7 +105,7 @@ impl<T, A: Allocator> Table<T, A> {
     pub fn with_alignment(mut self, alignment: AlignmentHorizontal) -> Table<T, A>
     where
         A: Clone,
-        ensures table { result ≡ record self { config = record self.config { alignment_horizontal = with_setting Entity.Global alignment self.config.alignment_horizontal } } }
+        ensures table { result ≡ aligned Entity.Global alignment self }
         ensures narrow { IsNarrowLook self.config → IsNarrowLook result.config }
     {
         self.config
@@ -143,16 +144,16 @@ impl<T, A: Allocator> Table<T, A> {
 }
 
 impl<T: AsStr + Drop, A: Allocator> Table<T, A> {
-    ghost use Rattle.std.specs.Prelude.{ℕ, [], ◌<◌, ◌≤◌, ◌⊎◌, max, ◌≡◌, length, OnErr, ◌&&◌, ◌++◌, true, false, map, Some, None, Err, IfOk, IsOk, OnOk, string_bytes};
+    ghost use Rattle.std.specs.Prelude.{ℕ, [], ◌<◌, ◌≤◌, ◌⊎◌, max, ◌≡◌, length, OnErr, ◌++◌, true, false, Some, None, Err, IfOk, IsOk, OnOk, string_bytes};
     ghost use Rattle.pg_layout.specs.Records.{columns_of};
     ghost use Rattle.pg_config.specs.Overrides.{has_glyph};
     ghost use Rattle.pg_picture.specs.Straight.{IsStraight};
     ghost use Rattle.pg_picture.specs.Picture.{picture};
     ghost use Rattle.pg_picture.specs.Table.{Known, full_width, is_empty};
     ghost use Rattle.pg_table.specs.Fitted.{HasPlainTail, limit_of, drawn_rows, fitted_rows, fit_fault_rows, keeps_spans_rows, least_at_rows, least_fault_rows, least_width_rows, IsNarrowRows};
-    ghost use Rattle.pg_table.specs.Natural.{natural_sizes};
+    ghost use Rattle.pg_table.specs.OwnRows.{headed, own_sizes, own_sizes_fault};
     ghost use Rattle.pg_table.specs.Even.{IsEven, IsEvenText, IsNarrowLook, is_of_line_glyphs};
-    ghost use Rattle.pg_table.specs.Printing.{fault_of, is_spanned, sizes_fault, printed_table, with_header_line, CanFail, Prints};
+    ghost use Rattle.pg_table.specs.Printing.{fault_of, is_spanned, printed_table, CanFail, Prints};
     ghost use Rattle.pg_table.specs.declared.sizes.Axis.TheVariants.{Columns, Rows};
 
     /// Draws a line between row 0 and row 1, and no other row line but those of the borders. A glyph
@@ -164,7 +165,7 @@ impl<T: AsStr + Drop, A: Allocator> Table<T, A> {
     pub fn set_header_line(&mut self, line: HorizontalLine<char>) -> Result<(), AllocError>
     where
         A: Clone,
-        ensures ok { OnOk result (self.new ≡ record self.old { config = with_header_line line (length self.old.rows) (columns_of self.old.rows) self.old.config }) }
+        ensures ok { OnOk result (self.new ≡ headed line self.old) }
         ensures err { OnErr result (self.new ≡ self.old) }
         ensures few { length self.old.rows < 2 → IsOk result }
         ensures nothing { has_glyph (columns_of self.old.rows) line ≡ false → IsOk result }
@@ -177,8 +178,8 @@ impl<T: AsStr + Drop, A: Allocator> Table<T, A> {
         self.config.set_row_line(1, columns, line)
     }
 
-    /// The same table with a line between row 0 and row 1 ([`Table::set_header_line`]). Where memory
-    /// is refused the table is let go.
+    /// Draws a line between row 0 and row 1 of a table by value ([`Table::set_header_line`]). Where
+    /// memory is refused the table is let go.
     ///
     /// ```text
     /// let table = table.with_borders(Borders::psql()).with_header_line(HorizontalLine::psql())?;
@@ -186,7 +187,9 @@ impl<T: AsStr + Drop, A: Allocator> Table<T, A> {
     pub fn with_header_line(mut self, line: HorizontalLine<char>) -> Result<Table<T, A>, TableFault>
     where
         A: Clone,
-        ensures ok { IfOk result (λ table. table ≡ record self { config = with_header_line line (length self.rows) (columns_of self.rows) self.config }) }
+        ensures ok { IfOk result (λ table. table ≡ headed line self) }
+        ensures few { length self.rows < 2 → IsOk result }
+        ensures nothing { has_glyph (columns_of self.rows) line ≡ false → IsOk result }
         ensures narrow { IsNarrowLook self.config → is_of_line_glyphs line ≡ true → IfOk result (λ table. IsNarrowLook table.config) }
         ensures memory { (fault : TableFault) → result ≡ Err fault → fault ≡ TableFault.Memory }
     {
@@ -206,10 +209,10 @@ impl<T: AsStr + Drop, A: Allocator> Table<T, A> {
         &self,
         alloc: B,
     ) -> Result<ConstantDimension<B>, TableFault>
-        ensures fault { (fault : TableFault) → sizes_fault self.now.config (map (λ row. map T.text row) self.now.rows) (columns_of self.now.rows) ≡ Some fault → result ≡ Err fault }
-        ensures memory { (fault : TableFault) → sizes_fault self.now.config (map (λ row. map T.text row) self.now.rows) (columns_of self.now.rows) ≡ None → result ≡ Err fault → fault ≡ TableFault.Memory }
-        ensures widths { IfOk result (λ d. d.0.items ≡ natural_sizes Columns self.now.config (map (λ row. map T.text row) self.now.rows) (columns_of self.now.rows)) }
-        ensures heights { IfOk result (λ d. d.1.items ≡ natural_sizes Rows self.now.config (map (λ row. map T.text row) self.now.rows) (columns_of self.now.rows)) }
+        ensures fault { (fault : TableFault) → own_sizes_fault T.text self.now ≡ Some fault → result ≡ Err fault }
+        ensures memory { (fault : TableFault) → own_sizes_fault T.text self.now ≡ None → result ≡ Err fault → fault ≡ TableFault.Memory }
+        ensures widths { IfOk result (λ d. d.0.items ≡ own_sizes Columns T.text self.now) }
+        ensures heights { IfOk result (λ d. d.1.items ≡ own_sizes Rows T.text self.now) }
     {
         self.natural().natural_dimension(alloc)
     }
@@ -258,7 +261,9 @@ impl<T: AsStr + Drop, A: Allocator> Table<T, A> {
     ) -> Result<usize, TableFault>
         ensures width { IfOk result (λ width. width ≡ least_width_rows how.entry T.text self.now) }
         ensures ok { IsOk result → least_fault_rows how.entry T.text self.now ≡ None }
-        ensures fault { (fault : TableFault) → result ≡ Err fault → (least_fault_rows how.entry T.text self.now ≡ Some fault) ⊎ ((fault ≡ TableFault.Memory) × (keeps_spans_rows T.text self.now ≡ true)) }
+        ensures spans { least_fault_rows how.entry T.text self.now ≡ Some TableFault.Spans → result ≡ Err TableFault.Spans }
+        ensures fault { (fault : TableFault) → result ≡ Err fault → (least_fault_rows how.entry T.text self.now ≡ Some fault)
+            ⊎ ((fault ≡ TableFault.Memory) × (keeps_spans_rows T.text self.now ≡ true)) }
     {
         self.natural().least_width(alloc, how)
     }
@@ -291,7 +296,8 @@ impl<T: AsStr + Drop, A: Allocator> Table<T, A> {
         self.natural().within(alloc, width, how)
     }
 
-    /// The same, where the first columns have limits of their own ([`NaturalTable::within_limits`]).
+    /// [`Table::within`] where the first columns have limits of their own
+    /// ([`NaturalTable::within_limits`]).
     pub fn within_limits<B: Allocator + Copy>(
         &self,
         alloc: B,
@@ -301,7 +307,8 @@ impl<T: AsStr + Drop, A: Allocator> Table<T, A> {
     ) -> Result<FittedTable<'_, &VecRecords<T, A>, ColorsMap<A>, A, B>, TableFault>
         ensures table { IfOk result (λ fitted. drawn_rows T.text fitted ≡ fitted_rows how.entry width limits.now T.text self.now) }
         ensures bound { HasPlainTail how.entry → IfOk result (λ fitted. full_width (drawn_rows T.text fitted) ≤ max width (least_width_rows how.entry T.text self.now)) }
-        ensures limits { HasPlainTail how.entry → IfOk result (λ fitted. (k : ℕ) → k < columns_of self.now.rows → (drawn_rows T.text fitted).width k ≤ max (least_at_rows how.entry T.text self.now k) (limit_of limits.now k)) }
+        ensures limits { HasPlainTail how.entry → IfOk result (λ fitted. (k : ℕ) → k < columns_of self.now.rows
+            → (drawn_rows T.text fitted).width k ≤ max (least_at_rows how.entry T.text self.now k) (limit_of limits.now k)) }
         ensures fault { (fault : TableFault) → fit_fault_rows T.text self.now ≡ Some fault → result ≡ Err fault }
         ensures memory { (fault : TableFault) → fit_fault_rows T.text self.now ≡ None → result ≡ Err fault → fault ≡ TableFault.Memory }
         ensures empty { is_empty (printed_table T.text self.now) ≡ true → IsOk result }
@@ -310,7 +317,14 @@ impl<T: AsStr + Drop, A: Allocator> Table<T, A> {
         self.natural().within_limits(alloc, width, limits, how)
     }
 
-    // The same table over what is lent.
+    // Why the table has no natural sizes ([`Table::natural_dimension`]). Takes no memory.
+    fn sizes_fault(&self) -> Option<TableFault>
+        ensures { result ≡ own_sizes_fault T.text self.now }
+    {
+        self.natural().sizes_fault()
+    }
+
+    // The table over its own records, settings and colours, which it lends.
     fn natural(&self) -> NaturalTable<'_, &VecRecords<T, A>, ColorsMap<A>, A>
         ensures records { result.records.now ≡ self.now.rows }
         ensures config { result.config.now ≡ self.now.config }

@@ -40,6 +40,7 @@ where
         requires { keeps_spans self.now.config.now (R.texts self.now.records) (R.columns self.now.records) ≡ true }
         ensures width { IfOk result (λ width. width ≡ least_width_of how.entry R.texts R.columns (natural_parts self.now)) }
         ensures ok { IsOk result → least_fault_of how.entry R.texts R.columns (natural_parts self.now) ≡ None }
+        ensures spans { least_fault_of how.entry R.texts R.columns (natural_parts self.now) ≡ Some TableFault.Spans → result ≡ Err TableFault.Spans }
         ensures fault { (fault : TableFault) → result ≡ Err fault → (least_fault_of how.entry R.texts R.columns (natural_parts self.now) ≡ Some fault) ⊎ (fault ≡ TableFault.Memory) }
     {
         if !self.spans_fit() {
@@ -111,17 +112,10 @@ where
         if !self.table.spans_fit() {
             return Err(TableFault::Spans);
         }
-        let sizes = self.table.sizes();
-        match sizes.measured_from(alloc, self.widths) {
+        match self.table.sizes().measured_from(alloc, self.widths) {
             Ok(Some(dimension)) => Ok(dimension),
             Ok(None) => Err(TableFault::Totals),
-            Err(_) => {
-                if sizes.cells_fit() {
-                    Err(TableFault::Memory)
-                } else {
-                    Err(TableFault::Totals)
-                }
-            }
+            Err(_) => Err(self.table.sizes_fault().unwrap_or(TableFault::Memory)),
         }
     }
 

@@ -1,8 +1,7 @@
 //! Crossings that follow the merged cells of a table.
 
-ghost use Rattle.std.specs.Prelude.{◌≡◌, [], length, OnOk, OnErr, IfOk, IsOk, Err};
-ghost use Rattle.pg_layout.specs.Records.{columns_of};
-ghost use Rattle.pg_table.specs.Crossings.{with_span_crossings};
+ghost use Rattle.std.specs.Prelude.{◌≡◌, [], OnOk, OnErr, IfOk, IsOk, Err};
+ghost use Rattle.pg_table.specs.OwnRows.{crossed};
 
 use crate::fault::TableFault;
 use crate::table::Table;
@@ -18,7 +17,7 @@ impl<T: AsStr + Drop, A: Allocator + Copy> Table<T, A> {
     /// Where memory is refused, nothing changes; without spans none is asked for. A span or a line that
     /// is told later changes no crossing.
     pub fn set_span_crossings(&mut self, alloc: A, borders: Borders<char>) -> Result<(), AllocError>
-        ensures ok { OnOk result (self.new ≡ record self.old { config = with_span_crossings borders (length self.old.rows) (columns_of self.old.rows) self.old.config }) }
+        ensures ok { OnOk result (self.new ≡ crossed borders self.old) }
         ensures err { OnErr result (self.new ≡ self.old) }
         ensures nothing { self.old.config.spans ≡ [] → IsOk result }
     {
@@ -26,8 +25,8 @@ impl<T: AsStr + Drop, A: Allocator + Copy> Table<T, A> {
         self.config.set_span_crossings(alloc, size, borders)
     }
 
-    /// The same table with crossings that follow its merged cells ([`Table::set_span_crossings`]).
-    /// Where memory is refused the table is let go.
+    /// Draws crossings that follow the merged cells, in a table by value
+    /// ([`Table::set_span_crossings`]). Where memory is refused the table is let go.
     ///
     /// ```text
     /// let table = table.with_config(config).with_span_crossings(alloc, Borders::sharp())?;
@@ -37,7 +36,7 @@ impl<T: AsStr + Drop, A: Allocator + Copy> Table<T, A> {
         alloc: A,
         borders: Borders<char>,
     ) -> Result<Table<T, A>, TableFault>
-        ensures ok { IfOk result (λ table. table ≡ record self { config = with_span_crossings borders (length self.rows) (columns_of self.rows) self.config }) }
+        ensures ok { IfOk result (λ table. table ≡ crossed borders self) }
         ensures memory { (fault : TableFault) → result ≡ Err fault → fault ≡ TableFault.Memory }
         ensures nothing { self.config.spans ≡ [] → IsOk result }
     {

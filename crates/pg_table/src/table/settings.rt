@@ -3,6 +3,7 @@
 ghost use Rattle.std.specs.Prelude.{◌≡◌, true, Err, IfOk, IsOk, OnErr, OnOk};
 ghost use Rattle.pg_config.specs.Settings.{with_setting, HasRoom};
 ghost use Rattle.pg_table.specs.Even.{IsNarrowLook, are_line_glyphs, are_line_fills};
+ghost use Rattle.pg_table.specs.OwnRows.{aligned};
 
 use crate::fault::TableFault;
 use crate::table::Table;
@@ -65,7 +66,7 @@ impl<T, A: Allocator> Table<T, A> {
     pub fn set_alignment(&mut self, alignment: AlignmentHorizontal)
     where
         A: Clone,
-        ensures table { self.new ≡ record self.old { config = record self.old.config { alignment_horizontal = with_setting Entity.Global alignment self.old.config.alignment_horizontal } } }
+        ensures table { self.new ≡ aligned Entity.Global alignment self.old }
         ensures narrow { IsNarrowLook self.old.config → IsNarrowLook self.new.config }
     {
         self.config
@@ -86,7 +87,7 @@ impl<T, A: Allocator> Table<T, A> {
     ) -> Result<(), AllocError>
     where
         A: Clone,
-        ensures ok { OnOk result (self.new ≡ record self.old { config = record self.old.config { alignment_horizontal = with_setting (Entity.Column column) alignment self.old.config.alignment_horizontal } }) }
+        ensures ok { OnOk result (self.new ≡ aligned (Entity.Column column) alignment self.old) }
         ensures err { OnErr result (self.new ≡ self.old) }
         ensures again { HasRoom (Entity.Column column) self.old.config.alignment_horizontal → IsOk result }
         ensures narrow { IsNarrowLook self.old.config → IsNarrowLook self.new.config }
@@ -95,8 +96,8 @@ impl<T, A: Allocator> Table<T, A> {
             .set_alignment_horizontal(Entity::Column(column), alignment)
     }
 
-    /// The same table with the texts of a column at this side ([`Table::set_column_alignment`]). Where
-    /// memory is refused the table is let go.
+    /// Puts the texts of a column at this side, in a table by value ([`Table::set_column_alignment`]).
+    /// Where memory is refused the table is let go.
     ///
     /// ```text
     /// let table = table.with_column_alignment(1, AlignmentHorizontal::Right)?;
@@ -109,7 +110,7 @@ impl<T, A: Allocator> Table<T, A> {
     where
         T: Drop,
         A: Clone,
-        ensures ok { IfOk result (λ table. table ≡ record self { config = record self.config { alignment_horizontal = with_setting (Entity.Column column) alignment self.config.alignment_horizontal } }) }
+        ensures ok { IfOk result (λ table. table ≡ aligned (Entity.Column column) alignment self) }
         ensures memory { (fault : TableFault) → result ≡ Err fault → fault ≡ TableFault.Memory }
         ensures again { HasRoom (Entity.Column column) self.config.alignment_horizontal → IsOk result }
         ensures narrow { IsNarrowLook self.config → IfOk result (λ table. IsNarrowLook table.config) }

@@ -1,10 +1,12 @@
 //! Titles over the lines of a table.
 
-ghost use Rattle.std.specs.Prelude.{◌≡◌, ◌==◌, ◌&&◌, not, ℕ, map, chars, encode_utf8, length, Some, None, Err, OnOk, OnErr, IfOk, if◌then◌else◌};
+ghost use Rattle.std.specs.Prelude.{◌≡◌, ◌==◌, ◌&&◌, not, false, ℕ, [], map, chars, encode_utf8, length, Some, None, Err, OnOk, OnErr, IfOk, IsOk, if◌then◌else◌};
+ghost use Rattle.pg_layout.specs.declared.alignment.AlignmentHorizontal.{AlignmentHorizontal};
 ghost use Rattle.pg_layout.specs.Records.{columns_of};
 ghost use Rattle.pg_layout.specs.Text.{width_of};
-ghost use Rattle.pg_table.specs.Printing.{sizes_fault};
-ghost use Rattle.pg_table.specs.Titles.{title_glyph, title_room, title_start, with_title, with_title_glyphs};
+ghost use Rattle.pg_config.specs.Config.{has_horizontal};
+ghost use Rattle.pg_table.specs.OwnRows.{own_sizes_fault, titled};
+ghost use Rattle.pg_table.specs.Titles.{title_glyph, title_room, title_start, with_title_glyphs};
 
 use crate::fault::TableFault;
 use crate::table::Table;
@@ -24,7 +26,8 @@ impl<T: AsStr + Drop, A: Allocator + Copy> Table<T, A> {
     /// last: a text or a setting that is told later moves none of it.
     ///
     /// An error where the natural sizes aren't told ([`Table::natural_dimension`]) or memory is
-    /// refused; then nothing changes.
+    /// refused; then nothing changes. An empty title, and one over a line that isn't there, takes no
+    /// memory.
     ///
     /// ```text
     /// table.set_title(alloc, 0, "Orders", AlignmentHorizontal::Center)?; // ╭─Orders─╮
@@ -36,17 +39,37 @@ impl<T: AsStr + Drop, A: Allocator + Copy> Table<T, A> {
         title: &str,
         side: AlignmentHorizontal,
     ) -> Result<(), TableFault>
-        ensures ok { OnOk result (self.new ≡ record self.old { config = with_title row side title.now (map (λ row. map T.text row) self.old.rows) (columns_of self.old.rows) self.old.config }) }
+        ensures ok { OnOk result (self.new ≡ titled row side title.now T.text self.old) }
         ensures err { OnErr result (self.new ≡ self.old) }
-        ensures fault { (fault : TableFault) → sizes_fault self.old.config (map (λ row. map T.text row) self.old.rows) (columns_of self.old.rows) ≡ Some fault → result ≡ Err fault }
-        ensures memory { (fault : TableFault) → sizes_fault self.old.config (map (λ row. map T.text row) self.old.rows) (columns_of self.old.rows) ≡ None → result ≡ Err fault → fault ≡ TableFault.Memory }
+        ensures fault { (fault : TableFault) → own_sizes_fault T.text self.old ≡ Some fault → result ≡ Err fault }
+        ensures memory { (fault : TableFault) → own_sizes_fault T.text self.old ≡ None → result ≡ Err fault → fault ≡ TableFault.Memory }
+        ensures empty { title.now ≡ [] → own_sizes_fault T.text self.old ≡ None → IsOk result }
+        ensures absent { has_horizontal self.old.config row (length self.old.rows) ≡ false → own_sizes_fault T.text self.old ≡ None → IsOk result }
     {
+        if !self.shows_title(row, title) {
+            return match self.sizes_fault() {
+                Some(fault) => Err(fault),
+                None => Ok(()),
+            };
+        }
         let dimension = self.natural_dimension(alloc)?;
         let glyphs = title_glyphs(alloc, title)?;
         match self.set_title_glyphs(alloc, row, side, &dimension, &glyphs) {
             Ok(()) => Ok(()),
             Err(error) => Err(error.into()),
         }
+    }
+
+    // Whether a title over row line `row` can be seen: it has a character, and the line is there.
+    fn shows_title(&self, row: usize, title: &str) -> bool
+        ensures same { result ≡ false → (side : AlignmentHorizontal) → titled row side title.now T.text self.now ≡ self.now }
+        ensures empty { title.now ≡ [] → result ≡ false }
+        ensures absent { has_horizontal self.now.config row (length self.now.rows) ≡ false → result ≡ false }
+    {
+        if title.is_empty() {
+            return false;
+        }
+        self.config.has_horizontal(row, self.count_rows())
     }
 
     // Puts the glyphs of a title over row line `row`, where the columns have these widths.
@@ -58,7 +81,9 @@ impl<T: AsStr + Drop, A: Allocator + Copy> Table<T, A> {
         dimension: &ConstantDimension<A>,
         glyphs: &[char],
     ) -> Result<(), AllocError>
-        ensures ok { OnOk result (self.new ≡ record self.old { config = with_title_glyphs row side glyphs.now dimension.now.0.items (length self.old.rows) (columns_of self.old.rows) self.old.config }) }
+        ensures ok { OnOk result (self.new ≡ record self.old {
+          config = with_title_glyphs row side glyphs.now dimension.now.0.items (length self.old.rows) (columns_of self.old.rows) self.old.config;
+        }) }
         ensures err { OnErr result (self.new ≡ self.old) }
     {
         let size = self.size();
@@ -67,8 +92,8 @@ impl<T: AsStr + Drop, A: Allocator + Copy> Table<T, A> {
             .set_line_glyphs(alloc, row, size, dimension, start, glyphs)
     }
 
-    /// The same table with a title over row line `row` ([`Table::set_title`]). Where there is an error
-    /// the table is let go.
+    /// Puts a title over row line `row` of a table by value ([`Table::set_title`]). Where there is an
+    /// error the table is let go.
     ///
     /// ```text
     /// let table = table.with_title(alloc, 0, "Orders", AlignmentHorizontal::Left)?;
@@ -80,9 +105,11 @@ impl<T: AsStr + Drop, A: Allocator + Copy> Table<T, A> {
         title: &str,
         side: AlignmentHorizontal,
     ) -> Result<Table<T, A>, TableFault>
-        ensures ok { IfOk result (λ table. table ≡ record self { config = with_title row side title.now (map (λ row. map T.text row) self.rows) (columns_of self.rows) self.config }) }
-        ensures fault { (fault : TableFault) → sizes_fault self.config (map (λ row. map T.text row) self.rows) (columns_of self.rows) ≡ Some fault → result ≡ Err fault }
-        ensures memory { (fault : TableFault) → sizes_fault self.config (map (λ row. map T.text row) self.rows) (columns_of self.rows) ≡ None → result ≡ Err fault → fault ≡ TableFault.Memory }
+        ensures ok { IfOk result (λ table. table ≡ titled row side title.now T.text self) }
+        ensures fault { (fault : TableFault) → own_sizes_fault T.text self ≡ Some fault → result ≡ Err fault }
+        ensures memory { (fault : TableFault) → own_sizes_fault T.text self ≡ None → result ≡ Err fault → fault ≡ TableFault.Memory }
+        ensures empty { title.now ≡ [] → own_sizes_fault T.text self ≡ None → IsOk result }
+        ensures absent { has_horizontal self.config row (length self.rows) ≡ false → own_sizes_fault T.text self ≡ None → IsOk result }
     {
         match self.set_title(alloc, row, title, side) {
             Ok(()) => Ok(self),

@@ -8,7 +8,7 @@ use Rattle.pg_table.specs.Inside.Fitting.{HasHugeLeast}
 use Rattle.pg_table.specs.declared.fault.TableFault.TheVariants.{Memory}
 use Rattle.pg_table.proofs.Faults.{fault-is}
 use Rattle.pg_table.proofs.FitFaults.{handed-on}
-use Rattle.pg_table.proofs.LeastFaults.{kept-misfit, fit-passes, least-spans, least-uncounted, least-huge, told-width, told-ok, told-fault, full-listed}
+use Rattle.pg_table.proofs.LeastFaults.{kept-misfit, fit-passes, least-no_spans, least-spans, least-uncounted, least-huge, told-width, told-ok, told-fault, full-listed}
 use Rattle.pg_table.proofs.LeastWidths.{huge-past}
 use Rattle.pg_table.proofs.SpannedWidths.{full-kept}
 use Rattle.pg_table.proofs.natural.NaturalTable.spanned_least_width.Goals as goal
@@ -78,3 +78,23 @@ returns-in-None-clause-fault g c = λ fault e.
     let huge : HasHugeLeast c.args.how self.config.now texts columns = (rw (c.sizes.ensures.records, c.sizes.ensures.config) at c.in_ok-widths.ensures.huge) c.in-None.is in
     let past : 2 ^ 64 ≤ least_full_width c.args.how self.config.now texts columns = omega (arith, huge-past c.args.how self.config.now texts columns order huge, full-kept c.args.how 0 [] self.config.now texts columns c.requires) in
     inl (least-huge c.args.how self.config.now texts columns (fit-passes _ _ fit) past ∙ ap result_err e)
+
+pub returns-then-count_columns-clause-spans : goal.returns-then-count_columns-clause-spans
+returns-then-count_columns-clause-spans g c = λ told.
+    let self = c.args.self.now in
+    absurd (least-no_spans c.args.how self.config.now (g.R.Records.texts self.records) (g.R.Records.columns self.records) (fit-passes _ _ (sym c.spans_fit.ensures.fit ∙ c.if-not-spans_fit.false)) told)
+
+pub returns-in_err-widths-clause-spans : goal.returns-in_err-widths-clause-spans
+returns-in_err-widths-clause-spans g c = λ told.
+    let self = c.args.self.now in
+    absurd (least-no_spans c.args.how self.config.now (g.R.Records.texts self.records) (g.R.Records.columns self.records) (fit-passes _ _ (sym c.spans_fit.ensures.fit ∙ c.if-not-spans_fit.false)) told)
+
+pub returns-in-Some-clause-spans : goal.returns-in-Some-clause-spans
+returns-in-Some-clause-spans g c = λ told.
+    let self = c.args.self.now in
+    absurd (least-no_spans c.args.how self.config.now (g.R.Records.texts self.records) (g.R.Records.columns self.records) (fit-passes _ _ (sym c.spans_fit.ensures.fit ∙ c.if-not-spans_fit.false)) told)
+
+pub returns-in-None-clause-spans : goal.returns-in-None-clause-spans
+returns-in-None-clause-spans g c = λ told.
+    let self = c.args.self.now in
+    absurd (least-no_spans c.args.how self.config.now (g.R.Records.texts self.records) (g.R.Records.columns self.records) (fit-passes _ _ (sym c.spans_fit.ensures.fit ∙ c.if-not-spans_fit.false)) told)

@@ -8,3 +8,6 @@ returns-clause-ok g c = rw (c.natural.ensures.records, c.natural.ensures.config)
 
 pub returns-clause-fault : goal.returns-clause-fault
 returns-clause-fault g c = rw (c.natural.ensures.records, c.natural.ensures.config) at c.least_width.ensures.fault
+
+pub returns-clause-spans : goal.returns-clause-spans
+returns-clause-spans g c = rw (c.natural.ensures.records, c.natural.ensures.config) at c.least_width.ensures.spans

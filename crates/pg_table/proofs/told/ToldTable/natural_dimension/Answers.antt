@@ -34,7 +34,7 @@ returns-in-Ok-Some-clause-fault g c = λ fault e.
     let columns : ℕ = g.R.Records.columns self.records in
     let some = (kept-parts ((length texts == 0) || (columns == 0)) (not (length config.spans == 0)) c.requires).0 in
     let fit = sym c.spans_fit.ensures.fit ∙ c.if-not-spans_fit.false in
-    let all = rw (c.in-Ok-Some.is, c.in-Ok-Some.field-0-is, c.sizes-sizes.ensures.records, c.sizes-sizes.ensures.config) at c.measured_from.ensures.sized in
+    let all = rw (c.in-Ok-Some.is, c.in-Ok-Some.field-0-is, c.sizes.ensures.records, c.sizes.ensures.config) at c.measured_from.ensures.sized in
     absurd (no_fault (sizes_fault config texts columns) fault (cells-no_fault config texts columns some (record { ascending = c.spans_fit.ensures.ascending; fit = fit }) (sym all)) e)
 
 pub returns-in-Ok-None-clause-fault : goal.returns-in-Ok-None-clause-fault
@@ -45,7 +45,7 @@ returns-in-Ok-None-clause-fault g c = λ fault e.
     let columns : ℕ = g.R.Records.columns self.records in
     let some = (kept-parts ((length texts == 0) || (columns == 0)) (not (length config.spans == 0)) c.requires).0 in
     let fit = sym c.spans_fit.ensures.fit ∙ c.if-not-spans_fit.false in
-    let past = rw (c.in-Ok-None.is, c.in-Ok-None.field-0-is, c.sizes-sizes.ensures.records, c.sizes-sizes.ensures.config) at c.measured_from.ensures.sized in
+    let past = rw (c.in-Ok-None.is, c.in-Ok-None.field-0-is, c.sizes.ensures.records, c.sizes.ensures.config) at c.measured_from.ensures.sized in
     one_fault _ (sizes_fault config texts columns) Totals fault refl (sizes-past config texts columns (fit-passes _ _ fit) (and_right (all_fit (natural_sizes Columns config texts columns) && all_fit (natural_sizes Rows config texts columns)) _ (sym past))) e
 
 pub returns-in-Ok-None-clause-memory : goal.returns-in-Ok-None-clause-memory
@@ -56,38 +56,5 @@ returns-in-Ok-None-clause-memory g c = λ fault none e.
     let columns : ℕ = g.R.Records.columns self.records in
     let some = (kept-parts ((length texts == 0) || (columns == 0)) (not (length config.spans == 0)) c.requires).0 in
     let fit = sym c.spans_fit.ensures.fit ∙ c.if-not-spans_fit.false in
-    let past = rw (c.in-Ok-None.is, c.in-Ok-None.field-0-is, c.sizes-sizes.ensures.records, c.sizes-sizes.ensures.config) at c.measured_from.ensures.sized in
+    let past = rw (c.in-Ok-None.is, c.in-Ok-None.field-0-is, c.sizes.ensures.records, c.sizes.ensures.config) at c.measured_from.ensures.sized in
     absurd (no_fault (sizes_fault config texts columns) Totals none (sizes-past config texts columns (fit-passes _ _ fit) (and_right (all_fit (natural_sizes Columns config texts columns) && all_fit (natural_sizes Rows config texts columns)) _ (sym past))))
-
-pub returns-then-cells_fit-clause-fault : goal.returns-then-cells_fit-clause-fault
-returns-then-cells_fit-clause-fault g c = λ fault e.
-    let self = c.args.self.now.table in
-    let config : Config = self.config.now in
-    let texts = g.R.Records.texts self.records in
-    let columns : ℕ = g.R.Records.columns self.records in
-    let some = (kept-parts ((length texts == 0) || (columns == 0)) (not (length config.spans == 0)) c.requires).0 in
-    let fit = sym c.spans_fit.ensures.fit ∙ c.if-not-spans_fit.false in
-    let told = rw (c.sizes-sizes.ensures.records, c.sizes-sizes.ensures.config) at c.cells_fit.ensures in
-    absurd (no_fault (sizes_fault config texts columns) fault (cells-no_fault config texts columns some (record { ascending = c.spans_fit.ensures.ascending; fit = fit }) (sym told ∙ c.if-cells_fit.true)) e)
-
-pub returns-else-cells_fit-clause-fault : goal.returns-else-cells_fit-clause-fault
-returns-else-cells_fit-clause-fault g c = λ fault e.
-    let self = c.args.self.now.table in
-    let config : Config = self.config.now in
-    let texts = g.R.Records.texts self.records in
-    let columns : ℕ = g.R.Records.columns self.records in
-    let some = (kept-parts ((length texts == 0) || (columns == 0)) (not (length config.spans == 0)) c.requires).0 in
-    let fit = sym c.spans_fit.ensures.fit ∙ c.if-not-spans_fit.false in
-    let told = rw (c.sizes-sizes.ensures.records, c.sizes-sizes.ensures.config) at c.cells_fit.ensures in
-    one_fault _ (sizes_fault config texts columns) Totals fault refl (sizes-past config texts columns (fit-passes _ _ fit) (and_right (all_fit (natural_sizes Columns config texts columns) && all_fit (natural_sizes Rows config texts columns)) _ (sym told ∙ c.if-cells_fit.false))) e
-
-pub returns-else-cells_fit-clause-memory : goal.returns-else-cells_fit-clause-memory
-returns-else-cells_fit-clause-memory g c = λ fault none e.
-    let self = c.args.self.now.table in
-    let config : Config = self.config.now in
-    let texts = g.R.Records.texts self.records in
-    let columns : ℕ = g.R.Records.columns self.records in
-    let some = (kept-parts ((length texts == 0) || (columns == 0)) (not (length config.spans == 0)) c.requires).0 in
-    let fit = sym c.spans_fit.ensures.fit ∙ c.if-not-spans_fit.false in
-    let told = rw (c.sizes-sizes.ensures.records, c.sizes-sizes.ensures.config) at c.cells_fit.ensures in
-    absurd (no_fault (sizes_fault config texts columns) Totals none (sizes-past config texts columns (fit-passes _ _ fit) (and_right (all_fit (natural_sizes Columns config texts columns) && all_fit (natural_sizes Rows config texts columns)) _ (sym told ∙ c.if-cells_fit.false))))
