@@ -1,16 +1,15 @@
 -- All lines at once, and as they are streamed.
-use Rattle.std.proofs.Common.{◌≡◌, ◌∙◌, ◌∷◌, ◌++◌, ◌+◌, ◌<◌, ◌≤◌, ℕ, List, [], Option, None, Some, map, take, drop, length, get_or, arith, refl, sym, ap, subst}
+use Rattle.std.proofs.Common.{◌≡◌, ◌∙◌, ◌∷◌, ◌++◌, ◌+◌, ◌<◌, ◌≤◌, ℕ, List, [], None, Some, map, take, drop, length, get_or, arith, sym, ap}
 use Rattle.std.specs.Borrow.{Bor}
 use Rattle.std.proofs.lemmas.List.{length-map, map-append, map_more, drop_more, take_all, take-append-drop}
-use Rattle.json.specs.Json.{Json}
 use Rattle.csv.specs.Reading.{strip_bom}
 use Rattle.ruled_json.specs.Faults.{first_line_fault, line_rows_fault}
 use Rattle.ruled_json.specs.Reading.{AppendsRest, HasLines}
 use Rattle.ruled_json.specs.Rows.{line_rows_of, lines_of, records_on, table_of}
-use Rattle.ruled_json.specs.Streamed.{ended_table, fault_behind, first_fault_behind, lines_above_fault, sound_line_rows, streamed_line_fault, streamed_table}
+use Rattle.ruled_json.specs.Streamed.{ended_table, fault_behind, first_fault_behind, sound_line_rows, streamed_line_fault, streamed_table}
 use Rattle.ruled_json.specs.declared.fault.JsonFault.{JsonFault}
 use Rattle.ruled_json.specs.declared.line_table.LineTable.{LineTable}
-use Rattle.ruled_json.proofs.StreamedLines.{all-above, all-right, bad-line, few-records, same-fault, same-table}
+use Rattle.ruled_json.proofs.StreamedLines.{all-above, bad-line, few-records, same-fault, same-table}
 
 -- the texts of lines
 abbrev pub texts : List (Bor (List ℕ)) → List (List ℕ)

@@ -1,11 +1,9 @@
 -- The rows of what is read are a beginning of those of the whole input.
-use Rattle.std.proofs.Common.{◌≡◌, ◌∙◌, ◌∷◌, ◌++◌, ◌-◌, ◌≤◌, ℕ, List, [], Bool, true, false, Option, None, Some, map, take, length, is_none, arith, inl, inr, refl, sym, ap}
+use Rattle.std.proofs.Common.{◌≡◌, ◌∙◌, ◌∷◌, ◌++◌, ℕ, List, [], Bool, map, length, is_none, arith, inl, inr, refl, sym, ap}
 use Rattle.std.specs.Prelude.{◌==◌, if◌then◌else◌}
-use Rattle.std.specs.List.{filter_map}
 use Rattle.std.proofs.lemmas.Bool.{cases_Bool, eqb-true}
 use Rattle.std.proofs.lemmas.List.{append_assoc, append-nil, map-append, take-append-le}
 use Rattle.std.proofs.lemmas.List.Elements.{filter_map-append}
-use Rattle.csv.specs.Reading.{strip_bom}
 use Rattle.json.specs.Json.{Json}
 use Rattle.ruled_json.specs.Reading.{HasRead, without_front}
 use Rattle.ruled_json.specs.Rows.{columns_of, lines_of, record_on, records_on, row_of, table_in}

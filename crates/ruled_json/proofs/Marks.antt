@@ -1,8 +1,8 @@
 -- A byte order mark at the front of bytes.
-use Rattle.std.proofs.Common.{◌≡◌, ◌∙◌, ◌∷◌, [], ◌++◌, ◌&&◌, inl, inr, ℕ, List, Bool, nat_eq, take, drop, true, false, refl, sym, ap}
+use Rattle.std.proofs.Common.{◌≡◌, ◌∙◌, ◌∷◌, [], ◌&&◌, ℕ, List, Bool, nat_eq, take, drop, true, false, refl, sym}
 use Rattle.std.specs.Prelude.{◌==◌}
 use Rattle.std.specs.Cmp.Lexicographic.{pointwise}
-use Rattle.std.proofs.lemmas.Bool.{and_parts, cases_Bool}
+use Rattle.std.proofs.lemmas.Bool.{and_parts}
 use Rattle.csv.specs.Reading.{is_bom, strip_bom}
 
 -- the bytes of the mark

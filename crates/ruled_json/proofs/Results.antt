@@ -1,5 +1,5 @@
 -- What is said of a result, from what is said of another one.
-use Rattle.std.proofs.Common.{◌≡◌, ◌≢◌, ◌∙◌, Bool, true, false, Option, None, Some, Result, Ok, Err, refl, sym, ap}
+use Rattle.std.proofs.Common.{◌≡◌, ◌≢◌, ◌∙◌, Bool, true, false, Option, None, Some, Result, Ok, Err, sym, ap}
 use Rattle.std.specs.Prelude.{IsErrAnd, OnOk}
 use Rattle.std.specs.Bool.{OnTrue}
 use Rattle.ruled_json.specs.Faults.{Tells, but_line}

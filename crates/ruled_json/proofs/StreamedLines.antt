@@ -1,7 +1,7 @@
 -- Lines, one more behind those that are read.
-use Rattle.std.proofs.Common.{◌≡◌, ◌≢◌, ◌∙◌, ◌∷◌, ◌++◌, ◌+◌, ◌-◌, ◌<◌, ◌≤◌, ℕ, List, [], Bool, true, false, Option, None, Some, map, fold, take, length, is_none, arith, Vec, Global, string_bytes, inl, inr, refl, sym, ap, subst}
-use Rattle.std.specs.Prelude.{◌==◌, option_and_then, if◌then◌else◌}
-use Rattle.std.specs.List.{cons_option, filter_map}
+use Rattle.std.proofs.Common.{◌≡◌, ◌∙◌, ◌∷◌, ◌++◌, ◌+◌, ◌<◌, ◌≤◌, ℕ, List, [], Option, None, Some, map, length, is_none, arith, Vec, Global, string_bytes, refl, sym, ap, subst}
+use Rattle.std.specs.Prelude.{option_and_then, if◌then◌else◌}
+use Rattle.std.specs.List.{cons_option}
 use Rattle.std.specs.Option.{option_or}
 use Rattle.std.proofs.lemmas.List.{append_assoc, append-nil, length-append, take_all}
 use Rattle.std.proofs.lemmas.List.Sums.{fold-append}
@@ -11,7 +11,7 @@ use Rattle.json.specs.Json.{Json}
 use Rattle.ruled_json.specs.Faults.{first_line_fault, line_after, line_fault}
 use Rattle.ruled_json.specs.Reading.{AppendsRest, HasLines, HasRecords, columns_in, padded}
 use Rattle.ruled_json.specs.Rows.{columns_of, record_on, records_on, row_of, table_in, table_of}
-use Rattle.ruled_json.specs.Streamed.{ended_table, fault_behind, first_fault_behind, late_fault, left_of, lines_above_fault, number_behind, streamed_table}
+use Rattle.ruled_json.specs.Streamed.{ended_table, fault_behind, first_fault_behind, late_fault, lines_above_fault, number_behind, streamed_table}
 use Rattle.ruled_json.specs.declared.fault.JsonFault.{JsonFault}
 use Rattle.ruled_json.specs.declared.line_table.LineTable.{LineTable}
 use Rattle.ruled_json.specs.declared.member_names.MemberNames.{MemberNames}

@@ -1,19 +1,15 @@
 -- Walks over lists, one element more.
-use Rattle.std.proofs.Common.{◌≡◌, ◌<◌, ◌≤◌, ◌+◌, ◌∙◌, ◌∷◌, ◌++◌, ℕ, List, [], Option, None, map, take, drop, length, get_or, fold, String, string_bytes, true, false, refl, sym, ap}
-use Rattle.std.specs.Prelude.{◌==◌}
-use Rattle.std.specs.Borrow.{Bor}
-use Rattle.std.specs.List.{cons_option, filter_map, flat_map}
-use Rattle.std.specs.Option.{option_or}
-use Rattle.std.proofs.lemmas.List.{append_assoc, map-append, map_more, take_all, take_more, drop_more}
-use Rattle.std.proofs.lemmas.List.Sums.{fold-append}
-use Rattle.std.proofs.lemmas.List.Elements.{filter_map-append}
+use Rattle.std.proofs.Common.{All, Bool, cond, zero-add, ◌≡◌, ◌<◌, ◌≤◌, ◌+◌, ◌∙◌, ◌∷◌, ◌++◌, ℕ, List, [], map, take, length, get_or, fold, String, string_bytes, false, refl, sym, ap}
+use Rattle.std.specs.Prelude.{◌==◌, count_by}
+use Rattle.std.specs.List.{flat_map}
+use Rattle.std.proofs.lemmas.List.{map-append, take_all, take_more}
+use Rattle.std.proofs.lemmas.List.Sums.{fold-append, sum_by-cons}
+use Rattle.std.proofs.lemmas.List.Elements.{All-head, All-tail}
 use Rattle.std.proofs.lemmas.Grind.{flat_map-append}
 use Rattle.std.proofs.lemmas.Simd.{map-map}
 use Rattle.json.specs.Find.{get}
 use Rattle.json.specs.Json.{Json}
-use Rattle.ruled_json.specs.Faults.{first_line_fault, line_fault}
-use Rattle.ruled_json.specs.declared.fault.JsonFault.{JsonFault}
-use Rattle.ruled_json.specs.Rows.{cell_text, columns_of, names_in, record_on, row_of, table_of, with_name}
+use Rattle.ruled_json.specs.Rows.{cell_text, columns_of, names_in, row_of, with_name}
 
 pub take_next : {X : Type 0} (xs : List X) (i : ℕ) (x : X) → i < length xs → x ≡ get_or xs i x → take (i + 1) xs ≡ take i xs ++ x ∷ []
 take_next {X} xs i x within is = take_more xs i x within ∙ ap (λ (y : X). take i xs ++ y ∷ []) (sym is)
@@ -38,3 +34,11 @@ pub whole_row : {Z : Type 0} (names items : List (String Z)) (value : Json) (n :
 whole_row {Z} names items value n row same all made =
     made ∙ ap (map (λ (name : String Z). cell_text (get (string_bytes name) value))) (take_all n items all ∙ same)
     ∙ sym (map-map (λ (column : List ℕ). cell_text (get column value)) string_bytes names)
+
+-- where there is none, none is counted
+pub none-counted : (bytes : List ℕ) → All (λ (byte : ℕ). (byte == 13) ≡ false) bytes → 0 ≡ count_by (λ (byte : ℕ). byte == 13) bytes
+none-counted [] none = refl
+none-counted (byte ∷ bytes) none =
+    none-counted bytes (All-tail (λ (b : ℕ). (b == 13) ≡ false) byte bytes none)
+    ∙ sym (sum_by-cons (λ (b : ℕ). cond (b == 13) 1 0) byte bytes
+    ∙ ap (λ (b : Bool). cond b 1 0 + count_by (λ (c : ℕ). c == 13) bytes) (All-head (λ (b : ℕ). (b == 13) ≡ false) byte bytes none) ∙ zero-add (count_by (λ (c : ℕ). c == 13) bytes))

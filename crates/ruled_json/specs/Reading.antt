@@ -1,5 +1,5 @@
 -- A reader to which the bytes of lines come one piece after another.
-use Rattle.std.specs.Prelude.{◌≡◌, ◌≢◌, ◌<◌, ℕ, ◌-◌, ◌==◌, All, false, List, [], ◌∷◌, ◌++◌, length, map, replicate, string_bytes, ⊤, Bool, Option, Some, Result, Ok, Err, if◌then◌else◌}
+use Rattle.std.specs.Prelude.{◌≡◌, ◌≢◌, ◌<◌, ℕ, ◌-◌, ◌==◌, All, false, List, [], ◌++◌, length, map, replicate, string_bytes, ⊤, Bool, Option, Some, Result, Ok, Err, if◌then◌else◌}
 use Rattle.csv.specs.Reading.{strip_bom}
 use Rattle.csv.specs.Records.{fields_of}
 use Rattle.json.specs.Json.{Json}

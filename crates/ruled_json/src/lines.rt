@@ -1,6 +1,6 @@
 //! Lines, each of which may hold a record.
 
-ghost use Rattle.std.specs.Prelude.{◌≡◌, ◌∷◌, ◌++◌, map, IfNone, IfOk, IfSome, option_map};
+ghost use Rattle.std.specs.Prelude.{◌≡◌, ◌==◌, ◌∷◌, ◌++◌, All, count_by, false, map, IfNone, IfOk, IfSome, option_map};
 ghost use Rattle.json.specs.Tree.{HasNumbers};
 ghost use Rattle.json.specs.Value.{value_view};
 ghost use Rattle.ruled_json.specs.Faults.{Tells, line_after, line_fault};
@@ -46,13 +46,30 @@ fn is_blank(line: &[u8]) -> bool
         .all(|byte| matches!(*byte, b' ' | b'\t' | b'\n' | b'\r'))
 }
 
+// The first carriage return.
+fn first_return(bytes: &[u8]) -> Option<usize>
+    ensures { IfNone result (All (λ byte. (byte == 13) ≡ false) bytes.now) }
+{
+    memchr(b'\r', bytes)
+}
+
+// How many carriage returns there are: none in most lines.
+fn returns_in(bytes: &[u8]) -> usize
+    ensures { result ≡ count_by (λ byte. byte == 13) bytes.now }
+{
+    match first_return(bytes) {
+        None => 0,
+        Some(_) => bytes.iter().filter(|byte| **byte == b'\r').count(),
+    }
+}
+
 /// The number of the line behind this one, which has this number, and its line feed.
 pub(crate) fn line_after(number: usize, line: &[u8]) -> usize
     ensures { result ≡ line_after number line.now }
 {
-    let front = line.len().saturating_sub(1);
-    let returns = line[..front].iter().filter(|byte| **byte == b'\r').count();
-    number.saturating_add(returns + 1)
+    let front = &line[..line.len().saturating_sub(1)];
+    let returns = returns_in(front);
+    number.saturating_add(returns).saturating_add(1)
 }
 
 /// The record on a line of this number, where it isn't blank.

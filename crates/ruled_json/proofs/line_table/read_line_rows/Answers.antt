@@ -1,8 +1,8 @@
-use Rattle.std.proofs.Common.{◌≡◌, ◌≢◌, ◌∙◌, ◌∷◌, ◌++◌, ◌≤◌, ℕ, List, [], Some, ap, arith, length, map, subst, sym, take}
+use Rattle.std.proofs.Common.{◌≡◌, ◌∙◌, ℕ, List, [], ap, arith, length, map, subst, sym, take}
 use Rattle.csv.specs.Records.{fields_of}
 use Rattle.ruled_json.specs.Faults.{but_line, line_rows_fault}
 use Rattle.ruled_json.specs.Reading.{AppendsRest, HasLines}
-use Rattle.ruled_json.specs.Rows.{lines_of, records_on}
+use Rattle.ruled_json.specs.Rows.{records_on}
 use Rattle.ruled_json.specs.Streamed.{ended_table, first_fault_behind, streamed_table}
 use Rattle.ruled_json.proofs.AtOnce.{all-texts, bad-at, next-lines, next-rows, texts, whole-fault, whole-rows}
 use Rattle.ruled_json.proofs.StreamedLines.{all-right}

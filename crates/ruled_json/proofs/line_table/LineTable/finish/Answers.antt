@@ -1,4 +1,4 @@
-use Rattle.std.proofs.Common.{◌≡◌, ◌∙◌, ◌<◌, ◌++◌, arith, map}
+use Rattle.std.proofs.Common.{◌≡◌, ◌<◌, ◌++◌, arith, map}
 use Rattle.csv.specs.Records.{fields_of}
 use Rattle.ruled_json.specs.Reading.{AppendsRest, columns_in}
 use Rattle.ruled_json.specs.Rows.{table_in}

@@ -1,4 +1,4 @@
-use Rattle.std.proofs.Common.{◌≡◌, ◌∙◌, ◌<◌, ◌-◌, ◌∷◌, ◌++◌, ℕ, [], ap, arith, map}
+use Rattle.std.proofs.Common.{◌≡◌, ◌<◌, ◌-◌, ◌∷◌, ◌++◌, ℕ, [], ap, arith, map}
 use Rattle.std.proofs.lemmas.List.{length-append}
 use Rattle.csv.specs.Records.{fields_of}
 use Rattle.json.specs.Value.{value_view}

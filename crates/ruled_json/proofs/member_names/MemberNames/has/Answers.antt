@@ -1,4 +1,4 @@
-use Rattle.std.proofs.Common.{◌∙◌, rules}
+use Rattle.std.proofs.Common.{rules}
 use Rattle.ruled_json.proofs.Views.{among}
 use Rattle.ruled_json.proofs.member_names.MemberNames.has.Goals as goal
 
