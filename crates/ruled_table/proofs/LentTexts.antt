@@ -11,9 +11,8 @@ use Rattle.pg_layout.specs.Text.{Text}
 use Rattle.pg_fit.specs.Controls.{sign_of, visible_text}
 use Rattle.ruled_table.specs.Blocks.{pair_at}
 use Rattle.ruled_table.specs.Escapes.{escape_of, escaped_text}
-use Rattle.ruled_table.specs.LentRows.{fields_at, texts_of}
-use Rattle.ruled_table.specs.View.{seen_text, shown_row, shown_text}
-use Rattle.ruled_table.specs.declared.lent_rows.LentRows.{LentRows}
+use Rattle.ruled_table.specs.LentRows.{fields_at}
+use Rattle.ruled_table.specs.Shown.{seen_text, shown_row, shown_text}
 use Rattle.ruled_table.specs.declared.options.Options.{Options}
 
 -- ---- rows of one length
@@ -67,7 +66,7 @@ row-shown options row (place ∷ places) =
     ap (λ (t : Text). t ∷ fields_at places (map (shown_text options) row)) (field-shown options row place)
     ∙ ap (λ (ts : List Text). shown_text options (slice_index_or row place []) ∷ ts) (row-shown options row places)
 
-rows-shown : (options : Options) (places : List ℕ) (rows : List (List Text)) → map (fields_at places) (map (map (shown_text options)) rows) ≡ map (shown_row options places) rows
+pub rows-shown : (options : Options) (places : List ℕ) (rows : List (List Text)) → map (fields_at places) (map (map (shown_text options)) rows) ≡ map (shown_row options places) rows
 rows-shown options places [] = refl
 rows-shown options places (row ∷ rows) =
     ap (λ (ts : List Text). ts ∷ map (fields_at places) (map (map (shown_text options)) rows)) (row-shown options row places)

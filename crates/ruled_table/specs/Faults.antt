@@ -1,5 +1,7 @@
 -- Why rows have no table.
 use Rattle.std.specs.Prelude.{◌≡◌, Bool, true, false, Option, Some, None, Result, Ok, Err, is_none, if◌then◌else◌}
+use Rattle.pg_stream.specs.declared.fault.StreamFault.{StreamFault}
+use Rattle.pg_stream.specs.declared.fault.StreamFault.TheVariants as stream
 use Rattle.pg_table.specs.declared.fault.TableFault.{TableFault}
 use Rattle.ruled_table.specs.declared.fault.ViewFault.{ViewFault}
 use Rattle.ruled_table.specs.declared.fault.ViewFault.TheVariants.{Column, Totals, Memory}
@@ -13,6 +15,13 @@ is_memory Memory = true
 -- what is wrong where a table isn't drawn
 abbrev pub totals_of : Option TableFault → Option ViewFault
 totals_of fault = if is_none fault then None else Some Totals
+
+-- what is wrong where a row isn't drawn, or no table is begun
+abbrev pub fault_of_stream : StreamFault → ViewFault
+fault_of_stream (stream.Misfit misfit) = Totals
+fault_of_stream (stream.Row row) = Totals
+fault_of_stream stream.Open = Totals
+fault_of_stream stream.Memory = Memory
 
 -- a result tells the right fault, or that memory was refused; where it is an `Ok` there is none
 abbrev pub Tells : {X : Type 0} → Option ViewFault → Result X ViewFault → Type 0

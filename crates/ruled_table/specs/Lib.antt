@@ -1,11 +1,17 @@
+pub mod Appended
 pub mod Blocks
 pub mod Bounds
 pub mod Columns
+pub mod Drawn
 pub mod Escapes
 pub mod Faults
+pub mod Layouts
 pub mod LentRows
 pub mod Look
 pub mod Numbers
+pub mod Plans
+pub mod RowLines
+pub mod Shown
 pub mod Sides
 pub mod Tables
 pub mod View

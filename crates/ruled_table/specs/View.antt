@@ -1,91 +1,41 @@
--- What is shown of rows, and its picture.
-use Rattle.std.specs.Prelude.{ℕ, ◌+◌, Bool, List, [], map, take, slice_index_or, Option, Some, None, option_map, if◌then◌else◌}
+-- The text of rows, and why there is none.
+use Rattle.std.specs.Prelude.{List, ◌∷◌, [], map, Option, None, if◌then◌else◌}
 use Rattle.std.specs.Option.{option_or}
 use Rattle.pg_layout.specs.Text.{Text}
-use Rattle.pg_layout.specs.Records.{columns_of}
-use Rattle.pg_layout.specs.declared.borders.HorizontalLine.{HorizontalLine}
-use Rattle.pg_layout.specs.declared.position.Entity.TheVariants.{Global}
-use Rattle.pg_layout.specs.declared.sides.Indent.{Indent}
-use Rattle.pg_config.specs.Config.{Config, default_config}
-use Rattle.pg_config.specs.Settings.{with_setting}
-use Rattle.pg_fit.specs.Controls.{visible_text}
 use Rattle.ruled_table.specs.Blocks.{blocks_fault, blocks_of}
-use Rattle.ruled_table.specs.Escapes.{escaped_text}
 use Rattle.ruled_table.specs.Columns.{column_fault, places_of}
-use Rattle.ruled_table.specs.Look.{borders_of, header_line_of}
-use Rattle.ruled_table.specs.Sides.{sided}
-use Rattle.ruled_table.specs.Tables.{fault_with, text_with}
+use Rattle.ruled_table.specs.Layouts.{first_fault, layout_of, whole_text}
+pub use Rattle.ruled_table.specs.Shown.{heads, limit_of, line_in, look_config, seen_text, shown_row, shown_text, sided_config}
 use Rattle.ruled_table.specs.declared.fault.ViewFault.{ViewFault}
-use Rattle.ruled_table.specs.declared.look.Look.{Look}
 use Rattle.ruled_table.specs.declared.options.Options.{Options}
 
--- ---- rows
+-- ---- as one table
 
--- a text as it is, or with its control characters made visible
-abbrev pub seen_text : Bool → Text → Text
-seen_text is_raw text = if is_raw then text else visible_text text
+-- All rows are the first ones of their table.
+abbrev pub whole_table : Options → List (List Text) → Text
+whole_table options rows = whole_text options (layout_of options rows) rows
 
--- a text as it is shown: for Markdown escaped, too
-abbrev pub shown_text : Options → Text → Text
-shown_text options text = if options.is_markdown then escaped_text (seen_text options.is_raw text) else seen_text options.is_raw text
+-- what is wrong with it
+abbrev pub whole_fault : Options → List (List Text) → Option ViewFault
+whole_fault options [] = None
+whole_fault options (row ∷ rows) = first_fault options (row ∷ rows)
 
--- a row as it is shown: its fields at these places
-abbrev pub shown_row : Options → List ℕ → List Text → List Text
-shown_row options places row = map (λ place. shown_text options (slice_index_or row place [])) places
+-- ---- as a block for each record
 
--- how many rows are shown at most, a header among them
-abbrev pub limit_of : Options → Option ℕ
-limit_of options = option_map (λ rows. if options.has_header then rows + 1 else rows) options.head
-
-abbrev pub up_to : {X : Type 0} → Option ℕ → List X → List X
-up_to None rows = rows
-up_to (Some limit) rows = take limit rows
-
-abbrev pub heads : {X : Type 0} → Options → List X → List X
-heads options rows = up_to (limit_of options) rows
-
--- the rows that are shown, of all of them
 abbrev pub shown_rows : Options → List (List Text) → List (List Text)
-shown_rows options rows =
-    map (shown_row options (places_of options.columns.items rows)) (heads options rows)
-
--- ---- their table
-
--- a space at each side of a text
-abbrev pub look_config : Look → Config
-look_config look =
-    let beside : Indent = record { size = 1; fill = 32 } in
-    let none : Indent = record { size = 0; fill = 32 } in
-    record default_config {
-      borders = borders_of look;
-      padding = with_setting Global (record { left = beside; right = beside; top = none; bottom = none }) default_config.padding;
-    }
-
-abbrev pub line_in : Options → Option (HorizontalLine ℕ)
-line_in options = if options.has_header then header_line_of options.look else None
-
--- each column at its side
-abbrev pub sided_config : Options → List (List Text) → Config
-sided_config options rows = sided options.has_header options.sides.items rows (look_config options.look)
-
--- the text of the rows that are shown: their table, or a block for each record
-abbrev pub text_of : Options → List (List Text) → Text
-text_of options rows =
-    if options.is_vertical then blocks_of options.bounds (look_config options.look) rows
-    else text_with options.bounds (sided_config options rows) (line_in options) rows
-
--- what is wrong with its sizes
-abbrev pub totals_fault : Options → List (List Text) → Option ViewFault
-totals_fault options rows =
-    if options.is_vertical then blocks_fault options.bounds (look_config options.look) rows
-    else fault_with options.bounds (sided_config options rows) (line_in options) rows
+shown_rows options rows = map (shown_row options (places_of options.columns.items rows)) (heads options rows)
 
 -- ---- the text of all rows
 
--- the picture of what is shown of rows
+-- of those that are shown
 abbrev pub table_text : Options → List (List Text) → Text
-table_text options rows = text_of options (shown_rows options rows)
+table_text options rows =
+    if options.is_vertical then blocks_of options.bounds (look_config options.look) (shown_rows options rows)
+    else whole_table options (heads options rows)
 
 -- why there is none: the names of columns, or the sizes
 abbrev pub table_fault : Options → List (List Text) → Option ViewFault
-table_fault options rows = option_or (column_fault options.columns.items rows) (totals_fault options (shown_rows options rows))
+table_fault options rows =
+    option_or (column_fault options.columns.items rows)
+    (if options.is_vertical then blocks_fault options.bounds (look_config options.look) (shown_rows options rows)
+    else whole_fault options (heads options rows))

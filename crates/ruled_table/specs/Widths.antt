@@ -7,7 +7,6 @@ use Rattle.pg_layout.specs.declared.dimension.ConstantDimension.{ConstantDimensi
 use Rattle.pg_config.specs.Config.{Config}
 use Rattle.pg_fit.specs.Cutting.{cut_text}
 use Rattle.pg_fit.specs.Wrapping.{wrapped}
-use Rattle.pg_picture.specs.Table.{Table}
 use Rattle.pg_table.specs.Fitted.{fit_fault, fitted_texts}
 use Rattle.pg_table.specs.Natural as natural
 use Rattle.pg_table.specs.Printing.{sizes_fault}
@@ -18,7 +17,7 @@ use Rattle.pg_table.specs.declared.overflow.Overflow.TheVariants.{Wrap, Cut}
 use Rattle.pg_table.specs.declared.sizes.Axis.TheVariants.{Columns}
 use Rattle.ruled_table.specs.Bounds.{are_told, bounded_table, fitted_within, limits_of, width_of}
 use Rattle.ruled_table.specs.Tables.{with_line}
-use Rattle.ruled_table.specs.View.{line_in, sided_config}
+use Rattle.ruled_table.specs.Shown.{line_in, sided_config}
 use Rattle.ruled_table.specs.declared.bounds.Bounds.{Bounds}
 use Rattle.ruled_table.specs.declared.options.Options.{Options}
 

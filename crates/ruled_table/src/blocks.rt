@@ -5,7 +5,7 @@ ghost use Rattle.csv.specs.Records.{fields_of};
 ghost use Rattle.ruled_table.specs.Blocks as spec;
 ghost use Rattle.ruled_table.specs.Faults.{Tells};
 ghost use Rattle.ruled_table.specs.LentRows.{fields_at, texts_of};
-ghost use Rattle.ruled_table.specs.View.{look_config};
+ghost use Rattle.ruled_table.specs.Shown.{look_config};
 
 use crate::bounds::Bounds;
 use crate::fault::ViewFault;

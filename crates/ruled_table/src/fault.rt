@@ -2,8 +2,10 @@
 
 ghost use Rattle.std.specs.Prelude.{◌≡◌, ◌⊎◌};
 ghost use Rattle.pg_table.specs.declared.fault.TableFault.{TableFault};
+ghost use Rattle.ruled_table.specs.Faults.{fault_of_stream};
 ghost use Rattle.ruled_table.specs.declared.fault.ViewFault.TheVariants.{Memory, Totals};
 
+use pg_stream::StreamFault;
 use pg_table::TableFault;
 use std::alloc::{AllocError, AllocFailed};
 
@@ -31,6 +33,17 @@ impl<T: Drop> From<AllocFailed<T>> for ViewFault {
 
     fn from(_error: AllocFailed<T>) -> ViewFault {
         ViewFault::Memory
+    }
+}
+
+impl From<StreamFault> for ViewFault {
+    ghost from_gives = { λ found fault. fault ≡ fault_of_stream found };
+
+    fn from(fault: StreamFault) -> ViewFault {
+        match fault {
+            StreamFault::Memory => ViewFault::Memory,
+            _ => ViewFault::Totals,
+        }
     }
 }
 

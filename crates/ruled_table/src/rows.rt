@@ -3,7 +3,7 @@
 ghost use Rattle.std.specs.Cow.{cow_str_bytes};
 ghost use Rattle.std.specs.Prelude.{◌≡◌, map, true, IfOk};
 ghost use Rattle.csv.specs.Records.{fields_of};
-ghost use Rattle.ruled_table.specs.View.{heads, seen_text, shown_text, limit_of};
+ghost use Rattle.ruled_table.specs.Shown.{heads, seen_text, shown_text, limit_of};
 
 use crate::columns::field_at;
 use crate::escapes::{escaped, is_plain_text};

@@ -1,25 +1,20 @@
 //! The text of the table of rows.
 
-ghost use Rattle.std.specs.Prelude.{◌≡◌, ◌∷◌, ◌++◌, [], map, string_bytes, IfOk, OnOk};
-ghost use Rattle.csv.specs.Records.{fields_of};
+ghost use Rattle.std.specs.Prelude.{◌≡◌, ◌∷◌, ◌++◌, [], string_bytes, IfOk, OnOk};
 ghost use Rattle.pg_picture.specs.Picture.{picture};
 ghost use Rattle.pg_picture.specs.Table.{Known};
 ghost use Rattle.ruled_table.specs.Bounds.{bounded_fault, bounded_table};
 ghost use Rattle.ruled_table.specs.Faults.{Tells, totals_of};
 ghost use Rattle.ruled_table.specs.LentRows.{texts_of};
 ghost use Rattle.ruled_table.specs.Tables.{fault_with, text_with, with_line};
-ghost use Rattle.ruled_table.specs.View.{line_in, look_config, sided_config, table_fault, table_text, text_of, totals_fault};
+ghost use Rattle.ruled_table.specs.Shown.{line_in, look_config, sided_config};
 
-use crate::blocks::blocks_of;
 use crate::bounds::Bounds;
-use crate::columns::places_of;
 use crate::fault::{ViewFault, fault_in};
 use crate::lent_rows::LentRows;
 use crate::look::Look;
 use crate::options::Options;
-use crate::rows::{heads, shown_records};
 use crate::sides::set_sides;
-use csv::StringRecord;
 use pg_config::SpannedConfig;
 use pg_layout::{Entity, ExactRecords, HorizontalLine, Indent, Records, Sides};
 use std::alloc::{AllocError, Global};
@@ -107,38 +102,4 @@ pub(crate) fn text_with(
     let mut config = config;
     set_line_below(&mut config, line, count, columns)?;
     picture_of(alloc, bounds, &config, rows)
-}
-
-// The text of the table of the rows that are shown.
-fn text_of(alloc: Global, options: &Options, rows: LentRows<'_>) -> Result<String, ViewFault>
-    ensures text { IfOk result (λ text. string_bytes text ≡ text_of options.now (texts_of rows.entry)) }
-    ensures fault { Tells (totals_fault options.now (texts_of rows.entry)) result }
-{
-    if options.is_vertical {
-        return blocks_of(alloc, &options.bounds, options.look, rows);
-    }
-    let config = sided_config(alloc, options, rows)?;
-    text_with(alloc, &options.bounds, config, line_in(options), rows)
-}
-
-/// The text of the table of these rows, of which the first is row 0, and a line feed behind it; of no
-/// rows the empty text.
-///
-/// The fault is that of the names of columns, or of the sizes of the table, in this order, or want of
-/// memory.
-pub fn view_rows(
-    alloc: Global,
-    options: &Options,
-    rows: Vec<StringRecord>,
-) -> Result<String, ViewFault>
-    ensures text { IfOk result (λ text. string_bytes text ≡ table_text options.now (map fields_of rows.items)) }
-    ensures fault { Tells (table_fault options.now (map fields_of rows.items)) result }
-{
-    let places = places_of(alloc, &options.columns, &rows)?;
-    let shown = shown_records(alloc, options, heads(options, rows))?;
-    let rows = LentRows {
-        records: &shown,
-        places: &places,
-    };
-    text_of(alloc, options, rows)
 }

@@ -114,7 +114,23 @@ fn overflowed(
     }
 }
 
-/// A text within so many columns: as it is where it takes no more, and else wrapped, or cut.
+/// A text within so many columns: lent as it is where it takes no more, and else wrapped, or cut.
+pub(crate) fn lent_within<'a>(
+    alloc: Global,
+    overflow: Overflow<'_>,
+    width: usize,
+    text: CowStr<'a>,
+) -> Result<CowStr<'a>, AllocError>
+    ensures { IfOk result (λ shown. cow_str_bytes shown ≡ spec.text_within overflow.entry width (cow_str_bytes text.entry)) }
+{
+    if get_text_width(text.as_str()) <= width {
+        return Ok(text);
+    }
+    let shown = overflowed(alloc, overflow, width, text.as_str())?;
+    Ok(CowStr::Owned(shown))
+}
+
+/// A text within so many columns, as one of its own.
 pub fn text_within(
     alloc: Global,
     overflow: Overflow<'_>,
@@ -123,10 +139,7 @@ pub fn text_within(
 ) -> Result<String, AllocError>
     ensures { IfOk result (λ shown. string_bytes shown ≡ spec.text_within overflow.entry width (cow_str_bytes text.entry)) }
 {
-    if get_text_width(text.as_str()) <= width {
-        return text.into_owned(alloc);
-    }
-    overflowed(alloc, overflow, width, text.as_str())
+    lent_within(alloc, overflow, width, text)?.into_owned(alloc)
 }
 
 /// How many columns the texts of a column may take, of which a space stands at each side.

@@ -1,4 +1,4 @@
-use Rattle.std.proofs.Common.{◌≡◌, ◌∙◌, ◌∷◌, ◌++◌, [], ℕ, List, None, map, length, string_bytes, sym, ap, arith}
+use Rattle.std.proofs.Common.{◌≡◌, ◌∙◌, ◌∷◌, ◌++◌, [], List, None, map, length, string_bytes, sym, ap, arith}
 use Rattle.std.specs.List.{range_with_len}
 use Rattle.std.proofs.lemmas.Str.{encode_ascii}
 use Rattle.csv.specs.Records.{fields_of}
@@ -7,7 +7,7 @@ use Rattle.pg_config.specs.Config.{Config}
 use Rattle.ruled_table.specs.Blocks.{block_fault, pairs_of}
 use Rattle.ruled_table.specs.LentRows.{fields_at}
 use Rattle.ruled_table.specs.Tables.{fault_with, text_with}
-use Rattle.ruled_table.specs.View.{look_config}
+use Rattle.ruled_table.specs.Shown.{look_config}
 use Rattle.ruled_table.proofs.LentTexts.{pairs-lent}
 use Rattle.ruled_table.proofs.Views.{told_on}
 use Rattle.ruled_table.proofs.blocks.block_of.Goals as goal

@@ -1,10 +1,10 @@
-use Rattle.std.proofs.Common.{◌≡◌, ◌≤◌, ◌+◌, ◌∙◌, [], ℕ, List, None, drop, length, length-drop, map, string_bytes, append-nil, sym, arith, rules}
+use Rattle.std.proofs.Common.{◌≡◌, ◌≤◌, ◌+◌, ◌∙◌, [], List, drop, length, length-drop, map, string_bytes, append-nil, sym, arith, rules}
 use Rattle.std.proofs.lemmas.List.{nil_from_length}
 use Rattle.csv.specs.Records.{Row, fields_of}
 use Rattle.pg_layout.specs.Text.{Text}
 use Rattle.ruled_table.specs.Blocks.{block_fault, block_of, blocks_in, blocks_in_fault}
 use Rattle.ruled_table.specs.LentRows.{fields_at}
-use Rattle.ruled_table.specs.View.{look_config}
+use Rattle.ruled_table.specs.Shown.{look_config}
 use Rattle.ruled_table.proofs.MoreBlocks.{fault_here, fault_on, text_on}
 use Rattle.ruled_table.proofs.Views.{first_told}
 use Rattle.ruled_table.proofs.blocks.blocks_in.Goals as goal

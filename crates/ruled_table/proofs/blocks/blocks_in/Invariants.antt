@@ -2,7 +2,7 @@ use Rattle.std.proofs.Common.{◌≡◌, ◌++◌, drop, map, string_bytes}
 use Rattle.csv.specs.Records.{fields_of}
 use Rattle.ruled_table.specs.Blocks.{blocks_in, blocks_in_fault}
 use Rattle.ruled_table.specs.LentRows.{fields_at}
-use Rattle.ruled_table.specs.View.{look_config}
+use Rattle.ruled_table.specs.Shown.{look_config}
 use Rattle.ruled_table.proofs.blocks.blocks_in.Given as goal
 
 abbrev pub invariant-loop-fields : goal.invariant-loop-fields

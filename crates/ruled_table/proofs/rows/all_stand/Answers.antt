@@ -1,8 +1,8 @@
-use Rattle.std.proofs.Common.{◌≡◌, ◌≤◌, ◌∙◌, ℕ, List, [], map, length, slice_index_or, sym, ap, arith, rules}
+use Rattle.std.proofs.Common.{◌≡◌, ◌≤◌, ◌∙◌, List, [], map, length, slice_index_or, sym, ap, arith, rules}
 use Rattle.std.proofs.lemmas.List.{take_all}
 use Rattle.csv.specs.Records.{fields_of}
 use Rattle.pg_layout.specs.Text.{Text}
-use Rattle.ruled_table.specs.View.{shown_text}
+use Rattle.ruled_table.specs.Shown.{shown_text}
 use Rattle.ruled_table.proofs.Shown.{same_more}
 use Rattle.ruled_table.proofs.rows.all_stand.Goals as goal
 

@@ -1,6 +1,6 @@
 use Rattle.std.proofs.Common.{◌≡◌, map, take}
 use Rattle.csv.specs.Records.{fields_of}
-use Rattle.ruled_table.specs.View.{shown_text}
+use Rattle.ruled_table.specs.Shown.{shown_text}
 use Rattle.ruled_table.proofs.rows.all_stand.Given as goal
 
 abbrev pub invariant-loop-place : goal.invariant-loop-place

@@ -1,7 +1,7 @@
 use Rattle.std.proofs.Common.{◌≡◌, ℕ, map, take, Option, sym, subst}
 use Rattle.std.proofs.lemmas.List.{take-map}
 use Rattle.csv.specs.Records.{fields_of}
-use Rattle.ruled_table.specs.View.{up_to}
+use Rattle.ruled_table.specs.Shown.{up_to}
 use Rattle.ruled_table.proofs.rows.heads.Goals as goal
 
 pub returns-in-Some : goal.returns-in-Some

@@ -1,10 +1,10 @@
-use Rattle.std.proofs.Common.{ℕ, List, ◌∙◌, ◌++◌, map, append-nil, sym, ap}
+use Rattle.std.proofs.Common.{List, ◌∙◌, ◌++◌, map, append-nil, sym, ap}
 use Rattle.std.specs.Vec.Iter.{into_iter_items}
 use Rattle.std.proofs.lemmas.List.{nil_from_length}
 use Rattle.std.proofs.lemmas.Simd.{map-map}
 use Rattle.csv.specs.Records.{Row, fields_of}
 use Rattle.pg_layout.specs.Text.{Text}
-use Rattle.ruled_table.specs.View.{shown_text}
+use Rattle.ruled_table.specs.Shown.{shown_text}
 use Rattle.ruled_table.proofs.Shown.{made_on}
 use Rattle.ruled_table.proofs.rows.shown_records.Goals as goal
 

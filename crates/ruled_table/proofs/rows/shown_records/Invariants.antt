@@ -1,7 +1,7 @@
 use Rattle.std.proofs.Common.{◌≡◌, ◌++◌, map}
 use Rattle.std.specs.Vec.Iter.{into_iter_items}
 use Rattle.csv.specs.Records.{fields_of}
-use Rattle.ruled_table.specs.View.{shown_text}
+use Rattle.ruled_table.specs.Shown.{shown_text}
 use Rattle.ruled_table.proofs.rows.shown_records.Given as goal
 
 abbrev pub invariant-loop-fields : goal.invariant-loop-fields

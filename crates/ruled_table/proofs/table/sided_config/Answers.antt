@@ -1,4 +1,4 @@
-use Rattle.std.proofs.Common.{◌≡◌, ◌∙◌, ℕ, ap, rules}
+use Rattle.std.proofs.Common.{◌≡◌, ◌∙◌, ap, rules}
 use Rattle.pg_layout.specs.Records.{columns_of}
 use Rattle.pg_config.specs.Config.{Config}
 use Rattle.ruled_table.specs.LentRows.{texts_of}

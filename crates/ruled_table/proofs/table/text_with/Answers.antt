@@ -1,4 +1,5 @@
-use Rattle.std.proofs.Common.{◌≡◌, ◌∙◌, ◌∷◌, ◌++◌, [], ℕ, List, length, string_bytes, false, true, sym, ap, subst, rules, Option}
+use Rattle.std.proofs.Common.{◌≡◌, ◌≢◌, ◌∙◌, ◌∷◌, ◌++◌, [], ℕ, List, length, string_bytes, false, true, ap, subst, arith, rules, Option}
+use Rattle.std.proofs.lemmas.Bool.Decides.{nat_tests}
 use Rattle.std.specs.Prelude.{◌==◌, IfOk, Some, None, is_none, if◌then◌else◌}
 use Rattle.pg_layout.specs.Records.{columns_of}
 use Rattle.pg_layout.specs.Text.{Text}
@@ -23,7 +24,8 @@ pub returns-clause-text : goal.returns-clause-text
 returns-clause-text c =
     let texts : List (List Text) = texts_of c.args.rows in
     let bounds = c.args.bounds.now in
-    let some : (length texts == 0) ≡ false = search rules in
+    let other : length texts ≢ 0 = λ is. c.if-count-eq0.false (c.count_rows-count.ensures ∙ is) in
+    let some : (length texts == 0) ≡ false = grind (arith, nat_tests, other) in
     let config : c.set_line_below.new.config ≡ with_line c.args.line (length texts) (columns_of texts) c.args.config =
     c.in_ok-set_line_below.ensures
     ∙ ap (λ (n : ℕ). with_line c.args.line n c.count_columns-columns.result c.args.config) c.count_rows-count.ensures
@@ -40,7 +42,8 @@ pub returns-clause-fault : goal.returns-clause-fault
 returns-clause-fault c =
     let texts : List (List Text) = texts_of c.args.rows in
     let bounds = c.args.bounds.now in
-    let some : (length texts == 0) ≡ false = search rules in
+    let other : length texts ≢ 0 = λ is. c.if-count-eq0.false (c.count_rows-count.ensures ∙ is) in
+    let some : (length texts == 0) ≡ false = grind (arith, nat_tests, other) in
     let config : c.set_line_below.new.config ≡ with_line c.args.line (length texts) (columns_of texts) c.args.config =
     c.in_ok-set_line_below.ensures
     ∙ ap (λ (n : ℕ). with_line c.args.line n c.count_columns-columns.result c.args.config) c.count_rows-count.ensures

@@ -1,4 +1,4 @@
-use Rattle.std.proofs.Common.{◌<◌, ◌∙◌, length, sym, arith, rules}
+use Rattle.std.proofs.Common.{◌∙◌, sym, rules}
 use Rattle.ruled_table.proofs.LentTexts.{columns-some, even-lent}
 use Rattle.ruled_table.proofs.lent_rows.LentRowsRecords.count_columns.Goals as goal
 

@@ -1,4 +1,4 @@
-use Rattle.std.proofs.Common.{◌≡◌, ◌∙◌, Some, ap, sym}
+use Rattle.std.proofs.Common.{◌∙◌, ap, sym}
 use Rattle.ruled_table.specs.Look.{first_named}
 use Rattle.ruled_table.proofs.Looks.{first_of_name}
 use Rattle.ruled_table.proofs.look.Look.by_name.Goals as goal

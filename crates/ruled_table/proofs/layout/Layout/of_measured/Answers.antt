@@ -1,0 +1,62 @@
+use Rattle.std.proofs.Common.{◌≡◌, ◌∙◌, ℕ, List, Option, sym, ap, ap₂, rules}
+use Rattle.csv.specs.Records.{Row, fields_of}
+use Rattle.pg_config.specs.Config.{Config}
+use Rattle.ruled_table.specs.Faults.{totals_of}
+use Rattle.ruled_table.specs.Layouts.{but_last, sizes_fault_by}
+use Rattle.ruled_table.specs.LentRows.{fields_at, texts_at}
+use Rattle.ruled_table.specs.Widths.{first_config, widths_fault, widths_in, widths_of}
+use Rattle.ruled_table.specs.declared.fault.ViewFault.{ViewFault}
+use Rattle.ruled_table.proofs.MeasuredRows.{but-last-map, layout-made}
+use Rattle.ruled_table.proofs.StartedTables.{plain-config}
+use Rattle.ruled_table.proofs.Views.{told_on}
+use Rattle.ruled_table.proofs.layout.Layout.of_measured.Goals as goal
+
+pub returns-clause-layout : goal.returns-clause-layout
+returns-clause-layout c =
+    let options = c.args.options.now in
+    let places : List ℕ = c.args.places.items in
+    let measured : List Row = c.args.measured.now in
+    let config : Config = c.in_ok-config.config in
+    let rows : List Row = c.above_ruler.result.now in
+    let at : c.deref.result.now ≡ places = search rules in
+    let also : c.deref-2.result.now ≡ places = search rules in
+    let above : texts_at c.deref.result.now rows ≡ but_last (texts_at places measured) =
+    ap (λ (ps : List ℕ). texts_at ps rows) at ∙ ap (texts_at places) c.above_ruler.ensures ∙ but-last-map (λ fields. fields_at places (fields_of fields)) measured
+    in
+    let wide : widths_in c.in_ok-widths.widths ≡ widths_of options.bounds config (texts_at places measured) =
+    c.in_ok-widths.ensures.widths ∙ ap (λ (ps : List ℕ). widths_of options.bounds config (texts_at ps measured)) also
+    in
+    layout-made options places (texts_at places measured) (texts_at c.deref.result.now rows) config (widths_in c.in_ok-widths.widths) above c.in_ok-config.ensures wide
+
+pub returns-clause-fault : goal.returns-clause-fault
+returns-clause-fault c =
+    let options = c.args.options.now in
+    let places : List ℕ = c.args.places.items in
+    let measured : List Row = c.args.measured.now in
+    let rows : List Row = c.above_ruler.result.now in
+    let at : c.deref.result.now ≡ places = search rules in
+    let also : c.deref-2.result.now ≡ places = search rules in
+    let above : texts_at c.deref.result.now rows ≡ but_last (texts_at places measured) =
+    ap (λ (ps : List ℕ). texts_at ps rows) at ∙ ap (texts_at places) c.above_ruler.ensures ∙ but-last-map (λ fields. fields_at places (fields_of fields)) measured
+    in
+    let looks : c.in_ok-config.config ≡ first_config options (but_last (texts_at places measured)) = c.in_ok-config.ensures ∙ ap (first_config options) above in
+    let told : Config → List ℕ → Option ViewFault = λ config ps. totals_of (widths_fault options.bounds config (texts_at ps measured)) in
+    sym (ap₂ told looks also) ∙ c.in_ok-widths.ensures.fault
+
+pub returns-in_err-widths-clause-fault : goal.returns-in_err-widths-clause-fault
+returns-in_err-widths-clause-fault c =
+    let options = c.args.options.now in
+    let places : List ℕ = c.args.places.items in
+    let measured : List Row = c.args.measured.now in
+    let rows : List Row = c.above_ruler.result.now in
+    let at : c.deref.result.now ≡ places = search rules in
+    let also : c.deref-2.result.now ≡ places = search rules in
+    let above : texts_at c.deref.result.now rows ≡ but_last (texts_at places measured) =
+    ap (λ (ps : List ℕ). texts_at ps rows) at ∙ ap (texts_at places) c.above_ruler.ensures ∙ but-last-map (λ fields. fields_at places (fields_of fields)) measured
+    in
+    let looks : c.in_ok-config.config ≡ first_config options (but_last (texts_at places measured)) = c.in_ok-config.ensures ∙ ap (first_config options) above in
+    let told : Config → List ℕ → Option ViewFault = λ config ps. totals_of (widths_fault options.bounds config (texts_at ps measured)) in
+    told_on c.in_err-widths.field-0.0 (sizes_fault_by options (texts_at places measured)) c.from_residual-in_err-widths.result (λ soft. sym (ap₂ told looks also) ∙ c.in_err-widths.ensures.fault soft) c.from_residual-in_err-widths.ensures.1
+
+pub invariant_of-result : goal.invariant_of-result
+invariant_of-result c = ap (λ (config : Config). config.spans) c.in_ok-config.ensures ∙ plain-config c.args.options.now _

@@ -1,0 +1,24 @@
+use Rattle.std.proofs.Common.{◌≡◌, ◌∙◌, ◌∷◌, ◌++◌, [], ℕ, List, length, map, slice_index_or, ap, arith, rules}
+use Rattle.std.specs.Cow.{cow_str_bytes}
+use Rattle.csv.specs.Records.{fields_of}
+use Rattle.pg_layout.specs.Text.{Text}
+use Rattle.ruled_table.specs.Widths.{room_of, text_within, widths_in}
+use Rattle.ruled_table.proofs.RowsWithin.{within-all, within-next}
+use Rattle.ruled_table.proofs.view.cells_of.Goals as goal
+
+pub loop-place-preserved : goal.loop-place-preserved
+loop-place-preserved c =
+    let fields : List Text = fields_of c.args.fields.now in
+    let places : List ℕ = c.args.places.now in
+    let i = c.loop-place.place-index in
+    let made = c.loop-place.cells.items in
+    let width : ℕ → ℕ = widths_in c.args.widths.now in
+    let here : c.field_at.result.now ≡ slice_index_or fields (slice_index_or places i 0) [] = search rules in
+    within-next cow_str_bytes c.args.overflow width (λ place. slice_index_or fields place []) places made c.push_within.new.cells.items i (omega arith)
+    (c.in_ok-push_within.ensures ∙ ap (λ (text : Text). map cow_str_bytes made ++ text_within c.args.overflow (room_of width (length made)) text ∷ []) here)
+    c.loop-place.invariant
+
+pub returns : goal.returns
+returns c =
+    within-all cow_str_bytes c.args.overflow (widths_in c.args.widths.now) (λ place. slice_index_or (fields_of c.args.fields.now) place []) c.args.places.now c.loop-place.cells.items c.loop-place.place-index (omega arith)
+    c.loop-place.invariant

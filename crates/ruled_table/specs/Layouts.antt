@@ -1,0 +1,114 @@
+-- What the first rows of a table say of all its rows, and the table of rows within it.
+use Rattle.std.specs.Prelude.{ℕ, ◌-◌, ◌==◌, List, [], ◌∷◌, ◌++◌, map, length, slice_index_or, take, Option, Some, None, is_none, if◌then◌else◌}
+use Rattle.std.specs.Option.{option_or}
+use Rattle.pg_layout.specs.Records.{text_at}
+use Rattle.pg_layout.specs.Text.{Text}
+use Rattle.pg_config.specs.Config.{Config}
+use Rattle.pg_fit.specs.Rows.{row_height}
+use Rattle.pg_picture.specs.Picture.{picture}
+use Rattle.pg_picture.specs.Table.{Table, Unknown}
+use Rattle.pg_stream.specs.Printing.{Printing, printer}
+use Rattle.pg_stream.specs.SizedStreams.{sized_misfit}
+use Rattle.pg_table.specs.declared.overflow.Overflow.{Overflow}
+use Rattle.ruled_table.specs.Columns.{column_fault, places_of}
+use Rattle.ruled_table.specs.Faults.{totals_of}
+use Rattle.ruled_table.specs.LentRows.{fields_at}
+use Rattle.ruled_table.specs.Plans.{Plan}
+use Rattle.ruled_table.specs.Shown.{shown_row}
+use Rattle.ruled_table.specs.Widths.{first_config, row_within, widths_fault, widths_of}
+use Rattle.ruled_table.specs.declared.fault.ViewFault.{ViewFault}
+use Rattle.ruled_table.specs.declared.fault.ViewFault.TheVariants.{Totals}
+use Rattle.ruled_table.specs.declared.options.Options.{Options}
+
+-- ---- what the first rows say
+
+-- a row of one character in each field of this one
+abbrev pub ruler_of : List Text → List Text
+ruler_of row = map (λ field. 48 ∷ []) row
+
+module _ (options : Options) (first : List (List Text)) where
+  abbrev pub places_in : List ℕ
+  places_in = places_of options.columns.items first
+
+  -- the texts that are shown of them
+  abbrev pub texts_in : List (List Text)
+  texts_in = map (shown_row options places_in) first
+
+  -- with one row more below them that has a character in each column: so each column has room for one
+  abbrev pub measured_in : List (List Text)
+  measured_in = texts_in ++ fields_at places_in (ruler_of (slice_index_or first 0 [])) ∷ []
+
+  abbrev pub config_in : Config
+  config_in = first_config options texts_in
+
+  abbrev pub layout_of : Plan
+  layout_of = record { places = places_in; config = config_in; width = widths_of options.bounds config_in measured_in }
+
+  -- no column has one of the names, or their sizes are too large
+  abbrev pub layout_fault : Option ViewFault
+  layout_fault = option_or (column_fault options.columns.items first) (totals_of (widths_fault options.bounds config_in measured_in))
+
+-- ---- by rows of which the last one is a ruler
+
+abbrev pub but_last : {X : Type 0} → List X → List X
+but_last xs = take (length xs - 1) xs
+
+abbrev pub layout_by : Options → List ℕ → List (List Text) → Plan
+layout_by options places measured =
+    let config : Config = first_config options (but_last measured) in
+    record { places = places; config = config; width = widths_of options.bounds config measured }
+
+abbrev pub sizes_fault_by : Options → List (List Text) → Option ViewFault
+sizes_fault_by options measured = totals_of (widths_fault options.bounds (first_config options (but_last measured)) measured)
+
+-- ---- the table of rows
+
+-- the cells of rows: their texts within their columns
+abbrev pub cells_within : Overflow → Plan → List (List Text) → List (List Text)
+cells_within overflow plan texts = map (row_within overflow plan.width) texts
+
+-- each row is as high as its highest cell
+abbrev pub heights_of : List (List Text) → ℕ → ℕ
+heights_of cells row = row_height (slice_index_or cells row [])
+
+-- the table of these cells
+abbrev pub table_of : Plan → List (List Text) → Table
+table_of plan cells = record {
+  config = plan.config;
+  rows = length cells;
+  columns = length plan.places;
+  width = plan.width;
+  height = heights_of cells;
+  text = text_at cells;
+  color = λ place. None;
+}
+
+-- its picture, and a line feed; of no rows nothing
+abbrev pub whole_of : Plan → List (List Text) → Text
+whole_of plan cells = if length cells == 0 then [] else picture Unknown (table_of plan cells) ++ 10 ∷ []
+
+module _ (options : Options) (plan : Plan) (rows : List (List Text)) where
+  -- the texts that are shown of rows, and their cells
+  abbrev pub texts_by : List (List Text)
+  texts_by = map (shown_row options plan.places) rows
+
+  abbrev pub cells_of : List (List Text)
+  cells_of = cells_within options.bounds.overflow plan texts_by
+
+  -- the text of their table
+  abbrev pub whole_text : Text
+  whole_text = whole_of plan cells_of
+
+-- ---- faults
+
+-- before its first row, by these heights
+abbrev pub start_of : Plan → (ℕ → ℕ) → Printing
+start_of plan heights = printer plan.config (length plan.places) plan.width heights (λ place. None) None
+
+-- there is no column, or the width of all together is too large
+abbrev pub start_fault : Plan → Option ViewFault
+start_fault plan = if is_none (sized_misfit (start_of plan (λ row. 0))) then None else Some Totals
+
+-- what is wrong with the first rows
+abbrev pub first_fault : Options → List (List Text) → Option ViewFault
+first_fault options first = option_or (layout_fault options first) (start_fault (layout_of options first))

@@ -1,0 +1,58 @@
+-- What is shown of rows, and what their table looks like.
+use Rattle.std.specs.Prelude.{ℕ, ◌+◌, Bool, List, [], map, take, slice_index_or, Option, Some, None, option_map, if◌then◌else◌}
+use Rattle.pg_layout.specs.Text.{Text}
+use Rattle.pg_layout.specs.declared.borders.HorizontalLine.{HorizontalLine}
+use Rattle.pg_layout.specs.declared.position.Entity.TheVariants.{Global}
+use Rattle.pg_layout.specs.declared.sides.Indent.{Indent}
+use Rattle.pg_config.specs.Config.{Config, default_config}
+use Rattle.pg_config.specs.Settings.{with_setting}
+use Rattle.pg_fit.specs.Controls.{visible_text}
+use Rattle.ruled_table.specs.Escapes.{escaped_text}
+use Rattle.ruled_table.specs.Look.{borders_of, header_line_of}
+use Rattle.ruled_table.specs.Sides.{sided}
+use Rattle.ruled_table.specs.declared.look.Look.{Look}
+use Rattle.ruled_table.specs.declared.options.Options.{Options}
+
+-- ---- rows
+
+-- a text as it is, or with its control characters made visible
+abbrev pub seen_text : Bool → Text → Text
+seen_text is_raw text = if is_raw then text else visible_text text
+
+-- a text as it is shown: for Markdown escaped, too
+abbrev pub shown_text : Options → Text → Text
+shown_text options text = if options.is_markdown then escaped_text (seen_text options.is_raw text) else seen_text options.is_raw text
+
+-- a row as it is shown: its fields at these places
+abbrev pub shown_row : Options → List ℕ → List Text → List Text
+shown_row options places row = map (λ place. shown_text options (slice_index_or row place [])) places
+
+-- how many rows are shown at most, a header among them
+abbrev pub limit_of : Options → Option ℕ
+limit_of options = option_map (λ rows. if options.has_header then rows + 1 else rows) options.head
+
+abbrev pub up_to : {X : Type 0} → Option ℕ → List X → List X
+up_to None rows = rows
+up_to (Some limit) rows = take limit rows
+
+abbrev pub heads : {X : Type 0} → Options → List X → List X
+heads options rows = up_to (limit_of options) rows
+
+-- ---- their table
+
+-- a space at each side of a text
+abbrev pub look_config : Look → Config
+look_config look =
+    let beside : Indent = record { size = 1; fill = 32 } in
+    let none : Indent = record { size = 0; fill = 32 } in
+    record default_config {
+      borders = borders_of look;
+      padding = with_setting Global (record { left = beside; right = beside; top = none; bottom = none }) default_config.padding;
+    }
+
+abbrev pub line_in : Options → Option (HorizontalLine ℕ)
+line_in options = if options.has_header then header_line_of options.look else None
+
+-- each column at its side
+abbrev pub sided_config : Options → List (List Text) → Config
+sided_config options rows = sided options.has_header options.sides.items rows (look_config options.look)

@@ -1,0 +1,128 @@
+//! What the first rows of a table say of all its rows.
+
+ghost use Rattle.std.specs.Prelude.{◌≡◌, ◌++◌, ◌∷◌, [], map, slice_index_or, IfOk};
+ghost use Rattle.csv.specs.Records.{fields_of};
+ghost use Rattle.ruled_table.specs.Faults.{Tells};
+ghost use Rattle.ruled_table.specs.Layouts as spec;
+ghost use Rattle.ruled_table.specs.LentRows.{texts_at};
+ghost use Rattle.ruled_table.specs.Plans.{plan_in};
+
+use crate::columns::places_of;
+use crate::fault::ViewFault;
+use crate::lent_rows::LentRows;
+use crate::options::Options;
+use crate::rows::shown_records;
+use crate::widths::{first_config, sizes_of_rows};
+use csv::StringRecord;
+use pg_config::SpannedConfig;
+use pg_layout::ConstantDimension;
+use std::alloc::{AllocError, Global};
+use std::marker::Model;
+
+/// What the first rows of a table say of all its rows: the columns that are shown, what they look like, and how wide
+/// they are. Each column has room for at least one character.
+#[derive(Drop)]
+pub struct Layout {
+    pub(crate) places: Vec<usize>,
+    pub(crate) config: SpannedConfig,
+    pub(crate) widths: ConstantDimension,
+}
+
+impl Model for Layout {
+    ghost use Rattle.std.specs.Prelude.{◌≡◌, []};
+    ghost use Rattle.ruled_table.specs.Plans.{Measures};
+
+    ghost Value = { Measures };
+
+    ghost view = { λ l. record { places = l.places.items; config = l.config; widths = l.widths.0.items } };
+
+    ghost invariant = { λ l. l.config.spans ≡ [] };
+}
+
+// A row of one character in each field of this one.
+fn ruler_of(alloc: Global, fields: &StringRecord) -> Result<StringRecord, AllocError>
+    ensures { IfOk result (λ ruler. fields_of ruler ≡ spec.ruler_of (fields_of fields.now)) }
+{
+    let mut ruler = StringRecord::new(alloc);
+    for place in 0..fields.len() {
+        ruler.push_field("0")?;
+    }
+    Ok(ruler)
+}
+
+// The ruler of the first of these rows.
+fn first_ruler(alloc: Global, rows: &[StringRecord]) -> Result<StringRecord, AllocError>
+    ensures { IfOk result (λ ruler. fields_of ruler ≡ spec.ruler_of (slice_index_or (map fields_of rows.now) 0 [])) }
+{
+    match rows {
+        [fields, ..] => ruler_of(alloc, fields),
+        [] => Ok(StringRecord::new(alloc)),
+    }
+}
+
+/// Rows with a ruler below them, in which each column has one character.
+pub(crate) fn with_ruler(
+    alloc: Global,
+    rows: Vec<StringRecord>,
+) -> Result<Vec<StringRecord>, AllocError>
+    ensures { IfOk result (λ measured. map fields_of measured.items ≡ map fields_of rows.items ++ spec.ruler_of (slice_index_or (map fields_of rows.items) 0 []) ∷ []) }
+{
+    let ruler = first_ruler(alloc, &rows)?;
+    let mut measured = rows;
+    measured.push(ruler)?;
+    Ok(measured)
+}
+
+/// The rows above the ruler.
+pub(crate) fn above_ruler(measured: &[StringRecord]) -> &[StringRecord]
+    ensures { result.now ≡ spec.but_last measured.now }
+{
+    &measured[..measured.len().saturating_sub(1)]
+}
+
+impl Layout {
+    /// The layout of a table whose first rows are these, a header among them.
+    ///
+    /// The fault is that of the names of columns, or of the sizes of these rows, in this order, or want of memory.
+    pub fn of_rows(
+        alloc: Global,
+        options: &Options,
+        first: &[StringRecord],
+    ) -> Result<Layout, ViewFault>
+        ensures layout { IfOk result (λ layout. plan_in layout ≡ spec.layout_of options.now (map fields_of first.now)) }
+        ensures fault { Tells (spec.layout_fault options.now (map fields_of first.now)) result }
+    {
+        let places = places_of(alloc, &options.columns, first)?;
+        let copies = Vec::from_clones(alloc, first)?;
+        let shown = shown_records(alloc, options, copies)?;
+        let measured = with_ruler(alloc, shown)?;
+        Layout::of_measured(alloc, options, places, &measured)
+    }
+
+    /// The layout of rows of which the last one is a ruler, by the places of their columns.
+    pub(crate) fn of_measured(
+        alloc: Global,
+        options: &Options,
+        places: Vec<usize>,
+        measured: &[StringRecord],
+    ) -> Result<Layout, ViewFault>
+        ensures layout { IfOk result (λ layout. plan_in layout ≡ spec.layout_by options.now places.items (texts_at places.items measured.now)) }
+        ensures fault { Tells (spec.sizes_fault_by options.now (texts_at places.items measured.now)) result }
+    {
+        let rows = LentRows {
+            records: above_ruler(measured),
+            places: &places,
+        };
+        let config = first_config(alloc, options, rows)?;
+        let ruled = LentRows {
+            records: measured,
+            places: &places,
+        };
+        let widths = sizes_of_rows(alloc, &options.bounds, &config, ruled)?;
+        Ok(Layout {
+            places,
+            config,
+            widths,
+        })
+    }
+}

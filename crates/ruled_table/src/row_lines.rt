@@ -1,0 +1,138 @@
+//! The lines of a table's rows, one row after another.
+
+ghost use Rattle.std.specs.Prelude.{◌≡◌, ◌++◌, ◌∷◌, [], ℕ, List, map, string_bytes, false, true, Err, IfOk, OnErr, OnOk};
+ghost use Rattle.pg_layout.specs.Text.{Text};
+ghost use Rattle.pg_fit.specs.Rows.{row_height};
+ghost use Rattle.pg_stream.specs.Conditions.{RowFits};
+ghost use Rattle.pg_stream.specs.LiveStreams.{MayEnd};
+ghost use Rattle.pg_stream.specs.Printing.{after_row, finish_text, row_text};
+ghost use Rattle.pg_stream.specs.SizedStreams.{CountsLines, IsNextHeight};
+ghost use Rattle.ruled_table.specs.Drawn.{AreEven, HasDrawn};
+ghost use Rattle.ruled_table.specs.Faults.{Tells};
+ghost use Rattle.ruled_table.specs.Layouts.{start_fault, whole_of};
+ghost use Rattle.ruled_table.specs.Plans.{Plan, plan_in};
+ghost use Rattle.ruled_table.specs.RowLines.{GrowsTo, HasNoRoomBelow, TellsRoom, begun_of, but_feed, ended_by, state_of};
+ghost use Rattle.ruled_table.specs.declared.fault.ViewFault.{ViewFault};
+ghost use Rattle.ruled_table.specs.declared.fault.ViewFault.TheVariants.{Memory};
+
+use crate::fault::ViewFault;
+use crate::layout::Layout;
+use pg_fit::row_height;
+use pg_layout::{ConstantDimension, NoColors};
+use pg_stream::SizedStream;
+use std::alloc::{AllocError, Global};
+use std::convert::AsStr;
+
+/// The printer of rows whose widths are known.
+pub(crate) type Sheet<'a, S> = SizedStream<'a, S, ConstantDimension, NoColors>;
+
+/// The rows of a table, whose lines are appended to a buffer, one row after another, and then its end.
+///
+/// A call that fails appends nothing. What a further call appends isn't said then.
+#[derive(Drop)]
+pub(crate) struct RowLines<'a, S: AsStr> {
+    sheet: Sheet<'a, S>,
+    /// The lines of the latest row.
+    lines: String,
+    /// Whether there was a row.
+    is_begun: bool,
+}
+
+// Prints a row into a buffer of its own.
+fn print_row<S: AsStr + Drop>(
+    sheet: &mut Sheet<'_, S>,
+    cells: Vec<S>,
+    lines: &mut String,
+) -> Result<(), ViewFault>
+    ensures lines { (heights : ℕ → ℕ) → IsNextHeight (state_of heights sheet.old).printed (row_height (map S.text cells.items)) → OnOk result (string_bytes lines.new ≡ row_text (state_of heights sheet.old).printed (map S.text cells.items) false) }
+    ensures after { (heights : ℕ → ℕ) → IsNextHeight (state_of heights sheet.old).printed (row_height (map S.text cells.items)) → OnOk result (state_of heights sheet.new ≡ record { printed = after_row (state_of heights sheet.old).printed (map S.text cells.items) false; is_lost = false }) }
+    ensures room { (heights : ℕ → ℕ) → IsNextHeight (state_of heights sheet.old).printed (row_height (map S.text cells.items)) → (state_of heights sheet.old).is_lost ≡ false → TellsRoom (¬ (RowFits (state_of heights sheet.old).printed (map S.text cells.items) false)) result }
+{
+    let height = row_height(&cells);
+    lines.clear();
+    sheet.push(height, cells, lines)?;
+    Ok(())
+}
+
+// Prints the end into a buffer of its own.
+fn print_end<S: AsStr + Drop>(sheet: Sheet<'_, S>, lines: &mut String) -> Result<(), ViewFault>
+    ensures lines { (heights : ℕ → ℕ) → CountsLines (state_of heights sheet.entry).printed → (state_of heights sheet.entry).is_lost ≡ false → MayEnd (state_of heights sheet.entry).printed → OnOk result (string_bytes lines.new ≡ finish_text (state_of heights sheet.entry).printed) }
+    ensures fault { (heights : ℕ → ℕ) → CountsLines (state_of heights sheet.entry).printed → (state_of heights sheet.entry).is_lost ≡ false → MayEnd (state_of heights sheet.entry).printed → (fault : ViewFault) → result ≡ Err fault → fault ≡ Memory }
+{
+    lines.clear();
+    sheet.finish(lines)?;
+    Ok(())
+}
+
+// Lines without the line feed in front of them, where there is one.
+fn but_feed(is_begun: bool, lines: &str) -> &str
+    ensures { result.now ≡ but_feed is_begun lines.now }
+{
+    if !is_begun {
+        return lines;
+    }
+    match lines.strip_prefix('\n') {
+        Some(lines) => lines,
+        None => lines,
+    }
+}
+
+// Appends lines with a line feed behind them, in place of that which stands in front of them but for the first ones.
+fn append_lines(is_begun: bool, lines: &mut String, buf: &mut String) -> Result<(), AllocError>
+    ensures appended { OnOk result (string_bytes buf.new ≡ string_bytes buf.old ++ ended_by is_begun (string_bytes lines.old)) }
+    ensures failed { OnErr result (string_bytes buf.new ≡ string_bytes buf.old) }
+{
+    if is_begun && lines.is_empty() {
+        return Ok(());
+    }
+    lines.push('\n')?;
+    buf.push_str(but_feed(is_begun, lines.as_str()))
+}
+
+impl<'a, S: AsStr + Drop> RowLines<'a, S> {
+    /// A table of this layout before its first row.
+    pub(crate) fn new(alloc: Global, layout: &'a Layout) -> Result<RowLines<'a, S>, ViewFault>
+        ensures begun { IfOk result (λ rows. HasDrawn (plan_in layout.now) [] rows) }
+        ensures fault { Tells (start_fault (plan_in layout.now)) result }
+    {
+        let Layout {
+            places,
+            config,
+            widths,
+        } = layout;
+        let sheet = SizedStream::new(alloc, config, widths, &NoColors, places.len())?;
+        Ok(RowLines {
+            sheet,
+            lines: String::new(alloc),
+            is_begun: false,
+        })
+    }
+
+    /// Appends the lines of a row of these cells, with a line feed behind each.
+    pub(crate) fn push(&mut self, cells: Vec<S>, buf: &mut String) -> Result<(), ViewFault>
+        ensures lines { (plan : Plan) (above : List (List Text)) → HasDrawn plan above self.old → OnOk result (GrowsTo (begun_of plan above) (begun_of plan (above ++ map S.text cells.items ∷ [])) (string_bytes buf.old) (string_bytes buf.new)) }
+        ensures after { (plan : Plan) (above : List (List Text)) → HasDrawn plan above self.old → OnOk result (HasDrawn plan (above ++ map S.text cells.items ∷ []) self.new) }
+        ensures room { (plan : Plan) (above : List (List Text)) → HasDrawn plan above self.old → TellsRoom (HasNoRoomBelow plan above (map S.text cells.items)) result }
+        ensures failed { OnErr result (string_bytes buf.new ≡ string_bytes buf.old) }
+    {
+        print_row(&mut self.sheet, cells, &mut self.lines)?;
+        append_lines(self.is_begun, &mut self.lines, buf)?;
+        self.is_begun = true;
+        Ok(())
+    }
+
+    /// Appends the end of the table; of no rows nothing.
+    pub(crate) fn finish(self, buf: &mut String) -> Result<(), ViewFault>
+        ensures end { (plan : Plan) (cells : List (List Text)) → HasDrawn plan cells self.entry → AreEven plan cells → OnOk result (GrowsTo (begun_of plan cells) (whole_of plan cells) (string_bytes buf.old) (string_bytes buf.new)) }
+        ensures fault { (plan : Plan) (cells : List (List Text)) → HasDrawn plan cells self.entry → (fault : ViewFault) → result ≡ Err fault → fault ≡ Memory }
+        ensures failed { OnErr result (string_bytes buf.new ≡ string_bytes buf.old) }
+    {
+        let RowLines {
+            sheet,
+            mut lines,
+            ..
+        } = self;
+        print_end(sheet, &mut lines)?;
+        Ok(append_lines(true, &mut lines, buf)?)
+    }
+}

@@ -1,0 +1,135 @@
+//! The rows of a table, of which each may come when the others are drawn.
+
+ghost use Rattle.std.specs.Cow.{cow_str_bytes};
+ghost use Rattle.std.specs.Prelude.{◌≡◌, ◌++◌, ◌∷◌, [], List, length, map, string_bytes, Err, IfOk, OnErr, OnOk};
+ghost use Rattle.csv.specs.Records.{fields_of};
+ghost use Rattle.pg_layout.specs.Text.{Text};
+ghost use Rattle.ruled_table.specs.Appended.{HasAppended, IsOver};
+ghost use Rattle.ruled_table.specs.Faults.{Tells};
+ghost use Rattle.ruled_table.specs.Layouts.{start_fault, whole_text};
+ghost use Rattle.ruled_table.specs.Plans.{Plan, plan_in};
+ghost use Rattle.ruled_table.specs.RowLines.{GrowsTo, HasNoRoom, TellsRoom, begun_text};
+ghost use Rattle.ruled_table.specs.Shown.{shown_row};
+ghost use Rattle.ruled_table.specs.Widths as spec;
+ghost use Rattle.ruled_table.specs.declared.fault.ViewFault.{ViewFault};
+ghost use Rattle.ruled_table.specs.declared.fault.ViewFault.TheVariants.{Memory};
+ghost use Rattle.ruled_table.specs.declared.options.Options.{Options};
+
+use crate::columns::field_at;
+use crate::fault::ViewFault;
+use crate::layout::Layout;
+use crate::options::Options;
+use crate::row_lines::RowLines;
+use crate::rows::shown_text;
+use crate::widths::{room_of, text_within};
+use csv::StringRecord;
+use pg_layout::ConstantDimension;
+use pg_table::Overflow;
+use std::alloc::{AllocError, Global};
+use std::borrow::CowStr;
+
+/// The rows of a table of this layout, whose lines are appended to a buffer, one row after another, and then its end.
+///
+/// Where a call fails it appends nothing, and each further one fails for want of memory.
+#[derive(Drop)]
+pub struct TableRows<'a> {
+    alloc: Global,
+    options: &'a Options,
+    layout: &'a Layout,
+    rows: RowLines<'a, String>,
+    /// Whether a call has failed.
+    is_over: bool,
+}
+
+// Adds a text within its column, the next one. It is a cell's own, since a printer takes cells of one type as long as
+// it lives, and no row lives as long.
+fn push_within(
+    alloc: Global,
+    overflow: Overflow<'_>,
+    widths: &ConstantDimension,
+    text: CowStr<'_>,
+    cells: &mut Vec<String>,
+) -> Result<(), AllocError>
+    ensures { OnOk result (map string_bytes cells.new.items ≡ map string_bytes cells.old.items ++ spec.text_within overflow.entry (spec.room_of (spec.widths_in widths.now) (length cells.old.items)) (cow_str_bytes text.entry) ∷ []) }
+{
+    let room = room_of(widths, cells.len());
+    let cell = text_within(alloc, overflow, room, text)?;
+    Ok(cells.push(cell)?)
+}
+
+// The texts that are shown of a row, within their columns.
+fn cells_shown(
+    alloc: Global,
+    options: &Options,
+    places: &[usize],
+    widths: &ConstantDimension,
+    fields: &StringRecord,
+) -> Result<Vec<String>, AllocError>
+    ensures { IfOk result (λ cells. map string_bytes cells.items ≡ spec.row_within options.now.bounds.overflow (spec.widths_in widths.now) (shown_row options.now places.now (fields_of fields.now))) }
+{
+    let mut cells = Vec::with_capacity(alloc, places.len())?;
+    for place in places {
+        let text = shown_text(alloc, options, field_at(fields, *place))?;
+        push_within(alloc, options.bounds.overflow, widths, text, &mut cells)?;
+    }
+    Ok(cells)
+}
+
+impl<'a> TableRows<'a> {
+    /// A table before its first row.
+    ///
+    /// `ViewFault::Totals` says that the layout has no columns, or that their total width is too large.
+    pub fn new(
+        alloc: Global,
+        options: &'a Options,
+        layout: &'a Layout,
+    ) -> Result<TableRows<'a>, ViewFault>
+        ensures begun { IfOk result (λ table. HasAppended options.now (plan_in layout.now) [] table) }
+        ensures fault { Tells (start_fault (plan_in layout.now)) result }
+    {
+        let rows = RowLines::new(alloc, layout)?;
+        Ok(TableRows {
+            alloc,
+            options,
+            layout,
+            rows,
+            is_over: false,
+        })
+    }
+
+    /// Appends the lines of a row, with a line feed behind each.
+    ///
+    /// `ViewFault::Totals` says that its lines can't be counted below those above it.
+    pub fn push(&mut self, fields: &StringRecord, buf: &mut String) -> Result<(), ViewFault>
+        ensures lines { (options : Options) (plan : Plan) (rows : List (List Text)) → HasAppended options plan rows self.old → OnOk result (GrowsTo (begun_text options plan rows) (begun_text options plan (rows ++ fields_of fields.now ∷ [])) (string_bytes buf.old) (string_bytes buf.new)) }
+        ensures after { (options : Options) (plan : Plan) (rows : List (List Text)) → HasAppended options plan rows self.old → OnOk result (HasAppended options plan (rows ++ fields_of fields.now ∷ []) self.new) }
+        ensures room { (options : Options) (plan : Plan) (rows : List (List Text)) → HasAppended options plan rows self.old → TellsRoom (HasNoRoom options plan rows (fields_of fields.now)) result }
+        ensures failed { OnErr result (string_bytes buf.new ≡ string_bytes buf.old) }
+        ensures over { OnErr result (IsOver self.new) }
+        ensures lost { IsOver self.old → result ≡ Err Memory }
+    {
+        if self.is_over {
+            return Err(ViewFault::Memory);
+        }
+        self.is_over = true;
+        let layout = self.layout;
+        let (places, widths) = (&layout.places, &layout.widths);
+        let cells = cells_shown(self.alloc, self.options, places, widths, fields)?;
+        self.rows.push(cells, buf)?;
+        self.is_over = false;
+        Ok(())
+    }
+
+    /// Appends the end of the table; of no rows nothing.
+    pub fn finish(self, buf: &mut String) -> Result<(), ViewFault>
+        ensures end { (options : Options) (plan : Plan) (rows : List (List Text)) → HasAppended options plan rows self.entry → OnOk result (GrowsTo (begun_text options plan rows) (whole_text options plan rows) (string_bytes buf.old) (string_bytes buf.new)) }
+        ensures fault { (options : Options) (plan : Plan) (rows : List (List Text)) → HasAppended options plan rows self.entry → (fault : ViewFault) → result ≡ Err fault → fault ≡ Memory }
+        ensures failed { OnErr result (string_bytes buf.new ≡ string_bytes buf.old) }
+    {
+        let TableRows { rows, is_over, .. } = self;
+        if is_over {
+            return Err(ViewFault::Memory);
+        }
+        rows.finish(buf)
+    }
+}
