@@ -1,6 +1,7 @@
 -- What a tree's searches and edits are, among entries in the order of their keys.
-use Rattle.std.proofs.Common.{◌≡◌, Bool, true, false, not, ◌&&◌, List, [], ◌∷◌, ◌++◌, refl, sym, ap, ◌∙◌, Option, Some, None, unwrap_or, inl, inr, if◌then◌else◌, is_le, is_lt, is_gt, Ordering}
+use Rattle.std.proofs.Common.{◌≡◌, Bool, true, false, not, ◌&&◌, List, [], ◌∷◌, ◌++◌, map, suc, refl, sym, ap, arith, ◌∙◌, Option, Some, None, unwrap_or, inl, inr, if◌then◌else◌, is_le, is_lt, is_gt, Ordering}
 use Rattle.std.specs.Cmp.{IsTotalOrder}
+use Rattle.std.specs.List.{All}
 use Rattle.std.specs.Map.{lookup, remove_entry}
 use Rattle.std.specs.BTreeMap.{insert_entry, is_at}
 use Rattle.std.specs.BTreeMap.Range.{entries_between, range_contains}
@@ -60,7 +61,7 @@ module _ {K : Type 0} {cmp : K → K → Ordering} {order : Order K} (total : Is
         ]
       ]
 
-  is_lt-key : (k a : K) → is_lt (cmp k a) ≡ before order k a
+  pub is_lt-key : (k a : K) → is_lt (cmp k a) ≡ before order k a
   is_lt-key k a =
       elim (cases_Bool (before order k a)) [
         | inl y ↦ rw (of.is k a, y) refl
@@ -113,6 +114,14 @@ module _ {K : Type 0} {cmp : K → K → Ordering} {order : Order K} (total : Is
       elim (cases_Bool (comes order too b k)) [
         | inl y ↦ let some = before-comes laws too a b k h y in absurd (cc)
         | inr m ↦ m
+      ]
+
+  -- a key that the last one doesn't stand before comes before what the last one stands before
+  before-past_last : (last a k : K) → before order last a ≡ false → before order last k ≡ true → before order a k ≡ true
+  before-past_last last a k n h =
+      elim (cases_Bool (same order last a)) [
+        | inl s ↦ let one = laws.same_is last a s in (cc)
+        | inr o ↦ laws.trans a last k (laws.some_before last a n o) h
       ]
 
   module _ {V : Type 0} where
@@ -185,6 +194,12 @@ module _ {K : Type 0} {cmp : K → K → Ordering} {order : Order K} (total : Is
     next_from-key k [] = refl
     next_from-key k (e ∷ es) =
         elim (cases_Bool (before order e.0 k)) [ inl y ↦ rw (from-key k e.0, y) (next_from-key k es) | inr n ↦ rw (from-key k e.0, n) refl ]
+
+    -- no entry is found from a key on that the last one stands before
+    pub next_from-past : (last k : K) (es : List (K × V)) → All (λ a. is_lt (cmp last a) ≡ false) (map (λ e. e.0) es) → before order last k ≡ true → next_from order k es ≡ None
+    next_from-past last k [] all h = refl
+    next_from-past last k (e ∷ es) all h =
+        rw (before-past_last last e.0 k (sym (is_lt-key last e.0) ∙ all 0 e.0 (omega arith)) h) (next_from-past last k es (λ i d l. all (suc i) d (omega (arith, l))) h)
 
     -- a range is the entries from its first key on and up to its last
     pub between-key : (from to : K) (es : List (K × V)) → entries_between cmp (Included from) (Included to) es ≡ between order from to es

@@ -123,10 +123,15 @@ impl<K: Key, V, A: Allocator> Places<K, V, A> {
         self.find_key_from(key)
     }
 
-    // The first key that is at least this one, found by a search of the entries.
+    // The first key that is at least this one, found by a search of the entries. There is none behind the
+    // last one, which is found at less cost.
     fn find_key_from(&self, key: K) -> Option<K>
         ensures { result ≡ option_map (λ e. e.0) (next_from K.order key self.now) }
     {
+        let (last, _) = self.entries.last_key_value()?;
+        if last.cmp(&key).is_lt() {
+            return None;
+        }
         let (found, _) = self.next_from(key)?;
         Some(found)
     }
