@@ -94,11 +94,40 @@ pub fn is_plain(bytes: &[u8]) -> bool
     ensures { result ≡ list_all is_plain_byte bytes.now }
 {
     match bytes.len() {
-        0..4 => bytes.iter().all(|b| b.is_ascii() && *b != b'\n'),
+        0..4 => bytes.iter().all(|b| is_plain_byte(*b)),
         4..=8 => has_plain_ends::<4>(bytes),
         9..=16 => has_plain_ends::<8>(bytes),
         _ => has_plain_blocks(bytes),
     }
+}
+
+// Whether a byte is ASCII and no line feed, for each byte.
+#[rattlefmt::skip]
+static PLAIN: [bool; 256] = [
+    true, true, true, true, true, true, true, true, true, true, false, true, true, true, true, true,
+    true, true, true, true, true, true, true, true, true, true, true, true, true, true, true, true,
+    true, true, true, true, true, true, true, true, true, true, true, true, true, true, true, true,
+    true, true, true, true, true, true, true, true, true, true, true, true, true, true, true, true,
+    true, true, true, true, true, true, true, true, true, true, true, true, true, true, true, true,
+    true, true, true, true, true, true, true, true, true, true, true, true, true, true, true, true,
+    true, true, true, true, true, true, true, true, true, true, true, true, true, true, true, true,
+    true, true, true, true, true, true, true, true, true, true, true, true, true, true, true, true,
+    false, false, false, false, false, false, false, false, false, false, false, false, false, false, false, false,
+    false, false, false, false, false, false, false, false, false, false, false, false, false, false, false, false,
+    false, false, false, false, false, false, false, false, false, false, false, false, false, false, false, false,
+    false, false, false, false, false, false, false, false, false, false, false, false, false, false, false, false,
+    false, false, false, false, false, false, false, false, false, false, false, false, false, false, false, false,
+    false, false, false, false, false, false, false, false, false, false, false, false, false, false, false, false,
+    false, false, false, false, false, false, false, false, false, false, false, false, false, false, false, false,
+    false, false, false, false, false, false, false, false, false, false, false, false, false, false, false, false,
+];
+
+// In a short text a look into a table costs less than two comparisons.
+#[inline(always)]
+fn is_plain_byte(b: u8) -> bool
+    ensures { result ≡ is_plain_byte b }
+{
+    PLAIN[usize::from(b)]
 }
 
 // Two blocks, which may overlap, hold a text of at most twice their length.
