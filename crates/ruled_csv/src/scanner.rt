@@ -119,6 +119,11 @@ fn quoted_step(byte: u8) -> Step
     Step { next, act }
 }
 
+// Whether a run begins with the first of these bytes, which is asked before a search, since a search costs more than it.
+fn begins_run(bytes: &[u8]) -> bool {
+    !matches!(bytes.first(), None | Some(b'"' | b'\r' | b'\n'))
+}
+
 // How many bytes there are in front of the first quote and of the first end of a line.
 fn run_of(bytes: &[u8]) -> usize
     ensures within { result ≤ length bytes.now }
@@ -308,7 +313,7 @@ impl Scanner {
         ensures hand { IfOk result (λ count. Joins self.old.delimiter (take count bytes.now) (hand_of self.old) (hand_of self.new)) }
         ensures delimiter { self.new.delimiter ≡ self.old.delimiter }
     {
-        if self.standing.is_closing() {
+        if self.standing.is_closing() || !begins_run(bytes) {
             return Ok(0);
         }
         let count = run_of(bytes);
