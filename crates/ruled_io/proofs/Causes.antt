@@ -1,7 +1,6 @@
 -- What causes a fault that is handed on.
-use Rattle.std.proofs.Common.{◌≡◌, ◌∙◌, ◌⊎◌, ℕ, Bool, true, false, List, Option, Some, None, Result, Ok, Err, String, string_bytes, inl, inr, refl, sym, ap, subst}
+use Rattle.std.proofs.Common.{◌≡◌, ◌∙◌, ℕ, Bool, true, false, List, Option, Some, None, Result, Ok, Err, String, string_bytes, inl, inr, refl, sym, ap, subst}
 use Rattle.std.specs.Prelude.{IfErr, IfOk, IfSome}
-use Rattle.std.specs.Io.KnownBytes.{Keeps}
 use Rattle.std.specs.Result.{IsErrAnd}
 use Rattle.std.proofs.KnownBytes.{Keeps-refl}
 use Rattle.std.proofs.lemmas.Bool.{false≢true, true≢false}
@@ -16,7 +15,7 @@ use Rattle.ruled_table.specs.declared.fault.ViewFault.{ViewFault}
 use Rattle.ruled_table.specs.declared.fault.ViewFault.TheVariants as view
 use Rattle.ruled_io.specs.Faults.{IsOfRead, Tells, fault_of_sql, fault_of_view, is_of_write}
 use Rattle.ruled_io.specs.Input.{view_fault, view_text}
-use Rattle.ruled_io.specs.Requests.{format_told, holds_database}
+use Rattle.ruled_io.specs.Requests.{format_told, hides_rows, holds_database, log_of}
 use Rattle.ruled_io.specs.Runs.{AreAsked, CausedAll, CausedAs, CausedAtOnce, ShowsAll, ShowsAs}
 use Rattle.ruled_io.specs.Writing.{Begins}
 use Rattle.ruled_io.specs.declared.fault.InputFault.{InputFault}
@@ -44,16 +43,16 @@ rows_caused request bytes told (Err fault) other is tells =
 -- ---- a database
 
 -- a fault of a query
-pub of_query : {X : Type 0} (request : Request) (bytes : List ℕ) (found : SqlFault) (result : Result X InputFault) → (found ≡ sql.Database → HoldsNone bytes) → IsErrAnd result (λ fault. fault ≡ fault_of_sql found)
+pub of_query : {X : Type 0} (request : Request) (bytes : List ℕ) (found : SqlFault) (result : Result X InputFault) → hides_rows (log_of request.source) bytes ≡ false → (found ≡ sql.Database → HoldsNone bytes) → IsErrAnd result (λ fault. fault ≡ fault_of_sql found)
     → IfErr result (CausedAs true request bytes)
-of_query request bytes found (Ok x) none told = absurd told
-of_query request bytes sql.Database (Err fault) none told = subst (CausedAs true request bytes) (sym told) none
-of_query request bytes sql.Damage (Err fault) none told = subst (CausedAs true request bytes) (sym told) none
-of_query request bytes (sql.Query (query.Refused error)) (Err fault) none told = subst (CausedAs true request bytes) (sym told) none
-of_query request bytes (sql.Query query.Change) (Err fault) none told = subst (CausedAs true request bytes) (sym told) none
-of_query request bytes (sql.Query (query.Encoding row)) (Err fault) none told = subst (CausedAs true request bytes) (sym told) none
-of_query request bytes (sql.Query query.Memory) (Err fault) none told = subst (CausedAs true request bytes) (sym told) tt
-of_query request bytes sql.Memory (Err fault) none told = subst (CausedAs true request bytes) (sym told) tt
+of_query request bytes found (Ok x) shown none told = absurd told
+of_query request bytes sql.Database (Err fault) shown none told = subst (CausedAs true request bytes) (sym told) (shown, none)
+of_query request bytes sql.Damage (Err fault) shown none told = subst (CausedAs true request bytes) (sym told) (shown, none)
+of_query request bytes (sql.Query (query.Refused error)) (Err fault) shown none told = subst (CausedAs true request bytes) (sym told) (shown, none)
+of_query request bytes (sql.Query query.Change) (Err fault) shown none told = subst (CausedAs true request bytes) (sym told) (shown, none)
+of_query request bytes (sql.Query (query.Encoding row)) (Err fault) shown none told = subst (CausedAs true request bytes) (sym told) (shown, none)
+of_query request bytes (sql.Query query.Memory) (Err fault) shown none told = subst (CausedAs true request bytes) (sym told) tt
+of_query request bytes sql.Memory (Err fault) shown none told = subst (CausedAs true request bytes) (sym told) tt
 
 -- a fault of the table of an answer
 answer-caused : (request : Request) (bytes : List ℕ) (rows : List (List Text)) (found : ViewFault) → AreAsked request.source bytes rows → (tables.is_memory found ≡ false → table_fault request.view rows ≡ Some found)

@@ -3,7 +3,7 @@ use Rattle.std.proofs.Common.{◌≡◌, ℕ, List, Option, Some, None, Result, 
 use Rattle.std.specs.Prelude.{IfErr, IfSome}
 use Rattle.std.specs.Io.KnownBytes.{Appends}
 use Rattle.pg_layout.specs.Text.{Text}
-use Rattle.ruled_io.specs.Runs.{Caused, CausedAtOnce, CausedBy, Shows, ShowsAll, ShowsBy}
+use Rattle.ruled_io.specs.Runs.{CausedAtOnce, CausedBy, ShowsAll, ShowsBy}
 use Rattle.ruled_io.specs.Stream.{StreamsAll, streamed_text}
 use Rattle.ruled_io.specs.declared.fault.RunFault.{RunFault}
 use Rattle.ruled_io.specs.declared.request.Request.{Request}

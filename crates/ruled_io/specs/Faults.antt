@@ -1,7 +1,5 @@
 -- Why a run shows no table, or not all of it.
 use Rattle.std.specs.Prelude.{◌≡◌, ◌⊎◌, ℕ, Bool, true, false, Option, Some, None, Result, Ok, Err}
-use Rattle.pg_stream.specs.declared.fault.StreamFault.{StreamFault}
-use Rattle.pg_stream.specs.declared.fault.StreamFault.TheVariants as stream
 use Rattle.ruled_csv.specs.declared.fault.RowsFault.{RowsFault}
 use Rattle.ruled_csv.specs.declared.fault.RowsFault.TheVariants as rows
 use Rattle.ruled_csv.specs.Faults as csv
@@ -138,9 +136,3 @@ fault_of_view view.Memory = Memory
 
 abbrev pub of_view : ViewFault → RunFault
 of_view fault = Input (fault_of_view fault)
-
-abbrev pub fault_of_stream : StreamFault → RunFault
-fault_of_stream (stream.Misfit misfit) = Input Totals
-fault_of_stream (stream.Row row) = Input Totals
-fault_of_stream stream.Open = Input Totals
-fault_of_stream stream.Memory = Input Memory

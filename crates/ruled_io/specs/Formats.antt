@@ -1,5 +1,5 @@
 -- The format of bytes, by its name or by what they show.
-use Rattle.std.specs.Prelude.{ℕ, ◌==◌, ◌&&◌, ◌||◌, ◌++◌, ◌∷◌, [], not, codes, bytes_eq, nat_eq, List, find, take, position, Bool, Option, Some, None, if◌then◌else◌}
+use Rattle.std.specs.Prelude.{ℕ, ◌==◌, ◌&&◌, ◌||◌, ◌++◌, ◌∷◌, [], not, codes, bytes_eq, nat_eq, List, find, take, position, false, true, Bool, Option, Some, None, if◌then◌else◌}
 use Rattle.std.specs.List.{list_any, starts_with}
 use Rattle.std.specs.Option.{option_map_or}
 use Rattle.csv.specs.Reading.{strip_bom}
@@ -27,9 +27,13 @@ kind_named name =
 abbrev pub first_sign : List ℕ → Option ℕ
 first_sign bytes = find (λ byte. not (is_space byte)) bytes
 
--- what stands in front of the first line feed
+-- a line ends at a line feed or a carriage return
+abbrev pub ends_line : ℕ → Bool
+ends_line byte = (byte == 10) || (byte == 13)
+
+-- what stands in front of the first such byte
 abbrev pub first_line : List ℕ → List ℕ
-first_line bytes = option_map_or (λ feed. take feed bytes) (position (λ byte. byte == 10) bytes) bytes
+first_line bytes = option_map_or (λ end. take end bytes) (position ends_line bytes) bytes
 
 abbrev pub has : ℕ → List ℕ → Bool
 has byte bytes = list_any (λ other. other == byte) bytes
@@ -38,26 +42,34 @@ has byte bytes = list_any (λ other. other == byte) bytes
 abbrev pub delimiter_seen : List ℕ → ℕ
 delimiter_seen bytes = if has 9 (first_line bytes) && not (has 44 (first_line bytes)) then 9 else 44
 
--- what begins with an opening brace is one JSON value, where it is one, and else a value on each line
-abbrev pub format_of_braces : List ℕ → Format
-format_of_braces bytes = if is_value bytes then Json else JsonLines
-
--- what begins with an opening bracket is JSON, and what begins with neither has its fields apart
+-- what begins with an opening bracket is JSON, what begins with an opening brace has a value of JSON on each line, and what
+-- begins with neither has its fields apart
 abbrev pub format_from : Option ℕ → List ℕ → Format
 format_from None bytes = Separated (delimiter_seen bytes)
 format_from (Some sign) bytes =
     if sign == 91 then Json
-    else if sign == 123 then format_of_braces bytes
+    else if sign == 123 then JsonLines
     else Separated (delimiter_seen bytes)
 
--- the format that bytes show
-abbrev pub format_seen : List ℕ → Format
-format_seen bytes = format_from (first_sign bytes) bytes
+-- the format that bytes show, without a byte order mark at their front
+abbrev pub format_shown : List ℕ → Format
+format_shown bytes = format_from (first_sign (strip_bom bytes)) (strip_bom bytes)
 
--- the format that is told, or else the one that the bytes show, without a byte order mark at their front
+-- where all bytes are there, what would have a value on each line is one value, where it is one
+abbrev pub is_one_value : Format → List ℕ → Bool
+is_one_value (Separated delimiter) bytes = false
+is_one_value Json bytes = true
+is_one_value JsonLines bytes = is_value (strip_bom bytes)
+
+-- the format that is told, or else the one that all bytes show
 abbrev pub format_in : Option Format → List ℕ → Format
 format_in (Some format) bytes = format
-format_in None bytes = format_seen (strip_bom bytes)
+format_in None bytes = if is_one_value (format_shown bytes) bytes then Json else format_shown bytes
+
+-- the format that is told, or else the one that the first bytes show, whatever follows them
+abbrev pub format_streamed : Option Format → List ℕ → Format
+format_streamed (Some format) bytes = format
+format_streamed None bytes = format_shown bytes
 
 -- what the file of a database of SQLite begins with
 abbrev pub mark : List ℕ
@@ -65,18 +77,3 @@ mark = codes "SQLite format 3" ++ 0 ∷ []
 
 abbrev pub is_database : List ℕ → Bool
 is_database bytes = starts_with nat_eq bytes mark
-
--- ---- rows that are shown one after another
-
--- what begins with an opening brace has a value on each line
-abbrev pub format_from_line : Option ℕ → List ℕ → Format
-format_from_line None line = Separated (delimiter_seen line)
-format_from_line (Some sign) line =
-    if sign == 91 then Json
-    else if sign == 123 then JsonLines
-    else Separated (delimiter_seen line)
-
--- the format that is told, or else the one that the first line shows
-abbrev pub format_of_line : Option Format → List ℕ → Format
-format_of_line (Some format) line = format
-format_of_line None line = format_from_line (first_sign (strip_bom line)) (strip_bom line)

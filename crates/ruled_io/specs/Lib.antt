@@ -1,11 +1,10 @@
 pub mod Faults
 pub mod Formats
 pub mod Input
-pub mod LateRows
 pub mod Names
-pub mod Pieces
+pub mod Reading
 pub mod Requests
 pub mod Runs
-pub mod Sheet
+pub mod Steps
 pub mod Stream
 pub mod Writing

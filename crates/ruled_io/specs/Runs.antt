@@ -1,14 +1,14 @@
 -- What a run shows of an input, and why it ends before.
-use Rattle.std.specs.Prelude.{◌≡◌, ◌⊎◌, ⊤, ℕ, Bool, true, false, List, Option, Some, None, option_map}
-use Rattle.std.specs.Io.KnownBytes.{Appends, Keeps}
+use Rattle.std.specs.Prelude.{◌≡◌, ⊤, ℕ, Bool, true, false, List, Option, Some, None, option_map}
+use Rattle.std.specs.Io.KnownBytes.{Keeps}
 use Rattle.pg_layout.specs.Text.{Text}
 use Rattle.ruled_sql.specs.Answers.{AreAnswered, HoldsNone}
 use Rattle.ruled_sql.specs.declared.fault.SqlFault.TheVariants as sql
 use Rattle.ruled_table.specs.View.{table_fault, table_text}
-use Rattle.ruled_io.specs.Faults.{but_line, but_line_in, fault_of_view, is_failure, is_memory}
+use Rattle.ruled_io.specs.Faults.{but_line_in, fault_of_view, is_memory}
 use Rattle.ruled_io.specs.Input.{view_fault, view_text}
 use Rattle.ruled_io.specs.Requests.{format_told, hides_rows, holds_database, log_of, query_of}
-use Rattle.ruled_io.specs.Stream.{StreamStops, is_cut_short, streamed_fault, streamed_lines, streamed_text}
+use Rattle.ruled_io.specs.Stream.{StopsStream, streamed_fault, streamed_text, streamed_wrong}
 use Rattle.ruled_io.specs.Writing.{Begins}
 use Rattle.ruled_io.specs.declared.fault.InputFault.{InputFault}
 use Rattle.ruled_io.specs.declared.fault.InputFault.TheVariants as input
@@ -38,14 +38,15 @@ ShowsAs true request bytes text = (rows : List (List Text)) × AreAsked request.
 abbrev pub ShowsAll : Request → List ℕ → Text → Type 0
 ShowsAll request bytes text = ShowsAs (holds_database request.source bytes) request bytes text
 
--- a fault has its cause in the request and the bytes, unless it is one of memory, of the query or of damage
+-- a fault has its cause in the request and the bytes, unless it is one of memory, of the query or of damage; a log that may hide rows
+-- comes before all that is asked of the database
 abbrev pub CausedAs : Bool → Request → List ℕ → InputFault → Type 0
 CausedAs false request bytes fault = is_memory fault ≡ false → view_fault (format_told request.source) request.view bytes ≡ Some (but_line_in fault)
 CausedAs true request bytes (input.Rows fault) = ⊥
 CausedAs true request bytes (input.Json fault) = ⊥
 CausedAs true request bytes (input.Stream fault) = ⊥
-CausedAs true request bytes (input.Sql fault) = fault ≡ sql.Database → HoldsNone bytes
-CausedAs true request bytes input.NoQuery = query_of request.source ≡ None
+CausedAs true request bytes (input.Sql fault) = (hides_rows (log_of request.source) bytes ≡ false) × (fault ≡ sql.Database → HoldsNone bytes)
+CausedAs true request bytes input.NoQuery = (hides_rows (log_of request.source) bytes ≡ false) × (query_of request.source ≡ None)
 CausedAs true request bytes input.Log = hides_rows (log_of request.source) bytes ≡ true
 CausedAs true request bytes (input.Column name) = (rows : List (List Text)) × AreAsked request.source bytes rows × (option_map fault_of_view (table_fault request.view rows) ≡ Some (input.Column name))
 CausedAs true request bytes input.Totals = (rows : List (List Text)) × AreAsked request.source bytes rows × (option_map fault_of_view (table_fault request.view rows) ≡ Some input.Totals)
@@ -59,7 +60,7 @@ CausedAll request bytes fault = CausedAs (holds_database request.source bytes) r
 -- the text that a run shows
 abbrev pub ShowsBy : rows.Rows → Request → List ℕ → Text → Type 0
 ShowsBy AtOnce request bytes text = ShowsAll request bytes text
-ShowsBy (FromFirst count) request bytes text = (streamed_fault request count bytes ≡ None) × (is_cut_short request count bytes ≡ false) × (text ≡ streamed_text request count bytes)
+ShowsBy (FromFirst count) request bytes text = (streamed_fault request count bytes ≡ None) × (streamed_wrong request count bytes ≡ None) × (text ≡ streamed_text request count bytes)
 
 abbrev pub Shows : Request → List ℕ → Text → Type 0
 Shows request bytes text = ShowsBy request.rows request bytes text
@@ -74,18 +75,10 @@ CausedAtOnce request bytes Read old new = Keeps old new
 CausedAtOnce request bytes Closed old new = IsBegun request bytes old new
 CausedAtOnce request bytes Write old new = IsBegun request bytes old new
 
--- row by row: what is wrong with the first rows is told before anything is written; where a later one is bad, the rows above it
--- stand, and so do those above one that has no room
-abbrev pub CausedByRow : Request → ℕ → List ℕ → RunFault → Option (List ℕ) → Option (List ℕ) → Type 0
-CausedByRow request count bytes fault old new = is_failure fault ≡ false
-    → ((streamed_fault request count bytes ≡ Some (but_line fault)) × Keeps old new)
-    ⊎ ((streamed_fault request count bytes ≡ None) × (is_cut_short request count bytes ≡ true) × Appends old new (streamed_lines request count bytes))
-    ⊎ ((streamed_fault request count bytes ≡ None) × (fault ≡ Input input.Totals) × StreamStops request count bytes old new)
-
 -- why a run ends before, and what it has written
 abbrev pub CausedBy : rows.Rows → Request → List ℕ → RunFault → Option (List ℕ) → Option (List ℕ) → Type 0
 CausedBy AtOnce request bytes fault old new = CausedAtOnce request bytes fault old new
-CausedBy (FromFirst count) request bytes fault old new = CausedByRow request count bytes fault old new
+CausedBy (FromFirst count) request bytes fault old new = StopsStream request count bytes fault old new
 
 abbrev pub Caused : Request → List ℕ → RunFault → Option (List ℕ) → Option (List ℕ) → Type 0
 Caused request bytes fault old new = CausedBy request.rows request bytes fault old new

@@ -7,9 +7,8 @@ ghost use Rattle.ruled_io.specs.declared.fault.RunFault.TheVariants.{Input};
 
 use crate::name::Quoted;
 use crate::request::{Log, Request};
-use pg_stream::StreamFault;
 use ruled_csv::RowsFault;
-use ruled_json::{JsonFault, Place};
+use ruled_json::JsonFault;
 use ruled_sql::{QueryFault, SqlFault};
 use ruled_table::ViewFault;
 use std::alloc::{AllocError, AllocFailed};
@@ -23,10 +22,6 @@ pub enum StreamedFault {
     Value,
     /// The input is a database.
     Database,
-    /// The first pieces of the input have no row.
-    NoRow,
-    /// The object on this line, counted from 1, has a member that none of the first ones has.
-    Member { line: usize },
 }
 
 /// Why an input has no table: its bytes, what is asked of it, or want of memory.
@@ -158,96 +153,17 @@ impl From<ViewFault> for RunFault {
     }
 }
 
-impl From<StreamFault> for RunFault {
-    ghost from_gives = { λ found fault. fault ≡ spec.fault_of_stream found };
-
-    fn from(fault: StreamFault) -> RunFault {
-        match fault {
-            StreamFault::Memory => RunFault::Input(InputFault::Memory),
-            _ => RunFault::Input(InputFault::Totals),
-        }
-    }
-}
-
 /// Writes what is wrong.
 impl fmt::Display for StreamedFault {
     fn fmt<W: fmt::Write>(&self, f: &mut fmt::Formatter<W>) -> fmt::Result {
         match self {
             StreamedFault::Value => write!(f, "one value of JSON can't be streamed"),
             StreamedFault::Database => write!(f, "a database can't be streamed"),
-            StreamedFault::NoRow => write!(f, "the first lines have no row"),
-            StreamedFault::Member { line } => write!(
-                f,
-                "line {line}: a member that none of the first rows has"
-            ),
         }
-    }
-}
-
-// A fault of rows that stand behind so many lines.
-fn rows_behind(fault: RowsFault, lines: usize) -> RowsFault {
-    match fault {
-        RowsFault::OpenQuote { line } => RowsFault::OpenQuote {
-            line: line.saturating_add(lines),
-        },
-        RowsFault::BehindQuote { line } => RowsFault::BehindQuote {
-            line: line.saturating_add(lines),
-        },
-        RowsFault::Length {
-            row,
-            line,
-            fields,
-            columns,
-        } => RowsFault::Length {
-            row,
-            line: line.saturating_add(lines),
-            fields,
-            columns,
-        },
-        RowsFault::Encoding { row, line } => RowsFault::Encoding {
-            row,
-            line: line.saturating_add(lines),
-        },
-        RowsFault::Memory => RowsFault::Memory,
-    }
-}
-
-// A place behind so many lines.
-fn place_behind(place: Place, lines: usize) -> Place {
-    match place {
-        Place::Line(line) => Place::Line(line.saturating_add(lines)),
-        _ => place,
-    }
-}
-
-// A fault of JSON that stands behind so many lines.
-fn json_behind(fault: JsonFault, lines: usize) -> JsonFault {
-    match fault {
-        JsonFault::Encoding(place) => JsonFault::Encoding(place_behind(place, lines)),
-        JsonFault::Syntax(place) => JsonFault::Syntax(place_behind(place, lines)),
-        JsonFault::NoObject(place) => JsonFault::NoObject(place_behind(place, lines)),
-        JsonFault::NoColumn(place) => JsonFault::NoColumn(place_behind(place, lines)),
-        JsonFault::NoRecords | JsonFault::Memory => fault,
     }
 }
 
 impl InputFault {
-    /// This fault, of rows that stand behind so many lines.
-    pub(crate) fn behind(self, lines: usize) -> InputFault
-        ensures { spec.is_memory result ≡ spec.is_memory self }
-    {
-        match self {
-            InputFault::Rows(fault) => InputFault::Rows(rows_behind(fault, lines)),
-            InputFault::Json(fault) => InputFault::Json(json_behind(fault, lines)),
-            InputFault::Stream(StreamedFault::Member { line }) => {
-                InputFault::Stream(StreamedFault::Member {
-                    line: line.saturating_add(lines),
-                })
-            }
-            _ => self,
-        }
-    }
-
     // The exit status that tells of it.
     fn status(self) -> u8
         ensures { result ≡ spec.status_of_input self }

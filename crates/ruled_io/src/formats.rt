@@ -1,6 +1,7 @@
 //! The formats of rows.
 
-ghost use Rattle.std.specs.Prelude.{◌≡◌, ◌<◌, ◌==◌, position, length, IfOk, IfSome};
+ghost use Rattle.std.specs.Prelude.{◌≡◌, ◌<◌, ◌++◌, ℕ, List, None, length, nat_eq, position, true, IfOk, IfSome};
+ghost use Rattle.std.specs.List.{list_any, starts_with};
 ghost use Rattle.ruled_io.specs.Formats as spec;
 
 use ruled_csv::without_mark;
@@ -56,20 +57,27 @@ fn first_sign(bytes: &[u8]) -> Option<u8>
         .find(|byte| !matches!(*byte, b' ' | b'\t' | b'\n' | b'\r'))
 }
 
-/// Where a line feed stands first.
-pub(crate) fn feed_of(bytes: &[u8]) -> Option<usize>
-    ensures place { result ≡ position (λ byte. byte == 10) bytes.now }
-    ensures within { IfSome result (λ feed. feed < length bytes.now) }
+// Whether a line ends at a byte.
+fn ends_line(byte: u8) -> bool
+    ensures { result ≡ spec.ends_line byte }
 {
-    bytes.iter().position(|byte| *byte == b'\n')
+    matches!(byte, b'\n' | b'\r')
+}
+
+// Where the first line ends.
+fn line_end(bytes: &[u8]) -> Option<usize>
+    ensures place { result ≡ position spec.ends_line bytes.now }
+    ensures within { IfSome result (λ end. end < length bytes.now) }
+{
+    bytes.iter().position(|byte| ends_line(*byte))
 }
 
 // The bytes of the first line.
 fn first_line(bytes: &[u8]) -> &[u8]
     ensures { result.now ≡ spec.first_line bytes.now }
 {
-    match feed_of(bytes) {
-        Some(feed) => &bytes[..feed],
+    match line_end(bytes) {
+        Some(end) => &bytes[..end],
         None => bytes,
     }
 }
@@ -93,37 +101,41 @@ pub(crate) fn is_database(bytes: &[u8]) -> bool
     bytes.starts_with(b"SQLite format 3\0")
 }
 
-// The format that bytes without a byte order mark show.
+// The format that the first bytes show, where what begins with an opening brace has a value of JSON on each line.
+fn format_shown(bytes: &[u8]) -> Format
+    ensures { result ≡ spec.format_shown bytes.now }
+{
+    let text = without_mark(bytes);
+    match first_sign(text) {
+        Some(b'[') => Format::Json,
+        Some(b'{') => Format::JsonLines,
+        _ => Format::Separated(delimiter_seen(text)),
+    }
+}
+
+// Whether bytes in the format that they show are one value.
+fn is_one_value(alloc: Global, shown: Format, bytes: &[u8]) -> Result<bool, AllocError>
+    ensures { IfOk result (λ is. is ≡ spec.is_one_value shown bytes.now) }
+{
+    match shown {
+        Format::Separated(_) => Ok(false),
+        Format::Json => Ok(true),
+        Format::JsonLines => is_value(alloc, without_mark(bytes)),
+    }
+}
+
+// The format that all bytes of an input show.
 fn format_seen(alloc: Global, bytes: &[u8]) -> Result<Format, AllocError>
-    ensures { IfOk result (λ format. format ≡ spec.format_seen bytes.now) }
+    ensures { IfOk result (λ format. format ≡ spec.format_in None bytes.now) }
 {
-    match first_sign(bytes) {
-        Some(b'[') => Ok(Format::Json),
-        Some(b'{') => if is_value(alloc, bytes)? {
-            Ok(Format::Json)
-        } else {
-            Ok(Format::JsonLines)
-        },
-        _ => Ok(Format::Separated(delimiter_seen(bytes))),
+    let shown = format_shown(bytes);
+    if is_one_value(alloc, shown, bytes)? {
+        return Ok(Format::Json);
     }
+    Ok(shown)
 }
 
-/// The format of rows that are shown one after another: that which is told, or else that which the first line
-/// shows, where what begins with an opening brace has a value of JSON on each line.
-pub(crate) fn format_of_line(told: Option<Format>, line: &[u8]) -> Format
-    ensures { result ≡ spec.format_of_line told line.now }
-{
-    match told {
-        Some(format) => format,
-        None => match first_sign(without_mark(line)) {
-            Some(b'[') => Format::Json,
-            Some(b'{') => Format::JsonLines,
-            _ => Format::Separated(delimiter_seen(without_mark(line))),
-        },
-    }
-}
-
-/// The format of bytes: that which is told, or else that which they show.
+/// The format of the bytes of an input: that which is told, or else that which they show.
 pub(crate) fn format_in(
     alloc: Global,
     told: Option<Format>,
@@ -133,6 +145,55 @@ pub(crate) fn format_in(
 {
     match told {
         Some(format) => Ok(format),
-        None => format_seen(alloc, without_mark(bytes)),
+        None => format_seen(alloc, bytes),
     }
+}
+
+/// The format of rows that are shown one after another: that which is told, or else that which the first bytes show.
+pub(crate) fn format_streamed(told: Option<Format>, bytes: &[u8]) -> Format
+    ensures { result ≡ spec.format_streamed told bytes.now }
+{
+    match told {
+        Some(format) => format,
+        None => format_shown(bytes),
+    }
+}
+
+// Whether bytes show if the input that they are the first of begins with a mark.
+fn shows_mark(bytes: &[u8], mark: &[u8]) -> bool
+    ensures { result ≡ true → (behind : List ℕ) → starts_with nat_eq (bytes.now ++ behind) mark.now ≡ starts_with nat_eq bytes.now mark.now }
+{
+    bytes.len() >= mark.len() || !mark.starts_with(bytes)
+}
+
+// Whether a line ends in a text.
+fn has_line_end(text: &[u8]) -> bool
+    ensures { result ≡ list_any spec.ends_line text.now }
+{
+    text.iter().any(|byte| ends_line(*byte))
+}
+
+// Whether the first bytes of a text show the format of all of it.
+fn shows_text(text: &[u8]) -> bool
+    ensures { result ≡ true → (behind : List ℕ) → spec.format_from (spec.first_sign (text.now ++ behind)) (text.now ++ behind) ≡ spec.format_from (spec.first_sign text.now) text.now }
+{
+    match first_sign(text) {
+        Some(b'[' | b'{') => true,
+        Some(_) => has_line_end(text),
+        None => false,
+    }
+}
+
+/// Whether the first bytes of an input show its format and whether it is a database, whatever follows them.
+pub(crate) fn shows_input(bytes: &[u8]) -> bool
+    ensures format { result ≡ true → (behind : List ℕ) → spec.format_shown (bytes.now ++ behind) ≡ spec.format_shown bytes.now }
+    ensures database { result ≡ true → (behind : List ℕ) → spec.is_database (bytes.now ++ behind) ≡ spec.is_database bytes.now }
+{
+    if !shows_mark(bytes, b"\xef\xbb\xbf") {
+        return false;
+    }
+    if !shows_mark(bytes, b"SQLite format 3\0") {
+        return false;
+    }
+    shows_text(without_mark(bytes))
 }

@@ -5,12 +5,11 @@
 mod fault;
 mod formats;
 mod input;
-mod late_rows;
 mod name;
 mod pieces;
 mod program;
+mod reader;
 mod request;
-mod sheet;
 mod stream;
 mod text;
 mod write;

@@ -1,35 +1,33 @@
-//! The pieces of an input that each hold a row.
+//! The bytes of an input, one piece after another.
 
-ghost use Rattle.std.specs.Prelude.{◌≡◌, ◌≤◌, ◌++◌, ◌∷◌, ◌==◌, ◌||◌, ◌&&◌, not, ℕ, List, [], length, take, drop, true, false, Ok, Err, Some, IfOk, IfSome, OnOk};
-ghost use Rattle.std.specs.List.{concat, list_all};
-ghost use Rattle.json.specs.Word.{is_space};
-ghost use Rattle.ruled_io.specs.Faults.{is_failure, is_of_write};
-ghost use Rattle.ruled_io.specs.Pieces as spec;
+ghost use Rattle.std.specs.Prelude.{◌≡◌, ◌≤◌, ◌<◌, ◌++◌, ℕ, List, length, take, map, true, false, Err, Ok, IfErr, IfOk, IfSome, OnOk};
+ghost use Rattle.std.specs.Io.KnownBytes.{Consumes, IsAtEnd};
+ghost use Rattle.csv.specs.Records.{fields_of};
+ghost use Rattle.ruled_io.specs.Faults.{IsOfRead};
+ghost use Rattle.ruled_io.specs.Reading.{GoesOn, ReadsFront, ShowsInput, Stands};
+ghost use Rattle.ruled_io.specs.declared.formats.Format.{Format};
+ghost use Rattle.ruled_io.specs.declared.reader.Reading.{Reading};
 
 use crate::fault::{InputFault, RunFault};
-use crate::formats::{Format, feed_of};
-use ruled_csv::leaves_open;
+use crate::formats::shows_input;
+use crate::reader::{Reader, Reading};
+use crate::request::Source;
+use csv::StringRecord;
 use std::alloc::Global;
 use std::io;
-use std::io::{BufRead, BufReader, Chain, Cursor, ErrorKind, Read};
+use std::io::{ErrorKind, Read};
 
-/// A reader that may have read more than it gave.
-pub(crate) trait Ahead {
-    /// Bytes that it gives next without another read.
-    fn ahead(&self) -> &[u8];
-}
-
-impl<R: Read> Ahead for Chain<Cursor<Vec<u8>>, BufReader<R>> {
-    fn ahead(&self) -> &[u8] {
-        let (_, reader) = self.get_ref();
-        reader.buffer()
-    }
+/// An input whose bytes are read one piece after another.
+#[derive(Drop)]
+pub(crate) struct Pieces<R: Drop> {
+    input: R,
+    // The piece that was read last, at its front.
+    buffer: [u8; 8192],
 }
 
 // What an error of a reader tells.
 fn fault_of_read(error: io::Error) -> RunFault
-    ensures failed { is_failure result ≡ true }
-    ensures unwritten { is_of_write result ≡ false }
+    ensures { IsOfRead result }
 {
     match error.kind() {
         ErrorKind::OutOfMemory => RunFault::Input(InputFault::Memory),
@@ -37,116 +35,78 @@ fn fault_of_read(error: io::Error) -> RunFault
     }
 }
 
-// Whether a quote is open behind a line, of which it is told whether one is open in front of it.
-fn is_open(format: Format, was_open: bool, line: &[u8]) -> bool
-    ensures { result ≡ spec.is_open format was_open line.now }
-{
-    match format {
-        Format::Separated(delimiter) => leaves_open(delimiter, was_open, line),
-        Format::Json | Format::JsonLines => false,
-    }
-}
-
-// Whether a line has nothing but what ends it.
-fn is_bare(line: &[u8]) -> bool
-    ensures { result ≡ list_all (λ byte. (byte == 10) || (byte == 13)) line.now }
-{
-    line.iter().all(|byte| matches!(*byte, b'\n' | b'\r'))
-}
-
-// Whether a line has nothing but spaces and what ends it.
-fn is_space(line: &[u8]) -> bool
-    ensures { result ≡ list_all is_space line.now }
-{
-    line.iter()
-        .all(|byte| matches!(*byte, b' ' | b'\t' | b'\n' | b'\r'))
-}
-
-// Whether a line holds nothing of a row.
-fn is_blank(format: Format, line: &[u8]) -> bool
-    ensures { result ≡ spec.is_blank format line.now }
-{
-    match format {
-        Format::Separated(_) => is_bare(line),
-        Format::Json | Format::JsonLines => is_space(line),
-    }
-}
-
-/// Appends the next line, with its line feed, and tells whether there was one.
-pub(crate) fn read_line<R: BufRead>(reader: &mut R, bytes: &mut Vec<u8>) -> Result<bool, RunFault>
-    ensures read { result ≡ Ok true → IfSome (R.remaining reader.old) (λ left. (line : List ℕ) × (rest : List ℕ) × (R.remaining reader.new ≡ Some rest) × (bytes.new.items ≡ bytes.old.items ++ line) × (spec.lines_of left ≡ line ∷ spec.lines_of rest)) }
-    ensures end { result ≡ Ok false → IfSome (R.remaining reader.old) (λ left. (R.remaining reader.new ≡ Some left) × (bytes.new.items ≡ bytes.old.items) × (spec.lines_of left ≡ [])) }
-    ensures longer { OnOk result (length bytes.old.items ≤ length bytes.new.items) }
-    ensures failed { (fault : RunFault) → result ≡ Err fault → is_failure fault ≡ true }
-    ensures unwritten { (fault : RunFault) → result ≡ Err fault → is_of_write fault ≡ false }
-{
-    match reader.read_until(b'\n', bytes) {
-        Ok(count) => Ok(count > 0),
-        Err(error) => Err(fault_of_read(error)),
-    }
-}
-
-// Whether a row goes on behind this line, which leaves a quote open or not.
-fn goes_on(format: Format, was_open: bool, opens: bool, line: &[u8]) -> bool
-    ensures { result ≡ (opens || (not was_open && spec.is_blank format line.now)) }
-{
-    opens || !was_open && is_blank(format, line)
-}
-
-/// Whether bytes begin with a line with which a row ends.
-pub(crate) fn has_row(format: Format, bytes: &[u8]) -> bool {
-    let Some(feed) = feed_of(bytes) else {
-        return false;
-    };
-    let line = &bytes[..feed];
-    !goes_on(format, false, is_open(format, false, line), line)
-}
-
-/// Reads the next piece, and tells whether there was one.
-pub(crate) fn read_piece<R: BufRead>(
-    format: Format,
-    reader: &mut R,
-    piece: &mut Vec<u8>,
-) -> Result<bool, RunFault>
-    ensures read { result ≡ Ok true → IfSome (R.remaining reader.old) (λ left. (rest : List ℕ) × (R.remaining reader.new ≡ Some rest) × (spec.pieces_of format left ≡ piece.new.items ∷ spec.pieces_of format rest)) }
-    ensures end { result ≡ Ok false → IfSome (R.remaining reader.old) (λ left. (rest : List ℕ) × (R.remaining reader.new ≡ Some rest) × (spec.pieces_of format left ≡ []) × (spec.pieces_of format rest ≡ [])) }
-    ensures failed { (fault : RunFault) → result ≡ Err fault → is_failure fault ≡ true }
-    ensures unwritten { (fault : RunFault) → result ≡ Err fault → is_of_write fault ≡ false }
-{
-    piece.clear();
-    let mut was_open = false;
-    for _ in 0..usize::MAX {
-        let start = piece.len();
-        if !read_line(reader, piece)? {
-            return Ok(!piece.is_empty());
+impl<R: Read + Drop> Pieces<R> {
+    /// An input, of which nothing is read.
+    pub(crate) fn new(input: R) -> Pieces<R>
+        ensures { result.input ≡ input }
+    {
+        Pieces {
+            input,
+            buffer: [0; 8192],
         }
-        let line = &piece[start..];
-        let opens = is_open(format, was_open, line);
-        if !goes_on(format, was_open, opens, line) {
-            return Ok(true);
-        }
-        was_open = opens;
     }
-    Err(RunFault::Read)
-}
 
-/// Reads so many pieces, or those that there are.
-pub(crate) fn read_pieces<R: BufRead>(
-    alloc: Global,
-    format: Format,
-    count: usize,
-    reader: &mut R,
-) -> Result<Vec<u8>, RunFault>
-    ensures read { IfOk result (λ pieces. IfSome (R.remaining reader.old) (λ left. (rest : List ℕ) × (R.remaining reader.new ≡ Some rest) × (pieces.items ≡ concat (take count (spec.pieces_of format left))) × (spec.pieces_of format rest ≡ drop count (spec.pieces_of format left)))) }
-    ensures failed { (fault : RunFault) → result ≡ Err fault → is_failure fault ≡ true }
-    ensures unwritten { (fault : RunFault) → result ≡ Err fault → is_of_write fault ≡ false }
-{
-    let (mut pieces, mut piece) = (Vec::new(alloc), Vec::new(alloc));
-    for _ in 0..count {
-        if !read_piece(format, reader, &mut piece)? {
-            return Ok(pieces);
+    // Reads a piece, and tells how many bytes it has: none at the end.
+    fn read(&mut self) -> Result<usize, RunFault>
+        ensures within { IfOk result (λ count. count ≤ 8192) }
+        ensures piece { IfOk result (λ count. Consumes (R.remaining self.old.input) (R.remaining self.new.input) (take count self.new.buffer)) }
+        ensures end { IfOk result (λ count. count ≡ 0 → IsAtEnd (R.remaining self.old.input)) }
+        ensures failed { IfErr result IsOfRead }
+    {
+        for _ in 0..usize::MAX {
+            match self.input.read(&mut self.buffer) {
+                Ok(count) => return Ok(count),
+                Err(error) if error.kind() == ErrorKind::Interrupted => {}
+                Err(error) => return Err(fault_of_read(error)),
+            }
         }
-        pieces.extend_from_slice(&piece)?;
+        Err(RunFault::Read)
     }
-    Ok(pieces)
+
+    // Reads on until the bytes show what the input is, or to the end.
+    fn read_shown(&mut self, alloc: Global) -> Result<Vec<u8>, RunFault>
+        ensures read { IfOk result (λ front. Consumes (R.remaining self.old.input) (R.remaining self.new.input) front.items) }
+        ensures shown { IfOk result (λ front. IfSome (R.remaining self.old.input) (ShowsInput front.items)) }
+        ensures failed { IfErr result IsOfRead }
+    {
+        let mut front = Vec::new(alloc);
+        for _ in 0..usize::MAX {
+            if shows_input(&front) {
+                return Ok(front);
+            }
+            let count = self.read()?;
+            if count == 0 {
+                return Ok(front);
+            }
+            front.extend_from_slice(&self.buffer[..count])?;
+        }
+        Err(RunFault::Read)
+    }
+
+    /// Reads the first bytes of an input, as many as show what it is where that isn't told.
+    pub(crate) fn read_front(&mut self, alloc: Global, source: &Source) -> Result<Vec<u8>, RunFault>
+        ensures read { IfOk result (λ front. IfSome (R.remaining self.old.input) (λ all. ReadsFront source.now all (R.remaining self.new.input) front.items)) }
+        ensures failed { IfErr result IsOfRead }
+    {
+        match source {
+            Source::Seen(_) => self.read_shown(alloc),
+            _ => Ok(Vec::new(alloc)),
+        }
+    }
+
+    /// Reads the next bytes, and appends the rows that are complete with them.
+    pub(crate) fn read_on(
+        &mut self,
+        reader: Reader,
+        rows: &mut Vec<StringRecord>,
+    ) -> Result<Reading, RunFault>
+        ensures given { (format : Format) (records : ℕ) (all : List ℕ) (given : List (List (List ℕ))) → Stands format records all (R.remaining self.old.input) given (Reading.More reader) → IfOk result (GoesOn format records all (R.remaining self.new.input) given (map fields_of rows.old.items) (map fields_of rows.new.items)) }
+        ensures failed { IfErr result IsOfRead }
+    {
+        let count = self.read()?;
+        if count == 0 {
+            return Ok(reader.finish(rows)?);
+        }
+        Ok(reader.read(&self.buffer[..count], rows)?)
+    }
 }

@@ -1,287 +1,238 @@
 //! Rows that are shown one after another, each when it comes.
 
-ghost use Rattle.std.specs.Prelude.{◌≡◌, [], map, string_bytes, false, true, Err, IfOk, IfSome, OnOk};
+ghost use Rattle.std.specs.Prelude.{◌≡◌, ◌<◌, ◌++◌, ◌∷◌, [], ℕ, List, None, Some, map, option_map, take, false, true, Err, IfErr, IfOk, IfSome, OnOk};
 ghost use Rattle.std.specs.Io.KnownBytes.{Keeps};
 ghost use Rattle.csv.specs.Records.{fields_of};
-ghost use Rattle.ruled_io.specs.Faults.{TellsRun, is_failure, is_of_write};
-ghost use Rattle.ruled_io.specs.LateRows.{TellsBad, is_bad, rows_in_piece};
-ghost use Rattle.ruled_io.specs.Pieces.{pieces_of};
-ghost use Rattle.ruled_io.specs.Sheet.{RefusesRow, RefusesRows, TakesRow, TakesRows, WritesFirstRow, WritesRows};
-ghost use Rattle.ruled_io.specs.Stream.{DrawsSheet, EndsSheet, Streams, StreamsAll, StreamsBytes, cells_by, count_of, first_fault, is_one_value, row_by};
+ghost use Rattle.ruled_table.specs.Appended.{HasAppended};
+ghost use Rattle.ruled_table.specs.Plans.{Plan};
+ghost use Rattle.ruled_io.specs.Faults.{IsOfRead, but_line_in, is_failure, is_of_write};
+ghost use Rattle.ruled_io.specs.Reading.{Stands, sound_rows, wrong_in};
+ghost use Rattle.ruled_io.specs.Steps.{EndsBelow, FailsIn, IsEnough, WritesRows, wrong_within};
+ghost use Rattle.ruled_io.specs.Stream.{Ends, StreamsAll, first_count, has_names, record_count};
 ghost use Rattle.ruled_io.specs.declared.fault.RunFault.{RunFault};
+ghost use Rattle.ruled_io.specs.declared.formats.Format.{Format};
 ghost use Rattle.ruled_table.specs.declared.options.Options.{Options};
 
 use crate::fault::{InputFault, RunFault, StreamedFault};
-use crate::formats::{Format, format_of_line};
-use crate::input::rows_of;
-use crate::late_rows::rows_in_piece;
-use crate::pieces::{Ahead, has_row, read_line, read_piece, read_pieces};
+use crate::formats::{Format, format_streamed};
+use crate::pieces::Pieces;
+use crate::reader::Reading;
 use crate::request::Request;
-use crate::sheet::{Sheet, write_end, write_first_row, write_row};
-use crate::write::flush;
+use crate::write::{flush, write_bytes};
 use csv::StringRecord;
-use pg_config::SpannedConfig;
-use pg_layout::{ConstantDimension, NoColors};
-use pg_stream::SizedStream;
-use ruled_table::{
-    LentRows, Options, field_at, first_config, places_of, room_of, shown_records, shown_text,
-    sizes_of_rows, text_within,
-};
-use std::alloc::{AllocError, Global};
-use std::io::{BufRead, BufReader, Cursor, Read, Write};
+use ruled_table::{Layout, Options, TableRows};
+use std::alloc::Global;
+use std::io::{Read, Write};
 
-// What the first rows say of those behind them.
-#[derive(Clone, Copy)]
-struct Columns<'a> {
-    options: &'a Options,
-    format: Format,
-    header: &'a StringRecord,
-    places: &'a [usize],
-    widths: &'a ConstantDimension,
-}
-
-// How many line feeds there are.
-fn feeds_in(bytes: &[u8]) -> usize {
-    bytes.iter().filter(|byte| **byte == b'\n').count()
-}
-
-// A row as it is shown, with its texts within their columns. They are its own, since a sheet takes cells of one
-// type as long as it lives.
-fn row_within(
-    alloc: Global,
-    columns: &Columns<'_>,
+// Writes the lines of a row.
+fn write_row<W: Write>(
+    table: &mut TableRows<'_>,
     fields: &StringRecord,
-) -> Result<Vec<String>, AllocError>
-    ensures { IfOk result (λ cells. map string_bytes cells.items ≡ row_by columns.now (fields_of fields.now)) }
-{
-    let places = columns.places;
-    let mut cells = Vec::with_capacity(alloc, places.len())?;
-    for place in places {
-        let text = shown_text(alloc, columns.options, field_at(fields, *place))?;
-        let room = room_of(columns.widths, cells.len());
-        let cell = text_within(alloc, columns.options.bounds.overflow, room, text)?;
-        cells.push(cell)?;
-    }
-    Ok(cells)
-}
-
-// Writes row 0.
-fn write_header<W: Write>(
-    alloc: Global,
-    columns: &Columns<'_>,
-    sheet: &mut Sheet<'_>,
-    out: &mut W,
-) -> Result<(), RunFault>
-    ensures written { WritesFirstRow sheet.old (row_by columns.now (fields_of columns.now.header.now)) (W.contents out.old) (W.contents out.new) result }
-    ensures after { TakesRow sheet.old sheet.new (row_by columns.now (fields_of columns.now.header.now)) result }
-    ensures room { RefusesRow sheet.old (row_by columns.now (fields_of columns.now.header.now)) (W.contents out.old) (W.contents out.new) result }
-{
-    let cells = row_within(alloc, columns, columns.header)?;
-    write_first_row(alloc, sheet, cells, out)
-}
-
-// Writes rows.
-fn write_rows<W: Write>(
-    alloc: Global,
-    columns: &Columns<'_>,
-    sheet: &mut Sheet<'_>,
-    records: &[StringRecord],
     buf: &mut String,
     out: &mut W,
 ) -> Result<(), RunFault>
-    ensures written { WritesRows sheet.old (cells_by columns.now (map fields_of records.now)) (W.contents out.old) (W.contents out.new) result }
-    ensures after { TakesRows sheet.old sheet.new (cells_by columns.now (map fields_of records.now)) result }
-    ensures rooms { RefusesRows sheet.old (cells_by columns.now (map fields_of records.now)) (W.contents out.old) (W.contents out.new) result }
+    ensures after { (options : Options) (plan : Plan) (above : List (List (List ℕ))) → HasAppended options plan above table.old → OnOk result (HasAppended options plan (above ++ fields_of fields.now ∷ []) table.new) }
+    ensures written { (options : Options) (plan : Plan) (above : List (List (List ℕ))) → HasAppended options plan above table.old → OnOk result (WritesRows options plan above (fields_of fields.now ∷ []) (W.contents out.old) (W.contents out.new)) }
+    ensures failed { (options : Options) (plan : Plan) (above : List (List (List ℕ))) → HasAppended options plan above table.old → IfErr result (FailsIn options plan above (fields_of fields.now ∷ []) (W.contents out.old) (W.contents out.new)) }
 {
-    for fields in records {
-        let cells = row_within(alloc, columns, fields)?;
-        write_row(sheet, cells, buf, out)?;
+    buf.clear();
+    table.push(fields, buf)?;
+    write_bytes(buf.as_bytes(), out)
+}
+
+// Writes the lines of rows.
+fn write_rows<W: Write>(
+    table: &mut TableRows<'_>,
+    rows: &[StringRecord],
+    buf: &mut String,
+    out: &mut W,
+) -> Result<(), RunFault>
+    ensures after { (options : Options) (plan : Plan) (above : List (List (List ℕ))) → HasAppended options plan above table.old → OnOk result (HasAppended options plan (above ++ map fields_of rows.now) table.new) }
+    ensures written { (options : Options) (plan : Plan) (above : List (List (List ℕ))) → HasAppended options plan above table.old → OnOk result (WritesRows options plan above (map fields_of rows.now) (W.contents out.old) (W.contents out.new)) }
+    ensures failed { (options : Options) (plan : Plan) (above : List (List (List ℕ))) → HasAppended options plan above table.old → IfErr result (FailsIn options plan above (map fields_of rows.now) (W.contents out.old) (W.contents out.new)) }
+{
+    for fields in rows {
+        write_row(table, fields, buf, out)?;
     }
     Ok(())
 }
 
-// Shows what was written, where the next row isn't there yet.
-fn show_before_read<R: Ahead, W: Write>(
-    format: Format,
-    reader: &R,
+// Writes the end of a table whose rows are all there are, or tells what is wrong behind them.
+fn write_end<W: Write>(
+    table: TableRows<'_>,
+    wrong: Option<InputFault>,
+    buf: &mut String,
     out: &mut W,
 ) -> Result<(), RunFault>
-    ensures kept { Keeps (W.contents out.old) (W.contents out.new) }
-    ensures failed { (fault : RunFault) → result ≡ Err fault → is_of_write fault ≡ true }
+    ensures { (options : Options) (plan : Plan) (rows : List (List (List ℕ))) → HasAppended options plan rows table.entry → EndsBelow options plan rows (option_map but_line_in wrong) rows (W.contents out.old) (W.contents out.new) result }
 {
-    if has_row(format, reader.ahead()) {
-        return Ok(());
+    if let Some(fault) = wrong {
+        return Err(RunFault::Input(fault));
     }
-    flush(out)
+    buf.clear();
+    table.finish(buf)?;
+    write_bytes(buf.as_bytes(), out)
 }
 
-// Writes rows, and shows them before the next one is waited for.
-fn write_records<R: Ahead, W: Write>(
+// Writes the lines of rows that were given and of those that follow them, and the end of the table.
+fn write_table<R: Read + Drop, W: Write>(
     alloc: Global,
-    columns: &Columns<'_>,
-    sheet: &mut Sheet<'_>,
-    records: &[StringRecord],
-    reader: &R,
-    buf: &mut String,
+    mut table: TableRows<'_>,
+    mut reading: Reading,
+    mut rows: Vec<StringRecord>,
+    pieces: &mut Pieces<R>,
     out: &mut W,
 ) -> Result<(), RunFault>
-    ensures written { WritesRows sheet.old (cells_by columns.now (map fields_of records.now)) (W.contents out.old) (W.contents out.new) result }
-    ensures after { TakesRows sheet.old sheet.new (cells_by columns.now (map fields_of records.now)) result }
-    ensures rooms { RefusesRows sheet.old (cells_by columns.now (map fields_of records.now)) (W.contents out.old) (W.contents out.new) result }
+    ensures { (options : Options) (plan : Plan) (format : Format) (records : ℕ) (all : List ℕ) (above : List (List (List ℕ))) → Stands format records all (R.remaining pieces.old.input) (above ++ map fields_of rows.items) reading → HasAppended options plan above table.entry → EndsBelow options plan (sound_rows format records all) (wrong_in format records all) above (W.contents out.old) (W.contents out.new) result }
 {
-    write_rows(alloc, columns, sheet, records, buf, out)?;
-    show_before_read(columns.format, reader, out)
-}
-
-// The rows of a piece that stands behind so many lines.
-fn rows_behind(
-    alloc: Global,
-    columns: &Columns<'_>,
-    lines: usize,
-    piece: &[u8],
-) -> Result<Vec<StringRecord>, InputFault>
-    ensures rows { IfOk result (λ rows. map fields_of rows.items ≡ rows_in_piece columns.now.format (fields_of columns.now.header.now) piece.now) }
-    ensures fault { TellsBad (is_bad columns.now.format (fields_of columns.now.header.now) piece.now) result }
-{
-    let rows = rows_in_piece(alloc, columns.format, columns.header, piece);
-    rows.map_err(|fault| fault.behind(lines))
-}
-
-// Writes the rows of the pieces that are left, which stand behind so many lines, and ends the table.
-fn write_late<R: BufRead + Ahead, W: Write>(
-    alloc: Global,
-    columns: &Columns<'_>,
-    mut sheet: Sheet<'_>,
-    mut lines: usize,
-    reader: &mut R,
-    buf: &mut String,
-    out: &mut W,
-) -> Result<(), RunFault>
-    ensures { EndsSheet columns.now (R.remaining reader.old) (W.contents out.old) (W.contents out.new) result sheet.entry }
-{
-    let mut piece = Vec::new(alloc);
+    let mut buf = String::new(alloc);
     for _ in 0..usize::MAX {
-        if !read_piece(columns.format, reader, &mut piece)? {
-            return write_end(alloc, sheet, out);
+        write_rows(&mut table, &rows, &mut buf, out)?;
+        rows.clear();
+        match reading {
+            Reading::Done(wrong) => return write_end(table, wrong, &mut buf, out),
+            Reading::More(reader) => {
+                flush(out)?;
+                reading = pieces.read_on(reader, &mut rows)?;
+            }
         }
-        let records = rows_behind(alloc, columns, lines, &piece)?;
-        write_records(alloc, columns, &mut sheet, &records, reader, buf, out)?;
-        lines = lines.saturating_add(feeds_in(&piece));
     }
     Err(RunFault::Read)
 }
 
-// Writes the table of row 0, of these rows below it and of those of the pieces that are left.
-fn write_sheet<R: BufRead + Ahead, W: Write>(
-    alloc: Global,
-    columns: &Columns<'_>,
-    config: &SpannedConfig,
-    records: &[StringRecord],
-    lines: usize,
-    reader: &mut R,
-    out: &mut W,
-) -> Result<(), RunFault>
-    ensures { DrawsSheet columns.now (R.remaining reader.old) (W.contents out.old) (W.contents out.new) result config.now (map fields_of records.now) }
+// Reads on until so many rows are there, or all.
+fn read_first<R: Read + Drop>(
+    mut reading: Reading,
+    count: usize,
+    pieces: &mut Pieces<R>,
+    rows: &mut Vec<StringRecord>,
+) -> Result<Reading, RunFault>
+    ensures given { (format : Format) (records : ℕ) (all : List ℕ) → Stands format records all (R.remaining pieces.old.input) (map fields_of rows.old.items) reading → IfOk result (Stands format records all (R.remaining pieces.new.input) (map fields_of rows.new.items)) }
+    ensures enough { IfOk result (IsEnough count (map fields_of rows.new.items)) }
+    ensures failed { IfErr result IsOfRead }
 {
-    let count = columns.places.len();
-    let mut sheet = SizedStream::new(alloc, config, columns.widths, &NoColors, count)?;
-    write_header(alloc, columns, &mut sheet, out)?;
-    let mut buf = String::new(alloc);
-    write_records(alloc, columns, &mut sheet, records, reader, &mut buf, out)?;
-    write_late(alloc, columns, sheet, lines, reader, &mut buf, out)
-}
-
-// Where the first pieces hold no row, no others may come.
-fn end_without_rows<R: BufRead>(
-    alloc: Global,
-    format: Format,
-    reader: &mut R,
-) -> Result<(), RunFault>
-    ensures { (options : Options) → IfSome (R.remaining reader.old) (λ left. TellsRun (first_fault options [] (pieces_of format left)) result) }
-{
-    if read_piece(format, reader, &mut Vec::new(alloc))? {
-        return Err(RunFault::Input(InputFault::Stream(StreamedFault::NoRow)));
+    for _ in 0..usize::MAX {
+        match reading {
+            Reading::Done(wrong) => return Ok(Reading::Done(wrong)),
+            Reading::More(reader) => {
+                if rows.len() >= count {
+                    return Ok(Reading::More(reader));
+                }
+                reading = pieces.read_on(reader, rows)?;
+            }
+        }
     }
-    Ok(())
+    Err(RunFault::Read)
 }
 
-// Writes the table whose first rows are these, which so many lines hold.
-fn write_table<R: BufRead + Ahead, W: Write>(
+// What keeps the first rows from being shown: they end at a bad one.
+fn wrong_within(reading: &Reading, count: usize, rows: usize) -> Option<InputFault>
+    ensures { result ≡ wrong_within count rows reading.now }
+{
+    match reading {
+        Reading::Done(wrong) if rows < count => *wrong,
+        _ => None,
+    }
+}
+
+// So many first rows, or all.
+fn first_of(rows: &[StringRecord], count: usize) -> &[StringRecord]
+    ensures { result.now ≡ take count rows.now }
+{
+    match rows.get(..count) {
+        Some(first) => first,
+        None => rows,
+    }
+}
+
+// Shows the table whose first rows are there.
+fn show_table<R: Read + Drop, W: Write>(
     alloc: Global,
     options: &Options,
-    format: Format,
-    records: &[StringRecord],
-    lines: usize,
-    reader: &mut R,
+    count: usize,
+    reading: Reading,
+    rows: Vec<StringRecord>,
+    pieces: &mut Pieces<R>,
     out: &mut W,
 ) -> Result<(), RunFault>
-    ensures { IfSome (R.remaining reader.old) (λ left. Streams options.now format (map fields_of records.now) (pieces_of format left) (W.contents out.old) (W.contents out.new) result) }
+    ensures { (format : Format) (records : ℕ) (all : List ℕ) → 0 < count → IsEnough count (map fields_of rows.items) reading → Stands format records all (R.remaining pieces.old.input) (map fields_of rows.items) reading → Ends options.now count (sound_rows format records all) (wrong_in format records all) (W.contents out.old) (W.contents out.new) result }
 {
-    let [header, ..] = records else {
-        return end_without_rows(alloc, format, reader);
-    };
-    let places = places_of(alloc, &options.columns, records)?;
-    let copies = Vec::from_clones(alloc, records)?;
-    let shown = shown_records(alloc, options, copies)?;
-    let rows = LentRows {
-        records: &shown,
-        places: &places,
-    };
-    let config = first_config(alloc, options, rows)?;
-    let widths = sizes_of_rows(alloc, &options.bounds, &config, rows)?;
-    let columns = Columns {
-        options,
-        format,
-        header,
-        places: &places,
-        widths: &widths,
-    };
-    write_sheet(alloc, &columns, &config, &records[1..], lines, reader, out)
+    if let Some(fault) = wrong_within(&reading, count, rows.len()) {
+        return Err(RunFault::Input(fault));
+    }
+    if rows.is_empty() {
+        return Ok(());
+    }
+    let layout = Layout::of_rows(alloc, options, first_of(&rows, count))?;
+    let table = TableRows::new(alloc, options, &layout)?;
+    write_table(alloc, table, reading, rows, pieces, out)
 }
 
-// Whether one value holds all rows.
-fn is_one_value(format: Format) -> bool
-    ensures { result ≡ is_one_value format }
+// How many records are first, at least one.
+fn record_count(count: usize) -> usize
+    ensures { result ≡ record_count count }
 {
-    matches!(format, Format::Json)
+    if count == 0 { 1 } else { count }
 }
 
-// Shows the rows of an input in this format.
-fn show_rows<R: BufRead + Ahead, W: Write>(
+// Whether row 0 is no record.
+fn has_names(options: &Options, format: Format) -> bool
+    ensures { result ≡ has_names options.now format }
+{
+    match format {
+        Format::Separated(_) => options.has_header,
+        Format::Json | Format::JsonLines => true,
+    }
+}
+
+// How many rows are first.
+fn first_count(options: &Options, format: Format, count: usize) -> usize
+    ensures same { result ≡ first_count options.now format count }
+    ensures some { 0 < result }
+{
+    let records = record_count(count);
+    if has_names(options, format) {
+        records.saturating_add(1)
+    } else {
+        records
+    }
+}
+
+// Shows the rows of an input in this format, of which these are the first bytes.
+fn show_rows<R: Read + Drop, W: Write>(
     alloc: Global,
     options: &Options,
     format: Format,
     count: usize,
-    reader: &mut R,
+    front: &[u8],
+    pieces: &mut Pieces<R>,
     out: &mut W,
 ) -> Result<(), RunFault>
-    ensures { IfSome (R.remaining reader.old) (λ bytes. StreamsBytes options.now format count bytes (W.contents out.old) (W.contents out.new) result) }
+    ensures { (rest : List ℕ) → R.remaining pieces.old.input ≡ Some rest → Ends options.now (first_count options.now format count) (sound_rows format (record_count count) (front.now ++ rest)) (wrong_in format (record_count count) (front.now ++ rest)) (W.contents out.old) (W.contents out.new) result }
 {
-    if is_one_value(format) {
-        return Err(RunFault::Input(InputFault::Stream(StreamedFault::Value)));
-    }
-    let first = read_pieces(alloc, format, count, reader)?;
-    let records = rows_of(alloc, format, &first)?;
-    write_table(
-        alloc,
-        options,
-        format,
-        &records,
-        feeds_in(&first),
-        reader,
-        out,
-    )
+    let mut rows = Vec::new(alloc);
+    let reading = Reading::of_front(alloc, format, record_count(count), front, &mut rows)?;
+    let first = first_count(options, format, count);
+    let reading = read_first(reading, first, pieces, &mut rows)?;
+    show_table(alloc, options, first, reading, rows, pieces, out)
 }
 
-// How many rows are first, a header among them.
-fn count_of(options: &Options, count: usize) -> usize
-    ensures { result ≡ count_of options.now count }
+// Shows the rows of an input.
+fn show_input<R: Read + Drop, W: Write>(
+    alloc: Global,
+    request: &Request,
+    count: usize,
+    pieces: &mut Pieces<R>,
+    out: &mut W,
+) -> Result<(), RunFault>
+    ensures { IfSome (R.remaining pieces.old.input) (λ bytes. StreamsAll request.now count bytes (W.contents out.old) (W.contents out.new) result) }
 {
-    if options.has_header {
-        count.saturating_add(1)
-    } else {
-        count
+    let front = pieces.read_front(alloc, &request.source)?;
+    if request.source.is_database(&front) {
+        return Err(RunFault::Input(InputFault::Stream(StreamedFault::Database)));
     }
+    let format = format_streamed(request.source.format(), &front);
+    show_rows(alloc, &request.view, format, count, &front, pieces, out)
 }
 
 // Shows what was written, behind which there is no more, whatever the answer is.
@@ -294,7 +245,7 @@ fn show_to_end<W: Write>(answer: Result<(), RunFault>, out: &mut W) -> Result<()
     answer
 }
 
-/// Shows the rows that the bytes of an input hold one after another, each when it comes, at the widths of the first so
+/// Shows the rows that the bytes of an input hold one after another, each when it comes, in the layout of the first so
 /// many.
 pub(crate) fn stream<R: Read + Drop, W: Write>(
     alloc: Global,
@@ -305,17 +256,7 @@ pub(crate) fn stream<R: Read + Drop, W: Write>(
 ) -> Result<(), RunFault>
     ensures { IfSome (R.remaining input) (λ bytes. StreamsAll request.now count bytes (W.contents out.old) (W.contents out.new) result) }
 {
-    let Ok(mut reader) = BufReader::new(alloc, input) else {
-        return Err(RunFault::Input(InputFault::Memory));
-    };
-    let mut first = Vec::new(alloc);
-    read_line(&mut reader, &mut first)?;
-    if request.source.is_database(&first) {
-        return Err(RunFault::Input(InputFault::Stream(StreamedFault::Database)));
-    }
-    let format = format_of_line(request.source.format(), &first);
-    let mut reader = Cursor::new(first).chain(reader);
-    let count = count_of(&request.view, count);
-    let answer = show_rows(alloc, &request.view, format, count, &mut reader, out);
+    let mut pieces = Pieces::new(input);
+    let answer = show_input(alloc, request, count, &mut pieces, out);
     show_to_end(answer, out)
 }

@@ -1,4 +1,4 @@
-use Rattle.std.proofs.Common.{◌≡◌, ◌∙◌, List, ℕ, string_bytes, refl, sym, subst}
+use Rattle.std.proofs.Common.{List, ℕ, string_bytes, refl, subst}
 use Rattle.pg_layout.specs.Text.{Text}
 use Rattle.ruled_io.specs.Runs.{CausedAll, ShowsAll}
 use Rattle.ruled_io.specs.Writing.{Begins}

@@ -1,35 +1,40 @@
-use Rattle.std.proofs.Common.{◌≡◌, ◌∙◌, ℕ, List, map, true, false, None, Option, sym, ap}
-use Rattle.std.specs.Prelude.{⊤}
+use Rattle.std.proofs.Common.{◌++◌, ℕ, List, Option, Some, map, sym, ap, subst}
 use Rattle.csv.specs.Records.{fields_of}
-use Rattle.pg_layout.specs.Text.{Text}
-use Rattle.ruled_io.specs.Input.{format_fault, rows_of}
-use Rattle.ruled_io.specs.Stream.{is_one_value}
-use Rattle.ruled_io.proofs.StreamedRows.{if_some, rows-refused, streams-bytes, value-refused}
+use Rattle.ruled_io.specs.Faults.{is_memory}
+use Rattle.ruled_io.specs.declared.fault.RunFault.TheVariants.{Input}
+use Rattle.ruled_io.specs.Reading.{Stands, sound_rows, wrong_in}
+use Rattle.ruled_io.specs.Stream.{Ends, first_count, record_count}
+use Rattle.ruled_io.proofs.Inputs.{stands-so}
+use Rattle.ruled_io.proofs.Shows.{failed-ends}
+use Rattle.ruled_io.proofs.Tables.{read-fails}
 use Rattle.ruled_io.proofs.stream.show_rows.Goals as goal
 
-pub returns-then-is_one_value : goal.returns-then-is_one_value
-returns-then-is_one_value g c =
-    let is : is_one_value c.args.format ≡ true = sym c.is_one_value.ensures ∙ c.if-is_one_value.true in
-    if_some (g.R.Read.remaining c.args.reader.now) _ (λ bytes. value-refused ⊤ c.args.options.now c.args.format c.args.count bytes (g.W.Write.contents c.args.out.now) is)
+pub returns-in_err-reading : goal.returns-in_err-reading
+returns-in_err-reading g c = λ rest known.
+    let options = c.args.options.now in
+    let all : List ℕ = c.args.front.now ++ rest in
+    let records : ℕ = record_count c.args.count in
+    failed-ends options (first_count options c.args.format c.args.count) (sound_rows c.args.format records all) (wrong_in c.args.format records all) (g.W.Write.contents c.args.out.now)
+    (Input c.in_err-reading.field-0.0) c.from_residual.result c.from_residual.ensures.1 (ap is_memory c.in_err-reading.ensures.memory)
 
-pub returns-in_err-records : goal.returns-in_err-records
-returns-in_err-records g c =
-    let format = c.args.format in
-    let lines : is_one_value format ≡ false = sym c.is_one_value.ensures ∙ c.if-is_one_value.false in
-    rows-refused c.args.options.now format c.args.count (g.R.Read.remaining c.args.reader.now) (g.R.Read.remaining c.read_pieces.new.reader) (g.W.Write.contents c.args.out.now) c.in_ok-first.first.items c.in_err-records.field-0.0 c.from_residual-in_err-records.result
-    lines c.in_ok-first.ensures.read (λ soft. ap (format_fault format) (sym c.deref.ensures.value) ∙ c.in_err-records.ensures.fault soft) c.from_residual-in_err-records.ensures.1
+pub returns-in_err-reading-2 : goal.returns-in_err-reading-2
+returns-in_err-reading-2 g c = λ rest known.
+    let options = c.args.options.now in
+    let all : List ℕ = c.args.front.now ++ rest in
+    let records : ℕ = record_count c.args.count in
+    failed-ends options (first_count options c.args.format c.args.count) (sound_rows c.args.format records all) (wrong_in c.args.format records all) (g.W.Write.contents c.args.out.now)
+    c.in_err-reading-2.field-0.0 c.from_residual-in_err-reading-2.result c.from_residual-in_err-reading-2.ensures.1 (read-fails c.in_err-reading-2.field-0.0 c.in_err-reading-2.ensures.failed)
 
 pub returns : goal.returns
-returns g c =
+returns g c = λ rest known.
     let options = c.args.options.now in
     let format = c.args.format in
-    let read : List ℕ = c.in_ok-first.first.items in
+    let all : List ℕ = c.args.front.now ++ rest in
+    let records : ℕ = c.record_count.result in
     let old = g.W.Write.contents c.args.out.now in
-    let new = g.W.Write.contents c.write_table.new.out in
-    let r = c.write_table.result in
-    let left : Option (List ℕ) = g.R.Read.remaining c.read_pieces.new.reader in
-    let lines : is_one_value format ≡ false = sym c.is_one_value.ensures ∙ c.if-is_one_value.false in
-    let records : List (List Text) = map fields_of c.deref-2.result.now in
-    let are : records ≡ rows_of format read = ap (map fields_of) c.deref-2.ensures.value ∙ c.in_ok-records.ensures.rows ∙ ap (rows_of format) c.deref.ensures.value in
-    let fine : format_fault format read ≡ None = ap (format_fault format) (sym c.deref.ensures.value) ∙ c.in_ok-records.ensures.fault in
-    streams-bytes options format c.args.count (g.R.Read.remaining c.args.reader.now) left old new read records r lines c.in_ok-first.ensures.read are fine c.write_table.ensures
+    let new = g.W.Write.contents c.show_table.new.out in
+    let begun = stands-so format records all (Some rest) (map fields_of c.new-rows.result.items) (map fields_of c.of_front.new.rows.items) c.in_ok-reading.reading (ap (map fields_of) c.new-rows.ensures.items) (c.in_ok-reading.ensures.given rest) in
+    let here = subst (λ (left : Option (List ℕ)). Stands format records all left (map fields_of c.of_front.new.rows.items) c.in_ok-reading.reading) (sym known) begun in
+    let ends = c.show_table.ensures format records all c.first_count-first.ensures.some c.in_ok-reading-2.ensures.enough (c.in_ok-reading-2.ensures.given format records all here) in
+    subst (λ (n : ℕ). Ends options (first_count options format c.args.count) (sound_rows format n all) (wrong_in format n all) old new c.show_table.result) c.record_count.ensures
+    (subst (λ (first : ℕ). Ends options first (sound_rows format records all) (wrong_in format records all) old new c.show_table.result) c.first_count-first.ensures.same ends)

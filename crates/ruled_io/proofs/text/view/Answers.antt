@@ -1,5 +1,4 @@
-use Rattle.std.proofs.Common.{◌≡◌, ◌∙◌, List, None, refl, sym, ap}
-use Rattle.pg_layout.specs.Text.{Text}
+use Rattle.std.proofs.Common.{◌≡◌, ◌∙◌, None, refl, sym, ap}
 use Rattle.ruled_table.specs.View.{table_fault, table_text}
 use Rattle.ruled_table.specs.declared.fault.ViewFault.{ViewFault}
 use Rattle.ruled_io.specs.Faults.{fault_of_view}

@@ -1,4 +1,4 @@
-use Rattle.std.proofs.Common.{◌≡◌, ℕ, List, subst, rules}
+use Rattle.std.proofs.Common.{◌≡◌, subst, rules}
 use Rattle.std.specs.Io.KnownBytes.{Appends}
 use Rattle.ruled_io.proofs.Written.{all-begun, on-err}
 use Rattle.ruled_io.proofs.write.write_text.Goals as goal

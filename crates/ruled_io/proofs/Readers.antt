@@ -1,0 +1,121 @@
+-- A reader of a format, by what the readers of the formats tell.
+use Rattle.std.proofs.Common.{◌≡◌, ◌≢◌, ◌∙◌, ℕ, List, [], ◌∷◌, ◌++◌, Some, None, Result, Ok, Err, refl, sym, ap, subst, arith}
+use Rattle.std.specs.Prelude.{IfOk, option_map}
+use Rattle.csv.specs.Machine.{next_record}
+use Rattle.csv.specs.Reading.{records_from, strip_bom}
+use Rattle.ruled_csv.proofs.Readers as csv
+use Rattle.ruled_json.proofs.AtOnce as at_once
+use Rattle.ruled_json.proofs.Beginnings as json
+use Rattle.ruled_json.specs.Rows as json_rows
+use Rattle.pg_layout.specs.Text.{Text}
+use Rattle.ruled_csv.specs.Faults as csv_faults
+use Rattle.ruled_csv.specs.Reading as csv_reading
+use Rattle.ruled_csv.specs.Rows as csv_rows
+use Rattle.ruled_csv.specs.declared.fault.RowsFault.{RowsFault}
+use Rattle.ruled_csv.specs.declared.fault.RowsFault.TheVariants as rows_fault
+use Rattle.ruled_csv.specs.declared.reader.RowReader.{RowReader}
+use Rattle.ruled_json.specs.Faults as json_faults
+use Rattle.ruled_json.specs.Reading as json_reading
+use Rattle.ruled_json.specs.Streamed as json_streamed
+use Rattle.ruled_json.specs.declared.fault.JsonFault.{JsonFault}
+use Rattle.ruled_json.specs.declared.fault.JsonFault.TheVariants as json_fault
+use Rattle.ruled_json.specs.declared.line_reader.LineReader.{LineReader}
+use Rattle.ruled_io.specs.Faults.{but_line_in, fault_of_json, fault_of_rows}
+use Rattle.ruled_io.proofs.Readings.{given-on}
+use Rattle.ruled_io.specs.Reading.{AppendsRest, Ends, Gives, GoesOn, ended_rows}
+use Rattle.ruled_io.specs.declared.fault.InputFault.{InputFault}
+use Rattle.ruled_io.specs.declared.fault.InputFault.TheVariants as input
+use Rattle.ruled_io.specs.declared.formats.Format.{Format}
+use Rattle.ruled_io.specs.declared.formats.Format.TheVariants.{Separated, JsonLines}
+use Rattle.ruled_io.specs.declared.reader.Reader.TheVariants.{Rows, Lines}
+use Rattle.ruled_io.specs.declared.reader.Reading.{Reading}
+use Rattle.ruled_io.specs.declared.reader.Reading.TheVariants.{More, Done}
+
+rows-wrong : (found : RowsFault) → found ≢ rows_fault.Memory → fault_of_rows (csv_faults.but_line found) ≡ but_line_in (input.Rows found)
+rows-wrong (rows_fault.OpenQuote line) some = refl
+rows-wrong (rows_fault.BehindQuote line) some = refl
+rows-wrong (rows_fault.Length row line fields columns) some = refl
+rows-wrong (rows_fault.Encoding row line) some = refl
+rows-wrong rows_fault.Memory some = absurd (some refl)
+
+lines-wrong : (found : JsonFault) → found ≢ json_fault.Memory → fault_of_json (json_faults.but_line found) ≡ but_line_in (input.Json found)
+lines-wrong (json_fault.Encoding place) some = refl
+lines-wrong (json_fault.Syntax place) some = refl
+lines-wrong json_fault.NoRecords some = refl
+lines-wrong (json_fault.NoObject place) some = refl
+lines-wrong (json_fault.NoColumn place) some = refl
+lines-wrong json_fault.Memory some = absurd (some refl)
+
+module _ (format : Format) (records : ℕ) (before bytes all : List ℕ) (old new : List (List Text)) where
+  pub rows-more : (delimiter : ℕ) (reader : RowReader) → format ≡ Separated delimiter → csv_reading.HasRead delimiter (before ++ bytes) reader
+      → AppendsRest (csv_rows.ended_rows delimiter before) (csv_rows.ended_rows delimiter (before ++ bytes)) old new → Gives format records before bytes all old new (More (Rows reader))
+  rows-more delimiter reader is has rest = subst (λ (f : Format). Gives f records before bytes all old new (More (Rows reader))) (sym is) ((delimiter, refl, has), rest)
+
+  pub rows-bad : (delimiter : ℕ) (found : RowsFault) → found ≢ rows_fault.Memory → format ≡ Separated delimiter → (found ≢ rows_fault.Memory → csv_faults.rows_fault delimiter all ≡ Some (csv_faults.but_line found))
+      → (found ≢ rows_fault.Memory → AppendsRest (csv_rows.ended_rows delimiter before) (csv_faults.sound_rows delimiter all) old new) → Gives format records before bytes all old new (Done (Some (input.Rows found)))
+  rows-bad delimiter found some is told rest =
+      subst (λ (f : Format). Gives f records before bytes all old new (Done (Some (input.Rows found)))) (sym is)
+      (ap (option_map fault_of_rows) (told some) ∙ ap (λ (f : InputFault). Some f) (rows-wrong found some), rest some)
+
+  pub lines-more : (reader : LineReader) → format ≡ JsonLines → json_reading.HasRead records (before ++ bytes) reader
+      → AppendsRest (json_streamed.ended_line_rows records before) (json_streamed.ended_line_rows records (before ++ bytes)) old new → Gives format records before bytes all old new (More (Lines reader))
+  lines-more reader is has rest = subst (λ (f : Format). Gives f records before bytes all old new (More (Lines reader))) (sym is) ((refl, has), rest)
+
+  pub lines-bad : (found : JsonFault) → found ≢ json_fault.Memory → format ≡ JsonLines → (found ≢ json_fault.Memory → json_streamed.streamed_line_fault records all ≡ Some (json_faults.but_line found))
+      → (found ≢ json_fault.Memory → AppendsRest (json_streamed.ended_line_rows records before) (json_streamed.sound_line_rows records all) old new) → Gives format records before bytes all old new (Done (Some (input.Json found)))
+  lines-bad found some is told rest =
+      subst (λ (f : Format). Gives f records before bytes all old new (Done (Some (input.Json found)))) (sym is)
+      (ap (option_map fault_of_json) (told some) ∙ ap (λ (f : InputFault). Some f) (lines-wrong found some), rest some)
+
+module _ (format : Format) (records : ℕ) (bytes : List ℕ) (old new : List (List Text)) where
+  pub rows-end : (delimiter : ℕ) → format ≡ Separated delimiter → csv_faults.rows_fault delimiter bytes ≡ None
+      → AppendsRest (csv_rows.ended_rows delimiter bytes) (csv_faults.sound_rows delimiter bytes) old new → Ends format records bytes old new (Done None)
+  rows-end delimiter is none rest = subst (λ (f : Format). Ends f records bytes old new (Done None)) (sym is) (ap (option_map fault_of_rows) none, rest)
+
+  pub rows-end-bad : (delimiter : ℕ) (found : RowsFault) → found ≢ rows_fault.Memory → format ≡ Separated delimiter → (found ≢ rows_fault.Memory → csv_faults.rows_fault delimiter bytes ≡ Some (csv_faults.but_line found))
+      → (found ≢ rows_fault.Memory → AppendsRest (csv_rows.ended_rows delimiter bytes) (csv_faults.sound_rows delimiter bytes) old new) → Ends format records bytes old new (Done (Some (input.Rows found)))
+  rows-end-bad delimiter found some is told rest =
+      subst (λ (f : Format). Ends f records bytes old new (Done (Some (input.Rows found)))) (sym is)
+      (ap (option_map fault_of_rows) (told some) ∙ ap (λ (f : InputFault). Some f) (rows-wrong found some), rest some)
+
+  pub lines-end : format ≡ JsonLines → json_streamed.streamed_line_fault records bytes ≡ None
+      → AppendsRest (json_streamed.ended_line_rows records bytes) (json_streamed.sound_line_rows records bytes) old new → Ends format records bytes old new (Done None)
+  lines-end is none rest = subst (λ (f : Format). Ends f records bytes old new (Done None)) (sym is) (ap (option_map fault_of_json) none, rest)
+
+  pub lines-end-bad : (found : JsonFault) → found ≢ json_fault.Memory → format ≡ JsonLines → (found ≢ json_fault.Memory → json_streamed.streamed_line_fault records bytes ≡ Some (json_faults.but_line found))
+      → (found ≢ json_fault.Memory → AppendsRest (json_streamed.ended_line_rows records bytes) (json_streamed.sound_line_rows records bytes) old new) → Ends format records bytes old new (Done (Some (input.Json found)))
+  lines-end-bad found some is told rest =
+      subst (λ (f : Format). Ends f records bytes old new (Done (Some (input.Json found)))) (sym is)
+      (ap (option_map fault_of_json) (told some) ∙ ap (λ (f : InputFault). Some f) (lines-wrong found some), rest some)
+
+-- ---- nothing is complete yet
+
+nil-front : {X : Type 0} (xs ys : List X) → xs ++ ys ≡ [] → xs ≡ []
+nil-front [] ys none = refl
+nil-front (x ∷ xs) ys none = cc
+
+no-rows : (delimiter : ℕ) → csv_faults.sound_rows delimiter [] ≡ []
+unfolding csv_faults.sound_rows strip_bom records_from next_record
+no-rows delimiter = refl
+
+no-lines : (records : ℕ) → json_streamed.sound_line_rows records [] ≡ []
+unfolding strip_bom json_rows.line_rows_of json_faults.line_rows_fault
+no-lines records =
+    let none = at_once.fault-as-at-once records [] (omega arith) in
+    at_once.as-at-once records [] none (omega arith)
+
+pub rows-begin : (delimiter : ℕ) (reader : RowReader) → csv_reading.HasRead delimiter [] reader → csv_rows.ended_rows delimiter [] ≡ []
+rows-begin delimiter reader has =
+    let (more, same) = csv.ended-sound delimiter [] [] reader has in
+    nil-front (csv_rows.ended_rows delimiter []) more (sym same ∙ no-rows delimiter)
+
+pub lines-begin : (records : ℕ) (reader : LineReader) → json_reading.HasRead records [] reader → json_streamed.ended_line_rows records [] ≡ []
+lines-begin records reader has =
+    let (more, same) = json.ended-sound records [] [] reader has in
+    nil-front (json_streamed.ended_line_rows records []) more (sym same ∙ no-lines records)
+
+-- the rows that the first bytes give
+pub front-rows : {E : Type 0} (format : Format) (records : ℕ) (front rest : List ℕ) (old new : List (List Text)) (result : Result Reading E) → ended_rows format records [] ≡ []
+    → IfOk result (Gives format records [] front (([] ++ front) ++ rest) old new) → IfOk result (GoesOn format records (front ++ rest) (Some rest) [] old new)
+front-rows format records front rest old new (Ok reading) none gives = given-on format records (front ++ rest) [] front rest (Some rest) [] old new reading refl refl (sym none) gives
+front-rows format records front rest old new (Err fault) none gives = tt

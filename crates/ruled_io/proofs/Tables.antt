@@ -1,0 +1,284 @@
+-- Tables whose lines are written one row after another.
+use Rattle.std.proofs.Common.{◌≡◌, ◌∙◌, inl, inr, ◌+◌, ◌<◌, ℕ, List, [], ◌∷◌, ◌++◌, Option, Some, None, Result, Ok, Err, OnErr, OnOk, true, length, drop, get_or, refl, sym, ap, subst, append-nil, append_assoc}
+use Rattle.std.specs.Prelude.{IfErr, option_map}
+use Rattle.std.specs.Io.KnownBytes.{Appends, Keeps}
+use Rattle.std.specs.Result.{IsErrAnd}
+use Rattle.std.proofs.KnownBytes.{Keeps-refl}
+use Rattle.std.proofs.lemmas.Bool.{true≢false}
+use Rattle.std.proofs.lemmas.List.{drop_more}
+use Rattle.pg_layout.specs.Text.{Text}
+use Rattle.ruled_table.specs.Appended.{HasAppended}
+use Rattle.ruled_table.specs.Layouts.{whole_text}
+use Rattle.ruled_table.specs.Plans.{Plan}
+use Rattle.ruled_table.specs.RowLines.{GrowsTo, HasNoRoom, TellsRoom, begun_text}
+use Rattle.ruled_table.specs.declared.fault.ViewFault.{ViewFault}
+use Rattle.ruled_table.specs.declared.fault.ViewFault.TheVariants as view
+use Rattle.ruled_table.specs.declared.options.Options.{Options}
+use Rattle.ruled_table.specs.declared.table_rows.TableRows.{TableRows}
+use Rattle.ruled_io.specs.Faults.{IsOfRead, but_line, but_line_in, is_failure, is_of_write, of_view}
+use Rattle.ruled_io.specs.Reading.{GoesOn, Stands, sound_rows, wrong_in}
+use Rattle.ruled_io.specs.Steps.{EndsBelow, FailsIn, Grows, WritesRows}
+use Rattle.ruled_io.specs.Stream.{lines_in}
+use Rattle.ruled_io.specs.Writing.{Begins}
+use Rattle.ruled_io.specs.declared.fault.InputFault.{InputFault}
+use Rattle.ruled_io.specs.declared.fault.RunFault.{RunFault}
+use Rattle.ruled_io.specs.declared.fault.RunFault.TheVariants.{Input, Read, Closed, Write}
+use Rattle.ruled_io.specs.declared.formats.Format.{Format}
+use Rattle.ruled_io.specs.declared.reader.Reader.{Reader}
+use Rattle.ruled_io.specs.declared.reader.Reading.{Reading}
+use Rattle.ruled_io.specs.declared.reader.Reading.TheVariants.{More, Done}
+use Rattle.ruled_io.proofs.Drawn.{begun-on, begun-whole}
+use Rattle.ruled_io.proofs.Growing.{grows-kept, grows-more, grows-nears, grows-none, nears-more, nears-none, nears-on}
+use Rattle.ruled_io.proofs.Readings.{stands-begin}
+
+-- ---- faults
+
+-- a fault that is handed on
+pub handed : {X F : Type 0} (P : F → Type 0) (found : F) (result : Result X F) → IsErrAnd result (λ fault. fault ≡ found) → P found → IfErr result P
+handed P found (Ok x) is p = absurd is
+handed P found (Err fault) is p = subst P (sym is) p
+
+pub write-fails : (fault : RunFault) → is_of_write fault ≡ true → is_failure fault ≡ true
+write-fails (Input fault) e = cc
+write-fails Read e = refl
+write-fails Closed e = refl
+write-fails Write e = refl
+
+pub read-fails : (fault : RunFault) → IsOfRead fault → is_failure fault ≡ true
+read-fails fault (inl memory) = ap is_failure memory
+read-fails fault (inr read) = ap is_failure read
+
+-- ---- items of a list
+
+pub drop-next : {X : Type 0} (xs : List X) (i : ℕ) (x : X) → i < length xs → x ≡ get_or xs i x → drop i xs ≡ x ∷ drop (i + 1) xs
+drop-next {X} xs i x within is = drop_more xs i x within ∙ ap (λ (y : X). y ∷ drop (i + 1) xs) (sym is)
+
+module _ (options : Options) (plan : Plan) where
+  -- ---- a row
+
+  -- no room is left for it, or memory was refused
+  refused : (above : List (List Text)) (table : TableRows) (row : List Text) (old : Option (List ℕ)) (found : ViewFault) → HasAppended options plan above table → TellsRoom {X = Unit {0}} (HasNoRoom options plan above row) (Err found) → FailsIn options plan above (row ∷ []) old old (of_view found)
+  refused above table row old (view.Column name) has tells = (nears-none _ _ old old (begun-on options plan above table above (row ∷ []) has) (Keeps-refl old), λ soft. let totals = (tells refl).0 in cc)
+  refused above table row old view.Totals has tells = (
+    nears-none _ _ old old (begun-on options plan above table above (row ∷ []) has) (Keeps-refl old),
+    λ soft. (
+      refl,
+      (
+        [],
+        [],
+        row,
+        refl,
+        subst (λ (rows : List (List Text)). HasNoRoom options plan rows row) (sym (append-nil above)) (tells refl).1,
+        subst (λ (rows : List (List Text)). Grows (begun_text options plan above) (begun_text options plan rows) old old) (sym (append-nil above)) (grows-none (begun_text options plan above) old old (Keeps-refl old)),
+      ),
+    ),
+  )
+  refused above table row old view.Memory has tells = (nears-none _ _ old old (begun-on options plan above table above (row ∷ []) has) (Keeps-refl old), λ soft. absurd (true≢false soft))
+
+  pub row-refused : {X : Type 0} (above : List (List Text)) (table : TableRows) (row : List Text) (old : Option (List ℕ)) (found : ViewFault) (result : Result X RunFault) → IsErrAnd result (λ fault. fault ≡ of_view found)
+      → HasAppended options plan above table → TellsRoom {X = Unit {0}} (HasNoRoom options plan above row) (Err found) → IfErr result (FailsIn options plan above (row ∷ []) old old)
+  row-refused above table row old found result is has tells = handed (FailsIn options plan above (row ∷ []) old old) (of_view found) result is (refused above table row old found has tells)
+
+  -- a write failed
+  pub row-cut : {X : Type 0} (above : List (List Text)) (row : List Text) (old new : Option (List ℕ)) (bytes front buf : List ℕ) (result : Result X RunFault) → bytes ≡ buf → front ≡ []
+      → GrowsTo (begun_text options plan above) (begun_text options plan (above ++ row ∷ [])) front buf → OnErr result (Begins old new bytes) → ((fault : RunFault) → result ≡ Err fault → is_of_write fault ≡ true)
+      → IfErr result (FailsIn options plan above (row ∷ []) old new)
+  row-cut above row old new bytes front buf (Ok x) same none grows begun failed = tt
+  row-cut above row old new bytes front buf (Err fault) same none grows begun failed =
+      ((grows.more, grows.makes, subst (Begins old new) (same ∙ grows.bytes ∙ ap (λ (xs : List ℕ). xs ++ grows.more) none) begun), λ soft. absurd (true≢false (sym (write-fails fault (failed fault refl)) ∙ soft)))
+
+  -- it is written
+  pub row-written : {X : Type 0} (above : List (List Text)) (row : List Text) (old new : Option (List ℕ)) (bytes front buf : List ℕ) (result : Result X RunFault) → bytes ≡ buf → front ≡ []
+      → GrowsTo (begun_text options plan above) (begun_text options plan (above ++ row ∷ [])) front buf → OnOk result (Appends old new bytes) → OnOk result (WritesRows options plan above (row ∷ []) old new)
+  row-written above row old new bytes front buf (Ok x) same none grows written = (grows.more, grows.makes, subst (Appends old new) (same ∙ grows.bytes ∙ ap (λ (xs : List ℕ). xs ++ grows.more) none) written)
+  row-written above row old new bytes front buf (Err fault) same none grows written = tt
+
+  -- ---- rows
+
+  -- of these rows some are written, and others left
+  abbrev pub Goes : List (List Text) → List (List Text) → List (List Text) → TableRows → Option (List ℕ) → Option (List ℕ) → Type 0
+  Goes above all rest table old new = (done : List (List Text)) × (all ≡ done ++ rest) × HasAppended options plan (above ++ done) table × Grows (begun_text options plan above) (begun_text options plan (above ++ done)) old new
+
+  pub goes-begin : (above all : List (List Text)) (table : TableRows) (old : Option (List ℕ)) → HasAppended options plan above table → Goes above all all table old old
+  goes-begin above all table old has = (
+    [],
+    refl,
+    subst (λ (rows : List (List Text)). HasAppended options plan rows table) (sym (append-nil above)) has,
+    subst (λ (rows : List (List Text)). Grows (begun_text options plan above) (begun_text options plan rows) old old) (sym (append-nil above)) (grows-none (begun_text options plan above) old old (Keeps-refl old)),
+  )
+
+  pub goes-next : (above all rest : List (List Text)) (row : List Text) (table next : TableRows) (old mid new : Option (List ℕ))
+      → ((rows : List (List Text)) → HasAppended options plan rows table → HasAppended options plan (rows ++ row ∷ []) next)
+      → ((rows : List (List Text)) → HasAppended options plan rows table → WritesRows options plan rows (row ∷ []) mid new) → Goes above all (row ∷ rest) table old mid → Goes above all rest next old new
+  goes-next above all rest row table next old mid new after written (done, is, has, grows) = (
+    done ++ row ∷ [],
+    is ∙ sym (append_assoc done (row ∷ []) rest),
+    subst (λ (rows : List (List Text)). HasAppended options plan rows next) (append_assoc above done (row ∷ [])) (after (above ++ done) has),
+    subst (λ (rows : List (List Text)). Grows (begun_text options plan above) (begun_text options plan rows) old new) (append_assoc above done (row ∷ []))
+        (grows-more _ (begun_text options plan (above ++ done)) _ old mid new grows (written (above ++ done) has)),
+  )
+
+  pub goes-end : (above all rest : List (List Text)) (table : TableRows) (old new : Option (List ℕ)) → rest ≡ [] → Goes above all rest table old new → HasAppended options plan (above ++ all) table × WritesRows options plan above all old new
+  goes-end above all rest table old new none (done, is, has, grows) =
+      let same : done ≡ all = sym (append-nil done) ∙ ap (λ (xs : List (List Text)). done ++ xs) (sym none) ∙ sym is in (
+        subst (λ (rows : List (List Text)). HasAppended options plan (above ++ rows) table) same has,
+        subst (λ (rows : List (List Text)). Grows (begun_text options plan above) (begun_text options plan (above ++ rows)) old new) same grows,
+      )
+
+  pub goes-fails : (above all rest : List (List Text)) (row : List Text) (table : TableRows) (old mid new : Option (List ℕ)) (fault : RunFault)
+      → ((rows : List (List Text)) → HasAppended options plan rows table → FailsIn options plan rows (row ∷ []) mid new fault) → Goes above all (row ∷ rest) table old mid → FailsIn options plan above all old new fault
+  goes-fails above all rest row table old mid new fault fails (done, is, has, grows) =
+      let (near, stops) = fails (above ++ done) has in
+      let whole : ((above ++ done) ++ row ∷ []) ++ rest ≡ above ++ all =
+      append_assoc (above ++ done) (row ∷ []) rest ∙ append_assoc above done (row ∷ rest) ∙ ap (λ (xs : List (List Text)). above ++ xs) (sym is)
+      in
+      let more = begun-on options plan (above ++ done) table ((above ++ done) ++ row ∷ []) rest has in (
+        nears-on _ (begun_text options plan ((above ++ done) ++ row ∷ [])) _ old new (nears-more _ (begun_text options plan (above ++ done)) _ old mid new grows near)
+            (more.0, more.1 ∙ ap (begun_text options plan) whole),
+        λ soft.
+            let (totals, (front, behind, other, parts, room, wrote)) = stops soft in (
+              totals,
+              (
+                done ++ front,
+                behind ++ rest,
+                other,
+                is ∙ ap (λ (xs : List (List Text)). done ++ (xs ++ rest)) parts ∙ ap (λ (xs : List (List Text)). done ++ xs) (append_assoc front (other ∷ behind) rest) ∙ sym (append_assoc done front (other ∷ (behind ++ rest))),
+                subst (λ (rows : List (List Text)). HasNoRoom options plan rows other) (append_assoc above done front) room,
+                subst (λ (rows : List (List Text)). Grows (begun_text options plan above) (begun_text options plan rows) old new) (append_assoc above done front)
+                    (grows-more _ (begun_text options plan (above ++ done)) _ old mid new grows wrote),
+              ),
+            ),
+      )
+
+  -- ---- the end
+
+  pub end-refused : {X : Type 0} (rows : List (List Text)) (table : TableRows) (wrong : Option InputFault) (old : Option (List ℕ)) (found : ViewFault) (result : Result X RunFault) → wrong ≡ None → HasAppended options plan rows table
+      → IsErrAnd result (λ fault. fault ≡ of_view found) → found ≡ view.Memory → EndsBelow options plan rows (option_map but_line_in wrong) rows old old result
+  end-refused rows table wrong old found (Ok x) fine has is memory = absurd is
+  end-refused rows table wrong old found (Err fault) fine has is memory =
+      rw fine (nears-none _ _ old old (begun-whole options plan rows table rows has) (Keeps-refl old), λ soft. absurd (true≢false (sym (ap is_failure (is ∙ ap of_view memory)) ∙ soft)))
+
+  pub end-written : {X : Type 0} (rows : List (List Text)) (wrong : Option InputFault) (old new : Option (List ℕ)) (bytes front buf : List ℕ) (result : Result X RunFault) → wrong ≡ None → bytes ≡ buf → front ≡ []
+      → GrowsTo (begun_text options plan rows) (whole_text options plan rows) front buf → OnOk result (Appends old new bytes) → OnErr result (Begins old new bytes) → ((fault : RunFault) → result ≡ Err fault → is_of_write fault ≡ true)
+      → EndsBelow options plan rows (option_map but_line_in wrong) rows old new result
+  end-written rows wrong old new bytes front buf (Ok x) fine same none grows written begun failed =
+      rw fine (refl, (grows.more, grows.makes, subst (Appends old new) (same ∙ grows.bytes ∙ ap (λ (xs : List ℕ). xs ++ grows.more) none) written))
+  end-written rows wrong old new bytes front buf (Err fault) fine same none grows written begun failed =
+      rw fine ((grows.more, grows.makes, subst (Begins old new) (same ∙ grows.bytes ∙ ap (λ (xs : List ℕ). xs ++ grows.more) none) begun), λ soft. absurd (true≢false (sym (write-fails fault (failed fault refl)) ∙ soft)))
+
+  -- rows above a bad one
+  pub end-wrong : {X : Type 0} (rows : List (List Text)) (wrong : Option InputFault) (fault : InputFault) (old : Option (List ℕ)) (result : Result X RunFault) → wrong ≡ Some fault → IsErrAnd result (λ found. found ≡ Input fault)
+      → EndsBelow options plan rows (option_map but_line_in wrong) rows old old result
+  end-wrong rows wrong fault old (Ok x) is told = absurd told
+  end-wrong rows wrong fault old (Err found) is told =
+      let same = grows-none (begun_text options plan rows) old old (Keeps-refl old) in
+      rw is (grows-nears _ _ old old same, λ soft. inl (ap (λ (f : RunFault). Some (but_line f)) (sym told), same))
+
+  -- ---- all rows
+
+  -- the lines of rows that are all, or stand above a bad one, begin as their table does
+  lines-begin : (above : List (List Text)) (table : TableRows) (rows : List (List Text)) (wrong : Option InputFault) → HasAppended options plan above table → (x : Text) × (begun_text options plan rows ++ x ≡ lines_in options plan rows wrong)
+  lines-begin above table rows None has = begun-whole options plan above table rows has
+  lines-begin above table rows (Some fault) has = ([], append-nil (begun_text options plan rows))
+
+  module _ (format : Format) (records : ℕ) (all : List ℕ) where
+    abbrev sound : List (List Text)
+    sound = sound_rows format records all
+
+    abbrev wrong : Option InputFault
+    wrong = wrong_in format records all
+
+    begins-all : (above given : List (List Text)) (table : TableRows) (left : Option (List ℕ)) (reading : Reading) → HasAppended options plan above table → Stands format records all left given reading → (x : Text) × (begun_text options plan given ++ x ≡ lines_in options plan sound wrong)
+    begins-all above given table left reading has stands =
+        let (more, whole) = stands-begin format records all left given reading stands in
+        let (x, is) = begun-on options plan above table given more has in
+        let (y, last) = lines-begin above table sound wrong has in
+        (x ++ y, sym (append_assoc (begun_text options plan given) x y) ∙ ap (λ (t : Text). t ++ y) (is ∙ ap (begun_text options plan) whole) ∙ last)
+
+    -- a table has some rows of an input, and others were given
+    abbrev pub Runs : List (List Text) → Option (List ℕ) → Reading → List (List Text) → TableRows → Option (List ℕ) → Option (List ℕ) → Type 0
+    Runs above left reading rows table old new = (done : List (List Text)) × Stands format records all left (done ++ rows) reading × HasAppended options plan done table × Grows (begun_text options plan above) (begun_text options plan done) old new
+
+    pub runs-begin : (above rows : List (List Text)) (left : Option (List ℕ)) (reading : Reading) (table : TableRows) (old : Option (List ℕ)) → Stands format records all left (above ++ rows) reading → HasAppended options plan above table → Runs above left reading rows table old old
+    runs-begin above rows left reading table old stands has = (above, stands, has, grows-none (begun_text options plan above) old old (Keeps-refl old))
+
+    -- the rows that were given are written
+    pub runs-wrote : (above rows : List (List Text)) (left : Option (List ℕ)) (reading : Reading) (table next : TableRows) (old mid new : Option (List ℕ))
+        → ((done : List (List Text)) → HasAppended options plan done table → HasAppended options plan (done ++ rows) next)
+        → ((done : List (List Text)) → HasAppended options plan done table → WritesRows options plan done rows mid new) → Runs above left reading rows table old mid → Runs above left reading [] next old new
+    runs-wrote above rows left reading table next old mid new after written (done, stands, has, grows) = (
+      done ++ rows,
+      subst (λ (given : List (List Text)). Stands format records all left given reading) (sym (append-nil (done ++ rows))) stands,
+      after done has,
+      grows-more _ (begun_text options plan done) _ old mid new grows (written done has),
+    )
+
+    -- one of them isn't
+    pub runs-stop : {X : Type 0} (above rows : List (List Text)) (left : Option (List ℕ)) (reading : Reading) (table : TableRows) (old mid new : Option (List ℕ)) (found : RunFault) (result : Result X RunFault)
+        → IsErrAnd result (λ fault. fault ≡ found) → ((done : List (List Text)) → HasAppended options plan done table → FailsIn options plan done rows mid new found) → Runs above left reading rows table old mid
+        → EndsBelow options plan sound wrong above old new result
+    runs-stop above rows left reading table old mid new found (Ok x) is fails runs = absurd is
+    runs-stop above rows left reading table old mid new found (Err fault) is fails (done, stands, has, grows) =
+        let (near, stops) = fails done has in
+        let (more, whole) = stands-begin format records all left (done ++ rows) reading stands in (
+          nears-on _ (begun_text options plan (done ++ rows)) _ old new (nears-more _ (begun_text options plan done) _ old mid new grows near) (begins-all done (done ++ rows) table left reading has stands),
+          λ soft.
+              let (totals, (front, behind, row, parts, room, wrote)) = stops (ap is_failure (sym is) ∙ soft) in
+              inr (
+                is ∙ totals,
+                (
+                  done ++ front,
+                  behind ++ more,
+                  row,
+                  sym whole ∙ ap (λ (xs : List (List Text)). (done ++ xs) ++ more) parts ∙ ap (λ (xs : List (List Text)). xs ++ more) (sym (append_assoc done front (row ∷ behind))) ∙ append_assoc (done ++ front) (row ∷ behind) more,
+                  room,
+                  grows-more _ (begun_text options plan done) _ old mid new grows wrote,
+                ),
+              ),
+        )
+
+    -- memory, a read or a write failed
+    pub runs-fail : {X : Type 0} (above rows : List (List Text)) (left : Option (List ℕ)) (reading : Reading) (table : TableRows) (old mid new : Option (List ℕ)) (found : RunFault) (result : Result X RunFault)
+        → IsErrAnd result (λ fault. fault ≡ found) → is_failure found ≡ true → Keeps mid new → Runs above left reading rows table old mid → EndsBelow options plan sound wrong above old new result
+    runs-fail above rows left reading table old mid new found (Ok x) is failed kept runs = absurd is
+    runs-fail above rows left reading table old mid new found (Err fault) is failed kept (done, stands, has, grows) =
+        let (x, more) = begun-on options plan done table done rows has in
+        let (y, last) = begins-all done (done ++ rows) table left reading has stands in (
+          nears-on _ (begun_text options plan done) _ old new (grows-nears _ _ old new (grows-kept _ _ old mid new grows kept))
+              (x ++ y, sym (append_assoc (begun_text options plan done) x y) ∙ ap (λ (t : Text). t ++ y) more ∙ last),
+          λ soft. absurd (true≢false (sym failed ∙ sym (ap is_failure is) ∙ soft)),
+        )
+
+    -- more rows are given
+    pub runs-on : (above before after : List (List Text)) (left later : Option (List ℕ)) (reader : Reader) (now : Reading) (table : TableRows) (old mid new : Option (List ℕ)) → before ≡ [] → Keeps mid new
+        → ((given : List (List Text)) → Stands format records all left given (More reader) → GoesOn format records all later given before after now) → Runs above left (More reader) [] table old mid → Runs above later now after table old new
+    runs-on above before after left later reader now table old mid new none kept goes (done, stands, has, grows) =
+        let (more, grown, next) = goes done (subst (λ (given : List (List Text)). Stands format records all left given (More reader)) (append-nil done) stands) in
+        let same : more ≡ after = sym (grown ∙ ap (λ (xs : List (List Text)). xs ++ more) none) in
+        (done, subst (λ (xs : List (List Text)). Stands format records all later (done ++ xs) now) same next, has, grows-kept _ _ old mid new grows kept)
+
+    -- what is below these rows ends as told
+    below : {X : Type 0} (above done : List (List Text)) (old mid new : Option (List ℕ)) (result : Result X RunFault) → Grows (begun_text options plan above) (begun_text options plan done) old mid
+        → EndsBelow options plan sound wrong done mid new result → EndsBelow options plan sound wrong above old new result
+    below above done old mid new (Ok x) grows (none, wrote) = (none, grows-more _ (begun_text options plan done) _ old mid new grows wrote)
+    below above done old mid new (Err fault) grows (near, cause) = (
+      nears-more _ (begun_text options plan done) _ old mid new grows near,
+      λ soft. elim (cause soft) [
+        | inl told ↦ inl (told.0, grows-more _ (begun_text options plan done) _ old mid new grows told.1)
+        | inr short ↦
+            let (totals, (front, behind, row, parts, room, wrote)) = short in
+            inr (totals, (front, behind, row, parts, room, grows-more _ (begun_text options plan done) _ old mid new grows wrote))
+      ],
+    )
+
+    -- all are given
+    pub runs-end : {X : Type 0} (above : List (List Text)) (left : Option (List ℕ)) (reading : Reading) (last : Option InputFault) (table : TableRows) (old mid new : Option (List ℕ)) (result : Result X RunFault) → reading ≡ Done last
+        → ((rows : List (List Text)) → HasAppended options plan rows table → EndsBelow options plan rows (option_map but_line_in last) rows mid new result) → Runs above left reading [] table old mid
+        → EndsBelow options plan sound wrong above old new result
+    runs-end {X} above left reading last table old mid new result is ends (done, stands, has, grows) =
+        let (given, told) = subst (Stands format records all left (done ++ [])) is stands in
+        let same : done ≡ sound = sym (append-nil done) ∙ given in
+        let p : EndsBelow options plan sound (option_map but_line_in last) done mid new result =
+        subst (λ (rows : List (List Text)). EndsBelow options plan rows (option_map but_line_in last) done mid new result) same (ends done has)
+        in
+        below above done old mid new result grows (subst (λ (w : Option InputFault). EndsBelow options plan sound w done mid new result) (sym told) p)

@@ -1,0 +1,18 @@
+use Rattle.std.proofs.Common.{[], ◌∙◌, map, ap}
+use Rattle.csv.specs.Records.{fields_of}
+use Rattle.ruled_io.specs.Reading.{ended_rows}
+use Rattle.ruled_io.specs.declared.formats.Format.{Format}
+use Rattle.ruled_io.proofs.Readers.{front-rows, lines-begin, rows-begin}
+use Rattle.ruled_io.proofs.reader.Reading.of_front.Goals as goal
+
+pub returns-in-Separated-clause-given : goal.returns-in-Separated-clause-given
+returns-in-Separated-clause-given c = λ rest.
+    front-rows c.args.format c.args.records c.args.front.now rest (map fields_of c.args.rows.now.items) (map fields_of c.read.new.rows.items) c.read.result
+    (ap (λ (f : Format). ended_rows f c.args.records []) c.in-Separated.is ∙ rows-begin c.in-Separated.delimiter c.new-reader.result c.new-reader.ensures)
+    (c.read.ensures.given c.args.format c.args.records [] rest (c.in-Separated.delimiter, c.in-Separated.is, c.new-reader.ensures))
+
+pub returns-in-JsonLines-clause-given : goal.returns-in-JsonLines-clause-given
+returns-in-JsonLines-clause-given c = λ rest.
+    front-rows c.args.format c.args.records c.args.front.now rest (map fields_of c.args.rows.now.items) (map fields_of c.read-in-JsonLines.new.rows.items) c.read-in-JsonLines.result
+    (ap (λ (f : Format). ended_rows f c.args.records []) c.in-JsonLines.is ∙ lines-begin c.args.records c.new-reader-in-JsonLines.result c.new-reader-in-JsonLines.ensures)
+    (c.read-in-JsonLines.ensures.given c.args.format c.args.records [] rest (c.in-JsonLines.is, c.new-reader-in-JsonLines.ensures))

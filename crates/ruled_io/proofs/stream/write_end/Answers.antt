@@ -1,0 +1,18 @@
+use Rattle.std.proofs.Common.{Err, Result, refl}
+use Rattle.ruled_io.specs.declared.fault.RunFault.{RunFault}
+use Rattle.ruled_io.specs.declared.fault.RunFault.TheVariants.{Input}
+use Rattle.ruled_io.proofs.Tables.{end-refused, end-written, end-wrong}
+use Rattle.ruled_io.proofs.stream.write_end.Goals as goal
+
+pub returns-in-Some : goal.returns-in-Some
+returns-in-Some g c = λ options plan rows has. let r : Result (Unit {0}) RunFault = Err (Input c.in-Some.fault) in end-wrong options plan rows c.args.wrong c.in-Some.fault (g.W.Write.contents c.args.out.now) r c.in-Some.is refl
+
+pub returns-in_err-finish : goal.returns-in_err-finish
+returns-in_err-finish g c = λ options plan rows has.
+    end-refused options plan rows c.args.table c.args.wrong (g.W.Write.contents c.args.out.now) c.in_err-finish.field-0.0 c.from_residual.result c.in_default.is has c.from_residual.ensures.1
+    (c.in_err-finish.ensures.fault options plan rows has c.in_err-finish.field-0.0 refl)
+
+pub returns : goal.returns
+returns g c = λ options plan rows has.
+    end-written options plan rows c.args.wrong (g.W.Write.contents c.args.out.now) (g.W.Write.contents c.write_bytes.new.out) c.as_bytes.result.now _ _ c.write_bytes.result c.in_default.is
+    c.as_bytes.ensures.value c.clear.ensures.bytes (c.in_ok-finish.ensures.end options plan rows has) c.write_bytes.ensures.written c.write_bytes.ensures.begun c.write_bytes.ensures.failed

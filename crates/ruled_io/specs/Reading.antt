@@ -1,0 +1,94 @@
+-- The rows of an input whose bytes come one piece after another.
+use Rattle.std.specs.Prelude.{◌≡◌, ℕ, false, List, [], ◌++◌, Option, Some, option_map}
+use Rattle.pg_layout.specs.Text.{Text}
+use Rattle.ruled_csv.specs.Faults as csv_faults
+use Rattle.ruled_csv.specs.Reading as csv_reading
+use Rattle.ruled_csv.specs.Rows as csv_rows
+use Rattle.ruled_json.specs.Reading as json_reading
+use Rattle.ruled_json.specs.Streamed as json_streamed
+use Rattle.ruled_io.specs.Faults.{but_line_in, fault_of_json, fault_of_rows}
+use Rattle.ruled_io.specs.Formats.{format_shown, format_streamed, is_database}
+use Rattle.ruled_io.specs.Requests.{format_told, holds_database}
+use Rattle.ruled_io.specs.declared.fault.InputFault.{InputFault}
+use Rattle.ruled_io.specs.declared.fault.InputFault.TheVariants.{Stream}
+use Rattle.ruled_io.specs.declared.fault.StreamedFault.TheVariants.{Value}
+use Rattle.ruled_io.specs.declared.formats.Format.{Format}
+use Rattle.ruled_io.specs.declared.formats.Format.TheVariants.{Separated, Json, JsonLines}
+use Rattle.ruled_io.specs.declared.request.Source.{Source}
+use Rattle.ruled_io.specs.declared.reader.Reader.{Reader}
+use Rattle.ruled_io.specs.declared.reader.Reader.TheVariants.{Rows, Lines}
+use Rattle.ruled_io.specs.declared.reader.Reading.{Reading}
+use Rattle.ruled_io.specs.declared.reader.Reading.TheVariants.{More, Done}
+
+-- ---- a whole input
+
+-- its rows above the first bad one, all where nothing is wrong; so many first records say the columns of lines of JSON
+abbrev pub sound_rows : Format → ℕ → List ℕ → List (List Text)
+sound_rows (Separated delimiter) records bytes = csv_faults.sound_rows delimiter bytes
+sound_rows Json records bytes = []
+sound_rows JsonLines records bytes = json_streamed.sound_line_rows records bytes
+
+-- what is wrong with it; a value that holds all rows isn't read one row after another
+abbrev pub wrong_in : Format → ℕ → List ℕ → Option InputFault
+wrong_in (Separated delimiter) records bytes = option_map fault_of_rows (csv_faults.rows_fault delimiter bytes)
+wrong_in Json records bytes = Some (Stream Value)
+wrong_in JsonLines records bytes = option_map fault_of_json (json_streamed.streamed_line_fault records bytes)
+
+-- ---- a beginning of it
+
+-- the rows that are complete in it
+abbrev pub ended_rows : Format → ℕ → List ℕ → List (List Text)
+ended_rows (Separated delimiter) records bytes = csv_rows.ended_rows delimiter bytes
+ended_rows Json records bytes = []
+ended_rows JsonLines records bytes = json_streamed.ended_line_rows records bytes
+
+-- a reader has read these bytes of an input in this format, and found nothing wrong
+abbrev pub HasTaken : Format → ℕ → List ℕ → Reader → Type 0
+HasTaken format records bytes (Rows reader) = (delimiter : ℕ) × (format ≡ Separated delimiter) × csv_reading.HasRead delimiter bytes reader
+HasTaken format records bytes (Lines reader) = (format ≡ JsonLines) × json_reading.HasRead records bytes reader
+
+-- behind the old rows stand those which with the rows above are all of these
+abbrev pub AppendsRest : List (List Text) → List (List Text) → List (List Text) → List (List Text) → Type 0
+AppendsRest above all old new = (rows : List (List Text)) × (new ≡ old ++ rows) × (above ++ rows ≡ all)
+
+-- ---- a reader
+
+module _ (format : Format) (records : ℕ) (before bytes all : List ℕ) (old new : List (List Text)) where
+  -- it has read more bytes, and given the rows that are complete with them; or the input is bad, and it has given all above the first bad row
+  abbrev pub Gives : Reading → Type 0
+  Gives (More reader) = HasTaken format records (before ++ bytes) reader × AppendsRest (ended_rows format records before) (ended_rows format records (before ++ bytes)) old new
+  Gives (Done wrong) = (wrong_in format records all ≡ option_map but_line_in wrong) × AppendsRest (ended_rows format records before) (sound_rows format records all) old new
+
+-- it has given all rows above the first bad one, and tells what is wrong
+module _ (format : Format) (records : ℕ) (bytes : List ℕ) (old new : List (List Text)) where
+  abbrev pub Ends : Reading → Type 0
+  Ends (More reader) = ⊥
+  Ends (Done wrong) = (wrong_in format records bytes ≡ option_map but_line_in wrong) × AppendsRest (ended_rows format records bytes) (sound_rows format records bytes) old new
+
+-- ---- a reading
+
+-- of these bytes some are left, which the input gives next, and these rows were given
+module _ (format : Format) (records : ℕ) (all : List ℕ) (left : Option (List ℕ)) (given : List (List Text)) where
+  abbrev pub Stands : Reading → Type 0
+  Stands (More reader) = (before rest : List ℕ) × (all ≡ before ++ rest) × (left ≡ Some rest) × HasTaken format records before reader × (given ≡ ended_rows format records before)
+  Stands (Done wrong) = (given ≡ sound_rows format records all) × (wrong_in format records all ≡ option_map but_line_in wrong)
+
+-- a reading goes on with more rows behind the old ones
+abbrev pub GoesOn : Format → ℕ → List ℕ → Option (List ℕ) → List (List Text) → List (List Text) → List (List Text) → Reading → Type 0
+GoesOn format records all left given old new reading = (more : List (List Text)) × (new ≡ old ++ more) × Stands format records all left (given ++ more) reading
+
+-- ---- the first bytes of an input
+
+-- they show its format, and whether it is a database
+abbrev pub ShowsInput : List ℕ → List ℕ → Type 0
+ShowsInput front all = (format_shown all ≡ format_shown front) × (is_database all ≡ is_database front)
+
+-- where that isn't told
+abbrev pub ShowsSource : Source → List ℕ → List ℕ → Type 0
+ShowsSource source all front =
+    (holds_database source all ≡ holds_database source front)
+    × (holds_database source front ≡ false → format_streamed (format_told source) all ≡ format_streamed (format_told source) front)
+
+-- they are read of it
+abbrev pub ReadsFront : Source → List ℕ → Option (List ℕ) → List ℕ → Type 0
+ReadsFront source all left front = (rest : List ℕ) × (all ≡ front ++ rest) × (left ≡ Some rest) × ShowsSource source all front

@@ -1,0 +1,59 @@
+-- What the parts of a run row by row do.
+use Rattle.std.specs.Prelude.{◌≡◌, ◌⊎◌, ℕ, ◌≤◌, false, ⊤, List, ◌∷◌, ◌++◌, length, nat_lt, Option, Some, None, option_map, Result, Ok, Err, if◌then◌else◌}
+use Rattle.std.specs.Io.KnownBytes.{Appends}
+use Rattle.pg_layout.specs.Text.{Text}
+use Rattle.ruled_table.specs.Plans.{Plan}
+use Rattle.ruled_table.specs.RowLines.{HasNoRoom, begun_text}
+use Rattle.ruled_io.specs.Faults.{but_line, is_failure}
+use Rattle.ruled_io.specs.Stream.{lines_in}
+use Rattle.ruled_io.specs.Writing.{Begins}
+use Rattle.ruled_io.specs.declared.fault.InputFault.{InputFault}
+use Rattle.ruled_io.specs.declared.fault.InputFault.TheVariants.{Totals}
+use Rattle.ruled_io.specs.declared.fault.RunFault.{RunFault}
+use Rattle.ruled_io.specs.declared.fault.RunFault.TheVariants.{Input}
+use Rattle.ruled_io.specs.declared.reader.Reading.{Reading}
+use Rattle.ruled_io.specs.declared.reader.Reading.TheVariants.{More, Done}
+use Rattle.ruled_table.specs.declared.options.Options.{Options}
+
+-- a text that is written grows to another one
+abbrev pub Grows : Text → Text → Option (List ℕ) → Option (List ℕ) → Type 0
+Grows above all old new = (more : Text) × (above ++ more ≡ all) × Appends old new more
+
+-- or to a beginning of it
+abbrev pub Nears : Text → Text → Option (List ℕ) → Option (List ℕ) → Type 0
+Nears above all old new = (more : Text) × (above ++ more ≡ all) × Begins old new more
+
+-- there are so many rows, unless all are there
+abbrev pub IsEnough : ℕ → List (List Text) → Reading → Type 0
+IsEnough count rows (More reader) = count ≤ length rows
+IsEnough count rows (Done wrong) = ⊤
+
+-- what is wrong where there are fewer
+abbrev pub wrong_within : ℕ → ℕ → Reading → Option InputFault
+wrong_within count rows (More reader) = None
+wrong_within count rows (Done wrong) = if nat_lt rows count then wrong else None
+
+module _ (options : Options) (plan : Plan) (above rows : List (List Text)) (old new : Option (List ℕ)) where
+  -- the lines of rows are written below those above
+  abbrev pub WritesRows : Type 0
+  WritesRows = Grows (begun_text options plan above) (begun_text options plan (above ++ rows)) old new
+
+  -- those in front of one that no room is left for
+  abbrev pub StopsIn : Type 0
+  StopsIn = (done behind : List (List Text)) × (row : List Text) × (rows ≡ done ++ row ∷ behind) × HasNoRoom options plan (above ++ done) row × Grows (begun_text options plan above) (begun_text options plan (above ++ done)) old new
+
+  -- why not all are written
+  abbrev pub FailsIn : RunFault → Type 0
+  FailsIn fault = Nears (begun_text options plan above) (begun_text options plan (above ++ rows)) old new × (is_failure fault ≡ false → (fault ≡ Input Totals) × StopsIn)
+
+module _ (options : Options) (plan : Plan) (rows : List (List Text)) (wrong : Option InputFault) (above : List (List Text)) (old new : Option (List ℕ)) where
+  -- the lines of all these rows up to one that no room is left for, where those above are written
+  abbrev pub StopsBelow : Type 0
+  StopsBelow = (done behind : List (List Text)) × (row : List Text) × (rows ≡ done ++ row ∷ behind) × HasNoRoom options plan done row × Grows (begun_text options plan above) (begun_text options plan done) old new
+
+  -- all are written, and the table is ended where nothing is wrong
+  abbrev pub EndsBelow : {X : Type 0} → Result X RunFault → Type 0
+  EndsBelow (Ok x) = (wrong ≡ None) × Grows (begun_text options plan above) (lines_in options plan rows wrong) old new
+  EndsBelow (Err fault) =
+      Nears (begun_text options plan above) (lines_in options plan rows wrong) old new
+      × (is_failure fault ≡ false → ((option_map Input wrong ≡ Some (but_line fault)) × Grows (begun_text options plan above) (lines_in options plan rows wrong) old new) ⊎ ((fault ≡ Input Totals) × StopsBelow))

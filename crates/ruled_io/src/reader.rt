@@ -1,0 +1,109 @@
+//! Readers of rows, to which the bytes of an input come one piece after another.
+
+ghost use Rattle.std.specs.Prelude.{◌≡◌, ◌++◌, [], ℕ, List, Some, map, IfErr, IfOk};
+ghost use Rattle.csv.specs.Records.{fields_of};
+ghost use Rattle.ruled_io.specs.Reading.{Ends, Gives, GoesOn, HasTaken};
+ghost use Rattle.ruled_io.specs.declared.formats.Format.{Format};
+
+use crate::fault::{InputFault, StreamedFault};
+use crate::formats::Format;
+use csv::StringRecord;
+use ruled_csv::{RowReader, RowsFault};
+use ruled_json::{JsonFault, LineReader};
+use std::alloc::Global;
+
+/// A reader of the rows of a format.
+#[derive(Drop)]
+pub(crate) enum Reader {
+    /// Of separated values.
+    Rows(RowReader),
+    /// Of lines of JSON.
+    Lines(LineReader),
+}
+
+/// Where the reading of an input stands.
+#[derive(Drop)]
+pub(crate) enum Reading {
+    /// More bytes may come.
+    More(Reader),
+    /// All rows were given: those above the first bad one, with what is wrong, or those that there are.
+    Done(Option<InputFault>),
+}
+
+impl Reader {
+    /// Reads the next bytes, and appends the rows that are complete with them, or those above the first bad one.
+    ///
+    /// The fault is want of memory.
+    pub(crate) fn read(
+        self,
+        bytes: &[u8],
+        rows: &mut Vec<StringRecord>,
+    ) -> Result<Reading, InputFault>
+        ensures given { (format : Format) (records : ℕ) (before behind : List ℕ) → HasTaken format records before self → IfOk result (Gives format records before bytes.now ((before ++ bytes.now) ++ behind) (map fields_of rows.old.items) (map fields_of rows.new.items)) }
+        ensures memory { IfErr result (λ fault. fault ≡ InputFault.Memory) }
+    {
+        match self {
+            Reader::Rows(reader) => match reader.read(bytes, rows) {
+                Ok(reader) => Ok(Reading::More(Reader::Rows(reader))),
+                Err(RowsFault::Memory) => Err(InputFault::Memory),
+                Err(fault) => Ok(Reading::Done(Some(InputFault::Rows(fault)))),
+            },
+            Reader::Lines(reader) => match reader.read(bytes, rows) {
+                Ok(reader) => Ok(Reading::More(Reader::Lines(reader))),
+                Err(JsonFault::Memory) => Err(InputFault::Memory),
+                Err(fault) => Ok(Reading::Done(Some(InputFault::Json(fault)))),
+            },
+        }
+    }
+
+    /// Ends the reading, behind which no byte is left, and appends the rows that end with it, or those above the first bad
+    /// one.
+    ///
+    /// The fault is want of memory.
+    pub(crate) fn finish(self, rows: &mut Vec<StringRecord>) -> Result<Reading, InputFault>
+        ensures given { (format : Format) (records : ℕ) (bytes : List ℕ) → HasTaken format records bytes self → IfOk result (Ends format records bytes (map fields_of rows.old.items) (map fields_of rows.new.items)) }
+        ensures memory { IfErr result (λ fault. fault ≡ InputFault.Memory) }
+    {
+        match self {
+            Reader::Rows(reader) => match reader.finish(rows) {
+                Ok(()) => Ok(Reading::Done(None)),
+                Err(RowsFault::Memory) => Err(InputFault::Memory),
+                Err(fault) => Ok(Reading::Done(Some(InputFault::Rows(fault)))),
+            },
+            Reader::Lines(reader) => match reader.finish(rows) {
+                Ok(()) => Ok(Reading::Done(None)),
+                Err(JsonFault::Memory) => Err(InputFault::Memory),
+                Err(fault) => Ok(Reading::Done(Some(InputFault::Json(fault)))),
+            },
+        }
+    }
+}
+
+impl Reading {
+    /// The reading of an input in this format, of which these are the first bytes; so many first records say the columns
+    /// of lines of JSON.
+    ///
+    /// The fault is want of memory.
+    pub(crate) fn of_front(
+        alloc: Global,
+        format: Format,
+        records: usize,
+        front: &[u8],
+        rows: &mut Vec<StringRecord>,
+    ) -> Result<Reading, InputFault>
+        ensures given { (rest : List ℕ) → IfOk result (GoesOn format records (front.now ++ rest) (Some rest) [] (map fields_of rows.old.items) (map fields_of rows.new.items)) }
+        ensures memory { IfErr result (λ fault. fault ≡ InputFault.Memory) }
+    {
+        match format {
+            Format::Separated(delimiter) => {
+                let reader = RowReader::new(alloc, delimiter);
+                Reader::Rows(reader).read(front, rows)
+            }
+            Format::JsonLines => {
+                let reader = LineReader::new(alloc, records);
+                Reader::Lines(reader).read(front, rows)
+            }
+            Format::Json => Ok(Reading::Done(Some(InputFault::Stream(StreamedFault::Value)))),
+        }
+    }
+}
