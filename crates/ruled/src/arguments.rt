@@ -3,7 +3,7 @@
 use clap::error::ErrorKind;
 use clap::{Arg, ArgAction, ArgMatches, Command};
 use pg_layout::AlignmentHorizontal;
-use ruled_io::{Format, Kind, Log, Request, Rows, Source};
+use ruled_io::{Format, Kind, Log, OneLine, Request, Rows, Source};
 use ruled_table::{Bounds, Breaking, Look, Options, Overflow};
 use std::alloc::{AllocError, Global};
 use std::env::VarError;
@@ -195,7 +195,7 @@ fn with_form<'a>(alloc: Global, command: Command<'a>) -> Result<Command<'a>, All
 fn command<'a>(alloc: Global, looks: &'a [&'a str]) -> Result<Command<'a>, AllocError> {
     let command = Command::new(alloc, "ruled")
         .about("Shows rows of separated values, JSON or a database of SQLite as a table")
-        .version("0.1.0");
+        .version("0.1.0 (logic dac8208d650f15bf)");
     let command = with_shown(alloc, with_input(alloc, command)?, looks)?;
     let command = with_form(alloc, with_bounds(alloc, command)?)?;
     with_stream(alloc, command)
@@ -442,6 +442,32 @@ fn tell(rt: &HostRuntime, said: &clap::Error) -> io::Result<u8> {
     }
 }
 
+// The words with each on one line, as the lines of clap may repeat them.
+fn shown_words(alloc: Global, words: &[String]) -> Result<Vec<String>, AllocError> {
+    let mut shown = Vec::new(alloc);
+    for word in words {
+        shown.push(format!(in alloc; "{}", OneLine(word.as_str()))?)?;
+    }
+    Ok(shown)
+}
+
+// Prints what clap says of words that it refuses, and returns the exit status. The words are read once more, with
+// each on one line: what is refused stays refused, since no value that an option takes has a character that is shown
+// for another one.
+fn tell_of(rt: &HostRuntime, words: &[String]) -> io::Result<u8> {
+    let shown = shown_words(rt.alloc(), words)?;
+    let looks = looks(rt.alloc())?;
+    let command = command(rt.alloc(), &looks)?;
+    let said = match command.try_get_matches_from(shown.as_slice()) {
+        Ok(_found) => return Err(io::ErrorKind::InvalidInput.into()),
+        Err(said) => said,
+    };
+    if matches!(said.kind(), ErrorKind::OutOfMemory) {
+        return Err(io::ErrorKind::OutOfMemory.into());
+    }
+    tell(rt, &said)
+}
+
 // What the input is, and what its table looks like, or why they can't be.
 fn input_and_look(found: &ArgMatches) -> Result<(Source, Look), &'static str> {
     Ok((source_asked(found)?, look_asked(found)?))
@@ -457,7 +483,7 @@ pub(crate) fn read_arguments(rt: &HostRuntime) -> io::Result<Asked> {
         Err(error) if matches!(error.kind(), ErrorKind::OutOfMemory) => {
             return Err(io::ErrorKind::OutOfMemory.into());
         }
-        Err(error) => return Ok(Asked::Told(tell(rt, &error)?)),
+        Err(_error) => return Ok(Asked::Told(tell_of(rt, &words)?)),
     };
     match input_and_look(&found) {
         Ok((source, look)) => {

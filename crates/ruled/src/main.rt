@@ -4,10 +4,12 @@
 
 mod arguments;
 mod logs;
+mod waiting;
 
 use crate::arguments::{Asked, Wanted, read_arguments};
 use crate::logs::log_beside;
-use ruled_io::{Request, Source, run};
+use crate::waiting::Waiting;
+use ruled_io::{Quoted, Request, Source, run};
 use std::fs::File;
 use std::io::{BufWriter, ErrorKind, Read, Write};
 use std::process::ExitCode;
@@ -18,12 +20,17 @@ fn words_of(error: &io::Error) -> &'static str {
     match error.kind() {
         ErrorKind::NotFound => "no such file",
         ErrorKind::PermissionDenied => "permission denied",
+        ErrorKind::IsADirectory => "is a folder",
         _ => "can't be opened",
     }
 }
 
-// Opens the file of this name, once it is known what stands in the logs beside it, where it may be a database.
+// Opens the file of this name, once it is known what the logs beside it may have, where it may be a database.
+// A folder can be opened, too: only a read of it fails, when its name is no longer known.
 fn open(rt: &HostRuntime, name: &str, request: &mut Request) -> io::Result<File> {
+    if fs::metadata(rt, name)?.is_dir() {
+        return Err(ErrorKind::IsADirectory.into());
+    }
     if !matches!(request.source, Source::Rows(_)) {
         request.source.set_log(log_beside(rt, name)?);
     }
@@ -33,6 +40,7 @@ fn open(rt: &HostRuntime, name: &str, request: &mut Request) -> io::Result<File>
 // Shows the table of an input, and answers the exit status.
 fn show_input<R: Read + Drop>(rt: &HostRuntime, request: &Request, input: R) -> io::Result<u8> {
     let mut out = BufWriter::new(rt.alloc(), rt.stdout())?;
+    let input = Waiting::new(*rt, input);
     let status = run(rt.alloc(), request, input, &mut out, &mut rt.stderr()).status();
     // What a write that failed has left isn't written once more.
     let _parts = out.into_parts();
@@ -49,6 +57,7 @@ fn show(rt: &HostRuntime, wanted: Wanted) -> io::Result<u8> {
         Ok(file) => show_input(rt, &request, file),
         Err(error) if error.kind() == ErrorKind::OutOfMemory => Err(error),
         Err(error) => {
+            let name = Quoted(name.as_str());
             let _ = writeln!(rt.stderr(), "ruled: {name}: {}", words_of(&error));
             Ok(5)
         }
