@@ -75,7 +75,7 @@ fn set_view(
             Some(side) => view.sides.push(side)?,
             None => return Ok(None),
         },
-        "column" => view.columns.push(String::from_str(alloc, value)?)?,
+        "column" => view.columns.push(meant(alloc, value)?)?,
         _ => return Ok(None),
     }
     Ok(Some(()))
@@ -145,8 +145,14 @@ fn meaning(c: char) -> char {
         '␛' => '\x1b',
         '␀' => '\0',
         '␂' => '\u{feff}',
+        '␊' => '\n',
         _ => c,
     }
+}
+
+// A text with its pictures as what they stand for.
+fn meant(alloc: Global, text: &str) -> Result<String, AllocError> {
+    text.chars().map(|c| meaning(c)).collect(alloc)
 }
 
 /// Appends a line of an input: its pictures as what they stand for, and a line feed unless it says that
