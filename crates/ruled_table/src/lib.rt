@@ -20,14 +20,10 @@ mod view;
 mod widths;
 
 pub use crate::bounds::Bounds;
-pub use crate::columns::{column_of, field_at, places_of};
 pub use crate::fault::ViewFault;
 pub use crate::layout::Layout;
-pub use crate::lent_rows::LentRows;
 pub use crate::look::Look;
 pub use crate::options::Options;
-pub use crate::rows::{shown_records, shown_text};
 pub use crate::table_rows::TableRows;
 pub use crate::view::view_rows;
-pub use crate::widths::{first_config, room_of, sizes_of_rows, text_within};
 pub use pg_table::{Breaking, Overflow};
