@@ -44,8 +44,8 @@ impl Trial for RefusedBuilder<'_, '_> {
 
 impl<'a> TableCase<'a> {
     /// Sets a line below the header of a table of these rows, or a title, while memory is refused, by reference and
-    /// by value. A line takes memory where there are two rows or more, and columns; a title does for
-    /// the sizes and for its characters. Other calls aren't made.
+    /// by value. A line takes memory where there are two rows or more, and columns; a title with
+    /// characters does over a row line that is there. Other calls aren't made.
     pub(crate) fn refuse(
         &self,
         call: BuilderCall<'_>,
@@ -57,7 +57,7 @@ impl<'a> TableCase<'a> {
                 ("set_header_line", "with_header_line", takes_memory)
             }
             BuilderCall::Title(title) | BuilderCall::SetTitle(title) => {
-                let takes_memory = !self.rows.is_empty() || !title.text.is_empty();
+                let takes_memory = !title.text.is_empty() && self.has_line(title.row)?;
                 ("set_title", "with_title", takes_memory)
             }
             _ => return Ok(()),
@@ -70,6 +70,12 @@ impl<'a> TableCase<'a> {
         let expected = takes_memory.then_some(Refusal::Memory);
         report.compare(self.place(), with, refusal, expected);
         Ok(())
+    }
+
+    // Whether a title over this row line may be seen: a table without rows has no lines to look for.
+    fn has_line(&self, row: usize) -> Result<bool, CaseFault> {
+        let table = self.new_table()?;
+        Ok(self.rows.is_empty() || table.config().has_horizontal(row, self.rows.len()))
     }
 
     // Refuses each request that this call makes, and all behind it. A table that is refused one is as it was;
