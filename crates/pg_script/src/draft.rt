@@ -1,4 +1,4 @@
-//! Tables as far as a script has told of them.
+//! Tables as far as a script has described them.
 
 ghost use Rattle.std.specs.Prelude.{◌≡◌};
 
@@ -9,7 +9,7 @@ use pg_config::SpannedConfig;
 use pg_layout::{ColorsMap, ConstantDimension};
 use std::alloc::{AllocError, Allocator};
 
-/// A table as far as a script has told of it.
+/// A table as far as a script has described it.
 #[derive(Drop)]
 pub(crate) struct Draft<A: Allocator> {
     pub(crate) size: Size,
@@ -45,7 +45,8 @@ impl<A: Allocator + Copy> Draft<A> {
         })
     }
 
-    /// Changes the table as a statement says. Where memory is refused, it may have followed a part.
+    /// Changes the table as a statement says. After out of memory a part of the statement may have
+    /// taken effect.
     pub(crate) fn follow(&mut self, statement: Statement<A>) -> Result<(), AllocError>
         requires { FitsSize self.old.size statement }
         ensures size { self.new.size ≡ self.old.size }
@@ -78,7 +79,7 @@ impl<A: Allocator + Copy> Draft<A> {
         Ok(())
     }
 
-    /// The script that told this.
+    /// The script of this table.
     pub(crate) fn finish(self) -> Script<A>
         ensures { told_of_script result ≡ told_of_draft self }
     {

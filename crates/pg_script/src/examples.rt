@@ -1,5 +1,5 @@
-//! Worked scripts, each stated beside what it tells. The functions do nothing: what they promise is that the
-//! definitions give the values that stand here.
+//! Worked scripts, each beside what it sets. The functions do nothing: their contracts say that the
+//! definitions give the values written here.
 #![tactic(auto, unfolding(crate::proofs::Computing::script_words))]
 
 ghost use Rattle.std.specs.Prelude.{◌≡◌, ◌++◌, ◌∷◌, [], Err, Ok, codes, false, true};
@@ -17,8 +17,8 @@ ghost use Rattle.pg_script.specs.Samples.{indent, two_by_three, with_settings};
 ghost use Rattle.pg_script.specs.Script.{told_by};
 ghost use Rattle.pg_script.specs.Told.{told_nothing};
 
-/// The size is first the rows, then the columns. Cells are empty, of width 0 and height 1 each, and nothing
-/// else is told. There are at most 1000 rows, and at most 1000 columns.
+/// The size is the number of rows, then that of columns, at most 1000 each. Cells are empty,
+/// columns have width 0, rows height 1, and nothing else is set.
 pub fn a_size_is_rows_and_columns()
     ensures small { told_by (codes "size 2 3") ≡ Ok (record { widths = 0 ∷ 0 ∷ 0 ∷ []; heights = 1 ∷ 1 ∷ []; texts = ([] ∷ [] ∷ [] ∷ []) ∷ ([] ∷ [] ∷ [] ∷ []) ∷ []; colors = []; config = default_config }) }
     ensures most_rows { told_by (codes "size 1000 0") ≡ Ok (told_nothing (record { rows = 1000; columns = 0 })) }
@@ -27,7 +27,7 @@ pub fn a_size_is_rows_and_columns()
     ensures more_columns { told_by (codes "size 0 1001") ≡ Err 1 }
 {}
 
-/// One width for each column from the left on, and one height for each row from the top on.
+/// One width for each column from the left, and one height for each row from the top.
 pub fn widths_and_heights_are_told_in_order()
     ensures widths { told_by (codes "size 2 3\nwidths 4 5 6") ≡ Ok (record two_by_three { widths = 4 ∷ 5 ∷ 6 ∷ [] }) }
     ensures heights { told_by (codes "size 2 3\nheights 7 8") ≡ Ok (record two_by_three { heights = 7 ∷ 8 ∷ [] }) }
@@ -47,7 +47,8 @@ pub fn a_text_is_written_with_escapes()
     ensures no_column { told_by (codes "size 2 3\ncell 0 3 a") ≡ Err 2 }
 {}
 
-/// A text is all that follows one space behind the place. Where the line ends there, it is empty.
+/// A text is all that follows the one space after the place. If the line ends there, the text is
+/// empty.
 pub fn spaces_belong_to_a_text()
     ensures around { told_by (codes "size 2 3\ncell 0 1  a b ") ≡ Ok (record two_by_three { texts = ([] ∷ codes " a b " ∷ [] ∷ []) ∷ ([] ∷ [] ∷ [] ∷ []) ∷ [] }) }
     ensures before_the_place { told_by (codes "size 2 3\n  cell  0  1 a") ≡ Ok (record two_by_three { texts = ([] ∷ codes "a" ∷ [] ∷ []) ∷ ([] ∷ [] ∷ [] ∷ []) ∷ [] }) }
@@ -62,14 +63,14 @@ pub fn borders_are_told_by_name()
     ensures two_names { told_by (codes "size 2 3\nborders ascii none") ≡ Err 2 }
 {}
 
-/// Behind the place of a span stand its rows, then its columns. The place may lie anywhere.
+/// After the place of a span come its rows, then its columns. The place may lie outside the table.
 pub fn a_span_is_rows_and_columns()
     ensures inside { told_by (codes "size 2 3\nspan 0 1 2 3") ≡ Ok (with_settings (record default_config { spans = with_column_span (at 0 1) 3 (with_row_span (at 0 1) 2 []) })) }
     ensures outside { told_by (codes "size 2 3\nspan 7 8 0 9") ≡ Ok (with_settings (record default_config { spans = with_column_span (at 7 8) 9 (with_row_span (at 7 8) 0 []) })) }
     ensures three_sizes { told_by (codes "size 2 3\nspan 0 1 2 3 1") ≡ Err 2 }
 {}
 
-/// A setting is told of all cells, of a row, of a column, or of the cell of a row and a column.
+/// A setting is for all cells, for a row, for a column, or for one cell.
 pub fn a_setting_is_told_of_an_entity()
     ensures all { told_by (codes "size 2 3\nlines all on") ≡ Ok (with_settings (record default_config { line_alignment = with_setting Global true no_settings })) }
     ensures row { told_by (codes "size 2 3\nlines row 1 on") ≡ Ok (with_settings (record default_config { line_alignment = with_setting (Row 1) true no_settings })) }
@@ -80,7 +81,7 @@ pub fn a_setting_is_told_of_an_entity()
     ensures two_names { told_by (codes "size 2 3\nlines all on off") ≡ Err 2 }
 {}
 
-/// Where texts stand between left and right.
+/// How texts are aligned horizontally.
 pub fn texts_stand_left_or_right()
     ensures all { told_by (codes "size 2 3\nhalign all center") ≡ Ok (with_settings (record default_config { alignment_horizontal = with_setting Global across.Center no_settings })) }
     ensures row { told_by (codes "size 2 3\nhalign row 1 right") ≡ Ok (with_settings (record default_config { alignment_horizontal = with_setting (Row 1) across.Right no_settings })) }
@@ -89,7 +90,7 @@ pub fn texts_stand_left_or_right()
     ensures two_names { told_by (codes "size 2 3\nhalign all left right") ≡ Err 2 }
 {}
 
-/// Where texts stand between top and bottom.
+/// How texts are aligned vertically.
 pub fn texts_stand_above_or_below()
     ensures all { told_by (codes "size 2 3\nvalign all center") ≡ Ok (with_settings (record default_config { alignment_vertical = with_setting Global down.Center no_settings })) }
     ensures row { told_by (codes "size 2 3\nvalign row 1 bottom") ≡ Ok (with_settings (record default_config { alignment_vertical = with_setting (Row 1) down.Bottom no_settings })) }
@@ -98,7 +99,7 @@ pub fn texts_stand_above_or_below()
     ensures two_names { told_by (codes "size 2 3\nvalign all top bottom") ≡ Err 2 }
 {}
 
-/// Spaces at the left, at the right, above and below.
+/// Paddings of spaces at the left, at the right, above and below.
 pub fn a_row_is_padded()
     ensures row { let padding : Sides Indent = record { left = indent 1 32; right = indent 2 32; top = indent 3 32; bottom = indent 4 32 } in
         told_by (codes "size 2 3\npad row 1 1 2 3 4") ≡ Ok (with_settings (record default_config { padding = with_setting (Row 1) padding no_settings })) }
@@ -108,7 +109,7 @@ pub fn a_row_is_padded()
     ensures five_sizes { told_by (codes "size 2 3\npad all 1 2 3 4 5") ≡ Err 2 }
 {}
 
-/// Each name switches both trims, that of the sides of lines and that of blank lines.
+/// Each name sets both trims: that of line ends, and that of blank lines.
 pub fn trims_are_told_by_name()
     ensures both { told_by (codes "size 2 3\ntrim all hv") ≡ Ok (with_settings (record default_config { trim_horizontal = with_setting Global true no_settings; trim_vertical = with_setting Global true no_settings })) }
     ensures sides { told_by (codes "size 2 3\ntrim row 1 h") ≡ Ok (with_settings (record default_config { trim_horizontal = with_setting (Row 1) true no_settings; trim_vertical = with_setting (Row 1) false no_settings })) }
@@ -117,8 +118,8 @@ pub fn trims_are_told_by_name()
     ensures two_names { told_by (codes "size 2 3\ntrim all h v") ≡ Err 2 }
 {}
 
-/// Margins at the left, at the right, above and below, with one fill: a character, or the names of a space and a
-/// backslash.
+/// Margins at the left, at the right, above and below, with one fill: a character, or the escape of
+/// a space or a backslash.
 pub fn a_margin_has_one_fill()
     ensures sign { let margin : Sides Indent = record { left = indent 1 35; right = indent 2 35; top = indent 3 35; bottom = indent 4 35 } in
         told_by (codes "size 2 3\nmargin 1 2 3 4 #") ≡ Ok (with_settings (record default_config { margin = margin })) }
@@ -134,7 +135,7 @@ pub fn a_margin_has_one_fill()
     ensures nothing { told_by (codes "size 2 3\nmargin 1 2 3 4") ≡ Err 2 }
 {}
 
-/// What a terminal reads as a colour: the escape byte, a bracket, the number and a letter. The place is a row and
+/// A terminal's colour: the escape byte, a bracket, the number and a letter. The place is a row and
 /// a column of the table, and the number is at most 107.
 pub fn a_cell_is_coloured()
     ensures greatest { told_by (codes "size 2 3\ncolor 1 2 107") ≡ Ok (record two_by_three { colors = (at 1 2, record { prefix = 27 ∷ codes "[107m"; suffix = 27 ∷ codes "[0m" }) ∷ [] }) }
@@ -145,7 +146,7 @@ pub fn a_cell_is_coloured()
     ensures no_column { told_by (codes "size 2 3\ncolor 0 3 31") ≡ Err 2 }
 {}
 
-/// A later line of a kind comes after an earlier one.
+/// Of two lines of one kind the later one counts.
 pub fn the_latest_line_counts()
     ensures widths { told_by (codes "size 2 3\nwidths 1 2 3\nwidths 4 5 6") ≡ Ok (record two_by_three { widths = 4 ∷ 5 ∷ 6 ∷ [] }) }
     ensures texts { told_by (codes "size 2 3\ncell 0 1 a\ncell 0 1 b") ≡ Ok (record two_by_three { texts = ([] ∷ codes "b" ∷ [] ∷ []) ∷ ([] ∷ [] ∷ [] ∷ []) ∷ [] }) }
@@ -154,7 +155,7 @@ pub fn the_latest_line_counts()
     ensures of_all { told_by (codes "size 2 3\nhalign all right\nhalign all center") ≡ Ok (with_settings (record default_config { alignment_horizontal = with_setting Global across.Center no_settings })) }
 {}
 
-/// A number has 1 to 20 decimal digits, and is one of 64 bits.
+/// A number has 1 to 20 decimal digits, and is below 2^64.
 pub fn numbers_have_64_bits()
     ensures greatest { told_by (codes "size 2 3\nwidths 0 007 18446744073709551615") ≡ Ok (record two_by_three { widths = 0 ∷ 7 ∷ 18446744073709551615 ∷ [] }) }
     ensures too_great { told_by (codes "size 2 3\nheights 1 18446744073709551616") ≡ Err 2 }
@@ -164,8 +165,8 @@ pub fn numbers_have_64_bits()
     ensures with_a_letter { told_by (codes "size 2 3\nheights 1 2a") ≡ Err 2 }
 {}
 
-/// One or more spaces part words, and may stand before the first one and after the last one. A tab parts none,
-/// and capitals are other letters.
+/// One or more spaces separate words, and may also come before the first word and after the last
+/// one. A tab separates nothing, and case matters.
 pub fn words_are_parted_by_spaces()
     ensures many { told_by (codes "  size  2   3  ") ≡ Ok two_by_three }
     ensures a_tab { told_by (codes "size 2\t3") ≡ Err 1 }
@@ -173,16 +174,16 @@ pub fn words_are_parted_by_spaces()
     ensures one_too_many { told_by (codes "size 2 3 4") ≡ Err 1 }
 {}
 
-/// A line feed ends a line, the last one with or without it. A carriage return before it belongs to no line, and
-/// any other one does.
+/// A line feed ends a line; the last line needs none. A carriage return before a line feed isn't
+/// part of the line, any other one is.
 pub fn lines_end_at_line_feeds()
     ensures with { told_by (codes "size 2 3\nwidths 4 5 6\n") ≡ Ok (record two_by_three { widths = 4 ∷ 5 ∷ 6 ∷ [] }) }
     ensures with_a_return { told_by (codes "size 2 3\r\nwidths 4 5 6\r\n") ≡ Ok (record two_by_three { widths = 4 ∷ 5 ∷ 6 ∷ [] }) }
     ensures a_return_alone { told_by (codes "size 2 3\nwidths 4 5 6\r") ≡ Err 2 }
 {}
 
-/// Lines are counted from 1, and those without words count. Each line is text. The first line with words tells
-/// the size, and no other does; where there is none, the line after the last one is bad.
+/// Lines count from 1, including those without words. Each line is UTF-8. The first line with words
+/// sets the size, and no other line does. If there is none, the line after the last one is bad.
 pub fn the_first_bad_line_is_named()
     ensures after_blanks { told_by (codes "\nsize 2 3\n   \nwidth 4 5 6\nwidth 4 5 6") ≡ Err 4 }
     ensures no_text { told_by (codes "size 2 3\ncell 0 0 " ++ 255 ∷ []) ≡ Err 2 }

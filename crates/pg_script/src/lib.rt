@@ -1,4 +1,4 @@
-//! Scripts: how one is read, and what it tells of a table.
+//! Scripts: how one is read, and the table that it describes.
 #![tactic(auto)]
 
 mod cell_texts;

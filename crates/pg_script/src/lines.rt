@@ -4,10 +4,10 @@ ghost use Rattle.std.specs.Prelude.{◌≡◌, ◌==◌, position};
 ghost use Rattle.std.specs.Iterator.{YieldsFirstRef, item_count};
 ghost use Rattle.std.specs.Str.Lines.{lines, strip_carriage_return};
 
-/// The lines of a script that are left, as bytes.
+/// The remaining lines of a script, as bytes.
 ///
-/// A line feed ends a line, and at the very end it begins no further one. A carriage return directly
-/// before a line feed belongs to no line.
+/// A line feed ends a line; one at the very end begins no further line. A carriage return directly
+/// before a line feed isn't part of the line.
 #[derive(Debug, Clone, Drop)]
 pub(crate) struct Lines<'a> {
     rest: &'a [u8],

@@ -14,7 +14,7 @@ use crate::statement::{Size, Statement};
 use crate::words::Words;
 use std::alloc::{AllocError, Allocator};
 
-// The line as a text, or `None` where it is none.
+// The line as a text, or `None` if it isn't UTF-8.
 fn text_of_line(line: &[u8]) -> Option<&str>
     ensures { MatchOption result (is_utf8 line.now ≡ false) (λ text. (is_utf8 line.now ≡ true) × (text.now ≡ line.now)) }
 {
@@ -24,7 +24,8 @@ fn text_of_line(line: &[u8]) -> Option<&str>
     }
 }
 
-// The size that a line tells before any other was told, if it has words; `None` where it is bad.
+// The size that a line sets before any other line with words; no size if it has no words, and
+// `None` if it is bad.
 fn size_of_line(line: &[u8]) -> Option<Option<Size>>
     ensures { after_line None line.now ≡ option_map (λ told. option_map (λ size. (size, told_nothing size)) told) result }
 {
@@ -37,8 +38,8 @@ fn size_of_line(line: &[u8]) -> Option<Option<Size>>
     }
 }
 
-// Reads lines until one tells the size of the table, or is bad: then it answers that line's number.
-// Their numbers begin with `number`, which then is that of the next line.
+// Reads lines until one sets the size of the table, or is bad: then it returns that line's number.
+// The first line has the number `number`, which becomes that of the next line.
 fn read_size(rest: &mut Lines<'_>, number: &mut usize) -> Result<Size, usize>
     requires { number.old + length (lines rest.old.rest.now) < 2 ^ 64 }
     ensures counted { number.new + length (lines rest.new.rest.now) ≡ number.old + length (lines rest.old.rest.now) }
@@ -55,7 +56,7 @@ fn read_size(rest: &mut Lines<'_>, number: &mut usize) -> Result<Size, usize>
     Err(*number)
 }
 
-// Changes the table as a line says that follows the size, and tells whether the line is good.
+// Changes the table as a line after the size says, and returns whether the line is good.
 fn follow_line<A: Allocator + Copy>(
     alloc: A,
     draft: &mut Draft<A>,
@@ -80,7 +81,7 @@ fn follow_line<A: Allocator + Copy>(
     }
 }
 
-// Changes the table as the lines say that follow the size. Their numbers begin with `number`.
+// Changes the table as the lines after the size say. The first of them has the number `number`.
 fn follow_lines<A: Allocator + Copy>(
     alloc: A,
     draft: &mut Draft<A>,
@@ -102,8 +103,8 @@ fn follow_lines<A: Allocator + Copy>(
 
 /// Reads a script.
 ///
-/// The first bad line is reported, counted from 1; where no line has words, that is the line after
-/// the last one.
+/// The first bad line is reported, counted from 1; if no line has words, that is the line after the
+/// last one.
 pub fn parse_script<A: Allocator + Copy>(alloc: A, script: &[u8]) -> Result<Script<A>, ScriptFault>
     ensures told { IfOk result (λ read. told_by script.now ≡ Ok (told_of_script read)) }
     ensures bad { (n : ℕ) → result ≡ Err (ScriptFault.Bad n) → told_by script.now ≡ Err n }

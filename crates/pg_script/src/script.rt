@@ -1,4 +1,4 @@
-//! Scripts, and what they tell of a table.
+//! Scripts, and the tables that they describe.
 
 ghost use Rattle.std.specs.Prelude.{◌≡◌, Some};
 ghost use Rattle.pg_script.specs.Script.{script_fault_text};
@@ -10,12 +10,12 @@ use std::alloc::{AllocError, Allocator, Global};
 use std::error::Error;
 use std::fmt;
 
-/// Why a script tells of no table.
+/// Why a script describes no table.
 #[derive(Debug, Clone, Copy, PartialEq, Eq)]
 pub enum ScriptFault {
     /// The first bad line, counted from 1.
     Bad(usize),
-    /// Memory was refused.
+    /// Out of memory.
     Memory,
 }
 
@@ -41,7 +41,7 @@ impl fmt::Display for ScriptFault {
 
 impl Error for ScriptFault {}
 
-/// All that the printing of a script's table needs.
+/// All that printing a script's table needs.
 #[derive(Drop)]
 pub struct Script<A: Allocator = Global> {
     /// The texts of the cells.

@@ -12,7 +12,7 @@ use pg_layout::{
 };
 use std::alloc::{AllocError, Allocator};
 
-/// The most rows of a script's table, and the most columns.
+/// The most rows, and the most columns, of a script's table.
 const MOST: usize = 1000;
 
 /// The greatest number of a colour.
@@ -28,8 +28,8 @@ pub struct Size {
 }
 
 impl Size {
-    /// The size that a script's first statement tells behind the word `size`, or `None` where it
-    /// tells none.
+    /// The size that a script's first statement sets after the word `size`, or `None` if it sets
+    /// none.
     pub(crate) fn read(mut words: Words<'_>) -> Option<Size>
         ensures { result ≡ size_said (words_of words.entry.rest.now) }
     {
@@ -61,13 +61,13 @@ pub(crate) enum Statement<A: Allocator> {
     Cell(Position, String<A>),
     /// The borders of the table.
     Borders(Borders<char>),
-    /// Where texts stand between left and right.
+    /// How texts are aligned horizontally.
     HorizontalAlignment(Entity, AlignmentHorizontal),
-    /// Where texts stand between top and bottom.
+    /// How texts are aligned vertically.
     VerticalAlignment(Entity, AlignmentVertical),
-    /// The space round texts.
+    /// The padding of cells.
     Padding(Entity, Sides<Indent>),
-    /// Whether the spaces round texts are trimmed, and whether blank lines are.
+    /// The horizontal and the vertical trim.
     Trim(Entity, bool, bool),
     /// Whether the lines of a text are aligned one by one.
     Lines(Entity, bool),
@@ -80,8 +80,8 @@ pub(crate) enum Statement<A: Allocator> {
 }
 
 impl<A: Allocator + Copy> Statement<A> {
-    /// The statement of a line for a table of this size, from the line's first word and what
-    /// follows it, or `None` where the line is bad.
+    /// The statement of a line, from its first word and what follows it, for a table of this size;
+    /// `None` if the line is bad.
     pub(crate) fn read(
         alloc: A,
         keyword: &str,
@@ -109,7 +109,7 @@ impl<A: Allocator + Copy> Statement<A> {
     }
 }
 
-// So many numbers, and nothing behind them.
+// So many numbers, and nothing after them.
 fn numbers<A: Allocator>(
     alloc: A,
     mut words: Words<'_>,
@@ -264,7 +264,7 @@ fn color<A: Allocator + Copy>(
     }
 }
 
-// A place of the table and the number of a colour, and nothing behind them.
+// A place of the table and the number of a colour, and nothing after them.
 fn color_code(mut words: Words<'_>, size: Size) -> Option<(Position, usize)>
     ensures inside { IfSome result (λ read. (read.0.row < size.rows) × (read.0.col < size.columns) × (read.1 ≤ 107)) }
     ensures read { result ≡ color_code_said size (words_of words.entry.rest.now) }
@@ -289,7 +289,7 @@ fn span<A: Allocator>(mut words: Words<'_>) -> Option<Statement<A>>
     Some(Statement::Span(place, rows, columns))
 }
 
-// The colour that a terminal knows by this number.
+// The terminal's colour of this number.
 fn terminal_color<A: Allocator + Copy>(alloc: A, code: usize) -> Result<ANSIBuf<A>, AllocError>
     ensures { IfOk result (λ color. color ≡ terminal_color code) }
 {

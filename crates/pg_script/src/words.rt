@@ -11,7 +11,7 @@ const MOST_DIGITS: usize = 20;
 
 /// What is left of a line that is read word by word.
 ///
-/// Words are parted by one or more spaces. After a word, what is left begins behind the one space
+/// One or more spaces separate words. After a word, the rest of the line begins after the one space
 /// that ends the word.
 #[derive(Debug, Clone, Copy)]
 pub(crate) struct Words<'a> {
@@ -26,7 +26,7 @@ impl<'a> Words<'a> {
         Words { rest: line }
     }
 
-    /// The next word, or `None` where no word is left.
+    /// The next word, or `None` if there is none.
     pub(crate) fn next_word(&mut self) -> Option<&'a str>
         ensures words { MatchOption result (words_of self.old.rest.now ≡ []) (λ word. words_of self.old.rest.now ≡ word.now ∷ words_of self.new.rest.now) }
         ensures behind { IfSome result (λ _. self.new.rest.now ≡ behind_word self.old.rest.now) }
@@ -42,7 +42,7 @@ impl<'a> Words<'a> {
         if word.is_empty() { None } else { Some(word) }
     }
 
-    /// The next word as a number, or `None` where it is none.
+    /// The next word as a number, or `None` if it isn't one.
     pub(crate) fn number(&mut self) -> Option<usize>
         ensures words { first_number (words_of self.old.rest.now) ≡ option_map (λ number. (number, words_of self.new.rest.now)) result }
         ensures behind { IfSome result (λ _. self.new.rest.now ≡ behind_word self.old.rest.now) }
@@ -50,7 +50,7 @@ impl<'a> Words<'a> {
         number_of(self.next_word()?)
     }
 
-    /// The next two words as a place, or `None` where they name none.
+    /// The next two words as a place, or `None` if they aren't one.
     pub(crate) fn place(&mut self) -> Option<Position>
         ensures words { first_place (words_of self.old.rest.now) ≡ option_map (λ place. (place, words_of self.new.rest.now)) result }
         ensures behind { IfSome result (λ _. self.new.rest.now ≡ behind_word (behind_word self.old.rest.now)) }
@@ -60,8 +60,8 @@ impl<'a> Words<'a> {
         Some(Position::new(row, col))
     }
 
-    /// The next four words as sizes of the left, the right, the top and the bottom side, or `None`
-    /// where they name none.
+    /// The next four words as sizes at the left, at the right, above and below, or `None` if they
+    /// aren't sizes.
     pub(crate) fn sizes(&mut self) -> Option<Sides<usize>>
         ensures { first_sizes (words_of self.old.rest.now) ≡ option_map (λ sizes. (sizes, words_of self.new.rest.now)) result }
     {
@@ -72,7 +72,7 @@ impl<'a> Words<'a> {
         Some(Sides::new(left, right, top, bottom))
     }
 
-    /// The next words as a set of places, or `None` where they name none.
+    /// The next words as an entity, or `None` if they aren't one.
     pub(crate) fn entity(&mut self) -> Option<Entity>
         ensures { first_entity (words_of self.old.rest.now) ≡ option_map (λ entity. (entity, words_of self.new.rest.now)) result }
     {
@@ -85,7 +85,7 @@ impl<'a> Words<'a> {
         }
     }
 
-    /// The end of the line, or `None` where a word is left.
+    /// The end of the line, or `None` if a word is left.
     pub(crate) fn end(mut self) -> Option<()>
         ensures { result ≡ end_of (words_of self.entry.rest.now) }
     {
@@ -103,8 +103,8 @@ impl<'a> Words<'a> {
     }
 }
 
-/// The number that a word writes in decimal digits, or `None` where it has other characters, too
-/// many digits or too great a value.
+/// The number that a word writes in decimal digits, or `None` if it has other characters, too many
+/// digits or too great a value.
 pub(crate) fn number_of(word: &str) -> Option<usize>
     ensures { result ≡ number_of word.now }
 {
@@ -114,8 +114,8 @@ pub(crate) fn number_of(word: &str) -> Option<usize>
     word.parse::<usize>().ok()
 }
 
-/// The character that a word stands for: `\s` is a space, `\\` a backslash, any other character
-/// itself; `None` for other words.
+/// The character that a word means: `\s` is a space, `\\` a backslash, any other character itself;
+/// `None` for other words.
 pub(crate) fn char_of(word: &str) -> Option<char>
     ensures { result ≡ char_of word.now }
 {
@@ -138,7 +138,7 @@ fn meant(c: char) -> Option<char>
     }
 }
 
-// What the first character behind a backslash stands for, and the text behind it.
+// What the first character after a backslash means, and the text after it.
 fn escaped(text: &str) -> Option<(char, &str)>
     ensures read { option_map (λ read. (read.0, read.1.now)) result ≡ escaped_of text.now }
     ensures ascii { IfSome result (λ read. read.0 < 128) }
@@ -148,8 +148,8 @@ fn escaped(text: &str) -> Option<(char, &str)>
     Some((meant, chars.as_str()))
 }
 
-/// The text that `written` stands for: `\n` is a line feed, `\r` a carriage return, `\\` a
-/// backslash; `None` where another backslash stands in it.
+/// The text that `written` means: `\n` is a line feed, `\r` a carriage return, `\\` a backslash;
+/// `None` if it has any other backslash.
 pub(crate) fn text_of<A: Allocator>(
     alloc: A,
     written: &str,

@@ -1,5 +1,5 @@
-//! Worked scripts, each stated beside the answer to it. The functions do nothing: what they promise is that the
-//! definitions give the texts that stand here.
+//! Worked scripts, each beside what `pgshow` prints for it. The functions do nothing: their
+//! contracts say that the definitions give the texts written here.
 #![tactic(auto, unfolding(crate::proofs::Computing::answer_words))]
 
 ghost use Rattle.std.specs.Prelude.{◌≡◌, ◌++◌, ◌∷◌, ℕ, List, [], Err, Ok, codes};
@@ -7,7 +7,7 @@ ghost use Rattle.pg_picture.specs.declared.fits.Misfit.TheVariants.{Room};
 ghost use Rattle.pg_show.specs.Program.{answer_to};
 ghost use Rattle.pg_show.specs.declared.fault.Fault.TheVariants.{Bad, Misfit, Usage};
 
-/// The answer to a script is its picture, and a line feed behind it.
+/// A script prints its picture and a line feed.
 ///
 /// ```text
 /// +-+--+
@@ -28,8 +28,9 @@ pub fn a_script_is_answered_by_its_picture()
     ensures no_mode { answer_to [] (codes "size 1") ≡ Err Usage }
 {}
 
-/// A compact table takes what is told of all cells, and the first line of each text. A table at its natural sizes
-/// takes no widths and no borders, either. Neither takes heights, spans and trims, nor what is told of one row.
+/// A compact table uses the settings for all cells, and the first line of each text. A table at its
+/// natural sizes uses no widths and no borders, either. Neither uses heights, spans, trims, or
+/// settings of one row.
 ///
 /// ```text
 /// compact    table

@@ -23,7 +23,7 @@ pub enum Fault {
     Bad(usize),
     /// The table doesn't fit.
     Misfit(Misfit),
-    /// Memory was refused.
+    /// Out of memory.
     Memory,
     /// A read failed, or there were too many.
     Read,
@@ -62,8 +62,8 @@ impl From<PrintFault> for Fault {
 }
 
 impl Fault {
-    /// Why the program's arguments couldn't be read: memory was refused, or they are wrong ones, as
-    /// one that is no text.
+    /// Why the program's arguments couldn't be read: out of memory, or they are wrong, such as one
+    /// that isn't text.
     pub fn of_arguments(error: &io::Error) -> Fault
         ensures memory { error_kind error.now ≡ ErrorKind.OutOfMemory → result ≡ Fault.Memory }
         ensures wrong { error_kind error.now ≢ ErrorKind.OutOfMemory → result ≡ Fault.Usage }
@@ -74,7 +74,7 @@ impl Fault {
         }
     }
 
-    /// The exit status that tells of it.
+    /// The fault's exit status.
     pub fn status(self) -> u8
         ensures { result ≡ status_of self }
     {
@@ -86,7 +86,7 @@ impl Fault {
         }
     }
 
-    /// Writes the line that tells of it. An error is the writer's.
+    /// Writes the fault's line. An error is the writer's.
     pub fn tell<W: Write>(self, err: &mut W) -> io::Result<()>
         ensures { OnOk result (Appends (W.contents err.old) (W.contents err.new) (line_of self)) }
     {
@@ -95,7 +95,7 @@ impl Fault {
     }
 }
 
-/// Writes the words of the line that tells of it.
+/// Writes the words of the fault's line.
 impl fmt::Display for Fault {
     ghost output = { λ fault. Some (fault_text fault) };
 

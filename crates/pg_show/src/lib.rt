@@ -1,4 +1,4 @@
-//! Scripts to tables: how the table of a script is printed, and what the program `pgshow` answers.
+//! Scripts to tables: how the table of a script is printed, and what the program `pgshow` does.
 #![tactic(auto)]
 
 pub mod examples;

@@ -8,7 +8,7 @@ ghost use Rattle.pg_show.specs.Mode.{mode_named, mode_of};
 pub enum Mode {
     /// The printer of compact tables.
     Compact,
-    /// The printer that reads its rows once, one by one. The number of rows is told to it.
+    /// The printer that reads its rows once, one by one. It gets the number of rows.
     Iter,
     /// The printer that looks texts up.
     Peek,
@@ -17,7 +17,7 @@ pub enum Mode {
 }
 
 impl Mode {
-    /// The mode of this name, or `None` where there is none.
+    /// The mode of this name, or `None` if there is none.
     pub fn from_name(name: &str) -> Option<Mode>
         ensures { result ≡ mode_named name.now }
     {
@@ -30,7 +30,7 @@ impl Mode {
         }
     }
 
-    /// The mode that the program's arguments name, or `None` where they are anything but one name.
+    /// The mode that the program's arguments name, or `None` unless they are exactly one name.
     pub fn from_words(words: &[String]) -> Option<Mode>
         ensures { result ≡ mode_of (map string_bytes words.now) }
     {

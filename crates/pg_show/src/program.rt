@@ -14,8 +14,8 @@ use pg_script::{Script, parse_script};
 use std::alloc::Allocator;
 use std::io::{Read, Write};
 
-/// The most reads within which the end of a script is met. Each of them gives a byte at least, so
-/// that a script of fewer bytes is read whole.
+/// The most reads of a script. Each gives at least one byte, so a script of fewer bytes is read
+/// whole.
 const MOST_READS: u32 = 16_777_216;
 
 /// How a run of the program ended.
@@ -23,12 +23,12 @@ const MOST_READS: u32 = 16_777_216;
 pub struct Ending {
     /// Why no table was printed, or `None` where one was.
     pub fault: Option<Fault>,
-    /// Whether the line that tells of the fault was written; true without a fault, which has none.
+    /// Whether the fault's line was written; true without a fault, which has none.
     pub is_told: bool,
 }
 
 impl Ending {
-    /// Tells of a fault, and ends with it.
+    /// Reports a fault, and ends with it.
     pub fn with_fault<W: Write>(fault: Fault, err: &mut W) -> Ending
         ensures fault { result.fault ≡ Some fault }
         ensures told { result.is_told ≡ true → Appends (W.contents err.old) (W.contents err.new) (line_of fault) }
@@ -39,7 +39,7 @@ impl Ending {
         }
     }
 
-    /// The exit status: 0 where a table was printed.
+    /// The exit status: 0 if a table was printed.
     pub fn status(&self) -> u8
         ensures { result ≡ status_after self.now.fault }
     {
@@ -50,8 +50,8 @@ impl Ending {
     }
 }
 
-// All that the input gives, or `None` where there were too many reads. Memory is wanted only behind a
-// byte that was read.
+// All that the input gives, or `None` after too many reads. Memory is requested only after a byte
+// was read.
 fn read_whole<A: Allocator, R: Read>(alloc: A, input: &mut R) -> Result<Option<Vec<u8, A>>, Fault>
     ensures whole { IfOk result (λ read. IfSome read (λ bytes. IfSome (R.remaining input.old) (λ script. bytes.items ≡ script))) }
     ensures endless { result ≡ Ok None → IfSome (R.remaining input.old) (λ script. 2 ^ 24 ≤ length script) }
@@ -84,7 +84,7 @@ fn text_of_table<A: Allocator + Copy>(
     Ok(text)
 }
 
-// The text of the table that these bytes tell of, and a line feed.
+// The text of the table that these bytes describe, and a line feed.
 fn text_of_script<A: Allocator + Copy>(
     alloc: A,
     bytes: &[u8],
@@ -94,13 +94,13 @@ fn text_of_script<A: Allocator + Copy>(
 {
     let script = parse_script(alloc, bytes)?;
     let text = text_of_table(alloc, &script, mode);
-    // The memory of the script goes back before the text is written.
+    // The script's memory is freed before the text is written.
     drop(script);
     text
 }
 
-// The text of the table that the input tells of, and a line feed. `Read` says that the input wasn't
-// read to its end.
+// The text of the table that the input describes, and a line feed. `Read` means that the input
+// wasn't read to its end.
 fn table_text<A: Allocator + Copy, R: Read>(
     alloc: A,
     mode: Mode,
@@ -139,14 +139,14 @@ fn show<A: Allocator + Copy, R: Read, W: Write>(
     write_text(text.as_str(), out)
 }
 
-/// Runs the program: shows the table of a script, or tells of the fault why there is none.
+/// Runs the program: prints the table of a script, or reports why there is none.
 ///
-/// `words` are the program's arguments. A script is read from `input`, and the text of its table and
-/// a line feed are written to `out`. Each fault is one line on `err`, and nothing is written to `out`
-/// save by a write that fails. Wrong arguments are told before anything is read.
+/// `words` are the program's arguments. A script is read from `input`; the text of its table and a
+/// line feed are written to `out`. Each fault is one line on `err`, and nothing is then written to
+/// `out`, unless a write failed midway. Wrong arguments are reported before anything is read.
 ///
-/// The exit status is that of the right answer, unless memory, a read or a write failed, and it is the
-/// same where the fault's line couldn't be written.
+/// The exit status is that of the right result, unless memory, a read or a write failed. It is the
+/// same if the fault's line couldn't be written.
 pub fn run<A: Allocator + Copy, R: Read, W1: Write, W2: Write>(
     alloc: A,
     words: &[String],

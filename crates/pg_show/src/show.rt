@@ -17,13 +17,13 @@ use pg_script::Script;
 use pg_table::{NaturalTable, TableFault};
 use std::alloc::Allocator;
 
-/// Appends the table of a script, as the printer of the mode prints it.
+/// Appends the table of a script, as the mode's printer draws it.
 ///
-/// A table that doesn't fit is refused, also where memory is, and the buffer stays as it was.
-/// Where memory is refused the buffer has gained a beginning of the table's text. `alloc` gives the
-/// memory that a printer keeps cells in, or the sizes of columns and rows; only [`Mode::Iter`] and
-/// [`Mode::Table`] take any. A table with no rows or no columns is never refused, and the buffer stays
-/// as it was.
+/// A table that doesn't fit is refused, even if memory is refused too, and the buffer is unchanged.
+/// After out of memory the buffer has gained a beginning of the table's text. `alloc` provides the
+/// memory for the cells that a printer keeps, or for the sizes of columns and rows; only
+/// [`Mode::Iter`] and [`Mode::Table`] use it. A table with no rows or no columns is never refused,
+/// and leaves the buffer unchanged.
 pub fn print_script<C: Allocator + Copy, A: Allocator, B: Allocator>(
     alloc: C,
     script: &Script<A>,
@@ -98,7 +98,7 @@ fn print_natural<C: Allocator + Copy, A: Allocator, B: Allocator>(
     }
 }
 
-// The fault of a script's table at its natural sizes. The rows of a script are of one length.
+// The fault of a script's table at its natural sizes. All rows of a script have one length.
 fn fault_of_table(fault: TableFault) -> PrintFault
     ensures { result ≡ fault_of_table fault }
 {
@@ -109,7 +109,7 @@ fn fault_of_table(fault: TableFault) -> PrintFault
     }
 }
 
-// What a table at its natural sizes is told. Takes no memory.
+// The settings of a table at its natural sizes. Allocates nothing.
 fn natural_config<C: Allocator + Copy, A: Allocator>(
     alloc: C,
     told: &SpannedConfig<A>,
