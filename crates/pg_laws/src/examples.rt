@@ -1,5 +1,5 @@
-//! Worked tables, each stated beside its picture. The functions do nothing: what they promise is that the
-//! definitions give the pictures that are drawn here.
+//! Worked tables, each beside its picture. The functions do nothing: their contracts say that the
+//! definitions give the pictures drawn here.
 
 ghost use Rattle.std.specs.Prelude.{◌≡◌, ◌++◌, ◌∷◌, ℕ, List, None, Option, Some, [], codes, true};
 ghost use Rattle.pg_layout.specs.declared.alignment.AlignmentHorizontal.TheVariants as across;
@@ -43,7 +43,7 @@ pub fn a_bordered_table()
         ≡ joined (codes "+---+---+" ∷ codes "|0-0|0-1|" ∷ codes "+---+---+" ∷ codes "|1-0|1-1|" ∷ codes "+---+---+" ∷ []) }
 {}
 
-/// The cell (0, 0) spans both rows, and its text stands in the middle of its four lines: on the separator.
+/// The cell (0, 0) spans both rows. Its text is in the middle of its four lines: on the separator.
 ///
 /// ```text
 /// +---+---+
@@ -60,8 +60,8 @@ pub fn a_text_on_a_separator()
         ≡ joined (codes "+---+---+" ∷ codes "|   |0-1|" ∷ codes "+0-0+---+" ∷ codes "|   |1-1|" ∷ codes "|   |   |" ∷ codes "+---+---+" ∷ []) }
 {}
 
-/// The cell (0, 0) spans two rows, with paddings of 4 at its sides and of 1 above and below it. The cell
-/// (1, 1) spans three columns. All texts stand in the middle of their heights.
+/// The cell (0, 0) spans two rows, with paddings of 4 at its sides and of 1 above and below it. The
+/// cell (1, 1) spans three columns. All texts are centred vertically.
 ///
 /// ```text
 /// +-----------------+------------+----------------+-+
@@ -78,7 +78,8 @@ pub fn a_table_with_spans_and_paddings()
         ≡ joined (codes "+-----------------+------------+----------------+-+" ∷ codes "|                 |is a library|for print tables|!|" ∷ codes "+    Papergrid    +------------+----------------+-+" ∷ codes "|                 |Just like this                 |" ∷ codes "+-----------------+------------+----------------+-+" ∷ []) }
 {}
 
-/// The cell (1, 1) spans two rows and two columns. A line of its text stands on the separator that it hides.
+/// The cell (1, 1) spans two rows and two columns. A line of its text is on the separator that it
+/// hides.
 ///
 /// ```text
 /// +---+---+---+---+
@@ -101,8 +102,8 @@ pub fn a_rectangle_inside_a_table()
         ≡ joined (codes "+---+---+---+---+" ∷ codes "|0-0|0-1|0-2|0-3|" ∷ codes "+---+---+---+---+" ∷ codes "|1-0|  123  |1-3|" ∷ codes "|   |  345  |   |" ∷ codes "+---+  555  +---+" ∷ codes "|2-0|  333  |2-3|" ∷ codes "+---+---+---+---+" ∷ codes "|3-0|3-1|3-2|3-3|" ∷ codes "+---+---+---+---+" ∷ []) }
 {}
 
-/// The first column is one cell of three rows, and the second row has height 0. Its separator stands, and so
-/// does the one below it.
+/// The first column is one cell of three rows, and the second row has height 0. Its separator is
+/// drawn, and so is the one below it.
 ///
 /// ```text
 /// +-+-+
@@ -120,7 +121,8 @@ pub fn a_row_span_through_a_row_of_height_0()
         ≡ joined (codes "+-+-+" ∷ codes "|x|a|" ∷ codes "+ +-+" ∷ codes "+ +-+" ∷ codes "| |c|" ∷ codes "+-+-+" ∷ []) }
 {}
 
-/// A column span hides the verticals inside it, and no crossing of the separators. Two columns have width 0.
+/// A column span hides the verticals inside it, but no crossing of the separators. Two columns have
+/// width 0.
 ///
 /// ```text
 /// +-+++---+
@@ -150,7 +152,8 @@ pub fn a_border_round_one_cell()
         ≡ joined (codes "+---~***!" ∷ codes "|0-0@0-1#" ∷ codes "+---%^^^&" ∷ codes "|1-0|1-1|" ∷ codes "+---+---+" ∷ []) }
 {}
 
-/// The lines of the text are one space, `  ab `, and two empty ones. Under both trims `ab` is left of them.
+/// The lines of the text are one space, `  ab `, and two empty ones. Under both trims only `ab` is
+/// left.
 ///
 /// ```text
 /// |    |
@@ -166,7 +169,8 @@ pub fn trims_at_the_bottom_right()
         ≡ joined (codes "    " ∷ codes "    " ∷ codes "  ab" ∷ []) }
 {}
 
-/// A blank text shows no line under vertical trim. In the middle of three lines one is above it, and two below.
+/// A blank text shows no line under vertical trim. Centred in three lines it has one above it, and
+/// two below.
 ///
 /// ```text
 /// tt
@@ -180,7 +184,7 @@ pub fn a_blank_text_under_vertical_trim()
         ≡ joined (codes "tt" ∷ codes "bb" ∷ codes "bb" ∷ []) }
 {}
 
-/// The lines of a text at the right, aligned by the widest of them, and each by its own width.
+/// The lines of a right-aligned text: aligned by the widest of them, and each by its own width.
 ///
 /// ```text
 /// |  a  |   |    a|
@@ -196,7 +200,7 @@ pub fn lines_aligned_together_and_one_by_one()
         ≡ joined (codes "    a" ∷ codes "  bbb" ∷ []) }
 {}
 
-/// Dots in a colour fill what a centred text leaves free: one fill at its left, and one at its right.
+/// Coloured dots fill what a centred text leaves free: one fill at its left, and one at its right.
 ///
 /// ```text
 /// <g>.</g>a<g>...</g>
@@ -209,7 +213,7 @@ pub fn coloured_justification()
         ≡ joined (codes "<g>.</g>a<g>...</g>" ∷ codes "<g>.</g>bbb<g>.</g>" ∷ []) }
 {}
 
-/// A colour stands round an empty text too.
+/// A colour surrounds an empty text too.
 ///
 /// ```text
 /// |<r></r> |
@@ -222,7 +226,7 @@ pub fn a_colour_round_an_empty_text()
         picture Known (record t { color = λ p. Some color_r }) ≡ codes "<r></r> " }
 {}
 
-/// The inner separators are coloured. The rectangle from above stands in no colour.
+/// The inner separators are coloured. The rectangle from above has no colour.
 ///
 /// ```text
 /// +-+-+
@@ -239,8 +243,8 @@ pub fn a_coloured_separator_behind_a_rectangle()
         ≡ joined (codes "+-+-+" ∷ codes "|x|a|" ∷ codes "<r>+</r> <r>+-+</r>" ∷ codes "| |b|" ∷ codes "+-+-+" ∷ []) }
 {}
 
-/// The cell (0, 0) has a coloured line above it. Beside it stand spaces in the open colour where no glyph is
-/// missing, and else the missing glyph in no colour.
+/// The cell (0, 0) has a coloured line above it. Beside it are spaces in the open colour if the
+/// missing glyph is none, else the missing glyph without a colour.
 ///
 /// ```text
 /// |<r>==  </r>|   |<r>==</r>  |
@@ -275,7 +279,7 @@ pub fn an_offset_glyph_in_its_colour()
         ≡ joined (codes "<r>+-</r><b>*</b><r>-+</r>" ∷ codes "|abc|" ∷ codes "+---+" ∷ []) }
 {}
 
-/// A left margin that begins after the first line. It doesn't ask how many lines there are.
+/// A left margin that begins after the first line. It doesn't depend on the number of lines.
 ///
 /// ```text
 ///  +--+
@@ -294,7 +298,7 @@ pub fn a_margin_from_the_start()
         ≡ joined (codes " +--+" ∷ codes "#|ab|" ∷ codes "#+--+" ∷ []) }
 {}
 
-/// A left margin that ends before the last line, and goes on where the number of lines is unknown.
+/// A left margin that ends before the last line, and is whole if the number of lines is unknown.
 ///
 /// ```text
 /// known    unknown
@@ -364,7 +368,8 @@ pub fn an_inner_separator_of_a_compact_table()
         ≡ joined (codes "+-+" ∷ codes "|a|" ∷ codes "|-|" ∷ codes "|b|" ∷ codes "+-+" ∷ []) }
 {}
 
-/// In a compact table the colour of a corner goes on to the end of its line, where no other part is coloured.
+/// In a compact table the colour of a corner continues to the end of its line if no other part is
+/// coloured.
 ///
 /// ```text
 /// <r>+-+-+</r>
@@ -378,21 +383,23 @@ pub fn a_coloured_corner_of_a_compact_table()
         ≡ joined (codes "<r>+-+-+</r>" ∷ codes "ab" ∷ []) }
 {}
 
-/// Two cells of one row that span two columns each don't fit, though the widths are too great as well.
+/// Overlapping spans are reported before a total: the widths are too great as well.
 #[tactic(auto, unfolding(crate::proofs::Computing::sample_words))]
 pub fn spans_that_overlap()
     ensures { misfit_of (table (record plain { spans = with_column_span (at 0 1) 2 (with_column_span (at 0 0) 2 []) }) 1 3 (18446744073709551615 ∷ 1 ∷ []) (1 ∷ []) [])
         ≡ Some Spans }
 {}
 
-/// Two widths whose sum is no number of 64 bits don't fit, though the second cell has no room as well.
+/// A total is reported before missing room: the sum of the widths isn't below 2^64, and the second
+/// cell has no room.
 #[tactic(auto, unfolding(crate::proofs::Computing::sample_words))]
 pub fn widths_past_the_greatest_number()
     ensures { misfit_of (table plain 1 2 (18446744073709551615 ∷ 1 ∷ []) (1 ∷ []) ((codes "a" ∷ codes "bc" ∷ []) ∷ []))
         ≡ Some Totals }
 {}
 
-/// A text of two columns doesn't fit into one, and the answer names its cell. Where it has no line, it fits.
+/// A text of two columns doesn't fit in one, and the misfit names its cell. If its row has no line,
+/// it fits.
 #[tactic(auto, unfolding(crate::proofs::Computing::sample_words))]
 pub fn a_text_without_room()
     ensures one_line { misfit_of (table plain 2 1 (1 ∷ []) (1 ∷ 1 ∷ []) (([] ∷ []) ∷ (codes "ab" ∷ []) ∷ []))

@@ -1,5 +1,5 @@
 //! Laws of configurations, of pictures and of grids, and worked examples. The functions do nothing,
-//! but for those of `setters`, which call what they speak of: their contracts are what holds.
+//! except for those of `setters`, which call what they are about: their contracts are the laws.
 #![tactic(auto)]
 
 pub mod examples;

@@ -1,5 +1,5 @@
-//! The looks of tables, each stated beside the picture of one small table. The functions do nothing, as those of
-//! [`crate::examples`].
+//! The looks of tables, each beside the picture of one small table. The functions do nothing, like
+//! those of [`crate::examples`].
 
 ghost use Rattle.std.specs.Prelude.{◌≡◌, ◌∷◌, [], codes};
 ghost use Rattle.pg_layout.specs.Looks.{ascii, blank, dots, extended, markdown, markdown_line, modern, psql, psql_line, rounded, sharp, sharp_line};

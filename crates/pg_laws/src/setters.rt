@@ -1,5 +1,5 @@
-//! What the setters of a configuration make of it, each as `after` says. Each function calls setters
-//! of one kind, one after another, and its contract names what is then told.
+//! What the setters of a configuration change, each as `after` says. Each function calls setters of
+//! one kind, one after another, and its contract names the settings that result.
 
 ghost use Rattle.std.specs.Prelude.{◌≡◌, ◌∷◌, [], OnOk};
 ghost use Rattle.std.specs.List.{fold};
@@ -66,7 +66,7 @@ pub fn justifications_are_told<A: Allocator + Clone>(
     config.set_justification_color(entity, color)
 }
 
-/// The glyphs of all borders, and the one for where a glyph is missing.
+/// The glyphs of all borders, and the missing glyph.
 pub fn borders_are_told<A: Allocator>(
     config: &mut SpannedConfig<A>,
     borders: Borders<char>,

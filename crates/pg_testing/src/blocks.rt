@@ -1,26 +1,26 @@
-//! Blocks: lines that are followed once for each of several values.
+//! Blocks: lines that are repeated, once for each of several values.
 
 use std::alloc::{AllocError, Global};
 
-/// What stands in a block for the parts of a value.
+/// The marks in a block for the parts of a value.
 const MARKS: [&str; 6] = ["$1", "$2", "$3", "$4", "$5", "$6"];
 
-/// A line as it is followed, and its number in the input, counted from 1.
+/// A line to be followed, and its number in the input, counted from 1.
 pub type NumberedLine = (usize, String);
 
-/// Lines as they are followed, and the block that is read.
+/// The lines to be followed, and the block that is being read.
 #[derive(Drop)]
 struct Unfolding<'a> {
     alloc: Global,
-    // What a block is followed for.
+    // The values for which a block is repeated.
     values: Vec<String>,
-    // The lines of the block that is read, without their stars.
+    // The lines of the block that is being read, without their stars.
     block: Vec<(usize, &'a str)>,
     lines: Vec<NumberedLine>,
 }
 
 impl<'a> Unfolding<'a> {
-    // No lines. A block is followed once.
+    // No lines. A block comes once.
     fn new(alloc: Global) -> Result<Unfolding<'a>, AllocError> {
         Ok(Unfolding {
             alloc,
@@ -46,7 +46,7 @@ impl<'a> Unfolding<'a> {
         }
     }
 
-    // Has the next blocks followed for each of these values.
+    // Repeats the next blocks for each of these values.
     fn set_values(&mut self, values: &str) -> Result<(), AllocError> {
         self.values.clear();
         for value in values.split("; ") {
@@ -55,7 +55,7 @@ impl<'a> Unfolding<'a> {
         Ok(())
     }
 
-    // Has the next blocks followed for each value together with each of these.
+    // Repeats the next blocks for each value together with each of these.
     fn cross_values(&mut self, values: &str) -> Result<(), AllocError> {
         let mut crossed = Vec::new(self.alloc);
         for value in &self.values {
@@ -65,7 +65,7 @@ impl<'a> Unfolding<'a> {
         Ok(())
     }
 
-    // Has the next blocks followed so often.
+    // Repeats the next blocks so often.
     fn set_count(&mut self, count: usize) -> Result<(), AllocError> {
         self.values.clear();
         for _ in 0..count {
@@ -84,7 +84,7 @@ impl<'a> Unfolding<'a> {
     }
 }
 
-// Adds a value together with each of these, whose parts stand behind its own.
+// Adds a value together with each of these, whose parts come after its own.
 fn push_crossed(
     alloc: Global,
     crossed: &mut Vec<String>,
@@ -125,7 +125,7 @@ fn push_line(
     Ok(())
 }
 
-/// The lines of an input as they are followed: those of a block once for each value.
+/// The lines of an input to be followed: those of a block once for each value.
 pub(crate) fn unfold(alloc: Global, lines: &[String]) -> Result<Vec<NumberedLine>, AllocError> {
     let mut unfolding = Unfolding::new(alloc)?;
     for (i, line) in lines.iter().enumerate() {

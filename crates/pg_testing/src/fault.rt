@@ -7,7 +7,7 @@ use std::alloc::{AllocError, AllocFailed};
 pub enum LineFault {
     /// It has too few, too many or unknown words.
     Unknown,
-    /// Memory was refused.
+    /// Out of memory.
     Memory,
 }
 

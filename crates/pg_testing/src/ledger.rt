@@ -1,4 +1,4 @@
-//! Which calls fail, and how many came.
+//! Which calls fail, and how many were made.
 
 ghost use Rattle.std.specs.Prelude.{◌≡◌, ◌+◌, ◌-◌, ◌^◌, ◌||◌, min};
 ghost use Rattle.pg_testing.specs.Ledger.{fails_next, before_calls, after_call};
@@ -14,12 +14,12 @@ pub enum Rule {
     Only(u64),
 }
 
-/// A rule, and what is known of the calls that came.
+/// A rule, and what is known of the calls so far.
 #[derive(Debug, Clone, Copy, PartialEq, Eq)]
 pub struct Ledger {
     /// Which calls fail.
     pub rule: Rule,
-    /// How many calls came. The count stops at `u64::MAX`.
+    /// How many calls were made. The count stops at `u64::MAX`.
     pub calls: u64,
     /// Whether one of them failed.
     pub has_failed: bool,
@@ -48,7 +48,7 @@ impl Ledger {
         }
     }
 
-    /// The ledger once one more call came.
+    /// The ledger after one more call.
     pub fn after_call(self) -> Ledger
         ensures { result ≡ after_call self }
     {

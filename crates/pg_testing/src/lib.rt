@@ -1,10 +1,11 @@
-//! What tests and programs of cases need: memory that is refused, streams that fail, files of cases, settings as
-//! lines of words, and a report.
+//! What tests and programs of cases need: an allocator that refuses memory, readers and writers
+//! that fail, files of cases, settings as lines of words, and a report.
 //!
-//! [`ledger`] says which calls fail, [`refusing`] has the allocator, [`streams`] the readers and the writer, and
-//! [`trial`] the loop over all failures of a call; [`repeated`] is an iterator that knows little of itself, and
-//! [`unhinted`] are records that don't tell their rows. [`lines`] reads a file of sections, [`settings`] applies a
-//! line to a configuration, and [`report`] counts what is compared.
+//! [`ledger`] says which calls fail, [`refusing`] has the allocator, [`streams`] the readers and
+//! the writer, and [`trial`] the loop over all failures of a call; [`repeated`] is an iterator that
+//! knows little of itself, and [`unhinted`] are records that don't give their number of rows.
+//! [`lines`] reads a file of sections, [`settings`] applies a line to a configuration, and
+//! [`report`] counts what is compared.
 #![tactic(auto)]
 
 mod blocks;

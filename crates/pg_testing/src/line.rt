@@ -10,7 +10,7 @@ pub enum Line<'a> {
     Comment,
     /// A section of this name begins, as `: name` says.
     Section(&'a str),
-    /// Another way to do what the section is about begins, as `or` says.
+    /// Another way of doing the same begins, as `or` says.
     Way,
     /// A row of texts, as `|a|b|`, here without its first bar.
     Row(&'a str),
@@ -37,7 +37,7 @@ impl<'a> Line<'a> {
     }
 }
 
-/// The texts of a row, which has a bar behind each of them.
+/// The texts of a row, which has a bar after each of them.
 pub fn texts_of_row(alloc: Global, row: &str) -> Result<Vec<&str>, LineFault> {
     if row.is_empty() {
         return Ok(Vec::new(alloc));

@@ -1,14 +1,15 @@
 //! The lines of a file of cases.
 //!
-//! In each line `␊` is a line feed, `␍` a carriage return, `␛` an escape and `␣` a space; `⟨ab×3⟩` is `ababab`, and
-//! `⟨9b⟩` the character U+009B. A block of lines is followed once for each of several values:
+//! In each line `␊` is a line feed, `␍` a carriage return, `␛` an escape and `␣` a space; `⟨ab×3⟩`
+//! is `ababab`, and `⟨9b⟩` the character U+009B. A block of lines is followed once for each of
+//! several values:
 //!
-//! - `* LINE` is a line of a block. The lines of a block are together, and another line, also an empty one, ends
-//!   it. It is followed once for each value that the last line `each` names. `; ` parts values, and `, ` the parts
-//!   of a value, for which `$1` to `$6` are written in the block.
-//! - `cross 0; 1` has the next blocks followed for each value together with each of these, whose parts are behind
-//!   those that it had.
-//! - `repeat 1000` has the next blocks followed a thousand times.
+//! - `* LINE` is a line of a block. The lines of a block are together; any other line, even an
+//!   empty one, ends it. It is followed once for each value that the latest line `each` names. `; `
+//!   separates values, and `, ` the parts of a value, which replace `$1` to `$6` in the block.
+//! - `cross 0; 1` repeats the next blocks for each value together with each of these, whose parts
+//!   come after those of the value.
+//! - `repeat 1000` repeats the next blocks a thousand times.
 
 pub use crate::blocks::NumberedLine;
 use crate::blocks::unfold;
@@ -26,7 +27,7 @@ fn meant(c: char) -> char {
     }
 }
 
-// Appends what is in brackets: a text as often as it says, or the character of a number.
+// Appends what is in brackets: a text, repeated as often as it says, or the character of a number.
 fn push_bracket(text: &mut String, inner: &str) -> Result<(), AllocError> {
     if let Some((again, count)) = inner.split_once('×') {
         for _ in 0..count.parse::<usize>().unwrap_or(0) {
@@ -43,7 +44,7 @@ fn push_bracket(text: &mut String, inner: &str) -> Result<(), AllocError> {
     }
 }
 
-// A line with what its brackets stand for.
+// A line with the meaning of its brackets in place of them.
 fn without_brackets(alloc: Global, line: &str) -> Result<String, AllocError> {
     let mut text = String::new(alloc);
     for part in line.split('⟩') {
@@ -63,7 +64,7 @@ fn meaning(alloc: Global, line: &str) -> Result<String, AllocError> {
     without_brackets(alloc, &text)
 }
 
-/// The lines of an input as they are followed: those of a block once for each value.
+/// The lines of an input to be followed: those of a block once for each value.
 pub fn read_lines<R: Read + Drop>(alloc: Global, input: R) -> io::Result<Vec<NumberedLine>> {
     let text = io::read_to_string(alloc, input)?;
     let mut lines = Vec::new(alloc);

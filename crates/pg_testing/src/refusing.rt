@@ -4,36 +4,36 @@ use crate::ledger::{Ledger, Rule};
 use std::alloc::{AllocError, Allocator};
 use std::cell::Cell;
 
-/// An allocator over another one, which refuses requests for memory by a rule.
+/// An allocator over another one that refuses requests for memory by a rule.
 ///
 /// A request is one call of `allocate`. A `Vec` or a `String` makes one each time that it grows,
-/// and none where it has room; a `Box` makes one. Giving memory back is no request. Requests are
+/// and none while it has room; a `Box` makes one. Freeing memory is no request. Requests are
 /// numbered from 0.
 ///
-/// It is lent: a `&Refusing` is itself an allocator and `Copy`, as in `String::new(&memory)`. All
-/// that is made with one `&memory` is counted together.
+/// It is lent: a `&Refusing` is itself an allocator and `Copy`, as in `String::new(&memory)`. The
+/// requests of all that is made with one `&memory` are counted together.
 ///
 /// To refuse each request in turn, run the same work with `k` = 0, 1, 2 and so on, until
-/// [`has_refused`](Refusing::has_refused) answers `false` after it: then no request came as late
-/// as that, and each was refused once. Work that changes nothing where it is refused can be run
-/// again and again with one allocator ([`refuse_only`](Refusing::refuse_only)).
+/// [`has_refused`](Refusing::has_refused) returns `false` afterwards: then there was no request of
+/// this number, and each was refused once. Work that changes nothing when it is refused can be
+/// repeated with one allocator ([`refuse_only`](Refusing::refuse_only)).
 pub struct Refusing<B: Allocator> {
     inner: B,
     ledger: Cell<Ledger>,
 }
 
 impl<B: Allocator> Refusing<B> {
-    /// Refuses every request from the `k`-th on: at 0 all of them.
+    /// Refuses every request from the `k`-th on; 0 refuses all.
     pub fn from_on(inner: B, k: u64) -> Refusing<B> {
         Refusing::by_rule(inner, Rule::FromOn(k))
     }
 
-    /// Refuses the `k`-th request alone: the ones before it and after it are passed on.
+    /// Refuses only the `k`-th request, and passes on those before and after it.
     pub fn only(inner: B, k: u64) -> Refusing<B> {
         Refusing::by_rule(inner, Rule::Only(k))
     }
 
-    /// From now on refuses the `k`-th of the requests to come alone; counts anew from 0.
+    /// From now on refuses only the `k`-th of the requests to come; counts anew from 0.
     pub fn refuse_only(&self, k: u64) {
         self.ledger.set(Ledger::new(Rule::Only(k)));
     }
@@ -45,7 +45,7 @@ impl<B: Allocator> Refusing<B> {
         }
     }
 
-    /// How many requests came so far, refused ones among them. The count stops at `u64::MAX`.
+    /// How many requests were made so far, refused ones included. The count stops at `u64::MAX`.
     pub fn requests(&self) -> u64 {
         self.ledger.get().calls
     }
@@ -65,8 +65,8 @@ impl<B: Allocator> Drop for Refusing<B> {
     }
 }
 
-// Counts a request, and says whether it is granted. No contract can say what a cell holds, so what
-// the rule means is said at `Ledger`.
+// Counts a request, and returns whether it is granted. No contract can say what a cell holds, so
+// `Ledger` says what the rule means.
 fn granted(ledger: &Cell<Ledger>) -> bool {
     let before = ledger.get();
     ledger.set(before.after_call());

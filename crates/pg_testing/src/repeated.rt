@@ -5,8 +5,8 @@ ghost use Rattle.std.specs.Iterator.{at_most};
 
 /// An item that is given a number of times.
 ///
-/// It tells no more about its length than an iterator must: its size hint is `(0, None)`. What
-/// stands for rows that come from somewhere else and whose number nobody knows.
+/// It says no more about its length than an iterator must: its size hint is `(0, None)`. It takes
+/// the place of rows from elsewhere whose number nobody knows.
 ///
 /// ```text
 /// let mut rows = Repeated::new(["a", "b"], 2);
@@ -18,7 +18,7 @@ ghost use Rattle.std.specs.Iterator.{at_most};
 pub struct Repeated<T> {
     /// What is given.
     pub item: T,
-    /// How many times it is still given.
+    /// How many times it is still to be given.
     pub left: usize,
 }
 

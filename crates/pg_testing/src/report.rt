@@ -1,15 +1,15 @@
-//! What is counted, and a line for each answer that isn't the expected one.
+//! Counts, and a line for each result that isn't the expected one.
 
 use std::alloc::Global;
 use std::fmt::Debug;
 use std::io::{self, Write};
 
-/// What is counted, and a line for each answer that isn't the expected one.
+/// Counts, and a line for each result that isn't the expected one.
 #[derive(Drop)]
 pub struct Report {
     // How many cases there were.
     cases: u64,
-    // How many answers were compared.
+    // How many results were compared.
     answers: u64,
     // How many lines there are in `lines`.
     faults: u64,
@@ -32,10 +32,10 @@ impl Report {
         self.cases = self.cases.saturating_add(1);
     }
 
-    /// Compares an answer to this call, of the case at this line in this section, with the one that was
-    /// worked out.
+    /// Compares the result of this call, of the case at this line in this section, with the
+    /// expected one, which was worked out.
     ///
-    /// A wrong answer is counted also where its line finds no memory.
+    /// A wrong result is counted even if there is no memory for its line.
     pub fn compare<T: PartialEq + Debug>(
         &mut self,
         (line, section): (usize, &str),
@@ -70,7 +70,7 @@ impl Report {
     }
 
     /// Writes what was wrong, and the counts: of so many cases, which are `tables`, say, that were
-    /// `drawn`. Tells whether nothing was wrong.
+    /// `drawn`. Returns whether nothing was wrong.
     pub fn write<W: Write>(&self, out: &mut W, (tables, drawn): (&str, &str)) -> io::Result<bool> {
         out.write_all(self.lines.as_bytes())?;
         let (cases, answers, faults) = (self.cases, self.answers, self.faults);

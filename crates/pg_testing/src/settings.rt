@@ -44,8 +44,8 @@ use std::alloc::Allocator;
 
 /// Applies the setting of a line, as `padding row 1 2 0 0 0`.
 ///
-/// A line with too few, too many or unknown words is an error, and so is refused memory: the configuration is then
-/// as it was.
+/// A line with too few, too many or unknown words is an error. After an error, also out of memory,
+/// the configuration is unchanged.
 pub fn apply<A: Allocator + Copy>(
     config: &mut SpannedConfig<A>,
     alloc: A,

@@ -17,8 +17,8 @@ use std::marker::Model;
 /// The most bytes that one read gives, or one write takes.
 pub const PIECE: usize = 3;
 
-// Counts a call, and fails it where the rule says so. The kind is none that a caller tries again
-// after.
+// Counts a call, and fails it if the rule says so. No caller tries again after an error of this
+// kind.
 fn count(calls: &mut Ledger) -> io::Result<()>
     ensures fails { IsErr result ↔ (fails_next calls.old ≡ true) }
     ensures kind { IfErr result (λ e. error_kind e ≡ ErrorKind.Other) }
@@ -34,9 +34,9 @@ fn count(calls: &mut Ledger) -> io::Result<()>
 
 /// A reader of lent bytes, in pieces of at most [`PIECE`] bytes, whose reads fail by a rule.
 ///
-/// A read that fails takes no bytes, so a reader that goes on after it gives all of them.
+/// A failed read takes no bytes, so a reader that goes on after it gives all of them.
 ///
-/// Lend it, as `&mut reader`, where its reads are to be counted afterwards.
+/// Lend it, as `&mut reader`, to count its reads afterwards.
 #[derive(Debug, Drop)]
 pub struct FailingReader<'a> {
     left: &'a [u8],
@@ -60,7 +60,7 @@ impl<'a> FailingReader<'a> {
         }
     }
 
-    /// How many reads came so far, failed ones among them. The count stops at `u64::MAX`.
+    /// How many reads were made so far, failed ones included. The count stops at `u64::MAX`.
     pub fn reads(&self) -> u64
         ensures { result ≡ self.now.reads.calls }
     {
@@ -116,10 +116,10 @@ impl Read for EndlessReader {
 /// A writer that keeps what it takes at the end of a lent `Vec`, at most [`PIECE`] bytes a write,
 /// and whose writes fail by a rule.
 ///
-/// A flush is counted as a write. A call that fails keeps nothing. A write also fails where the
-/// `Vec` finds no memory, whatever the rule.
+/// A flush counts as a write. A failed call keeps nothing. A write also fails if the `Vec` gets no
+/// memory, whatever the rule.
 ///
-/// Lend it, as `&mut writer`, where its writes are to be counted afterwards.
+/// Lend it, as `&mut writer`, to count its writes afterwards.
 #[derive(Debug, Drop)]
 pub struct FailingWriter<'a, A: Allocator = Global> {
     held: &'a mut Vec<u8, A>,
@@ -143,7 +143,7 @@ impl<'a, A: Allocator> FailingWriter<'a, A> {
         }
     }
 
-    /// How many writes and flushes came so far, failed ones among them. The count stops at
+    /// How many writes and flushes were made so far, failed ones included. The count stops at
     /// `u64::MAX`.
     pub fn writes(&self) -> u64
         ensures { result ≡ self.now.writes.calls }

@@ -1,12 +1,12 @@
-//! Records that don't tell how many rows there are.
+//! Records that don't give their number of rows.
 
 ghost use Rattle.std.specs.Prelude.{◌≡◌, None};
 
 use pg_layout::{ExactRecords, PeekableRecords, Position, Records};
 
-/// Records that don't tell how many rows there are.
+/// Records that don't give their number of rows.
 ///
-/// Whoever tests whether the table fits may count them, and look at their texts.
+/// A test of whether the table fits may count them, and look at their texts.
 #[derive(Debug, Clone, Copy, Drop)]
 pub struct Unhinted<R> {
     pub(crate) records: R,

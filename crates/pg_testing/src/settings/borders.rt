@@ -17,7 +17,7 @@ pub(crate) fn borders_of(words: Words<'_>) -> Result<Borders<char>, LineFault> {
     with_glyphs(Borders::empty(), words)
 }
 
-/// Sets the glyphs of all borders, or the one that takes the place of a missing glyph.
+/// Sets the glyphs of all borders, or the missing glyph.
 pub(crate) fn set_borders<A: Allocator>(
     config: &mut SpannedConfig<A>,
     name: &str,

@@ -57,8 +57,8 @@ pub(crate) fn set_color<A: Allocator + Copy>(
     set.map_err(LineFault::from)
 }
 
-/// Sets the colour of a cell: its place and what stands before and after its text, as `0 1 <red>|</red>`.
-/// A colour has to be there.
+/// Sets the colour of a cell: its place and what comes before and after its text, as `0 1
+/// <red>|</red>`. The colour can't be none.
 pub fn set_cell_color<A: Allocator + Copy>(
     colors: &mut ColorsMap<A>,
     alloc: A,

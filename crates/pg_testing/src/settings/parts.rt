@@ -1,10 +1,10 @@
-//! What single words stand for.
+//! What single words mean.
 
 use crate::fault::LineFault;
 use pg_layout::{ANSIBuf, Indent};
 use std::alloc::Allocator;
 
-/// The glyph that a word stands for, or `None` for none.
+/// The glyph that a word means, or `None` for none.
 pub(crate) fn glyph_of(word: &str) -> Result<Option<char>, LineFault> {
     match word {
         "none" => Ok(None),
@@ -16,7 +16,7 @@ pub(crate) fn glyph_of(word: &str) -> Result<Option<char>, LineFault> {
     }
 }
 
-/// The colour that a word stands for, or `None` for none.
+/// The colour that a word means, or `None` for none.
 pub(crate) fn color_of<A: Allocator + Copy>(
     alloc: A,
     word: &str,
@@ -30,7 +30,7 @@ pub(crate) fn color_of<A: Allocator + Copy>(
     }
 }
 
-/// What a word says of one side, as `3` or `3:.`.
+/// The size and the fill of one side, as `3` or `3:.`.
 pub(crate) fn indent_of(word: &str) -> Result<Indent, LineFault> {
     let (size, fill) = word.split_once(':').unwrap_or((word, "space"));
     match (size.parse::<usize>(), glyph_of(fill)?) {
@@ -39,7 +39,7 @@ pub(crate) fn indent_of(word: &str) -> Result<Indent, LineFault> {
     }
 }
 
-/// The name of a place and what a word says of it, as `left` and `|` of `left=|`.
+/// The name of a place and its value, as `left` and `|` of `left=|`.
 pub(crate) fn named(word: &str) -> Result<(&str, &str), LineFault> {
     match word.split_once('=') {
         Some(part) => Ok(part),

@@ -9,12 +9,12 @@ use pg_layout::{
 };
 use std::alloc::Allocator;
 
-/// What is left of a line that is read word by word. Words are parted by single spaces.
+/// What is left of a line that is read word by word. Single spaces separate words.
 ///
-/// What ends a line is read by value: a word that is left behind it is an error.
+/// A call that reads the end of a line takes it by value: a word left after it is an error.
 #[derive(Clone, Copy)]
 pub struct Words<'a> {
-    // Nothing is left behind the last word.
+    // `None` after the last word.
     rest: Option<&'a str>,
 }
 
@@ -121,12 +121,12 @@ impl<'a> Words<'a> {
         self.last().and_then(glyph_of)
     }
 
-    /// The last word as a glyph that is there.
+    /// The last word as a glyph, which can't be none.
     pub fn last_fill(self) -> Result<char, LineFault> {
         self.last_glyph()?.ok_or(LineFault::Unknown)
     }
 
-    /// The last four words as what stands at each side.
+    /// The last four words as the sizes and fills of the sides.
     pub fn last_indents(self) -> Result<Sides<Indent>, LineFault> {
         let words = self.last_four()?;
         let (left, right) = (indent_of(words.left)?, indent_of(words.right)?);
@@ -134,7 +134,7 @@ impl<'a> Words<'a> {
         Ok(Sides::new(left, right, top, bottom))
     }
 
-    /// The last word as a colour that is there.
+    /// The last word as a colour, which can't be none.
     pub(crate) fn last_color_there<A: Allocator + Copy>(
         self,
         alloc: A,
@@ -168,7 +168,7 @@ impl<'a> Words<'a> {
         borders_of(self)
     }
 
-    /// The last word as where a text stands between left and right.
+    /// The last word as a horizontal alignment.
     pub fn last_horizontal(self) -> Result<AlignmentHorizontal, LineFault> {
         match self.last()? {
             "left" => Ok(AlignmentHorizontal::Left),
@@ -178,7 +178,7 @@ impl<'a> Words<'a> {
         }
     }
 
-    /// The last word as where a text stands between top and bottom.
+    /// The last word as a vertical alignment.
     pub fn last_vertical(self) -> Result<AlignmentVertical, LineFault> {
         match self.last()? {
             "top" => Ok(AlignmentVertical::Top),
