@@ -1,4 +1,4 @@
-//! Tables printed row by row, of which no more is kept than the cells that go on below.
+//! Tables printed row by row, which keep only the cells that continue below.
 
 pub use pg_stream::{
     LiveStream, OpenCells, RowFault, RowPrinter, RowStream, RowUnshown, RowsFault, SizedStream,

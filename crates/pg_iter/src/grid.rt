@@ -10,8 +10,8 @@ use std::alloc::{AllocError, Allocator};
 /// A table printer over records that are read once, a dimension that gives the sizes of columns and
 /// rows, and colours of cells.
 ///
-/// The table is that of its parts, and each row is printed when the next one is there: of the rows
-/// above it keeps only the cells that go on below, at most one for each column.
+/// The table is that of these parts. Each row is printed when the next one has come. Of the rows
+/// above, only the cells that continue below are kept, at most one for each column.
 #[derive(Debug, Clone, Copy, PartialEq, Eq, PartialOrd, Ord, Default, Hash, Drop)]
 pub struct IterGrid<R, D, G, C> {
     pub(crate) records: R,
@@ -36,8 +36,8 @@ impl<R, D, G, C> IterGrid<R, D, G, C> {
         }
     }
 
-    /// The grid beside the memory for the cells that go on below their row: what `print`, `text` and
-    /// `print_whole` are calls of.
+    /// The grid with the allocator for its open cells, which has the calls `print`, `text` and
+    /// `print_whole`.
     pub fn with_memory<A>(self, alloc: A) -> GridWithMemory<IterGrid<R, D, G, C>, A>
         ensures { result.grid ≡ self }
     {
@@ -63,21 +63,21 @@ where
     ghost use Rattle.pg_picture.specs.Table.{is_empty};
     ghost use Rattle.pg_iter.specs.IterGrids.{MayBeRead, streamed, told};
 
-    /// Appends the picture of the table, which fits and whose records may be read (all records in memory
-    /// may): of records in memory [`IterGrid::fits`] is the test, and `print` of
-    /// [`IterGrid::with_memory`] the call that makes it first. A table with no rows or no columns
-    /// appends nothing, and asks for no memory.
+    /// Appends the picture of the table. Its preconditions are that the table fits, and that its
+    /// records are readable, as records in memory always are. For these [`IterGrid::fits`] is the
+    /// test, and `print` of [`IterGrid::with_memory`] the call that makes it first. A table with no
+    /// rows or no columns appends and allocates nothing.
     ///
-    /// Where each glyph and each fill takes one column, and no glyph of a column line is missing, all
+    /// If each glyph and each fill takes one column, and no glyph of a column line is missing, all
     /// lines of the body are as wide as the table.
     ///
-    /// Where the records don't tell how many rows there are, side margins whose offset counts from the
-    /// end are drawn whole: that end isn't known while rows still come.
+    /// If the records don't give their number of rows, side margins with an offset from the end are
+    /// drawn whole: the end isn't known while rows still come.
     ///
-    /// The rows are read once, and each is printed when the next one was asked for. `alloc` gives the
-    /// memory for the cells that go on below their row, one piece for the whole table. An error comes
-    /// only where no memory is found; the buffer then holds a beginning of the picture behind what it
-    /// held before, or is as it was, where the piece for the cells was refused.
+    /// The rows are read once, and each is printed after the next one was requested. `alloc`
+    /// provides the memory for open cells, in one piece for the whole table. The only error is out
+    /// of memory: the buffer then has gained a beginning of the picture, or is unchanged if that
+    /// piece was refused.
     #[tactic(auto, using(pg_picture::proofs::StraightColumns::is_straight))]
     pub fn build<A: Allocator, W: Allocator>(
         self,
@@ -109,9 +109,9 @@ where
         printer.print_rows(first, rows, buf)
     }
 
-    /// The picture of the table as a text of its own, under the conditions of `build`; of records in
-    /// memory `text` of [`IterGrid::with_memory`] is the call that tests them first. An error comes where
-    /// no memory is found; a table with no rows or no columns asks for none.
+    /// The picture of the table as a text of its own, under the preconditions of `build`. For
+    /// records in memory `text` of [`IterGrid::with_memory`] tests them first. The only error is
+    /// out of memory; a table with no rows or no columns allocates nothing.
     pub fn to_string<A: Allocator + Copy>(self, alloc: A) -> Result<String<A>, AllocError>
         requires readable { MayBeRead R.Records self }
         requires fits { misfit_of (streamed R.Records D.Dimension C.Colors self) ≡ None }
@@ -137,11 +137,11 @@ where
     ghost use Rattle.pg_picture.specs.Table.{is_empty};
     ghost use Rattle.pg_iter.specs.IterGrids.{streamed};
 
-    /// Whether the table fits: its spans, its totals, and in each cell the text's widest line, the side
-    /// paddings and the padding above the text. Lines that a row isn't high enough for are no misfit:
-    /// they are left out. It is the condition of `build` and `to_string` on the table's sizes as a test,
-    /// which returns the first thing that doesn't fit (`pg_picture::fits::Misfit`), and takes no memory.
-    /// A table with no rows or no columns fits. The rows stay unread.
+    /// Whether the table fits: its spans, its totals, and in each cell the text's widest line, the
+    /// side paddings and the top padding. Lines for which a row isn't high enough are no misfit:
+    /// they are left out. The error is the first misfit (`pg_picture::fits::Misfit`). This is the
+    /// precondition of `build` and `to_string` on the table's sizes, as a test. Allocates nothing,
+    /// and reads no rows. A table with no rows or no columns fits.
     pub fn fits(&self) -> Result<(), Misfit>
         ensures exact { result ≡ unless_misfit (misfit_of (streamed R.Records D.Dimension C.Colors self.now)) }
         ensures fits { IsOk result → misfit_of (streamed R.Records D.Dimension C.Colors self.now) ≡ None }

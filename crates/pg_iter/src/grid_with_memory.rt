@@ -15,7 +15,7 @@ use pg_picture::shown::Unshown;
 use pg_picture::{TablePrinter, WholePrinter};
 use std::alloc::{AllocError, Allocator};
 
-/// A grid, and the allocator that gives the memory for its open cells.
+/// A grid, and the allocator for its open cells.
 #[derive(Debug, Clone, Copy, Drop)]
 pub struct GridWithMemory<G, A> {
     pub grid: G,

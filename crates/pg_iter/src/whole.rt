@@ -1,4 +1,4 @@
-//! The streaming grid tests whether each line of its texts is shown.
+//! Tests whether a streaming grid shows each line of its texts.
 
 use crate::grid::IterGrid;
 use pg_config::SpannedConfig;
@@ -19,10 +19,10 @@ where
     ghost use Rattle.pg_picture.specs.Table.{is_empty};
     ghost use Rattle.pg_iter.specs.IterGrids.{streamed};
 
-    /// Whether the table fits, and shows each line of its texts: else the first thing that doesn't fit, as
-    /// `fits` returns it, and where all fits the first cell that isn't high enough for its lines below
-    /// the padding above them. Rows that no height was told for are 0 high. Takes no memory, and the
-    /// rows stay unread. A table with no rows or no columns shows all.
+    /// Whether the table fits, and shows each line of its texts. An error is the first misfit, as
+    /// `fits` returns it; if there is none, it is the first cell that isn't high enough for its
+    /// lines below its top padding. Rows without a height are 0 high. Allocates nothing, and reads
+    /// no rows. A table with no rows or no columns shows all.
     pub fn shows_all(&self) -> Result<(), Unshown>
         ensures exact { result ≡ unless_unshown (unshown_of (streamed R.Records D.Dimension C.Colors self.now)) }
         ensures fits { IsOk result → misfit_of (streamed R.Records D.Dimension C.Colors self.now) ≡ None }
