@@ -6,14 +6,14 @@ ghost use Rattle.ruled_csv.specs.declared.fault.RowsFault.TheVariants.{Memory};
 use std::alloc::{AllocError, AllocFailed};
 use std::fmt;
 
-/// Why rows can't be read. A line is counted from 1, and a row from 0.
+/// Why rows can't be read. Lines count from 1, rows from 0.
 #[derive(Clone, Copy)]
 pub enum RowsFault {
-    /// The quote that is opened on this line is never closed.
+    /// The quote opened on this line is never closed.
     OpenQuote {
         line: usize,
     },
-    /// On this line text stands behind a closing quote.
+    /// On this line text follows a closing quote.
     BehindQuote {
         line: usize,
     },
@@ -29,7 +29,7 @@ pub enum RowsFault {
         row: usize,
         line: usize,
     },
-    /// Memory was refused.
+    /// Out of memory.
     Memory,
 }
 

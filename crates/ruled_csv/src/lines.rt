@@ -3,17 +3,17 @@
 ghost use Rattle.std.specs.Prelude.{◌≡◌};
 ghost use Rattle.ruled_csv.specs.Inside.{calm_lines, lines_after, lines_start};
 
-/// A count of lines, of which LF, CRLF and a lone CR each end one.
+/// A count of lines: LF, CRLF and a lone CR each end one.
 #[derive(Clone, Copy)]
 pub(crate) struct Lines {
     // The line of the next byte, counted from 1.
     line: usize,
-    // Whether a carriage return stands in front of it, with which a line feed ends one line.
+    // Whether a carriage return precedes it, after which a line feed ends no further line.
     is_behind_return: bool,
 }
 
 impl Lines {
-    /// A count that begins.
+    /// A count at the first byte.
     pub(crate) fn new() -> Lines
         ensures { result ≡ lines_start }
     {
@@ -30,7 +30,7 @@ impl Lines {
         self.line
     }
 
-    /// The count behind bytes that end no line.
+    /// The count after bytes that end no line.
     pub(crate) fn behind_text(self) -> Lines
         ensures { result ≡ calm_lines self }
     {
@@ -40,7 +40,7 @@ impl Lines {
         }
     }
 
-    /// The count behind this byte.
+    /// The count after this byte.
     pub(crate) fn after(self, byte: u8) -> Lines
         ensures { result ≡ lines_after self byte }
     {

@@ -1,4 +1,4 @@
-//! What stands at the front of bytes, and in front of lines.
+//! What comes before bytes, and before lines.
 
 ghost use Rattle.std.specs.Prelude.{◌≡◌};
 ghost use Rattle.csv.specs.Reading.{strip_bom};
@@ -7,7 +7,7 @@ ghost use Rattle.ruled_csv.specs.Quotes.{leaves_open, state_in_front};
 
 use crate::scanner::Standing;
 
-/// The bytes without a byte order mark at their front.
+/// The bytes without a byte order mark at the front.
 pub fn without_mark(bytes: &[u8]) -> &[u8]
     ensures { result.now ≡ strip_bom bytes.now }
 {
@@ -17,7 +17,7 @@ pub fn without_mark(bytes: &[u8]) -> &[u8]
     }
 }
 
-// What stands in front of a line.
+// What comes before a line.
 fn standing_in_front(is_open: bool) -> Standing
     ensures { state_of result ≡ state_in_front is_open }
 {
@@ -28,7 +28,7 @@ fn standing_in_front(is_open: bool) -> Standing
     }
 }
 
-/// Whether a quote is open behind a line, of which it is told whether one is open in front of it.
+/// Whether a quote is open after a line, given whether one is open before it.
 pub fn leaves_open(delimiter: u8, is_open: bool, line: &[u8]) -> bool
     ensures { result ≡ leaves_open delimiter is_open line.now }
 {

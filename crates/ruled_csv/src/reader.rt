@@ -1,4 +1,4 @@
-//! Rows, of which the bytes come one piece after another.
+//! Rows whose bytes come in pieces.
 
 ghost use Rattle.std.specs.Prelude.{◌≡◌, ◌≤◌, ◌++◌, ◌∷◌, [], ℕ, List, length, map, take, Some, IfOk, OnErr, OnOk};
 ghost use Rattle.csv.specs.Records.{fields_of};
@@ -12,7 +12,7 @@ use crate::scanner::Scanner;
 use csv::{ByteRecord, StringRecord};
 use std::alloc::{AllocError, Global};
 
-/// What stands in front of a byte.
+/// What comes before a byte.
 #[derive(Clone, Copy)]
 pub(crate) enum Front {
     /// No byte.
@@ -21,12 +21,12 @@ pub(crate) enum Front {
     First,
     /// The first two.
     Second,
-    /// Bytes that are no beginning of one, or behind one.
+    /// Bytes that don't begin one, or that follow one.
     Text,
 }
 
 impl Front {
-    // What stands in front of the byte behind this one.
+    // What comes before the byte after this one.
     fn after(self, byte: u8) -> Front
         ensures { result ≡ front_after self byte }
     {
@@ -45,7 +45,7 @@ impl Front {
     }
 }
 
-// The text of a row, which begins on this line, or what is wrong with it.
+// The text of a row that begins on this line, or what is wrong with it.
 fn text_of(
     fields: ByteRecord,
     row: usize,
@@ -70,18 +70,20 @@ fn text_of(
     }
 }
 
-/// A reader of rows, to which their bytes come one piece after another, of any lengths.
+/// A reader of rows whose bytes come in pieces of any length.
 ///
-/// Each row is given with the bytes that end it. Fields are parted by the byte `delimiter`, and quoted as in CSV; LF, CRLF and
-/// a lone CR end a row, an empty line is no row, and a byte order mark at the very front is left out.
+/// Each row comes with the bytes that end it. The byte `delimiter` separates fields, which are
+/// quoted as in CSV. LF, CRLF and a lone CR end a row, an empty line is no row, and a byte order
+/// mark at the very front is skipped.
 ///
-/// A fault ends the reading. It is that of the first bad row, whatever stands behind it: one with another number of fields
-/// than row 0, with a field that isn't UTF-8, with text behind a closing quote, or with a quote that isn't closed.
+/// A fault ends the reading. It is that of the first bad row, whatever follows: a row with another
+/// number of fields than row 0, with a field that isn't UTF-8, with text after a closing quote, or
+/// with a quote that isn't closed.
 #[derive(Drop)]
 pub struct RowReader {
     front: Front,
     scanner: Scanner,
-    // How many rows were given.
+    // How many rows were read.
     rows: usize,
     // How many columns they have.
     columns: Option<usize>,
@@ -100,7 +102,7 @@ impl RowReader {
         }
     }
 
-    // Gives a row that ended below these.
+    // Appends a row that ended.
     fn give(&mut self, fields: ByteRecord, rows: &mut Vec<StringRecord>) -> Result<(), RowsFault>
         ensures front { self.new.front ≡ self.old.front }
         ensures scanner { self.new.scanner ≡ self.old.scanner }
@@ -117,7 +119,7 @@ impl RowReader {
         Ok(())
     }
 
-    // Reads a byte of the text behind a byte order mark.
+    // Reads a byte of the text after any byte order mark.
     fn scan(&mut self, byte: u8, rows: &mut Vec<StringRecord>) -> Result<(), RowsFault>
         ensures front { self.new.front ≡ self.old.front }
         ensures read { (delimiter : ℕ) (scan : Scan) → Holds delimiter scan self.old → OnOk result (Holds delimiter (scan_after delimiter scan byte) self.new) }
@@ -149,7 +151,8 @@ impl RowReader {
         self.scan(byte, rows)
     }
 
-    // Reads the next bytes as far as no row ends and nothing is wrong, and returns how many they are: as many as are seen at once.
+    // Reads the next bytes while no row ends and nothing is wrong, and returns how many: as many as
+    // are found at once.
     fn read_run(&mut self, bytes: &[u8]) -> Result<usize, AllocError>
         ensures within { IfOk result (λ count. count ≤ length bytes.now) }
         ensures read { (delimiter : ℕ) (before : List ℕ) → HasRead delimiter before self.old → IfOk result (λ count. HasRead delimiter (before ++ take count bytes.now) self.new) }
@@ -161,7 +164,8 @@ impl RowReader {
         }
     }
 
-    /// Reads the next bytes, and appends the rows that end among them: with a fault, those above the first bad row.
+    /// Reads the next bytes, and appends the rows that end among them; after a fault, those above
+    /// the first bad row.
     pub fn read(self, bytes: &[u8], rows: &mut Vec<StringRecord>) -> Result<RowReader, RowsFault>
         ensures read { (delimiter : ℕ) (before : List ℕ) → HasRead delimiter before self → IfOk result (λ reader. HasRead delimiter (before ++ bytes.now) reader) }
         ensures rows { (delimiter : ℕ) (before : List ℕ) → HasRead delimiter before self → OnOk result (AppendsRest (ended_rows delimiter before) (ended_rows delimiter (before ++ bytes.now)) (map fields_of rows.old.items) (map fields_of rows.new.items)) }
@@ -184,7 +188,8 @@ impl RowReader {
         Ok(reader)
     }
 
-    /// Ends the reading, behind which no byte is left, and appends the row that ends with it, unless it is bad.
+    /// Ends the reading when no byte is left, and appends the row that ends with the input, unless
+    /// it is bad.
     pub fn finish(self, rows: &mut Vec<StringRecord>) -> Result<(), RowsFault>
         ensures rows { (delimiter : ℕ) (bytes : List ℕ) → HasRead delimiter bytes self → OnOk result (AppendsRest (ended_rows delimiter bytes) (rows_of delimiter bytes) (map fields_of rows.old.items) (map fields_of rows.new.items)) }
         ensures fault { (delimiter : ℕ) (bytes : List ℕ) → HasRead delimiter bytes self → Tells (rows_fault delimiter bytes) result }

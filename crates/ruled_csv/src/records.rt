@@ -10,12 +10,12 @@ use crate::reader::RowReader;
 use csv::StringRecord;
 use std::alloc::Global;
 
-/// The rows that bytes of separated values hold, each a record of its fields.
+/// The rows of separated values, each a record of its fields.
 ///
-/// Fields are parted by the byte `delimiter`, and quoted as in CSV; LF, CRLF and a lone CR end a row,
-/// an empty line is no row, and a byte order mark at the front is left out. What is wrong is told of the first bad
-/// row: one that has another number of fields than row 0, that isn't UTF-8, or in which a quote isn't closed or has text
-/// behind it; and else nothing but want of memory.
+/// The byte `delimiter` separates fields, which are quoted as in CSV. LF, CRLF and a lone CR end a
+/// row, an empty line is no row, and a byte order mark at the front is skipped. The fault is that
+/// of the first bad row: one with another number of fields than row 0, one that isn't UTF-8, or one
+/// in which a quote isn't closed or is followed by text. The only other fault is out of memory.
 pub fn read_rows(alloc: Global, delimiter: u8, bytes: &[u8]) -> Result<Vec<StringRecord>, RowsFault>
     ensures rows { IfOk result (λ rows. map fields_of rows.items ≡ rows_of delimiter bytes.now) }
     ensures fault { Tells (rows_fault delimiter bytes.now) result }

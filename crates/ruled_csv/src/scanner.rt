@@ -1,4 +1,4 @@
-//! Rows that are read byte by byte.
+//! Rows, read byte by byte.
 
 ghost use Rattle.std.specs.Prelude.{◌≡◌, ◌<◌, ◌≤◌, ◌++◌, ◌∷◌, ℕ, [], false, true, not, IfOk, IsTrue, OnOk, length, option_map, take};
 ghost use Rattle.std.specs.List.{list_all};
@@ -16,20 +16,20 @@ use csv::ByteRecord;
 use memchr::memchr3;
 use std::alloc::{AllocError, Global};
 
-/// What stands in front of a byte.
+/// What comes before a byte.
 #[derive(Clone, Copy)]
 pub(crate) enum Standing {
     /// No byte of its row.
     Row,
-    /// A carriage return that ended a row, to which a line feed belongs.
+    /// A carriage return that ended a row, with which a line feed belongs.
     Return,
     /// A delimiter.
     Field,
-    /// A field without quotes, or text behind a closing one.
+    /// A field without quotes, or text after a closing one.
     Plain,
-    /// An opening quote and what it holds so far.
+    /// An opening quote and the bytes after it so far.
     Quoted,
-    /// A quote that closes the field, or is the first of two that stand for one.
+    /// A quote that closes the field, or is the first of two that mean one.
     Closing,
 }
 
@@ -40,17 +40,17 @@ pub(crate) enum Act {
     Pass,
     /// It opens a quote.
     Open,
-    /// It joins the field at hand.
+    /// It joins the current field.
     Join,
-    /// It joins the field at hand, though the quote closed that it begins with.
+    /// It joins the current field, although its quote is closed.
     Behind,
-    /// It ends the field at hand.
+    /// It ends the current field.
     EndField,
-    /// It ends the field at hand, and its row.
+    /// It ends the current field and its row.
     EndRow,
 }
 
-/// What a byte does, and what stands in front of the next one.
+/// What a byte does, and what comes before the next one.
 #[derive(Clone, Copy)]
 pub(crate) struct Step {
     next: Standing,
@@ -73,7 +73,7 @@ fn plain_step(delimiter: u8, byte: u8) -> Step
     Step { next, act }
 }
 
-// What a byte does behind a closing quote.
+// What a byte does after a closing quote.
 fn behind_step(delimiter: u8, byte: u8) -> Step
     ensures step { step_of result ≡ in_field (config_of delimiter) byte }
     ensures opens { is_open result.act ≡ false }
@@ -105,7 +105,7 @@ fn first_step(delimiter: u8, byte: u8) -> Step
     plain_step(delimiter, byte)
 }
 
-// What a byte does between quotes.
+// What a byte does inside quotes.
 fn quoted_step(byte: u8) -> Step
     ensures step { (delimiter : ℕ) → step_of result ≡ step (config_of delimiter) st.InQuoted byte }
     ensures opens { is_open result.act ≡ false }
@@ -119,12 +119,12 @@ fn quoted_step(byte: u8) -> Step
     Step { next, act }
 }
 
-// Whether a run begins with the first of these bytes, which is asked before a search, since a search costs more than it.
+// Whether the first of these bytes begins a run. It is tested before a search, which costs more.
 fn begins_run(bytes: &[u8]) -> bool {
     !matches!(bytes.first(), None | Some(b'"' | b'\r' | b'\n'))
 }
 
-// How many bytes there are in front of the first quote and of the first end of a line.
+// How many bytes come before the first quote or end of a line.
 fn run_of(bytes: &[u8]) -> usize
     ensures within { result ≤ length bytes.now }
     ensures calm { IsTrue (list_all is_calm (take result bytes.now)) }
@@ -133,7 +133,7 @@ fn run_of(bytes: &[u8]) -> usize
 }
 
 impl Standing {
-    // What the byte behind this does.
+    // What the byte after this does.
     fn step(self, delimiter: u8, byte: u8) -> Step
         ensures step { step_of result ≡ step (config_of delimiter) (state_of self) byte }
         ensures opens { is_open result.act ≡ opens (state_of self) (state_of result.next) }
@@ -155,7 +155,7 @@ impl Standing {
         }
     }
 
-    /// What stands in front of the byte behind this one.
+    /// What comes before the byte after this one.
     pub(crate) fn after(self, delimiter: u8, byte: u8) -> Standing
         ensures { state_of result ≡ (step (config_of delimiter) (state_of self) byte).0 }
     {
@@ -169,20 +169,20 @@ impl Standing {
         matches!(self, Standing::Quoted)
     }
 
-    // Whether a quote stands in front that may close its field.
+    // Whether a quote that may close its field comes before.
     fn is_closing(self) -> bool
         ensures { result ≡ is_closing (state_of self) }
     {
         matches!(self, Standing::Closing)
     }
 
-    // Whether no row is at hand.
+    // Whether no row has begun.
     fn is_between(self) -> bool {
         matches!(self, Standing::Row | Standing::Return)
     }
 }
 
-/// A scan over bytes, with what it has of the row at hand.
+/// A scan over bytes, with the current row so far.
 #[derive(Drop)]
 pub(crate) struct Scanner {
     delimiter: u8,
@@ -190,14 +190,14 @@ pub(crate) struct Scanner {
     row: ByteRecord,
     field: Vec<u8>,
     lines: Lines,
-    // The line of the quote that was opened last.
+    // The line of the quote opened last.
     opened: usize,
-    // The line on which the row at hand begins, or the one that ended.
+    // The line on which the current row begins, or the one that ended.
     begun: usize,
 }
 
 impl Scanner {
-    /// A scan that begins.
+    /// A scan at the first byte.
     pub(crate) fn new(alloc: Global, delimiter: u8) -> Scanner
         ensures delimiter { result.delimiter ≡ delimiter }
         ensures hand { hand_of result ≡ empty_hand }
@@ -225,12 +225,12 @@ impl Scanner {
         self.opened = 1;
     }
 
-    /// The line on which the row begins that ended last.
+    /// The line on which the last complete row begins.
     pub(crate) fn begun(&self) -> usize {
         self.begun
     }
 
-    // Ends the field at hand.
+    // Ends the current field.
     fn end_field(&mut self) -> Result<(), AllocError>
         ensures hand { OnOk result (hand_of self.new ≡ record (hand_of self.old) { fields = (hand_of self.old).fields ++ ((hand_of self.old).field ∷ []); field = [] }) }
         ensures delimiter { self.new.delimiter ≡ self.old.delimiter }
@@ -240,7 +240,7 @@ impl Scanner {
         Ok(())
     }
 
-    // Ends the row at hand, in place of which another one begins.
+    // Ends the current row, and begins another one.
     fn end_row(&mut self) -> Result<ByteRecord, AllocError>
         ensures row { IfOk result (λ row. fields_of row ≡ (hand_of self.old).fields ++ ((hand_of self.old).field ∷ [])) }
         ensures hand { OnOk result (hand_of self.new ≡ record (hand_of self.old) { fields = []; field = [] }) }
@@ -252,7 +252,7 @@ impl Scanner {
         Ok(row)
     }
 
-    // Ends the field at hand, to which these bytes belong, too.
+    // Adds these bytes to the current field, and ends it.
     fn end_field_with(&mut self, bytes: &[u8]) -> Result<(), AllocError>
         ensures hand { OnOk result (hand_of self.new ≡ record (hand_of self.old) { fields = (hand_of self.old).fields ++ (((hand_of self.old).field ++ bytes.now) ∷ []); field = [] }) }
         ensures delimiter { self.new.delimiter ≡ self.old.delimiter }
@@ -264,7 +264,7 @@ impl Scanner {
         self.end_field()
     }
 
-    // Reads a run in no quotes.
+    // Reads a run outside quotes.
     fn cut_run(&mut self, run: &[u8]) -> Result<(), AllocError>
         ensures hand { OnOk result (hand_of self.new ≡ hand_cut self.old.delimiter (hand_of self.old) run.now) }
         ensures delimiter { self.new.delimiter ≡ self.old.delimiter }
@@ -306,8 +306,8 @@ impl Scanner {
         }
     }
 
-    /// Reads the next bytes as far as none is a quote and none ends a line, and returns how many they are. Behind a quote that
-    /// may close its field it reads none.
+    /// Reads the next bytes before the first quote or end of a line, and returns how many. After a
+    /// quote that may close its field it reads none.
     pub(crate) fn read_run(&mut self, bytes: &[u8]) -> Result<usize, AllocError>
         ensures within { IfOk result (λ count. count ≤ length bytes.now) }
         ensures hand { IfOk result (λ count. Joins self.old.delimiter (take count bytes.now) (hand_of self.old) (hand_of self.new)) }
@@ -324,7 +324,7 @@ impl Scanner {
         Ok(count)
     }
 
-    /// Reads a byte, and gives the row that ends with it.
+    /// Reads a byte, and returns the row that ends with it.
     pub(crate) fn read(&mut self, byte: u8) -> Result<Option<ByteRecord>, RowsFault>
         ensures row { IfOk result (λ found. option_map fields_of found ≡ row_ended self.old.delimiter (hand_of self.old) byte) }
         ensures hand { OnOk result (hand_of self.new ≡ hand_after self.old.delimiter (hand_of self.old) byte) }
@@ -357,7 +357,7 @@ impl Scanner {
         }
     }
 
-    /// The row that ends where no byte is left.
+    /// The row that ends with the input.
     pub(crate) fn end(&mut self) -> Result<Option<ByteRecord>, RowsFault>
         ensures row { IfOk result (λ found. option_map fields_of found ≡ last_row (hand_of self.old)) }
         ensures fault { Tells (open_fault (hand_of self.old)) result }

@@ -12,15 +12,15 @@ use std::fmt;
 pub enum JsonFault {
     /// The text isn't UTF-8.
     Encoding(Place),
-    /// The text is no JSON value, or its arrays and objects nest deeper than 128.
+    /// The text isn't a JSON value, or its arrays and objects nest deeper than 128.
     Syntax(Place),
     /// The value is neither an array nor an object.
     NoRecords,
-    /// The value is no object.
+    /// The value isn't an object.
     NoObject(Place),
-    /// The object has a member that none of the first records has, which say the columns.
+    /// The object has a member that none of the first records has, whose members are the columns.
     NoColumn(Place),
-    /// Memory was refused.
+    /// Out of memory.
     Memory,
 }
 

@@ -1,4 +1,4 @@
-//! Lines of JSON, of which the bytes come one piece after another.
+//! Lines of JSON whose bytes come in pieces.
 
 ghost use Rattle.std.specs.Prelude.{◌≡◌, ◌∷◌, ◌++◌, [], ℕ, List, false, map, IfOk, OnOk};
 ghost use Rattle.csv.specs.Reading.{strip_bom};
@@ -16,7 +16,7 @@ use json::Scratch;
 use std::alloc::{AllocError, Global};
 use std::mem;
 
-// The bytes without a byte order mark at their front.
+// The bytes without a byte order mark at the front.
 fn without_mark(bytes: &[u8]) -> &[u8]
     ensures { result.now ≡ strip_bom bytes.now }
 {
@@ -26,7 +26,7 @@ fn without_mark(bytes: &[u8]) -> &[u8]
     }
 }
 
-// The text of a line, which at the front of the input may have a byte order mark.
+// The text of a line, which may begin with a byte order mark at the front of the input.
 fn line_text(is_front: bool, line: &[u8]) -> &[u8]
     ensures { result.now ≡ without_front is_front line.now }
 {
@@ -40,19 +40,21 @@ fn push_bytes(line: &mut Vec<u8>, bytes: &[u8]) -> Result<(), AllocError>
     line.extend_from_slice(bytes)
 }
 
-/// A reader of lines of JSON, to which their bytes come one piece after another, of any lengths.
+/// A reader of lines of JSON whose bytes come in pieces of any length.
 ///
-/// Line feeds part the lines. Each holds an object, or is blank and no row. The first `records` objects say the columns: the
-/// names of their members, each where it is first seen. Their rows and the header are given with the line that the last of
-/// them ends, and each later row with its line. A byte order mark at the very front is left out.
+/// Line feeds separate the lines. Each line holds an object, or is blank and no row. The members of
+/// the first `records` objects are the columns, in the order in which they first appear. The header
+/// and the rows of these objects come with the line of the last of them, each later row with its
+/// own line. A byte order mark at the very front is skipped.
 ///
-/// A fault ends the reading, behind the rows above it. It is that of the first bad line, whatever stands behind it: one that
-/// is no object, or behind the first `records` objects one with a member that no column has.
+/// A fault ends the reading, after the rows above it. It is that of the first bad line, whatever
+/// follows: one that isn't an object, or, after the first `records` objects, one with a member that
+/// isn't a column.
 #[derive(Drop)]
 pub struct LineReader {
     alloc: Global,
     table: LineTable,
-    // The bytes of a line whose line feed hasn't come.
+    // The bytes of a line whose line feed hasn't come yet.
     line: Vec<u8>,
     // Whether it is the first line.
     is_front: bool,
@@ -89,7 +91,7 @@ impl LineReader {
         self.table.read(scratch, text, rows)
     }
 
-    // Reads the bytes in front of a line feed, and the line feed.
+    // Reads the bytes before a line feed, and the line feed.
     fn end_line(
         &mut self,
         scratch: &mut Scratch,
@@ -128,7 +130,7 @@ impl LineReader {
         Ok(reader)
     }
 
-    /// Ends the reading, behind which no byte is left, and appends the rows that are left.
+    /// Ends the reading when no byte is left, and appends the remaining rows.
     pub fn finish(self, rows: &mut Vec<StringRecord>) -> Result<(), JsonFault>
         ensures rows { (records : ℕ) (bytes : List ℕ) → HasRead records bytes self → OnOk result (AppendsRest (ended_line_rows records bytes) (sound_line_rows records bytes) (map fields_of rows.old.items) (map fields_of rows.new.items)) }
         ensures fault { (records : ℕ) (bytes : List ℕ) → HasRead records bytes self → Tells (streamed_line_fault records bytes) result }

@@ -1,4 +1,4 @@
-//! The table of records, each on a line.
+//! The table of records, one on each line.
 
 ghost use Rattle.std.specs.Prelude.{◌≡◌, ◌∷◌, ◌++◌, [], ℕ, List, fold, length, map, None, Some, IfOk, OnOk, if◌then◌else◌};
 ghost use Rattle.csv.specs.Records.{fields_of};
@@ -21,22 +21,23 @@ use json::{Scratch, Value};
 use std::alloc::{AllocError, Global};
 use std::mem;
 
-/// The table of records, each on a line, of which the first ones say the columns.
+/// The table of records, one on each line; the members of the first ones are the columns.
 #[derive(Drop)]
 pub(crate) struct LineTable {
     alloc: Global,
     // The columns.
     names: MemberNames,
-    // How many records are still to come that say columns.
+    // How many records are still to come whose members are columns.
     left: usize,
-    // The rows of those that came, until the last one is there. Each ends with the columns that were known then.
+    // The rows of those that came, until the last one has. Each has the columns that were known
+    // then.
     held: Vec<StringRecord>,
     // The number of the next line.
     number: usize,
 }
 
 impl LineTable {
-    /// The table of no lines, whose columns so many records say.
+    /// The table of no lines, whose columns are the members of so many records.
     pub(crate) fn new(alloc: Global, records: usize) -> LineTable
         ensures { HasLines records [] result }
     {
@@ -49,7 +50,7 @@ impl LineTable {
         }
     }
 
-    // Appends the header and the rows that are held.
+    // Appends the header and the held rows.
     fn push_held(&mut self, rows: &mut Vec<StringRecord>) -> Result<(), AllocError>
         ensures kept { (self.new.names ≡ self.old.names) × (self.new.left ≡ self.old.left) × (self.new.number ≡ self.old.number) }
         ensures rows { (records : List Json) → map (padded (length (columns_in self.old))) (map fields_of self.old.held.items) ≡ map (row_of (columns_in self.old)) records → OnOk result (map fields_of rows.new.items ≡ map fields_of rows.old.items ++ table_in (columns_in self.old) records) }
@@ -67,7 +68,7 @@ impl LineTable {
         Ok(())
     }
 
-    // Holds the row of a record that says columns.
+    // Holds the row of a record whose members are columns.
     fn hold(&mut self, value: &Value<'_>) -> Result<(), AllocError>
         requires numbers { HasNumbers (value_view value.now) }
         ensures kept { (self.new.left ≡ self.old.left) × (self.new.number ≡ self.old.number) }
@@ -80,7 +81,7 @@ impl LineTable {
         Ok(())
     }
 
-    // Appends the row of a record on the line of this number, where the columns are known.
+    // Appends the row of a record on the line of this number, once the columns are known.
     fn push_late(
         &self,
         number: usize,
@@ -127,8 +128,8 @@ impl LineTable {
         Ok(())
     }
 
-    /// Reads a line, and appends the rows that are complete with it. Where the line is bad, it appends the rows above it that
-    /// were held.
+    /// Reads a line, and appends the rows that are complete with it. If the line is bad, it appends
+    /// the held rows above it.
     pub(crate) fn read(
         &mut self,
         scratch: &mut Scratch,
@@ -152,7 +153,7 @@ impl LineTable {
         }
     }
 
-    /// Appends the rows that are held, behind which no line is left.
+    /// Appends the held rows when no line is left.
     pub(crate) fn finish(&mut self, rows: &mut Vec<StringRecord>) -> Result<(), AllocError>
         ensures rest { (records : ℕ) (above : List Json) → HasRecords records above self.old → OnOk result (AppendsRest (ended_table records above) (streamed_table records above) (map fields_of rows.old.items) (map fields_of rows.new.items)) }
     {
@@ -163,10 +164,11 @@ impl LineTable {
     }
 }
 
-/// The rows that lines of JSON hold: a header and a row for each line, which is an object, as
-/// [`read_rows`](crate::read_rows) has them of an array of these objects. A blank line is no row.
+/// The rows of lines of JSON: a header, and a row for each line with an object, as
+/// [`read_rows`](crate::read_rows) gives them for an array of these objects. A blank line is no
+/// row.
 ///
-/// What is wrong is told of the first bad line; and else nothing but want of memory.
+/// The fault is that of the first bad line. The only other fault is out of memory.
 pub fn read_line_rows(alloc: Global, bytes: &[u8]) -> Result<Vec<StringRecord>, JsonFault>
     ensures rows { IfOk result (λ rows. map fields_of rows.items ≡ line_rows_of bytes.now) }
     ensures fault { Tells (line_rows_fault bytes.now) result }

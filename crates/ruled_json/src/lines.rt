@@ -14,7 +14,7 @@ use json::{Scratch, Value};
 use memchr::memchr;
 use std::alloc::{AllocError, Global};
 
-/// The bytes in front of the first line feed and those behind it, where there is one.
+/// The bytes before the first line feed and those after it, if there is one.
 pub(crate) fn split_line(bytes: &[u8]) -> Option<(&[u8], &[u8])>
     ensures parts { IfSome result (λ parts. bytes.now ≡ parts.0.now ++ 10 ∷ parts.1.now) }
     ensures first { IfSome result (λ parts. NoFeed parts.0.now) }
@@ -24,7 +24,7 @@ pub(crate) fn split_line(bytes: &[u8]) -> Option<(&[u8], &[u8])>
     Some((&bytes[..end], &bytes[end + 1..]))
 }
 
-/// What line feeds part.
+/// What line feeds separate.
 pub(crate) fn lines_of(alloc: Global, bytes: &[u8]) -> Result<Vec<&[u8]>, AllocError>
     ensures { IfOk result (λ lines. map (λ line. line.now) lines.items ≡ lines_of bytes.now) }
 {
@@ -63,7 +63,7 @@ fn returns_in(bytes: &[u8]) -> usize
     }
 }
 
-/// The number of the line behind this one, which has this number, and its line feed.
+/// The number of the line after this one, which has this number and ends with a line feed.
 pub(crate) fn line_after(number: usize, line: &[u8]) -> usize
     ensures { result ≡ line_after number line.now }
 {
@@ -72,7 +72,7 @@ pub(crate) fn line_after(number: usize, line: &[u8]) -> usize
     number.saturating_add(returns).saturating_add(1)
 }
 
-/// The record on a line of this number, where it isn't blank.
+/// The record on the line of this number, unless the line is blank.
 pub(crate) fn record_on<'a>(
     alloc: Global,
     scratch: &'a mut Scratch,

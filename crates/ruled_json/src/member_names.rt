@@ -17,10 +17,10 @@ use indexmap::{IndexMap, IndexSet};
 use json::{Value, to_vec};
 use std::alloc::{AllocError, Global};
 
-// How many columns there are at most whose members are looked for one by one.
+// The most columns for which members are looked up one by one.
 const NARROW: usize = 32;
 
-// How many bytes of a cell a row has room for before it grows.
+// How many bytes a row reserves for each cell.
 const CELL: usize = 12;
 
 // The members of an object, and no members of another value.
@@ -34,7 +34,7 @@ fn members_of<'v, 'a>(value: &'v Value<'a>) -> &'v [(&'a str, Value<'a>)]
     }
 }
 
-// The members of an object by their names, of those of one name the last one.
+// The members of an object by name; of those with one name the last.
 fn members_by_name<'v, 'a>(
     alloc: Global,
     value: &'v Value<'a>,
@@ -115,7 +115,7 @@ impl MemberNames {
         self.names.contains(name)
     }
 
-    // Whether there is a column of this name, for which this place is looked at first.
+    // Whether there is a column of this name; looks at this place first.
     fn has_at(&self, at: usize, name: &str) -> bool
         ensures { result ≡ list_any (bytes_eq name.now) (map string_bytes self.now.names.keys) }
     {
@@ -166,7 +166,7 @@ impl MemberNames {
         is_text(name, names[at].as_str())
     }
 
-    // Adds a column of this name, unless there is one, for which this place is looked at first.
+    // Adds a column of this name, unless there is one; looks at this place first.
     fn add_at(&mut self, alloc: Global, at: usize, name: &str) -> Result<(), AllocError>
         ensures { OnOk result (map string_bytes self.new.names.keys ≡ with_name (map string_bytes self.old.names.keys) name.now) }
     {
@@ -243,7 +243,7 @@ impl MemberNames {
         }
     }
 
-    /// A row with empty cells in the columns behind its own.
+    /// The row, with empty cells in the columns after its own.
     pub(crate) fn padded(&self, row: StringRecord) -> Result<StringRecord, AllocError>
         ensures { IfOk result (λ padded_row. fields_of padded_row ≡ padded (length (map string_bytes self.now.names.keys)) (fields_of row)) }
     {

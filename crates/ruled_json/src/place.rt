@@ -8,7 +8,7 @@ use std::fmt;
 /// Where something is wrong.
 #[derive(Clone, Copy)]
 pub enum Place {
-    /// In the one value that the input is to be, seen on this line, counted from 1.
+    /// In the one value that the input should be, found on this line, counted from 1.
     Near(usize),
     /// In this record, counted from 1.
     Record(usize),
@@ -17,7 +17,7 @@ pub enum Place {
 }
 
 impl Place {
-    /// The same place, and where it is the whole input, the line of this byte.
+    /// The same place; in the one value, with the line of this byte.
     pub(crate) fn at(self, bytes: &[u8], offset: usize) -> Place
         ensures { but_near result ≡ but_near self }
     {
@@ -42,7 +42,7 @@ fn line_of(bytes: &[u8], offset: usize) -> usize {
     ends.saturating_sub(pairs).saturating_add(1)
 }
 
-/// Writes what stands before the words of a fault.
+/// Writes what comes before the words of a fault.
 impl fmt::Display for Place {
     fn fmt<W: fmt::Write>(&self, f: &mut fmt::Formatter<W>) -> fmt::Result {
         match self {

@@ -44,7 +44,7 @@ pub(crate) fn value_of<'a>(
     }
 }
 
-/// Whether bytes are one JSON value. It asks for memory only where they are UTF-8.
+/// Whether bytes are one JSON value. Allocates only if they are UTF-8.
 pub fn is_value(alloc: Global, bytes: &[u8]) -> Result<bool, AllocError>
     ensures value { IfOk result (λ is. is ≡ is_value bytes.now) }
     ensures refused { OnErr result (IsUtf8 bytes.now) }
@@ -118,16 +118,16 @@ fn table_of(alloc: Global, records: &[Value<'_>]) -> Result<Vec<StringRecord>, A
     Ok(rows)
 }
 
-/// The rows that a JSON value holds: a header and a row for each record, which are the objects of an
+/// The rows of a JSON value: a header, and a row for each record. The records are the objects of an
 /// array, or one object alone.
 ///
-/// The columns are the names of all members, each where it is first seen. A cell is the text of a
-/// string, a number as it was written, `true` or `false`, and of an array or an object its text
-/// without spaces; it is empty where the record has no such member, or `null`. Of members of one name
-/// the last one counts. Where no record has a member, there are no rows.
+/// The columns are the names of all members, in the order in which they first appear. A cell is the
+/// text of a string, a number as written, `true` or `false`, or an array or an object as JSON
+/// without spaces. It is empty if the record lacks the member, or has `null`. Of members with one
+/// name the last one counts. If no record has a member, there are no rows.
 ///
-/// What is wrong is told of the text, then of the value, then of the first record that is no object;
-/// and else nothing but want of memory.
+/// The fault is that of the text, else that of the value, else that of the first record that isn't
+/// an object. The only other fault is out of memory.
 pub fn read_rows(alloc: Global, bytes: &[u8]) -> Result<Vec<StringRecord>, JsonFault>
     ensures rows { IfOk result (λ rows. map fields_of rows.items ≡ rows_of bytes.now) }
     ensures fault { Tells (rows_fault bytes.now) result }

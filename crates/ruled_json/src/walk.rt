@@ -1,16 +1,16 @@
-//! Where a text can't go on as JSON.
+//! Where a text stops being JSON.
 
 use json::{MAX_DEPTH, Reader, Scratch, Token};
 use std::alloc::{AllocError, Global};
 
-// What is seen with a token.
+// How a token fits.
 #[derive(Clone, Copy)]
 enum Fit {
-    // The text may go on behind it.
+    // The text may continue after it.
     Fits,
-    // It may not stand there.
+    // It may not come here.
     Misfit,
-    // What stands behind it may not.
+    // Nothing may come after it.
     Last,
 }
 
@@ -19,12 +19,12 @@ enum Fit {
 struct Nesting {
     // Whether each is an object.
     open: Vec<bool>,
-    // Whether a key stands in front.
+    // Whether a key comes before.
     is_behind_key: bool,
 }
 
 impl Nesting {
-    // Whether a key must come, or the end of the object.
+    // Whether a key or the end of the object must come.
     fn wants_key(&self) -> bool {
         !self.is_behind_key && matches!(self.open.last(), Some(true))
     }
@@ -38,7 +38,7 @@ impl Nesting {
         Ok(Fit::Fits)
     }
 
-    // A value ends, and with the outermost one the text.
+    // Ends a value; with the outermost one the text ends.
     fn end_value(&mut self) -> Fit {
         self.is_behind_key = false;
         if self.open.is_empty() {
@@ -80,14 +80,15 @@ fn is_space(byte: u8) -> bool {
     matches!(byte, b' ' | b'\t' | b'\n' | b'\r')
 }
 
-// The first byte from this one on that is no white space.
+// The first byte from this one on that isn't white space.
 fn next_sign(bytes: &[u8], from: usize) -> usize {
     let rest = bytes.get(from..).unwrap_or(&[]);
     let blank = rest.iter().take_while(|byte| is_space(**byte)).count();
     from.saturating_add(blank)
 }
 
-// The first byte behind a token that is no white space. The reader may have passed a comma or a colon, and stands behind it.
+// The first byte after a token that isn't white space. The reader may be past a comma or a colon
+// already.
 fn behind_token(bytes: &[u8], start: usize, behind: usize) -> usize {
     let passed = bytes.get(start..behind).unwrap_or(&[]);
     let passed = passed.trim_ascii_end();
@@ -97,7 +98,8 @@ fn behind_token(bytes: &[u8], start: usize, behind: usize) -> usize {
     }
 }
 
-/// The first byte of a text at which it can't go on as JSON: its end, or where a token begins that can't stand there.
+/// The first byte at which a text can't continue as JSON: its end, or where a token begins that
+/// can't come there.
 pub(crate) fn offset_of_bad(alloc: Global, text: &str) -> usize {
     let mut scratch = Scratch::new(alloc);
     let Ok(mut reader) = Reader::new(text, &mut scratch) else {
