@@ -1,4 +1,4 @@
-//! A compact list: a line for each row, and one look for all cells.
+//! A compact list: one line for each row, and one look for all cells.
 
 use pg_compact::{CompactGrid, TablePrinter};
 use pg_config::CompactConfig;
@@ -26,7 +26,7 @@ fn tasks(alloc: Global) -> Result<VecRecords<&'static str>, AllocError> {
     Ok(VecRecords::new(vec![in alloc; roses, call, rent]?).unwrap())
 }
 
-// The widths of the columns. Each row has one line, so a compact table asks for no heights.
+// The widths of the columns. Each row has one line, so a compact table reads no heights.
 fn sizes(alloc: Global) -> Result<EvenDimension, AllocError> {
     Ok(EvenDimension {
         widths: vec![in alloc; 17, 8]?,

@@ -11,7 +11,7 @@ use std::{fmt, io};
 /// Why the program ends early.
 #[derive(Debug, Drop)]
 pub(crate) enum Fault {
-    /// Two rows have not as many cells as one another.
+    /// Two rows have different numbers of cells.
     Records(RecordsFault),
     /// A table from rows isn't printed.
     Table(TableFault),
@@ -25,7 +25,7 @@ pub(crate) enum Fault {
     Line(usize),
     /// No program of the guide that reads an input has this name.
     Name,
-    /// Memory was refused.
+    /// Out of memory.
     Memory,
     /// A read or a write failed.
     Io(io::Error),

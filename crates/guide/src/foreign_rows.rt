@@ -22,20 +22,20 @@ pub(crate) fn table_within<R: Read + Drop>(
     Ok(picture(alloc, rows, width)?)
 }
 
-/// How many columns there are, by the argument or the variable `COLUMNS`, whichever is a number above 0; without
-/// limit if neither is.
+/// How many columns there are, by the argument, else by the variable `COLUMNS`, if it is a number
+/// above 0; without limit if neither is.
 pub(crate) fn width_of(argument: Option<&str>, columns: Option<&str>) -> usize {
     let said = argument.and_then(|word| number_of(word));
     let said = said.or_else(|| columns.and_then(|word| number_of(word)));
     said.unwrap_or(usize::MAX)
 }
 
-// The number above 0 that a word is.
+// The number above 0 that a word writes.
 fn number_of(word: &str) -> Option<usize> {
     word.parse::<usize>().ok().filter(|n| *n > 0)
 }
 
-// The rows of the input, in which control characters are seen and not sent.
+// The rows of the input, with visible control characters.
 fn rows_of<R: Read + Drop>(alloc: Global, input: R) -> Result<Vec<Vec<String>>, Fault> {
     let mut rows = Vec::new(alloc);
     for line in BufReader::new(alloc, input)?.lines(alloc) {

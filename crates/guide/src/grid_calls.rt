@@ -1,8 +1,8 @@
 //! The ways to call a table printer.
 //!
-//! A printer asks that its table fits. [`checked`] has the calls that test it themselves, [`tested`]
-//! those behind a test of the caller's, and [`stated`] a caller that says in turn what it appended,
-//! each tried on one table; [`told`] has a table of its own, all of it told in one function. None of
+//! A printer requires that its table fits. [`checked`] has the calls that test it themselves,
+//! [`tested`] those after a test of the caller's, and [`stated`] a caller whose contract says what
+//! it appended, each tried on one table; [`told`] has a table that one function sets up. None of
 //! these functions needs a proof of its own.
 
 mod checked;
@@ -20,7 +20,7 @@ use std::alloc::Global;
 /// The rows of the table.
 const ROWS: [(&str, &str); 2] = [("apples", "12"), ("rye bread\n(sliced)", "1")];
 
-/// What the table consists of, sizes that it fits in and sizes that it doesn't, and looks.
+/// The parts of the table, sizes that it fits in and sizes that it doesn't, and looks.
 #[derive(Drop)]
 struct Given {
     alloc: Global,
@@ -48,7 +48,7 @@ pub(crate) fn tables(alloc: Global) -> Result<String, Fault> {
     Ok(text)
 }
 
-// Appends them all, each kind behind a line that names it.
+// Appends them all, each kind after a line that names it.
 fn push_tables(given: &Given, text: &mut String) -> Result<(), Fault> {
     text.push_str("checked:\n")?;
     push_checked(given, text)?;
@@ -63,7 +63,7 @@ fn push_tables(given: &Given, text: &mut String) -> Result<(), Fault> {
     Ok(text.push_str(&told::titled_text(given.alloc)?)?)
 }
 
-// The tables of calls that test them, and what such a call answers where the table is too narrow.
+// The tables of calls that test them, and the fault of such a call if the table is too narrow.
 fn push_checked(given: &Given, text: &mut String) -> Result<(), Fault> {
     let (records, config) = (&given.records, &given.config);
     checked::push_looked_up(records, config, &given.wide, text)?;
@@ -81,7 +81,7 @@ fn push_checked(given: &Given, text: &mut String) -> Result<(), Fault> {
     Ok(())
 }
 
-// Texts of tables behind a test.
+// Texts of tables after a test.
 fn push_tested(given: &Given, text: &mut String) -> Result<(), Fault> {
     let (alloc, wide) = (given.alloc, &given.wide);
     text.push_str(&tested::text(alloc, &given.records, &given.config, wide)?)?;
@@ -98,7 +98,7 @@ fn push_tested(given: &Given, text: &mut String) -> Result<(), Fault> {
     Ok(())
 }
 
-// Tables that are built behind a test, and what stands in the place of one that is too narrow.
+// Tables that are built after a test, and the line in place of one that is too narrow.
 fn push_built(given: &Given, text: &mut String) -> Result<(), Fault> {
     tested::push_twice(&given.records, &given.config, &given.wide, text)?;
     text.push('\n')?;

@@ -1,7 +1,7 @@
 //! An invoice: a heading and a total that take several columns, and crossings that follow them.
 //!
-//! Where a cell takes several columns, no line goes through it: [`Table::with_span_crossings`] draws
-//! the crossings on its edge by the lines that meet there.
+//! No line goes through a cell that takes several columns: [`Table::with_span_crossings`] draws the
+//! crossings on its edge by the lines that meet there.
 
 use pg_config::SpannedConfig;
 use pg_layout::{AlignmentHorizontal, Borders, Entity, Position, Sides};

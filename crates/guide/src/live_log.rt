@@ -1,5 +1,5 @@
-//! A log as it grows: a row for each line of an input, which is written as soon as the line is there. A message that
-//! is wider than its column is wrapped, and its row is as high as it needs.
+//! A log as it grows: a row for each line of an input, written as soon as the line has come. A
+//! message that is wider than its column is wrapped, and its row is as high as it needs.
 //!
 //! ```text
 //! ╭───────┬──────────────────────────╮
@@ -43,7 +43,7 @@ pub(crate) fn print_log<R: Read + Drop>(
     Ok(println!(rt; "{buf}")?)
 }
 
-// The time of a message, which stands before the first space, and its words, wrapped.
+// The time of a message, up to the first space, and its words, wrapped.
 fn row_of(alloc: Global, line: &str) -> Result<Vec<Fitted<String>>, AllocError> {
     let (time, words) = line.split_once(' ').unwrap_or(("", line));
     let time = cut(alloc, time, WIDTHS[0], "…")?;

@@ -1,6 +1,6 @@
-//! The program `guide`: the programs of the guide one after the other, each behind a line with its name. Those that
-//! read an input are tried on samples. A word is the name of one of these alone, which then reads standard input:
-//! `live_log`, or `foreign_rows 40` with the width of its table.
+//! The program `guide`: the programs of the guide one after another, each after a line with its
+//! name. Those that read an input are tried on samples. With a word, only the program of this name
+//! runs, and reads standard input: `live_log`, or `foreign_rows 40` with the width of its table.
 //!
 //! Each program is a module. None of their functions needs a proof by hand.
 #![tactic(auto)]
@@ -69,7 +69,7 @@ fn show_texts(rt: &impl Print, alloc: Global) -> Result<(), Fault> {
     show(rt, "grid_calls", grid_calls::tables(alloc))
 }
 
-// Prints a text behind a line with its name, if it was made.
+// Prints a text after a line with its name, if it was made.
 fn show<E: Into<Fault>>(rt: &impl Print, name: &str, text: Result<String, E>) -> Result<(), Fault> {
     match text {
         Ok(text) => Ok(println!(rt; "== {name}\n{text}")?),
@@ -77,7 +77,7 @@ fn show<E: Into<Fault>>(rt: &impl Print, name: &str, text: Result<String, E>) ->
     }
 }
 
-// Prints what each program makes of its sample, behind a line with its name.
+// Prints what each program makes of its sample, after a line with its name.
 fn show_samples(rt: &impl Print, alloc: Global) -> Result<(), Fault> {
     for (name, sample) in [
         ("word_counts", samples::LINES),

@@ -1,7 +1,7 @@
-//! A price list: rows with a header, printed as wide as they are, the numbers at the right.
+//! A price list: rows with a header, as wide as they are, with numbers at the right.
 //!
-//! Its contracts say that all lines are equally wide: what each function does to a table keeps its
-//! glyphs and fills one column wide.
+//! Its contracts say that all lines are equally wide: each function keeps the table's glyphs and
+//! fills one column wide.
 
 ghost use Rattle.std.specs.Prelude.{IfOk, string_bytes};
 ghost use Rattle.pg_table.specs.Even.{IsEvenText, IsNarrowLook};

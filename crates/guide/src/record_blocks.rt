@@ -1,7 +1,8 @@
-//! Records as blocks of keys and values, one below the other: for rows that are wider than the screen.
+//! Records as blocks of keys and values, one below another: for rows that are wider than the
+//! screen.
 //!
-//! The rows are pushed one after the other. Keys are lent and headings are made, and both are cells of
-//! one table without a copy.
+//! The rows are pushed one after another. Keys are lent and headings are made, and both are cells
+//! of one table without a copy.
 
 use pg_config::SpannedConfig;
 use pg_layout::{Borders, Entity, HorizontalLine, Position, Sides};

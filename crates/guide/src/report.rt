@@ -1,6 +1,6 @@
-//! A report of a ledger: a row for each line of an input, a date, a text and an amount with semicolons between
-//! them. A row is written when the next line is there. The first line that isn't a row ends the report: the
-//! rows above it stay.
+//! A report of a ledger: a row for each line of an input, which is a date, a text and an amount
+//! with semicolons between them. A row is written when the next line has come. The first line that
+//! isn't a row ends the report: the rows above it stay.
 
 use crate::fault::Fault;
 use pg_config::SpannedConfig;
@@ -9,7 +9,7 @@ use pg_stream::{RowStream, StreamFault};
 use std::alloc::{AllocError, Global};
 use std::io::{self, BufRead, BufReader, Read};
 
-/// Room for a text of 24 columns and else for words of 10, with a space at each side.
+/// Room for a text of 24 columns and otherwise for words of 10, with a space at each side.
 const WIDTHS: [usize; 3] = [12, 26, 12];
 
 /// Prints the rows of all lines, or those above the first line that isn't a row.
@@ -52,8 +52,8 @@ fn line_fault(fault: StreamFault) -> Fault {
     }
 }
 
-// Prints the lines that a call of the stream appended. But for those of the first row, a line feed is in front of
-// them, which goes behind them here.
+// Prints the lines that a call of the stream appended. Except for those of the first row, a line
+// feed comes before them, which is moved to their end here.
 fn print_lines(rt: &impl Print, buf: &mut String) -> io::Result<()> {
     if !buf.is_empty() {
         println!(rt; "{}", buf.strip_prefix('\n').unwrap_or(buf))?;

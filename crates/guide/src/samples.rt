@@ -1,4 +1,4 @@
-//! What the programs that read an input are tried on.
+//! The inputs on which programs are tried.
 
 /// Lines for `word_counts`.
 pub(crate) const LINES: &str = "one line\nand another one\nthe last\n";

@@ -1,9 +1,9 @@
 //! Tables of articles and prices, whose rows come from a vector, from an iterator over it, from arrays
 //! and from the parts of lines.
 //!
-//! It shows the calls that take all rows at once, or rows of any kind: [`priced_lines`] has rows that
-//! may be errors, and [`tested_rows`] has rows behind a test. None of its functions needs a proof by
-//! hand, nor does [`append_rows`], whose contract says what text it appends.
+//! It shows the calls that take all rows at once, or rows of any kind: [`priced_lines`] has rows
+//! that may be errors, and [`tested_rows`] rows after a test. None of its functions needs a proof
+//! by hand, nor does [`append_rows`], whose contract says what text it appends.
 
 mod priced_lines;
 mod tested_rows;
@@ -33,7 +33,7 @@ fn set_look(config: &mut SpannedConfig) -> Result<(), AllocError> {
     config.set_padding(Entity::Global, Sides::new(beside, beside, none, none))
 }
 
-/// Appends the rows of a vector: where it succeeds, the text of all of them is there.
+/// Appends the rows of a vector: after success, the text of all of them.
 fn append_rows<D: Dimension, C: Colors>(
     alloc: Global,
     config: &SpannedConfig,
@@ -75,7 +75,7 @@ fn append_pairs(
     stream.finish(buf)
 }
 
-// Appends a row for each line, whose parts commas part.
+// Appends a row for each line, whose parts commas separate.
 fn append_lines(
     alloc: Global,
     config: &SpannedConfig,
@@ -99,7 +99,7 @@ fn rows_of(alloc: Global, rows: &[&[&'static str]]) -> Result<Vec<Vec<&'static s
     Ok(list)
 }
 
-// Rows of vectors, of which one has no price. Dashes stand behind each list.
+// Rows of vectors, one of which has no price. Dashes follow each list.
 fn append_vectors(
     alloc: Global,
     config: &SpannedConfig,
@@ -122,8 +122,8 @@ const PRICED: [&[&[&str]]; 3] = [
     &[&["rice", "1.80"]],
 ];
 
-// Rows of arrays and of lines, of which one has no price, and rows of which one doesn't fit, and is left
-// out.
+// Rows of arrays and of lines, one of which has no price, and rows one of which doesn't fit, and is
+// left out.
 fn append_parts(
     alloc: Global,
     config: &SpannedConfig,
@@ -147,7 +147,7 @@ const TESTED: &[&[&str]] = &[
     &["plums", "2.20"],
 ];
 
-/// All of them, parted by dashes.
+/// All of them, separated by dashes.
 pub(crate) fn lists(alloc: Global) -> Result<String, StreamFault> {
     let mut config = SpannedConfig::new(alloc);
     set_look(&mut config)?;

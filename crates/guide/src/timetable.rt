@@ -1,4 +1,4 @@
-//! A timetable: spans and colours, and sizes that are told.
+//! A timetable: spans and colours, and given sizes.
 
 use pg_config::SpannedConfig;
 use pg_layout::{
@@ -20,7 +20,7 @@ pub(crate) fn week(alloc: Global) -> Result<String, PrintFault> {
     PeekableGrid::new(records, &config, dimension, colors).text(alloc)
 }
 
-// The texts. Cells that another one covers are there too, and aren't shown.
+// The texts. Covered cells have one too, which isn't shown.
 fn lessons(alloc: Global) -> Result<VecRecords<&'static str>, AllocError> {
     let header = vec![in alloc; "hour", "Monday", "Tuesday"]?;
     let first = vec![in alloc; "8-9", "algebra", "physics"]?;
@@ -54,8 +54,8 @@ fn set_look(config: &mut SpannedConfig) -> Result<(), AllocError> {
     config.set_alignment_horizontal(Entity::Column(0), AlignmentHorizontal::Right)
 }
 
-// Physics takes two hours, and sport is on both days. Each stands in the middle of its cells, and no
-// crossing points into them.
+// Physics takes two hours, and sport is on both days. Each is centred in its cells, and no crossing
+// points into them.
 fn set_spans(config: &mut SpannedConfig) -> Result<(), AllocError> {
     config.set_row_span(Position::new(1, 2), 2)?;
     config.set_alignment_vertical(Entity::Cell(1, 2), AlignmentVertical::Center)?;

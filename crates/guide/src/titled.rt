@@ -1,4 +1,4 @@
-//! A title above a table, and a word below it, in the lines that are there.
+//! A title above a table, and a word below it, in existing lines.
 
 use pg_layout::{AlignmentHorizontal, Borders, Sides};
 use pg_table::{Table, TableFault};

@@ -1,4 +1,4 @@
-//! A table in columns of told widths: the heights are worked out, and no line of a text is lost.
+//! A table in columns of given widths: the heights are worked out, and no line of a text is lost.
 
 use crate::fault::Fault;
 use pg_config::SpannedConfig;

@@ -1,12 +1,12 @@
-//! Counts of words: a row for each line of an input, which is written as soon as the next line is there.
+//! Counts of words: a row for each line of an input, written as soon as the next line has come.
 //!
 //! ```text
 //! |   2 | one line           |
 //! |   3 | and another one    |
 //! ```
 //!
-//! It shows rows that come one at a time, which no one counts before: no call has a condition, and
-//! none of this needs a proof by hand.
+//! It shows rows that come one at a time, in unknown number: no call has a precondition, and none
+//! of this needs a proof by hand.
 
 use crate::fault::Fault;
 use pg_config::SpannedConfig;

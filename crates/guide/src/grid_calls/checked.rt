@@ -1,4 +1,5 @@
-//! Calls that test their table themselves: they ask nothing, and refuse a table that doesn't fit.
+//! Calls that test their table themselves: they have no precondition, and refuse a table that
+//! doesn't fit.
 
 use pg_config::{CompactConfig, SpannedConfig};
 use pg_grid::{CompactGrid, IterGrid, PeekableGrid, PrintFault, TablePrinter};
@@ -15,8 +16,8 @@ pub(crate) fn push_looked_up(
     PeekableGrid::new(records, config, dimension, &NoColors).print(buf)
 }
 
-/// Appends the table, as the streaming grid prints it, and lets each cell go when it is drawn: the
-/// records are handed over.
+/// Appends the table, as the streaming grid prints it, which owns the records and drops each cell
+/// once it is drawn.
 pub(crate) fn push_streamed(
     alloc: Global,
     records: VecRecords<String>,

@@ -1,4 +1,4 @@
-//! Calls that ask for a table that fits, behind the test that it does.
+//! Calls that require a table that fits, after the test that it does.
 
 use crate::fault::Fault;
 use pg_config::{CompactConfig, SpannedConfig};

@@ -1,4 +1,4 @@
-//! A table that is told in one function.
+//! A table that is set up in one function.
 
 use crate::fault::Fault;
 use crate::grid_calls::parts::records;

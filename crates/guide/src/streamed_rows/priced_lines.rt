@@ -1,4 +1,4 @@
-//! Lines that are rows, or errors in the place of rows.
+//! Lines that are rows, or errors in place of rows.
 
 use crate::streamed_rows::COLUMNS;
 use pg_config::SpannedConfig;
@@ -6,12 +6,12 @@ use pg_layout::{EvenDimension, NoColors};
 use pg_stream::{RowStream, RowsFault, StreamFault};
 use std::alloc::{AllocFailed, Global};
 
-/// Why a line is no row.
+/// Why a line isn't a row.
 #[derive(Clone, Copy)]
 enum LineFault {
-    /// No comma parts a price from the article.
+    /// No comma separates a price from the article.
     NoPrice,
-    /// No memory was found for its cells.
+    /// Out of memory for its cells.
     Memory,
 }
 
@@ -29,7 +29,7 @@ fn cells_of<'a>(alloc: Global, line: &'a str) -> Result<Vec<&'a str>, LineFault>
     }
 }
 
-// Prints a row for each line, up to the first one that is none.
+// Prints a row for each line, up to the first one that isn't a row.
 fn print_lines(
     alloc: Global,
     config: &SpannedConfig,
@@ -41,8 +41,8 @@ fn print_lines(
     stream.print_results(lines.lines().map(|line| cells_of(alloc, line)), buf)
 }
 
-/// Appends a row for each line. A line without a price ends the list: the rows above it stand, but for
-/// the latest, and the list says why.
+/// Appends a row for each line. A line without a price ends the list: the rows above it stay,
+/// except for the latest, and the list says why.
 pub(crate) fn append_priced_lines(
     alloc: Global,
     config: &SpannedConfig,

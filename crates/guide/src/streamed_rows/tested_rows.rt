@@ -1,4 +1,4 @@
-//! Rows that are printed at once, each behind the test that it fits.
+//! Rows that are printed at once, each after the test that it fits.
 
 use crate::streamed_rows::COLUMNS;
 use pg_config::SpannedConfig;
@@ -6,8 +6,8 @@ use pg_layout::{EvenDimension, NoColors};
 use pg_stream::{RowFault, RowPrinter, StreamFault};
 use std::alloc::Global;
 
-/// Appends those of the rows that fit, and below them the last one. A printer comes back from a row
-/// that doesn't fit.
+/// Appends those of the rows that fit, and below them the last one. A row that doesn't fit gives
+/// the printer back.
 pub(crate) fn append_fitting<'a>(
     alloc: Global,
     config: &SpannedConfig,
@@ -27,7 +27,7 @@ pub(crate) fn append_fitting<'a>(
     append_last(printer, last.to_vec(alloc)?, buf)
 }
 
-// Appends the last row behind a test of its own, and the line below it.
+// Appends the last row after a test of its own, and the line below it.
 fn append_last(
     printer: RowPrinter<'_, &str, EvenDimension, NoColors>,
     cells: Vec<&str>,
