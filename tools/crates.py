@@ -1,6 +1,6 @@
 """The crates of the repository, as crates.txt lists them.
 
-`python3 tools/crates.py NAME` prints those that a crate stands on, lowest first, and then that one.
+`python3 tools/crates.py NAME` prints those below a crate, lowest first, and then that one.
 """
 import re
 import sys
@@ -26,7 +26,7 @@ def own_lines():
 
 
 def crates_below(name, lines):
-    """The listed crates that a crate stands on, each behind those that it stands on itself."""
+    """The listed crates below a crate, each after those below it."""
     found = []
     for below in libraries_of(lines[name]):
         if below in lines:

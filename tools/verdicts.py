@@ -2,7 +2,7 @@
 import re
 from typing import NamedTuple
 
-# The words of a verdict, those first that tell most: tools/watch-edits explains them.
+# The words of a verdict, the most telling first: tools/watch-edits explains them.
 WORDS = ["open", "value", "proof", "type", "call", "name", "UNREAD", "PROVED"]
 # What the prover says of an answer by hand that names something the body no longer has.
 GONE = re.compile(r"has no field|can be named from here|is not in scope|has no `|no operand|is no name")
