@@ -1,15 +1,16 @@
 -- Texts in which control characters are seen.
 use Rattle.std.proofs.Common.{◌≡◌, ◌⊎◌, ⊎_elim, ℕ, zero, suc, ◌+◌, ◌-◌, ◌<◌, ◌≤◌, ◌==◌, ◌&&◌, nat_lt, not, Bool, true, false, cond, List, [], ◌∷◌, map, chars, eq-zero-or-pos, refl, ap, subst, ◌∙◌, arith}
 use Rattle.std.specs.List.{list_all, range_with_len}
-use Rattle.std.specs.Str.{encode_utf8_all, IsAscii}
+use Rattle.std.specs.Str.{encode_utf8_all}
 use Rattle.std.proofs.lemmas.Bool.{and_parts}
 use Rattle.std.proofs.lemmas.Bool.Decides.{nat_tests}
-use Rattle.std.proofs.lemmas.Str.{encodes-chars, scalars-chars, chars-encodes, chars-IsAscii}
+use Rattle.std.proofs.lemmas.Str.{encodes-chars, scalars-chars, chars-encodes}
 use Rattle.std.proofs.Math.Utf8.{scalars, scalar}
 use Rattle.unicode_width.specs.Width.{str_width}
 use Rattle.unicode_width.proofs.Computing.{unicode_width}
 use Rattle.pg_fit.specs.Controls.{is_control, sign_of, visible_text}
 use Rattle.pg_fit.specs.Printable.{is_printable}
+use Rattle.pg_fit.proofs.PrintableBytes.{printable-chars}
 use Rattle.pg_fit.specs.Laws.{NoControlsAreLeft, VisibleTextsStay, SignsTakeOneColumn}
 
 -- ---- texts without control characters stay
@@ -29,25 +30,11 @@ visible_texts_stay text utf8 h = ap encode_utf8_all (signs-others (chars text) h
 
 -- ---- a text of printable bytes has no control character
 
-printable-low : (b : ℕ) → is_printable b ≡ true → b < 128
-printable-low b h = grind (arith, nat_tests)
-
 printable-seen : (b : ℕ) → is_printable b ≡ true → not (is_control b) ≡ true
 printable-seen b h = grind (arith, nat_tests)
 
-IsAscii-printable : (bs : List ℕ) → list_all is_printable bs ≡ true → IsAscii bs
-IsAscii-printable [] h i = omega arith
-IsAscii-printable (b ∷ bs) h zero = printable-low b (and_parts (is_printable b) (list_all is_printable bs) h).0
-IsAscii-printable (b ∷ bs) h (suc i) = IsAscii-printable bs (and_parts (is_printable b) (list_all is_printable bs) h).1 i
-
-bytes-seen : (bs : List ℕ) → list_all is_printable bs ≡ true → list_all (λ c. not (is_control c)) bs ≡ true
-bytes-seen [] h = refl
-bytes-seen (b ∷ bs) h =
-    let parts = and_parts (is_printable b) (list_all is_printable bs) h in
-    ap (λ v. v && list_all (λ c. not (is_control c)) bs) (printable-seen b parts.0) ∙ bytes-seen bs parts.1
-
 pub printable_texts_are_seen : (bs : List ℕ) → list_all is_printable bs ≡ true → list_all (λ c. not (is_control c)) (chars bs) ≡ true
-printable_texts_are_seen bs h = ap (list_all (λ c. not (is_control c))) (chars-IsAscii bs (IsAscii-printable bs h)) ∙ bytes-seen bs h
+printable_texts_are_seen = printable-chars (λ c. not (is_control c)) printable-seen
 
 -- ---- no control character is left
 

@@ -5,16 +5,16 @@ use Rattle.std.specs.List.{slice_range, list_all}
 use Rattle.std.specs.Str.{IsUtf8, IsCharBoundary}
 use Rattle.std.proofs.lemmas.Bool.{and_parts, or_cases}
 use Rattle.std.proofs.lemmas.Bool.Decides.{nat_tests}
-use Rattle.std.proofs.lemmas.Str.{chars-nil, chars-append, IsUtf8-nil, IsUtf8-append, IsUtf8-between, IsCharBoundary-start, IsCharBoundary-end}
-use Rattle.unicode_width.specs.Width.{str_width, read_before, plain}
+use Rattle.std.proofs.lemmas.Str.{IsUtf8-nil, IsUtf8-append, IsUtf8-between, IsCharBoundary-start, IsCharBoundary-end}
 use Rattle.unicode_width.specs.Kind.{kind}
-use Rattle.unicode_width.proofs.Rules.{is_simple_kind, is_simple, str_width-append_simple}
+use Rattle.unicode_width.proofs.Rules.{is_simple_kind, is_simple}
 use Rattle.unicode_width.proofs.Computing.{unicode_width}
 use Rattle.unicode_segmentation.specs.Grapheme.{graphemes}
 use Rattle.pg_layout.specs.Text.{Text, width_of}
 use Rattle.pg_fit.specs.Wrapping.{fits}
 use Rattle.pg_fit.specs.Cutting.{held, beginning, cut_line}
 use Rattle.pg_fit.specs.Laws.{is_tail_character, CutLinesFit}
+use Rattle.pg_fit.proofs.AddedWidths.{nothing_wide, simple-behind}
 use Rattle.pg_fit.proofs.CharactersOfParts.{StandFrom, characters-stand}
 use Rattle.pg_fit.proofs.WrappedLines.{slice_range-all}
 
@@ -52,10 +52,6 @@ held-fits width front (c ∷ cs) low =
       | false ↦ λ h. low
     ] refl
 
-nothing_wide : width_of [] ≡ 0
-unfolding width_of str_width
-nothing_wide = ap (λ cs. (read_before false cs (0, plain)).0) chars-nil
-
 beginning-fits : (width : ℕ) (line : Text) → width_of (beginning width line) ≤ width
 beginning-fits width line = held-fits width [] (graphemes true line) (omega (arith, nothing_wide))
 
@@ -79,8 +75,7 @@ tails-simple (c ∷ cs) h =
     ap (λ v. v && list_all is_simple cs) (tail-simple c parts.0) ∙ tails-simple cs parts.1
 
 tailed : (front tail : Text) → IsUtf8 front → list_all is_tail_character (chars tail) ≡ true → width_of (front ++ tail) ≡ width_of front + width_of tail
-unfolding width_of
-tailed front tail utf8 h = ap (str_width false) (chars-append front tail utf8) ∙ str_width-append_simple false (chars front) (chars tail) (tails-simple (chars tail) h)
+tailed front tail utf8 h = simple-behind front tail utf8 (tails-simple (chars tail) h)
 
 pub cut_lines_fit : CutLinesFit
 unfolding cut_line

@@ -5,8 +5,6 @@ use Rattle.std.proofs.lemmas.Bool.{or_cases}
 use Rattle.std.proofs.lemmas.Bool.Decides.{nat_tests}
 use Rattle.std.proofs.lemmas.List.Concat.{flat_map-cons}
 use Rattle.std.proofs.lemmas.List.Splits.{join_with_byte-slice_split}
-use Rattle.std.proofs.lemmas.Str.{chars-nil}
-use Rattle.unicode_width.specs.Width.{str_width, read_before, plain}
 use Rattle.unicode_segmentation.specs.Grapheme.{graphemes, is_grapheme_break}
 use Rattle.unicode_segmentation.proofs.SegmentsLemmas.{concat-segments}
 use Rattle.pg_layout.specs.Text.{Text, lines_of, width_of, text_width_of, greatest}
@@ -15,6 +13,7 @@ use Rattle.pg_fit.specs.declared.wrapping.Breaking.TheVariants.{Anywhere, Betwee
 use Rattle.std.specs.List.{join_with_byte}
 use Rattle.pg_fit.specs.Wrapping.{Piece, fits, takes, filled, characters, words, indented, parted, pieces, wrapped_line, wrapped, widest_character, least_line_width}
 use Rattle.pg_fit.specs.Laws.{EachFits, LinesFit, NothingIsLost, FittingTextsStay}
+use Rattle.pg_fit.proofs.AddedWidths.{nothing_wide}
 use Rattle.pg_fit.proofs.WrappedLines.{wrapped_line-fits}
 
 -- ---- lines fit
@@ -70,10 +69,6 @@ parted_fit width (p ∷ ps) low =
 pieces_fit : (breaking : Breaking) (width : ℕ) (line : Text) → least_line_width breaking line ≤ width → PiecesFit width (pieces breaking width line)
 pieces_fit Anywhere width line low = characters_fit width [] (graphemes true line) low
 pieces_fit BetweenWords width line low = parted_fit width (indented (words line)) low
-
-nothing_wide : width_of [] ≡ 0
-unfolding width_of str_width
-nothing_wide = ap (λ cs. (read_before false cs (0, plain)).0) chars-nil
 
 pub lines_fit : LinesFit
 unfolding wrapped_line

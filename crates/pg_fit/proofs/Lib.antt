@@ -19,3 +19,5 @@ pub mod Levels
 pub mod HandedOut
 pub mod NarrowedWidths
 pub mod OverlaidTexts
+pub mod AddedWidths
+pub mod PrintableLines

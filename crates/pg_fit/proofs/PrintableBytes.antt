@@ -1,10 +1,12 @@
 -- Printable bytes, told by vectors of them.
-use Rattle.std.proofs.Common.{ap, eqb, eqb-true, ◌&&◌, ◌≡◌, inl, inr, ◌+◌, ◌-◌, ◌<◌, ◌≤◌, ◌^◌, ◌%◌, ◌*◌, ℕ, suc, true, false, nat_lt, cond, List, [], ◌∷◌, length, get_or, map, replicate, slice_index, refl, sym, ◌∙◌, w8, arith}
+use Rattle.std.proofs.Common.{ap, eqb, eqb-true, ◌&&◌, ◌≡◌, inl, inr, ◌+◌, ◌-◌, ◌<◌, ◌≤◌, ◌^◌, ◌%◌, ◌*◌, ℕ, suc, true, false, nat_lt, cond, List, [], ◌∷◌, length, get_or, map, replicate, slice_index, zero, chars, Bool, refl, sym, ◌∙◌, w8, arith}
 use Rattle.std.specs.List.{list_all}
 use Rattle.std.proofs.lemmas.Bool.{cases_lt, and_from, and_parts}
 use Rattle.std.proofs.lemmas.Bool.Decides.{nat_tests}
 use Rattle.std.proofs.lemmas.List.{length-map}
 use Rattle.std.proofs.lemmas.Simd.{bitmask_splat, none_from_empty_mask, length-chunk, mask_l-mod, tops_compared, zip2_splat_left}
+use Rattle.std.specs.Str.{IsAscii}
+use Rattle.std.proofs.lemmas.Str.{chars-IsAscii}
 use lib.Lanes.{zip2, mask_l, top, chunk}
 use mir.Val.{hbits, bits}
 use Rattle.pg_fit.specs.Printable.{is_printable, ArePrintable}
@@ -41,3 +43,23 @@ printable_runs bs i before here k from to = elim (cases_lt k (16 * i)) [ inl h �
 
 pub printable_to_the_end : (bs : List ℕ) (i : ℕ) → 16 ≤ length bs → length bs ≤ 16 * i + 16 → ArePrintable bs 0 (16 * i) → ArePrintable bs (length bs - 16) (length bs - 16 + 16) → list_all is_printable bs ≡ true
 printable_to_the_end bs i some room before last = all_by_index bs (λ k l. elim (cases_lt k (16 * i)) [ inl h ↦ before k (omega arith) h | inr h ↦ last k (omega arith) (omega arith) ])
+
+-- ---- a text of printable bytes: its characters are they
+
+pub printable-low : (b : ℕ) → is_printable b ≡ true → b < 128
+printable-low b h = grind (arith, nat_tests)
+
+pub IsAscii-printable : (bs : List ℕ) → list_all is_printable bs ≡ true → IsAscii bs
+IsAscii-printable [] h i = omega arith
+IsAscii-printable (b ∷ bs) h zero = printable-low b (and_parts (is_printable b) (list_all is_printable bs) h).0
+IsAscii-printable (b ∷ bs) h (suc i) = IsAscii-printable bs (and_parts (is_printable b) (list_all is_printable bs) h).1 i
+
+bytes-pass : (p : ℕ → Bool) → ((b : ℕ) → is_printable b ≡ true → p b ≡ true) → (bs : List ℕ) → list_all is_printable bs ≡ true → list_all p bs ≡ true
+bytes-pass p passes [] h = refl
+bytes-pass p passes (b ∷ bs) h =
+    let parts = and_parts (is_printable b) (list_all is_printable bs) h in
+    and_from (p b) (list_all p bs) (passes b parts.0) (bytes-pass p passes bs parts.1)
+
+-- what each printable byte passes each character of such a text passes
+pub printable-chars : (p : ℕ → Bool) → ((b : ℕ) → is_printable b ≡ true → p b ≡ true) → (bs : List ℕ) → list_all is_printable bs ≡ true → list_all p (chars bs) ≡ true
+printable-chars p passes bs h = ap (list_all p) (chars-IsAscii bs (IsAscii-printable bs h)) ∙ bytes-pass p passes bs h

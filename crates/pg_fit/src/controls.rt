@@ -40,7 +40,7 @@ pub fn is_visible(text: &str) -> bool
 // test is needed then, and bytes that are compared in blocks cost less than characters.
 // Two blocks, which may overlap, hold a text of at most twice their length.
 #[inline(always)]
-fn is_printable(bytes: &[u8]) -> bool
+pub(crate) fn is_printable(bytes: &[u8]) -> bool
     ensures { IsTrue result → list_all is_printable bytes.now ≡ true }
 {
     match bytes.len() {

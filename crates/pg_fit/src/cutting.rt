@@ -3,6 +3,7 @@
 ghost use Rattle.std.specs.Prelude.{◌≡◌, ◌++◌, IfOk, OnOk, string_bytes};
 ghost use Rattle.pg_fit.specs.Cutting.{beginning, cut_line, cut_text};
 
+use crate::line::{Line, columns_within};
 use pg_layout::{get_line_width, get_lines};
 use std::alloc::{AllocError, Allocator};
 use unicode_segmentation::UnicodeSegmentation;
@@ -56,13 +57,21 @@ pub(crate) fn push_cut<W: Allocator>(
 fn begin_of(line: &str, width: usize) -> &str
     ensures { result.now ≡ beginning width line.now }
 {
-    let mut end = 0;
+    let mut front = Line {
+        begin: 0,
+        end: 0,
+        columns: 0,
+    };
     for character in line.graphemes(true) {
-        let next = end + character.len();
-        if get_line_width(&line[..next]) > width {
-            return &line[..end];
-        }
-        end = next;
+        let end = front.end + character.len();
+        let Some(columns) = columns_within(line, width, front, end) else {
+            return &line[..front.end];
+        };
+        front = Line {
+            begin: 0,
+            end,
+            columns,
+        };
     }
-    &line[..end]
+    &line[..front.end]
 }

@@ -3,22 +3,16 @@
 ghost use Rattle.std.specs.Prelude.{◌≡◌, ◌+◌, ◌<◌, ◌≤◌, ◌++◌, MatchOption, flat_map, not, ◌==◌, [], ◌∷◌, ℕ, List, IfOk, length, slice_range, true, string_bytes};
 ghost use Rattle.std.specs.List.{position_or_len};
 ghost use Rattle.std.specs.Str.{IsCharBoundary};
-ghost use Rattle.pg_layout.specs.Text.{Text};
+ghost use Rattle.pg_layout.specs.Text.{Text, width_of};
 ghost use Rattle.unicode_segmentation.specs.Grapheme.{graphemes};
 ghost use Rattle.std.specs.List.{join_with_byte};
 ghost use Rattle.pg_fit.specs.Wrapping.{Piece, filled, characters, words, indented, parted};
 ghost use Rattle.pg_fit.specs.Inside.{IsNextWord, words_from};
 
+use crate::line::{Line, Part, columns_within, line_of};
 use pg_layout::get_line_width;
 use std::alloc::{AllocError, Allocator};
 use unicode_segmentation::UnicodeSegmentation;
-
-/// A part of a text, from one byte up to another.
-#[derive(Debug, Clone, Copy)]
-pub(crate) struct Part {
-    pub(crate) begin: usize,
-    pub(crate) end: usize,
-}
 
 /// Puts a piece of the text on the line that is being filled, or, where the line then doesn't fit,
 /// ends that line, appends it, and begins the next one with the piece. Gives the line that is being
@@ -26,11 +20,12 @@ pub(crate) struct Part {
 pub(crate) fn take<W: Allocator>(
     text: &str,
     width: usize,
-    line: Part,
+    line: Line,
     piece: Part,
     out: &mut String<W>,
-) -> Result<Part, AllocError>
+) -> Result<Line, AllocError>
     requires line { line.begin ≤ line.end }
+    requires columns { line.columns ≡ width_of (slice_range text.now line.begin line.end) }
     requires gap { line.end ≤ piece.begin }
     requires piece { piece.begin ≤ piece.end }
     requires line_begin { IsCharBoundary text.now line.begin }
@@ -41,19 +36,24 @@ pub(crate) fn take<W: Allocator>(
     ensures order { IfOk result (λ r. r.begin ≤ piece.end) }
     ensures line_begin { IfOk result (λ r. IsCharBoundary text.now r.begin) }
     ensures line_end { IfOk result (λ r. IsCharBoundary text.now r.end) }
+    ensures columns { IfOk result (λ r. r.columns ≡ width_of (slice_range text.now r.begin r.end)) }
     ensures filled { IfOk result (λ r. (ps : List Piece) →
         string_bytes out.new ++ join_with_byte 10 (filled width (slice_range text.now r.begin r.end) ps)
         ≡ string_bytes out.old ++ join_with_byte 10 (filled width (slice_range text.now line.begin line.end) (record { gap = slice_range text.now line.end piece.begin; text = slice_range text.now piece.begin piece.end } ∷ ps))) }
 {
-    if line.begin == piece.begin || get_line_width(&text[line.begin..piece.end]) <= width {
-        return Ok(Part {
+    if line.begin == piece.begin {
+        return Ok(line_of(text, piece));
+    }
+    if let Some(columns) = columns_within(text, width, line, piece.end) {
+        return Ok(Line {
             begin: line.begin,
             end: piece.end,
+            columns,
         });
     }
     out.push_str(&text[line.begin..line.end])?;
     out.push('\n')?;
-    Ok(piece)
+    Ok(line_of(text, piece))
 }
 
 /// Puts the characters of a part of the text, one after another, on the line that is being filled and
@@ -61,11 +61,12 @@ pub(crate) fn take<W: Allocator>(
 pub(crate) fn take_characters<W: Allocator>(
     text: &str,
     width: usize,
-    line: Part,
+    line: Line,
     piece: Part,
     out: &mut String<W>,
-) -> Result<Part, AllocError>
+) -> Result<Line, AllocError>
     requires line { line.begin ≤ line.end }
+    requires columns { line.columns ≡ width_of (slice_range text.now line.begin line.end) }
     requires gap { line.end ≤ piece.begin }
     requires piece { piece.begin ≤ piece.end }
     requires line_begin { IsCharBoundary text.now line.begin }
@@ -76,6 +77,7 @@ pub(crate) fn take_characters<W: Allocator>(
     ensures at_end { IfOk result (λ r. piece.begin < piece.end → r.end ≡ piece.end) }
     ensures line_begin { IfOk result (λ r. IsCharBoundary text.now r.begin) }
     ensures line_end { IfOk result (λ r. IsCharBoundary text.now r.end) }
+    ensures columns { IfOk result (λ r. r.columns ≡ width_of (slice_range text.now r.begin r.end)) }
     ensures filled { IfOk result (λ r. (ps : List Piece) →
         string_bytes out.new ++ join_with_byte 10 (filled width (slice_range text.now r.begin r.end) ps)
         ≡ string_bytes out.old ++ join_with_byte 10 (filled width (slice_range text.now line.begin line.end) (characters (slice_range text.now line.end piece.begin) (graphemes true (slice_range text.now piece.begin piece.end)) ++ ps))) }
@@ -140,7 +142,7 @@ pub(crate) fn take_words<W: Allocator>(
     text: &str,
     width: usize,
     out: &mut String<W>,
-) -> Result<Part, AllocError>
+) -> Result<Line, AllocError>
     ensures order { IfOk result (λ r. (r.begin ≤ r.end) × (r.end ≤ length text.now)) }
     ensures line_begin { IfOk result (λ r. IsCharBoundary text.now r.begin) }
     ensures line_end { IfOk result (λ r. IsCharBoundary text.now r.end) }
@@ -148,7 +150,11 @@ pub(crate) fn take_words<W: Allocator>(
         string_bytes out.new ++ join_with_byte 10 (slice_range text.now r.begin r.end ∷ [])
         ≡ string_bytes out.old ++ join_with_byte 10 (filled width [] (flat_map (parted width) (indented (words text.now))))) }
 {
-    let mut line = Part { begin: 0, end: 0 };
+    let mut line = Line {
+        begin: 0,
+        end: 0,
+        columns: 0,
+    };
     'words: while let Some(word) = next_word(text, line.end) {
         line = take_word(text, width, line, word, out)?;
     }
@@ -159,11 +165,12 @@ pub(crate) fn take_words<W: Allocator>(
 fn take_word<W: Allocator>(
     text: &str,
     width: usize,
-    line: Part,
+    line: Line,
     word: Part,
     out: &mut String<W>,
-) -> Result<Part, AllocError>
+) -> Result<Line, AllocError>
     requires line { line.begin ≤ line.end }
+    requires columns { line.columns ≡ width_of (slice_range text.now line.begin line.end) }
     requires gap { line.end ≤ word.begin }
     requires piece { word.begin < word.end }
     requires line_begin { IsCharBoundary text.now line.begin }
@@ -173,6 +180,7 @@ fn take_word<W: Allocator>(
     ensures at_end { IfOk result (λ r. r.end ≡ word.end) }
     ensures order { IfOk result (λ r. r.begin ≤ word.end) }
     ensures line_begin { IfOk result (λ r. IsCharBoundary text.now r.begin) }
+    ensures columns { IfOk result (λ r. r.columns ≡ width_of (slice_range text.now r.begin r.end)) }
     ensures filled { IfOk result (λ r. (ps : List Piece) →
         string_bytes out.new ++ join_with_byte 10 (filled width (slice_range text.now r.begin r.end) ps)
         ≡ string_bytes out.old ++ join_with_byte 10 (filled width (slice_range text.now line.begin line.end) (parted width (record { gap = slice_range text.now line.end word.begin; text = slice_range text.now word.begin word.end }) ++ ps))) }

@@ -7,6 +7,7 @@ mod cutting;
 mod filling;
 mod laws;
 mod least;
+mod line;
 mod narrowing;
 mod overlaid;
 mod row;

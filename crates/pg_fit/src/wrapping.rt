@@ -5,7 +5,8 @@ ghost use Rattle.std.specs.Str.{IsCharBoundary};
 ghost use Rattle.std.specs.List.{join_with_byte};
 ghost use Rattle.pg_fit.specs.Wrapping.{wrapped, wrapped_line, fits, filled, pieces};
 
-use crate::filling::{Part, take_characters, take_words};
+use crate::filling::{take_characters, take_words};
+use crate::line::{Line, Part};
 use pg_layout::{get_line_width, get_lines};
 use std::alloc::{AllocError, Allocator};
 
@@ -65,7 +66,7 @@ fn take_line<W: Allocator>(
     width: usize,
     breaking: Breaking,
     out: &mut String<W>,
-) -> Result<Part, AllocError>
+) -> Result<Line, AllocError>
     ensures order { IfOk result (λ r. (r.begin ≤ r.end) × (r.end ≤ length line.now)) }
     ensures line_begin { IfOk result (λ r. IsCharBoundary line.now r.begin) }
     ensures line_end { IfOk result (λ r. IsCharBoundary line.now r.end) }
@@ -73,7 +74,11 @@ fn take_line<W: Allocator>(
 {
     match breaking {
         Breaking::Anywhere => {
-            let begin = Part { begin: 0, end: 0 };
+            let begin = Line {
+                begin: 0,
+                end: 0,
+                columns: 0,
+            };
             let all = Part {
                 begin: 0,
                 end: line.len(),

@@ -17,6 +17,7 @@ loop-character-init g c =
     record {
       stand = rw left (characters-stand a.text.now a.piece.begin a.piece.end c.utf8.text c.requires.piece c.requires.piece_begin c.requires.piece_end);
       line = c.requires.line;
+      columns = c.requires.columns;
       gap = c.requires.gap;
       caught = inl refl;
       within = c.requires.piece;
@@ -45,6 +46,7 @@ loop-character-preserved g c =
     record {
       stand = stand.3;
       line = omega (arith, made.order, made.at_end);
+      columns = made.columns;
       gap = omega (arith, made.at_end);
       caught = inr made.at_end;
       within = stand.0;

@@ -5,6 +5,7 @@ use Rattle.std.specs.Str.{IsCharBoundary}
 use Rattle.unicode_segmentation.specs.Grapheme.{graphemes}
 use Rattle.unicode_segmentation.specs.Iter.{graphemes_left}
 use Rattle.std.specs.List.{join_with_byte}
+use Rattle.pg_layout.specs.Text.{width_of}
 use Rattle.pg_fit.specs.Wrapping.{Piece, filled, characters}
 use Rattle.pg_fit.proofs.CharactersOfParts.{StandFrom}
 use Rattle.pg_fit.proofs.filling.take_characters.Given as goal
@@ -13,6 +14,7 @@ abbrev pub invariant-loop-character : goal.invariant-loop-character
 invariant-loop-character g l = record {
   stand : StandFrom l.text l.fn.piece.end l.end (graphemes_left l.character-iterator);
   line : l.line.begin ≤ l.line.end;
+  columns : l.line.columns ≡ width_of (slice_range l.text l.line.begin l.line.end);
   gap : l.line.end ≤ l.end;
   caught : (l.end ≡ l.fn.piece.begin) ⊎ (l.line.end ≡ l.end);
   within : l.end ≤ l.fn.piece.end;

@@ -1,9 +1,18 @@
-use Rattle.std.proofs.Common.{max, ◌∙◌, rules, tests}
+use Rattle.std.proofs.Common.{max, sym, ap, ◌∙◌, rules, tests}
 use Rattle.std.proofs.lemmas.Iterator.Consumers.{YieldsList-from_first, fold_from_yields_List}
 use Rattle.pg_layout.specs.Text.{lines_of}
 use Rattle.pg_fit.specs.Wrapping.{least_line_width}
+use Rattle.std.specs.List.{list_all}
+use Rattle.pg_fit.specs.Printable.{is_printable}
+use Rattle.pg_fit.proofs.PrintableLines.{least-one_line}
 use Rattle.pg_fit.proofs.LeastWidths.{least_width-fold}
 use Rattle.pg_fit.proofs.least.least_width.Goals as goal
+
+pub returns-then-is_printable : goal.returns-then-is_printable
+returns-then-is_printable c =
+    let t = c.args.text.now in
+    let printable = ap (list_all is_printable) (sym c.as_bytes.ensures.value) ∙ c.is_printable.ensures c.if-is_printable.true in
+    c.least_printable_width.ensures ∙ ap (least_line_width c.args.breaking) c.as_bytes-then-is_printable.ensures.value ∙ sym (least-one_line c.args.breaking t printable)
 
 pub returns : goal.returns
 returns c =

@@ -3,9 +3,18 @@ use Rattle.std.proofs.lemmas.Str.{IsCharBoundary-start, IsCharBoundary-end}
 use Rattle.unicode_segmentation.specs.Grapheme.{graphemes}
 use Rattle.unicode_segmentation.specs.Iter.{graphemes_left}
 use Rattle.pg_layout.specs.Text.{greatest, width_of}
+use Rattle.std.specs.List.{list_all}
+use Rattle.pg_fit.specs.Printable.{is_printable}
+use Rattle.pg_fit.proofs.PrintableLines.{widest-printable}
 use Rattle.pg_fit.proofs.CharactersOfParts.{StandFrom, characters-stand}
 use Rattle.pg_fit.proofs.WrappedLines.{slice_range-all}
 use Rattle.pg_fit.proofs.least.widest_character.Goals as goal
+
+pub returns-then-is_printable : goal.returns-then-is_printable
+returns-then-is_printable c =
+    let t = c.args.text.now in
+    let printable = ap (list_all is_printable) (sym c.as_bytes.ensures.value) ∙ c.is_printable.ensures c.if-is_printable.true in
+    omega (arith, c.min.ensures, widest-printable t printable)
 
 pub loop-character-init : goal.loop-character-init
 loop-character-init c =

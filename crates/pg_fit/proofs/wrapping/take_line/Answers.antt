@@ -5,6 +5,9 @@ use Rattle.std.proofs.lemmas.Str.{IsCharBoundary-start}
 use Rattle.unicode_segmentation.specs.Grapheme.{graphemes}
 use Rattle.std.specs.List.{join_with_byte}
 use Rattle.pg_fit.specs.Wrapping.{filled, characters, pieces}
+use Rattle.pg_layout.specs.Text.{width_of}
+use Rattle.pg_fit.proofs.AddedWidths.{nothing_wide}
+use Rattle.pg_fit.proofs.FilledLines.{slice_range-none}
 use Rattle.pg_fit.proofs.WrappedLines.{slice_range-all}
 use Rattle.pg_fit.proofs.wrapping.take_line.Goals as goal
 
@@ -13,6 +16,9 @@ take_characters-requires-clause-line_begin g c = IsCharBoundary-start c.args.lin
 
 pub take_characters-requires-clause-line_end : goal.take_characters-requires-clause-line_end
 take_characters-requires-clause-line_end g c = IsCharBoundary-start c.args.line.now c.utf8.line
+
+pub take_characters-requires-clause-columns : goal.take_characters-requires-clause-columns
+take_characters-requires-clause-columns g c = sym (ap width_of (slice_range-none c.args.line.now 0) ∙ nothing_wide)
 
 pub take_characters-requires-clause-piece_begin : goal.take_characters-requires-clause-piece_begin
 take_characters-requires-clause-piece_begin g c = IsCharBoundary-start c.args.line.now c.utf8.line

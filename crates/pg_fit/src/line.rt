@@ -1,0 +1,98 @@
+//! A line that is being filled with pieces of a text, and how many columns it takes.
+
+ghost use Rattle.std.specs.Prelude.{◌≡◌, ◌<◌, ◌≤◌, chars, slice_range, MatchOption};
+ghost use Rattle.std.specs.List.{list_all};
+ghost use Rattle.std.specs.Str.{IsCharBoundary};
+ghost use Rattle.pg_layout.specs.Text.{width_of};
+ghost use Rattle.pg_fit.specs.Inside.{adds_up};
+
+use crate::controls::is_printable;
+use pg_layout::get_line_width;
+
+/// A part of a text, from one byte up to another.
+#[derive(Debug, Clone, Copy)]
+pub(crate) struct Part {
+    pub(crate) begin: usize,
+    pub(crate) end: usize,
+}
+
+/// A part of a text that is a line, and how many columns it takes.
+#[derive(Debug, Clone, Copy)]
+pub(crate) struct Line {
+    pub(crate) begin: usize,
+    pub(crate) end: usize,
+    pub(crate) columns: usize,
+}
+
+/// The line of a piece alone.
+pub(crate) fn line_of(text: &str, piece: Part) -> Line
+    requires order { piece.begin ≤ piece.end }
+    requires begin { IsCharBoundary text.now piece.begin }
+    requires end { IsCharBoundary text.now piece.end }
+    ensures begin { result.begin ≡ piece.begin }
+    ensures end { result.end ≡ piece.end }
+    ensures columns { result.columns ≡ width_of (slice_range text.now piece.begin piece.end) }
+{
+    Line {
+        begin: piece.begin,
+        end: piece.end,
+        columns: get_line_width(&text[piece.begin..piece.end]),
+    }
+}
+
+/// How many columns a line takes with what stands behind it up to a byte, if these are at most so many.
+///
+/// Only what is behind the line is measured where its characters add up, so that a line of n pieces isn't
+/// measured n times.
+pub(crate) fn columns_within(text: &str, width: usize, line: Line, end: usize) -> Option<usize>
+    requires line { line.begin ≤ line.end }
+    requires order { line.end ≤ end }
+    requires line_begin { IsCharBoundary text.now line.begin }
+    requires line_end { IsCharBoundary text.now line.end }
+    requires end { IsCharBoundary text.now end }
+    requires columns { line.columns ≡ width_of (slice_range text.now line.begin line.end) }
+    ensures { MatchOption result (width < width_of (slice_range text.now line.begin end)) (λ n. (n ≡ width_of (slice_range text.now line.begin end)) × (n ≤ width)) }
+{
+    let more = &text[line.end..end];
+    if !adds_up(more) {
+        let columns = get_line_width(&text[line.begin..end]);
+        return if columns <= width {
+            Some(columns)
+        } else {
+            None
+        };
+    }
+    let Some(room) = width.checked_sub(line.columns) else {
+        return None;
+    };
+    let own = get_line_width(more);
+    if own <= room {
+        Some(line.columns + own)
+    } else {
+        None
+    }
+}
+
+// Whether each character of a text adds its own width to that of any text before it.
+fn adds_up(text: &str) -> bool
+    ensures { result ≡ list_all adds_up (chars text.now) }
+{
+    is_printable(text.as_bytes()) || text.chars().all(|c| is_additive(c))
+}
+
+fn is_additive(c: char) -> bool
+    ensures { result ≡ adds_up c }
+{
+    matches!(
+        c,
+        ' '..='~'
+            | '\u{a1}'..='\u{337}'
+            | '\u{339}'..='\u{5db}'
+            | '\u{883}'..='\u{177f}'
+            | '\u{1a11}'..='\u{2319}'
+            | '\u{2e80}'..='\u{a4cf}'
+            | '\u{ac00}'..='\u{d7a3}'
+            | '\u{f900}'..='\u{faff}'
+            | '\u{ff00}'..='\u{ffef}'
+    )
+}
