@@ -22,11 +22,13 @@ use Rattle.pg_layout.proofs.KeyOrders.{place-laws}
 use Rattle.pg_config.specs.Config.{Config, default_config, get_padding, get_justification}
 use Rattle.pg_config.specs.Overrides.{Overrides, with_row, with_row_line, line_crossing, horizontal_override, vertical_override, crossing_override}
 use Rattle.pg_config.specs.Settings.{Settings, setting_of, with_setting}
+use Rattle.pg_config.specs.Spans.{Span}
 use Rattle.pg_config.proofs.Lookups.{value_at-with_some}
 use Rattle.pg_picture.specs.Pieces.{style_at}
 use Rattle.pg_picture.specs.Straight.{IsNarrow, HasNarrowFills}
 use Rattle.pg_table.specs.Even.{HasNarrowLines, HasNarrowSides, IsNarrowLook, is_line_glyph, is_line_glyph_if, are_line_glyphs, is_of_line_glyphs, are_line_fills}
 use Rattle.pg_table.specs.Laws.{LooksAreNarrow}
+use Rattle.pg_table.specs.Panels.{with_inner_line}
 use Rattle.pg_table.specs.Printing.{ascii_config, with_header_line}
 use Rattle.pg_table.proofs.StraightTables.{ends_narrow, first_narrow}
 
@@ -136,18 +138,18 @@ module _ (config : Config) (look : IsNarrowLook config) where
   unfolding style_at get_padding get_justification
   fills-overrides o p = record { left = (look.fills p).left; right = (look.fills p).right; top = (look.fills p).top; bottom = (look.fills p).bottom; justification = (look.fills p).justification }
 
-  row-line : (columns : ℕ) (line : HorizontalLine ℕ) → is_of_line_glyphs line ≡ true → IsNarrowLook (record config { overrides = record config.overrides { horizontals = with_row 1 columns (λ c. line.main) config.overrides.horizontals; crossings = with_row 1 (columns + 1) (λ c. line_crossing line columns c) config.overrides.crossings } })
+  row-line : (r columns : ℕ) (line : HorizontalLine ℕ) → is_of_line_glyphs line ≡ true → IsNarrowLook (record config { overrides = record config.overrides { horizontals = with_row r columns (λ c. line.main) config.overrides.horizontals; crossings = with_row r (columns + 1) (λ c. line_crossing line columns c) config.overrides.crossings } })
   unfolding horizontal_override vertical_override crossing_override
-  row-line columns line h =
+  row-line r columns line h =
       let parts = and_parts (is_line_glyph_if line.main) (list_all is_line_glyph_if (line.left ∷ line.intersection ∷ line.right ∷ [])) h in
       record {
         lines = record {
           horizontals = look.lines.horizontals;
           verticals = look.lines.verticals;
           crossings = look.lines.crossings;
-          set_horizontals = λ p. row_narrow 1 columns (λ c. line.main) config.overrides.horizontals p (λ c. narrow_if line.main parts.0) (look.lines.set_horizontals p);
+          set_horizontals = λ p. row_narrow r columns (λ c. line.main) config.overrides.horizontals p (λ c. narrow_if line.main parts.0) (look.lines.set_horizontals p);
           set_verticals = look.lines.set_verticals;
-          set_crossings = λ p. row_narrow 1 (columns + 1) (λ c. line_crossing line columns c) config.overrides.crossings p (λ c. three line.left line.intersection line.right c columns parts.1) (look.lines.set_crossings p);
+          set_crossings = λ p. row_narrow r (columns + 1) (λ c. line_crossing line columns c) config.overrides.crossings p (λ c. three line.left line.intersection line.right c columns parts.1) (look.lines.set_crossings p);
           missing = look.lines.missing;
           has_missing = look.lines.has_missing;
           horizontal_parts = look.lines.horizontal_parts;
@@ -157,19 +159,26 @@ module _ (config : Config) (look : IsNarrowLook config) where
         margins = look.margins;
       }
 
-  pub told-line : (line : HorizontalLine ℕ) (columns : ℕ) → is_of_line_glyphs line ≡ true → IsNarrowLook (record config { overrides = with_row_line 1 columns line config.overrides })
+  pub told-line : (r : ℕ) (line : HorizontalLine ℕ) (columns : ℕ) → is_of_line_glyphs line ≡ true → IsNarrowLook (record config { overrides = with_row_line r columns line config.overrides })
   unfolding with_row_line
-  told-line line columns h =
+  told-line r line columns h =
       elim (cases_Bool (columns == 0)) [
         | inl none ↦ rw none look
-        | inr wide ↦ rw wide (row-line columns line h)
+        | inr wide ↦ rw wide (row-line r columns line h)
+      ]
+
+  pub told-inner : (r : ℕ) (line : HorizontalLine ℕ) (rows columns : ℕ) → is_of_line_glyphs line ≡ true → IsNarrowLook (with_inner_line r line rows columns config)
+  told-inner r line rows columns h =
+      elim (cases_Bool (nat_lt 0 r && nat_lt r rows)) [
+        | inr outside ↦ rw outside look
+        | inl inside ↦ rw inside (told-line r line columns h)
       ]
 
   pub told-header : (line : HorizontalLine ℕ) (rows columns : ℕ) → is_of_line_glyphs line ≡ true → IsNarrowLook (with_header_line line rows columns config)
   told-header line rows columns h =
       elim (cases_Bool (nat_lt 1 rows)) [
         | inr few ↦ rw few look
-        | inl some ↦ rw some (told-line line columns h)
+        | inl some ↦ rw some (told-line 1 line columns h)
       ]
 
 -- ---- paddings and sides of texts
@@ -211,6 +220,31 @@ module _ (config : Config) (look : IsNarrowLook config) where
 
   pub told-alignment : (across : Settings AlignmentHorizontal) → IsNarrowLook (record config { alignment_horizontal = across })
   told-alignment across = record { lines = lines-beside config look.lines config.padding across; fills = fills-alignment across; margins = look.margins }
+
+-- ---- spans
+
+module _ (config : Config) (look : IsNarrowLook config) where
+  fills-spans : (spans : List Span) (p : Position) → HasNarrowFills (style_at (record config { spans = spans }) p)
+  unfolding style_at get_padding get_justification
+  fills-spans spans p = record { left = (look.fills p).left; right = (look.fills p).right; top = (look.fills p).top; bottom = (look.fills p).bottom; justification = (look.fills p).justification }
+
+  pub told-spans : (spans : List Span) → IsNarrowLook (record config { spans = spans })
+  told-spans spans = record {
+    lines = record {
+      horizontals = look.lines.horizontals;
+      verticals = look.lines.verticals;
+      crossings = look.lines.crossings;
+      set_horizontals = look.lines.set_horizontals;
+      set_verticals = look.lines.set_verticals;
+      set_crossings = look.lines.set_crossings;
+      missing = look.lines.missing;
+      has_missing = look.lines.has_missing;
+      horizontal_parts = look.lines.horizontal_parts;
+      vertical_parts = look.lines.vertical_parts;
+    };
+    fills = fills-spans spans;
+    margins = look.margins;
+  }
 
 -- what a setting does where memory isn't refused
 pub where-ok : {V E P : Type 0} (r : Result V E) → IsOk r → OnOk r P → P

@@ -17,8 +17,10 @@ use std::convert::AsStr;
 use std::marker::Model;
 
 mod crossings;
+mod lines;
 mod rows;
 mod settings;
+mod spans;
 mod title;
 
 /// Rows of texts, drawn at their natural sizes: each column as wide as its widest cell, and each row

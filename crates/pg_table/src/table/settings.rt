@@ -1,9 +1,12 @@
 //! The settings of a table: what it was told, and how it is told by reference.
 
+ghost use Rattle.std.specs.Borrow.{sem, Lends};
 ghost use Rattle.std.specs.Prelude.{◌≡◌, true, Err, IfOk, IsOk, OnErr, OnOk};
 ghost use Rattle.pg_config.specs.Settings.{with_setting, HasRoom};
 ghost use Rattle.pg_table.specs.Even.{IsNarrowLook, are_line_glyphs, are_line_fills};
+ghost use Rattle.pg_config.specs.contracts.spanned.SpannedConfig.{the_row as config_row};
 ghost use Rattle.pg_table.specs.OwnRows.{aligned};
+ghost use Rattle.pg_table.specs.contracts.table.Table.{the_row};
 
 use crate::fault::TableFault;
 use crate::table::Table;
@@ -17,6 +20,20 @@ impl<T, A: Allocator> Table<T, A> {
         ensures { result.now ≡ self.now.config }
     {
         &self.config
+    }
+
+    /// The settings of the table, to change any of them. Takes no memory; the setter that is called says
+    /// what it takes.
+    ///
+    /// ```text
+    /// table.config_mut().set_row_span(Position::new(1, 0), 2)?;
+    /// table.config_mut().set_padding(Entity::Row(0), Sides::spaces(1, 1))?;
+    /// ```
+    pub fn config_mut(&mut self) -> &mut SpannedConfig<A>
+        ensures* writes_back { sem 𝓛 (Lends (the_row T.row A.row A.Allocator) (config_row A.row A.Allocator) self.entry result (λ config. record self.old { config = config })) }
+        ensures config { result.now ≡ self.old.config }
+    {
+        &mut self.config
     }
 
     /// The colours of the cells.
