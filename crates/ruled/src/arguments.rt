@@ -28,177 +28,221 @@ pub(crate) enum Asked {
     Told(u8),
 }
 
+/// What an argument takes.
+#[derive(Clone, Copy)]
+enum Takes {
+    /// No value: a flag.
+    Nothing,
+    /// The name of a file, by its place.
+    File,
+    /// A text.
+    Text,
+    /// A number.
+    Number,
+    /// A number of rows behind `=`, or none.
+    Rows,
+    /// The name of a format.
+    Format,
+    /// The name of a look.
+    Look,
+    /// The name of a side.
+    Side,
+}
+
+/// An argument of the command.
+#[derive(Clone, Copy)]
+struct Choice {
+    name: &'static str,
+    /// What the help calls its value.
+    value: &'static str,
+    takes: Takes,
+    /// Whether commas part several values.
+    is_list: bool,
+    /// The options that it can't be used with.
+    conflicts: &'static [&'static str],
+    help: &'static str,
+}
+
+/// An option without a value, which goes with all others.
+const FLAG: Choice = Choice {
+    name: "",
+    value: "",
+    takes: Takes::Nothing,
+    is_list: false,
+    conflicts: &[],
+    help: "",
+};
+
+/// All arguments, in the order of the help.
+const CHOICES: [Choice; 17] = [
+    Choice {
+        name: "file",
+        value: "FILE",
+        takes: Takes::File,
+        help: "The file that is read; without one, or as -, standard input",
+        ..FLAG
+    },
+    Choice {
+        name: "format",
+        value: "FORMAT",
+        takes: Takes::Format,
+        help: "How rows are written: separated by commas or tabs, as one value of JSON, as lines of JSON, or in a database of SQLite; else the ending of the file's name tells it, or else its first bytes",
+        ..FLAG
+    },
+    Choice {
+        name: "query",
+        value: "SQL",
+        takes: Takes::Text,
+        help: "The rows of a database of SQLite that are shown: a statement that changes nothing",
+        ..FLAG
+    },
+    Choice {
+        name: "delimiter",
+        value: "C",
+        takes: Takes::Text,
+        help: "What stands between two fields: a character, or the word tab",
+        ..FLAG
+    },
+    Choice {
+        name: "no-header",
+        help: "Row 0 is no header",
+        ..FLAG
+    },
+    Choice {
+        name: "columns",
+        value: "NAMES",
+        takes: Takes::Text,
+        is_list: true,
+        help: "The columns that are shown, in this order, by their names in row 0",
+        ..FLAG
+    },
+    Choice {
+        name: "head",
+        value: "N",
+        takes: Takes::Number,
+        help: "How many rows are shown at most, besides the header",
+        ..FLAG
+    },
+    Choice {
+        name: "look",
+        value: "LOOK",
+        takes: Takes::Look,
+        help: "What the table looks like",
+        ..FLAG
+    },
+    Choice {
+        name: "align",
+        value: "SIDES",
+        takes: Takes::Side,
+        is_list: true,
+        help: "The side of each column that is shown: left, right, centre, or auto, which is right where all texts below the header are numbers; one word alone is for all",
+        ..FLAG
+    },
+    Choice {
+        name: "markdown",
+        help: "A table of Markdown, in which bars, backslashes and line feeds of fields are escaped",
+        ..FLAG
+    },
+    Choice {
+        name: "raw",
+        help: "Control characters are sent as they are, and not made visible",
+        ..FLAG
+    },
+    Choice {
+        name: "width",
+        value: "N",
+        takes: Takes::Number,
+        conflicts: &["markdown"],
+        help: "How many columns of the terminal a line takes at most; 0 is no limit. Without it the variable COLUMNS says it, where it is there",
+        ..FLAG
+    },
+    Choice {
+        name: "max-column-width",
+        value: "N",
+        takes: Takes::Number,
+        is_list: true,
+        conflicts: &["markdown"],
+        help: "How many columns of the terminal the texts of each column take at most that is shown; one number alone is for all, and 0 is no limit",
+    },
+    Choice {
+        name: "wrap",
+        help: "Texts that are too wide go on in further lines, as they do without a word",
+        ..FLAG
+    },
+    Choice {
+        name: "cut",
+        conflicts: &["wrap"],
+        help: "Texts that are too wide end with …",
+        ..FLAG
+    },
+    Choice {
+        name: "vertical",
+        conflicts: &["no-header", "markdown"],
+        help: "Each record is a block of its own, with a row for each field: its name and its text",
+        ..FLAG
+    },
+    Choice {
+        name: "stream",
+        value: "ROWS",
+        takes: Takes::Rows,
+        conflicts: &["head", "vertical", "markdown"],
+        help: "Each row is shown when it comes, at the widths of the header and the first ROWS rows below it, or the first 1000",
+        ..FLAG
+    },
+];
+
 // An option that takes a value.
-fn option<'a>(alloc: Global, name: &'a str, value: &'a str, help: &'a str) -> Arg<'a> {
-    Arg::new(alloc, name)
-        .long(name)
-        .value_name(value)
-        .help(help)
+fn option<'a>(alloc: Global, choice: &Choice) -> Arg<'a> {
+    Arg::new(alloc, choice.name)
+        .long(choice.name)
+        .value_name(choice.value)
+        .help(choice.help)
         .action(ArgAction::Set)
 }
 
-// An option that takes none.
-fn flag<'a>(alloc: Global, name: &'a str, help: &'a str) -> Arg<'a> {
-    Arg::new(alloc, name)
-        .long(name)
-        .help(help)
-        .action(ArgAction::SetTrue)
+// An argument, but for what it can't be used with.
+fn argument<'a>(alloc: Global, choice: &Choice, looks: &'a [&'a str]) -> Arg<'a> {
+    match choice.takes {
+        Takes::Nothing => Arg::new(alloc, choice.name)
+            .long(choice.name)
+            .help(choice.help)
+            .action(ArgAction::SetTrue),
+        Takes::File => Arg::new(alloc, choice.name)
+            .value_name(choice.value)
+            .help(choice.help),
+        Takes::Text => option(alloc, choice),
+        Takes::Number => option(alloc, choice).value_parser(clap::value_parser!(u32)),
+        Takes::Rows => option(alloc, choice)
+            .num_args(0..=1)
+            .require_equals(true)
+            .default_missing_value("1000")
+            .value_parser(clap::value_parser!(u32)),
+        Takes::Format => option(alloc, choice).value_parser(Kind::NAMES.as_slice()),
+        Takes::Look => option(alloc, choice)
+            .value_parser(looks)
+            .default_value("sharp"),
+        Takes::Side => option(alloc, choice).value_parser(SIDES.as_slice()),
+    }
 }
 
-// The command with what is read. Each argument is made where it is given, so that no other one is to be let
-// go where memory is refused.
-fn with_input<'a>(alloc: Global, command: Command<'a>) -> Result<Command<'a>, AllocError> {
-    command
-        .arg(
-            Arg::new(alloc, "file").value_name("FILE").help(
-                "The file that is read; without one, or as -, standard input",
-            ),
-        )?
-        .arg(option(
-            alloc,
-            "format",
-            "FORMAT",
-            "How rows are written: separated by commas or tabs, as one value of JSON, as lines of JSON, or in a database of SQLite; else the ending of the file's name tells it, or else its first bytes",
-        )
-        .value_parser(Kind::NAMES.as_slice()))?
-        .arg(option(
-            alloc,
-            "query",
-            "SQL",
-            "The rows of a database of SQLite that are shown: a statement that changes nothing",
-        ))?
-        .arg(option(
-            alloc,
-            "delimiter",
-            "C",
-            "What stands between two fields: a character, or the word tab",
-        ))?
-        .arg(flag(alloc, "no-header", "Row 0 is no header"))
-}
-
-// The command with what is shown.
-fn with_shown<'a>(
-    alloc: Global,
-    command: Command<'a>,
-    looks: &'a [&'a str],
-) -> Result<Command<'a>, AllocError> {
-    command
-        .arg(option(
-            alloc,
-            "columns",
-            "NAMES",
-            "The columns that are shown, in this order, by their names in row 0",
-        )
-        .value_delimiter(','))?
-        .arg(option(
-            alloc,
-            "head",
-            "N",
-            "How many rows are shown at most, besides the header",
-        )
-        .value_parser(clap::value_parser!(u32)))?
-        .arg(
-            option(alloc, "look", "LOOK", "What the table looks like")
-                .value_parser(looks)
-                .default_value("sharp"),
-        )?
-        .arg(
-            option(
-                alloc,
-                "align",
-                "SIDES",
-                "The side of each column that is shown: left, right, centre, or auto, which is right where all texts below the header are numbers; one word alone is for all",
-            )
-            .value_parser(SIDES.as_slice())
-            .value_delimiter(','),
-        )?
-        .arg(flag(
-            alloc,
-            "markdown",
-            "A table of Markdown, in which bars, backslashes and line feeds of fields are escaped",
-        ))?
-        .arg(flag(
-            alloc,
-            "raw",
-            "Control characters are sent as they are, and not made visible",
-        ))
-}
-
-// How wide a table may be.
-fn width<'a>(alloc: Global) -> Result<Arg<'a>, AllocError> {
-    option(
-        alloc,
-        "width",
-        "N",
-        "How many columns of the terminal a line takes at most; 0 is no limit. Without it the variable COLUMNS says it, where it is there",
-    )
-    .value_parser(clap::value_parser!(u32))
-    .conflicts_with("markdown")
-}
-
-// How wide its columns may be.
-fn limits<'a>(alloc: Global) -> Result<Arg<'a>, AllocError> {
-    option(
-        alloc,
-        "max-column-width",
-        "N",
-        "How many columns of the terminal the texts of each column take at most that is shown; one number alone is for all, and 0 is no limit",
-    )
-    .value_parser(clap::value_parser!(u32))
-    .value_delimiter(',')
-    .conflicts_with("markdown")
-}
-
-// The command with how wide a table may be.
-fn with_bounds<'a>(alloc: Global, command: Command<'a>) -> Result<Command<'a>, AllocError> {
-    command
-        .arg(width(alloc)?)?
-        .arg(limits(alloc)?)?
-        .arg(flag(
-            alloc,
-            "wrap",
-            "Texts that are too wide go on in further lines, as they do without a word",
-        ))?
-        .arg(flag(alloc, "cut", "Texts that are too wide end with …").conflicts_with("wrap")?)
-}
-
-// The command with whether rows are shown one after another.
-fn with_stream<'a>(alloc: Global, command: Command<'a>) -> Result<Command<'a>, AllocError> {
-    let stream = option(
-        alloc,
-        "stream",
-        "ROWS",
-        "Each row is shown when it comes, at the widths of the header and the first ROWS rows below it, or the first 1000",
-    )
-    .num_args(0..=1)
-    .require_equals(true)
-    .default_missing_value("1000")
-    .value_parser(clap::value_parser!(u32))
-    .conflicts_with("head")?
-    .conflicts_with("vertical")?
-    .conflicts_with("markdown")?;
-    command.arg(stream)
-}
-
-// The command with the form in which records are shown.
-fn with_form<'a>(alloc: Global, command: Command<'a>) -> Result<Command<'a>, AllocError> {
-    let vertical = flag(
-        alloc,
-        "vertical",
-        "Each record is a block of its own, with a row for each field: its name and its text",
-    )
-    .conflicts_with("no-header")?
-    .conflicts_with("markdown")?;
-    command.arg(vertical)
+// All arguments.
+fn arguments<'a>(alloc: Global, looks: &'a [&'a str]) -> Result<Vec<Arg<'a>>, AllocError> {
+    let mut arguments = Vec::new(alloc);
+    for choice in &CHOICES {
+        let mut made = argument(alloc, choice, looks);
+        if choice.is_list {
+            made = made.value_delimiter(',');
+        }
+        arguments.push(made.conflicts_with_all(choice.conflicts)?)?;
+    }
+    Ok(arguments)
 }
 
 fn command<'a>(alloc: Global, looks: &'a [&'a str]) -> Result<Command<'a>, AllocError> {
-    let command = Command::new(alloc, "ruled")
+    Command::new(alloc, "ruled")
         .about("Shows rows of separated values, JSON or a database of SQLite as a table")
-        .version("0.1.0 (logic dac8208d650f15bf)");
-    let command = with_shown(alloc, with_input(alloc, command)?, looks)?;
-    let command = with_form(alloc, with_bounds(alloc, command)?)?;
-    with_stream(alloc, command)
+        .version("0.1.0 (logic dac8208d650f15bf)")
+        .args(arguments(alloc, looks)?)
 }
 
 // The delimiter that a word names: one byte of ASCII that is no quote and ends no line, or a tab.
