@@ -3,6 +3,7 @@ pub mod LinesLaw
 pub mod EqualLines
 pub mod ColumnLines
 pub mod OneStyle
+pub mod Common
 pub mod Lookups
 pub mod GlyphLaws
 pub mod Ranges

@@ -5,6 +5,7 @@ pub mod GlyphOrder
 pub mod Spans
 pub mod Config
 pub mod Cells
+pub mod Common
 pub mod Crossings
 pub mod LineGlyphs
 pub mod CompactConfig

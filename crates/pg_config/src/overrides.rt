@@ -7,6 +7,7 @@ ghost use Rattle.pg_layout.specs.Places.{IsAscending, has_key};
 ghost use Rattle.pg_config.specs.Inside.CrossingMarks.{with_all};
 ghost use Rattle.pg_config.specs.LineGlyphs.{with_glyphs, with_line_crossings};
 ghost use Rattle.pg_config.specs.Overrides.{no_overrides, on_lines, with_border, has_glyph, with_row_line, horizontal_override};
+ghost use Rattle.pg_config.specs.Settings.{has_some};
 ghost use Rattle.pg_config.specs.Overrides.{vertical_override, crossing_override, overrides_row, overrides_column, sets_rows, sets_columns};
 
 use crate::line_glyphs::LinePlace;
@@ -76,6 +77,13 @@ impl<G, A: Allocator> Overrides<G, A> {
     {
         let lines = &self.lines;
         !lines.horizontals.places().is_empty() || !lines.crossings.places().is_empty()
+    }
+
+    /// Whether a vertical has a value.
+    pub fn sets_verticals(&self) -> bool
+        ensures { result ≡ has_some self.now.verticals }
+    {
+        !self.lines.verticals.places().is_empty()
     }
 
     /// Whether a vertical or a crossing has a value.

@@ -14,6 +14,12 @@ use std::alloc::{AllocError, Allocator};
 /// How many columns a table has at most that needs few slots.
 const FEW: usize = 16;
 
+/// How many terminal columns a line has at most whose separator needs little room.
+const NARROW: usize = 256;
+
+/// This room, in bytes: a separator without colours takes at most four for each terminal column.
+const NARROW_ROOM: usize = 1024;
+
 /// How many columns a table has at most that needs more of them.
 const SOME: usize = 128;
 
@@ -31,6 +37,32 @@ where
     // The lines of the body, with as many slots as its columns need. Many slots cost more than they
     // save where each cell has one line.
     pub(super) fn push_kept_body<A: Allocator>(&self, buf: &mut String<A>) -> Result<(), AllocError>
+        ensures { Appends buf.old buf.new result (body_text Known T.table T.table.config.margin.top.size 0 (table_body T.table)) }
+    {
+        if self.sheet.columns <= FEW && self.sheet.width <= NARROW {
+            return self.push_narrow_body(buf);
+        }
+        self.push_wide_body(buf)
+    }
+
+    // Little room is lent. It is out of line, since a function clears all its room when it begins.
+    #[inline(never)]
+    fn push_narrow_body<A: Allocator>(&self, buf: &mut String<A>) -> Result<(), AllocError>
+        ensures { Appends buf.old buf.new result (body_text Known T.table T.table.config.margin.top.size 0 (table_body T.table)) }
+    {
+        let mut separator = [0; NARROW_ROOM];
+        let mut cells: [Option<KeptCell>; FEW] = no_slots();
+        let mut rectangles: [Option<KeptRectangle<T>>; FEW] = no_slots();
+        let mut kept: KeptCells<'_, T> = KeptCells::new(
+            &mut cells,
+            &mut rectangles,
+            &mut separator,
+        );
+        self.push_body(buf, &mut kept)
+    }
+
+    #[inline(never)]
+    fn push_wide_body<A: Allocator>(&self, buf: &mut String<A>) -> Result<(), AllocError>
         ensures { Appends buf.old buf.new result (body_text Known T.table T.table.config.margin.top.size 0 (table_body T.table)) }
     {
         let mut separator = [0; SEPARATOR_ROOM];

@@ -1,5 +1,6 @@
 -- A style draws the lines of a placed text as another one, where the two differ in their alignments alone and the place has a share for all lines.
 use Rattle.std.proofs.Common.{◌≡◌, ℕ, ◌+◌, ◌≤◌, refl, sym, ap, ◌∙◌, subst, Option, Some, None}
+use Rattle.pg_layout.specs.declared.alignment.AlignmentHorizontal.{AlignmentHorizontal}
 use Rattle.pg_layout.specs.Colors.{Color}
 use Rattle.pg_layout.specs.Text.{Text, width_of}
 use Rattle.pg_picture.specs.Inside.Cells.{share_of, shown_line, placed_line}
@@ -11,6 +12,10 @@ module _ (s t : Style) where
   pub draws-same : (left : Option ℕ) → s ≡ t → DrawsAs left s t
   draws-same None e = e
   draws-same (Some share) e = ap (λ (z : Style). record z { across = t.across; down = t.down }) e
+
+  -- where all lines have one left share, and the styles differ in their horizontal alignments
+  pub draws-across : (side : AlignmentHorizontal) (left : Option ℕ) (share : ℕ) → left ≡ Some share → record s { across = side } ≡ t → DrawsAs left s t
+  draws-across side left share is e = subst (λ l. DrawsAs l s t) (sym is) (subst (λ (z : Style). record s { across = z.across; down = z.down } ≡ z) e refl)
 
   abbrev aligned : Style
   aligned = record s { across = t.across; down = t.down }

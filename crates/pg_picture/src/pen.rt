@@ -1,7 +1,7 @@
 //! The pieces of lines that all printers draw: a line's ends, verticals, crossings and horizontals.
 
-ghost use Rattle.std.specs.Prelude.{◌≡◌, ◌&&◌, ◌==◌, ⊤, false, length, replicate, None, IfOk};
-ghost use Rattle.pg_config.specs.Config.{has_equal_row_lines, has_horizontal, get_horizontal};
+ghost use Rattle.std.specs.Prelude.{◌≡◌, ◌&&◌, ◌==◌, ⊤, false, length, replicate, None, IfOk, option_map};
+ghost use Rattle.pg_config.specs.Config.{get_alignment_horizontal, has_equal_row_lines, has_horizontal, get_horizontal, get_vertical, get_vertical_color};
 ghost use Rattle.pg_layout.specs.Colors.{lent_color};
 ghost use Rattle.pg_layout.specs.declared.position.Position.{Position};
 ghost use Rattle.pg_picture.specs.Appending.{Appends};
@@ -20,7 +20,7 @@ use crate::table_margins::{
     push_bottom_margin, push_left_margin, push_right_margin, push_top_margin,
 };
 use crate::vertical::{push_vertical, push_vertical_at};
-use pg_layout::{ANSIBuf, Colors, Dimension, Position};
+use pg_layout::{ANSIBuf, AlignmentHorizontal, Colors, Dimension, Position};
 use std::alloc::{AllocError, Allocator};
 use std::marker::{Brand, PhantomData};
 
@@ -104,6 +104,17 @@ where
             return None;
         }
         self.sheet.colors.get_color(pos)
+    }
+
+    /// The horizontal alignment of a cell, which isn't looked up where all cells have one.
+    #[inline(always)]
+    pub fn side_of(self, pos: Position) -> AlignmentHorizontal
+        ensures { result ≡ get_alignment_horizontal T.table.config pos }
+    {
+        match self.sheet.side {
+            Some(side) => side,
+            None => self.sheet.config.get_alignment_horizontal(pos),
+        }
     }
 
     /// Whether there is a separator above a row of so many, or below the last one.
@@ -203,8 +214,7 @@ where
         match sheet.verticals {
             VerticalKind::Absent => Ok(()),
             VerticalKind::Whole => {
-                let glyph = sheet.config.get_vertical(pos, sheet.columns);
-                let color = sheet.config.get_vertical_color(pos, sheet.columns);
+                let (glyph, color) = self.glyph_of(pos);
                 push_vertical(buf, glyph, color)
             }
             VerticalKind::ByLine => {
@@ -212,6 +222,22 @@ where
                 push_vertical_at(buf, sheet.config, sheet.columns, height, pos, line)
             }
         }
+    }
+
+    // The glyph of a vertical and its colour. Between two columns they aren't looked up where all have one.
+    #[inline(always)]
+    fn glyph_of(self, pos: Position) -> (Option<char>, Option<&'s ANSIBuf<B>>)
+        ensures glyph { result.0 ≡ get_vertical self.entry.sheet.now.config.now pos self.entry.sheet.now.columns }
+        ensures color { option_map (λ x. x.now) result.1 ≡ get_vertical_color self.entry.sheet.now.config.now pos self.entry.sheet.now.columns }
+    {
+        let (config, columns) = (self.sheet.config, self.sheet.columns);
+        if 0 < pos.col && pos.col < columns {
+            if let Some(glyph) = self.sheet.inner {
+                return (Some(glyph), None);
+            }
+        }
+        let glyph = config.get_vertical(pos, columns);
+        (glyph, config.get_vertical_color(pos, columns))
     }
 
     /// Appends the crossing at a place of a separator of a table of so many rows.

@@ -2,6 +2,7 @@
 
 ghost use Rattle.std.specs.Prelude.{◌≡◌, ◌+◌, ◌≤◌, true, length};
 ghost use Rattle.pg_layout.specs.Text.{lines_of};
+ghost use Rattle.pg_config.specs.Config.{get_alignment_horizontal};
 ghost use Rattle.pg_picture.specs.Appending.{Appends};
 ghost use Rattle.pg_picture.specs.Fits.{cell_fits};
 ghost use Rattle.pg_picture.specs.Pieces.{written, style_at};
@@ -48,7 +49,10 @@ where
         ensures lines { result.skip + result.shown ≤ length (lines_of text.now) }
     {
         match &self.sheet.all {
-            Some(style) => CellPlace::of_text(text, style, width, height),
+            Some(style) => {
+                let aligned = style.aligned(self.side_of(pos));
+                CellPlace::of_text(text, &aligned, width, height)
+            }
             None => {
                 let style = CellStyle::of(self.sheet.config, pos);
                 CellPlace::of_text(text, &style, width, height)
@@ -68,9 +72,27 @@ where
         ensures { Appends buf.old buf.new result (written (placed_line (style_at T.table.config line.entry.pos) (T.table.color line.entry.pos) line.entry.place line.entry.width line.entry.number line.entry.text.now)) }
     {
         match &self.sheet.all {
-            Some(style) => self.push_line_in_style(buf, style, line),
+            Some(style) => match line.place.left {
+                Some(_) => self.push_line_in_style(buf, style, line),
+                None => self.push_aligned_line(buf, style, line),
+            },
             None => self.push_line_out_of_line(buf, line),
         }
+    }
+
+    // Appends the line in this style with the cell's own horizontal alignment: it is aligned by its own width.
+    #[inline(never)]
+    fn push_aligned_line<A: Allocator>(
+        self,
+        buf: &mut String<A>,
+        style: &CellStyle<'_, B>,
+        line: PlacedLine<'_, T>,
+    ) -> Result<(), AllocError>
+        requires style { record (style_of style.now) { across = get_alignment_horizontal T.table.config line.pos } ≡ style_at T.table.config line.pos }
+        ensures { Appends buf.old buf.new result (written (placed_line (style_at T.table.config line.entry.pos) (T.table.color line.entry.pos) line.entry.place line.entry.width line.entry.number line.entry.text.now)) }
+    {
+        let aligned = style.aligned(self.side_of(line.pos));
+        self.push_line_in_style(buf, &aligned, line)
     }
 
     // Hands the line to what looks the cell's style up. Room on a stack is cleared when its function begins,

@@ -5,10 +5,12 @@ ghost use Rattle.std.specs.Option.{ForSome};
 ghost use Rattle.pg_picture.specs.Inside.Cells.{are_simple, has_plain_sides};
 ghost use Rattle.pg_picture.specs.Inside.RowLines.{may_have_row_lines};
 ghost use Rattle.pg_picture.specs.Inside.Verticals.{verticals_of};
-ghost use Rattle.pg_config.specs.Cells.{IsStyleOfAll, style_of};
+ghost use Rattle.pg_config.specs.Cells.{style_of};
+ghost use Rattle.pg_config.specs.Common.{IsStyleButAcross, IsSideOfAll, inner_vertical};
 
 use crate::cell::shows_texts_whole;
 use pg_config::{CellStyle, SpannedConfig};
+use pg_layout::AlignmentHorizontal;
 use std::alloc::{Allocator, Global};
 
 /// What verticals a table has.
@@ -36,15 +38,23 @@ pub struct Sheet<'a, D, C, B: Allocator = Global> {
     pub width: usize,
     /// How many lines the body has, where that is known.
     pub height: Option<usize>,
-    /// The style that all cells have, where no setting is for some of them.
+    /// The style that all cells have but for their horizontal alignments, where no other setting is for
+    /// some of them.
     pub all: Option<CellStyle<'a, B>>,
-    ghost is_of_all: { ForSome all (λ style. IsStyleOfAll config.now (style_of style)) },
+    ghost is_of_all: { ForSome all (λ style. IsStyleButAcross config.now (style_of style)) },
+    /// The horizontal alignment that all cells have, where none is for some of them.
+    pub side: Option<AlignmentHorizontal>,
+    ghost is_side: { ForSome side (IsSideOfAll config.now) },
     /// Whether all cells have a style that is simple to draw: a text of one line stands as it is between
     /// columns of one character without colours.
     pub is_simple: bool,
     ghost is_of_simple: { is_simple ≡ are_simple all },
     pub verticals: VerticalKind,
     ghost is_lined: { verticals ≡ verticals_of config.now },
+    /// The glyph of all verticals between two columns, where they have no colour and none of their
+    /// places was set.
+    pub inner: Option<char>,
+    ghost is_inner: { inner ≡ inner_vertical config.now },
     /// Whether some row line may be there: else there is no separator.
     pub draws_separators: bool,
     ghost is_ruled: { draws_separators ≡ may_have_row_lines config.now },
@@ -75,7 +85,7 @@ impl<'a, D, C, B: Allocator> Sheet<'a, D, C, B> {
         ensures height { result.height ≡ height }
     {
         let margin = config.get_margin();
-        let all = CellStyle::of_all(config);
+        let all = CellStyle::of_all_but_across(config);
         Sheet {
             config,
             dimension,
@@ -84,8 +94,10 @@ impl<'a, D, C, B: Allocator> Sheet<'a, D, C, B> {
             width,
             height,
             all,
+            side: config.side_of_all(),
             is_simple: are_simple(&all),
             verticals: verticals_of(config),
+            inner: config.inner_vertical(),
             draws_separators: may_have_row_lines(config),
             has_sides: margin.left.size > 0 || margin.right.size > 0,
             begins_with_body: margin.top.size == 0,
@@ -109,8 +121,10 @@ impl<'a, D, C, B: Allocator> Sheet<'a, D, C, B> {
             width: self.width,
             height: self.height,
             all: self.all,
+            side: self.side,
             is_simple: self.is_simple,
             verticals: self.verticals,
+            inner: self.inner,
             draws_separators: self.draws_separators,
             has_sides: self.has_sides,
             begins_with_body: self.begins_with_body,

@@ -1,6 +1,7 @@
 //! The line of a cell that has one.
 
 ghost use Rattle.std.specs.Prelude.{◌≡◌, true};
+ghost use Rattle.pg_config.specs.Config.{get_alignment_horizontal};
 ghost use Rattle.pg_picture.specs.Appending.{Appends};
 ghost use Rattle.pg_picture.specs.Fits.{cell_fits};
 ghost use Rattle.pg_picture.specs.Pieces.{written, style_at, block_line};
@@ -8,11 +9,11 @@ ghost use Rattle.pg_picture.specs.Inside.Cells.{IsOfKind, style_of, is_simple};
 ghost use Rattle.std.proofs.Props.{props};
 
 use crate::cell::{
-    columns_left, inner_width, push_line_of_width, push_plain_parts, push_single_line,
-    shows_texts_whole,
+    inner_width, push_line_of_width, push_plain_parts, push_single_line, shows_texts_whole,
 };
 use crate::facts::{TextKind, single_line_width};
 use crate::pen::{Pen, TableMarker};
+use crate::share::calculate_indent;
 use pg_config::CellStyle;
 use pg_layout::{Colors, Dimension, Position};
 use std::alloc::{AllocError, Allocator};
@@ -55,7 +56,7 @@ where
                 if self.sheet.is_simple {
                     return self.push_simple(buf, style, cell);
                 }
-                self.push_in_style(buf, style, cell)
+                self.push_aligned(buf, style, cell)
             }
             None => self.push_in_own_style(buf, cell),
         }
@@ -75,7 +76,23 @@ where
         self.push_in_style(buf, &style, cell)
     }
 
-    // Appends the line in a style that is simple to draw.
+    // Appends the line in this style with the cell's own horizontal alignment. It is rare enough to be out
+    // of line.
+    #[inline(never)]
+    fn push_aligned<A: Allocator>(
+        self,
+        buf: &mut String<A>,
+        style: &CellStyle<'_, B>,
+        cell: SingleCell<'_, T>,
+    ) -> Result<(), AllocError>
+        requires style { record (style_of style.now) { across = get_alignment_horizontal T.table.config cell.pos } ≡ style_at T.table.config cell.pos }
+        ensures { Appends buf.old buf.new result (written (block_line (style_at T.table.config cell.entry.pos) (T.table.color cell.entry.pos) cell.entry.text.now cell.entry.width 1 0)) }
+    {
+        let aligned = style.aligned(self.side_of(cell.pos));
+        self.push_in_style(buf, &aligned, cell)
+    }
+
+    // Appends the line in a style that is simple to draw, with the cell's own horizontal alignment.
     #[inline(always)]
     fn push_simple<A: Allocator>(
         self,
@@ -83,16 +100,17 @@ where
         style: &CellStyle<'_, B>,
         cell: SingleCell<'_, T>,
     ) -> Result<(), AllocError>
-        requires style { style_of style.now ≡ style_at T.table.config cell.pos }
+        requires style { record (style_of style.now) { across = get_alignment_horizontal T.table.config cell.pos } ≡ style_at T.table.config cell.pos }
         requires simple { is_simple (style_of style.now) ≡ true }
         ensures { Appends buf.old buf.new result (written (block_line (style_at T.table.config cell.entry.pos) (T.table.color cell.entry.pos) cell.entry.text.now cell.entry.width 1 0)) }
     {
         let Some(line_width) = single_line_width(cell.text, cell.kind) else {
-            return self.push_in_style(buf, style, cell);
+            return self.push_aligned(buf, style, cell);
         };
+        let side = self.side_of(cell.pos);
         let color = self.color_of(cell.pos);
         let inner = inner_width(style, cell.width);
-        let share = columns_left(style, None, line_width, cell.width);
+        let share = calculate_indent(side, line_width, inner).0;
         push_plain_parts(
             buf,
             style,

@@ -6,6 +6,7 @@ ghost use Rattle.pg_layout.specs.Borders.{no_border, has_side, ends, horizontal_
 ghost use Rattle.pg_config.specs.Overrides.{on_lines, with_border, has_glyph, with_row_line};
 ghost use Rattle.pg_config.specs.Config.{missing_if, count_horizontal, count_vertical, has_horizontal, has_vertical, get_horizontal, get_vertical};
 ghost use Rattle.pg_config.specs.Config.{get_intersection, get_horizontal_color, get_vertical_color, get_intersection_color, has_equal_row_lines, has_column_lines};
+ghost use Rattle.pg_config.specs.Common.{inner_vertical};
 
 use crate::spanned::SpannedConfig;
 use pg_layout::{ANSIBuf, Border, Borders, HorizontalLine, Position};
@@ -139,6 +140,19 @@ impl<A: Allocator> SpannedConfig<A> {
             return Some(*glyph);
         }
         self.missing_if(self.has_vertical(pos.col, columns))
+    }
+
+    /// The glyph that all verticals between two columns have; none where one of their places was set,
+    /// or where they have a colour.
+    #[tactic(auto, unfolding(crate::specs::Common::inner_vertical))]
+    pub fn inner_vertical(&self) -> Option<char>
+        ensures { result ≡ inner_vertical self.now }
+    {
+        let has_places = self.overrides.sets_verticals() || self.color_overrides.sets_verticals();
+        if has_places || self.border_colors.vertical.is_some() {
+            return None;
+        }
+        self.borders.vertical
     }
 
     /// The glyph of a crossing in a table of `size` rows and columns: an override, else the

@@ -2,10 +2,11 @@
 
 ghost use Rattle.std.specs.Prelude.{◌≡◌, ⊤, option_map, OnOk, OnErr, IsOk, is_some};
 ghost use Rattle.std.specs.Option.{ForSome};
-ghost use Rattle.pg_config.specs.Settings.{no_settings, with_setting, HasRoom};
+ghost use Rattle.pg_config.specs.Settings.{no_settings, with_setting, HasRoom, is_for_all};
 ghost use Rattle.pg_config.specs.Config.{get_padding, get_padding_color, get_alignment_horizontal, get_alignment_vertical, get_formatting};
 ghost use Rattle.pg_config.specs.Config.{get_justification, get_justification_color, has_padding_color, has_justification, has_one_style};
 ghost use Rattle.pg_config.specs.Cells.{style_at, style_of, IsStyleOfAll};
+ghost use Rattle.pg_config.specs.Common.{has_one_style_but_across, IsStyleButAcross, IsSideOfAll};
 
 use crate::settings::Settings;
 use crate::spanned::SpannedConfig;
@@ -238,6 +239,32 @@ impl<A: Allocator> SpannedConfig<A> {
             && (cells.justification.is_for_all() && cells.justification_color.is_for_all())
     }
 
+    /// Whether all cells have one style but for their horizontal alignments, as
+    /// [`SpannedConfig::has_one_style`] tells it of the whole style.
+    #[tactic(auto, unfolding(crate::specs::Common::has_one_style_but_across))]
+    pub fn has_one_style_but_across(&self) -> bool
+        ensures { result ≡ has_one_style_but_across self.now }
+    {
+        let cells = &self.cells;
+        (cells.padding.is_for_all() && cells.padding_color.is_for_all())
+            && cells.alignment_vertical.is_for_all()
+            && (cells.trim_horizontal.is_for_all()
+                && (cells.trim_vertical.is_for_all() && cells.line_alignment.is_for_all()))
+            && (cells.justification.is_for_all() && cells.justification_color.is_for_all())
+    }
+
+    /// The horizontal alignment that all cells have, where none was set for a row, a column or a cell
+    /// alone.
+    pub fn side_of_all(&self) -> Option<AlignmentHorizontal>
+        ensures of { ForSome result (IsSideOfAll self.now) }
+        ensures there { is_some result ≡ is_for_all self.now.alignment_horizontal }
+    {
+        if !self.cells.alignment_horizontal.is_for_all() {
+            return None;
+        }
+        Some(self.get_alignment_horizontal(Position::new(0, 0)))
+    }
+
     /// Sets the character that fills the room beside a text's lines.
     pub fn set_justification(&mut self, entity: Entity, fill: char) -> Result<(), AllocError>
     where
@@ -364,5 +391,28 @@ impl<'a, A: Allocator> CellStyle<'a, A> {
             return None;
         }
         Some(CellStyle::of(config, Position::new(0, 0)))
+    }
+
+    /// The style that all cells have but for their horizontal alignments, where no other setting is for
+    /// some of them.
+    pub fn of_all_but_across(config: &'a SpannedConfig<A>) -> Option<CellStyle<'a, A>>
+        ensures of { ForSome result (λ style. IsStyleButAcross config.now (style_of style)) }
+        ensures there { is_some result ≡ has_one_style_but_across config.now }
+    {
+        if !config.has_one_style_but_across() {
+            return None;
+        }
+        Some(CellStyle::of(config, Position::new(0, 0)))
+    }
+
+    /// This style with another horizontal alignment.
+    #[inline(always)]
+    pub fn aligned(self, side: AlignmentHorizontal) -> CellStyle<'a, A>
+        ensures { style_of result ≡ record (style_of self.entry) { across = side } }
+    {
+        CellStyle {
+            alignment_horizontal: side,
+            ..self
+        }
     }
 }

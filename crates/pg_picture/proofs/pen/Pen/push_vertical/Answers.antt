@@ -20,4 +20,4 @@ returns-in-Whole g c =
     let none = no_offset_chars sheet.config.now (sym sheet.is_lined ∙ c.in-Whole.is) in
     let height = g.D.Dimension.height sheet.dimension.now c.args.pos.row in
     let border = vertical_at-border sheet.config.now sheet.columns height c.args.pos c.args.line none in
-    rw (← c.args.self.is) (Appends-text (ap₂ (λ glyph color. written (glyph_piece glyph color)) c.get_vertical-glyph.ensures c.get_vertical_color-color.ensures ∙ sym (ap written border)) c.push_vertical.ensures)
+    rw (← c.args.self.is) (Appends-text (ap₂ (λ glyph color. written (glyph_piece glyph color)) c.glyph_of-glyph.ensures.glyph c.glyph_of-glyph.ensures.color ∙ sym (ap written border)) c.push_vertical.ensures)
