@@ -138,7 +138,7 @@ impl<D: Dimension, C: Colors> CompactPrinter<'_, D, C> {
         self.push_padding_rows(buf, padding.bottom.size, colors.bottom, false)
     }
 
-    // The text line of a row, after the line feed that parts it from the line before.
+    // The text line of a row, after the line feed that separates it from the line before.
     fn push_text_line<T, Cells, A>(
         &self,
         buf: &mut String<A>,
@@ -173,7 +173,7 @@ impl<D: Dimension, C: Colors> CompactPrinter<'_, D, C> {
         Ok(())
     }
 
-    // A padding line, after the line feed that parts it from the line before.
+    // A padding line, after the line feed that separates it from the line before.
     fn push_padding_line<A: Allocator>(
         &self,
         buf: &mut String<A>,
@@ -203,7 +203,8 @@ impl<D: Dimension, C: Colors> CompactPrinter<'_, D, C> {
         self.push_kept_separator(buf, kept)
     }
 
-    // A separator where its line is there, after the line feed that parts it from the line before.
+    // A separator where its line is there, after the line feed that separates it from the line
+    // before.
     fn push_separator_if<A: Allocator>(
         &self,
         buf: &mut String<A>,

@@ -1,4 +1,4 @@
-//! What a compact table is told.
+//! The settings of a compact table.
 
 ghost use Rattle.std.specs.Prelude.{◌≡◌};
 ghost use Rattle.pg_config.specs.CompactConfig.{settings_of, border_colors, side_colors, default_compact, compact_of};
@@ -7,10 +7,10 @@ use crate::spanned::SpannedConfig;
 use pg_layout::{ANSIStr, AlignmentHorizontal, Borders, Indent, Sides};
 use std::alloc::Allocator;
 
-/// What a compact table is told: borders, margins and one padding and one alignment for all cells,
+/// The settings of a compact table: borders, margins, one padding and one alignment for all cells,
 /// and their colours.
 ///
-/// It is a plain value: it takes no memory, and each setter answers the changed configuration.
+/// It is a plain value: it allocates nothing, and each setter returns the changed configuration.
 ///
 /// ```text
 /// let config = CompactConfig::new()
@@ -29,8 +29,8 @@ pub struct CompactConfig {
 }
 
 impl CompactConfig {
-    /// A configuration that was told nothing: no borders, paddings and margins of size 0 filled by
-    /// spaces, alignment left, and empty colours.
+    /// A configuration with the default settings: no borders, paddings and margins of size 0 filled
+    /// by spaces, alignment left, and empty colours.
     #[tactic(auto, unfolding(crate::specs::CompactConfig::default_compact))]
     pub fn new() -> CompactConfig
         ensures { settings_of result ≡ default_compact }
@@ -46,9 +46,9 @@ impl CompactConfig {
         }
     }
 
-    /// What a configuration tells of a compact table: its borders and its margin, and the padding and
-    /// the alignment that it was last told of all cells, whatever it was told of some. No colour is
-    /// taken along, since a compact table borrows them.
+    /// The settings of a compact table in a configuration: its borders and its margin, and the
+    /// padding and the alignment last set for all cells, whatever was set for some of them. Colours
+    /// aren't taken along, since a compact table borrows them.
     #[tactic(auto, unfolding(crate::specs::CompactConfig::default_compact))]
     pub fn of<A: Allocator>(config: &SpannedConfig<A>) -> CompactConfig
         ensures { settings_of result ≡ compact_of config.now }
@@ -103,7 +103,7 @@ impl CompactConfig {
         self
     }
 
-    /// What stands round the table.
+    /// The margin of the table.
     pub fn get_margin(&self) -> Sides<Indent>
         ensures { result ≡ (settings_of self.now).margin }
     {
@@ -134,7 +134,7 @@ impl CompactConfig {
         self
     }
 
-    /// What stands between the sides of each cell and its text.
+    /// The padding of each cell.
     pub fn get_padding(&self) -> Sides<Indent>
         ensures { result ≡ (settings_of self.now).padding }
     {
@@ -164,7 +164,7 @@ impl CompactConfig {
         self
     }
 
-    /// Where each text stands in its cell.
+    /// The alignment of every text.
     pub fn get_alignment_horizontal(&self) -> AlignmentHorizontal
         ensures { result ≡ (settings_of self.now).alignment }
     {

@@ -66,7 +66,7 @@ pub(crate) fn marks_of<A: Allocator + Copy>(
     Ok(marks)
 }
 
-// Marks the crossings on the edge of a merged cell, but for its corners.
+// Marks the crossings on the edge of a merged cell, except for its corners.
 fn mark_span<A: Allocator + Clone>(
     marks: &mut Places<Position, Sides<bool>, A>,
     span: Span,
@@ -106,7 +106,7 @@ fn line_behind(first: usize, count: usize, lines: usize) -> Option<usize>
     if line <= lines { Some(line) } else { None }
 }
 
-// Marks so many crossings behind a corner, where there is such a line.
+// Marks so many crossings after a corner, if there is such a line.
 fn mark_line<A: Allocator + Clone>(
     marks: &mut Places<Position, Sides<bool>, A>,
     side: Side,

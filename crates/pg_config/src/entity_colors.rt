@@ -9,13 +9,13 @@ use std::alloc::{AllocError, Allocator, Global};
 use std::marker::Model;
 
 /// Colours of cells: no cell has one at first, and the latest one whose entity holds a cell counts,
-/// as of every setting.
+/// as for settings.
 #[derive(Debug)]
 pub struct EntityColors<A: Allocator = Global> {
     colors: Settings<ANSIBuf<A>, A>,
 }
 
-// Written out, so that a caller's proof has one call where it lets the colours go.
+// Written out, so that a caller's proof has one call when it drops the colours.
 impl<A: Allocator> Drop for EntityColors<A> {
     fn drop(self) {
         let EntityColors { colors } = self;
@@ -33,7 +33,7 @@ impl<A: Allocator> Model for EntityColors<A> {
 }
 
 impl<A: Allocator + Copy> EntityColors<A> {
-    /// No cell has a colour. Takes no memory.
+    /// No cell has a colour. Allocates nothing.
     pub fn new(alloc: A) -> EntityColors<A>
         ensures { result ≡ no_settings }
     {
@@ -42,7 +42,7 @@ impl<A: Allocator + Copy> EntityColors<A> {
         }
     }
 
-    /// Takes all colours away, as where the text doesn't go to a terminal. Takes no memory.
+    /// Removes all colours, as for a text that doesn't go to a terminal. Allocates nothing.
     pub fn clear(&mut self, alloc: A)
         ensures { self.new ≡ no_settings }
     {
@@ -51,12 +51,12 @@ impl<A: Allocator + Copy> EntityColors<A> {
 }
 
 impl<A: Allocator> EntityColors<A> {
-    /// Gives the cells of an entity this colour. A colour of two empty texts is one, too: nothing is
-    /// written round their texts, and [`Colors::get_color`] returns it.
+    /// Sets the colour of the cells of an entity. A colour of two empty texts is one, too: nothing
+    /// is written round their texts, and [`Colors::get_color`] returns it.
     ///
-    /// An error where memory is refused, or where 2^64 - 1 colours were told since the last one for all
-    /// cells; then nothing changes. A colour for all cells takes no memory, nor does one for an entity
-    /// that has one.
+    /// The error is out of memory, also if 2^64 - 1 colours were set since the last one for all
+    /// cells; then nothing changes. A colour for all cells allocates nothing, nor does one for an
+    /// entity that has one.
     pub fn set(&mut self, entity: Entity, color: ANSIBuf<A>) -> Result<(), AllocError>
     where
         A: Clone,
@@ -80,7 +80,7 @@ impl<A: Allocator> Colors for EntityColors<A> {
         self.colors.get(pos)
     }
 
-    /// Whether no colour was told.
+    /// Whether no colour was set.
     fn is_empty(&self) -> bool {
         !self.colors.is_set()
     }

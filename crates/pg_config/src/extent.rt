@@ -1,12 +1,12 @@
-//! Rows and columns outside of which nothing stands.
+//! Rows and columns outside of which nothing lies.
 
 ghost use Rattle.std.specs.Prelude.{◌≡◌};
 ghost use Rattle.pg_config.specs.Inside.Extents.{no_extent, with_rows, in_extent};
 
 use pg_layout::Position;
 
-/// The first and last row and the first and last column of places at which something stands, so that
-/// a place outside of them is answered without a search.
+/// The first and last row and the first and last column of places that have something, so that a
+/// place outside of them needs no search.
 #[derive(Debug, Clone, Copy)]
 pub(crate) struct Extent {
     first_row: usize,
@@ -16,7 +16,7 @@ pub(crate) struct Extent {
 }
 
 impl Extent {
-    /// No place lies in it: each first one stands behind each last one, and gives way to any.
+    /// No place lies in it: each first one is after each last one, and yields to any.
     pub(crate) fn none() -> Extent
         ensures { result ≡ no_extent }
     {
@@ -28,7 +28,7 @@ impl Extent {
         }
     }
 
-    /// The smallest one that has these rows of a column, too.
+    /// The smallest extent that includes these rows of a column, too.
     pub(crate) fn with_rows(self, first: usize, last: usize, column: usize) -> Extent
         ensures { result ≡ with_rows first last column self }
     {

@@ -1,4 +1,4 @@
-//! What a table is told: borders, paddings, alignments, spans, margins and colours.
+//! The settings of a table: borders, paddings, alignments, spans, margins and colours.
 #![tactic(auto)]
 
 mod compact;

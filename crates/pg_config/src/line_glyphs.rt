@@ -1,4 +1,4 @@
-//! Characters over the glyphs of a row line, and where they stand.
+//! Characters over the glyphs of a row line, and their places.
 
 ghost use Rattle.std.specs.Prelude.{◌≡◌, ◌+◌, ◌&&◌, nat_lt, OnOk, IfOk};
 ghost use Rattle.pg_config.specs.Config.{has_vertical};
@@ -60,7 +60,7 @@ fn line_place<A: Allocator, D: Dimension>(
     None
 }
 
-// Whether a column line stands between this column and the one before it.
+// Whether there is a column line between this column and the one before it.
 fn has_line_before<A: Allocator>(config: &SpannedConfig<A>, columns: usize, column: usize) -> bool
     ensures { result ≡ (nat_lt 0 column && has_vertical config.now column columns) }
 {
@@ -86,7 +86,7 @@ pub(crate) fn over_line<A: Allocator + Copy, D: Dimension>(
     Ok(over)
 }
 
-// Puts the characters at their places in a row line, or some of them where memory is refused.
+// Puts the characters at their places in a row line, or some of them if memory is refused.
 //
 // Each column of a crossing is listed, as in all `Overrides`.
 pub(crate) fn put_over<A: Allocator + Clone>(

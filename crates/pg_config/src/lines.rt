@@ -46,7 +46,7 @@ impl<G, A: Allocator> Model for Lines<G, A> {
 }
 
 impl<G, A: Allocator + Copy> Lines<G, A> {
-    /// No value. Takes no memory.
+    /// No value. Allocates nothing.
     pub fn new(alloc: A) -> Lines<G, A>
         ensures { result ≡ settled_at no_lines }
     {
@@ -60,7 +60,7 @@ impl<G, A: Allocator + Copy> Lines<G, A> {
 }
 
 impl<G: Drop, A: Allocator + Clone> Lines<G, A> {
-    /// Has the changes stay, or takes them back. Takes no memory.
+    /// Keeps the changes, or undoes them. Allocates nothing.
     pub fn settle(&mut self, stays: bool)
         ensures { self.new ≡ settled stays self.old }
     {
@@ -70,7 +70,7 @@ impl<G: Drop, A: Allocator + Clone> Lines<G, A> {
         self.columns.settle(stays);
     }
 
-    /// Gives the places round a cell the values that this border has for them, or some of them where
+    /// Sets the places round a cell to the values that this border has for them, or some of them if
     /// memory is refused.
     ///
     /// Each column of a crossing is listed, as in all `Overrides`.
@@ -82,12 +82,12 @@ impl<G: Drop, A: Allocator + Clone> Lines<G, A> {
         ensures before { self.new.before ≡ self.old.before }
         ensures nothing { on_lines pos border ≡ no_border → IsOk result }
     {
-        // Where a line is the last one, the border has nothing for the line behind it.
+        // If a line is the last one, the border has nothing for the line after it.
         let (below, right) = (pos.row.saturating_add(1), pos.col.saturating_add(1));
         self.put_round(pos, below, right, on_lines(pos, border))
     }
 
-    // Sets the glyphs of a border round a cell, of which the row line below and the column line right of it
+    // Sets the glyphs of a border round a cell; the row line below and the column line at its right
     // have these numbers.
     fn put_round(
         &mut self,
@@ -145,7 +145,7 @@ fn behind<G: Drop>(line: usize, part: Option<G>) -> Option<G>
 }
 
 impl<A: Allocator + Clone> Lines<char, A> {
-    /// Gives these crossings these glyphs, or some of them where memory is refused.
+    /// Sets the glyphs of these crossings, or some of them if memory is refused.
     ///
     /// Each column of a crossing is listed, as in all `Overrides`.
     pub fn put_all_crossings(
@@ -161,7 +161,7 @@ impl<A: Allocator + Clone> Lines<char, A> {
         put_all(&mut self.crossings, &mut self.columns, glyphs)
     }
 
-    /// Puts characters at their places in a row line, those at crossings here, or some of them where
+    /// Puts characters at their places in a row line, here those at crossings, or some of them if
     /// memory is refused.
     ///
     /// Each column of a crossing is listed, as in all `Overrides`.
@@ -181,14 +181,13 @@ impl<A: Allocator + Clone> Lines<char, A> {
         put_over(glyphs, &mut self.crossings, &mut self.columns, row, over)
     }
 
-    /// Gives the horizontals and the crossings of a row line of so many columns the glyphs of this
-    /// line, or some of them where memory is refused.
+    /// Sets the horizontals and the crossings of a row line of so many columns to the glyphs of
+    /// this line, or some of them if memory is refused.
     ///
-    /// Asks for room for the notes first, so that a line of more places than there is memory for is
+    /// Reserves room for the notes first, so that a line with too many places for the memory is
     /// refused at once.
     ///
-    /// There is a column, which a comparison tells. Each column of a crossing is listed, as in all
-    /// `Overrides`.
+    /// Precondition: there is a column. Each column of a crossing is listed, as in all `Overrides`.
     #[tactic(auto, unfolding(crate::specs::Overrides::with_row_line))]
     pub fn put_row_line(
         &mut self,
@@ -210,7 +209,7 @@ impl<A: Allocator + Clone> Lines<char, A> {
     }
 }
 
-// Gives these crossings these glyphs, and lists their columns, or some of them.
+// Sets the glyphs of these crossings, and lists their columns, or does so for some of them.
 fn put_all<A: Allocator + Clone>(
     crossings: &mut NotedPlaces<Position, char, A>,
     columns: &mut NotedPlaces<usize, (), A>,
@@ -229,7 +228,7 @@ fn put_all<A: Allocator + Clone>(
     Ok(())
 }
 
-// Gives the first horizontals of a row line this glyph, if there is one, or some of them.
+// Sets the glyph of the first horizontals of a row line, if there is one, or of some of them.
 fn put_horizontals<A: Allocator + Clone>(
     horizontals: &mut NotedPlaces<Position, char, A>,
     row: usize,
@@ -245,8 +244,8 @@ fn put_horizontals<A: Allocator + Clone>(
     Ok(())
 }
 
-// Gives the crossings of a row line of so many columns the glyphs of this line, and lists their
-// columns, or some of them.
+// Sets the crossings of a row line of so many columns to the glyphs of this line, and lists their
+// columns, or does so for some of them.
 fn put_crossings<A: Allocator + Clone>(
     crossings: &mut NotedPlaces<Position, char, A>,
     index: &mut NotedPlaces<usize, (), A>,
@@ -282,7 +281,7 @@ fn crossing_of(line: HorizontalLine<char>, columns: usize, col: usize) -> Option
     }
 }
 
-// Gives a crossing this value, if there is one, and lists its column, or does one of the two where
+// Sets the value of a crossing, if there is one, and lists its column, or does one of the two if
 // memory is refused.
 pub(crate) fn put_crossing<G: Drop, A: Allocator + Clone>(
     crossings: &mut NotedPlaces<Position, G, A>,

@@ -1,4 +1,4 @@
-//! Values by key whose latest changes can be taken back.
+//! Values by key whose latest changes can be undone.
 
 ghost use Rattle.std.specs.Prelude.{◌≡◌, [], None, OnOk, OnErr, IsOk};
 ghost use Rattle.pg_layout.specs.Places.{with_some};
@@ -13,9 +13,9 @@ const KEPT_NOTES: usize = 8;
 
 /// Values by key, with notes of what each changed key held before.
 ///
-/// A setter of several values makes its changes one after another, and settles them at its end: they
-/// stay, or, where memory was refused to one of them, all are taken back. That needs no memory: a
-/// key that gets back a value is there, and another one is taken out.
+/// A setter of several values makes its changes one after another, and settles them at its end:
+/// they stay, or, if memory was refused for one of them, all are undone. Undoing allocates nothing:
+/// a key that gets back a value is there, and any other one is removed.
 #[derive(Debug, Drop)]
 pub struct NotedPlaces<K: Key, V, A: Allocator = Global> {
     places: Places<K, V, A>,
@@ -35,7 +35,7 @@ impl<K: Key, V, A: Allocator> Model for NotedPlaces<K, V, A> {
 }
 
 impl<K: Key, V, A: Allocator + Copy> NotedPlaces<K, V, A> {
-    /// No entries. Takes no memory.
+    /// No entries. Allocates nothing.
     pub fn new(alloc: A) -> NotedPlaces<K, V, A>
         ensures { result ≡ settled_at [] }
     {
@@ -47,7 +47,7 @@ impl<K: Key, V, A: Allocator + Copy> NotedPlaces<K, V, A> {
 }
 
 impl<K: Key, V, A: Allocator> NotedPlaces<K, V, A> {
-    /// These entries, of which no change is noted. Takes no memory.
+    /// These entries, of which no change is noted. Allocates nothing.
     pub fn holding(alloc: A, places: Places<K, V, A>) -> NotedPlaces<K, V, A>
         ensures { result ≡ settled_at places }
     {
@@ -57,7 +57,7 @@ impl<K: Key, V, A: Allocator> NotedPlaces<K, V, A> {
         }
     }
 
-    /// The entries as they are now.
+    /// The current entries.
     pub fn into_places(self) -> Places<K, V, A>
     where
         V: Drop,
@@ -68,7 +68,7 @@ impl<K: Key, V, A: Allocator> NotedPlaces<K, V, A> {
         places
     }
 
-    /// The values as they are now.
+    /// The current values.
     #[inline(always)]
     pub fn places(&self) -> &Places<K, V, A>
         ensures { result.now ≡ self.now.now }
@@ -78,16 +78,17 @@ impl<K: Key, V, A: Allocator> NotedPlaces<K, V, A> {
 }
 
 impl<K: Key, V: Drop, A: Allocator + Clone> NotedPlaces<K, V, A> {
-    /// Makes room for the notes of so many changes. Nothing changes, whether there is room or not.
+    /// Reserves room for the notes of so many changes. Nothing else changes, whether there is room
+    /// or not.
     pub fn reserve(&mut self, changes: usize) -> Result<(), AllocError>
         ensures { self.new ≡ self.old }
     {
         self.held.reserve(changes)
     }
 
-    /// Gives the key this value, if there is one, and notes what it held.
+    /// Sets the value of the key, if there is one, and notes what it held.
     ///
-    /// Where memory is refused, for the note or for a new key, nothing changes.
+    /// If memory is refused, for the note or for a new key, nothing changes.
     pub fn put(&mut self, key: K, value: Option<V>) -> Result<(), AllocError>
         ensures ok { OnOk result (self.new.now ≡ with_some K.order key value self.old.now) }
         ensures err { OnErr result (self.new ≡ self.old) }
@@ -104,7 +105,7 @@ impl<K: Key, V: Drop, A: Allocator + Clone> NotedPlaces<K, V, A> {
         Ok(())
     }
 
-    /// Has the changes stay, or takes them back, and forgets the notes. Takes no memory.
+    /// Keeps the changes, or undoes them, and forgets the notes. Allocates nothing.
     pub fn settle(&mut self, stays: bool)
         ensures { self.new ≡ settled stays self.old }
     {
@@ -117,7 +118,7 @@ impl<K: Key, V: Drop, A: Allocator + Clone> NotedPlaces<K, V, A> {
         }
     }
 
-    // Gives each changed key what it held, the latest change first.
+    // Restores what each changed key held, the latest change first.
     fn take_back(&mut self)
         ensures { self.new ≡ settled_at self.old.before }
     {

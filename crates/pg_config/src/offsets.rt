@@ -52,7 +52,7 @@ impl<V, A: Allocator> Model for Offsets<V, A> {
 }
 
 impl<V, A: Allocator + Copy> Offsets<V, A> {
-    /// No value. Takes no memory.
+    /// No value. Allocates nothing.
     pub fn new(alloc: A) -> Offsets<V, A>
         ensures { result ≡ no_offsets }
     {
@@ -64,7 +64,7 @@ impl<V, A: Allocator + Copy> Offsets<V, A> {
 }
 
 impl<V: Drop, A: Allocator + Copy> Offsets<V, A> {
-    /// Takes out the values that are counted from the start, to change several of them at once.
+    /// Takes out the values counted from the start, to change several of them at once.
     pub fn take_from_start(&mut self, alloc: A) -> NotedPlaces<GlyphPlace, V, A>
         ensures taken { result ≡ settled_at self.old.from_start }
         ensures left { self.new ≡ record self.old { from_start = [] } }
@@ -73,7 +73,7 @@ impl<V: Drop, A: Allocator + Copy> Offsets<V, A> {
         NotedPlaces::holding(alloc, taken)
     }
 
-    /// Gives back values that are counted from the start, in place of all that there are.
+    /// Gives back values counted from the start, in place of all that there are.
     pub fn give_from_start(&mut self, values: NotedPlaces<GlyphPlace, V, A>)
         ensures { self.new ≡ record self.old { from_start = values.now } }
     {
@@ -82,8 +82,8 @@ impl<V: Drop, A: Allocator + Copy> Offsets<V, A> {
 }
 
 impl<V, A: Allocator> Offsets<V, A> {
-    /// The value of glyph `i` of `w`: counted from the start, else from the end. Nothing where there
-    /// is no such glyph.
+    /// The value of glyph `i` of `w`: counted from the start, else from the end. None if there is
+    /// no such glyph.
     #[tactic(auto, unfolding(crate::specs::Offsets::lookup_offset), using(crate::proofs::GlyphLaws::only_if_is))]
     #[inline(always)]
     pub fn lookup(&self, pos: Position, i: usize, w: usize) -> Option<&V>
@@ -116,7 +116,7 @@ impl<V, A: Allocator> Offsets<V, A> {
 }
 
 impl<V: Drop, A: Allocator> Offsets<V, A> {
-    /// Gives a glyph of this place a value. An error where memory is refused; then nothing changes.
+    /// Sets the value of a glyph of this place. If memory is refused, nothing changes.
     #[tactic(auto, unfolding(crate::specs::Offsets::with_offset))]
     pub fn set(&mut self, pos: Position, offset: Offset, value: V) -> Result<(), AllocError>
     where
@@ -137,7 +137,7 @@ impl<V: Drop, A: Allocator> Offsets<V, A> {
 fn has_place<V, A: Allocator>(glyphs: &Places<GlyphPlace, V, A>, pos: Position) -> bool
     ensures { result ≡ has_key (of_place pos) glyphs.now }
 {
-    // Shows that the places stand in order.
+    // Shows that the places are in order.
     glyphs.stand_in_order();
     match glyphs.first_key_from(GlyphPlace { pos, number: 0 }) {
         Some(key) => key.pos == pos,

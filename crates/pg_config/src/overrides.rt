@@ -36,7 +36,7 @@ impl<G, A: Allocator> Model for Overrides<G, A> {
 }
 
 impl<G, A: Allocator + Copy> Overrides<G, A> {
-    /// No value. Takes no memory.
+    /// No value. Allocates nothing.
     pub fn new(alloc: A) -> Overrides<G, A>
         ensures { result ≡ no_overrides }
     {
@@ -115,10 +115,10 @@ impl<G, A: Allocator> Overrides<G, A> {
 }
 
 impl<G: Drop, A: Allocator + Clone> Overrides<G, A> {
-    /// Gives the places round a cell the values that this border has for them. A value that it lacks
-    /// leaves its place as it was, and one for a place behind line `usize::MAX` is left out.
+    /// Sets the places round a cell to the values that this border has for them. A value that it
+    /// lacks leaves its place unchanged, and one for a place after line `usize::MAX` is left out.
     ///
-    /// Where memory is refused, nothing changes.
+    /// If memory is refused, nothing changes.
     pub fn set_border(&mut self, pos: Position, border: Border<G>) -> Result<(), AllocError>
         ensures ok { OnOk result (self.new ≡ with_border pos border self.old) }
         ensures err { OnErr result (self.new ≡ self.old) }
@@ -131,16 +131,16 @@ impl<G: Drop, A: Allocator + Clone> Overrides<G, A> {
 }
 
 impl<A: Allocator + Clone> Overrides<char, A> {
-    /// Gives these crossings these glyphs.
+    /// Sets the glyphs of these crossings.
     ///
-    /// Where memory is refused, nothing changes. Without glyphs none is asked for.
+    /// If memory is refused, nothing changes. Without glyphs nothing is allocated.
     pub fn set_crossings(&mut self, glyphs: &Places<Position, char, A>) -> Result<(), AllocError>
         ensures ok { OnOk result (self.new ≡ record self.old { crossings = with_all glyphs.now self.old.crossings }) }
         ensures err { OnErr result (self.new ≡ self.old) }
         ensures ascending { IsAscending by_place self.old.crossings }
         ensures nothing { glyphs.now ≡ [] → IsOk result }
     {
-        // Shows that they stand in order.
+        // Shows that they are in order.
         self.lines.crossings.places().stand_in_order();
         let done = self.lines.put_all_crossings(glyphs);
         self.lines.settle(done.is_ok());
@@ -150,7 +150,7 @@ impl<A: Allocator + Clone> Overrides<char, A> {
     /// Puts characters at their places in a row line: those at crossings here, the others among these
     /// glyphs of horizontals, whose changes aren't settled then.
     ///
-    /// Where memory is refused, no crossing changes.
+    /// If memory is refused, no crossing changes.
     pub fn set_over(
         &mut self,
         glyphs: &mut NotedPlaces<GlyphPlace, char, A>,
@@ -167,10 +167,11 @@ impl<A: Allocator + Clone> Overrides<char, A> {
         done
     }
 
-    /// Gives the horizontals and the crossings of a row line of so many columns the glyphs of this
-    /// line. A glyph that it lacks leaves its places as they were. With no columns nothing changes.
+    /// Sets the horizontals and the crossings of a row line of so many columns to the glyphs of
+    /// this line. A glyph that it lacks leaves its places unchanged. With no columns nothing
+    /// changes.
     ///
-    /// Where memory is refused, nothing changes. None is asked for where no glyph has a place.
+    /// If memory is refused, nothing changes. Nothing is allocated if no glyph has a place.
     #[tactic(auto, unfolding(crate::specs::Overrides::with_row_line), using(crate::proofs::RowLines::without_glyphs))]
     pub fn set_row_line(
         &mut self,
@@ -204,7 +205,7 @@ fn has_glyph(columns: usize, line: HorizontalLine<char>) -> bool
 fn has_row<G, A: Allocator>(places: &Places<Position, G, A>, row: usize) -> bool
     ensures { result ≡ has_key (in_row row) places.now }
 {
-    // Shows that they stand in order.
+    // Shows that they are in order.
     places.stand_in_order();
     match places.first_key_from(Position { row, col: 0 }) {
         Some(key) => key.row == row,
@@ -217,7 +218,7 @@ fn has_row<G, A: Allocator>(places: &Places<Position, G, A>, row: usize) -> bool
 fn has_column<G, A: Allocator>(places: &Places<ColumnPlace, G, A>, col: usize) -> bool
     ensures { result ≡ has_key (in_column col) places.now }
 {
-    // Shows that they stand in order.
+    // Shows that they are in order.
     places.stand_in_order();
     match places.first_key_from(ColumnPlace { col, row: 0 }) {
         Some(key) => key.col == col,

@@ -1,4 +1,4 @@
-//! Settings by entity: an answer is at most three searches, and a setter is one.
+//! Settings by entity: a look-up takes at most three searches, and a setter one.
 
 ghost use Rattle.std.specs.Prelude.{◌≡◌, ℕ, suc, ◌<◌, ◌-◌, ◌^◌, Option, Some, None, option_map, OnOk, OnErr, IsOk, IsSome};
 ghost use Rattle.pg_layout.specs.Keys.{by_place};
@@ -12,15 +12,15 @@ use std::marker::Model;
 
 /// The settings of one kind: the latest one whose entity holds a place counts there.
 ///
-/// At most one is kept for each row, column and cell. One that later ones cover stays, unseen, until
-/// its entity or all places are told something.
+/// At most one is kept for each row, column and cell. A setting that later ones cover remains,
+/// unseen, until its entity or all places are set again.
 #[derive(Debug, Drop)]
 pub struct Settings<V, A: Allocator = Global> {
     base: Option<V>,
     rows: Places<usize, (usize, V), A>,
     columns: Places<usize, (usize, V), A>,
     cells: Places<Position, (usize, V), A>,
-    // It has all cells.
+    // It includes all cells.
     extent: Extent,
     // The number of the next setting for a row, a column or a cell.
     next: usize,
@@ -40,7 +40,7 @@ impl<V, A: Allocator> Model for Settings<V, A> {
 }
 
 impl<V, A: Allocator + Copy> Settings<V, A> {
-    /// No setting. Takes no memory.
+    /// No setting. Allocates nothing.
     pub fn new(alloc: A) -> Settings<V, A>
         ensures { result ≡ no_settings }
     {
@@ -119,10 +119,10 @@ impl<V, A: Allocator> Settings<V, A> {
 impl<V: Drop, A: Allocator> Settings<V, A> {
     /// Sets a value for the places of an entity.
     ///
-    /// An error where memory is refused, or where 2^64 - 1 settings were made for rows, columns and
-    /// cells since the last one for all places, so that no number is left; then nothing changes.
-    /// A setting for all places takes all others away and takes no memory, nor does one for an
-    /// entity that has one.
+    /// The error is out of memory, also if 2^64 - 1 settings were made for rows, columns and cells
+    /// since the last one for all places, so that no number is left; then nothing changes. A
+    /// setting for all places deletes all others. It allocates nothing, nor does one for an entity
+    /// that has one.
     #[tactic(auto, unfolding(crate::specs::Settings::with_setting))]
     pub fn set(&mut self, entity: Entity, value: V) -> Result<(), AllocError>
     where
@@ -154,7 +154,7 @@ impl<V: Drop, A: Allocator> Settings<V, A> {
     }
 }
 
-// Gives the key a value with the next number, and moves the number on.
+// Sets the value of the key with the next number, and increments the number.
 fn set_next<K: Key, V: Drop, A: Allocator + Clone>(
     places: &mut Places<K, (usize, V), A>,
     next: &mut usize,

@@ -1,4 +1,4 @@
-//! What a table is told.
+//! The settings of a table.
 
 ghost use Rattle.std.specs.Prelude.{◌≡◌, [], None};
 ghost use Rattle.pg_config.specs.Config.{filled, default_config};
@@ -23,12 +23,12 @@ mod spans;
 pub(crate) use self::borders::{horizontal_glyph, vertical_glyph};
 pub use self::cells::CellStyle;
 
-/// What a table is told: borders, paddings, alignments, spans, margins and colours.
+/// The settings of a table: borders, paddings, alignments, spans, margins and colours.
 ///
-/// A setter that answers an error, which is one of memory, changed nothing. A setting for all cells
-/// takes no memory, nor does one for a row, a column or a cell that has one, nor a glyph or a colour
-/// at a place that has one. After 2^64 - 1 settings of one kind for rows, columns and cells, the next
-/// one answers that error, too, until all cells are told something of that kind.
+/// A setter's only error is out of memory, after which nothing has changed. A setting for all cells
+/// allocates nothing, nor does one for a row, a column or a cell that has one, nor a glyph or a
+/// colour at a place that has one. After 2^64 - 1 settings of one kind for rows, columns and cells,
+/// the next one returns that error, too, until one of that kind is set for all cells.
 #[derive(Debug)]
 pub struct SpannedConfig<A: Allocator = Global> {
     borders: Borders<char>,
@@ -46,11 +46,11 @@ pub struct SpannedConfig<A: Allocator = Global> {
     margin_color: Sides<Option<ANSIBuf<A>>>,
     pub(crate) cells: Cells<A>,
     spans: Spans<A>,
-    // Lent where no padding colour was set.
+    // Lent if no padding colour was set.
     no_colors: Sides<Option<ANSIBuf<A>>>,
 }
 
-// Written out, so that a caller's proof has one call where it lets a configuration go. A derived drop
+// Written out, so that a caller's proof has one call when it drops a configuration. A derived drop
 // is unfolded there to the last colour, at each `?`.
 impl<A: Allocator> Drop for SpannedConfig<A> {
     fn drop(self) {
@@ -123,11 +123,11 @@ pub(crate) fn no_colors<A: Allocator>() -> Sides<Option<ANSIBuf<A>>>
 }
 
 impl<A: Allocator + Copy> SpannedConfig<A> {
-    /// A configuration that was told nothing: no borders, the missing border glyph a space,
-    /// alignments left and top, nothing trimmed, justification by spaces, paddings and margins of
-    /// size 0 filled by spaces, offsets of 0 from the start, no spans and no colours.
+    /// A configuration with the default settings: no borders, the missing glyph a space, alignments
+    /// left and top, no trims, justification by spaces, paddings and margins of size 0 filled by
+    /// spaces, offsets of 0 from the start, no spans and no colours.
     ///
-    /// Takes no memory.
+    /// Allocates nothing.
     #[tactic(auto, unfolding(crate::specs::Config::default_config))]
     pub fn new(alloc: A) -> SpannedConfig<A>
         ensures told { result ≡ default_config }

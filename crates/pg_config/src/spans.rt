@@ -53,7 +53,7 @@ impl<A: Allocator> Model for Spans<A> {
 }
 
 impl<A: Allocator> Spans<A> {
-    /// No spans. Takes no memory.
+    /// No spans. Allocates nothing.
     pub(crate) fn new(alloc: A) -> Spans<A>
         ensures { result ≡ [] }
     {
@@ -72,7 +72,7 @@ impl<A: Allocator> Spans<A> {
         self.sizes.iter()
     }
 
-    // Tells a proof that the places ascend. It does nothing when it runs.
+    // Shows a proof that the places ascend. It does nothing when it runs.
     #[inline(always)]
     pub(crate) fn stand_in_order(&self)
         ensures { IsAscending by_columns self.now }
@@ -156,7 +156,7 @@ impl<A: Allocator> Spans<A> {
         Ok(())
     }
 
-    /// Makes the rectangle of a place so many columns wide. Where memory is refused, nothing changes.
+    /// Makes the rectangle of a place so many columns wide. If memory is refused, nothing changes.
     #[tactic(auto, unfolding(crate::specs::Spans::with_column_span, crate::specs::Spans::rect_rows))]
     pub(crate) fn set_columns(&mut self, pos: Position, columns: usize) -> Result<(), AllocError>
     where
@@ -170,7 +170,7 @@ impl<A: Allocator> Spans<A> {
         self.set_size(pos, SpanSize { rows, columns })
     }
 
-    /// Makes the rectangle of a place so many rows high. Where memory is refused, nothing changes.
+    /// Makes the rectangle of a place so many rows high. If memory is refused, nothing changes.
     #[tactic(auto, unfolding(crate::specs::Spans::with_row_span, crate::specs::Spans::rect_columns))]
     pub(crate) fn set_rows(&mut self, pos: Position, rows: usize) -> Result<(), AllocError>
     where
@@ -251,7 +251,7 @@ impl<A: Allocator> Spans<A> {
         requires { first ≤ last }
         ensures { result ≡ is_covered_from_left self.now pos first last }
     {
-        // Shows that they stand in order.
+        // Shows that they are in order.
         let _rectangles = self.iter();
         let mut column = pos.col;
         while let Some(span) = self.last_before(Position {

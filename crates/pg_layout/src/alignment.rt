@@ -1,6 +1,6 @@
-//! How a text stands in its cell.
+//! How a text is aligned in its cell.
 
-/// Where a text stands between the left and the right side of its cell.
+/// How a text is aligned horizontally in its cell.
 #[derive(Debug, Clone, Copy, PartialEq, Eq)]
 pub enum AlignmentHorizontal {
     Left,
@@ -8,7 +8,7 @@ pub enum AlignmentHorizontal {
     Right,
 }
 
-/// Where a text stands between the top and the bottom of its cell.
+/// How a text is aligned vertically in its cell.
 #[derive(Debug, Clone, Copy, PartialEq, Eq)]
 pub enum AlignmentVertical {
     Top,
@@ -21,8 +21,8 @@ pub enum AlignmentVertical {
 pub struct Formatting {
     /// Whether each line is trimmed of white space.
     pub horizontal_trim: bool,
-    /// Whether blank lines at the front and at the end of the text are left out.
+    /// Whether blank lines at the start and at the end of the text are left out.
     pub vertical_trim: bool,
-    /// Whether each line is aligned by its own width, and not by that of the widest line.
+    /// Whether each line is aligned by its own width instead of that of the widest line.
     pub allow_lines_alignment: bool,
 }

@@ -34,7 +34,8 @@ pub struct Borders<T> {
     pub vertical: Option<T>,
 }
 
-// By their lines: a derived clone lets go, at each of fifteen `?`, of all values that were cloned before it.
+// By their lines: a derived clone drops, at each of fifteen `?`, all values that were cloned before
+// it.
 impl<T: Clone> Clone for Borders<T> {
     ghost is_clone = { λ b clone. ⟦<HorizontalLine<T> as Clone>⟧.is_clone (top_line b) (top_line clone)
         × ⟦<HorizontalLine<T> as Clone>⟧.is_clone (cell_line b) (cell_line clone)
@@ -104,8 +105,8 @@ impl<T> Borders<T> {
         }
     }
 
-    // The borders of these lines: the first one, one through the cells of a row, one between two rows, and the
-    // last one. What stands in the cells is let go.
+    // The borders of these lines: the first one, one through the cells of a row, one between two
+    // rows, and the last one. What is in the cells is dropped.
     pub(crate) fn of_lines(
         top: HorizontalLine<T>,
         cells: HorizontalLine<T>,
@@ -268,11 +269,11 @@ impl<T> Border<T> {
 pub struct HorizontalLine<T> {
     /// What is repeated above or below each column.
     pub main: Option<T>,
-    /// What stands between two columns.
+    /// The crossing between two columns.
     pub intersection: Option<T>,
-    /// What stands at the left end.
+    /// The left end.
     pub left: Option<T>,
-    /// What stands at the right end.
+    /// The right end.
     pub right: Option<T>,
 }
 

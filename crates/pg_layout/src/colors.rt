@@ -13,7 +13,7 @@ use std::marker::Model;
 ///
 /// Both texts depend on the value alone.
 pub trait ANSIFmt {
-    /// The colour that the value stands for.
+    /// The colour that the value means.
     ghost color_of: { Self → Color };
 
     /// What is written before the text.
@@ -87,7 +87,7 @@ pub struct ANSIBuf<A: Allocator = Global> {
     suffix: String<A>,
 }
 
-// Written out, so that a caller's proof has one call where it lets a colour go.
+// Written out, so that a caller's proof has one call when it drops a colour.
 impl<A: Allocator> Drop for ANSIBuf<A> {
     fn drop(self) {
         let ANSIBuf { prefix, suffix } = self;
@@ -105,7 +105,7 @@ impl<A: Allocator> Model for ANSIBuf<A> {
 }
 
 impl<A: Allocator + Copy> ANSIBuf<A> {
-    /// The colour with copies of these two texts; an error where memory is refused.
+    /// The colour with copies of these two texts. The only error is out of memory.
     pub fn new(alloc: A, prefix: &str, suffix: &str) -> Result<ANSIBuf<A>, AllocError>
         ensures { IfOk result (λ c. c ≡ record { prefix = prefix.now; suffix = suffix.now }) }
     {

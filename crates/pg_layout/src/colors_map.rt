@@ -20,7 +20,7 @@ pub struct ColorsMap<A: Allocator = Global> {
     colors: Places<Position, ANSIBuf<A>, A>,
 }
 
-// Written out, so that a caller's proof has one call where it lets the colours go. A derived drop is
+// Written out, so that a caller's proof has one call when it drops the colours. A derived drop is
 // unfolded there down to the tree, at each `?`.
 impl<A: Allocator> Drop for ColorsMap<A> {
     fn drop(self) {
@@ -36,7 +36,7 @@ impl<A: Allocator> Model for ColorsMap<A> {
 }
 
 impl<A: Allocator> ColorsMap<A> {
-    /// No place has a colour. Takes no memory.
+    /// No place has a colour. Allocates nothing.
     pub fn new(alloc: A) -> ColorsMap<A>
         ensures { result ≡ [] }
     {
@@ -45,9 +45,9 @@ impl<A: Allocator> ColorsMap<A> {
         }
     }
 
-    /// Gives the place this colour, in place of an old one.
+    /// Sets the colour of a place, in place of an old one.
     ///
-    /// Asks for memory only where the place had no colour; where that is refused, nothing changes.
+    /// Allocates only if the place had no colour. If memory is refused, nothing changes.
     pub fn set(&mut self, pos: Position, color: ANSIBuf<A>) -> Result<(), AllocError>
     where
         A: Clone,

@@ -6,7 +6,7 @@ use std::alloc::{Allocator, Global};
 
 /// The widths of a table's columns and the heights of its rows.
 ///
-/// Both answers depend on the value and the number alone.
+/// Both results depend on the value and the number alone.
 pub trait Dimension {
     /// The width of each column, in terminal columns.
     ghost width: { Self → ℕ → ℕ };
@@ -38,7 +38,7 @@ impl<D: Dimension> Dimension for &D {
 }
 
 /// The widths of the columns and the heights of the rows, and 0 past their ends: a row past the end
-/// of the heights is no line high. Where the rows aren't counted before, take [`EvenDimension`].
+/// of the heights is 0 lines high. If the rows aren't counted beforehand, take [`EvenDimension`].
 #[derive(Debug)]
 pub struct ConstantDimension<A: Allocator = Global>(
     /// The widths of the columns, in terminal columns.
@@ -47,7 +47,7 @@ pub struct ConstantDimension<A: Allocator = Global>(
     pub Vec<usize, A>,
 );
 
-// Written out, so that a caller's proof has one call where it lets the sizes go.
+// Written out, so that a caller's proof has one call when it drops the sizes.
 impl<A: Allocator> Drop for ConstantDimension<A> {
     fn drop(self) {
         let ConstantDimension(widths, heights) = self;
@@ -71,8 +71,8 @@ impl<A: Allocator> Dimension for ConstantDimension<A> {
 
 /// The widths of the columns, and 0 past their end; every row has the same height.
 ///
-/// It is for a table whose number of rows isn't known, as for rows that come one at a time: past the
-/// end of its heights a [`ConstantDimension`] answers 0, so further rows would fit and show nothing.
+/// It is for tables whose number of rows isn't known, as when rows come one at a time: past the end
+/// of its heights a [`ConstantDimension`] has 0, so further rows would fit and show nothing.
 #[derive(Debug)]
 pub struct EvenDimension<A: Allocator = Global> {
     /// The widths of the columns, in terminal columns.
@@ -81,7 +81,7 @@ pub struct EvenDimension<A: Allocator = Global> {
     pub height: usize,
 }
 
-// Written out, as that of [`ConstantDimension`].
+// Written out, like that of [`ConstantDimension`].
 impl<A: Allocator> Drop for EvenDimension<A> {
     fn drop(self) {
         let EvenDimension { widths, height: _ } = self;

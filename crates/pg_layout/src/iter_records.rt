@@ -16,7 +16,7 @@ pub struct IterRows<I> {
 }
 
 // Written out, so that it is proved here, once for all iterators. A derived drop is proved by each
-// program that lets such rows go.
+// program that drops such rows.
 impl<I: Drop> Drop for IterRows<I> {
     fn drop(self) {
         let IterRows { iter } = self;
@@ -44,7 +44,7 @@ where
     }
 }
 
-// The texts that rows stand for. Only contracts see them: it takes no bytes.
+// The texts of rows. Only contracts see them: they take no bytes.
 #[derive(Drop)]
 struct Meaning {
     ghost texts: { Table },
@@ -63,8 +63,8 @@ impl Meaning {
     }
 }
 
-/// Records that an iterator of rows gives. They are for who proves: the texts that they stand for are
-/// a ghost value, which a proof file picks, and whoever reads the records owes that the iterator gives
+/// Records that an iterator of rows gives. They are for callers who prove: their texts are a ghost
+/// value, which a proof file picks, and whoever reads the records proves that the iterator gives
 /// these texts.
 ///
 /// Without a proof, rows of an iterator go into a `RowStream` (`pg_stream`), and rows in memory into
@@ -87,10 +87,10 @@ impl<I> Model for IterRecords<I> {
 
 impl<I> IterRecords<I> {
     /// Records of the rows that an iterator gives, each of which gives its cells by `IntoIterator`.
-    /// They stand for the texts of the cells, row by row.
+    /// Their texts are those of the cells, row by row.
     ///
-    /// They may be read where the iterator gives these texts and ends, each row has as many cells
-    /// as there are columns, and a hint is the number of rows.
+    /// They are readable if the iterator gives these texts and ends, each row has as many cells as
+    /// there are columns, and a hint is the number of rows.
     pub fn new(iter: I, count_columns: usize, hint: Option<usize>) -> IterRecords<I>
         ghost texts: { Table }
         ensures { result ≡ record { iter = iter; texts = texts; columns = count_columns; hint = hint } }

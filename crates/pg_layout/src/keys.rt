@@ -1,13 +1,13 @@
-//! What values stand at, and the order of it.
+//! The keys of values, and their order.
 
 ghost use Rattle.pg_layout.specs.Keys.{Order, IsOrderOf, by_number, by_place, by_columns};
 ghost use Rattle.pg_layout.specs.KeyOrders.{number-order, place-order, columns-order};
 
 use crate::position::{ColumnPlace, Position};
 
-/// What a value stands at in [`Places`](crate::Places). Its order is that of its comparison.
+/// The key of a value in [`Places`](crate::Places). Its order is that of its comparison.
 pub trait Key: Ord + Copy {
-    /// Which of two keys stands before the other, and which are one.
+    /// Which of two keys comes before the other, and which are equal.
     ghost order: { Order Self };
 
     ghost orders: { IsOrderOf Self.cmp order };

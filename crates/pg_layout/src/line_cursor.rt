@@ -8,7 +8,7 @@ use crate::text::first_line_end;
 use std::marker::Model;
 
 /// The place in a text where its next line begins, or past its last line. It holds no text: each
-/// call is given the text again.
+/// call takes the text again.
 #[derive(Debug, Clone, Copy, PartialEq, Eq)]
 pub struct LineCursor {
     place: usize,
@@ -47,10 +47,10 @@ impl LineCursor {
         before == text.len()
     }
 
-    /// The line at which the cursor stands, as a slice of the text, and a step to the next one; past
-    /// the last line `None`, and no step. The cursor must stand in the text, which
-    /// [`LineCursor::stands_in`] tells: it does where it is new, and where all its calls were given
-    /// this text.
+    /// The line at the cursor, as a slice of the text, and a step to the next one; past the last
+    /// line `None`, and no step. Precondition: the cursor is in the text, as
+    /// [`LineCursor::stands_in`] tests. A new cursor is in every text, and stays in a text that all
+    /// its calls take.
     #[inline(always)]
     pub fn next_line<'a>(&mut self, text: &'a str) -> Option<&'a str>
         requires { StandsIn self.old text.now }

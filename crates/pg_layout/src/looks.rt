@@ -5,7 +5,7 @@ ghost use Rattle.pg_layout.specs.Looks.{drawn_line, ascii, modern, sharp, rounde
 
 use crate::borders::{Borders, HorizontalLine};
 
-// A line that isn't there.
+// A line without glyphs.
 const NO_LINE: HorizontalLine<char> = HorizontalLine {
     main: None,
     intersection: None,
@@ -13,7 +13,8 @@ const NO_LINE: HorizontalLine<char> = HorizontalLine {
     right: None,
 };
 
-// A line of a drawing: what stands at its left end, in a column, between two columns and at its right end.
+// A line of a drawing: its left end, its glyph in a column, that between two columns, and its right
+// end.
 fn line(left: char, main: char, intersection: char, right: char) -> HorizontalLine<char>
     ensures { result ≡ drawn_line (left ∷ main ∷ intersection ∷ right ∷ []) }
 {

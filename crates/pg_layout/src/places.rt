@@ -13,7 +13,7 @@ use std::marker::Model;
 /// Values by key, at most one for each key, in the order of the keys.
 #[derive(Debug, Drop)]
 pub struct Places<K: Key, V, A: Allocator = Global> {
-    // A tree: in a list each value that is told out of order would move those behind it.
+    // A tree: in a list each value that is set out of order would move those after it.
     entries: BTreeMap<K, V, A>,
 }
 
@@ -26,7 +26,7 @@ impl<K: Key, V, A: Allocator> Model for Places<K, V, A> {
 }
 
 impl<K: Key, V, A: Allocator> Places<K, V, A> {
-    /// No entries. Takes no memory.
+    /// No entries. Allocates nothing.
     pub fn new(alloc: A) -> Places<K, V, A>
         ensures { result ≡ [] }
     {
@@ -44,12 +44,12 @@ impl<K: Key, V, A: Allocator> Places<K, V, A> {
         self.entries.iter()
     }
 
-    /// Tells a proof that the keys ascend. It does nothing when it runs.
+    /// Shows a proof that the keys ascend. It does nothing when it runs.
     #[inline(always)]
     pub fn stand_in_order(&self)
         ensures { IsAscending K.order self.now }
     {
-        // To look inside is what tells it.
+        // Looking inside shows it.
         let _count = self.entries.len();
     }
 
@@ -123,8 +123,8 @@ impl<K: Key, V, A: Allocator> Places<K, V, A> {
         self.find_key_from(key)
     }
 
-    // The first key that is at least this one, found by a search of the entries. There is none behind the
-    // last one, which is found at less cost.
+    // The first key that is at least this one, found by a search of the entries. There is none
+    // after the last one, which costs less to find.
     fn find_key_from(&self, key: K) -> Option<K>
         ensures { result ≡ option_map (λ e. e.0) (next_from K.order key self.now) }
     {
@@ -136,10 +136,9 @@ impl<K: Key, V, A: Allocator> Places<K, V, A> {
         Some(found)
     }
 
-    /// The entries whose keys stand from one key on to another, both among them, in the order of
-    /// their keys.
+    /// The entries whose keys lie between two keys, these included, in the order of their keys.
     ///
-    /// The second key isn't before the first one, which a comparison tells.
+    /// Precondition: the second key isn't before the first one. Compare them first.
     pub fn between(&self, from: K, to: K) -> Range<'_, K, V>
         requires { before K.order to from ≡ false }
         ensures all { result ≡ between K.order from to self.now }
@@ -150,9 +149,9 @@ impl<K: Key, V, A: Allocator> Places<K, V, A> {
 }
 
 impl<K: Key, V: Drop, A: Allocator> Places<K, V, A> {
-    /// Gives the key this value, in place of an old one.
+    /// Sets the value of a key, in place of an old one.
     ///
-    /// Asks for memory only for a new key; where that is refused, nothing changes.
+    /// Allocates only for a new key. If memory is refused, nothing changes.
     pub fn set(&mut self, key: K, value: V) -> Result<(), AllocError>
     where
         A: Clone,
@@ -164,17 +163,17 @@ impl<K: Key, V: Drop, A: Allocator> Places<K, V, A> {
         Ok(())
     }
 
-    /// Takes out the entry of this key.
+    /// Removes the entry of this key.
     pub fn remove(&mut self, key: K)
         ensures { self.new ≡ without_place K.order key self.old }
     {
         drop(self.take(key));
     }
 
-    /// Gives the key this value, or takes its entry out where there is none, and answers the value
-    /// that it had. To exchange that for what is there then makes all as before.
+    /// Sets the value of a key, or removes its entry if there is none, and returns the value that
+    /// it had. Exchanging it for the returned one undoes the call.
     ///
-    /// Asks for memory only to give a new key a value; where that is refused, nothing changes.
+    /// Allocates only for the value of a new key. If memory is refused, nothing changes.
     pub fn exchange(&mut self, key: K, value: Option<V>) -> Result<Option<V>, AllocError>
     where
         A: Clone,
@@ -191,14 +190,14 @@ impl<K: Key, V: Drop, A: Allocator> Places<K, V, A> {
         }
     }
 
-    /// Takes out all entries.
+    /// Removes all entries.
     pub fn clear(&mut self)
         ensures { self.new ≡ [] }
     {
         self.entries.clear();
     }
 
-    // Gives the key this value, and answers the one that it had.
+    // Sets the value of a key, and returns the one that it had.
     fn put(&mut self, key: K, value: V) -> Result<Option<V>, AllocError>
     where
         A: Clone,
@@ -211,7 +210,7 @@ impl<K: Key, V: Drop, A: Allocator> Places<K, V, A> {
         Ok(self.entries.insert(key, value)?)
     }
 
-    // Takes out the entry of this key, and answers its value.
+    // Removes the entry of this key, and returns its value.
     fn take(&mut self, key: K) -> Option<V>
         ensures now { self.new ≡ without_place K.order key self.old }
         ensures old { result ≡ value_at K.order key self.old }

@@ -9,7 +9,7 @@ use std::convert::AsStr;
 
 /// Rows of cells that can be read once, from the first to the last.
 ///
-/// They stand for a list of rows, each a list of as many texts as there are columns.
+/// Their texts are a list of rows, each with as many texts as there are columns.
 pub trait Records {
     /// A cell, which lends its text.
     type Cell: AsStr + Drop;
@@ -26,18 +26,18 @@ pub trait Records {
     /// How many cells each row has.
     ghost columns: { Self → ℕ };
 
-    /// How many rows there are, where that is known.
+    /// How many rows there are, if that is known.
     ghost hint: { Self → Option ℕ };
 
-    /// Holds of records that may be read. It holds of all records in memory; of records that hold
-    /// an iterator it says that the iterator gives their texts.
+    /// What must hold before the records are read. Nothing for records in memory; for records of an
+    /// iterator, that the iterator gives their texts.
     ghost is_readable: { Self → Type 0 } = { λ _. ⊤ };
 
     /// The rows: an iterator that gives one iterator for each row, in order, and ends. Each of them
     /// gives the cells of its row, in order, and ends.
     ///
-    /// The records may be read (`is_readable`). Records in memory always may. Of
-    /// [`IterRecords`](crate::IterRecords) no test tells it: it is for who proves what
+    /// Precondition: the records are readable (`is_readable`). Records in memory always are. For
+    /// [`IterRecords`](crate::IterRecords) there is no test: prove what
     /// [`IterRecords::new`](crate::IterRecords::new) says.
     fn iter_rows(self) -> Self::Rows
         requires { is_readable self }
@@ -50,7 +50,7 @@ pub trait Records {
         ensures value { result ≡ columns self.now }
         ensures even { is_readable self.now → All (λ row. length row ≡ result) (texts self.now) };
 
-    /// How many rows there are, where that is known.
+    /// How many rows there are, if that is known.
     fn hint_count_rows(&self) -> Option<usize>
         ensures value { result ≡ hint self.now }
         ensures exact { is_readable self.now → IfSome result (λ rows. rows ≡ length (texts self.now)) };
@@ -65,9 +65,9 @@ pub trait ExactRecords: Records {
 
 /// Rows of cells that can be read at any place.
 ///
-/// The place that is asked for must lie in the table: [`ExactRecords::count_rows`] tells how many
-/// rows there are, and [`Records::count_columns`] how many columns. The line must be one of the
-/// text's: [`PeekableRecords::count_lines`] tells how many there are.
+/// Preconditions: the place lies in the table, whose numbers of rows and columns
+/// [`ExactRecords::count_rows`] and [`Records::count_columns`] return, and the line is one of the
+/// text's, which [`PeekableRecords::count_lines`] counts.
 pub trait PeekableRecords: Records {
     /// The text at a place in the table: its row is below `count_rows`, and its column below
     /// `count_columns`.

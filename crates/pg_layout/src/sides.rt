@@ -1,4 +1,4 @@
-//! The four sides of a cell or a table, and what stands there.
+//! The four sides of a cell or a table: their paddings and margins.
 
 ghost use Rattle.std.specs.Prelude.{◌≡◌, ℕ};
 ghost use Rattle.pg_layout.specs.Sides.{spaces};

@@ -51,10 +51,10 @@ pub enum Hue {
     Rgb(u8, u8, u8),
 }
 
-/// How a terminal is to show a text: its colour, what lies behind it, and its style.
+/// How a terminal shows a text: its colour, its background and its style.
 ///
-/// What is written before the text begins just that, and what is written after it ends just that,
-/// so that whatever was begun before goes on. Nothing is begun at first.
+/// The prefix begins exactly these, and the suffix ends exactly these, so that what was set before
+/// continues. At first nothing is set.
 ///
 ///     let warning = Color::red().bold().to_ansi(alloc)?;
 #[derive(Clone, Copy)]
@@ -67,7 +67,7 @@ pub struct Color {
 }
 
 impl Color {
-    /// As the terminal shows a text that is told nothing.
+    /// No colour and no style.
     pub fn plain() -> Color
         ensures { result ≡ plain }
     {
@@ -132,7 +132,7 @@ impl Color {
         Color::of(Hue::Normal(Tint::Cyan))
     }
 
-    /// Adds a ground of this hue.
+    /// Adds a background of this hue.
     pub fn on(self, hue: Hue) -> Color
         ensures { result ≡ record self { behind = Some hue } }
     {
@@ -142,28 +142,28 @@ impl Color {
         }
     }
 
-    /// Adds a red ground.
+    /// Adds a red background.
     pub fn on_red(self) -> Color
         ensures { result ≡ record self { behind = Some (Hue.Normal Tint.Red) } }
     {
         self.on(Hue::Normal(Tint::Red))
     }
 
-    /// Adds a green ground.
+    /// Adds a green background.
     pub fn on_green(self) -> Color
         ensures { result ≡ record self { behind = Some (Hue.Normal Tint.Green) } }
     {
         self.on(Hue::Normal(Tint::Green))
     }
 
-    /// Adds a yellow ground.
+    /// Adds a yellow background.
     pub fn on_yellow(self) -> Color
         ensures { result ≡ record self { behind = Some (Hue.Normal Tint.Yellow) } }
     {
         self.on(Hue::Normal(Tint::Yellow))
     }
 
-    /// Adds a blue ground.
+    /// Adds a blue background.
     pub fn on_blue(self) -> Color
         ensures { result ≡ record self { behind = Some (Hue.Normal Tint.Blue) } }
     {
@@ -200,8 +200,8 @@ impl Color {
         }
     }
 
-    /// The two texts that are written round a text: commands that begin the colour and the styles one
-    /// after another, and those that end them in reverse. An error where memory is refused.
+    /// The prefix and the suffix: commands that begin the colour and the styles one after another,
+    /// and those that end them in reverse. The only error is out of memory.
     pub fn to_ansi<A: Allocator + Copy>(self, alloc: A) -> Result<ANSIBuf<A>, AllocError>
         ensures { IfOk result (λ c. c ≡ color_texts self) }
     {
@@ -239,7 +239,7 @@ fn when(test: bool, text: &str) -> &str
     if test { text } else { "" }
 }
 
-// The command that begins a hue, where there is one; `first` is the number of black.
+// The command that begins a hue, if there is one; `first` is the number of black.
 fn hue_command<A: Allocator + Copy>(
     alloc: A,
     first: usize,

@@ -12,7 +12,7 @@ use std::marker::Model;
 use std::simd::prelude::*;
 use unicode_width::UnicodeWidthStr;
 
-/// The lines of a text that are left, as slices of it. [`get_lines`] makes it.
+/// The remaining lines of a text, as slices of it. [`get_lines`] makes it.
 #[derive(Debug, Drop)]
 pub struct Lines<'a> {
     rest: Option<&'a str>,
@@ -49,8 +49,7 @@ pub fn get_lines(text: &str) -> Lines<'_>
     Lines { rest: Some(text) }
 }
 
-/// A line of a text, counted from 0. The text has more lines than this: [`count_lines`] tells how
-/// many.
+/// A line of a text, counted from 0. Precondition: it is less than [`count_lines`] of the text.
 pub fn get_line(text: &str, line: usize) -> &str
     requires { line < length (lines_of text.now) }
     ensures { result.now ≡ slice_index_or (lines_of text.now) line [] }
@@ -58,7 +57,7 @@ pub fn get_line(text: &str, line: usize) -> &str
     get_lines(text).nth(line).unwrap()
 }
 
-/// How many bytes stand before the first line feed, or in the whole text if it has none.
+/// How many bytes come before the first line feed, or are in the whole text if it has none.
 #[inline(always)]
 pub(crate) fn first_line_end(text: &str) -> usize
     ensures { result ≡ position_or_len (λ b. b == 10) text.now }
@@ -122,7 +121,7 @@ static PLAIN: [bool; 256] = [
     false, false, false, false, false, false, false, false, false, false, false, false, false, false, false, false,
 ];
 
-// In a short text a look into a table costs less than two comparisons.
+// In a short text a table look-up costs less than two comparisons.
 #[inline(always)]
 fn is_plain_byte(b: u8) -> bool
     ensures { result ≡ is_plain_byte b }
@@ -190,7 +189,7 @@ pub fn get_text_width(text: &str) -> usize
     get_lines(text).fold(0, |width, line| width.max(get_line_width(line)))
 }
 
-// Whether bytes are none, or begin and end with an ASCII byte that is seen.
+// Whether there are no bytes, or the first and the last are visible ASCII.
 #[inline(always)]
 fn has_seen_ends(bytes: &[u8]) -> bool
     ensures { result ≡ (length bytes.now == 0 || (is_ascii_graphic (slice_index bytes.now 0) && is_ascii_graphic (slice_index bytes.now (length bytes.now - 1)))) }

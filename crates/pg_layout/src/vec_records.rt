@@ -69,8 +69,8 @@ pub struct OwnedColumns<T, A: Allocator = Global> {
     cells: IntoIter<T, A>,
 }
 
-// Written out, as that of the rows is, so that it is proved here, once for all cells, and not by each
-// program that lets cells go.
+// Written out, like that of the rows, so that it is proved here, once for all cells, and not by
+// each program that drops cells.
 impl<T: Drop, A: Allocator> Drop for OwnedColumns<T, A> {
     fn drop(self) {
         let OwnedColumns { cells } = self;
@@ -121,7 +121,7 @@ impl<T: Drop, A: Allocator> Iterator for OwnedRows<T, A> {
     }
 }
 
-/// Why rows are no records.
+/// Why rows can't be records.
 #[derive(Debug, Clone, Copy, PartialEq, Eq)]
 pub enum RecordsFault {
     /// This row, counted from 0, is the first whose length differs from that of row 0.
@@ -143,9 +143,9 @@ impl Error for RecordsFault {}
 /// Why a row isn't added to records.
 #[derive(Debug, Clone, Copy, PartialEq, Eq)]
 pub enum PushFault {
-    /// The row would be the one of this number, counted from 0, and has another length than row 0.
+    /// The row would have this number, counted from 0, and has another length than row 0.
     Ragged(usize),
-    /// Memory was refused.
+    /// Out of memory.
     Memory,
 }
 
@@ -157,7 +157,7 @@ impl<T: Drop> From<AllocFailed<T>> for PushFault {
     }
 }
 
-/// Writes which row has another length than row 0, or that memory was refused.
+/// Writes which row has another length than row 0, or that memory is out.
 impl fmt::Display for PushFault {
     ghost output = { λ fault. Some (push_fault_text fault) };
 
@@ -173,15 +173,15 @@ impl Error for PushFault {}
 
 /// Rows of cells in memory, all of one length.
 ///
-/// Hand the records themselves to a printer where nothing else needs them: the printer then owns
-/// them, so it can be kept and returned, and a streaming one lets each cell go once it is drawn.
-/// Hand it `&VecRecords` where they are read again. Neither copies a cell.
+/// Pass the records themselves to a printer if nothing else needs them: the printer then owns them,
+/// so it can be kept and returned, and a streaming one drops each cell once it is drawn. Pass
+/// `&VecRecords` if they are read again. Neither copies a cell.
 #[derive(Debug)]
 pub struct VecRecords<T, A: Allocator = Global> {
     rows: Vec<Vec<T, A>, A>,
 }
 
-// Written out, so that a caller's proof has one call where it lets records go. A derived drop is
+// Written out, so that a caller's proof has one call when it drops records. A derived drop is
 // unfolded there down to the rows, at each `?`.
 impl<T: Drop, A: Allocator> Drop for VecRecords<T, A> {
     fn drop(self) {
@@ -202,9 +202,9 @@ impl<T, A: Allocator> Model for VecRecords<T, A> {
 }
 
 impl<T: AsStr + Drop, A: Allocator> VecRecords<T, A> {
-    /// The records with these rows, as they are; an error where they are not all of one length.
+    /// The records with these rows, as they are, or an error if they aren't all of one length.
     ///
-    /// It takes no memory. Rows that are refused are dropped.
+    /// Allocates nothing. Refused rows are dropped.
     pub fn new(rows: Vec<Vec<T, A>, A>) -> Result<VecRecords<T, A>, RecordsFault>
         ensures rows { IfOk result (λ records. records ≡ map (λ row. row.items) rows.items) }
         ensures exact { result_err result ≡ option_map Ragged (ragged_row (map (λ row. row.items) rows.items)) }
@@ -217,9 +217,9 @@ impl<T: AsStr + Drop, A: Allocator> VecRecords<T, A> {
 }
 
 impl<T: Drop, A: Allocator> VecRecords<T, A> {
-    /// Adds a row below the others; `Ragged` with its number where there is a row 0 of another length,
-    /// else `Memory` where memory is refused. After an error the records are as they were, and the row
-    /// is dropped. The first row of records without rows may have any length.
+    /// Adds a row below the others. The error is `Ragged` with its number if there is a row 0 of
+    /// another length, else `Memory`. After an error the records are unchanged, and the row is
+    /// dropped. The first row of records without rows may have any length.
     pub fn push_row(&mut self, row: Vec<T, A>) -> Result<(), PushFault>
         ensures ok { OnOk result (self.new ≡ self.old ++ row.items ∷ []) }
         ensures err { OnErr result (self.new ≡ self.old) }
@@ -246,7 +246,7 @@ impl<T: AsStr, A: Allocator> VecRecords<T, A> {
     }
 }
 
-// The length of the first row, or 0 where there are no rows.
+// The length of the first row, or 0 if there are no rows.
 fn first_length<T, A: Allocator>(rows: &[Vec<T, A>]) -> usize
     ensures { result ≡ columns_of (map (λ row. row.items) rows.now) }
 {
@@ -270,7 +270,7 @@ fn find_ragged<T, A: Allocator>(rows: &[Vec<T, A>]) -> Option<usize>
     find_other_length(rows, first_length(rows))
 }
 
-// The number of a row of so many cells below these, where there is a first row of another length.
+// The number of a row of so many cells below these, if there is a first row of another length.
 fn find_ragged_below<T, A: Allocator>(rows: &[Vec<T, A>], cells: usize) -> Option<usize>
     ensures { result ≡ (if (length rows.now == 0) || (cells == columns_of (map (λ row. row.items) rows.now)) then None else Some (length rows.now)) }
 {
@@ -337,7 +337,7 @@ impl<T: AsStr, A: Allocator> PeekableRecords for &VecRecords<T, A> {
     }
 }
 
-/// Gives the cells themselves; all else is asked of the lent records.
+/// Gives the cells themselves; everything else is as for lent records.
 impl<T: AsStr + Drop, A: Allocator> Records for VecRecords<T, A> {
     type Cell = T;
 

@@ -58,11 +58,11 @@ where
     ghost use Rattle.pg_peekable.specs.Grids.{printed_table};
     ghost use Rattle.pg_peekable.specs.Inside.LookedUpTable.{CanDraw, IsFull, IsShapeOf};
 
-    /// Whether the table fits: its spans, its totals, and in each cell the text's widest line, the side
-    /// paddings and the padding above the text. Lines that a row isn't high enough for are no misfit:
-    /// they are left out. It is the condition of `build` and `to_string` as a test, which returns the
-    /// first thing that doesn't fit (`pg_picture::fits::Misfit`), and takes no memory. A table with no
-    /// rows or no columns fits.
+    /// Whether the table fits: its spans, its totals, and in each cell the text's widest line, the
+    /// side paddings and the padding above the text. Lines that a row isn't high enough for are no
+    /// misfit: they are left out. It is the condition of `build` and `to_string` as a test, which
+    /// returns the first thing that doesn't fit (`pg_picture::fits::Misfit`), and allocates
+    /// nothing. A table with no rows or no columns fits.
     pub fn fits(&self) -> Result<(), Misfit>
         ensures exact { result ≡ unless_misfit (misfit_of (printed_table R.Records D.Dimension C.Colors self.now)) }
         ensures fits { IsOk result → misfit_of (printed_table R.Records D.Dimension C.Colors self.now) ≡ None }
@@ -73,13 +73,13 @@ where
 
     /// Appends the picture of the table, which fits: [`PeekableGrid::fits`] is the test, and
     /// [`TablePrinter::print`] the call that makes it first. Of a table with no rows or no columns the
-    /// buffer stays as it was.
+    /// buffer is unchanged.
     ///
     /// Where each glyph and each fill takes one column, and no glyph of a column line is missing, all
     /// lines of the body are as wide as the table.
     ///
-    /// Takes no memory but the buffer's. An error comes only where the buffer's room is too small
-    /// for the picture and it gets no more memory; the buffer then holds a beginning of the picture
+    /// Allocates only for the buffer. An error comes only where the buffer's room is too small for
+    /// the picture and it gets no more memory; the buffer then holds a beginning of the picture
     /// behind what it held before.
     #[tactic(auto, using(pg_picture::proofs::StraightColumns::is_straight))]
     pub fn build<A: Allocator>(&self, buf: &mut String<A>) -> Result<(), AllocError>
@@ -97,7 +97,7 @@ where
     }
 
     /// The picture of the table as a text of its own, under the condition of `build`; `text` is the
-    /// call that tests it first. An error comes where no memory is found; a table with no rows or no
+    /// call that tests it first. An error comes if no memory is found; a table with no rows or no
     /// columns asks for none.
     pub fn to_string<A: Allocator>(&self, alloc: A) -> Result<String<A>, AllocError>
         requires fits { misfit_of (printed_table R.Records D.Dimension C.Colors self.now) ≡ None }

@@ -34,7 +34,7 @@ impl Reading {
         }
     }
 
-    // The line of this number, or an empty one. It is found at once where it is the next one.
+    // The line of this number, or an empty one. It is found at once if it is the next one.
     pub(super) fn line_if<'t>(&mut self, text: &'t str, line: Option<usize>) -> &'t str
         requires reads { Reads self.old text.now }
         requires there { IfSome line (λ k. k < length (lines_of text.now)) }

@@ -137,7 +137,7 @@ where
         self.push_tall_cell(buf, kept, line)
     }
 
-    // A line of a cell that has more. Its text is read on from its last line where that is kept.
+    // A line of a cell that has more. Its text is read on from its last line if that is kept.
     fn push_tall_cell<A: Allocator>(
         &self,
         buf: &mut String<A>,

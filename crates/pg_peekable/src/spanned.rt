@@ -187,7 +187,7 @@ where
         }
     }
 
-    // How many lines of a rectangle stand above a row, where it is known how many stand above an
+    // How many lines of a rectangle stand above a row, if it is known how many stand above an
     // earlier one. With each row comes the separator below it.
     fn lines_above(&self, known: KeptRectangle<T>, row: usize) -> usize
         requires row { IsRowFrom T.table known.row row }

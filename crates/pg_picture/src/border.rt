@@ -14,8 +14,8 @@ use pg_layout::{ANSIBuf, Position};
 use std::alloc::{AllocError, Allocator};
 
 impl<'a, B: Allocator> Run<'a, ANSIBuf<B>> {
-    /// Appends the crossing of a place in a table of `size` rows and columns; nothing where its
-    /// column line isn't there or it has no glyph.
+    /// Appends the crossing of a place in a table of `size` rows and columns; nothing if its column
+    /// line doesn't exist or it has no glyph.
     #[tactic(auto, unfolding(crate::specs::Table::crossing_at), using(crate::proofs::CutsOfItems::one_item))]
     #[inline(always)]
     pub fn crossing<A: Allocator>(
@@ -38,8 +38,8 @@ impl<'a, B: Allocator> Run<'a, ANSIBuf<B>> {
     }
 
     /// Appends the horizontal of a place, `width` columns wide, in a table of `rows` rows: its
-    /// glyph over and over, but where single glyphs or their colours were set, and spaces where it
-    /// has no glyph.
+    /// glyph repeatedly, except where single glyphs or their colours were set, and spaces if it has
+    /// no glyph.
     #[inline(always)]
     pub fn border<A: Allocator>(
         self,

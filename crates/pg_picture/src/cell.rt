@@ -27,13 +27,13 @@ pub(crate) fn inner_width<A: Allocator>(style: &CellStyle<'_, A>, width: usize) 
 }
 
 /// Appends a line of text between its cell's side paddings: the left padding, `left` columns of
-/// justification or else the line's own left share, the line in its colour, what is left of the
-/// width, and the right padding. The line is written as it is, also where the style trims.
+/// justification or else the line's own left share, the line in its colour, the rest of the width,
+/// and the right padding. The line is written as it is, even if the style trims.
 ///
-/// The cell has room for all of them. A cell with a line has it, where [`crate::fits::cell_fits`]
-/// holds of its text, for each line of the text, trimmed where the style trims, and with the `left`
-/// of its [`CellPlace`], or none. An error comes only where the buffer's room is too small; the
-/// buffer then holds a beginning.
+/// Precondition: the cell has room for all of them. If [`crate::fits::cell_fits`] holds for a text,
+/// a cell with a line has room for each line of the text, trimmed if the style trims, with the
+/// `left` of its [`CellPlace`], or none. The only error is out of memory; the buffer then has
+/// gained a beginning.
 #[inline(always)]
 pub fn push_text_line<C: ANSIFmt, B: Allocator, A: Allocator>(
     buf: &mut String<A>,
@@ -165,8 +165,8 @@ fn push_right_side<B: Allocator, A: Allocator>(
     push_padding(buf, right.fill, right.size, color)
 }
 
-// How many columns a side padding makes together with those beside it, where all are of one
-// character and have no colour.
+// How many columns a side padding makes together with what is beside it, if all are of one
+// character without a colour.
 #[inline(always)]
 fn columns_together<B: Allocator>(
     style: &CellStyle<'_, B>,
@@ -197,12 +197,12 @@ fn push_columns<A: Allocator>(buf: &mut String<A>, c: char, size: usize) -> Resu
     push_repeated(buf, c, size)
 }
 
-/// Appends line `i` of a cell of so many columns, whose text stands at this place: a line of the top
-/// padding, a text line, or a line of the bottom padding. `line` is the one of the text's lines that
-/// [`CellPlace::text_line_at`] names, and any text where it names none.
+/// Appends line `i` of a cell of so many columns, whose text is at this place: a line of the top
+/// padding, a text line, or a line of the bottom padding. `line` is the one of the text's lines
+/// that [`CellPlace::text_line_at`] returns, and any text if it returns none.
 ///
-/// Where a text line stands there, the cell has room for it. An error comes only where the buffer's room
-/// is too small; the buffer then holds a beginning.
+/// Precondition: the cell has room for a text line there. The only error is out of memory; the
+/// buffer then has gained a beginning.
 #[inline(always)]
 pub(crate) fn push_block_line_of<C: ANSIFmt, B: Allocator, A: Allocator>(
     buf: &mut String<A>,
@@ -243,13 +243,13 @@ fn push_padding<B: Allocator, A: Allocator>(
     push_fill(buf, c, width, color.as_ref())
 }
 
-/// Appends line `i` of a cell of so many columns and lines: a line of the top padding, a line of its
-/// text, or a line of the bottom padding. `place` is that of the text in this cell, as
-/// [`CellPlace::of`] tells it.
+/// Appends line `i` of a cell of so many columns and lines: a line of the top padding, a line of
+/// its text, or a line of the bottom padding. `place` is that of the text in this cell, from
+/// [`CellPlace::of`].
 ///
-/// The cell has room for the side paddings and the widest line, which [`crate::fits::cell_fits`]
-/// tells of a cell with a line. An error comes only where the buffer's room is too small; the buffer
-/// then holds a beginning.
+/// Precondition: the cell has room for the side paddings and the widest line;
+/// [`crate::fits::cell_fits`] tests it for a cell with a line. The only error is out of memory; the
+/// buffer then has gained a beginning.
 pub(crate) fn push_block_line<C: ANSIFmt, B: Allocator, A: Allocator>(
     buf: &mut String<A>,
     style: &CellStyle<'_, B>,
@@ -289,8 +289,8 @@ pub(crate) fn shows_texts_whole<A: Allocator>(style: &CellStyle<'_, A>) -> bool
 
 /// Appends the line of a cell of so many columns and one line.
 ///
-/// The cell has room for its text: [`crate::fits::cell_fits`] of height 1 tells it. An error comes only
-/// where the buffer's room is too small; the buffer then holds a beginning.
+/// Precondition: the cell has room for its text; [`crate::fits::cell_fits`] of height 1 tests it.
+/// The only error is out of memory; the buffer then has gained a beginning.
 #[inline(always)]
 pub fn push_single_line<C: ANSIFmt, B: Allocator, A: Allocator>(
     buf: &mut String<A>,

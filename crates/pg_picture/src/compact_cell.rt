@@ -1,4 +1,4 @@
-//! The cells of a compact table, and what stands between them.
+//! The cells of a compact table, and what is between them.
 
 ghost use Rattle.std.specs.Prelude.{◌≡◌, ◌≤◌, ◌+◌, ◌-◌, ◌++◌, nat_le, option_map, IfSome, IsSome, if◌then◌else◌};
 ghost use Rattle.pg_layout.specs.Text.{first_line_of, width_of};
@@ -18,10 +18,10 @@ use pg_layout::{
 };
 use std::alloc::{AllocError, Allocator};
 
-/// Appends an indent of a compact table in its colour, also where its size is 0; an empty colour is
+/// Appends an indent of a compact table in its colour, even if its size is 0; an empty colour is
 /// none.
 ///
-/// An error comes only where the buffer's room is too small; the buffer then holds a beginning.
+/// The only error is out of memory; the buffer then has gained a beginning.
 #[inline(always)]
 pub fn push_compact_indent<A: Allocator>(
     buf: &mut String<A>,
@@ -36,9 +36,9 @@ pub fn push_compact_indent<A: Allocator>(
     push_colored_run(buf, indent.fill, indent.size, &color)
 }
 
-/// Appends the glyph of a border in its colour, and nothing where there is no glyph.
+/// Appends the glyph of a border in its colour, and nothing if there is no glyph.
 ///
-/// An error comes only where the buffer's room is too small; the buffer then holds a beginning.
+/// The only error is out of memory; the buffer then has gained a beginning.
 #[inline(always)]
 pub fn push_border_glyph<A: Allocator>(
     buf: &mut String<A>,
@@ -54,8 +54,7 @@ pub fn push_border_glyph<A: Allocator>(
 /// first line of the text in its colour between the shares of what it leaves free, and the right
 /// padding.
 ///
-/// The shares are plain spaces. A line that is wider than its room is written whole, with none.
-/// An error comes only where the buffer's room is too small; the buffer then holds a beginning.
+/// The shares are plain spaces. A line that is too wide is written whole, without them.
 pub fn push_compact_cell<C: ANSIFmt, A: Allocator>(
     buf: &mut String<A>,
     config: &CompactConfig,
@@ -108,7 +107,7 @@ fn free_shares(alignment: AlignmentHorizontal, got: usize, room: usize) -> (usiz
     calculate_indent(alignment, got, room)
 }
 
-// The left padding, and the share left of the line: one run where both are plain spaces.
+// The left padding, and the share left of the line: one run if both are plain spaces.
 fn push_left_side<A: Allocator>(
     buf: &mut String<A>,
     padding: Indent,
@@ -124,7 +123,7 @@ fn push_left_side<A: Allocator>(
     push_repeated(buf, ' ', share)
 }
 
-// The share right of the line, and the right padding: one run where both are plain spaces.
+// The share right of the line, and the right padding: one run if both are plain spaces.
 fn push_right_side<A: Allocator>(
     buf: &mut String<A>,
     padding: Indent,
@@ -140,7 +139,7 @@ fn push_right_side<A: Allocator>(
     push_compact_indent(buf, padding, color)
 }
 
-// How many spaces a padding makes together with a share beside it, where it is of plain spaces.
+// How many spaces a padding makes together with a share beside it, if it is plain spaces.
 #[inline(always)]
 fn spaces_together(padding: Indent, color: ANSIStr<'_>, share: usize) -> Option<usize>
     ensures plain { IsSome result → compact_indent padding.fill padding.size (str_color color.entry) ≡ repeated 32 padding.size }

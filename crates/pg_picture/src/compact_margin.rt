@@ -12,11 +12,11 @@ use crate::margin::push_feed;
 use pg_layout::{ANSIStr, Indent};
 use std::alloc::{AllocError, Allocator};
 
-/// Appends the lines of a compact table's top or bottom margin: as many as its size, each of `width`
-/// columns of its fill in its colour; with a line feed before each, but not before the first one
-/// where it is the picture's first line.
+/// Appends the lines of a compact table's top or bottom margin: as many as its size, each `width`
+/// columns of its fill in its colour, with a line feed before each, except before the first one if
+/// it is the picture's first line.
 ///
-/// An error comes only where the buffer's room is too small; the buffer then holds a beginning.
+/// The only error is out of memory; the buffer then has gained a beginning.
 pub fn push_compact_margin<A: Allocator>(
     buf: &mut String<A>,
     margin: Indent,
@@ -32,7 +32,7 @@ pub fn push_compact_margin<A: Allocator>(
     Ok(())
 }
 
-// One line of the margin, after the line feed that parts it from the line before.
+// One line of the margin, after the line feed that separates it from the line before.
 fn push_margin_line<A: Allocator>(
     buf: &mut String<A>,
     margin: Indent,

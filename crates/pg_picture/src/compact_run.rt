@@ -14,8 +14,8 @@ use std::marker::Model;
 
 /// The colour that is open at the end of a compact separator's parts so far.
 ///
-/// Each call takes the run and hands it back with the colour that is open then; after a refusal
-/// there is no run, and the buffer holds a beginning of what the call appends.
+/// Each call takes the run and returns it with the colour that is open then. After an error there
+/// is no run, and the buffer has gained a beginning of what the call appends.
 #[derive(Debug, Drop)]
 pub struct CompactRun<'a> {
     open: Option<ANSIStr<'a>>,
@@ -35,8 +35,8 @@ impl<'a> CompactRun<'a> {
         CompactRun { open: None }
     }
 
-    /// Appends a part: a character `count` times, in its own colour; one that has none stands in
-    /// the colour that is open.
+    /// Appends a part: a character `count` times, in its own colour; without one it has the colour
+    /// that is open.
     #[inline(always)]
     pub(crate) fn part<A: Allocator>(
         self,
@@ -53,7 +53,7 @@ impl<'a> CompactRun<'a> {
         Ok(CompactRun { open })
     }
 
-    /// Appends an end or a crossing, which is no part where no glyph is set.
+    /// Appends an end or a crossing, which is no part if no glyph is set.
     #[inline(always)]
     pub fn part_if<A: Allocator>(
         self,
@@ -71,7 +71,7 @@ impl<'a> CompactRun<'a> {
     }
 
     /// Appends the glyph of a column's horizontal, once for each of its `width` terminal columns;
-    /// spaces where none is set. A column of width 0 has no part.
+    /// spaces if none is set. A column of width 0 has no part.
     #[inline(always)]
     pub fn main<A: Allocator>(
         self,

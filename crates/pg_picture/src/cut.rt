@@ -9,7 +9,7 @@ use crate::fill::{push_repeated, push_text};
 use pg_layout::{ANSIFmt, same_color};
 use std::alloc::{AllocError, Allocator};
 
-/// Appends what stands between two colours: nothing if they are the same, else the suffix of the
+/// Appends what comes between two colours: nothing if they are the same, else the suffix of the
 /// first one and the prefix of the next.
 #[inline(always)]
 #[tactic(auto, unfolding(crate::specs::Pieces::cut))]
@@ -27,7 +27,7 @@ pub(crate) fn push_cut<C: ANSIFmt, D: ANSIFmt, A: Allocator>(
     push_prefix(buf, after)
 }
 
-/// Appends what stands between two colours, and then a character `count` times.
+/// Appends what comes between two colours, and then a character `count` times.
 #[inline(always)]
 pub(crate) fn push_after_cut<C: ANSIFmt, D: ANSIFmt, A: Allocator>(
     buf: &mut String<A>,
@@ -42,7 +42,7 @@ pub(crate) fn push_after_cut<C: ANSIFmt, D: ANSIFmt, A: Allocator>(
     push_repeated(buf, c, count)
 }
 
-/// Appends what opens a colour, and nothing where there is none.
+/// Appends what opens a colour, and nothing if there is none.
 pub(crate) fn push_prefix<C: ANSIFmt, A: Allocator>(
     buf: &mut String<A>,
     color: Option<&C>,
@@ -55,7 +55,7 @@ pub(crate) fn push_prefix<C: ANSIFmt, A: Allocator>(
     }
 }
 
-/// Appends what closes a colour, and nothing where there is none.
+/// Appends what closes a colour, and nothing if there is none.
 pub(crate) fn push_suffix<C: ANSIFmt, A: Allocator>(
     buf: &mut String<A>,
     color: Option<&C>,

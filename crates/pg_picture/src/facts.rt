@@ -13,10 +13,10 @@ use pg_layout::{
 };
 use unicode_width::UnicodeWidthStr;
 
-/// What is known of a text without its being read again.
+/// What is known of a text without reading it again.
 #[derive(Debug, Clone, Copy, PartialEq, Eq)]
 pub enum TextKind {
-    /// It is ASCII without line feeds, as [`pg_layout::is_plain`] tells.
+    /// It is ASCII without line feeds ([`pg_layout::is_plain`]).
     Plain,
     /// It may be any text.
     Any,
@@ -35,8 +35,7 @@ impl TextKind {
     }
 }
 
-/// How many of the lines read so far are blank at the front, are blank at the end, and stand
-/// between.
+/// How many of the lines read so far are blank at the start, are blank at the end, and lie between.
 #[derive(Debug, Clone, Copy)]
 struct BlankEnds {
     shown: usize,
@@ -72,8 +71,8 @@ impl BlankEnds {
     }
 }
 
-/// How many lines of a text stand from the first to the last one that isn't blank, how many blank
-/// ones before them, and how many after them. A wholly blank text of k lines gives (0, k, 0).
+/// How many lines a text has from the first to the last one that isn't blank, how many blank ones
+/// before them, and how many after them. An all-blank text of k lines gives (0, k, 0).
 pub fn count_empty_lines(text: &str) -> (usize, usize, usize)
     ensures { result ≡ empty_lines_of (lines_of text.now) }
 {
@@ -88,7 +87,7 @@ pub fn count_empty_lines(text: &str) -> (usize, usize, usize)
     (ends.shown, ends.top, ends.bottom)
 }
 
-/// A line, trimmed of (Unicode) white space at both ends where that is wanted.
+/// A line, trimmed of (Unicode) white space at both ends if `trim` is set.
 #[inline(always)]
 #[tactic(auto, unfolding(crate::specs::Pieces::trimmed_if))]
 pub(crate) fn trim_if(line: &str, trim: bool) -> &str
@@ -97,7 +96,7 @@ pub(crate) fn trim_if(line: &str, trim: bool) -> &str
     if trim { trim_line(line) } else { line }
 }
 
-// Whether a line is left out at the front and at the end of its text, and how many terminal columns
+// Whether a line is left out at the start and at the end of its text, and how many terminal columns
 // it takes. It is trimmed once for both.
 #[inline(always)]
 #[tactic(auto, unfolding(crate::specs::Pieces::trimmed_if, pg_layout::specs::Text::is_blank))]
@@ -118,8 +117,8 @@ fn line_facts(line: &str, formatting: Formatting) -> (bool, usize)
     (is_left_out, get_line_width(shown))
 }
 
-/// How many terminal columns a text takes that is one line; nothing where it has more lines. A text
-/// that is known to be plain isn't read.
+/// How many terminal columns a text of one line takes; nothing if it has more lines. A text that is
+/// known to be plain isn't read.
 #[inline(always)]
 pub(crate) fn single_line_width(text: &str, kind: TextKind) -> Option<usize>
     requires { IsOfKind kind text.now }
@@ -132,7 +131,8 @@ pub(crate) fn single_line_width(text: &str, kind: TextKind) -> Option<usize>
     width_if_single(text)
 }
 
-// The same of any text. It is out of line, since most are plain: what is round it keeps more in registers.
+// The same for any text. It is out of line, since most are plain: so the code round it keeps more
+// in registers.
 #[inline(never)]
 fn width_if_single(text: &str) -> Option<usize>
     ensures one { IfSome result (λ _. lines_of text.now ≡ text.now ∷ []) }
@@ -162,8 +162,7 @@ fn has_no_feed(bytes: &[u8]) -> bool
     bytes.iter().all(|b| *b != b'\n')
 }
 
-/// How many terminal columns the widest line of a text takes, each line trimmed where that is
-/// wanted.
+/// How many terminal columns the widest line of a text takes, each line trimmed if `trim` is set.
 pub fn text_width(text: &str, trim: bool) -> usize
     ensures { result ≡ greatest (map (λ line. width_of (trimmed_if trim line)) (lines_of text.now)) }
 {
@@ -178,7 +177,7 @@ pub fn text_width(text: &str, trim: bool) -> usize
 pub struct TextFacts {
     /// How many lines can be shown.
     pub shown: usize,
-    /// How many blank lines at the front are left out.
+    /// How many blank lines at the start are left out.
     pub skip: usize,
     /// How many terminal columns the widest of all lines takes.
     pub widest: usize,

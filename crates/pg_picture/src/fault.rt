@@ -14,7 +14,7 @@ use std::fmt;
 pub enum PrintFault {
     /// The table doesn't fit, and nothing was appended.
     Misfit(Misfit),
-    /// Memory was refused, and a beginning of the picture was appended.
+    /// Out of memory; a beginning of the picture was appended.
     Memory,
 }
 
@@ -42,7 +42,7 @@ impl<T: Drop> From<AllocFailed<T>> for PrintFault {
     }
 }
 
-/// Writes what doesn't fit, or that memory was refused.
+/// Writes what doesn't fit, or that memory is out.
 impl fmt::Display for PrintFault {
     ghost output = { λ fault. Some (print_fault_text fault) };
 

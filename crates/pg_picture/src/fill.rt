@@ -1,4 +1,4 @@
-//! Texts, characters and fills: what each longer piece is appended by.
+//! Texts, characters and fills, by which each longer piece is appended.
 
 ghost use Rattle.std.specs.Prelude.{◌≡◌, ◌≤◌, encode_utf8};
 ghost use Rattle.pg_picture.specs.Appending.{Appends};
@@ -17,7 +17,7 @@ const LINES: &str = "───────────────────�
 
 /// Appends a text.
 ///
-/// An `Err` comes only where the buffer has no room for the text and gets no more memory.
+/// The only error is out of memory.
 #[inline(always)]
 pub fn push_text<A: Allocator>(buf: &mut String<A>, text: &str) -> Result<(), AllocError>
     ensures { Appends buf.old buf.new result text.now }
@@ -27,7 +27,7 @@ pub fn push_text<A: Allocator>(buf: &mut String<A>, text: &str) -> Result<(), Al
 
 /// Appends a character.
 ///
-/// An `Err` comes only where the buffer has no room for it and gets no more memory.
+/// The only error is out of memory.
 #[inline(always)]
 pub fn push_char<A: Allocator>(buf: &mut String<A>, c: char) -> Result<(), AllocError>
     ensures { Appends buf.old buf.new result (encode_utf8 c) }
@@ -37,8 +37,7 @@ pub fn push_char<A: Allocator>(buf: &mut String<A>, c: char) -> Result<(), Alloc
 
 /// Appends a character `count` times.
 ///
-/// An `Err` comes only where the buffer has no room for all of them and gets no more memory; then
-/// some of their bytes may stand in it.
+/// The only error is out of memory; then some of the bytes may have been appended.
 #[inline(always)]
 pub(crate) fn push_repeated<A: Allocator>(
     buf: &mut String<A>,
@@ -57,7 +56,7 @@ pub(crate) fn push_repeated<A: Allocator>(
     push_run(buf, c, count)
 }
 
-/// The first `count` characters of a block, which is one character over and over.
+/// The first `count` characters of a block, which is one character repeated.
 #[inline(always)]
 fn front_of(block: &str, c: char, count: usize) -> &str
     requires block { block.now ≡ repeated c BLOCK }
@@ -67,7 +66,7 @@ fn front_of(block: &str, c: char, count: usize) -> &str
     &block[..count * c.len_utf8()]
 }
 
-// The rare way of `push_repeated`, kept out of line so that the usual way stays short.
+// The rare case of `push_repeated`, kept out of line so that the usual one stays short.
 #[inline(never)]
 fn push_run<A: Allocator>(buf: &mut String<A>, c: char, count: usize) -> Result<(), AllocError>
     ensures { Appends buf.old buf.new result (repeated c count) }

@@ -24,7 +24,7 @@ use std::fmt;
 pub enum Misfit {
     /// A span is 0, leaves the table, or shares a place with another one.
     Spans,
-    /// A total is no number of 64 bits, or the rows or columns are too many to count.
+    /// A total isn't below 2^64, or there are too many rows or columns to count.
     Totals,
     /// The cell in this row and this column has no room for its text and its paddings.
     Room(usize, usize),

@@ -14,9 +14,9 @@ use crate::piece::push_fill;
 use pg_layout::{ANSIFmt, Indent, Offset};
 use std::alloc::{AllocError, Allocator};
 
-/// Appends the line feed that stands before a line, unless the line is the picture's first.
+/// Appends the line feed before a line, unless the line is the picture's first.
 ///
-/// An error comes only where the buffer has no room for it and gets no more memory.
+/// The only error is out of memory.
 #[inline(always)]
 pub fn push_feed<A: Allocator>(buf: &mut String<A>, is_first: bool) -> Result<(), AllocError>
     ensures { Appends buf.old buf.new result (feed_before is_first) }
@@ -28,13 +28,12 @@ pub fn push_feed<A: Allocator>(buf: &mut String<A>, is_first: bool) -> Result<()
 }
 
 /// Appends a left or right margin at a line of the body, counted from 0, of which `height` is the
-/// number of lines if that is known: uncoloured spaces where the offset leaves it blank, and else
+/// number of lines if that is known: uncoloured spaces where the offset leaves it blank, elsewhere
 /// its fill in its colour.
 ///
-/// An offset that is counted from the last line leaves nothing blank where the height isn't known.
-/// An error comes only where the buffer's room is too small; the buffer then holds a beginning.
+/// An offset from the last line leaves nothing blank if the height isn't known.
 ///
-/// It is for who draws pieces of a table by themselves.
+/// For callers who draw pieces of a table themselves.
 #[inline(always)]
 pub fn push_side_margin<C: ANSIFmt, A: Allocator>(
     buf: &mut String<A>,
@@ -81,12 +80,12 @@ fn is_blank(offset: Offset, line: usize, height: Option<usize>) -> bool
 }
 
 /// Appends the lines of a top or bottom margin, each of `width` columns, with a line feed before
-/// each, but not before the first one where it is the picture's first line.
+/// each, except before the first one if it is the picture's first line.
 ///
-/// The columns that the offset leaves blank are uncoloured spaces, and the fill is coloured.
-/// An error comes only where the buffer's room is too small; the buffer then holds a beginning.
+/// The columns that the offset leaves blank are uncoloured spaces, and the fill is coloured. The
+/// only error is out of memory; the buffer then has gained a beginning.
 ///
-/// It is for who draws pieces of a table by themselves.
+/// For callers who draw pieces of a table themselves.
 pub fn push_margin_lines<C: ANSIFmt, A: Allocator>(
     buf: &mut String<A>,
     indent: Indent,
@@ -103,7 +102,7 @@ pub fn push_margin_lines<C: ANSIFmt, A: Allocator>(
     Ok(())
 }
 
-// One line of a top or bottom margin, after the line feed that parts it from the line before.
+// One line of a top or bottom margin, after the line feed that separates it from the line before.
 fn push_next_line<C: ANSIFmt, A: Allocator>(
     buf: &mut String<A>,
     indent: Indent,

@@ -24,13 +24,14 @@ use pg_layout::{ANSIBuf, AlignmentHorizontal, Colors, Dimension, Position};
 use std::alloc::{AllocError, Allocator};
 use std::marker::{Brand, PhantomData};
 
-/// The table that is drawn, as a word of types: it stands for one table, and takes no room.
+/// The table that is drawn, as a word of types: it names one table, and takes no room.
 ///
-/// Whoever draws a whole table picks the word, by a call that passes `Brand`: the proof of that call names
-/// the table (`ghosts-..` in its `Invariants.antt`), `PeekableGrid` that of its parts, a printer of rows
-/// that of its sheet. That `Brand` has a table of nothing below is no contradiction: all that is called is
-/// proved for every table, so a call may pick any, and the one below is taken only where none is picked.
-/// There it proves nothing false, since a [`Pen`] is made only where its sheet is shown to be the word's.
+/// Whoever draws a whole table picks the word, by a call that passes `Brand`: the proof of that
+/// call names the table (`ghosts-..` in its `Invariants.antt`), `PeekableGrid` that of its parts, a
+/// printer of rows that of its sheet. It is no contradiction that the `Brand` below has a table of
+/// nothing: everything that is called is proved for every table, so a call may pick any, and the
+/// one below is taken only if none is picked. There it proves nothing false, since a [`Pen`] is
+/// made only if its sheet is shown to be the word's.
 pub trait TableMarker {
     /// The table.
     ghost table: { Table };
@@ -40,9 +41,9 @@ impl TableMarker for Brand {
     ghost table = { no_table };
 }
 
-/// Draws the pieces of a table's lines: by its sheet, and the word for it.
+/// Draws the pieces of a table's lines, by its sheet and the word for it.
 ///
-/// It is for who draws pieces of a table by themselves.
+/// For callers who draw pieces of a table themselves.
 pub struct Pen<'s, T: TableMarker, D: Dimension, C: Colors, B: Allocator> {
     pub sheet: &'s Sheet<'s, D, C, B>,
     /// Whether a cell may have a colour.
@@ -95,7 +96,7 @@ where
         self.sheet.dimension.get_height(row)
     }
 
-    /// The colour of a cell, which isn't looked up where none has one.
+    /// The colour of a cell, which isn't looked up if none has one.
     #[inline(always)]
     pub fn color_of(self, pos: Position) -> Option<&'s C::Color>
         ensures { lent_color C.Color.color_of result ≡ T.table.color pos }
@@ -117,7 +118,7 @@ where
         }
     }
 
-    /// Whether there is a separator above a row of so many, or below the last one.
+    /// Whether there is a separator above a row of so many rows, or below the last one.
     #[inline(always)]
     pub fn has_horizontal(self, row: usize, rows: usize) -> bool
         ensures { result ≡ has_horizontal T.table.config row rows }
@@ -143,7 +144,7 @@ where
         push_top_margin(buf, self.sheet.config, self.sheet.width)
     }
 
-    /// Appends the lines of the bottom margin; `is_first` tells whether no line stands above it.
+    /// Appends the lines of the bottom margin; `is_first` is whether no line is above it.
     pub fn push_bottom<A: Allocator>(
         self,
         buf: &mut String<A>,
@@ -154,8 +155,8 @@ where
         push_bottom_margin(buf, self.sheet.config, self.sheet.width, is_first)
     }
 
-    /// Appends what stands before a line of the body: its line feed, unless the line is the picture's
-    /// first, and its left margin.
+    /// Appends what comes before a line of the body: its line feed, unless the line is the
+    /// picture's first, and its left margin.
     #[inline(always)]
     pub fn push_line_start<A: Allocator>(
         self,
@@ -185,7 +186,7 @@ where
         push_left_margin(buf, self.sheet.config, index, self.sheet.height)
     }
 
-    /// Appends what stands behind a line of the body: its right margin.
+    /// Appends what comes after a line of the body: its right margin.
     #[inline(always)]
     pub fn push_line_end<A: Allocator>(
         self,

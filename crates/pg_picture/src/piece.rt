@@ -9,12 +9,12 @@ use crate::fill::{push_repeated, push_text};
 use pg_layout::ANSIFmt;
 use std::alloc::{AllocError, Allocator};
 
-/// Appends `size` times a character in a colour: the colour's prefix, the characters, its suffix;
-/// the characters alone where there is no colour, and nothing at all for a size of 0.
+/// Appends a character `size` times in a colour: the colour's prefix, the characters, its suffix;
+/// only the characters if there is no colour, and nothing at all for a size of 0.
 ///
-/// An error comes only where the buffer's room is too small; the buffer then holds a beginning.
+/// The only error is out of memory; the buffer then has gained a beginning.
 ///
-/// It is for who draws pieces of a table by themselves.
+/// For callers who draw pieces of a table themselves.
 #[inline(always)]
 #[tactic(auto, using(crate::proofs::PiecesOfLines::fill_texts))]
 pub fn push_fill<C: ANSIFmt, A: Allocator>(
@@ -47,10 +47,10 @@ pub(crate) fn push_colored_run<C: ANSIFmt, A: Allocator>(
     push_text(buf, color.suffix())
 }
 
-/// Appends a text in a colour: the colour's prefix, the text, its suffix, also round an empty text;
-/// the text alone where there is no colour.
+/// Appends a text in a colour: the colour's prefix, the text, its suffix, even round an empty text;
+/// only the text if there is no colour.
 ///
-/// An error comes only where the buffer's room is too small; the buffer then holds a beginning.
+/// The only error is out of memory; the buffer then has gained a beginning.
 #[inline(always)]
 pub(crate) fn push_words<C: ANSIFmt, A: Allocator>(
     buf: &mut String<A>,

@@ -1,4 +1,4 @@
-//! Where the lines of a text stand in their cell.
+//! The place of a text's lines in their cell.
 
 ghost use Rattle.std.specs.Prelude.{◌≡◌, ◌+◌, ◌≤◌, true, length};
 ghost use Rattle.pg_layout.specs.Text.{lines_of};
@@ -11,25 +11,26 @@ use crate::share::{calculate_indent, indent_from_top};
 use pg_config::CellStyle;
 use std::alloc::Allocator;
 
-/// Where the lines of a text stand in their cell, which may be drawn over many rows.
+/// The place of a text's lines in their cell, which may be drawn over many rows.
 #[derive(Debug, Clone, Copy, PartialEq, Eq)]
 pub struct CellPlace {
-    /// How many lines of the cell stand above the first line of text.
+    /// How many lines of the cell come before the first line of text.
     pub top: usize,
     /// How many lines of text the cell shows.
     pub shown: usize,
-    /// How many blank lines at the front of the text are left out.
+    /// How many blank lines at the start of the text are left out.
     pub skip: usize,
-    /// How many columns stand between the left padding and each line of text; nothing where each
-    /// line is aligned by its own width.
+    /// How many columns come between the left padding and each line of text; nothing if each line
+    /// is aligned by its own width.
     pub left: Option<usize>,
 }
 
 impl CellPlace {
     /// The place of a text with these facts, in a cell of so many columns and lines.
     ///
-    /// The cell's width has room for the side paddings and the widest line, its height for the top
-    /// padding: [`crate::fits::cell_fits`] of the text tells it of a cell with a line.
+    /// Precondition: the cell's width has room for the side paddings and the widest line, and its
+    /// height for the top padding; [`crate::fits::cell_fits`] of the text tests it for a cell with
+    /// a line.
     pub fn of<A: Allocator>(
         facts: TextFacts,
         style: &CellStyle<'_, A>,
@@ -75,12 +76,12 @@ impl CellPlace {
         CellPlace::of(facts, style, width, height)
     }
 
-    /// Which line of the text, counted from 0, stands at a line of the cell; nothing at a line that
-    /// is filled.
+    /// Which line of the text, counted from 0, is at a line of the cell; nothing at a line that is
+    /// filled.
     ///
-    /// The lines that are left out at the front and those that are shown are at most `usize::MAX`
-    /// together: those of a text are, so a place that [`CellPlace::of`] made of its facts needs no
-    /// test.
+    /// Precondition: the lines that are left out at the start and those that are shown are at most
+    /// `usize::MAX` together. Those of a text are, so a place that [`CellPlace::of`] made of its
+    /// facts needs no test.
     #[inline(always)]
     pub fn text_line_at(&self, line: usize) -> Option<usize>
         requires { self.now.skip + self.now.shown ≤ usize.MAX }

@@ -1,4 +1,4 @@
-//! A cell whose lines are drawn one by one: where its text stands, and each line.
+//! A cell whose lines are drawn one by one: the place of its text, and each line.
 
 ghost use Rattle.std.specs.Prelude.{◌≡◌, ◌+◌, ◌≤◌, true, length};
 ghost use Rattle.pg_layout.specs.Text.{lines_of};
@@ -18,10 +18,11 @@ use pg_layout::{Colors, Dimension, Position};
 use std::alloc::{AllocError, Allocator};
 use std::marker::PhantomData;
 
-/// A line of a cell of so many columns, whose text stands at a place: its number among the cell's lines,
-/// and the one of the text's lines that [`CellPlace::text_line_at`] names, or any text where it names none.
+/// A line of a cell of so many columns, whose text is at a place: its number among the cell's
+/// lines, and the one of the text's lines that [`CellPlace::text_line_at`] returns, or any text if
+/// it returns none.
 ///
-/// It is for who draws pieces of a table by themselves. Where a text line stands there, the cell has room
+/// For callers who draw pieces of a table themselves. If a text line is there, the cell has room
 /// for it.
 #[derive(Drop)]
 pub struct PlacedLine<'t, T: TableMarker> {
@@ -41,8 +42,8 @@ where
     C: Colors,
     B: Allocator,
 {
-    /// Where the lines of a text stand in a cell of so many columns and lines, which has room for it; one
-    /// of no line shows none.
+    /// The place of a text's lines in a cell of so many columns and lines, which has room for it; a
+    /// cell of no line shows none.
     pub fn place_of(self, text: &str, pos: Position, width: usize, height: usize) -> CellPlace
         requires { cell_fits (style_at T.table.config pos) text.now width height ≡ true }
         ensures place { result ≡ place_in (style_at T.table.config pos) text.now width height }
@@ -62,7 +63,7 @@ where
 
     /// Appends a line of a cell whose text was placed.
     ///
-    /// An error comes only where the buffer's room is too small; the buffer then holds a beginning.
+    /// The only error is out of memory; the buffer then has gained a beginning.
     #[inline(always)]
     pub fn push_placed_line<A: Allocator>(
         self,
@@ -95,8 +96,9 @@ where
         self.push_line_in_style(buf, &aligned, line)
     }
 
-    // Hands the line to what looks the cell's style up. Room on a stack is cleared when its function begins,
-    // also where that stands in line, so the line's is here, and not where the style of all is at hand.
+    // Passes the line to what looks the cell's style up. Room on a stack is cleared when its
+    // function begins, even if that is inlined, so the line's is here, and not where the style of
+    // all is at hand.
     #[inline(always)]
     fn push_line_out_of_line<A: Allocator>(
         self,
@@ -120,7 +122,7 @@ where
         self.push_line_in_style(buf, &style, line)
     }
 
-    // Where all lines of a cell have one left share, its alignments say no more, and aren't looked up.
+    // If all lines of a cell have one left share, its alignments say no more, and aren't looked up.
     #[inline(always)]
     fn style_of_lines(self, left: Option<usize>, pos: Position) -> CellStyle<'s, B>
         ensures { DrawsAs left (style_of result) (style_at T.table.config pos) }

@@ -15,8 +15,8 @@ use std::marker::Model;
 
 /// The colour that is open at the end of a separator's items so far.
 ///
-/// Each call takes the run and hands it back with the colour that is open then; after a refusal
-/// there is no run, and the buffer holds a beginning of what the call appends.
+/// Each call takes the run and returns it with the colour that is open then. After an error there
+/// is no run, and the buffer has gained a beginning of what the call appends.
 #[derive(Debug, Drop)]
 pub struct Run<'a, C: ANSIFmt> {
     open: Option<&'a C>,
@@ -52,8 +52,8 @@ impl<'a, C: ANSIFmt> Run<'a, C> {
         Ok(Run { open: color })
     }
 
-    /// Appends a glyph with a colour of its own, or with none, and an offset's colour put round it
-    /// where there is one.
+    /// Appends a glyph with a colour of its own, or with none, inside an offset's colour if there
+    /// is one.
     pub(crate) fn offset_glyph<F: ANSIFmt, A: Allocator>(
         self,
         buf: &mut String<A>,
@@ -94,7 +94,7 @@ impl<'a, C: ANSIFmt> Run<'a, C> {
         Ok(Run { open: color })
     }
 
-    /// Appends `count` spaces, which stand in the colour that is open.
+    /// Appends `count` spaces, in the colour that is open.
     #[inline(always)]
     pub(crate) fn spaces<A: Allocator>(
         self,

@@ -1,4 +1,4 @@
-//! A separator that is kept in room that is lent, so that equal ones are copied.
+//! A separator that is kept in lent room, so that equal ones are copied.
 
 ghost use Rattle.std.specs.Prelude.{◌≡◌, ◌≤◌, ◌+◌, Option, None, IfSome, IsSome, option_map, drop, length, string_bytes, take, true};
 ghost use Rattle.std.specs.Str.{IsCharBoundary, is_utf8};
@@ -8,10 +8,10 @@ use std::alloc::Allocator;
 use std::marker::Model;
 use std::str;
 
-/// The room that the printers lend to the separator that they keep, in bytes.
+/// The room that the printers lend for the separator that they keep, in bytes.
 pub const SEPARATOR_ROOM: usize = 8192;
 
-/// Keeps the text of a separator, if it is no longer than the room that was lent for it.
+/// Keeps the text of a separator, if it is no longer than the lent room.
 #[derive(Debug, Drop)]
 pub struct SeparatorKeeper<'k> {
     room: &'k mut [u8],
@@ -42,14 +42,15 @@ impl<'k> SeparatorKeeper<'k> {
         ensures { option_map (λ text. text.now) result ≡ self.now.text }
     {
         match self.len {
-            // The bytes are those of a text. Asking that again would cost more than copying them.
+            // The bytes are those of a text. Testing that again would cost more than copying them.
             Some(len) => Some(unsafe { str::from_utf8_unchecked(&self.room[..len]) }),
             None => None,
         }
     }
 
-    /// Keeps what stands in a buffer from a place on, which is the beginning of a character or the
-    /// buffer's end. Nothing is kept where the room is too small for that, or the place is another.
+    /// Keeps what a buffer has from a place on, which is the beginning of a character or the
+    /// buffer's end. Nothing is kept if the room is too small for that, or the place is another
+    /// one.
     pub fn keep<A: Allocator>(&mut self, buf: &String<A>, from: usize)
         ensures is { IfSome self.new.text (λ text. text ≡ drop from (string_bytes buf.now)) }
         ensures kept { IsCharBoundary (string_bytes buf.now) from → length (string_bytes buf.now) ≤ from + self.old.room → IsSome self.new.text }

@@ -5,11 +5,11 @@ ghost use Rattle.pg_picture.specs.Pieces.{shares, lines_above};
 
 use pg_layout::{AlignmentHorizontal, AlignmentVertical};
 
-/// How many of the columns that a text of `got` columns leaves free in `max` columns stand left of
-/// it, and how many right of it. The odd one of a centred text stands at its right. `got` is at most
-/// `max`, which a comparison tells.
+/// How many of the columns that a text of `got` columns leaves free in `max` columns are left of
+/// it, and how many right of it. The odd one of a centred text is at its right. Precondition: `got`
+/// is at most `max`.
 ///
-/// It is for who draws pieces of a table by themselves.
+/// For callers who draw pieces of a table themselves.
 #[inline(always)]
 #[tactic(auto, unfolding(crate::specs::Pieces::shares))]
 pub fn calculate_indent(alignment: AlignmentHorizontal, got: usize, max: usize) -> (usize, usize)
@@ -24,8 +24,8 @@ pub fn calculate_indent(alignment: AlignmentHorizontal, got: usize, max: usize) 
     }
 }
 
-/// How many of the `available` lines of a cell stand above its `real` lines of text. The odd one of
-/// a centred text stands below it. `real` is at most `available`, which a comparison tells.
+/// How many of the `available` lines of a cell are above its `real` lines of text. The odd one of a
+/// centred text is below it. Precondition: `real` is at most `available`.
 #[inline(always)]
 #[tactic(auto, unfolding(crate::specs::Pieces::lines_above))]
 pub fn indent_from_top(alignment: AlignmentVertical, available: usize, real: usize) -> usize

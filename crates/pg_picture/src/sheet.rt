@@ -27,7 +27,7 @@ pub enum VerticalKind {
 /// What a table is drawn by: its configuration, its sizes and its colours, and what of these is the same
 /// for all of its lines.
 ///
-/// It is for who draws pieces of a table by themselves.
+/// For callers who draw pieces of a table themselves.
 #[derive(Drop)]
 pub struct Sheet<'a, D, C, B: Allocator = Global> {
     pub config: &'a SpannedConfig<B>,
@@ -36,17 +36,16 @@ pub struct Sheet<'a, D, C, B: Allocator = Global> {
     pub columns: usize,
     /// How many terminal columns a line has, its side margins among them.
     pub width: usize,
-    /// How many lines the body has, where that is known.
+    /// How many lines the body has, if that is known.
     pub height: Option<usize>,
-    /// The style that all cells have but for their horizontal alignments, where no other setting is for
-    /// some of them.
+    /// The style of all cells, if no setting is for only some of them.
     pub all: Option<CellStyle<'a, B>>,
     ghost is_of_all: { ForSome all (λ style. IsStyleButAcross config.now (style_of style)) },
-    /// The horizontal alignment that all cells have, where none is for some of them.
+    /// The horizontal alignment that all cells have, if none is for some of them.
     pub side: Option<AlignmentHorizontal>,
     ghost is_side: { ForSome side (IsSideOfAll config.now) },
-    /// Whether all cells have a style that is simple to draw: a text of one line stands as it is between
-    /// columns of one character without colours.
+    /// Whether all cells have a style that is simple to draw: a text of one line between columns of
+    /// one character without colours.
     pub is_simple: bool,
     ghost is_of_simple: { is_simple ≡ are_simple all },
     pub verticals: VerticalKind,
@@ -55,10 +54,10 @@ pub struct Sheet<'a, D, C, B: Allocator = Global> {
     /// places was set.
     pub inner: Option<char>,
     ghost is_inner: { inner ≡ inner_vertical config.now },
-    /// Whether some row line may be there: else there is no separator.
+    /// Whether some row line may exist: else there is no separator.
     pub draws_separators: bool,
     ghost is_ruled: { draws_separators ≡ may_have_row_lines config.now },
-    /// Whether a margin stands left or right of the lines.
+    /// Whether there is a margin left or right of the lines.
     pub has_sides: bool,
     ghost is_sided: { has_sides ≡ (nat_lt 0 config.now.margin.left.size || nat_lt 0 config.now.margin.right.size) },
     /// Whether the picture's first line is one of the body: there is no top margin.
@@ -67,8 +66,8 @@ pub struct Sheet<'a, D, C, B: Allocator = Global> {
 }
 
 impl<'a, D, C, B: Allocator> Sheet<'a, D, C, B> {
-    /// A sheet of these parts, for a table of so many columns, whose lines are so wide; `height` is the
-    /// number of its body's lines, where that is known.
+    /// A sheet of these parts, for a table of so many columns, whose lines have this width;
+    /// `height` is the number of its body's lines, if that is known.
     pub fn new(
         config: &'a SpannedConfig<B>,
         dimension: &'a D,
@@ -104,7 +103,7 @@ impl<'a, D, C, B: Allocator> Sheet<'a, D, C, B> {
         }
     }
 
-    /// The sheet with other sizes; how wide its lines are, and how many the body has, stays as it was set.
+    /// The sheet with other sizes; the width of its lines and the number of its body's lines stay.
     pub fn with_dimension<'s, E>(&'s self, dimension: &'s E) -> Sheet<'s, E, C, B>
         ensures config { result.config.now ≡ self.now.config.now }
         ensures dimension { result.dimension.now ≡ dimension.now }

@@ -20,8 +20,8 @@ use std::fmt;
 pub enum Unshown {
     /// The table doesn't fit, so that nothing of it is shown.
     Misfit(Misfit),
-    /// The cell in this row and this column isn't high enough for its lines below the padding above
-    /// them: its row is too low, or no height was told for it.
+    /// The cell in this row and this column isn't high enough for its lines below its top padding:
+    /// its row is too low, or has no height.
     Lines(usize, usize),
 }
 

@@ -21,7 +21,7 @@ use std::marker::PhantomData;
 
 /// A cell of so many columns and one line, which has room for its text.
 ///
-/// It is for who draws pieces of a table by themselves.
+/// For callers who draw pieces of a table themselves.
 #[derive(Drop)]
 pub struct SingleCell<'t, T: TableMarker> {
     pub pos: Position,
@@ -42,7 +42,7 @@ where
 {
     /// Appends the line of a cell that has one. A plain text isn't read for it.
     ///
-    /// An error comes only where the buffer's room is too small; the buffer then holds a beginning.
+    /// The only error is out of memory; the buffer then has gained a beginning.
     #[inline(always)]
     pub fn push_single<A: Allocator>(
         self,
@@ -62,8 +62,8 @@ where
         }
     }
 
-    // Appends the line in the cell's own style, which is looked up. It is out of line, so that the code of
-    // the other cases is small enough to be in line.
+    // Appends the line in the cell's own style, which is looked up. It is out of line, so that the
+    // code of the other cases is small enough to be inlined.
     #[inline(never)]
     fn push_in_own_style<A: Allocator>(
         self,

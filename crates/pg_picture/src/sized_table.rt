@@ -15,7 +15,7 @@ use pg_config::{Span, SpanSize, SpannedConfig};
 use pg_layout::{Dimension, ExactRecords, PeekableRecords, Position, Records};
 use std::alloc::Allocator;
 
-/// What is asked of a cell: of its text, in a rectangle of so many columns and lines.
+/// A test of a cell: of its text, in a rectangle of so many columns and lines.
 pub(crate) trait CellTest {
     ghost test: { Style → Text → ℕ → ℕ → Bool };
 
@@ -29,7 +29,8 @@ pub(crate) trait CellTest {
         ensures { result ≡ Self.test (style_at config.now pos) text.now width height };
 }
 
-/// A table without colours whose spans fit, and whose totals are numbers: each rectangle has a size.
+/// A table without colours whose spans fit, and whose totals are below 2^64: each rectangle has a
+/// size.
 #[derive(Drop)]
 pub(crate) struct SizedTable<'t, R: Records, A: Allocator, D: Dimension> {
     pub(crate) records: &'t R,
@@ -61,7 +62,7 @@ where
         requires { row < length (R.texts self.now.records.now) }
         ensures { result ≡ first_failed (owner_passes T.test (table_of self.now.config.now (D.width self.now.dimension.now) (D.height self.now.dimension.now) (R.texts self.now.records.now) (R.columns self.now.records.now))) (row_places (R.columns self.now.records.now) row 0) }
     {
-        // Shows that the spans stand in order.
+        // Shows that the spans are in order.
         let _spans = self.config.spans();
         let columns = self.records.count_columns();
         let mut column = 0;
@@ -83,10 +84,10 @@ where
         requires span { span ≡ left_span self.now.config.now.spans pos.row pos.col }
         ensures { result ≡ owner_passes T.test (table_of self.now.config.now (D.width self.now.dimension.now) (D.height self.now.dimension.now) (R.texts self.now.records.now) (R.columns self.now.records.now)) pos }
     {
-        // Shows that the spans stand in order.
+        // Shows that the spans are in order.
         let _spans = self.config.spans();
         match span {
-            // A cell of its own stands in its column and its row.
+            // A cell of its own is in its column and its row.
             None => T::passes(
                 self.records.get_text(pos),
                 self.config,

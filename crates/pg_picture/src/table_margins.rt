@@ -1,4 +1,4 @@
-//! What stands round the body: margins by a configuration.
+//! What is round the body: margins by a configuration.
 
 ghost use Rattle.std.specs.Prelude.{◌≡◌, replicate};
 ghost use Rattle.pg_picture.specs.Appending.{Appends};
@@ -75,8 +75,8 @@ pub fn push_top_margin<B: Allocator, A: Allocator>(
     )
 }
 
-/// Appends the lines of the bottom margin, each of so many columns; `is_first` tells whether no line
-/// stands before them.
+/// Appends the lines of the bottom margin, each of so many columns; `is_first` is whether no line
+/// is before them.
 pub fn push_bottom_margin<B: Allocator, A: Allocator>(
     buf: &mut String<A>,
     config: &SpannedConfig<B>,

@@ -10,10 +10,11 @@ use crate::fault::PrintFault;
 use crate::fits::Misfit;
 use std::alloc::{AllocError, Allocator};
 
-/// A table with all that it is printed by.
+/// A table with all that printing it needs.
 ///
-/// A grid writes its test and its `build`, and has `print` and `text` from here. They take the printer;
-/// a grid that is only read while it prints is one by reference, so its calls can be made again.
+/// A grid has its own test and its own `build`, and gets `print` and `text` from here. They take
+/// the printer; a grid that is only read while it prints is one by reference, so its calls can be
+/// made again.
 pub trait TablePrinter: Sized + Drop {
     /// The picture of the table.
     ghost picture: { Self → List ℕ };
@@ -24,13 +25,13 @@ pub trait TablePrinter: Sized + Drop {
     /// Whether the table has no rows or no columns.
     ghost is_empty: { Self → Bool };
 
-    /// The records may be read: all records in memory may.
+    /// Whether the records are readable, as records in memory always are.
     ghost is_readable: { Self → Type 0 } = { λ _. ⊤ };
 
-    /// Whether printing takes memory of its own, beside the buffer's.
+    /// Whether printing allocates memory of its own, apart from the buffer's.
     ghost takes_memory: { Bool } = { false };
 
-    /// Whether the table fits: else the first thing that doesn't. Takes no memory.
+    /// Whether the table fits: the error is the first misfit. Allocates nothing.
     fn fits(&self) -> Result<(), Misfit>
         ensures exact { result ≡ unless_misfit (misfit self.now) }
         ensures fits { IsOk result → misfit self.now ≡ None }
@@ -44,13 +45,13 @@ pub trait TablePrinter: Sized + Drop {
         ensures or_nothing { AppendsOrNothing buf.old buf.new result (picture self) }
         ensures empty { is_empty self ≡ true → IsOk result × (buf.new ≡ buf.old) };
 
-    /// Appends the picture of the table, whose records may be read (all records in memory may), if it
-    /// fits: `fits`, and then `build`.
+    /// Appends the picture of the table, if it fits: `fits`, and then `build`. Precondition: its
+    /// records are readable, as records in memory always are.
     ///
-    /// A table that doesn't fit is refused with what `fits` returns, and the buffer stays as it was. Out
-    /// of memory, the buffer holds a beginning of the picture behind what it held before; one that takes
-    /// memory of its own may also leave it as it was. A table with no rows or no columns fits, and leaves
-    /// the buffer as it was.
+    /// A table that doesn't fit is refused with what `fits` returns, and the buffer is unchanged.
+    /// After out of memory the buffer has gained a beginning of the picture; a printer that
+    /// allocates memory of its own may also leave it unchanged. A table with no rows or no columns
+    /// fits, and leaves the buffer unchanged.
     final fn print<A: Allocator>(self, buf: &mut String<A>) -> Result<(), PrintFault>
         requires readable { is_readable self }
         ensures prints { takes_memory ≡ false → Prints (misfit self) buf.old buf.new result (picture self) }
@@ -64,8 +65,8 @@ pub trait TablePrinter: Sized + Drop {
         Ok(())
     }
 
-    /// The picture of the table as a text of its own, under the condition of `print`, as that call
-    /// appends it. A table with no rows or no columns asks for no memory.
+    /// The picture of the table as a text of its own, under the precondition of `print`. A table
+    /// with no rows or no columns allocates nothing.
     final fn text<A: Allocator>(self, alloc: A) -> Result<String<A>, PrintFault>
         requires readable { is_readable self }
         ensures misfit { (m : _) → (result ≡ Err (PrintFault.Misfit m)) ↔ (misfit self ≡ Some m) }

@@ -10,9 +10,9 @@ use pg_config::SpannedConfig;
 use pg_layout::{ANSIFmt, Position};
 use std::alloc::{AllocError, Allocator};
 
-/// Appends the glyph of a vertical in its colour, and nothing where there is no glyph.
+/// Appends the glyph of a vertical in its colour, and nothing if there is no glyph.
 ///
-/// An error comes only where the buffer's room is too small; the buffer then holds a beginning.
+/// The only error is out of memory; the buffer then has gained a beginning.
 #[inline(always)]
 pub fn push_vertical<C: ANSIFmt, A: Allocator>(
     buf: &mut String<A>,
@@ -29,9 +29,9 @@ pub fn push_vertical<C: ANSIFmt, A: Allocator>(
 
 /// Appends what a configuration puts at a vertical of a table of `columns` columns, on line `line`
 /// of the `height` lines of its row: the glyph set for that line, else the border's glyph, in the
-/// border's colour, else in the colour set for that line; nothing where no glyph stands.
+/// border's colour, else in the colour set for that line; nothing if there is no glyph.
 ///
-/// An error comes only where the buffer's room is too small; the buffer then holds a beginning.
+/// The only error is out of memory; the buffer then has gained a beginning.
 #[inline(never)]
 pub fn push_vertical_at<B: Allocator, A: Allocator>(
     buf: &mut String<A>,

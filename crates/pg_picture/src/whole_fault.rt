@@ -14,7 +14,7 @@ use std::fmt;
 pub enum WholeFault {
     /// The table doesn't show each line of its texts, or doesn't fit, and nothing was appended.
     Unshown(Unshown),
-    /// Memory was refused, and a beginning of the picture was appended.
+    /// Out of memory; a beginning of the picture was appended.
     Memory,
 }
 
@@ -42,7 +42,7 @@ impl<T: Drop> From<AllocFailed<T>> for WholeFault {
     }
 }
 
-/// Writes why not all is shown, or that memory was refused.
+/// Writes why not all is shown, or that memory is out.
 impl fmt::Display for WholeFault {
     ghost output = { λ fault. Some (whole_fault_text fault) };
 

@@ -17,15 +17,15 @@ use std::fmt;
 /// Why a printer isn't made, or rows aren't printed to their end.
 #[derive(Debug, Clone, Copy, PartialEq, Eq)]
 pub enum StreamFault {
-    /// What the printer was told doesn't fit. Only a call that makes a printer answers it.
+    /// The printer's parts don't fit. Only a call that makes a printer returns it.
     Misfit(Misfit),
     /// The row with this number doesn't fit below those above it. Rows are counted from 0, so it is
     /// also the number of rows above.
     Row(usize),
-    /// The table doesn't end behind its last row: a rectangle goes on below it, or more rows are known. Only
-    /// a call that ends a table behind rows of which none was told to be the last answers it.
+    /// The table doesn't end after its last row: a rectangle continues below it, or more rows are
+    /// known. Only a call that ends a table none of whose rows was declared the last returns it.
     Open,
-    /// No memory was found.
+    /// Out of memory.
     Memory,
 }
 
@@ -53,7 +53,7 @@ impl<T: Drop> From<AllocFailed<T>> for StreamFault {
     }
 }
 
-/// Writes what doesn't fit, or that memory was refused.
+/// Writes what doesn't fit, or that memory is out.
 impl fmt::Display for StreamFault {
     ghost output = { λ fault. Some (stream_fault_text fault) };
 
@@ -72,14 +72,14 @@ impl Error for StreamFault {}
 /// Why a row isn't printed.
 #[derive(Debug, Drop)]
 pub enum RowFault<P> {
-    /// The row doesn't fit. Here is the printer, as it was before the call. Where it isn't needed, `?`
-    /// makes a `StreamFault::Row` of it, with the number of the row.
+    /// The row doesn't fit. This is the printer, unchanged. If it isn't needed, `?` makes a
+    /// `StreamFault::Row` of it, with the number of the row.
     Misfit(P),
-    /// No memory was found, and the printer is gone.
+    /// Out of memory, and the printer is gone.
     Memory,
 }
 
-/// Writes that the row doesn't fit, or that memory was refused.
+/// Writes that the row doesn't fit, or that memory is out.
 impl<P> fmt::Display for RowFault<P> {
     ghost output = { λ fault. Some (row_fault_text fault) };
 
@@ -116,7 +116,7 @@ where
 pub enum RowsFault<E> {
     /// A row isn't printed.
     Stream(StreamFault),
-    /// This error came in the place of a row.
+    /// This error came in place of a row.
     Source(E),
 }
 

@@ -2,26 +2,29 @@
 
 ghost use Rattle.pg_stream.specs.Laws.{RowsMakeThePicture, LiveRowsMakeThePicture, RowsCountTheirLines, SizedRowsMakeThePicture, FittingTablesMayBePrinted};
 
-/// All rows of a table whose spans fit it, printed one after another and ended, are its picture: with
-/// the number of rows the one that looked-up printing gives, without it the one in which margins that
-/// end before the last lines are whole.
+/// All rows of a table whose spans fit it, printed one after another, and then the end, are its
+/// picture: with the number of rows that of looked-up printing, without it the one in which side
+/// margins with an offset from the end are whole.
 pub fn rows_make_the_picture()
     ensures { RowsMakeThePicture }
 {}
 
-/// All rows of a table whose spans fit it, printed one after another of which none is told to be the last,
-/// and ended, are its picture, in which margins that end before the last lines are whole.
+/// All rows of a table whose spans fit it, printed one after another without declaring one the
+/// last, and then the end, are its picture, in which side margins with an offset from the end are
+/// whole.
 pub fn live_rows_make_the_picture()
     ensures { LiveRowsMakeThePicture }
 {}
 
-/// The lines of a printer are those of its rows, by their heights: before the first row, and behind each.
+/// The lines of a printer are those of its rows, by their heights: before the first row, and after
+/// each.
 pub fn rows_count_their_lines()
     ensures { RowsCountTheirLines }
 {}
 
-/// All rows of a table whose spans fit it, pushed one after another into a [`SizedStream`], each with its height,
-/// and ended, are its picture, in which margins that end before the last lines are whole.
+/// All rows of a table whose spans fit it, pushed one after another into a [`SizedStream`], each
+/// with its height, and then the end, are its picture, in which side margins with an offset from
+/// the end are whole.
 ///
 /// [`SizedStream`]: crate::SizedStream
 pub fn sized_rows_make_the_picture()

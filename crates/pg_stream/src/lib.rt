@@ -1,5 +1,5 @@
-//! The streaming printers: they print a table row by row, and keep the cells that go on below the
-//! last printed row.
+//! The streaming printers: they print a table row by row, and keep the cells that continue below
+//! the last printed row.
 #![tactic(auto)]
 
 mod draw;

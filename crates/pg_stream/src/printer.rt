@@ -1,4 +1,4 @@
-//! The printer of rows: what it is told, how far it is printed, which row may be next, and its end.
+//! The printer of rows: its parts, how far it has printed, which row can be next, and its end.
 
 mod all_rows;
 mod checked_rows;

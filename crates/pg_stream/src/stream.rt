@@ -1,4 +1,4 @@
-//! Streams of rows over the printer: their rows need not be told which one is the last.
+//! Streams of rows over the printer: none of their rows need be declared the last.
 
 mod held_rows;
 mod lent_rows;

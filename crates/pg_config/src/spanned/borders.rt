@@ -1,4 +1,4 @@
-//! The border lines: which are there, and their glyphs and colours.
+//! The border lines: which exist, and their glyphs and colours.
 
 ghost use Rattle.std.specs.Prelude.{◌≡◌, ◌<◌, ◌≤◌, ◌+◌, ◌^◌, true, false, count_by, option_map, OnOk, OnErr, IsOk};
 ghost use Rattle.std.specs.List.{range_with_len};
@@ -13,7 +13,7 @@ use pg_layout::{ANSIBuf, Border, Borders, HorizontalLine, Position};
 use std::alloc::{AllocError, Allocator};
 
 impl<A: Allocator> SpannedConfig<A> {
-    /// Sets the glyphs of all border lines, in place of those before. Overrides stay.
+    /// Sets the glyphs of all border lines, replacing earlier ones. Overrides stay.
     pub fn set_borders(&mut self, borders: Borders<char>)
         ensures { self.new ≡ record self.old { borders = borders } }
     {
@@ -27,24 +27,24 @@ impl<A: Allocator> SpannedConfig<A> {
         &self.borders
     }
 
-    /// Sets the glyph that stands where a line is there and has none of its own.
+    /// Sets the missing glyph: that of a place whose line exists but has no glyph there.
     pub fn set_borders_missing(&mut self, glyph: Option<char>)
         ensures { self.new ≡ record self.old { missing = glyph } }
     {
         self.missing = glyph;
     }
 
-    /// The glyph that stands where a line is there and has none of its own.
+    /// The missing glyph: that of a place whose line exists but has no glyph there.
     pub fn get_borders_missing(&self) -> Option<char>
         ensures { result ≡ self.now.missing }
     {
         self.missing
     }
 
-    /// Overrides the glyphs of the eight places round a cell by those that this border has. One for a
-    /// place behind line `usize::MAX`, which no table has, is left out.
+    /// Overrides the glyphs of the eight places round a cell by those that this border has. A glyph
+    /// for a place after line `usize::MAX`, which no table has, is left out.
     ///
-    /// Where it has no glyph for these places, no memory is asked for.
+    /// If the border has no glyph for these places, nothing is allocated.
     pub fn set_border(&mut self, pos: Position, border: Border<char>) -> Result<(), AllocError>
     where
         A: Clone,
@@ -56,11 +56,11 @@ impl<A: Allocator> SpannedConfig<A> {
     }
 
     /// Overrides the glyphs of one row line across a table of `columns` columns by those that this
-    /// line has: of its horizontals by `main`, of the crossings at its ends by `left` and `right`, and
-    /// of those between by `intersection`. Without columns nothing changes.
+    /// line has: its horizontals by `main`, the crossings at its ends by `left` and `right`, and
+    /// those between by `intersection`. Without columns nothing changes.
     ///
-    /// Row line 0 is above the first row, and row line `r` below row `r - 1`. Asks for memory also
-    /// where all these places have a glyph: the old ones are noted until the new ones stand.
+    /// Row line 0 is above the first row, and row line `r` below row `r - 1`. Allocates even if all
+    /// these places have a glyph: the old ones are kept until the new ones are set.
     pub fn set_row_line(
         &mut self,
         row: usize,
@@ -76,7 +76,7 @@ impl<A: Allocator> SpannedConfig<A> {
         self.overrides.set_row_line(row, columns, line)
     }
 
-    /// Whether row line `row` of a table of `rows` rows is there.
+    /// Whether row line `row` of a table of `rows` rows exists.
     #[tactic(auto, unfolding(crate::specs::Config::has_horizontal, pg_layout::specs::Borders::has_side))]
     pub fn has_horizontal(&self, row: usize, rows: usize) -> bool
         ensures { result ≡ has_horizontal self.now row rows }
@@ -87,7 +87,7 @@ impl<A: Allocator> SpannedConfig<A> {
             || self.overrides.has_row(row)
     }
 
-    /// Whether column line `column` of a table of `columns` columns is there.
+    /// Whether column line `column` of a table of `columns` columns exists.
     #[tactic(auto, unfolding(crate::specs::Config::has_vertical, pg_layout::specs::Borders::has_side))]
     #[inline(always)]
     pub fn has_vertical(&self, column: usize, columns: usize) -> bool
@@ -99,7 +99,7 @@ impl<A: Allocator> SpannedConfig<A> {
             || self.overrides.has_column(column)
     }
 
-    /// Whether a column line is there, in a table of some number of columns. Where none is, no
+    /// Whether a column line exists, in a table of some number of columns. If none does, no
     /// vertical has a glyph.
     #[tactic(auto, unfolding(crate::specs::Config::has_column_lines))]
     pub fn has_column_lines(&self) -> bool
@@ -112,7 +112,7 @@ impl<A: Allocator> SpannedConfig<A> {
     }
 
     /// The glyph of a horizontal in a table of `rows` rows: an override, else the borders' glyph,
-    /// else the missing glyph where the line is there.
+    /// else the missing glyph if the line exists.
     #[tactic(auto, unfolding(crate::specs::Config::get_horizontal))]
     pub fn get_horizontal(&self, pos: Position, rows: usize) -> Option<char>
         ensures { result ≡ get_horizontal self.now pos rows }
@@ -127,7 +127,7 @@ impl<A: Allocator> SpannedConfig<A> {
     }
 
     /// The glyph of a vertical in a table of `columns` columns: an override, else the borders'
-    /// glyph, else the missing glyph where the line is there.
+    /// glyph, else the missing glyph if the line exists.
     #[tactic(auto, unfolding(crate::specs::Config::get_vertical))]
     #[inline(always)]
     pub fn get_vertical(&self, pos: Position, columns: usize) -> Option<char>
@@ -156,7 +156,7 @@ impl<A: Allocator> SpannedConfig<A> {
     }
 
     /// The glyph of a crossing in a table of `size` rows and columns: an override, else the
-    /// borders' glyph, else the missing glyph where both lines are there.
+    /// borders' glyph, else the missing glyph if both lines exist.
     #[tactic(auto, unfolding(crate::specs::Config::get_intersection))]
     pub fn get_intersection(&self, pos: Position, size: (usize, usize)) -> Option<char>
         ensures { result ≡ get_intersection self.now pos size.0 size.1 }
@@ -172,7 +172,7 @@ impl<A: Allocator> SpannedConfig<A> {
         self.missing_if(there)
     }
 
-    /// Whether all row lines between two rows are drawn alike where no cell spans rows or columns: no
+    /// Whether all row lines between two rows are drawn alike if no cell spans rows or columns: no
     /// glyph and no colour of a horizontal or a crossing was set by its place.
     #[tactic(auto, unfolding(crate::specs::Config::has_equal_row_lines))]
     pub fn has_equal_row_lines(&self) -> bool
@@ -183,8 +183,8 @@ impl<A: Allocator> SpannedConfig<A> {
         !has_overrides && !has_offsets
     }
 
-    /// How many row lines of a table of `rows` rows are there. The rows are fewer than `usize::MAX`,
-    /// which a comparison tells.
+    /// How many row lines of a table of `rows` rows exist. Precondition: `rows` is below
+    /// `usize::MAX`.
     #[tactic(auto, unfolding(crate::specs::Config::count_horizontal))]
     pub fn count_horizontal(&self, rows: usize) -> usize
         requires { rows < usize.MAX }
@@ -193,8 +193,8 @@ impl<A: Allocator> SpannedConfig<A> {
         self.count_horizontals(0, rows + 1, rows)
     }
 
-    /// How many column lines of a table of `columns` columns are there. The columns are fewer than
-    /// `usize::MAX`, which a comparison tells.
+    /// How many column lines of a table of `columns` columns exist. Precondition: `columns` is
+    /// below `usize::MAX`.
     #[tactic(auto, unfolding(crate::specs::Config::count_vertical))]
     pub fn count_vertical(&self, columns: usize) -> usize
         requires { columns < usize.MAX }
@@ -203,8 +203,8 @@ impl<A: Allocator> SpannedConfig<A> {
         self.count_verticals(0, columns + 1, columns)
     }
 
-    /// How many of so many row lines from a first one on are there in a table of `rows` rows. The
-    /// number of the line behind them is at most `usize::MAX`, as `checked_add` tells.
+    /// How many of `count` row lines from `first` on exist in a table of `rows` rows. Precondition:
+    /// `first + count` is at most `usize::MAX`.
     pub fn count_horizontals(&self, first: usize, count: usize, rows: usize) -> usize
         requires { first + count ≤ usize.MAX }
         ensures { result ≡ count_by (λ r. has_horizontal self.now r rows) (range_with_len first count) }
@@ -216,8 +216,8 @@ impl<A: Allocator> SpannedConfig<A> {
         found
     }
 
-    /// How many of so many column lines from a first one on are there in a table of `columns` columns.
-    /// The number of the line behind them is at most `usize::MAX`, as `checked_add` tells.
+    /// How many of `count` column lines from `first` on exist in a table of `columns` columns.
+    /// Precondition: `first + count` is at most `usize::MAX`.
     pub fn count_verticals(&self, first: usize, count: usize, columns: usize) -> usize
         requires { first + count ≤ usize.MAX }
         ensures { result ≡ count_by (λ c. has_vertical self.now c columns) (range_with_len first count) }
@@ -236,7 +236,7 @@ impl<A: Allocator> SpannedConfig<A> {
         if there { self.missing } else { None }
     }
 
-    /// Sets the colours of all border lines, in place of those before. Overrides stay.
+    /// Sets the colours of all border lines, replacing earlier ones. Overrides stay.
     pub fn set_borders_color(&mut self, colors: Borders<ANSIBuf<A>>)
         ensures { self.new ≡ record self.old { border_colors = colors; border_colored = true } }
     {
@@ -244,10 +244,10 @@ impl<A: Allocator> SpannedConfig<A> {
         self.border_colored = true;
     }
 
-    /// Overrides the colours of the eight places round a cell by those that this border has. One for
-    /// a place behind line `usize::MAX`, which no table has, is left out.
+    /// Overrides the colours of the eight places round a cell by those that this border has. A
+    /// colour for a place after line `usize::MAX`, which no table has, is left out.
     ///
-    /// Where it has no colour for these places, no memory is asked for.
+    /// If the border has no colour for these places, nothing is allocated.
     pub fn set_border_color(
         &mut self,
         pos: Position,
@@ -300,7 +300,7 @@ impl<A: Allocator> SpannedConfig<A> {
         crossing_glyph(&self.border_colors, pos, size.0, size.1)
     }
 
-    /// Whether a colour of border lines was set, also where it coloured none.
+    /// Whether a colour of border lines was set, even if it coloured none.
     pub fn has_border_colors(&self) -> bool
         ensures { result ≡ self.now.border_colored }
     {

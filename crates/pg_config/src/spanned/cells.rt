@@ -1,4 +1,4 @@
-//! What is told of cells, and how a cell is drawn by it.
+//! The settings of cells, and the style of a cell.
 
 ghost use Rattle.std.specs.Prelude.{◌≡◌, ⊤, option_map, OnOk, OnErr, IsOk, is_some};
 ghost use Rattle.std.specs.Option.{ForSome};
@@ -15,7 +15,7 @@ use pg_layout::{
 };
 use std::alloc::{AllocError, Allocator, Global};
 
-/// What is told of cells: each setting for all of them, for rows, columns and single ones.
+/// The settings of cells: each for all of them, for rows, columns and single ones.
 #[derive(Debug, Drop)]
 pub(crate) struct Cells<A: Allocator> {
     pub(crate) padding: Settings<Sides<Indent>, A>,
@@ -30,7 +30,7 @@ pub(crate) struct Cells<A: Allocator> {
 }
 
 impl<A: Allocator + Copy> Cells<A> {
-    /// Nothing is told. Takes no memory.
+    /// No settings. Allocates nothing.
     pub(super) fn new(alloc: A) -> Cells<A>
         ensures { result ≡ record {
           padding = no_settings;
@@ -59,7 +59,7 @@ impl<A: Allocator + Copy> Cells<A> {
 }
 
 impl<A: Allocator> SpannedConfig<A> {
-    /// Sets what stands between the sides of cells and their texts.
+    /// Sets the padding of cells: what separates their sides from their texts.
     pub fn set_padding(&mut self, entity: Entity, padding: Sides<Indent>) -> Result<(), AllocError>
     where
         A: Clone,
@@ -117,7 +117,7 @@ impl<A: Allocator> SpannedConfig<A> {
         self.cells.padding_color.is_set()
     }
 
-    /// Sets where texts stand between the left and the right side.
+    /// Sets the horizontal alignment of texts.
     pub fn set_alignment_horizontal(
         &mut self,
         entity: Entity,
@@ -133,7 +133,7 @@ impl<A: Allocator> SpannedConfig<A> {
         self.cells.alignment_horizontal.set(entity, alignment)
     }
 
-    /// Where the text of a cell stands between the left and the right side.
+    /// The horizontal alignment of a cell's text.
     #[tactic(auto, unfolding(crate::specs::Config::get_alignment_horizontal))]
     #[inline(always)]
     pub fn get_alignment_horizontal(&self, pos: Position) -> AlignmentHorizontal
@@ -146,7 +146,7 @@ impl<A: Allocator> SpannedConfig<A> {
             .unwrap_or(AlignmentHorizontal::Left)
     }
 
-    /// Sets where texts stand between the top and the bottom.
+    /// Sets the vertical alignment of texts.
     pub fn set_alignment_vertical(
         &mut self,
         entity: Entity,
@@ -162,7 +162,7 @@ impl<A: Allocator> SpannedConfig<A> {
         self.cells.alignment_vertical.set(entity, alignment)
     }
 
-    /// Where the text of a cell stands between the top and the bottom.
+    /// The vertical alignment of a cell's text.
     #[tactic(auto, unfolding(crate::specs::Config::get_alignment_vertical))]
     #[inline(always)]
     pub fn get_alignment_vertical(&self, pos: Position) -> AlignmentVertical
@@ -187,7 +187,7 @@ impl<A: Allocator> SpannedConfig<A> {
         self.cells.trim_horizontal.set(entity, trims)
     }
 
-    /// Sets whether blank lines at the front and at the end of a text are left out.
+    /// Sets whether blank lines at the start and at the end of a text are left out.
     pub fn set_trim_vertical(&mut self, entity: Entity, trims: bool) -> Result<(), AllocError>
     where
         A: Clone,
@@ -239,7 +239,7 @@ impl<A: Allocator> SpannedConfig<A> {
             && (cells.justification.is_for_all() && cells.justification_color.is_for_all())
     }
 
-    /// Whether all cells have one style but for their horizontal alignments, as
+    /// Whether all cells have one style except for their horizontal alignments, as
     /// [`SpannedConfig::has_one_style`] tells it of the whole style.
     #[tactic(auto, unfolding(crate::specs::Common::has_one_style_but_across))]
     pub fn has_one_style_but_across(&self) -> bool
@@ -253,7 +253,7 @@ impl<A: Allocator> SpannedConfig<A> {
             && (cells.justification.is_for_all() && cells.justification_color.is_for_all())
     }
 
-    /// The horizontal alignment that all cells have, where none was set for a row, a column or a cell
+    /// The horizontal alignment that all cells have, if none was set for a row, a column or a cell
     /// alone.
     pub fn side_of_all(&self) -> Option<AlignmentHorizontal>
         ensures of { ForSome result (IsSideOfAll self.now) }
@@ -286,7 +286,7 @@ impl<A: Allocator> SpannedConfig<A> {
         self.cells.justification.get(pos).copied().unwrap_or(' ')
     }
 
-    /// Sets the colour of the room beside a text's lines, or that it has none.
+    /// Sets the colour of the room beside a text's lines, or none.
     pub fn set_justification_color(
         &mut self,
         entity: Entity,
@@ -320,18 +320,18 @@ impl<A: Allocator> SpannedConfig<A> {
     }
 }
 
-/// How a cell is drawn: what its table's configuration answers at its place.
+/// The style of a cell: the settings that hold at its place.
 #[derive(Debug)]
 pub struct CellStyle<'a, A: Allocator = Global> {
     /// How the lines of its text are read and aligned.
     pub formatting: Formatting,
-    /// What stands round its text.
+    /// Its padding.
     pub padding: Sides<Indent>,
     /// The colours of the paddings.
     pub padding_color: &'a Sides<Option<ANSIBuf<A>>>,
-    /// Where its text stands between left and right.
+    /// Its horizontal alignment.
     pub alignment_horizontal: AlignmentHorizontal,
-    /// Where its text stands between top and bottom.
+    /// Its vertical alignment.
     pub alignment_vertical: AlignmentVertical,
     /// What fills the columns beside its lines.
     pub justification: char,
@@ -365,7 +365,8 @@ impl<'a, A: Allocator> CellStyle<'a, A> {
         }
     }
 
-    /// The style of the cell at a place but for its alignments, which aren't looked up: left and top.
+    /// The style of the cell at a place, except for its alignments, which aren't looked up: left
+    /// and top.
     #[tactic(auto, unfolding(crate::specs::Cells::style_at))]
     #[inline(always)]
     pub fn unaligned(config: &'a SpannedConfig<A>, pos: Position) -> CellStyle<'a, A>
@@ -393,8 +394,8 @@ impl<'a, A: Allocator> CellStyle<'a, A> {
         Some(CellStyle::of(config, Position::new(0, 0)))
     }
 
-    /// The style that all cells have but for their horizontal alignments, where no other setting is for
-    /// some of them.
+    /// The style that all cells have except for their horizontal alignments, where no other setting
+    /// is for some of them.
     pub fn of_all_but_across(config: &'a SpannedConfig<A>) -> Option<CellStyle<'a, A>>
         ensures of { ForSome result (λ style. IsStyleButAcross config.now (style_of style)) }
         ensures there { is_some result ≡ has_one_style_but_across config.now }

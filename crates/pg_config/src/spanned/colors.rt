@@ -11,9 +11,9 @@ use pg_layout::Borders;
 use std::alloc::Allocator;
 
 impl<A: Allocator + Copy> SpannedConfig<A> {
-    /// Takes all colours away, as if none had been told: those of borders, of single glyphs, of
-    /// margins, paddings and justifications. Takes no memory. The colours of cells are no part of a
-    /// configuration; a grid without them has `NoColors`.
+    /// Removes all colours, as if none had been set: those of borders, of single glyphs, of
+    /// margins, paddings and justifications. Allocates nothing. The colours of cells are no part of
+    /// a configuration; a grid without them has `NoColors`.
     pub fn clear_colors(&mut self, alloc: A)
         ensures { self.new ≡ without_colors self.old }
     {

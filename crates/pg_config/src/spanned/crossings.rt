@@ -14,11 +14,11 @@ impl<A: Allocator + Copy> SpannedConfig<A> {
     /// `bottom_intersection` above one, `left_intersection` and `right_intersection` beside a cell of
     /// several rows, and where two such cells touch the glyph of the line that goes on.
     ///
-    /// A crossing at a corner of such a cell stays as it was, and so does one whose glyph these
-    /// borders lack, or one whose lines aren't both there. Where memory is refused, nothing changes;
-    /// without spans none is asked for. It takes as long as the edges of the spans are.
+    /// A crossing at a corner of such a cell stays unchanged, and so does one whose glyph these
+    /// borders lack, or whose lines don't both exist. If memory is refused, nothing changes;
+    /// without spans nothing is allocated. The time is that of the edges of the spans.
     ///
-    /// A span that is told later changes no crossing: this is called once all are told.
+    /// A span that is set later changes no crossing: call this last.
     pub fn set_span_crossings(
         &mut self,
         alloc: A,
@@ -31,7 +31,7 @@ impl<A: Allocator + Copy> SpannedConfig<A> {
     {
         let marks = marks_of(alloc, self.spans(), size)?;
         let glyphs = glyphs_of(alloc, self, &marks, &borders, size)?;
-        // Shows that they stand in order.
+        // Shows that they are in order.
         marks.stand_in_order();
         glyphs.stand_in_order();
         self.overrides.set_crossings(&glyphs)

@@ -10,17 +10,17 @@ use pg_layout::Dimension;
 use std::alloc::{AllocError, Allocator};
 
 impl<A: Allocator + Copy> SpannedConfig<A> {
-    /// Puts characters over the glyphs of row line `row`, in a table of `size` rows and columns whose
-    /// columns have these widths: one beside the other, the first of them `first` columns of the
-    /// terminal behind the first glyph of column 0. So they go over horizontals and over the
-    /// crossings between two columns, and end where the last column does.
+    /// Puts characters over the glyphs of row line `row`, in a table of `size` rows and columns
+    /// whose columns have these widths: side by side, the first of them at column `first` of the
+    /// line, where 0 is the first glyph of column 0. So they cover horizontals and the crossings
+    /// between two columns, and end with the last column.
     ///
-    /// Each takes the place of one glyph, as in [`SpannedConfig::set_horizontal_char`], so one that is
-    /// wider makes its line longer. A row line that isn't there gets none. What is told later, as
-    /// other widths, moves none of them.
+    /// Each replaces one glyph, as in [`SpannedConfig::set_horizontal_char`], so a wider one makes
+    /// its line longer. A row line that doesn't exist gets none. Later settings, such as other
+    /// widths, move none of them.
     ///
-    /// Where memory is refused, nothing changes; without characters, or for a row line that isn't there,
-    /// none is asked for.
+    /// If memory is refused, nothing changes; without characters, or for a row line that doesn't
+    /// exist, nothing is allocated.
     #[tactic(auto, unfolding(crate::specs::LineGlyphs::with_line_glyphs))]
     pub fn set_line_glyphs<D: Dimension>(
         &mut self,

@@ -1,4 +1,4 @@
-//! What stands round a table.
+//! The margins of a table.
 
 ghost use Rattle.std.specs.Prelude.{◌≡◌, option_map};
 
@@ -7,28 +7,28 @@ use pg_layout::{ANSIBuf, Indent, Offset, Sides};
 use std::alloc::Allocator;
 
 impl<A: Allocator> SpannedConfig<A> {
-    /// Sets what stands round the table.
+    /// Sets the margins of the table.
     pub fn set_margin(&mut self, margin: Sides<Indent>)
         ensures { self.new ≡ record self.old { margin = margin } }
     {
         self.margin = margin;
     }
 
-    /// What stands round the table.
+    /// The margins of the table.
     pub fn get_margin(&self) -> Sides<Indent>
         ensures { result ≡ self.now.margin }
     {
         self.margin
     }
 
-    /// Sets from which place on the fill of each margin stands.
+    /// Sets from which place on each margin has its fill.
     pub fn set_margin_offset(&mut self, offset: Sides<Offset>)
         ensures { self.new ≡ record self.old { margin_offset = offset } }
     {
         self.margin_offset = offset;
     }
 
-    /// From which place on the fill of each margin stands.
+    /// From which place on each margin has its fill.
     pub fn get_margin_offset(&self) -> Sides<Offset>
         ensures { result ≡ self.now.margin_offset }
     {

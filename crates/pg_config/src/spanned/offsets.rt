@@ -26,7 +26,7 @@ impl<A: Allocator> SpannedConfig<A> {
     }
 
     /// The glyph that was set for glyph `i` of the `w` columns of a horizontal: counted from its
-    /// start, else from its end. None where there is no such glyph.
+    /// start, else from its end. None if there is no such glyph.
     pub fn lookup_horizontal_char(&self, pos: Position, i: usize, w: usize) -> Option<char>
         ensures { result ≡ lookup_offset self.now.horizontal_chars pos i w }
     {
@@ -50,7 +50,7 @@ impl<A: Allocator> SpannedConfig<A> {
     }
 
     /// The colour that was set for glyph `i` of the `w` columns of a horizontal: counted from its
-    /// start, else from its end. None where there is no such glyph.
+    /// start, else from its end. None if there is no such glyph.
     pub fn lookup_horizontal_color(&self, pos: Position, i: usize, w: usize) -> Option<&ANSIBuf<A>>
         ensures { option_map (λ x. x.now) result ≡ lookup_offset self.now.horizontal_colors pos i w }
     {
@@ -74,7 +74,7 @@ impl<A: Allocator> SpannedConfig<A> {
     }
 
     /// The glyph that was set for glyph `i` of the `w` lines of a vertical: counted from its start,
-    /// else from its end. None where there is no such glyph.
+    /// else from its end. None if there is no such glyph.
     #[inline(always)]
     pub fn lookup_vertical_char(&self, pos: Position, i: usize, w: usize) -> Option<char>
         ensures { result ≡ lookup_offset self.now.vertical_chars pos i w }
@@ -98,8 +98,8 @@ impl<A: Allocator> SpannedConfig<A> {
         self.vertical_colors.set(pos, offset, color)
     }
 
-    /// The colour that was set for glyph `i` of the `w` lines of a vertical: counted from its start,
-    /// else from its end. None where there is no such glyph.
+    /// The colour that was set for glyph `i` of the `w` lines of a vertical: counted from its
+    /// start, else from its end. None if there is no such glyph.
     #[inline(always)]
     pub fn lookup_vertical_color(&self, pos: Position, i: usize, w: usize) -> Option<&ANSIBuf<A>>
         ensures { option_map (λ x. x.now) result ≡ lookup_offset self.now.vertical_colors pos i w }

@@ -12,10 +12,10 @@ use pg_layout::Position;
 use std::alloc::{AllocError, Allocator};
 
 impl<A: Allocator> SpannedConfig<A> {
-    /// Makes a cell span so many columns, itself among them; 1 takes the span away. Asks for memory
-    /// only for a cell without a span.
+    /// Makes a cell span so many columns, including its own; 1 removes the span. Allocates only for
+    /// a cell without a span.
     ///
-    /// Whether the spans fit a table is not asked here (`pg_picture::fits::spans_fit`).
+    /// It doesn't test whether the spans fit a table (`pg_picture::fits::spans_fit`).
     pub fn set_column_span(&mut self, pos: Position, columns: usize) -> Result<(), AllocError>
     where
         A: Clone,
@@ -27,8 +27,8 @@ impl<A: Allocator> SpannedConfig<A> {
         self.spans.set_columns(pos, columns)
     }
 
-    /// Makes a cell span so many rows, itself among them; 1 takes the span away. Asks for memory only
-    /// for a cell without a span.
+    /// Makes a cell span so many rows, including its own; 1 removes the span. Allocates only for a
+    /// cell without a span.
     pub fn set_row_span(&mut self, pos: Position, rows: usize) -> Result<(), AllocError>
     where
         A: Clone,
@@ -40,7 +40,7 @@ impl<A: Allocator> SpannedConfig<A> {
         self.spans.set_rows(pos, rows)
     }
 
-    /// How many columns a cell spans, if it was told so.
+    /// How many columns a cell spans, if that was set.
     #[tactic(auto, unfolding(crate::specs::Spans::get_column_span))]
     pub fn get_column_span(&self, pos: Position) -> Option<usize>
         ensures { result ≡ get_column_span self.now.spans pos }
@@ -49,7 +49,7 @@ impl<A: Allocator> SpannedConfig<A> {
         if columns == 1 { None } else { Some(columns) }
     }
 
-    /// How many rows a cell spans, if it was told so.
+    /// How many rows a cell spans, if that was set.
     #[tactic(auto, unfolding(crate::specs::Spans::get_row_span))]
     pub fn get_row_span(&self, pos: Position) -> Option<usize>
         ensures { result ≡ get_row_span self.now.spans pos }
@@ -87,14 +87,14 @@ impl<A: Allocator> SpannedConfig<A> {
         ensures all { result.now ≡ self.now.spans }
         ensures ascending { IsAscending by_columns self.now.spans }
     {
-        // Shows that they stand in order.
+        // Shows that they are in order.
         self.spans.stand_in_order();
         &self.spans
     }
 
     /// The rectangle that holds a place and has its left column there, found by one search in the
-    /// order of the spans. Where the rectangles share no place it is the place's own, if the place
-    /// is in its owner's left column.
+    /// order of the spans. If no rectangles share a place, it is the place's own, if the place is
+    /// in its owner's left column.
     #[inline(always)]
     pub fn left_span(&self, pos: Position) -> Option<Span>
         ensures { result ≡ left_span self.now.spans pos.row pos.col }
@@ -102,7 +102,7 @@ impl<A: Allocator> SpannedConfig<A> {
         self.spans.left_span(pos)
     }
 
-    /// The rectangle that [`SpannedConfig::left_span`] finds, where it begins above the place.
+    /// The rectangle that [`SpannedConfig::left_span`] finds, if it begins above the place.
     pub fn span_above(&self, pos: Position) -> Option<Span>
         ensures { result ≡ span_above self.now.spans pos.row pos.col }
     {

@@ -15,10 +15,11 @@ use pg_config::CompactConfig;
 use pg_layout::{Borders, Dimension};
 
 /// Whether a compact table of so many columns fits: its columns can be counted and its total width
-/// with the side margins is a number of 64 bits (else `Totals`), and each column has room for the
-/// side paddings (else `Room` at the first one that hasn't, in row 0). A table with no columns fits.
+/// with the side margins is below 2^64 (else `Totals`), and each column has room for the side
+/// paddings (else `Room` at the first one without, in row 0). A table with no columns fits. Texts
+/// don't matter: one that is too wide is written whole. Allocates nothing.
 ///
-/// Texts don't matter: one that is wider than its room is written whole. Takes no memory.
+/// Texts don't matter: one that is wider than its room is written whole. Allocates nothing.
 #[tactic(auto, unfolding(crate::specs::Fits::compact_misfit_of))]
 pub fn compact_fits<D: Dimension>(
     config: &CompactConfig,
@@ -39,11 +40,10 @@ pub fn compact_fits<D: Dimension>(
     }
 }
 
-/// How many terminal columns a line of a compact table has, its side margins among them, or None
-/// where they pass `usize::MAX`.
+/// How many terminal columns a line of a compact table has, including its side margins, or `None`
+/// if they exceed `usize::MAX`.
 ///
-/// The columns are fewer than `usize::MAX`: a comparison tells it, and where [`compact_fits`] holds
-/// they are.
+/// Precondition: there are fewer than `usize::MAX` columns, as there are if [`compact_fits`] holds.
 pub fn compact_full_width<D: Dimension>(
     config: &CompactConfig,
     dimension: &D,

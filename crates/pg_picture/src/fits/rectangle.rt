@@ -11,12 +11,13 @@ use pg_layout::{Dimension, Position};
 use std::alloc::Allocator;
 
 /// How many terminal columns the rectangle of a place takes in a table of so many columns: its
-/// columns and the verticals between them. None where that passes `usize::MAX`.
+/// columns and the column lines between them. `None` if that exceeds `usize::MAX`.
 ///
-/// The rectangle has a column, and its columns end inside the table: [`crate::fits::spans_fit`] and
-/// [`crate::fits::spans_fit_columns`] tell it of each place in the table. Takes no memory.
+/// Precondition: the rectangle has a column, and its columns end inside the table;
+/// [`crate::fits::spans_fit`] and [`crate::fits::spans_fit_columns`] test it for each place in the
+/// table. Allocates nothing.
 ///
-/// It is for who works out single rectangles; the tests of a whole table ask it of all.
+/// For callers who work out single rectangles; the tests of a whole table test all of them.
 pub fn rect_width<A: Allocator, D: Dimension>(
     config: &SpannedConfig<A>,
     dimension: &D,
@@ -30,9 +31,9 @@ pub fn rect_width<A: Allocator, D: Dimension>(
     width_of_columns(config, dimension, pos, config.rect_columns(pos), columns)
 }
 
-/// What [`rect_width`] answers, for a rectangle of which it is known how many columns it has: `count`
-/// ([`SpannedConfig::rect_size`] tells columns and rows by one search). It has a column, and its
-/// columns end inside the table, as [`rect_width`] asks: [`crate::fits::spans_fit`] tells it.
+/// The same as [`rect_width`], for a rectangle that is known to have `count` columns
+/// ([`SpannedConfig::rect_size`] finds columns and rows by one search). Its precondition is that of
+/// [`rect_width`]; [`crate::fits::spans_fit`] tests it.
 pub fn width_of_columns<A: Allocator, D: Dimension>(
     config: &SpannedConfig<A>,
     dimension: &D,
@@ -55,12 +56,12 @@ pub fn width_of_columns<A: Allocator, D: Dimension>(
 }
 
 /// How many lines the rectangle of a place has in each table that it ends in: those of its rows and
-/// the separators between them. None where that or the rectangle's end passes `usize::MAX`.
+/// the separators between them. `None` if that or the rectangle's end exceeds `usize::MAX`.
 ///
-/// The rectangle has a row: [`crate::fits::spans_fit`] and [`crate::fits::spans_fit_columns`] tell
-/// it. Takes no memory.
+/// Precondition: the rectangle has a row; [`crate::fits::spans_fit`] and
+/// [`crate::fits::spans_fit_columns`] test it. Allocates nothing.
 ///
-/// It is for who works out single rectangles; the tests of a whole table ask it of all.
+/// For callers who work out single rectangles; the tests of a whole table test all of them.
 pub fn rect_height<A: Allocator, D: Dimension>(
     config: &SpannedConfig<A>,
     dimension: &D,
@@ -72,9 +73,9 @@ pub fn rect_height<A: Allocator, D: Dimension>(
     height_of_rows(config, dimension, pos, config.rect_rows(pos))
 }
 
-/// What [`rect_height`] answers, for a rectangle of which it is known how many rows it has: `count`
-/// ([`SpannedConfig::rect_size`]). It has a row, as [`rect_height`] asks: [`crate::fits::spans_fit`]
-/// tells it.
+/// The same as [`rect_height`], for a rectangle that is known to have `count` rows
+/// ([`SpannedConfig::rect_size`]). Its precondition is that of [`rect_height`];
+/// [`crate::fits::spans_fit`] tests it.
 pub fn height_of_rows<A: Allocator, D: Dimension>(
     config: &SpannedConfig<A>,
     dimension: &D,

@@ -20,7 +20,7 @@ fn inner_width(padding: &Sides<Indent>, width: usize) -> Option<usize>
         .checked_sub(padding.right.size)
 }
 
-// What a text is known to be. It is read for that where its lines aren't trimmed, as most aren't.
+// What is known of a text. It is read for that if its lines aren't trimmed, as most aren't.
 #[inline(always)]
 fn kind_of(text: &str, trim: bool) -> TextKind
     ensures kind { IsOfKind result text.now }
@@ -33,8 +33,8 @@ fn kind_of(text: &str, trim: bool) -> TextKind
     }
 }
 
-// How many columns the widest line of a text takes, as `text_width` tells. It is told without a call
-// where the text is plain, as most are.
+// How many columns the widest line of a text takes, like `text_width`, but without a call if the
+// text is plain, as most are.
 #[inline(always)]
 fn width_of_text(text: &str, trim: bool, kind: TextKind) -> usize
     requires kind { IsOfKind kind text.now }
@@ -83,7 +83,7 @@ fn kind_with_room(
 /// Whether a cell of so many columns and lines has room for its side paddings beside its widest
 /// line, and for its top padding. A cell of height 0 needs none, and its text isn't read.
 ///
-/// Takes no memory.
+/// Allocates nothing.
 #[tactic(auto, unfolding(pg_config::specs::Cells::style_at))]
 pub fn cell_fits<A: Allocator>(
     text: &str,
@@ -99,9 +99,9 @@ pub fn cell_fits<A: Allocator>(
     kind_with_room(text, &padding, trim, width, height).is_some()
 }
 
-/// The kind of a text for which a cell of so many columns and lines has room in this style, as
-/// [`cell_fits`] says it of a place; nothing where it has none. A text is taken for any where its lines
-/// are trimmed, or the cell has none.
+/// The kind of a text for which a cell of so many columns and lines has room in this style
+/// ([`cell_fits`]); nothing if it has none. A text counts as any if its lines are trimmed, or the
+/// cell has no line.
 #[inline(always)]
 pub fn kind_if_fits<A: Allocator>(
     text: &str,

@@ -17,8 +17,7 @@ use std::alloc::Allocator;
 /// Whether every rectangle of a cell with a span has at least one row and one column, ends inside
 /// a table of so many rows and columns, and shares no place with another one.
 ///
-/// It asks for a search in each column that a rectangle has and in which one begins. Takes no
-/// memory.
+/// It searches once in each column of a rectangle in which another one begins. Allocates nothing.
 #[tactic(auto, unfolding(crate::specs::Fits::spans_fit))]
 pub fn spans_fit<A: Allocator>(config: &SpannedConfig<A>, rows: usize, columns: usize) -> bool
     ensures { result ≡ spans_fit config.now.spans rows columns }
@@ -27,8 +26,8 @@ pub fn spans_fit<A: Allocator>(config: &SpannedConfig<A>, rows: usize, columns: 
     all_fit(spans, rows, columns) && all_apart(spans)
 }
 
-/// Whether every rectangle of a cell with a span has at least one row and one column, ends within so
-/// many columns, and shares no place with another one. Takes no memory.
+/// Whether every rectangle of a cell with a span has at least one row and one column, ends within
+/// so many columns, and shares no place with another one. Allocates nothing.
 #[tactic(auto, unfolding(crate::specs::Fits::spans_fit_columns))]
 pub fn spans_fit_columns<A: Allocator>(config: &SpannedConfig<A>, columns: usize) -> bool
     ensures { result ≡ spans_fit_columns config.now.spans columns }
@@ -49,7 +48,7 @@ fn all_fit_columns<A: Allocator>(spans: &Spans<A>, columns: usize) -> bool
     spans.iter().all(|(corner, size)| span_fits_columns((*corner, *size), columns))
 }
 
-// Ends of rectangles may pass the greatest number, so they aren't computed.
+// Ends of rectangles may exceed `usize::MAX`, so they aren't computed.
 fn span_fits(span: Span, rows: usize, columns: usize) -> bool
     ensures { result ≡ span_fits rows columns span }
 {
@@ -160,8 +159,8 @@ fn is_apart_at<A: Allocator>(span: Span, spans: &Spans<A>, column: usize) -> boo
     }
 }
 
-// The place of the column below the end of the rectangle; where its row is past the greatest number,
-// the first one of the next column.
+// The place of the column below the end of the rectangle; if its row exceeds `usize::MAX`, the
+// first one of the next column.
 fn place_below(span: Span, column: usize) -> Position
     requires { column + 1 < 2 ^ 64 }
     ensures above { span.0.row + span.1.rows < 2 ^ 64 → result ≡ at (span.0.row + span.1.rows) column }
@@ -173,10 +172,10 @@ fn place_below(span: Span, column: usize) -> Position
     }
 }
 
-/// How many columns the rectangle has that a search found ([`SpannedConfig::left_span`]), and a cell
-/// where it found none.
+/// How many columns the rectangle has that a search found ([`SpannedConfig::left_span`]); 1 if it
+/// found none.
 ///
-/// Takes no memory.
+/// Allocates nothing.
 pub fn columns_of(span: Option<Span>) -> usize
     ensures { result ≡ columns_or_one span }
 {
@@ -188,7 +187,7 @@ pub fn columns_of(span: Option<Span>) -> usize
 
 /// Whether a search found a rectangle that begins above a row.
 ///
-/// Takes no memory.
+/// Allocates nothing.
 pub fn begins_above(span: Option<Span>, row: usize) -> bool
     ensures { result ≡ is_some (if_above row span) }
 {

@@ -17,7 +17,7 @@ use std::alloc::Allocator;
 /// these before the room of its cells, and the cells row by row. A table with no rows or no columns
 /// fits.
 ///
-/// Takes no memory. Colours don't matter.
+/// Allocates nothing. Colours don't matter.
 #[tactic(auto, unfolding(crate::specs::Fits::misfit_of))]
 pub fn table_fits<R, A, D>(
     records: &R,

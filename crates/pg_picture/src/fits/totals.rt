@@ -10,7 +10,7 @@ use pg_config::SpannedConfig;
 use pg_layout::Dimension;
 use std::alloc::Allocator;
 
-/// The sum of the widths of so many columns from a first one on, or None where it passes
+/// The sum of the widths of so many columns from a first one on, or `None` if it exceeds
 /// `usize::MAX`.
 pub(crate) fn sum_widths<D: Dimension>(dimension: &D, first: usize, count: usize) -> Option<usize>
     requires { first + count ≤ usize.MAX }
@@ -23,7 +23,7 @@ pub(crate) fn sum_widths<D: Dimension>(dimension: &D, first: usize, count: usize
     Some(sum)
 }
 
-/// The sum of the heights of so many rows from a first one on, or None where it passes
+/// The sum of the heights of so many rows from a first one on, or `None` if it exceeds
 /// `usize::MAX`.
 pub(crate) fn sum_heights<D: Dimension>(dimension: &D, first: usize, count: usize) -> Option<usize>
     requires { first + count ≤ usize.MAX }
@@ -42,11 +42,10 @@ pub(crate) fn plus(sum: Option<usize>, more: usize) -> Option<usize>
     sum?.checked_add(more)
 }
 
-/// How many terminal columns a line of the table has, its side margins among them, or None where
-/// they pass `usize::MAX`.
+/// How many terminal columns a line of the table has, including its side margins, or `None` if they
+/// exceed `usize::MAX`.
 ///
-/// The columns are fewer than `usize::MAX`: a comparison tells it, and where [`totals_fit`] holds
-/// they are.
+/// Precondition: there are fewer than `usize::MAX` columns, as there are if [`totals_fit`] holds.
 pub fn full_width<A: Allocator, D: Dimension>(
     config: &SpannedConfig<A>,
     dimension: &D,
@@ -63,10 +62,9 @@ pub fn full_width<A: Allocator, D: Dimension>(
     plus(plus(columns, margin.left.size), margin.right.size)
 }
 
-/// How many lines the body of the table has, or None where they pass `usize::MAX`.
+/// How many lines the body of the table has, or `None` if they exceed `usize::MAX`.
 ///
-/// The rows are fewer than `usize::MAX`: a comparison tells it, and where [`totals_fit`] holds they
-/// are.
+/// Precondition: there are fewer than `usize::MAX` rows, as there are if [`totals_fit`] holds.
 pub fn body_height<A: Allocator, D: Dimension>(
     config: &SpannedConfig<A>,
     dimension: &D,
@@ -82,9 +80,9 @@ pub fn body_height<A: Allocator, D: Dimension>(
 }
 
 /// Whether the rows and the columns can be counted, and the total width with the side margins and
-/// the number of lines of the body are numbers of 64 bits.
+/// the number of lines of the body are below 2^64.
 ///
-/// Takes no memory. Asks for sizes only while both counts are below `usize::MAX`.
+/// Allocates nothing. Reads sizes only while both counts are below `usize::MAX`.
 #[tactic(auto, unfolding(crate::specs::Fits::totals_fit, crate::specs::Fits::body_height, crate::specs::Table::full_width, crate::specs::Table::total_width))]
 pub fn totals_fit<A: Allocator, D: Dimension>(
     config: &SpannedConfig<A>,

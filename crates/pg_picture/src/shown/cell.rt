@@ -9,10 +9,10 @@ use pg_config::SpannedConfig;
 use pg_layout::{Formatting, Position, count_lines};
 use std::alloc::Allocator;
 
-/// How many lines of a text a cell shows that is high enough: all of them, and under vertical trim
+/// How many lines of a text a cell shows that is high enough: all of them, or under vertical trim
 /// those from the first to the last one that isn't blank.
 ///
-/// Takes no memory.
+/// Allocates nothing.
 pub fn count_shown_lines(text: &str, formatting: Formatting) -> usize
     ensures { result ≡ length (shown formatting text.now) }
 {
@@ -22,11 +22,11 @@ pub fn count_shown_lines(text: &str, formatting: Formatting) -> usize
     count_lines(text)
 }
 
-/// Whether a cell of so many lines shows each line of a text: they stand below the padding above
-/// them. The padding below them isn't looked at. A cell of height 0 shows a blank text under vertical
-/// trim, which has no line to show, and no other one.
+/// Whether a cell of so many lines shows each line of a text below its top padding. Its bottom
+/// padding doesn't count. A cell of height 0 shows a blank text under vertical trim, which has no
+/// line to show, and no other text.
 ///
-/// Takes no memory.
+/// Allocates nothing.
 pub fn cell_shows_all<A: Allocator>(
     text: &str,
     config: &SpannedConfig<A>,

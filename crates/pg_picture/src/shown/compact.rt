@@ -12,11 +12,11 @@ use crate::shown::Unshown;
 use pg_config::CompactConfig;
 use pg_layout::{Dimension, ExactRecords, PeekableRecords, Position, Records};
 
-/// Whether a compact table of these records fits, and shows each line of its texts: its misfit
-/// ([`compact_fits`]), and in a table that fits the first cell whose text has more lines than one, row
-/// by row. A table with no rows or no columns shows all.
+/// Whether a compact table of these records fits, and shows each line of its texts. The error is
+/// its misfit ([`compact_fits`]), else the first cell, row by row, whose text has more than one
+/// line. A table with no rows or no columns shows all.
 ///
-/// Takes no memory.
+/// Allocates nothing.
 #[tactic(auto, unfolding(crate::specs::Shown::compact_unshown_of))]
 pub fn compact_shows_all<R, D>(
     records: &R,

@@ -12,11 +12,11 @@ use pg_config::SpannedConfig;
 use pg_layout::{Dimension, ExactRecords, PeekableRecords, Position, Records};
 use std::alloc::Allocator;
 
-/// Whether a table of these records fits, and shows each line of its texts: the first of its misfits
-/// ([`crate::fits::table_fits`]), and in a table that fits the first cell of which some line isn't
-/// shown, row by row. A table with no rows or no columns shows all.
+/// Whether a table of these records fits, and shows each line of its texts. The error is its first
+/// misfit ([`crate::fits::table_fits`]), else the first cell, row by row, that doesn't show some
+/// line. A table with no rows or no columns shows all.
 ///
-/// Takes no memory. Colours don't matter.
+/// Allocates nothing. Colours don't matter.
 #[tactic(auto, unfolding(crate::specs::Shown::unshown_of))]
 pub fn table_shows_all<R, A, D>(
     records: &R,

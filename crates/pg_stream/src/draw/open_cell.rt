@@ -18,12 +18,12 @@ pub(crate) struct OpenCell<S: AsStr> {
     drawn: usize,
     width: usize,
     place: CellPlace,
-    // Stands at the line of the text that is shown next, if there is one.
+    // At the line of the text that is shown next, if there is one.
     cursor: LineCursor,
 }
 
-// Written out, so that it is proved here, once for all texts, and not by each program that lets open
-// cells go.
+// Written out, so that it is proved here, once for all texts, and not by each program that drops
+// open cells.
 impl<S: AsStr + Drop> Drop for OpenCell<S> {
     fn drop(self) {
         let OpenCell {

@@ -9,8 +9,8 @@ use std::alloc::{AllocError, Allocator, Global};
 use std::convert::AsStr;
 use std::marker::Model;
 
-/// The cells that are open between two rows: each begins above and goes on below, and stands at its
-/// left column. So there is at most one for each column.
+/// The cells that are open between two rows: each begins above and continues below, at its left
+/// column. So there is at most one for each column.
 #[derive(Drop)]
 pub struct OpenCells<S: AsStr, A: Allocator = Global> {
     slots: Vec<Option<OpenCell<S>>, A>,

@@ -97,8 +97,8 @@ where
         self.table.pen.push_line_end(buf, index)
     }
 
-    // Where the separators above all rows but the first are equal, one is drawn, and the others are copies
-    // of it.
+    // If the separators above all rows but the first are equal, one is drawn, and the others are
+    // copies of it.
     #[inline(never)]
     fn push_kept_separator<W: Allocator>(
         &self,

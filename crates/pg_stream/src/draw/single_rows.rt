@@ -42,7 +42,7 @@ where
         self.pen.push_line_end(buf, index)
     }
 
-    // Out of line, so that what is round the cells stands in the loop over the rows.
+    // Out of line, so that what is round the cells is in the loop over the rows.
     #[inline(never)]
     fn push_single_cells<S: AsStr + Drop, I: Iterator<Item = S>, W: Allocator>(
         self,

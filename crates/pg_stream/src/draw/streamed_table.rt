@@ -1,4 +1,4 @@
-//! A table that is printed: what all functions are handed that draw a part of it.
+//! A table that is printed: what all functions take that draw a part of it.
 
 ghost use Rattle.std.specs.Prelude.{◌≡◌, ⊤};
 ghost use Rattle.pg_config.specs.Spans.{rect_rows, rect_columns};

@@ -1,4 +1,4 @@
-//! What becomes of the open cells in one row: its cells begin, and those that end with it leave.
+//! What happens to the open cells in one row: its cells begin, and those that end with it leave.
 
 ghost use Rattle.std.specs.Prelude.{◌≡◌, ◌+◌, ◌<◌, ◌≤◌, ◌^◌, ◌&&◌, ℕ, List, not, nat_lt, true, length, is_some, max, slice_index_or, slice_set, IfSome, None};
 ghost use Rattle.std.specs.Iterator.{IsFinite};

@@ -23,13 +23,14 @@ impl<'a, S: AsStr + Drop, D: Dimension, C: Colors, B: Allocator, A: Allocator> R
     B,
     A,
 > {
-    /// Prints a row and all behind it, and ends the table: what `row` and `finish` append, one after
-    /// another. A row is printed when the next one was asked for, which tells whether it is the last.
+    /// Prints a row and all rows after it, and ends the table: what `row` and `finish` append, one
+    /// after another. A row is printed after the next one was requested, which shows whether it is
+    /// the last.
     ///
-    /// Each row fits behind those before it, as `row` asks (`RowsFit`), and the iterators of the rows
-    /// and of their cells may be asked, and end. [`RowStream::print_all`] tests each row, and
-    /// [`RowStream::print_vec`] asks nothing at all. Separators between rows that are equal are drawn
-    /// once and copied. Takes no memory but the buffer's.
+    /// Preconditions: each row fits below those before it (`RowsFit`), and the iterators of the
+    /// rows and of their cells can be run to their ends. [`RowStream::print_all`] tests each row,
+    /// and [`RowStream::print_vec`] has no precondition. Equal separators between rows are drawn
+    /// once and copied. Allocates only for the buffer.
     ///
     /// [`RowStream::print_all`]: crate::RowStream::print_all
     /// [`RowStream::print_vec`]: crate::RowStream::print_vec

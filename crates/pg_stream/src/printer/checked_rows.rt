@@ -1,4 +1,4 @@
-//! A printer and its rows, tested by the calls themselves.
+//! A printer and its rows, which the calls test themselves.
 
 ghost use Rattle.std.specs.Prelude.{◌≡◌, ◌≢◌, ◌++◌, ◌↔◌, map, Some, Err, IfOk, string_bytes};
 ghost use Rattle.pg_picture.specs.Appending.{Appends, GainedBeginning};
@@ -24,8 +24,8 @@ impl<'a, S: AsStr + Drop, D: Dimension, C: Colors, B: Allocator, A: Allocator> R
     B,
     A,
 > {
-    /// A printer before its first row, as [`RowPrinter::new`] makes it, where its condition holds
-    /// ([`printer_fits`]); else `StreamFault::Misfit` says what doesn't fit.
+    /// A printer before its first row, like that of [`RowPrinter::new`], if its precondition holds
+    /// ([`printer_fits`]); else `StreamFault::Misfit` with what doesn't fit.
     ///
     /// [`printer_fits`]: crate::printer_fits
     #[tactic(auto, unfolding(crate::specs::Printing::printer))]
@@ -46,7 +46,7 @@ impl<'a, S: AsStr + Drop, D: Dimension, C: Colors, B: Allocator, A: Allocator> R
         Ok(RowPrinter::new(alloc, config, dimension, colors, columns, hint)?)
     }
 
-    /// Prints the next row, of these cells, as [`RowPrinter::row`] does, under the condition that
+    /// Prints the next row, of these cells, like [`RowPrinter::row`], under the precondition that
     /// [`RowPrinter::fits`] tests.
     ///
     /// ```rust
@@ -69,10 +69,11 @@ impl<'a, S: AsStr + Drop, D: Dimension, C: Colors, B: Allocator, A: Allocator> R
         self.row(cells.into_iter(), is_last, buf)
     }
 
-    /// Prints the next row, if it fits ([`RowPrinter::fits`]). Else the printer comes back as it was,
-    /// and nothing is appended; `is_last` may then be told anew, or other cells.
+    /// Prints the next row, if it fits ([`RowPrinter::fits`]). Else it returns the unchanged
+    /// printer, and appends nothing; then call it with another `is_last` or other cells.
     ///
-    /// Where memory is refused, the printer is gone, and the buffer holds a beginning of the row's text.
+    /// If memory is refused, the printer is gone, and the buffer has gained a beginning of the
+    /// row's text.
     pub fn try_row<V: Allocator, W: Allocator>(
         self,
         cells: Vec<S, V>,

@@ -1,4 +1,4 @@
-//! Whether a printer of rows may be made.
+//! Whether a printer of rows can be made.
 
 ghost use Rattle.std.specs.Prelude.{◌≡◌, ◌↔◌, IsOk};
 ghost use Rattle.pg_picture.specs.Sizes.{unless_misfit};
@@ -10,13 +10,14 @@ use pg_layout::{Colors, Dimension};
 use pg_picture::fits::{Misfit, full_width, spans_fit, spans_fit_columns, totals_fit};
 use std::alloc::Allocator;
 
-/// Whether a printer may be made of these parts: the condition of [`RowPrinter::new`], as a test.
+/// Whether a printer can be made of these parts: the precondition of [`RowPrinter::new`], as a
+/// test.
 ///
-/// `Totals` says that there is no column, or that the columns, their total width or, where the number
-/// of rows is known, a total of the whole table can't be counted; `Spans` that a rectangle is empty,
-/// shares a place with another, or leaves the columns or the rows that are known. Where several of
-/// these don't fit, the first of them is answered: the columns, their spans, their width, the spans of
-/// the whole table, its totals. Colours don't matter. Takes no memory.
+/// `Totals` means that there is no column, or that the columns, their total width or, if the number
+/// of rows is known, a total of the whole table can't be counted; `Spans` that a rectangle is
+/// empty, shares a place with another, or leaves the columns or the known rows. The first of these
+/// is returned: the columns, their spans, their width, the spans of the whole table, its totals.
+/// Colours don't matter. Allocates nothing.
 ///
 /// [`RowPrinter::new`]: crate::RowPrinter::new
 pub fn printer_fits<B: Allocator, D: Dimension, C: Colors>(

@@ -1,4 +1,4 @@
-//! What a printer was told: the table's configuration, its sizes and its colours.
+//! What a printer is made of: the table's configuration, its sizes and its colours.
 
 ghost use Rattle.std.specs.Prelude.{◌↔◌, IsTrue};
 ghost use Rattle.pg_stream.specs.Inside.SingleRows.{IsSingle};
@@ -7,11 +7,11 @@ use pg_layout::{Colors, Dimension};
 use pg_picture::Sheet;
 use std::alloc::{Allocator, Global};
 
-/// What a table printed row by row is told before its rows come.
+/// What is known of a table printed row by row before its rows come.
 #[derive(Drop)]
 pub(crate) struct Frame<'a, D, C, B: Allocator = Global> {
     pub(crate) sheet: Sheet<'a, D, C, B>,
-    /// How many rows the table has, where that is known.
+    /// How many rows the table has, if that is known.
     pub(crate) hint: Option<usize>,
 }
 

@@ -24,9 +24,9 @@ use std::marker::PhantomData;
 use std::slice::Iter;
 use std::vec::IntoIter;
 
-/// What a row changes of a printer: the cells that go on below, the text of the separators above all rows
-/// but the first, where that is kept, how many rows and lines of the body are printed, and whether the last
-/// row is among them.
+/// What a row changes of a printer: the cells that continue below, the text of the separators above
+/// all rows but the first, if it is kept, how many rows and lines of the body are printed, and
+/// whether the last row is among them.
 #[derive(Drop)]
 pub(crate) struct Progress<'k, S: AsStr, A: Allocator = Global> {
     pub(crate) cells: OpenCells<S, A>,
@@ -110,7 +110,8 @@ impl<S: AsStr + Drop, A: Allocator> Progress<'_, S, A> {
         Ok(())
     }
 
-    // Where the cells of a row are drawn as they come, they are only lent: then nothing of them is moved.
+    // If the cells of a row are drawn as they come, they are only lent: then nothing of them is
+    // moved.
     #[inline(always)]
     pub(crate) fn push_cells<'f, T, D, C, B, V, W>(
         &mut self,
@@ -249,8 +250,8 @@ impl<S: AsStr + Drop, A: Allocator> Progress<'_, S, A> {
     }
 }
 
-// Whether no line stands above the bottom margin: none of the top margin, of the rows, and of the
-// last separator.
+// Whether no line is above the bottom margin: none of the top margin, of the rows, or of the last
+// separator.
 fn is_bare(is_first: bool, lines: usize, has_last: bool) -> bool
     ensures { result ≡ ((is_first && (lines == 0)) && not has_last) }
 {

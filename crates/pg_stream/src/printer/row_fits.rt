@@ -1,4 +1,4 @@
-//! Whether a row may be printed next.
+//! Whether a row can be printed next.
 
 ghost use Rattle.std.specs.Prelude.{◌≡◌, ◌+◌, ◌^◌, ◌<◌, ◌≤◌, ◌↔◌, ◌-◌, ◌==◌, true, false, nat_lt, [], map, length, is_some, IfSome, IsSome, IsTrue};
 ghost use Rattle.pg_layout.specs.Position.{is_at};
@@ -32,12 +32,12 @@ impl<'a, S: AsStr, D: Dimension, C: Colors, B: Allocator, A: Allocator> RowPrint
     B,
     A,
 > {
-    /// Whether these cells may be printed as the next row, as the last one or not: the condition of
-    /// [`RowPrinter::row`], as a test.
+    /// Whether these cells can be printed as the next row, as the last one or not: the precondition
+    /// of [`RowPrinter::row`], as a test.
     ///
     /// There is a cell for each column; no last row is printed, nor as many rows as are known, and
-    /// the row is told to be the last one where it is that; the spans end with a last row; each cell
-    /// that begins here has room for its text; and the lines can be counted. Takes no memory.
+    /// the row is declared the last if it is that; the spans end with a last row; each cell that
+    /// begins here has room for its text; and the lines can be counted. Allocates nothing.
     pub fn fits(&self, cells: &[S], is_last: bool) -> bool
         ensures { IsTrue result ↔ RowFits (printing D.width D.height C.color self.now) (map S.text cells.now) is_last }
     {
@@ -48,7 +48,7 @@ impl<'a, S: AsStr, D: Dimension, C: Colors, B: Allocator, A: Allocator> RowPrint
 }
 
 impl<S: AsStr, A: Allocator> Progress<'_, S, A> {
-    // Where the row fits, the kind of its texts: a row of plain ones is read but once.
+    // If the row fits, the kind of its texts: a row of plain ones is read only once.
     #[inline(always)]
     pub(crate) fn kind_if_fits<X, D, C, B>(
         &self,
@@ -115,7 +115,7 @@ fn ends_spans<B: Allocator>(
 impl<'a, D: Dimension, C: Colors, B: Allocator> Frame<'a, D, C, B> {
     ghost use Rattle.pg_picture.specs.Inside.Sheets.{bare_table};
 
-    // Where a cell spans others, no text is known to be plain.
+    // If a cell spans others, no text is known to be plain.
     #[inline(always)]
     fn kind_if_room<S: AsStr>(&self, row: usize, cells: &[S]) -> Option<TextKind>
         requires row { row + 1 < 2 ^ 64 }
@@ -133,7 +133,7 @@ impl<'a, D: Dimension, C: Colors, B: Allocator> Frame<'a, D, C, B> {
         None
     }
 
-    // Where no cell spans others, each is as wide as its column and as high as the row.
+    // If no cell spans others, each is as wide as its column and as high as the row.
     #[inline(always)]
     fn kind_if_room_alone<S: AsStr>(&self, row: usize, cells: &[S]) -> Option<TextKind>
         requires row { row + 1 < 2 ^ 64 }
@@ -162,7 +162,7 @@ impl<'a, D: Dimension, C: Colors, B: Allocator> Frame<'a, D, C, B> {
         requires spans { spans_fit_columns self.now.sheet.config.now.spans self.now.sheet.columns ≡ true }
         ensures { IsTrue result ↔ HaveRoom (bare_table D.width D.height C.color self.now.sheet) row (map S.text cells.now) }
     {
-        // Shows that the spans stand in order.
+        // Shows that the spans are in order.
         let _spans = self.sheet.config.spans();
         let mut column = 0;
         while column < self.sheet.columns {
@@ -183,7 +183,7 @@ impl<'a, D: Dimension, C: Colors, B: Allocator> Frame<'a, D, C, B> {
         requires span { span ≡ left_span self.now.sheet.config.now.spans pos.row pos.col }
         ensures { IsTrue result ↔ (is_at (owner self.now.sheet.config.now.spans pos.row pos.col) pos.row pos.col ≡ true → HasRoom (bare_table D.width D.height C.color self.now.sheet) pos text.now) }
     {
-        // Shows that the spans stand in order.
+        // Shows that the spans are in order.
         let _spans = self.sheet.config.spans();
         begins_above(span, pos.row) || self.has_room(text, pos)
     }
@@ -231,7 +231,7 @@ impl<'a, D: Dimension, C: Colors, B: Allocator> Frame<'a, D, C, B> {
         None
     }
 
-    // The separator is asked for only where the lines can't be counted without a doubt.
+    // The separator is looked up only if the lines might be too many to count.
     fn counts_lines(&self, row: usize, lines: usize) -> bool
         requires { row < usize.MAX }
         ensures { result ≡ nat_lt (lines + length (marks_of_row self.now.sheet.config.now (D.height self.now.sheet.dimension.now) row)) (2 ^ 64) }

@@ -24,12 +24,12 @@ use std::alloc::{AllocError, Allocator, Global};
 use std::convert::AsStr;
 use std::marker::{Brand, Model};
 
-/// Prints a table row by row, and keeps the cells that go on below the last printed row.
+/// Prints a table row by row, and keeps the cells that continue below the last printed row.
 ///
-/// Each call takes the printer and hands it back; after a refusal there is no printer, and the
-/// buffer holds a beginning of what the call appends.
+/// Each call takes the printer and returns it. After an error there is no printer, and the buffer
+/// has gained a beginning of what the call appends.
 ///
-/// Three rows of heights 1, 0 and 1 between ASCII borders, of which the first cell `x` spans all,
+/// Three rows of heights 1, 0 and 1 between ASCII borders. The first cell, `x`, spans all of them,
 /// beside the cells `a`, `b` and `c`:
 ///
 /// ```text
@@ -52,7 +52,7 @@ pub struct RowPrinter<
     pub(crate) progress: Progress<'a, S, A>,
 }
 
-// Written out, so that a caller's proof has one call where it lets a printer go.
+// Written out, so that a caller's proof has one call when it drops a printer.
 impl<'a, S: AsStr + Drop, D: Dimension, C: Colors, B: Allocator, A: Allocator> Drop
     for RowPrinter<'a, S, D, C, B, A> {
     fn drop(self) {
@@ -82,14 +82,15 @@ impl<'a, S: AsStr + Drop, D: Dimension, C: Colors, B: Allocator, A: Allocator> R
     B,
     A,
 > {
-    /// A printer of a table of so many columns, before its first row. `hint` is the number of its rows,
-    /// where that is known: then margins that end before the last lines do so.
+    /// A printer of a table of so many columns, before its first row. `hint` is the number of its
+    /// rows, if that is known: then side margins with an offset from the end have it.
     ///
-    /// The table has a column at least; its rectangles have a size, end inside the columns and share no
-    /// place (`pg_picture::fits::spans_fit_columns`); its total width is a number; and where the number
-    /// of rows is known, its rectangles and totals fit it (`pg_picture::fits::spans_fit`,
-    /// `pg_picture::fits::totals_fit`): [`crate::printer_fits`] tests it, and [`RowPrinter::try_new`]
-    /// needs no test before it. An error comes only where no memory is found.
+    /// Preconditions: the table has a column; its rectangles have a size, end inside the columns
+    /// and share no place (`pg_picture::fits::spans_fit_columns`); its total width is below 2^64;
+    /// and if the number of rows is known, its rectangles and totals fit it
+    /// (`pg_picture::fits::spans_fit`, `pg_picture::fits::totals_fit`). [`crate::printer_fits`]
+    /// tests them, and [`RowPrinter::try_new`] needs no test before it. The only error is out of
+    /// memory.
     pub fn new(
         alloc: A,
         config: &'a SpannedConfig<B>,
@@ -134,7 +135,7 @@ impl<'a, S: AsStr + Drop, D: Dimension, C: Colors, B: Allocator, A: Allocator> R
         self.progress.rows
     }
 
-    /// How many lines of the body are printed, margins not counted.
+    /// How many lines of the body are printed, without margins.
     pub fn lines(&self) -> usize
         ensures { result ≡ (printing D.width D.height C.color self.now).lines }
     {
@@ -148,29 +149,30 @@ impl<'a, S: AsStr + Drop, D: Dimension, C: Colors, B: Allocator, A: Allocator> R
         self.progress.is_ended
     }
 
-    /// The cells that go on below the printed rows.
+    /// The cells that continue below the printed rows.
     pub fn open_cells(&self) -> &OpenCells<S, A>
         ensures { slots_of result.now ≡ (printing D.width D.height C.color self.now).slots }
     {
         &self.progress.cells
     }
 
-    /// Prints the next row: the top margin above the first row, the separator above this one, where
-    /// it is there, and its lines, each after a line feed unless it is the picture's first line.
+    /// Prints the next row: the top margin above the first row, the separator above this one, if it
+    /// exists, and its lines, each after a line feed unless it is the picture's first line.
     ///
     /// `cells` gives the cells of the row, one for each column; those that cells from above or left
-    /// hold are let go. `is_last` tells whether it is the last row. The lines are those of the table
-    /// with as many rows as are known: those so far at a last row; else those of the hint; else those
-    /// that the open cells need, and one more row at least.
+    /// cover are dropped. `is_last` is whether it is the last row. The lines are those of the table
+    /// with as many rows as are known: at a last row those so far; else those of the hint; else
+    /// those that the open cells need, and at least one more row.
     ///
-    /// The row fits (`RowFits`, which [`RowPrinter::fits`] tests): it has as many cells as there are columns; no last row stands before
-    /// it, and fewer than `usize::MAX - 1` rows; where the number of rows is known, fewer than that
-    /// stand before it, and `is_last` holds exactly at the last; at a last row the rectangles fit the
-    /// rows so far (`pg_picture::fits::spans_fit`); each rectangle that begins in the row has sizes that
-    /// are numbers (`rect_width`, `rect_height`) and room for its text (`cell_fits`); and the lines so
-    /// far, with those of this row, are a number.
+    /// Precondition: the row fits (`RowFits`, which [`RowPrinter::fits`] tests). It has as many
+    /// cells as there are columns; there is no last row before it, and fewer than `usize::MAX - 1`
+    /// rows; if the number of rows is known, fewer than that are before it, and `is_last` holds
+    /// exactly at the last; at a last row the rectangles fit the rows so far
+    /// (`pg_picture::fits::spans_fit`); each rectangle that begins in the row has sizes below 2^64
+    /// (`rect_width`, `rect_height`) and room for its text (`cell_fits`); and the lines so far,
+    /// with those of this row, are below 2^64.
     ///
-    /// Takes no memory but the buffer's.
+    /// Allocates only for the buffer.
     #[inline(always)]
     pub fn row<I: Iterator<Item = S>, W: Allocator>(
         self,
@@ -192,14 +194,14 @@ impl<'a, S: AsStr + Drop, D: Dimension, C: Colors, B: Allocator, A: Allocator> R
         Ok(RowPrinter { frame, progress })
     }
 
-    /// Ends the table: the separator below the last row, where it is there, and the bottom margin, each
-    /// line after a line feed unless it is the picture's first line. Where no row was printed, the
-    /// buffer stays as it was.
+    /// Ends the table: the separator below the last row, if it exists, and the bottom margin, each
+    /// line after a line feed unless it is the picture's first line. If no row was printed, the
+    /// buffer is unchanged.
     ///
-    /// No row was printed, or the last one was: [`RowPrinter::rows`] answers 0, or
-    /// [`RowPrinter::is_ended`] that it was. [`RowStream::finish`] asks nothing.
+    /// Precondition: no row was printed, or the last one was. [`RowPrinter::rows`] and
+    /// [`RowPrinter::is_ended`] test it; [`RowStream::finish`] has no precondition.
     ///
-    /// Takes no memory but the buffer's.
+    /// Allocates only for the buffer.
     ///
     /// [`RowStream::finish`]: crate::RowStream::finish
     pub fn finish<W: Allocator>(self, buf: &mut String<W>) -> Result<(), AllocError>

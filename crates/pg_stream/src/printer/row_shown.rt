@@ -24,7 +24,7 @@ use std::convert::AsStr;
 pub enum RowUnshown {
     /// The row doesn't fit below those above it.
     Misfit,
-    /// The cell in this column isn't high enough for its lines below the padding above them.
+    /// The cell in this column isn't high enough for its lines below its top padding.
     Lines(usize),
 }
 
@@ -36,10 +36,10 @@ impl<'a, S: AsStr, D: Dimension, C: Colors, B: Allocator, A: Allocator> RowPrint
     B,
     A,
 > {
-    /// Whether these cells may be printed as the next row, as the last one or not, and each of their
-    /// lines is shown: else `Misfit` where [`RowPrinter::fits`] says no, and where it fits the first
-    /// column whose cell isn't high enough for its lines. A cell that goes on below counts its lines
-    /// there. Takes no memory.
+    /// Whether these cells can be printed as the next row, as the last one or not, and each of
+    /// their lines is shown. The error is `Misfit` if [`RowPrinter::fits`] returns false, else the
+    /// first column whose cell isn't high enough for its lines. A cell that continues below counts
+    /// its lines there. Allocates nothing.
     pub fn shows_all(&self, cells: &[S], is_last: bool) -> Result<(), RowUnshown>
         ensures misfit { (result ≡ Err RowUnshown.Misfit) ↔ ¬ (RowFits (printing D.width D.height C.color self.now) (map S.text cells.now) is_last) }
         ensures exact { RowFits (printing D.width D.height C.color self.now) (map S.text cells.now) is_last → result ≡ unless_in_row (unshown_in_row (printing D.width D.height C.color self.now).table (printing D.width D.height C.color self.now).rows (map S.text cells.now)) }
@@ -64,7 +64,7 @@ impl<'a, D: Dimension, C: Colors, B: Allocator> Frame<'a, D, C, B> {
         requires rooms { HaveRoom (bare_table D.width D.height C.color self.now.sheet) row (map S.text cells.now) }
         ensures { result ≡ unshown_in_row (bare_table D.width D.height C.color self.now.sheet) row (map S.text cells.now) }
     {
-        // Shows that the spans stand in order.
+        // Shows that the spans are in order.
         let _spans = self.sheet.config.spans();
         let mut column = 0;
         while column < self.sheet.columns {
@@ -85,7 +85,7 @@ impl<'a, D: Dimension, C: Colors, B: Allocator> Frame<'a, D, C, B> {
         requires room { is_at (owner self.now.sheet.config.now.spans pos.row pos.col) pos.row pos.col ≡ true → HasRoom (bare_table D.width D.height C.color self.now.sheet) pos text.now }
         ensures { result ≡ (not (is_at (owner self.now.sheet.config.now.spans pos.row pos.col) pos.row pos.col) || cell_shows_all (style_at self.now.sheet.config.now pos) text.now (height_of_rect self.now.sheet.config.now (D.height self.now.sheet.dimension.now) pos)) }
     {
-        // Shows that the spans stand in order.
+        // Shows that the spans are in order.
         let _spans = self.sheet.config.spans();
         begins_above(span, pos.row) || self.shows_all(text, pos)
     }
@@ -102,7 +102,7 @@ impl<'a, D: Dimension, C: Colors, B: Allocator> Frame<'a, D, C, B> {
             self.sheet.config.rect_rows(pos),
         ) {
             Some(height) => cell_shows_all(text, self.sheet.config, pos, height),
-            // A cell that has room has a height that is a number.
+            // A cell with room has a height below 2^64.
             None => false,
         }
     }

@@ -1,4 +1,4 @@
-//! The end of a table behind rows of which none was told to be the last.
+//! The end of a table none of whose rows was declared the last.
 
 ghost use Rattle.std.specs.Prelude.{◌≡◌, ◌↔◌, ◌<◌, true, IfSome, IsOk, IsTrue};
 ghost use Rattle.pg_picture.specs.Fits.{spans_fit};
@@ -24,12 +24,12 @@ impl<'a, S: AsStr + Drop, D: Dimension, C: Colors, B: Allocator, A: Allocator> R
     B,
     A,
 > {
-    /// Ends the table behind the rows so far, as [`RowPrinter::finish`] does, also where none of them was
-    /// told to be the last.
+    /// Ends the table after the rows so far, like [`RowPrinter::finish`], even if none of them was
+    /// declared the last.
     ///
-    /// `StreamFault::Open` says that a rectangle goes on below them, or that more rows are known; then
-    /// nothing is appended. Where memory is refused, a beginning of the table's end is. Where no row was
-    /// printed, the buffer stays as it was.
+    /// `StreamFault::Open` means that a rectangle continues below them, or that more rows are
+    /// known; then nothing is appended. If memory is refused, a beginning of the table's end is
+    /// appended. If no row was printed, the buffer is unchanged.
     pub fn close<W: Allocator>(self, buf: &mut String<W>) -> Result<(), StreamFault>
         ensures ends { AppendsEnd (printing D.width D.height C.color self.entry) buf.old buf.new result }
         ensures empty { (printing D.width D.height C.color self.entry).rows ≡ 0 → IsOk result × (buf.new ≡ buf.old) }

@@ -17,8 +17,8 @@ use pg_picture::{SEPARATOR_ROOM, SeparatorKeeper, TableMarker};
 use std::alloc::{Allocator, Global};
 use std::convert::AsStr;
 
-/// What a row changes of a stream: how far it is printed, and the row that is held until the next one is
-/// there.
+/// What a row changes of a stream: how far it has printed, and the row that is held until the next
+/// one comes.
 #[derive(Drop)]
 pub(crate) struct HeldRows<'k, S: AsStr, A: Allocator = Global, V: Allocator = Global> {
     pub(crate) progress: Progress<'k, S, A>,

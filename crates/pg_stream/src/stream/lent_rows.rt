@@ -1,4 +1,5 @@
-//! Rows of one line in a table without spans: no cell of them goes on below, so their texts may be lent.
+//! Rows of one line in a table without spans: none of their cells continues below, so their texts
+//! can be lent.
 
 ghost use Rattle.std.specs.Prelude.{◌≡◌, ◌↔◌, ◌++◌, ℕ, List, true, false, map, IfSome, IsSome, OnOk, Err, string_bytes};
 ghost use Rattle.std.specs.Iterator.{IsFinite};
@@ -34,11 +35,12 @@ impl<'a, S: AsStr + Drop, D: Dimension, C: Colors, B: Allocator, A: Allocator> L
     B,
     A,
 > {
-    /// Prints a row whose cells are lent for this call: they need no vector, and needn't live as long as the
-    /// stream.
+    /// Prints a row whose cells are lent for this call: they need no vector, and needn't live as
+    /// long as the stream.
     ///
-    /// A row may be lent where no cell of the table spans others, and the row has one line. `StreamFault::Row`
-    /// also tells the number of one that may not. Else it answers as [`LiveStream::push`] does.
+    /// A row can be lent if no cell of the table spans others, and the row has one line. For any
+    /// other row the error is also `StreamFault::Row` with its number. Otherwise it is like
+    /// [`LiveStream::push`].
     #[inline(always)]
     pub fn push_lent<X: AsStr, W: Allocator>(
         &mut self,

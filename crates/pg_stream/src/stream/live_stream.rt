@@ -1,4 +1,4 @@
-//! A table whose rows are shown at once, and whose end is told behind the last one.
+//! A table whose rows are shown at once, and whose end comes after the last one.
 
 ghost use Rattle.std.specs.Prelude.{◌≡◌, ◌↔◌, ◌++◌, ℕ, true, false, map, Some, None, IfOk, IsOk, OnOk, Err, string_bytes};
 ghost use Rattle.pg_picture.specs.declared.fits.Misfit.{Misfit};
@@ -16,17 +16,17 @@ use std::alloc::{Allocator, Global};
 use std::convert::AsStr;
 use std::marker::{Brand, Model};
 
-/// Prints a table whose rows come one at a time, each when it is pushed: none is held until the next one
-/// is there.
+/// Prints a table whose rows come one at a time, each when it is pushed: none is held until the
+/// next one comes.
 ///
-/// It isn't told how many rows there are, so margins that end before the last lines are whole, and a
-/// row looks the same whether it is the last one or not. The last separator and the bottom margin are
-/// drawn when the stream is ended, behind any row with which all rectangles end.
+/// The number of rows isn't known, so side margins with an offset from the end are whole, and a row
+/// looks the same whether or not it is the last. The last separator and the bottom margin are drawn
+/// when the stream is finished, after any row with which all rectangles end.
 ///
-/// None of its calls asks that a row fits. A row that doesn't fit below those above it is named by its
-/// number (`StreamFault::Row`); then nothing is appended, and the stream is as it was. After want of
-/// memory a beginning of a row stands, and each further call answers `StreamFault::Memory` and appends
-/// nothing.
+/// None of its calls requires that a row fits. A row that doesn't fit below those above it is named
+/// by its number (`StreamFault::Row`); then nothing is appended, and the stream is unchanged. After
+/// out of memory a beginning of a row is appended, and each further call returns
+/// `StreamFault::Memory` and appends nothing.
 ///
 /// ```rust
 /// let mut stream = LiveStream::new(alloc, &config, &dimension, &NoColors, 2)?;
@@ -45,11 +45,12 @@ pub struct LiveStream<
 > {
     pub(crate) frame: Frame<'a, D, C, B>,
     pub(crate) progress: Progress<'a, S, A>,
-    /// Whether memory was refused in the midst of a row.
+    /// Whether memory was refused in the middle of a row.
     pub(crate) is_lost: bool,
 }
 
-// Written out, so that a caller's proof has one call where it lets a stream go, at each `?` behind `new`.
+// Written out, so that a caller's proof has one call when it drops a stream, at each `?` after
+// `new`.
 impl<'a, S: AsStr + Drop, D: Dimension, C: Colors, B: Allocator, A: Allocator> Drop
     for LiveStream<'a, S, D, C, B, A> {
     fn drop(self) {
@@ -87,7 +88,7 @@ impl<'a, S: AsStr + Drop, D: Dimension, C: Colors, B: Allocator, A: Allocator> L
 > {
     /// A stream of rows of so many columns, before its first row.
     ///
-    /// `StreamFault::Misfit` says what doesn't fit of what is told here ([`printer_fits`]).
+    /// `StreamFault::Misfit` says which of these parts don't fit ([`printer_fits`]).
     ///
     /// [`printer_fits`]: crate::printer_fits
     pub fn new(
@@ -117,8 +118,8 @@ impl<'a, S: AsStr + Drop, D: Dimension, C: Colors, B: Allocator, A: Allocator> L
 
     /// Prints a row.
     ///
-    /// `StreamFault::Row` tells its number, where it doesn't fit; then nothing is appended. Where memory
-    /// is refused, a beginning of its text is, and the stream is lost.
+    /// The error is `StreamFault::Row` with its number if it doesn't fit; then nothing is appended.
+    /// If memory is refused, a beginning of its text is appended, and the stream is lost.
     #[inline(always)]
     pub fn push<V: Allocator, W: Allocator>(
         &mut self,
@@ -145,11 +146,12 @@ impl<'a, S: AsStr + Drop, D: Dimension, C: Colors, B: Allocator, A: Allocator> L
         Ok(())
     }
 
-    /// Ends the table behind the rows so far: the separator below the last one, where it is there, and the
-    /// bottom margin. Where no row was printed, the buffer stays as it was.
+    /// Ends the table after the rows so far: the separator below the last one, if it exists, and
+    /// the bottom margin. If no row was printed, the buffer is unchanged.
     ///
-    /// `StreamFault::Open` says that a rectangle goes on below them; then nothing is appended. Where memory
-    /// is refused, a beginning of the table's end is, or nothing where the stream was lost already.
+    /// `StreamFault::Open` means that a rectangle continues below them; then nothing is appended.
+    /// If memory is refused, a beginning of the table's end is appended, or nothing if the stream
+    /// was lost before.
     pub fn finish<W: Allocator>(self, buf: &mut String<W>) -> Result<(), StreamFault>
         ensures ends { (living D.width D.height C.color self.entry).is_lost ≡ false → AppendsEnd (living D.width D.height C.color self.entry).printed buf.old buf.new result }
         ensures lost { (living D.width D.height C.color self.entry).is_lost ≡ true → (result ≡ Err StreamFault.Memory) × (buf.new ≡ buf.old) }

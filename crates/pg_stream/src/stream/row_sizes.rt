@@ -1,11 +1,11 @@
-//! Sizes of a table whose rows bring their heights: the widths are told, and of the heights that of one row.
+//! Sizes of a table whose rows bring their heights: the widths, and the height of one row.
 
 ghost use Rattle.pg_stream.specs.Inside.Sized.{height_in};
 
 use pg_layout::Dimension;
 
-/// The widths of a table's columns, the height of its next row, and how high the rows above are together:
-/// the first stands for all of them.
+/// The widths of a table's columns, the height of its next row, and the height of all rows above:
+/// the first row counts for all of them.
 #[derive(Drop)]
 pub(crate) struct RowSizes<'a, D> {
     pub(crate) widths: &'a D,

@@ -23,14 +23,14 @@ use std::convert::AsStr;
 use std::iter::IntoIterator;
 use std::marker::{Brand, Model};
 
-/// Prints a table whose rows come one at a time: it holds each row until the next one is there, which
-/// tells that it isn't the last.
+/// Prints a table whose rows come one at a time: it holds each row until the next one comes, which
+/// shows that it isn't the last.
 ///
-/// None of its calls asks that a row fits. A row that doesn't fit below those above it is named by its
-/// number (`StreamFault::Row`); the rows above it stand whole, and nothing of its own is appended. It
-/// is found when the row leaves, so when the next one is pushed, or at the end.
+/// None of its calls requires that a row fits. A row that doesn't fit below those above it is named
+/// by its number (`StreamFault::Row`); the rows above it are complete, and nothing of it is
+/// appended. It is found when the row is printed, so when the next one is pushed, or at the end.
 ///
-/// Each call takes the stream, and `push` hands it back; after a fault there is none.
+/// Each call takes the stream, and `push` returns it; after a fault there is none.
 ///
 /// ```rust
 /// let mut stream = RowStream::new(alloc, &config, &dimension, &NoColors, 2, None)?;
@@ -52,7 +52,7 @@ pub struct RowStream<
     rows: HeldRows<'a, S, A, V>,
 }
 
-// Written out, as that of a `LiveStream`.
+// Written out, like that of a `LiveStream`.
 impl<'a, S: AsStr + Drop, D: Dimension, C: Colors, B: Allocator, A: Allocator, V: Allocator> Drop
     for RowStream<'a, S, D, C, B, A, V> {
     fn drop(self) {
@@ -101,11 +101,11 @@ impl<
     A: Allocator,
     V: Allocator,
 > RowStream<'a, S, D, C, B, A, V> {
-    /// A stream of rows of so many columns, before its first row. `hint` is the number of rows, where
-    /// that is known: then margins that end before the last lines do so, and another number of rows
-    /// doesn't fit.
+    /// A stream of rows of so many columns, before its first row. `hint` is the number of rows, if
+    /// that is known: then side margins with an offset from the end have it, and another number of
+    /// rows doesn't fit.
     ///
-    /// `StreamFault::Misfit` says what doesn't fit of what is told here ([`printer_fits`]).
+    /// `StreamFault::Misfit` says which of these parts don't fit ([`printer_fits`]).
     ///
     /// [`printer_fits`]: crate::printer_fits
     pub fn new(
@@ -136,11 +136,11 @@ impl<
         }
     }
 
-    /// Holds a row, and prints the one that was held until now. At the first row none was, and the
-    /// buffer stays as it was.
+    /// Holds a row, and prints the one that was held until now. At the first row there was none,
+    /// and the buffer is unchanged.
     ///
-    /// `StreamFault::Row` names the row that was held, where that doesn't fit; then nothing is
-    /// appended. Where memory is refused, a beginning of its text is.
+    /// `StreamFault::Row` names the row that was held, if that doesn't fit; then nothing is
+    /// appended. If memory is refused, a beginning of its text is appended.
     #[inline(always)]
     pub fn push<W: Allocator>(
         self,
@@ -157,14 +157,14 @@ impl<
         Ok(RowStream { frame, rows })
     }
 
-    /// Holds a row whose cells anything gives that can be iterated over, as an array or the parts of a
-    /// line, and prints the one that was held until now.
+    /// Holds a row whose cells anything gives that can be iterated over, such as an array or the
+    /// parts of a line, and prints the one that was held until now.
     ///
-    /// The cells stand in a vector of this allocator. Where that finds no memory, nothing is appended,
-    /// and the row that was held isn't tested. Else it answers as [`RowStream::push`] does.
+    /// The cells are put in a vector of this allocator. If memory for that is refused, nothing is
+    /// appended, and the row that was held isn't tested. Otherwise it is like [`RowStream::push`].
     ///
-    /// The iterator of the cells may be asked, and ends: those over arrays, vectors and parts of a text
-    /// do. [`RowStream::push`] asks nothing.
+    /// Precondition: the iterator of the cells can be run to its end. Those over arrays, vectors
+    /// and parts of a text can. [`RowStream::push`] has no precondition.
     ///
     /// ```rust
     /// stream = stream.push_from(alloc, line.split(','), &mut buf)?;
@@ -191,11 +191,11 @@ impl<
         self.push(cells, buf)
     }
 
-    /// Prints the row that is held as the last one, and ends the table. Where no row was pushed, the
-    /// buffer stays as it was.
+    /// Prints the held row as the last one, and ends the table. If no row was pushed, the buffer is
+    /// unchanged.
     ///
-    /// `StreamFault::Row` names the row that was held, where that doesn't fit as the last one; then
-    /// nothing is appended. Where memory is refused, a beginning of its text and the table's end is.
+    /// `StreamFault::Row` names the held row, if it doesn't fit as the last one; then nothing is
+    /// appended. If memory is refused, a beginning of its text and the table's end is appended.
     pub fn finish<W: Allocator>(self, buf: &mut String<W>) -> Result<(), StreamFault>
         ensures appends { OnOk result (string_bytes buf.new ≡ string_bytes buf.old ++ rows_text (streaming D.width D.height C.color self.entry).before (rows_left (streaming D.width D.height C.color self.entry) [])) }
         ensures prints { PrintsRows (streaming D.width D.height C.color self.entry).before (rows_left (streaming D.width D.height C.color self.entry) []) buf.old buf.new result }
@@ -207,13 +207,13 @@ impl<
 
     /// Pushes all rows that an iterator gives, and ends the table.
     ///
-    /// It stops at the first row that doesn't fit: the rows above that one stand whole, and it is named
-    /// by its number (`StreamFault::Row`). Where memory is refused, a beginning of their text stands, or
-    /// of that of all rows where all fit. So it is whatever the iterator gives, also where that isn't
-    /// known before. Of no rows at all the buffer stays as it was.
+    /// It stops at the first row that doesn't fit: the rows above it are complete, and it is named
+    /// by its number (`StreamFault::Row`). If memory is refused, a beginning of their text is
+    /// appended, or of that of all rows if all fit. That holds whatever the iterator gives, even if
+    /// it isn't known beforehand. Without rows the buffer is unchanged.
     ///
-    /// The iterator may be asked, and ends: those over arrays and vectors do. [`RowStream::print_vec`]
-    /// asks nothing.
+    /// Precondition: the iterator can be run to its end. Those over arrays and vectors can.
+    /// [`RowStream::print_vec`] has no precondition.
     ///
     /// ```rust
     /// stream.print_all(rows.into_iter().filter(|row| row.len() == 2), &mut buf)?;
@@ -236,7 +236,7 @@ impl<
         pushed.push_all::<Brand, D, C, B, I, W>(&frame, rows, buf)
     }
 
-    /// Pushes all rows of a vector, and ends the table, as [`RowStream::print_all`] does.
+    /// Pushes all rows of a vector, and ends the table, like [`RowStream::print_all`].
     pub fn print_vec<U: Allocator, W: Allocator>(
         self,
         rows: Vec<Vec<S, V>, U>,
@@ -249,14 +249,16 @@ impl<
         self.print_all(rows.into_iter(), buf)
     }
 
-    /// Pushes the rows before the first error that an iterator gives, and ends the table if there is
-    /// none. It stops at a row that doesn't fit as [`RowStream::print_all`] does (`RowsFault::Stream`).
+    /// Pushes the rows before the first error that an iterator gives, and ends the table if there
+    /// is none. It stops at a row that doesn't fit, like [`RowStream::print_all`]
+    /// (`RowsFault::Stream`).
     ///
-    /// At an error it answers `RowsFault::Source`. The rows before it stand whole, but for the latest:
-    /// it isn't known whether that is the last, so it is neither tested nor printed.
+    /// At an error it returns `RowsFault::Source`. The rows before it are complete, except for the
+    /// latest: it isn't known whether that is the last, so it is neither tested nor printed.
     ///
-    /// The iterator may be asked, and ends: those over arrays, vectors and the lines of a reader do.
-    /// [`RowStream::print_vec`] takes rows that are no errors, and asks nothing.
+    /// Precondition: the iterator can be run to its end. Those over arrays, vectors and the lines
+    /// of a reader can. [`RowStream::print_vec`] takes rows that are no errors, and has no
+    /// precondition.
     ///
     /// ```rust
     /// stream.print_results(reader.lines(alloc).map(|line| cells_of(alloc, line)), &mut buf)?;

@@ -21,13 +21,13 @@ use std::marker::{Brand, Model};
 
 /// Prints a table whose rows come one at a time, each with its height, and each when it is pushed.
 ///
-/// It is a [`LiveStream`] whose rows may have any heights: a dimension tells the widths of the columns,
-/// and isn't asked for a height. No cell spans rows: the height of its rectangle wouldn't be known when it
-/// begins.
+/// It is a [`LiveStream`] whose rows may have any heights: its dimension gives only the widths of
+/// the columns. No cell spans rows: the height of its rectangle wouldn't be known when it begins.
 ///
-/// A row that doesn't fit is named by its number (`StreamFault::Row`); then nothing is appended, and the
-/// stream is as it was. After want of memory a beginning of a row stands, and each further call answers
-/// `StreamFault::Memory` and appends nothing. No memory is kept for the rows above.
+/// A row that doesn't fit is named by its number (`StreamFault::Row`); then nothing is appended,
+/// and the stream is unchanged. After out of memory a beginning of a row is appended, and each
+/// further call returns `StreamFault::Memory` and appends nothing. No memory is kept for the rows
+/// above.
 ///
 /// ```rust
 /// let mut stream = SizedStream::new(alloc, &config, &widths, &NoColors, 2)?;
@@ -49,13 +49,13 @@ pub struct SizedStream<
 > {
     frame: Frame<'a, D, C, B>,
     progress: Progress<'a, S, A>,
-    /// How high the rows so far are together, their separators not counted.
+    /// The height of the rows so far together, without separators.
     above: usize,
-    /// Whether memory was refused in the midst of a row.
+    /// Whether memory was refused in the middle of a row.
     is_lost: bool,
 }
 
-// Written out, as that of a `LiveStream`.
+// Written out, like that of a `LiveStream`.
 impl<'a, S: AsStr + Drop, D: Dimension, C: Colors, B: Allocator, A: Allocator> Drop
     for SizedStream<'a, S, D, C, B, A> {
     fn drop(self) {
@@ -94,8 +94,8 @@ impl<'a, S: AsStr + Drop, D: Dimension, C: Colors, B: Allocator, A: Allocator> S
 > {
     /// A stream of rows of so many columns, before its first row.
     ///
-    /// `StreamFault::Misfit` says what doesn't fit of what is told here: spans, where a cell spans rows, and
-    /// else what [`printer_fits`] answers. The heights of the dimension don't matter.
+    /// `StreamFault::Misfit` says which of these parts don't fit: spans, if a cell spans rows, else
+    /// what [`printer_fits`] returns. The heights of the dimension don't matter.
     ///
     /// [`printer_fits`]: crate::printer_fits
     pub fn new(
@@ -128,8 +128,8 @@ impl<'a, S: AsStr + Drop, D: Dimension, C: Colors, B: Allocator, A: Allocator> S
 
     /// Prints a row of so many lines.
     ///
-    /// `StreamFault::Row` tells its number, where it doesn't fit; then nothing is appended. Where memory
-    /// is refused, a beginning of its text is, and the stream is lost.
+    /// The error is `StreamFault::Row` with its number if it doesn't fit; then nothing is appended.
+    /// If memory is refused, a beginning of its text is appended, and the stream is lost.
     #[inline(always)]
     pub fn push<V: Allocator, W: Allocator>(
         &mut self,
@@ -165,10 +165,11 @@ impl<'a, S: AsStr + Drop, D: Dimension, C: Colors, B: Allocator, A: Allocator> S
         Ok(())
     }
 
-    /// Ends the table behind the rows so far, as [`LiveStream::finish`] does.
+    /// Ends the table after the rows so far, like [`LiveStream::finish`].
     ///
-    /// `StreamFault::Open` says that a rectangle begins below them; then nothing is appended. Where memory
-    /// is refused, a beginning of the table's end is, or nothing where the stream was lost already.
+    /// `StreamFault::Open` means that a rectangle continues below them; then nothing is appended.
+    /// If memory is refused, a beginning of the table's end is appended, or nothing if the stream
+    /// was lost before.
     ///
     /// [`LiveStream::finish`]: crate::LiveStream::finish
     pub fn finish<W: Allocator>(self, buf: &mut String<W>) -> Result<(), StreamFault>
