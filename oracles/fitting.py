@@ -25,7 +25,7 @@ PIECES = (
     + ["\u1100\u1161\u11a8", "\u1112\u1161"]
     + ["🇩🇪", "🇫🇷", "🇮🇹", "1\ufe0f\u20e3", "#\ufe0f\u20e3"]
     + ["\U0001f469\u200d\U0001f52c", "\U0001f44d\U0001f3fd", "\U0001f600", "\u231a", "\u231a\ufe0e"]
-    + ["\u00a0", "\t", "\r", "\x1b", "\x07", "\x7f", "\x9b", "\u200b"]
+    + ["\u00a0", "\t", "\r", "\x1b", "\x07", "\x7f", "\x9b", "\u200b", "\u202e", "\u2066", "\ufeff"]
     + [LAM, ALEF, LAM + ALEF]
     + ["\n"] * 2
 )
@@ -117,8 +117,19 @@ def cut(text, columns, tail):
     return [cut_line(line, columns, tail) for line in text.split("\n")]
 
 
+def is_hidden(c):
+    """Whether a character isn't shown, and hides or turns what is beside it: a format character that gives no
+    letter or emoji its form, or a separator of lines."""
+    kept = "\u200c\u200d" + "".join(map(chr, [*range(0x600, 0x606), 0x6DD, 0x70F, 0x890, 0x891, 0x8E2]))
+    if unicodedata.category(c) in ("Zl", "Zp") or "\u2060" <= c <= "\u206f" or "\U000e0000" <= c <= "\U000e007f":
+        return True
+    return unicodedata.category(c) == "Cf" and c not in kept and c < "\U00010000"
+
+
 def visible(text):
     def seen(c):
+        if is_hidden(c):
+            return "\ufffd"
         if c == "\n" or unicodedata.category(c) != "Cc":
             return c
         if c == "\x7f":

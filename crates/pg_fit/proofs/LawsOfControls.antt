@@ -8,7 +8,7 @@ use Rattle.std.proofs.lemmas.Str.{encodes-chars, scalars-chars, chars-encodes}
 use Rattle.std.proofs.Math.Utf8.{scalars, scalar}
 use Rattle.unicode_width.specs.Width.{str_width}
 use Rattle.unicode_width.proofs.Computing.{unicode_width}
-use Rattle.pg_fit.specs.Controls.{is_control, sign_of, visible_text}
+use Rattle.pg_fit.specs.Controls.{is_hidden, is_control, sign_of, visible_text}
 use Rattle.pg_fit.specs.Printable.{is_printable}
 use Rattle.pg_fit.proofs.PrintableBytes.{printable-chars}
 use Rattle.pg_fit.specs.Laws.{NoControlsAreLeft, VisibleTextsStay, SignsTakeOneColumn}
@@ -39,11 +39,33 @@ printable_texts_are_seen = printable-chars (λ c. not (is_control c)) printable-
 -- ---- no control character is left
 
 -- what stands for a character is one, and no control character
+picture-scalar : (c : ℕ) → nat_lt c 0x20 ≡ true → scalar (0x2400 + c) ≡ true
+picture-scalar c low = grind (arith, nat_tests)
+
 sign_of-scalar : (c : ℕ) → scalar c ≡ true → scalar (sign_of c) ≡ true
-sign_of-scalar c h = grind (arith, nat_tests)
+sign_of-scalar c h =
+    elim (not (is_control c)) as (λ v. scalar (cond v c (cond (nat_lt c 0x20) (0x2400 + c) (cond (c == 0x7F) 0x2421 0xFFFD))) ≡ true) [
+      | true ↦ h
+      | false ↦
+          elim (nat_lt c 0x20) as (λ v. nat_lt c 0x20 ≡ v → scalar (cond v (0x2400 + c) (cond (c == 0x7F) 0x2421 0xFFFD)) ≡ true) [
+            | true ↦ λ low. picture-scalar c low
+            | false ↦ λ high. elim (c == 0x7F) as (λ v. scalar (cond v 0x2421 0xFFFD) ≡ true) [ true ↦ refl | false ↦ refl ]
+          ] refl
+    ]
+
+picture-seen : (c : ℕ) → nat_lt c 0x20 ≡ true → not (is_control (0x2400 + c)) ≡ true
+picture-seen c low = grind (arith, nat_tests)
 
 sign_of-seen : (c : ℕ) → not (is_control (sign_of c)) ≡ true
-sign_of-seen c = grind (arith, nat_tests)
+sign_of-seen c =
+    elim (not (is_control c)) as (λ v. not (is_control c) ≡ v → not (is_control (cond v c (cond (nat_lt c 0x20) (0x2400 + c) (cond (c == 0x7F) 0x2421 0xFFFD)))) ≡ true) [
+      | true ↦ λ other. other
+      | false ↦ λ control.
+          elim (nat_lt c 0x20) as (λ v. nat_lt c 0x20 ≡ v → not (is_control (cond v (0x2400 + c) (cond (c == 0x7F) 0x2421 0xFFFD))) ≡ true) [
+            | true ↦ λ low. picture-seen c low
+            | false ↦ λ high. elim (c == 0x7F) as (λ v. not (is_control (cond v 0x2421 0xFFFD)) ≡ true) [ true ↦ refl | false ↦ refl ]
+          ] refl
+    ] refl
 
 signs-scalars : (cs : List ℕ) → scalars cs ≡ true → scalars (map sign_of cs) ≡ true
 signs-scalars [] h = refl
@@ -85,13 +107,23 @@ in-range p from (suc n) c h low high =
     (λ (some : 0 < c - from). in-range p (from + 1) n c parts.1 (omega arith) (omega arith))
     (eq-zero-or-pos (c - from))
 
--- a control character is of C0 before a line feed or behind one, or DEL or of C1
-control-where : (c : ℕ) → is_control c ≡ true → (c < 10) ⊎ (((10 < c) × (c < 32)) ⊎ ((126 < c) × (c < 160)))
+replacement-one : (str_width false (0xFFFD ∷ []) == 1) ≡ true
+unfolding unicode_width
+replacement-one = refl
+
+-- what stands for a hidden character
+sign_of-hidden : (c : ℕ) → is_hidden c ≡ true → sign_of c ≡ 0xFFFD
+sign_of-hidden c h = grind (arith, nat_tests)
+
+-- a control character is of C0 before a line feed or behind one, DEL, of C1, or hidden
+control-where : (c : ℕ) → is_control c ≡ true → (c < 10) ⊎ (((10 < c) × (c < 32)) ⊎ (((126 < c) × (c < 160)) ⊎ (is_hidden c ≡ true)))
 control-where c h = grind (arith, nat_tests)
 
 pub signs_take_one_column : SignsTakeOneColumn
 signs_take_one_column c h =
     let one : takes_one c ≡ true = ⊎_elim (λ low. in-range takes_one 0 10 c low-one (omega arith) (omega arith))
-    (λ rest. ⊎_elim (λ low. in-range takes_one 11 21 c low-rest-one (omega (arith, low.0)) (omega (arith, low.1))) (λ high. in-range takes_one 127 33 c high-one (omega (arith, high.0)) (omega (arith, high.1))) rest)
+    (λ rest. ⊎_elim (λ low. in-range takes_one 11 21 c low-rest-one (omega (arith, low.0)) (omega (arith, low.1)))
+    (λ others. ⊎_elim (λ high. in-range takes_one 127 33 c high-one (omega (arith, high.0)) (omega (arith, high.1)))
+    (λ hidden. ap (λ s. str_width false (s ∷ []) == 1) (sign_of-hidden c hidden) ∙ replacement-one) others) rest)
     (control-where c h) in
     grind (arith, nat_tests)

@@ -4,11 +4,20 @@ use Rattle.std.specs.Int.{is_in_range}
 use Rattle.std.specs.Str.{encode_utf8_all}
 use Rattle.pg_layout.specs.Text.{Text}
 
--- a character on which a terminal acts: those below a space (C0), DEL, and those from U+0080 to U+009F (C1). A line feed ends a line and is none
-abbrev pub is_control : ℕ → Bool
-is_control c = not (c == 10) && (nat_lt c 0x20 || is_in_range 0x7F 0x9F c)
+-- a character that isn't shown, and that hides or turns what is beside it: soft hyphen, Arabic letter mark, Mongolian vowel separator, zero width space,
+-- marks of direction, separators of lines and paragraphs with embeddings and overrides of direction, invisible operators with isolates, byte order mark,
+-- annotations, tags. U+200C, U+200D and variation selectors give letters and emoji their forms, and are none
+abbrev pub is_hidden : ℕ → Bool
+is_hidden c =
+    (c == 0xAD) || (c == 0x61C) || (c == 0x180E) || (c == 0x200B) || is_in_range 0x200E 0x200F c || is_in_range 0x2028 0x202E c || is_in_range 0x2060 0x206F c
+    || (c == 0xFEFF) || is_in_range 0xFFF9 0xFFFB c || is_in_range 0xE0000 0xE007F c
 
--- what stands for a character: for one of C0 its picture (U+2400 and on), for DEL `␡`, for one of C1 the replacement character, and for any other the character itself
+-- a character on which a terminal acts: those below a space (C0), DEL, those from U+0080 to U+009F (C1), and hidden ones. A line feed ends a line and is none
+abbrev pub is_control : ℕ → Bool
+is_control c = not (c == 10) && (nat_lt c 0x20 || is_in_range 0x7F 0x9F c || is_hidden c)
+
+-- what stands for a character: for one of C0 its picture (U+2400 and on), for DEL `␡`, for another one on which a terminal acts the replacement character, and for any other
+-- the character itself
 abbrev pub sign_of : ℕ → ℕ
 sign_of c =
     if not (is_control c) then c

@@ -2,21 +2,41 @@
 
 ghost use Rattle.std.specs.Prelude.{◌≡◌, ◌+◌, ◌≤◌, true, length, IsTrue, IfOk, string_bytes, not, chars};
 ghost use Rattle.std.specs.List.{list_all};
-ghost use Rattle.pg_fit.specs.Controls.{is_control, sign_of, visible_text};
+ghost use Rattle.pg_fit.specs.Controls.{is_hidden, is_control, sign_of, visible_text};
 ghost use Rattle.pg_fit.specs.Printable.{is_printable, ArePrintable};
 
 use std::alloc::{AllocError, Allocator};
 use std::simd::prelude::*;
 
-// Whether a terminal acts on a character: those below a space but for the line feed, DEL, and those
-// from U+0080 to U+009F.
+// Whether a character isn't shown, and hides or turns what is beside it.
+fn is_hidden(c: char) -> bool
+    ensures { result ≡ is_hidden c }
+{
+    matches!(
+        c,
+        '\u{ad}'
+            | '\u{61c}'
+            | '\u{180e}'
+            | '\u{200b}'
+            | '\u{200e}'..='\u{200f}'
+            | '\u{2028}'..='\u{202e}'
+            | '\u{2060}'..='\u{206f}'
+            | '\u{feff}'
+            | '\u{fff9}'..='\u{fffb}'
+            | '\u{e0000}'..='\u{e007f}'
+    )
+}
+
+// Whether a terminal acts on a character: those below a space but for the line feed, DEL, those from
+// U+0080 to U+009F, and hidden ones.
 fn is_control(c: char) -> bool
     ensures { result ≡ is_control c }
 {
-    c != '\n' && (c < ' ' || ('\u{7f}'..='\u{9f}').contains(&c))
+    c != '\n' && (c < ' ' || ('\u{7f}'..='\u{9f}').contains(&c) || is_hidden(c))
 }
 
-fn sign_of(c: char) -> char
+/// What a visible text has for a character: see [`visible`].
+pub fn sign_of(c: char) -> char
     ensures { result ≡ sign_of c }
 {
     if !is_control(c) {
@@ -29,7 +49,8 @@ fn sign_of(c: char) -> char
     if code == 0x7f { '␡' } else { '�' }
 }
 
-/// Whether a text may be sent to a terminal as it is: it has no control character but line feeds.
+/// Whether a text may be sent to a terminal as it is: it has no control character but line feeds, and
+/// no hidden character (see [`visible`]).
 pub fn is_visible(text: &str) -> bool
     ensures { result ≡ list_all (λ c. not (is_control c)) (chars text.now) }
 {
@@ -90,11 +111,15 @@ fn is_block_printable<const N: usize>(bytes: &[u8], from: usize) -> bool
 
 /// A text in which control characters are seen, each as a character that takes one column, so that a
 /// terminal doesn't act on them: `␀` to `␟` for those below a space, a tab (`␉`), a carriage return
-/// (`␍`) and an escape (`␛`) among them, `␡` for DEL, and `�` for those from U+0080 to U+009F. Lines
+/// (`␍`) and an escape (`␛`) among them, `␡` for DEL, and `�` for those from U+0080 to U+009F. `�` is
+/// also shown for hidden characters, which turn or hide what is beside them: U+00AD, U+061C, U+180E,
+/// U+200B, U+200E, U+200F, U+2028 to U+202E, U+2060 to U+206F, U+FEFF, U+FFF9 to U+FFFB, and tags
+/// (U+E0000 to U+E007F). Joiners and variation selectors stay, since emoji and letters need them. Lines
 /// stay lines, and a text in which there is none stays byte for byte ([`is_visible`] tells).
 ///
 /// ```text
 /// visible(alloc, "\tred: \x1b[31m\r\n")? // "␉red: ␛[31m␍\n"
+/// visible(alloc, "a\u{202e}b")?            // "a�b"
 /// ```
 pub fn visible<A: Allocator>(alloc: A, text: &str) -> Result<String<A>, AllocError>
     ensures { IfOk result (λ shown. string_bytes shown ≡ visible_text text.now) }

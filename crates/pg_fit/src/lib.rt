@@ -14,7 +14,7 @@ mod row;
 mod wrapped_row;
 mod wrapping;
 
-pub use crate::controls::{is_visible, visible};
+pub use crate::controls::{is_visible, sign_of, visible};
 pub use crate::cutting::cut;
 pub use crate::laws::{
     cut_texts_fit, narrowed_widths_fill_the_room, visible_texts_are_seen, wrapped_lines_fit,

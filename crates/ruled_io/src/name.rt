@@ -4,18 +4,14 @@ ghost use Rattle.std.specs.Prelude.{◌≡◌, Some};
 ghost use Rattle.std.specs.Fmt.{DisplaysOnOk};
 ghost use Rattle.ruled_io.specs.Names as spec;
 
+use pg_fit::sign_of;
 use std::fmt;
 
 // What stands in a line for a character: what a table shows for it, and a picture for a line feed, too.
 fn sign_in_line(c: char) -> char
     ensures { result ≡ spec.sign_in_line c }
 {
-    match c {
-        '\0'..'\x20' => char::from_u32(0x2400 + c as u32).unwrap(),
-        '\x7f' => '␡',
-        '\u{80}'..='\u{9f}' => '�',
-        _ => c,
-    }
+    if c == '\n' { '␊' } else { sign_of(c) }
 }
 
 // Writes a text on one line.
