@@ -1,22 +1,23 @@
 -- What causes a fault that is handed on.
-use Rattle.std.proofs.Common.{◌≡◌, ◌∙◌, ℕ, Bool, true, false, List, Option, Some, None, Result, Ok, Err, String, string_bytes, inl, inr, refl, sym, ap, subst}
-use Rattle.std.specs.Prelude.{IfErr, IfOk, IfSome}
-use Rattle.std.specs.Result.{IsErrAnd}
-use Rattle.std.proofs.KnownBytes.{Keeps-refl}
+use Rattle.std.proofs.Common.{◌≡◌, ◌∙◌, ℕ, Bool, true, false, List, Option, Some, None, Result, Ok, Err, inl, inr, refl, sym, ap, subst}
+use Rattle.std.specs.Prelude.{not, IfErr, IfOk, IfSome, OnOk}
+use Rattle.std.specs.Io.KnownBytes.{Appends, Keeps}
+use Rattle.std.specs.Result.{IsErrAnd, result_err}
+use Rattle.std.proofs.KnownBytes.{Appends-kept, Keeps-refl}
 use Rattle.std.proofs.lemmas.Bool.{false≢true, true≢false}
 use Rattle.pg_layout.specs.Text.{Text}
 use Rattle.ruled_sql.specs.Answers.{HoldsNone}
 use Rattle.ruled_sql.specs.declared.fault.QueryFault.TheVariants as query
 use Rattle.ruled_sql.specs.declared.fault.SqlFault.{SqlFault}
 use Rattle.ruled_sql.specs.declared.fault.SqlFault.TheVariants as sql
-use Rattle.ruled_table.specs.Faults as tables
-use Rattle.ruled_table.specs.View.{table_fault}
+use Rattle.ruled_table.specs.View.{table_fault, table_text}
 use Rattle.ruled_table.specs.declared.fault.ViewFault.{ViewFault}
-use Rattle.ruled_table.specs.declared.fault.ViewFault.TheVariants as view
-use Rattle.ruled_io.specs.Faults.{IsOfRead, Tells, fault_of_sql, fault_of_view, is_of_write}
-use Rattle.ruled_io.specs.Input.{view_fault, view_text}
+use Rattle.ruled_io.specs.Faults.{IsOfRead, Tells, fault_of_sql, is_early, is_memory, is_of_write}
+use Rattle.ruled_io.specs.Input.{input_fault, rows_in}
+use Rattle.ruled_io.specs.Output.{failure_in, fault_written, write_part}
 use Rattle.ruled_io.specs.Requests.{format_told, hides_rows, holds_database, log_of}
-use Rattle.ruled_io.specs.Runs.{AreAsked, CausedAll, CausedAs, CausedAtOnce, ShowsAll, ShowsAs}
+use Rattle.ruled_io.specs.Runs.{AreAsked, AreRows, AreRowsAs, CausedAtOnce, LacksInput, LacksRows, LacksRowsAs, ShowsAll}
+use Rattle.ruled_io.specs.Steps.{Draws}
 use Rattle.ruled_io.specs.Writing.{Begins}
 use Rattle.ruled_io.specs.declared.fault.InputFault.{InputFault}
 use Rattle.ruled_io.specs.declared.fault.InputFault.TheVariants.{Memory}
@@ -24,88 +25,162 @@ use Rattle.ruled_io.specs.declared.fault.RunFault.{RunFault}
 use Rattle.ruled_io.specs.declared.fault.RunFault.TheVariants.{Input, Read, Closed, Write}
 use Rattle.ruled_io.specs.declared.formats.Format.{Format}
 use Rattle.ruled_io.specs.declared.request.Request.{Request}
-use Rattle.ruled_io.proofs.Told.{if_given}
+use Rattle.ruled_io.specs.declared.request.Source.{Source}
+use Rattle.ruled_io.proofs.Growing.{begins-all, begins-kept}
 
--- ---- bytes of rows
+-- ---- the rows of all bytes
 
-pub rows_shown : {A : Type 0} (request : Request) (bytes : List ℕ) (told : Option Format) (result : Result (String A) InputFault) → holds_database request.source bytes ≡ false → told ≡ format_told request.source
-    → IfOk result (λ text. string_bytes text ≡ view_text told request.view bytes) → IfOk result (λ text. ShowsAll request bytes (string_bytes text))
-rows_shown request bytes told (Ok text) other is shown =
-    subst (λ (holds : Bool). ShowsAs holds request bytes (string_bytes text)) (sym other) (shown ∙ ap (λ (format : Option Format). view_text format request.view bytes) is)
-rows_shown request bytes told (Err fault) other is shown = tt
+module _ {V : Type 0} (rows : V → List (List Text)) (source : Source) (bytes : List ℕ) where
+  -- they are in the bytes
+  pub held_rows : (told : Option Format) (result : Result V InputFault) → holds_database source bytes ≡ false → told ≡ format_told source
+      → IfOk result (λ v. rows v ≡ rows_in told bytes) → Tells (input_fault told bytes) result → IfOk result (λ v. AreRows source bytes (rows v))
+  held_rows told (Ok v) other is held tells =
+      subst (λ (holds : Bool). AreRowsAs holds source bytes (rows v)) (sym other) (ap (λ (t : Option Format). input_fault t bytes) (sym is) ∙ tells, held ∙ ap (λ (t : Option Format). rows_in t bytes) is)
+  held_rows told (Err fault) other is held tells = tt
 
-pub rows_caused : {X : Type 0} (request : Request) (bytes : List ℕ) (told : Option Format) (result : Result X InputFault) → holds_database request.source bytes ≡ false → told ≡ format_told request.source
-    → Tells (view_fault told request.view bytes) result → IfErr result (CausedAll request bytes)
-rows_caused request bytes told (Ok x) other is tells = tt
-rows_caused request bytes told (Err fault) other is tells =
-    subst (λ (holds : Bool). CausedAs holds request bytes fault) (sym other) (λ counts. ap (λ (format : Option Format). view_fault format request.view bytes) (sym is) ∙ tells counts)
+  pub lacking_rows : (told : Option Format) (result : Result V InputFault) → holds_database source bytes ≡ false → told ≡ format_told source → Tells (input_fault told bytes) result → IfErr result (LacksRows source bytes)
+  lacking_rows told (Ok v) other is tells = tt
+  lacking_rows told (Err fault) other is tells =
+      subst (λ (holds : Bool). LacksRowsAs holds source bytes fault) (sym other) (λ counts. ap (λ (t : Option Format). input_fault t bytes) (sym is) ∙ tells counts)
 
--- ---- a database
+  -- they are asked of a database
+  pub asked_held : (result : Result V InputFault) → holds_database source bytes ≡ true → IfOk result (λ v. AreAsked source bytes (rows v)) → IfOk result (λ v. AreRows source bytes (rows v))
+  asked_held (Ok v) holds asked = subst (λ (h : Bool). AreRowsAs h source bytes (rows v)) (sym holds) asked
+  asked_held (Err fault) holds asked = tt
+
+  pub asked_lacking : (result : Result V InputFault) → holds_database source bytes ≡ true → IfErr result (LacksRowsAs true source bytes) → IfErr result (LacksRows source bytes)
+  asked_lacking (Ok v) holds lacks = tt
+  asked_lacking (Err fault) holds lacks = subst (λ (h : Bool). LacksRowsAs h source bytes fault) (sym holds) lacks
 
 -- a fault of a query
-pub of_query : {X : Type 0} (request : Request) (bytes : List ℕ) (found : SqlFault) (result : Result X InputFault) → hides_rows (log_of request.source) bytes ≡ false → (found ≡ sql.Database → HoldsNone bytes) → IsErrAnd result (λ fault. fault ≡ fault_of_sql found)
-    → IfErr result (CausedAs true request bytes)
-of_query request bytes found (Ok x) shown none told = absurd told
-of_query request bytes sql.Database (Err fault) shown none told = subst (CausedAs true request bytes) (sym told) (shown, none)
-of_query request bytes sql.Damage (Err fault) shown none told = subst (CausedAs true request bytes) (sym told) (shown, none)
-of_query request bytes (sql.Query (query.Refused error)) (Err fault) shown none told = subst (CausedAs true request bytes) (sym told) (shown, none)
-of_query request bytes (sql.Query query.Change) (Err fault) shown none told = subst (CausedAs true request bytes) (sym told) (shown, none)
-of_query request bytes (sql.Query (query.Encoding row)) (Err fault) shown none told = subst (CausedAs true request bytes) (sym told) (shown, none)
-of_query request bytes (sql.Query query.Memory) (Err fault) shown none told = subst (CausedAs true request bytes) (sym told) tt
-of_query request bytes sql.Memory (Err fault) shown none told = subst (CausedAs true request bytes) (sym told) tt
+pub of_query : {X : Type 0} (source : Source) (bytes : List ℕ) (found : SqlFault) (result : Result X InputFault) → hides_rows (log_of source) bytes ≡ false → (found ≡ sql.Database → HoldsNone bytes) → IsErrAnd result (λ fault. fault ≡ fault_of_sql found)
+    → IfErr result (LacksRowsAs true source bytes)
+of_query source bytes found (Ok x) shown none told = absurd told
+of_query source bytes sql.Database (Err fault) shown none told = subst (LacksRowsAs true source bytes) (sym told) (shown, none)
+of_query source bytes sql.Damage (Err fault) shown none told = subst (LacksRowsAs true source bytes) (sym told) (shown, none)
+of_query source bytes (sql.Query (query.Refused error)) (Err fault) shown none told = subst (LacksRowsAs true source bytes) (sym told) (shown, none)
+of_query source bytes (sql.Query query.Change) (Err fault) shown none told = subst (LacksRowsAs true source bytes) (sym told) (shown, none)
+of_query source bytes (sql.Query (query.Encoding row)) (Err fault) shown none told = subst (LacksRowsAs true source bytes) (sym told) (shown, none)
+of_query source bytes (sql.Query query.Memory) (Err fault) shown none told = subst (LacksRowsAs true source bytes) (sym told) tt
+of_query source bytes sql.Memory (Err fault) shown none told = subst (LacksRowsAs true source bytes) (sym told) tt
 
--- a fault of the table of an answer
-answer-caused : (request : Request) (bytes : List ℕ) (rows : List (List Text)) (found : ViewFault) → AreAsked request.source bytes rows → (tables.is_memory found ≡ false → table_fault request.view rows ≡ Some found)
-    → CausedAs true request bytes (fault_of_view found)
-answer-caused request bytes rows (view.Column name) asked right = (rows, asked, rw (right refl) refl)
-answer-caused request bytes rows view.Totals asked right = (rows, asked, rw (right refl) refl)
-answer-caused request bytes rows view.Memory asked right = tt
+-- ---- where the bytes are known
 
-pub of_answer : {X : Type 0} (request : Request) (bytes : List ℕ) (rows : List (List Text)) (found : ViewFault) (result : Result X InputFault) → AreAsked request.source bytes rows
-    → (tables.is_memory found ≡ false → table_fault request.view rows ≡ Some found) → IsErrAnd result (λ fault. fault ≡ fault_of_view found) → IfErr result (CausedAs true request bytes)
-of_answer request bytes rows found (Ok x) asked right told = absurd told
-of_answer request bytes rows found (Err fault) asked right told = subst (CausedAs true request bytes) (sym told) (answer-caused request bytes rows found asked right)
-
--- ---- a run at once
-
-memory-caused : (holds : Bool) (request : Request) (bytes : List ℕ) → CausedAs holds request bytes Memory
-memory-caused true request bytes = tt
-memory-caused false request bytes = λ counts. absurd (true≢false counts)
-
-read-caused : (request : Request) (bytes : List ℕ) (old : Option (List ℕ)) (found : RunFault) → IsOfRead found → CausedAtOnce request bytes found old old
-read-caused request bytes old found (inl memory) = subst (λ (fault : RunFault). CausedAtOnce request bytes fault old old) (sym memory) (memory-caused (holds_database request.source bytes) request bytes, Keeps-refl old)
-read-caused request bytes old found (inr read) = subst (λ (fault : RunFault). CausedAtOnce request bytes fault old old) (sym read) (Keeps-refl old)
-
--- what holds of a fault that is handed on, where the bytes are known
-if-known : {X : Type 0} (given : Option (List ℕ)) (found : RunFault) (result : Result X RunFault) (P : List ℕ → RunFault → Type 0) → IsErrAnd result (λ fault. fault ≡ found) → IfSome given (λ bytes. P bytes found)
-    → IfErr result (λ fault. IfSome given (λ bytes. P bytes fault))
-if-known given found (Ok x) P is holds = absurd is
-if-known given found (Err fault) P is holds = subst (λ (it : RunFault). IfSome given (λ bytes. P bytes it)) (sym is) holds
-
-some-known : (given : Option (List ℕ)) (P : List ℕ → Type 0) → ((bytes : List ℕ) → P bytes) → IfSome given P
+pub some-known : (given : Option (List ℕ)) (P : List ℕ → Type 0) → ((bytes : List ℕ) → P bytes) → IfSome given P
 some-known None P p = tt
 some-known (Some bytes) P p = p bytes
 
--- memory or a read failed
-pub of_read : {X : Type 0} (given old : Option (List ℕ)) (request : Request) (found : RunFault) (result : Result X RunFault) → IsOfRead found → IsErrAnd result (λ fault. fault ≡ found)
-    → IfErr result (λ fault. IfSome given (λ bytes. CausedAtOnce request bytes fault old old))
-of_read given old request found result fails is =
-    if-known given found result (λ bytes fault. CausedAtOnce request bytes fault old old) is (some-known given (λ bytes. CausedAtOnce request bytes found old old) (λ bytes. read-caused request bytes old found fails))
+pub if-so : {P Q : List ℕ → Type 0} (given : Option (List ℕ)) → IfSome given P → ((bytes : List ℕ) → P bytes → Q bytes) → IfSome given Q
+if-so None p q = tt
+if-so (Some bytes) p q = q bytes p
 
--- the bytes have no table
-pub of_input : {X : Type 0} (given old : Option (List ℕ)) (request : Request) (bytes : List ℕ) (found : InputFault) (result : Result X RunFault) → IfSome given (λ known. bytes ≡ known) → CausedAll request bytes found
-    → IsErrAnd result (λ fault. fault ≡ Input found) → IfErr result (λ fault. IfSome given (λ known. CausedAtOnce request known fault old old))
-of_input given old request bytes found result whole caused is =
-    if-known given (Input found) result (λ known fault. CausedAtOnce request known fault old old) is (if_given given bytes (λ known. CausedAtOnce request known (Input found) old old) whole (caused, Keeps-refl old))
+-- what holds of the bytes that were read holds of those that were given
+pub if_given : (given : Option (List ℕ)) (bytes : List ℕ) (P : List ℕ → Type 0) → IfSome given (λ known. bytes ≡ known) → P bytes → IfSome given P
+if_given None bytes P is p = tt
+if_given (Some known) bytes P is p = subst P is p
 
--- a write failed
-write-caused : (request : Request) (bytes : List ℕ) (text : Text) (old new : Option (List ℕ)) (found : RunFault) → is_of_write found ≡ true → ShowsAll request bytes text → Begins old new text → CausedAtOnce request bytes found old new
-write-caused request bytes text old new (Input fault) failed shows begins = absurd (false≢true failed)
-write-caused request bytes text old new Read failed shows begins = absurd (false≢true failed)
-write-caused request bytes text old new Closed failed shows begins = (text, shows, begins)
-write-caused request bytes text old new Write failed shows begins = (text, shows, begins)
+-- what holds of a fault that is handed on
+pub handed-known : {X F : Type 0} (given : Option (List ℕ)) (found : F) (result : Result X F) (P : List ℕ → F → Type 0) → IsErrAnd result (λ fault. fault ≡ found) → IfSome given (λ bytes. P bytes found)
+    → IfErr result (λ fault. IfSome given (λ bytes. P bytes fault))
+handed-known given found (Ok x) P is holds = absurd is
+handed-known {X} {F} given found (Err fault) P is holds = subst (λ (it : F). IfSome given (λ bytes. P bytes it)) (sym is) holds
 
-pub of_write : {X : Type 0} (given old new : Option (List ℕ)) (request : Request) (bytes : List ℕ) (text : Text) (found : RunFault) (result : Result X RunFault) → IfSome given (λ known. bytes ≡ known) → is_of_write found ≡ true
-    → ShowsAll request bytes text → Begins old new text → IsErrAnd result (λ fault. fault ≡ found) → IfErr result (λ fault. IfSome given (λ known. CausedAtOnce request known fault old new))
-of_write given old new request bytes text found result whole failed shows begins is =
-    if-known given found result (λ known fault. CausedAtOnce request known fault old new) is (if_given given bytes (λ known. CausedAtOnce request known found old new) whole (write-caused request bytes text old new found failed shows begins))
+-- what holds anyway holds of an answer
+pub on-ok : {X F P : Type 0} (r : Result X F) → P → OnOk r P
+on-ok (Ok x) p = p
+on-ok (Err fault) p = tt
+
+pub each-err : {X F : Type 0} {P : F → Type 0} (r : Result X F) → ((fault : F) → r ≡ Err fault → P fault) → IfErr r P
+each-err (Ok x) p = tt
+each-err (Err fault) p = p fault refl
+
+-- ---- an input
+
+memory-lacks : (holds : Bool) (source : Source) (bytes : List ℕ) → LacksRowsAs holds source bytes Memory
+memory-lacks true source bytes = tt
+memory-lacks false source bytes = λ counts. absurd (true≢false counts)
+
+pub read-lacks : (source : Source) (bytes : List ℕ) (found : RunFault) → IsOfRead found → LacksInput source bytes found
+read-lacks source bytes found (inl memory) = subst (LacksInput source bytes) (sym memory) (memory-lacks (holds_database source bytes) source bytes)
+read-lacks source bytes found (inr read) = subst (LacksInput source bytes) (sym read) tt
+
+-- ---- a run at once
+
+pub lacks-caused : (request : Request) (bytes : List ℕ) (old : Option (List ℕ)) (fault : RunFault) → LacksInput request.source bytes fault → CausedAtOnce request bytes fault old old
+lacks-caused request bytes old (Input fault) lacks = (λ soft. (inl lacks, Keeps-refl old), λ memory. inl (Keeps-refl old))
+lacks-caused request bytes old Read lacks = Keeps-refl old
+lacks-caused request bytes old Closed lacks = absurd lacks
+lacks-caused request bytes old Write lacks = absurd lacks
+
+module _ (request : Request) (bytes : List ℕ) (rows : List (List Text)) (are : AreRows request.source bytes rows) where
+  -- their table isn't written
+  pub draws-caused : (old new : Option (List ℕ)) (fault : RunFault) → Draws (table_text request.view rows) (table_fault request.view rows) old new {X = Unit {0}} (Err fault) → CausedAtOnce request bytes fault old new
+  draws-caused old new (Input fault) (soft, memory) = (λ found. (inr (rows, are, (soft found).0), (soft found).1), λ lost. inr (rows, are, memory lost))
+  draws-caused old new Read draws = absurd draws
+  draws-caused old new Closed draws = (rows, are, draws)
+  draws-caused old new Write draws = (rows, are, draws)
+
+  -- it is written, but not shown
+  pub unshown-caused : (old mid new : Option (List ℕ)) (fault : RunFault) → is_of_write fault ≡ true → Appends old mid (table_text request.view rows) → Keeps mid new → CausedAtOnce request bytes fault old new
+  unshown-caused old mid new (Input fault) failed wrote kept = absurd (false≢true failed)
+  unshown-caused old mid new Read failed wrote kept = absurd (false≢true failed)
+  unshown-caused old mid new Closed failed wrote kept = (rows, are, begins-kept old mid new _ (begins-all old mid _ wrote) kept)
+  unshown-caused old mid new Write failed wrote kept = (rows, are, begins-kept old mid new _ (begins-all old mid _ wrote) kept)
+
+  -- and shown
+  pub drawn-shown : (old mid new : Option (List ℕ)) → table_fault request.view rows ≡ None → Appends old mid (table_text request.view rows) → Keeps mid new → (text : Text) × ShowsAll request bytes text × Appends old new text
+  drawn-shown old mid new fine wrote kept = (table_text request.view rows, (rows, are, fine, refl), Appends-kept old mid new _ wrote kept)
+
+not-true : (b : Bool) → not b ≡ true → b ≡ false
+not-true true is = absurd (false≢true is)
+not-true false is = refl
+
+of-write-late : (fault : RunFault) → is_of_write fault ≡ true → is_early fault ≡ false
+of-write-late (Input fault) failed = absurd (false≢true failed)
+of-write-late Read failed = absurd (false≢true failed)
+of-write-late Closed failed = refl
+of-write-late Write failed = refl
+
+-- a fault that is found first is told before anything is written
+pub draws-early : (text : Text) (wrong : Option ViewFault) (old new : Option (List ℕ)) (fault : RunFault) → Draws text wrong old new {X = Unit {0}} (Err fault) → is_early fault ≡ true → Keeps old new
+draws-early text wrong old new (Input fault) (soft, memory) early = (soft (not-true (is_memory fault) early)).1
+draws-early text wrong old new Read draws early = absurd draws
+draws-early text wrong old new Closed draws early = absurd (false≢true early)
+draws-early text wrong old new Write draws early = absurd (false≢true early)
+
+pub early-handed : (text : Text) (wrong : Option ViewFault) (old new : Option (List ℕ)) (found : RunFault) (result : Result (Unit {0}) RunFault) → Draws text wrong old new {X = Unit {0}} (Err found) → IsErrAnd result (λ fault. fault ≡ found)
+    → IfErr result (λ fault. is_early fault ≡ true → Keeps old new)
+early-handed text wrong old new found (Ok x) draws is = absurd is
+early-handed text wrong old new found (Err fault) draws is = λ early. draws-early text wrong old new found draws (ap is_early (sym is) ∙ early)
+
+-- the table is written, and then shown
+module _ {X : Type 0} (given : Option (List ℕ)) (request : Request) (rows : List (List Text)) (old mid new : Option (List ℕ)) (result : Result X RunFault) (are : IfSome given (λ bytes. AreRows request.source bytes rows))
+    (drawn : (table_fault request.view rows ≡ None) × Appends old mid (table_text request.view rows)) (kept : Keeps mid new) where
+  pub shown-drawn : OnOk result (IfSome given (λ bytes. (text : Text) × ShowsAll request bytes text × Appends old new text))
+  shown-drawn = on-ok result (if-so {P = λ bytes. AreRows request.source bytes rows} given are (λ bytes these. drawn-shown request bytes rows these old mid new drawn.0 drawn.1 kept))
+
+  pub after-drawn : ((fault : RunFault) → result ≡ Err fault → is_of_write fault ≡ true) → IfErr result (λ fault. IfSome given (λ bytes. CausedAtOnce request bytes fault old new))
+  after-drawn failed = each-err result (λ fault is. if-so {P = λ bytes. AreRows request.source bytes rows} given are (λ bytes these. unshown-caused request bytes rows these old mid new fault (failed fault is) drawn.1 kept))
+
+-- what a result says of a write, its fault does
+pub written-err : {X : Type 0} (r : Result X RunFault) → failure_in r ≡ fault_written (result_err r)
+written-err (Ok x) = refl
+written-err (Err fault) = refl
+
+-- what has nothing of a write
+pub read-part : (fault : RunFault) → IsOfRead fault → write_part fault ≡ None
+read-part fault (inl memory) = ap write_part memory
+read-part fault (inr read) = ap write_part read
+
+pub handed-part : {X : Type 0} (found : RunFault) (result : Result X RunFault) → write_part found ≡ None → IsErrAnd result (λ fault. fault ≡ found) → IfErr result (λ fault. write_part fault ≡ None)
+handed-part found (Ok x) none is = absurd is
+handed-part found (Err fault) none is = ap write_part is ∙ none
+
+pub unwritten-told : {X : Type 0} (found : RunFault) (result : Result X RunFault) → write_part found ≡ None → IsErrAnd result (λ fault. fault ≡ found) → None ≡ failure_in result
+unwritten-told found (Ok x) none is = absurd is
+unwritten-told found (Err fault) none is = sym (ap write_part is ∙ none)
+
+-- a write that fails isn't found first
+pub late : {X : Type 0} (K : Type 0) (result : Result X RunFault) → ((fault : RunFault) → result ≡ Err fault → is_of_write fault ≡ true) → IfErr result (λ fault. is_early fault ≡ true → K)
+late K (Ok x) failed = tt
+late K (Err fault) failed = λ early. absurd (true≢false (sym early ∙ of-write-late fault (failed fault refl)))

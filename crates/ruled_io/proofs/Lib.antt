@@ -1,3 +1,4 @@
+mod AtOnce
 mod Causes
 mod Drawn
 mod Fronts
@@ -8,5 +9,4 @@ mod Readings
 mod Shown
 mod Shows
 mod Tables
-mod Told
 mod Written

@@ -1,5 +1,5 @@
 -- Why a run shows no table, or not all of it.
-use Rattle.std.specs.Prelude.{◌≡◌, ◌⊎◌, ℕ, Bool, true, false, Option, Some, None, Result, Ok, Err}
+use Rattle.std.specs.Prelude.{◌≡◌, ◌⊎◌, ℕ, Bool, true, false, not, Option, Some, None, Result, Ok, Err}
 use Rattle.ruled_csv.specs.declared.fault.RowsFault.{RowsFault}
 use Rattle.ruled_csv.specs.declared.fault.RowsFault.TheVariants as rows
 use Rattle.ruled_csv.specs.Faults as csv
@@ -15,6 +15,8 @@ use Rattle.ruled_io.specs.declared.fault.InputFault.{InputFault}
 use Rattle.ruled_io.specs.declared.fault.InputFault.TheVariants.{Rows, Json, Sql, NoQuery, Log, Stream, Column, Totals, Memory}
 use Rattle.ruled_io.specs.declared.fault.RunFault.{RunFault}
 use Rattle.ruled_io.specs.declared.fault.RunFault.TheVariants.{Input, Read, Closed, Write}
+use Rattle.ruled_io.specs.declared.output.WriteFault.{WriteFault}
+use Rattle.ruled_io.specs.declared.output.WriteFault.TheVariants as write
 
 -- ---- exit statuses
 
@@ -68,6 +70,20 @@ is_of_write (Input fault) = false
 is_of_write Read = false
 is_of_write Closed = true
 is_of_write Write = true
+
+-- whether a read failed
+abbrev pub is_read : RunFault → Bool
+is_read (Input fault) = false
+is_read Read = true
+is_read Closed = false
+is_read Write = false
+
+-- whether a fault is found before anything is written, where all rows are shown at once: those of the input, and of what is asked of it
+abbrev pub is_early : RunFault → Bool
+is_early (Input fault) = not (is_memory fault)
+is_early Read = true
+is_early Closed = false
+is_early Write = false
 
 -- memory or a read failed
 abbrev pub IsOfRead : RunFault → Type 0
@@ -136,3 +152,7 @@ fault_of_view view.Memory = Memory
 
 abbrev pub of_view : ViewFault → RunFault
 of_view fault = Input (fault_of_view fault)
+
+abbrev pub fault_of_write : WriteFault → RunFault
+fault_of_write write.Closed = Closed
+fault_of_write write.Failed = Write

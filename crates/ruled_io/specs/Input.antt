@@ -1,19 +1,16 @@
 -- The rows that an input holds.
 use Rattle.std.specs.Prelude.{ℕ, List, Option, option_map}
-use Rattle.std.specs.Option.{option_or}
 use Rattle.csv.specs.Reading.{strip_bom}
 use Rattle.pg_layout.specs.Text.{Text}
 use Rattle.ruled_csv.specs.Rows as csv_rows
 use Rattle.ruled_csv.specs.Faults as csv_faults
 use Rattle.ruled_json.specs.Rows as json_rows
 use Rattle.ruled_json.specs.Faults as json_faults
-use Rattle.ruled_io.specs.Faults.{fault_of_json, fault_of_rows, fault_of_view}
+use Rattle.ruled_io.specs.Faults.{fault_of_json, fault_of_rows}
 use Rattle.ruled_io.specs.Formats.{format_in}
 use Rattle.ruled_io.specs.declared.fault.InputFault.{InputFault}
 use Rattle.ruled_io.specs.declared.formats.Format.{Format}
 use Rattle.ruled_io.specs.declared.formats.Format.TheVariants.{Separated, Json, JsonLines}
-use Rattle.ruled_table.specs.View.{table_fault, table_text}
-use Rattle.ruled_table.specs.declared.options.Options.{Options}
 
 -- the rows of a format, of which the first is row 0
 abbrev pub rows_of : Format → List ℕ → List (List Text)
@@ -33,11 +30,3 @@ rows_in told bytes = rows_of (format_in told bytes) bytes
 
 abbrev pub input_fault : Option Format → List ℕ → Option InputFault
 input_fault told bytes = format_fault (format_in told bytes) bytes
-
--- the picture of the rows that bytes hold
-unfoldable pub view_text : Option Format → Options → List ℕ → Text
-view_text told options bytes = table_text options (rows_in told bytes)
-
--- why there is none: the rows, or their table
-unfoldable pub view_fault : Option Format → Options → List ℕ → Option InputFault
-view_fault told options bytes = option_or (input_fault told bytes) (option_map fault_of_view (table_fault options (rows_in told bytes)))

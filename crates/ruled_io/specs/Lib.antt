@@ -2,6 +2,7 @@ pub mod Faults
 pub mod Formats
 pub mod Input
 pub mod Names
+pub mod Output
 pub mod Reading
 pub mod Requests
 pub mod Runs

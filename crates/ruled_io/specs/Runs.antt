@@ -1,12 +1,12 @@
 -- What a run shows of an input, and why it ends before.
-use Rattle.std.specs.Prelude.{◌≡◌, ⊤, ℕ, Bool, true, false, List, Option, Some, None, option_map}
+use Rattle.std.specs.Prelude.{◌≡◌, ◌⊎◌, ⊤, ℕ, Bool, true, false, List, Option, Some, None, option_map}
 use Rattle.std.specs.Io.KnownBytes.{Keeps}
 use Rattle.pg_layout.specs.Text.{Text}
 use Rattle.ruled_sql.specs.Answers.{AreAnswered, HoldsNone}
 use Rattle.ruled_sql.specs.declared.fault.SqlFault.TheVariants as sql
 use Rattle.ruled_table.specs.View.{table_fault, table_text}
 use Rattle.ruled_io.specs.Faults.{but_line_in, fault_of_view, is_memory}
-use Rattle.ruled_io.specs.Input.{view_fault, view_text}
+use Rattle.ruled_io.specs.Input.{input_fault, rows_in}
 use Rattle.ruled_io.specs.Requests.{format_told, hides_rows, holds_database, log_of, query_of}
 use Rattle.ruled_io.specs.Stream.{StopsStream, streamed_fault, streamed_text, streamed_wrong}
 use Rattle.ruled_io.specs.Writing.{Begins}
@@ -19,7 +19,7 @@ use Rattle.ruled_io.specs.declared.request.Rows as rows
 use Rattle.ruled_io.specs.declared.request.Rows.TheVariants.{AtOnce, FromFirst}
 use Rattle.ruled_io.specs.declared.request.Source.{Source}
 
--- ---- the text of all bytes
+-- ---- the rows of all bytes
 
 -- the rows that the query has of the database that the bytes hold
 abbrev pub AnswersOf : Option Text → List ℕ → List (List Text) → Type 0
@@ -30,30 +30,47 @@ AnswersOf (Some query) bytes rows = AreAnswered bytes query rows
 abbrev pub AreAsked : Source → List ℕ → List (List Text) → Type 0
 AreAsked source bytes rows = (hides_rows (log_of source) bytes ≡ false) × AnswersOf (query_of source) bytes rows
 
--- the text is the picture of the answer, or of the rows that the bytes hold
-abbrev pub ShowsAs : Bool → Request → List ℕ → Text → Type 0
-ShowsAs false request bytes text = text ≡ view_text (format_told request.source) request.view bytes
-ShowsAs true request bytes text = (rows : List (List Text)) × AreAsked request.source bytes rows × (text ≡ table_text request.view rows)
+-- the rows are the answer, or those that the bytes hold
+abbrev pub AreRowsAs : Bool → Source → List ℕ → List (List Text) → Type 0
+AreRowsAs false source bytes rows = (input_fault (format_told source) bytes ≡ None) × (rows ≡ rows_in (format_told source) bytes)
+AreRowsAs true source bytes rows = AreAsked source bytes rows
 
+abbrev pub AreRows : Source → List ℕ → List (List Text) → Type 0
+AreRows source bytes rows = AreRowsAs (holds_database source bytes) source bytes rows
+
+-- why there are none, unless memory was refused; a log that may hide rows comes before all that is asked of a database
+abbrev pub LacksRowsAs : Bool → Source → List ℕ → InputFault → Type 0
+LacksRowsAs false source bytes fault = is_memory fault ≡ false → input_fault (format_told source) bytes ≡ Some (but_line_in fault)
+LacksRowsAs true source bytes (input.Rows fault) = ⊥
+LacksRowsAs true source bytes (input.Json fault) = ⊥
+LacksRowsAs true source bytes (input.Stream fault) = ⊥
+LacksRowsAs true source bytes (input.Sql fault) = (hides_rows (log_of source) bytes ≡ false) × (fault ≡ sql.Database → HoldsNone bytes)
+LacksRowsAs true source bytes input.NoQuery = (hides_rows (log_of source) bytes ≡ false) × (query_of source ≡ None)
+LacksRowsAs true source bytes input.Log = hides_rows (log_of source) bytes ≡ true
+LacksRowsAs true source bytes (input.Column name) = ⊥
+LacksRowsAs true source bytes input.Totals = ⊥
+LacksRowsAs true source bytes input.Memory = ⊤
+
+abbrev pub LacksRows : Source → List ℕ → InputFault → Type 0
+LacksRows source bytes fault = LacksRowsAs (holds_database source bytes) source bytes fault
+
+-- or the input can't be read
+abbrev pub LacksInput : Source → List ℕ → RunFault → Type 0
+LacksInput source bytes (Input fault) = LacksRows source bytes fault
+LacksInput source bytes Read = ⊤
+LacksInput source bytes Closed = ⊥
+LacksInput source bytes Write = ⊥
+
+-- ---- what is shown of them at once
+
+-- the text is their picture
 abbrev pub ShowsAll : Request → List ℕ → Text → Type 0
-ShowsAll request bytes text = ShowsAs (holds_database request.source bytes) request bytes text
+ShowsAll request bytes text = (rows : List (List Text)) × AreRows request.source bytes rows × (table_fault request.view rows ≡ None) × (text ≡ table_text request.view rows)
 
--- a fault has its cause in the request and the bytes, unless it is one of memory, of the query or of damage; a log that may hide rows
--- comes before all that is asked of the database
-abbrev pub CausedAs : Bool → Request → List ℕ → InputFault → Type 0
-CausedAs false request bytes fault = is_memory fault ≡ false → view_fault (format_told request.source) request.view bytes ≡ Some (but_line_in fault)
-CausedAs true request bytes (input.Rows fault) = ⊥
-CausedAs true request bytes (input.Json fault) = ⊥
-CausedAs true request bytes (input.Stream fault) = ⊥
-CausedAs true request bytes (input.Sql fault) = (hides_rows (log_of request.source) bytes ≡ false) × (fault ≡ sql.Database → HoldsNone bytes)
-CausedAs true request bytes input.NoQuery = (hides_rows (log_of request.source) bytes ≡ false) × (query_of request.source ≡ None)
-CausedAs true request bytes input.Log = hides_rows (log_of request.source) bytes ≡ true
-CausedAs true request bytes (input.Column name) = (rows : List (List Text)) × AreAsked request.source bytes rows × (option_map fault_of_view (table_fault request.view rows) ≡ Some (input.Column name))
-CausedAs true request bytes input.Totals = (rows : List (List Text)) × AreAsked request.source bytes rows × (option_map fault_of_view (table_fault request.view rows) ≡ Some input.Totals)
-CausedAs true request bytes input.Memory = ⊤
-
+-- there are no rows, or they have no table
 abbrev pub CausedAll : Request → List ℕ → InputFault → Type 0
-CausedAll request bytes fault = CausedAs (holds_database request.source bytes) request bytes fault
+CausedAll request bytes fault =
+    LacksRows request.source bytes fault ⊎ ((rows : List (List Text)) × AreRows request.source bytes rows × (option_map fault_of_view (table_fault request.view rows) ≡ Some fault))
 
 -- ---- a run
 
@@ -65,12 +82,13 @@ ShowsBy (FromFirst count) request bytes text = (streamed_fault request count byt
 abbrev pub Shows : Request → List ℕ → Text → Type 0
 Shows request bytes text = ShowsBy request.rows request bytes text
 
--- at once: what is wrong is told before anything is written; where a write fails, a beginning of the text is written
+-- at once: a beginning of the picture of the rows is written
 abbrev pub IsBegun : Request → List ℕ → Option (List ℕ) → Option (List ℕ) → Type 0
-IsBegun request bytes old new = (text : Text) × ShowsAll request bytes text × Begins old new text
+IsBegun request bytes old new = (rows : List (List Text)) × AreRows request.source bytes rows × Begins old new (table_text request.view rows)
 
+-- what is wrong is told before anything is written, except that memory may be refused, and a write may fail, while rows are written
 abbrev pub CausedAtOnce : Request → List ℕ → RunFault → Option (List ℕ) → Option (List ℕ) → Type 0
-CausedAtOnce request bytes (Input fault) old new = CausedAll request bytes fault × Keeps old new
+CausedAtOnce request bytes (Input fault) old new = (is_memory fault ≡ false → CausedAll request bytes fault × Keeps old new) × (is_memory fault ≡ true → Keeps old new ⊎ IsBegun request bytes old new)
 CausedAtOnce request bytes Read old new = Keeps old new
 CausedAtOnce request bytes Closed old new = IsBegun request bytes old new
 CausedAtOnce request bytes Write old new = IsBegun request bytes old new

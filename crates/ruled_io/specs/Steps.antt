@@ -1,18 +1,19 @@
 -- What the parts of a run row by row do.
-use Rattle.std.specs.Prelude.{◌≡◌, ◌⊎◌, ℕ, ◌≤◌, false, ⊤, List, ◌∷◌, ◌++◌, length, nat_lt, Option, Some, None, option_map, Result, Ok, Err, if◌then◌else◌}
-use Rattle.std.specs.Io.KnownBytes.{Appends}
+use Rattle.std.specs.Prelude.{◌≡◌, ◌⊎◌, ℕ, ◌≤◌, true, false, ⊤, List, ◌∷◌, ◌++◌, length, nat_lt, Option, Some, None, option_map, Result, Ok, Err, if◌then◌else◌}
+use Rattle.std.specs.Io.KnownBytes.{Appends, Keeps}
 use Rattle.pg_layout.specs.Text.{Text}
 use Rattle.ruled_table.specs.Plans.{Plan}
 use Rattle.ruled_table.specs.RowLines.{HasNoRoom, begun_text}
-use Rattle.ruled_io.specs.Faults.{but_line, is_failure}
+use Rattle.ruled_io.specs.Faults.{but_line, fault_of_view, is_early, is_failure, is_memory, is_read}
 use Rattle.ruled_io.specs.Stream.{lines_in}
 use Rattle.ruled_io.specs.Writing.{Begins}
 use Rattle.ruled_io.specs.declared.fault.InputFault.{InputFault}
 use Rattle.ruled_io.specs.declared.fault.InputFault.TheVariants.{Totals}
 use Rattle.ruled_io.specs.declared.fault.RunFault.{RunFault}
-use Rattle.ruled_io.specs.declared.fault.RunFault.TheVariants.{Input}
+use Rattle.ruled_io.specs.declared.fault.RunFault.TheVariants.{Input, Read, Closed, Write}
 use Rattle.ruled_io.specs.declared.reader.Reading.{Reading}
 use Rattle.ruled_io.specs.declared.reader.Reading.TheVariants.{More, Done}
+use Rattle.ruled_table.specs.declared.fault.ViewFault.{ViewFault}
 use Rattle.ruled_table.specs.declared.options.Options.{Options}
 
 -- a text that is written grows to another one
@@ -57,3 +58,19 @@ module _ (options : Options) (plan : Plan) (rows : List (List Text)) (wrong : Op
   EndsBelow (Err fault) =
       Nears (begun_text options plan above) (lines_in options plan rows wrong) old new
       × (is_failure fault ≡ false → ((option_map Input wrong ≡ Some (but_line fault)) × Grows (begun_text options plan above) (lines_in options plan rows wrong) old new) ⊎ ((fault ≡ Input Totals) × StopsBelow))
+
+-- ---- rows that are all shown at once
+
+-- A text of which this is wrong: it is written, or what is wrong is told; where memory is refused or a write fails, a beginning is written.
+module _ (text : Text) (wrong : Option ViewFault) (old new : Option (List ℕ)) where
+  abbrev pub Draws : {X : Type 0} → Result X RunFault → Type 0
+  Draws (Ok x) = (wrong ≡ None) × Appends old new text
+  Draws (Err (Input fault)) = (is_memory fault ≡ false → (option_map fault_of_view wrong ≡ Some fault) × Keeps old new) × (is_memory fault ≡ true → Begins old new text)
+  Draws (Err Read) = ⊥
+  Draws (Err Closed) = Begins old new text
+  Draws (Err Write) = Begins old new text
+
+  -- where it is drawn of what is in memory, nothing else is wrong
+  abbrev pub DrawsInMemory : {X : Type 0} → Result X RunFault → Type 0
+  DrawsInMemory (Ok x) = (wrong ≡ None) × Appends old new text
+  DrawsInMemory (Err fault) = (is_read fault ≡ false) × (is_early fault ≡ false) × Begins old new text

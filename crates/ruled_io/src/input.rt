@@ -1,23 +1,22 @@
-//! The rows that an input holds.
+//! The rows that an input holds, or that are asked of it.
 
-ghost use Rattle.std.specs.Prelude.{◌≡◌, map, IfOk};
+ghost use Rattle.std.specs.Prelude.{◌≡◌, map, true, IfErr, IfOk};
 ghost use Rattle.csv.specs.Records.{fields_of};
 ghost use Rattle.ruled_io.specs.Faults.{Tells};
 ghost use Rattle.ruled_io.specs.Input.{format_fault, input_fault, rows_in, rows_of};
+ghost use Rattle.ruled_io.specs.Runs.{AreAsked, AreRows, LacksRows, LacksRowsAs};
 
 use crate::fault::InputFault;
 use crate::formats::{Format, format_in};
+use crate::request::Source;
 use csv::StringRecord;
 use ruled_csv::{read_rows, without_mark};
 use ruled_json::read_line_rows;
+use ruled_sql::query_rows;
 use std::alloc::Global;
 
-/// The rows that bytes of this format hold.
-pub(crate) fn rows_of(
-    alloc: Global,
-    format: Format,
-    bytes: &[u8],
-) -> Result<Vec<StringRecord>, InputFault>
+// The rows that bytes of this format hold.
+fn rows_of(alloc: Global, format: Format, bytes: &[u8]) -> Result<Vec<StringRecord>, InputFault>
     ensures rows { IfOk result (λ rows. map fields_of rows.items ≡ rows_of format bytes.now) }
     ensures fault { Tells (format_fault format bytes.now) result }
 {
@@ -28,8 +27,8 @@ pub(crate) fn rows_of(
     }
 }
 
-/// The rows that bytes hold, of which the first is row 0, or why there are none.
-pub(crate) fn rows_in(
+// The rows that bytes hold, of which the first is row 0, or why there are none.
+fn rows_in(
     alloc: Global,
     told: Option<Format>,
     bytes: &[u8],
@@ -39,4 +38,33 @@ pub(crate) fn rows_in(
 {
     let format = format_in(alloc, told, bytes)?;
     rows_of(alloc, format, bytes)
+}
+
+// The rows that are asked of a database.
+fn asked_rows(alloc: Global, source: &Source, bytes: &[u8]) -> Result<Vec<StringRecord>, InputFault>
+    ensures rows { IfOk result (λ rows. AreAsked source.now bytes.now (map fields_of rows.items)) }
+    ensures cause { IfErr result (LacksRowsAs true source.now bytes.now) }
+{
+    if source.log().hides_rows(bytes) {
+        return Err(InputFault::Log);
+    }
+    match source.query() {
+        Some(query) => Ok(query_rows(alloc, bytes, query)?),
+        None => Err(InputFault::NoQuery),
+    }
+}
+
+/// The rows of an input of these bytes, of which the first is row 0, or why there are none.
+pub(crate) fn all_rows(
+    alloc: Global,
+    source: &Source,
+    bytes: &[u8],
+) -> Result<Vec<StringRecord>, InputFault>
+    ensures rows { IfOk result (λ rows. AreRows source.now bytes.now (map fields_of rows.items)) }
+    ensures cause { IfErr result (LacksRows source.now bytes.now) }
+{
+    if source.is_database(bytes) {
+        return asked_rows(alloc, source, bytes);
+    }
+    rows_in(alloc, source.format(), bytes)
 }

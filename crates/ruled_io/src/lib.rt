@@ -2,21 +2,22 @@
 //! input out, all at once or row by row. All that is read and written of the command is here.
 #![tactic(auto)]
 
+mod at_once;
 mod fault;
 mod formats;
 mod input;
+mod lines;
 mod name;
+mod output;
 mod pieces;
 mod program;
 mod reader;
 mod request;
 mod stream;
-mod text;
-mod write;
 
 pub use crate::fault::{InputFault, RunFault, StreamedFault};
 pub use crate::formats::{Format, Kind};
 pub use crate::name::{OneLine, Quoted};
+pub use crate::output::Output;
 pub use crate::program::{Ending, run};
 pub use crate::request::{Log, Request, Rows, Source};
-pub use crate::text::view;

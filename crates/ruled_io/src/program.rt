@@ -1,20 +1,21 @@
 //! A run over a reader and two writers.
 
-ghost use Rattle.std.specs.Prelude.{◌≡◌, false, Some, None, IfErr, IfOk, IfSome, OnOk};
+ghost use Rattle.std.specs.Prelude.{◌≡◌, true, Some, None, IfErr, IfOk, IfSome, OnOk};
 ghost use Rattle.std.specs.Io.KnownBytes.{Appends, Keeps};
 ghost use Rattle.std.specs.Result.{result_err};
-ghost use Rattle.ruled_io.specs.Faults.{IsOfRead, is_of_write, status_after};
-ghost use Rattle.ruled_io.specs.Runs.{Caused, CausedAtOnce, Shows, ShowsAll};
+ghost use Rattle.ruled_io.specs.Faults.{is_early, status_after};
+ghost use Rattle.ruled_io.specs.Output.{TellsWrite, failure_of, fault_written, written};
+ghost use Rattle.ruled_io.specs.Runs.{Caused, Shows};
 ghost use Rattle.ruled_io.specs.declared.fault.RunFault.{RunFault};
 ghost use Rattle.ruled_io.specs.declared.request.Rows.{Rows};
 
-use crate::fault::{InputFault, RunFault};
+use crate::at_once::show_at_once;
+use crate::fault::RunFault;
+use crate::output::Output;
 use crate::request::{Request, Rows};
 use crate::stream::stream;
-use crate::text::text_of;
-use crate::write::write_text;
 use std::alloc::Global;
-use std::io::{ErrorKind, Read, Write};
+use std::io::{Read, Write};
 
 /// How a run ended.
 #[derive(Clone, Copy)]
@@ -35,48 +36,17 @@ impl Ending {
     }
 }
 
-// All that an input gives, or that it can't be read.
-fn read_whole<R: Read>(alloc: Global, input: &mut R) -> Result<Vec<u8>, RunFault>
-    ensures whole { IfOk result (λ bytes. IfSome (R.remaining input.old) (λ given. bytes.items ≡ given)) }
-    ensures failed { IfErr result IsOfRead }
-{
-    let mut bytes = Vec::new(alloc);
-    match input.read_to_end(&mut bytes) {
-        Ok(_) => Ok(bytes),
-        Err(error) if error.kind() == ErrorKind::OutOfMemory => {
-            Err(RunFault::Input(InputFault::Memory))
-        }
-        Err(_) => Err(RunFault::Read),
-    }
-}
-
-// Shows the table of the input at once.
-fn show_at_once<R: Read, W: Write>(
-    alloc: Global,
-    request: &Request,
-    input: &mut R,
-    out: &mut W,
-) -> Result<(), RunFault>
-    ensures shown { OnOk result (IfSome (R.remaining input.old) (λ bytes. (text : _) × ShowsAll request.now bytes text × Appends (W.contents out.old) (W.contents out.new) text)) }
-    ensures cause { IfErr result (λ fault. IfSome (R.remaining input.old) (λ bytes. CausedAtOnce request.now bytes fault (W.contents out.old) (W.contents out.new))) }
-    ensures unwritten { IfErr result (λ fault. is_of_write fault ≡ false → Keeps (W.contents out.old) (W.contents out.new)) }
-{
-    let bytes = read_whole(alloc, input)?;
-    let text = text_of(alloc, request, &bytes)?;
-    write_text(&text, out)?;
-    Ok(())
-}
-
 // Shows the table of the input, at once or row by row.
-fn show<R: Read + Drop, W: Write>(
+fn show<R: Read + Drop, W: Write + Drop>(
     alloc: Global,
     request: &Request,
     input: R,
-    out: &mut W,
+    out: &mut Output<W>,
 ) -> Result<(), RunFault>
-    ensures shown { OnOk result (IfSome (R.remaining input) (λ bytes. (text : _) × Shows request.now bytes text × Appends (W.contents out.old) (W.contents out.new) text)) }
-    ensures cause { IfErr result (λ fault. IfSome (R.remaining input) (λ bytes. Caused request.now bytes fault (W.contents out.old) (W.contents out.new))) }
-    ensures unwritten { request.now.rows ≡ Rows.AtOnce → IfErr result (λ fault. is_of_write fault ≡ false → Keeps (W.contents out.old) (W.contents out.new)) }
+    ensures shown { OnOk result (IfSome (R.remaining input) (λ bytes. (text : _) × Shows request.now bytes text × Appends (W.contents out.old.writer) (W.contents out.new.writer) text)) }
+    ensures cause { IfErr result (λ fault. IfSome (R.remaining input) (λ bytes. Caused request.now bytes fault (W.contents out.old.writer) (W.contents out.new.writer))) }
+    ensures unwritten { request.now.rows ≡ Rows.AtOnce → IfErr result (λ fault. is_early fault ≡ true → Keeps (W.contents out.old.writer) (W.contents out.new.writer)) }
+    ensures told { TellsWrite (failure_of out.old) (failure_of out.new) result }
 {
     let mut input = input;
     match request.rows {
@@ -106,8 +76,9 @@ fn ending_of<W: Write>(answer: Result<(), RunFault>, request: &Request, err: &mu
 /// Shows the table of the rows that are asked of `input`, or tells why there is none: of a database the
 /// rows that its query has, and else those that the bytes hold.
 ///
-/// At once, all of `input` is read before anything is written. The text of the table is then written to `out`,
-/// and nothing is written before a fault but a beginning of that text, by a write that failed.
+/// At once, all of `input` is read, and what is wrong with it or its table is reported, before anything is written.
+/// Then each row is written to `out` when it is drawn, so no text of the table is kept. If memory is refused or a
+/// write fails meanwhile, a beginning of the text has been written.
 ///
 /// Row by row, widths and sides are those of the first so many rows, at least one, and of a header, or of all where
 /// there are fewer; nothing is written before these are there. Then each row is written to `out` when its line is
@@ -116,18 +87,19 @@ fn ending_of<W: Write>(answer: Result<(), RunFault>, request: &Request, err: &mu
 /// before anything is written. A later one ends the table behind the rows above it, and so does `Totals` of a row
 /// that has no room below them, whose lines can't be counted.
 ///
-/// Each fault is one line on `err`, except that nothing is told where nobody reads what is written. A failed write to
-/// `err` changes no answer.
-pub fn run<R: Read + Drop, W1: Write, W2: Write>(
+/// Each fault is one line on `err`, except that nothing is reported where nobody reads what is written. A failed write
+/// to `err` changes no result. `Closed` and `Write` are returned if a write to `out` has failed so, and only then.
+pub fn run<R: Read + Drop, W1: Write + Drop, W2: Write>(
     alloc: Global,
     request: &Request,
     input: R,
-    out: &mut W1,
+    out: &mut Output<W1>,
     err: &mut W2,
 ) -> Ending
-    ensures shown { result.fault ≡ None → IfSome (R.remaining input) (λ bytes. (text : _) × Shows request.now bytes text × Appends (W1.contents out.old) (W1.contents out.new) text) }
-    ensures cause { IfSome result.fault (λ fault. IfSome (R.remaining input) (λ bytes. Caused request.now bytes fault (W1.contents out.old) (W1.contents out.new))) }
-    ensures unwritten { request.now.rows ≡ Rows.AtOnce → IfSome result.fault (λ fault. is_of_write fault ≡ false → Keeps (W1.contents out.old) (W1.contents out.new)) }
+    ensures shown { result.fault ≡ None → IfSome (R.remaining input) (λ bytes. (text : _) × Shows request.now bytes text × Appends (written W1.contents out.old) (written W1.contents out.new) text) }
+    ensures cause { IfSome result.fault (λ fault. IfSome (R.remaining input) (λ bytes. Caused request.now bytes fault (written W1.contents out.old) (written W1.contents out.new))) }
+    ensures unwritten { request.now.rows ≡ Rows.AtOnce → IfSome result.fault (λ fault. is_early fault ≡ true → Keeps (written W1.contents out.old) (written W1.contents out.new)) }
+    ensures failed { failure_of out.old ≡ None → failure_of out.new ≡ fault_written result.fault }
     ensures silent { result.fault ≡ None → Keeps (W2.contents err.old) (W2.contents err.new) }
     ensures closed { result.fault ≡ Some RunFault.Closed → Keeps (W2.contents err.old) (W2.contents err.new) }
 {

@@ -6,8 +6,9 @@ ghost use Rattle.csv.specs.Records.{fields_of};
 ghost use Rattle.ruled_table.specs.Appended.{HasAppended};
 ghost use Rattle.ruled_table.specs.Plans.{Plan};
 ghost use Rattle.ruled_io.specs.Faults.{IsOfRead, but_line_in, is_failure, is_of_write};
+ghost use Rattle.ruled_io.specs.Output.{TellsWrite, failure_in, failure_of};
 ghost use Rattle.ruled_io.specs.Reading.{Stands, sound_rows, wrong_in};
-ghost use Rattle.ruled_io.specs.Steps.{EndsBelow, FailsIn, IsEnough, WritesRows, wrong_within};
+ghost use Rattle.ruled_io.specs.Steps.{EndsBelow, IsEnough, wrong_within};
 ghost use Rattle.ruled_io.specs.Stream.{Ends, StreamsAll, first_count, has_names, record_count};
 ghost use Rattle.ruled_io.specs.declared.fault.RunFault.{RunFault};
 ghost use Rattle.ruled_io.specs.declared.formats.Format.{Format};
@@ -15,75 +16,27 @@ ghost use Rattle.ruled_table.specs.declared.options.Options.{Options};
 
 use crate::fault::{InputFault, RunFault, StreamedFault};
 use crate::formats::{Format, format_streamed};
+use crate::lines::{write_end, write_rows};
+use crate::output::Output;
 use crate::pieces::Pieces;
 use crate::reader::Reading;
 use crate::request::Request;
-use crate::write::{flush, write_bytes};
 use csv::StringRecord;
 use ruled_table::{Layout, Options, TableRows};
 use std::alloc::Global;
 use std::io::{Read, Write};
 
-// Writes the lines of a row.
-fn write_row<W: Write>(
-    table: &mut TableRows<'_>,
-    fields: &StringRecord,
-    buf: &mut String,
-    out: &mut W,
-) -> Result<(), RunFault>
-    ensures after { (options : Options) (plan : Plan) (above : List (List (List ℕ))) → HasAppended options plan above table.old → OnOk result (HasAppended options plan (above ++ fields_of fields.now ∷ []) table.new) }
-    ensures written { (options : Options) (plan : Plan) (above : List (List (List ℕ))) → HasAppended options plan above table.old → OnOk result (WritesRows options plan above (fields_of fields.now ∷ []) (W.contents out.old) (W.contents out.new)) }
-    ensures failed { (options : Options) (plan : Plan) (above : List (List (List ℕ))) → HasAppended options plan above table.old → IfErr result (FailsIn options plan above (fields_of fields.now ∷ []) (W.contents out.old) (W.contents out.new)) }
-{
-    buf.clear();
-    table.push(fields, buf)?;
-    write_bytes(buf.as_bytes(), out)
-}
-
-// Writes the lines of rows.
-fn write_rows<W: Write>(
-    table: &mut TableRows<'_>,
-    rows: &[StringRecord],
-    buf: &mut String,
-    out: &mut W,
-) -> Result<(), RunFault>
-    ensures after { (options : Options) (plan : Plan) (above : List (List (List ℕ))) → HasAppended options plan above table.old → OnOk result (HasAppended options plan (above ++ map fields_of rows.now) table.new) }
-    ensures written { (options : Options) (plan : Plan) (above : List (List (List ℕ))) → HasAppended options plan above table.old → OnOk result (WritesRows options plan above (map fields_of rows.now) (W.contents out.old) (W.contents out.new)) }
-    ensures failed { (options : Options) (plan : Plan) (above : List (List (List ℕ))) → HasAppended options plan above table.old → IfErr result (FailsIn options plan above (map fields_of rows.now) (W.contents out.old) (W.contents out.new)) }
-{
-    for fields in rows {
-        write_row(table, fields, buf, out)?;
-    }
-    Ok(())
-}
-
-// Writes the end of a table whose rows are all there are, or tells what is wrong behind them.
-fn write_end<W: Write>(
-    table: TableRows<'_>,
-    wrong: Option<InputFault>,
-    buf: &mut String,
-    out: &mut W,
-) -> Result<(), RunFault>
-    ensures { (options : Options) (plan : Plan) (rows : List (List (List ℕ))) → HasAppended options plan rows table.entry → EndsBelow options plan rows (option_map but_line_in wrong) rows (W.contents out.old) (W.contents out.new) result }
-{
-    if let Some(fault) = wrong {
-        return Err(RunFault::Input(fault));
-    }
-    buf.clear();
-    table.finish(buf)?;
-    write_bytes(buf.as_bytes(), out)
-}
-
 // Writes the lines of rows that were given and of those that follow them, and the end of the table.
-fn write_table<R: Read + Drop, W: Write>(
+fn write_table<R: Read + Drop, W: Write + Drop>(
     alloc: Global,
     mut table: TableRows<'_>,
     mut reading: Reading,
     mut rows: Vec<StringRecord>,
     pieces: &mut Pieces<R>,
-    out: &mut W,
+    out: &mut Output<W>,
 ) -> Result<(), RunFault>
-    ensures { (options : Options) (plan : Plan) (format : Format) (records : ℕ) (all : List ℕ) (above : List (List (List ℕ))) → Stands format records all (R.remaining pieces.old.input) (above ++ map fields_of rows.items) reading → HasAppended options plan above table.entry → EndsBelow options plan (sound_rows format records all) (wrong_in format records all) above (W.contents out.old) (W.contents out.new) result }
+    ensures ends { (options : Options) (plan : Plan) (format : Format) (records : ℕ) (all : List ℕ) (above : List (List (List ℕ))) → Stands format records all (R.remaining pieces.old.input) (above ++ map fields_of rows.items) reading → HasAppended options plan above table.entry → EndsBelow options plan (sound_rows format records all) (wrong_in format records all) above (W.contents out.old.writer) (W.contents out.new.writer) result }
+    ensures told { TellsWrite (failure_of out.old) (failure_of out.new) result }
 {
     let mut buf = String::new(alloc);
     for _ in 0..usize::MAX {
@@ -92,7 +45,7 @@ fn write_table<R: Read + Drop, W: Write>(
         match reading {
             Reading::Done(wrong) => return write_end(table, wrong, &mut buf, out),
             Reading::More(reader) => {
-                flush(out)?;
+                out.flush()?;
                 reading = pieces.read_on(reader, &mut rows)?;
             }
         }
@@ -135,27 +88,18 @@ fn wrong_within(reading: &Reading, count: usize, rows: usize) -> Option<InputFau
     }
 }
 
-// So many first rows, or all.
-fn first_of(rows: &[StringRecord], count: usize) -> &[StringRecord]
-    ensures { result.now ≡ take count rows.now }
-{
-    match rows.get(..count) {
-        Some(first) => first,
-        None => rows,
-    }
-}
-
 // Shows the table whose first rows are there.
-fn show_table<R: Read + Drop, W: Write>(
+fn show_table<R: Read + Drop, W: Write + Drop>(
     alloc: Global,
     options: &Options,
     count: usize,
     reading: Reading,
-    rows: Vec<StringRecord>,
+    mut rows: Vec<StringRecord>,
     pieces: &mut Pieces<R>,
-    out: &mut W,
+    out: &mut Output<W>,
 ) -> Result<(), RunFault>
-    ensures { (format : Format) (records : ℕ) (all : List ℕ) → 0 < count → IsEnough count (map fields_of rows.items) reading → Stands format records all (R.remaining pieces.old.input) (map fields_of rows.items) reading → Ends options.now count (sound_rows format records all) (wrong_in format records all) (W.contents out.old) (W.contents out.new) result }
+    ensures ends { (format : Format) (records : ℕ) (all : List ℕ) → 0 < count → IsEnough count (map fields_of rows.items) reading → Stands format records all (R.remaining pieces.old.input) (map fields_of rows.items) reading → Ends options.now count (sound_rows format records all) (wrong_in format records all) (W.contents out.old.writer) (W.contents out.new.writer) result }
+    ensures told { TellsWrite (failure_of out.old) (failure_of out.new) result }
 {
     if let Some(fault) = wrong_within(&reading, count, rows.len()) {
         return Err(RunFault::Input(fault));
@@ -163,7 +107,7 @@ fn show_table<R: Read + Drop, W: Write>(
     if rows.is_empty() {
         return Ok(());
     }
-    let layout = Layout::of_rows(alloc, options, first_of(&rows, count))?;
+    let layout = Layout::of_rows(alloc, options, count, &mut rows)?;
     let table = TableRows::new(alloc, options, &layout)?;
     write_table(alloc, table, reading, rows, pieces, out)
 }
@@ -199,16 +143,17 @@ fn first_count(options: &Options, format: Format, count: usize) -> usize
 }
 
 // Shows the rows of an input in this format, of which these are the first bytes.
-fn show_rows<R: Read + Drop, W: Write>(
+fn show_rows<R: Read + Drop, W: Write + Drop>(
     alloc: Global,
     options: &Options,
     format: Format,
     count: usize,
     front: &[u8],
     pieces: &mut Pieces<R>,
-    out: &mut W,
+    out: &mut Output<W>,
 ) -> Result<(), RunFault>
-    ensures { (rest : List ℕ) → R.remaining pieces.old.input ≡ Some rest → Ends options.now (first_count options.now format count) (sound_rows format (record_count count) (front.now ++ rest)) (wrong_in format (record_count count) (front.now ++ rest)) (W.contents out.old) (W.contents out.new) result }
+    ensures ends { (rest : List ℕ) → R.remaining pieces.old.input ≡ Some rest → Ends options.now (first_count options.now format count) (sound_rows format (record_count count) (front.now ++ rest)) (wrong_in format (record_count count) (front.now ++ rest)) (W.contents out.old.writer) (W.contents out.new.writer) result }
+    ensures told { TellsWrite (failure_of out.old) (failure_of out.new) result }
 {
     let mut rows = Vec::new(alloc);
     let reading = Reading::of_front(alloc, format, record_count(count), front, &mut rows)?;
@@ -218,14 +163,15 @@ fn show_rows<R: Read + Drop, W: Write>(
 }
 
 // Shows the rows of an input.
-fn show_input<R: Read + Drop, W: Write>(
+fn show_input<R: Read + Drop, W: Write + Drop>(
     alloc: Global,
     request: &Request,
     count: usize,
     pieces: &mut Pieces<R>,
-    out: &mut W,
+    out: &mut Output<W>,
 ) -> Result<(), RunFault>
-    ensures { IfSome (R.remaining pieces.old.input) (λ bytes. StreamsAll request.now count bytes (W.contents out.old) (W.contents out.new) result) }
+    ensures ends { IfSome (R.remaining pieces.old.input) (λ bytes. StreamsAll request.now count bytes (W.contents out.old.writer) (W.contents out.new.writer) result) }
+    ensures told { TellsWrite (failure_of out.old) (failure_of out.new) result }
 {
     let front = pieces.read_front(alloc, &request.source)?;
     if request.source.is_database(&front) {
@@ -236,25 +182,30 @@ fn show_input<R: Read + Drop, W: Write>(
 }
 
 // Shows what was written, behind which there is no more, whatever the answer is.
-fn show_to_end<W: Write>(answer: Result<(), RunFault>, out: &mut W) -> Result<(), RunFault>
-    ensures kept { Keeps (W.contents out.old) (W.contents out.new) }
+fn show_to_end<W: Write + Drop>(
+    answer: Result<(), RunFault>,
+    out: &mut Output<W>,
+) -> Result<(), RunFault>
+    ensures kept { Keeps (W.contents out.old.writer) (W.contents out.new.writer) }
     ensures fine { OnOk result (answer ≡ result) }
-    ensures told { (fault : RunFault) → result ≡ Err fault → is_failure fault ≡ false → answer ≡ result }
+    ensures early { (fault : RunFault) → result ≡ Err fault → is_failure fault ≡ false → answer ≡ result }
+    ensures told { failure_of out.old ≡ failure_in answer → failure_of out.new ≡ failure_in result }
 {
-    flush(out)?;
+    out.flush()?;
     answer
 }
 
 /// Shows the rows that the bytes of an input hold one after another, each when it comes, in the layout of the first so
 /// many.
-pub(crate) fn stream<R: Read + Drop, W: Write>(
+pub(crate) fn stream<R: Read + Drop, W: Write + Drop>(
     alloc: Global,
     request: &Request,
     count: usize,
     input: R,
-    out: &mut W,
+    out: &mut Output<W>,
 ) -> Result<(), RunFault>
-    ensures { IfSome (R.remaining input) (λ bytes. StreamsAll request.now count bytes (W.contents out.old) (W.contents out.new) result) }
+    ensures ends { IfSome (R.remaining input) (λ bytes. StreamsAll request.now count bytes (W.contents out.old.writer) (W.contents out.new.writer) result) }
+    ensures told { TellsWrite (failure_of out.old) (failure_of out.new) result }
 {
     let mut pieces = Pieces::new(input);
     let answer = show_input(alloc, request, count, &mut pieces, out);

@@ -60,7 +60,7 @@ field-shown options [] (suc place) = sym (none-shown options.is_markdown options
 field-shown options (x ∷ xs) zero = refl
 field-shown options (x ∷ xs) (suc place) = field-shown options xs place
 
-row-shown : (options : Options) (row : List Text) (places : List ℕ) → fields_at places (map (shown_text options) row) ≡ shown_row options places row
+pub row-shown : (options : Options) (row : List Text) (places : List ℕ) → fields_at places (map (shown_text options) row) ≡ shown_row options places row
 row-shown options row [] = refl
 row-shown options row (place ∷ places) =
     ap (λ (t : Text). t ∷ fields_at places (map (shown_text options) row)) (field-shown options row place)
@@ -71,9 +71,3 @@ rows-shown options places [] = refl
 rows-shown options places (row ∷ rows) =
     ap (λ (ts : List Text). ts ∷ map (fields_at places) (map (map (shown_text options)) rows)) (row-shown options row places)
     ∙ ap (λ (xs : List (List Text)). shown_row options places row ∷ xs) (rows-shown options places rows)
-
--- the fields of records of the texts that are shown of rows
-pub lent-shown : (options : Options) (places : List ℕ) (records : List Row) (rows : List (List Text)) → map fields_of records ≡ map (map (shown_text options)) rows
-    → map (λ fields. fields_at places (fields_of fields)) records ≡ map (shown_row options places) rows
-lent-shown options places records rows are =
-    sym (map-map (fields_at places) fields_of records) ∙ ap (map (fields_at places)) are ∙ rows-shown options places rows

@@ -2,8 +2,8 @@ mod Fields
 pub mod LentTexts
 mod Looks
 mod MeasuredRows
-mod MoreBlocks
 mod MoreColumns
+mod NamedBlocks
 mod PlainTexts
 mod RowFaults
 pub mod RowPictures
@@ -15,4 +15,4 @@ mod Sizes
 pub mod StartedTables
 mod Tables
 mod Views
-mod WholeTables
+pub mod WholeTables

@@ -6,11 +6,10 @@ use Rattle.csv.specs.Records.{Row, fields_of}
 use Rattle.pg_layout.specs.Text.{Text}
 use Rattle.pg_config.specs.Config.{Config}
 use Rattle.ruled_table.specs.Faults.{totals_of}
-use Rattle.ruled_table.specs.Layouts.{but_last, cells_within, config_in, layout_by, layout_of, measured_in, places_in, ruler_of, sizes_fault_by, texts_in, whole_of}
+use Rattle.ruled_table.specs.Layouts.{but_last, config_in, layout_by, layout_of, measured_in, places_in, ruler_of, sizes_fault_by, texts_in}
 use Rattle.ruled_table.specs.LentRows.{fields_at, texts_at}
 use Rattle.ruled_table.specs.Plans.{Plan, plan_of}
 use Rattle.ruled_table.specs.Shown.{shown_row, shown_text}
-use Rattle.ruled_table.specs.View.{whole_table}
 use Rattle.ruled_table.specs.Widths.{first_config, widths_fault, widths_of}
 use Rattle.ruled_table.specs.declared.options.Options.{Options}
 use Rattle.ruled_table.proofs.LentTexts.{rows-shown}
@@ -57,6 +56,15 @@ module _ (options : Options) (first : List (List Text)) where
 
 -- ---- rows and the ruler below them, as they are lent
 
+-- of rows whose texts are shown as they stand
+pub ruled : (options : Options) (rows : List Row) (ruler : Row) (measured : List Row) → map (map (shown_text options)) (map fields_of rows) ≡ map fields_of rows → fields_of ruler ≡ ruler_of (slice_index_or (map fields_of rows) 0 [])
+    → measured ≡ rows ++ ruler ∷ [] → map fields_of measured ≡ map (map (shown_text options)) (map fields_of rows) ++ ruler_of (slice_index_or (map (map (shown_text options)) (map fields_of rows)) 0 []) ∷ []
+ruled options rows ruler measured stand is are =
+    ap (map fields_of) are
+    ∙ map-append fields_of rows (ruler ∷ [])
+    ∙ ap (λ (row : List Text). map fields_of rows ++ row ∷ []) is
+    ∙ sym (ap (λ (xs : List (List Text)). xs ++ ruler_of (slice_index_or xs 0 []) ∷ []) stand)
+
 pub but-last-map : {X Y : Type 0} (f : X → Y) (xs : List X) → map f (but_last xs) ≡ but_last (map f xs)
 but-last-map f xs = sym (take-map f (length xs - 1) xs) ∙ ap (λ (n : ℕ). take (n - 1) (map f xs)) (sym (length-map xs f))
 
@@ -90,12 +98,4 @@ module _ (options : Options) (rows : List (List Text)) (places : List ℕ) (meas
 
   pub sizes-lent : sizes_fault_by options (texts_at places measured) ≡ totals_of (widths_fault options.bounds (config_in options rows) (measured_in options rows))
   sizes-lent = ap (sizes_fault_by options) lent-measured ∙ sizes-measured options rows
-
   -- the text of the table of this layout
-  pub whole-lent : (plan : Plan) (above : List Row) → plan ≡ layout_by options places (texts_at places measured) → above ≡ but_last measured
-      → whole_of plan (cells_within options.bounds.overflow plan (texts_at plan.places above)) ≡ whole_table options rows
-  whole-lent plan above is rest =
-      let laid : plan ≡ layout_of options rows = is ∙ layout-lent in
-      let texts : texts_at (places_in options rows) above ≡ texts_in options rows = ap (λ (ps : List ℕ). texts_at ps above) (sym at) ∙ ap (texts_at places) rest ∙ lent-above in
-      ap (λ (p : Plan). whole_of p (cells_within options.bounds.overflow p (texts_at p.places above))) laid
-      ∙ ap (λ (ts : List (List Text)). whole_of (layout_of options rows) (cells_within options.bounds.overflow (layout_of options rows) ts)) texts

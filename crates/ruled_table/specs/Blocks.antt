@@ -1,12 +1,15 @@
 -- Records as blocks: a table of two columns for each record, with a row for each field, of its name and its text.
-use Rattle.std.specs.Prelude.{ℕ, List, [], ◌∷◌, ◌++◌, map, length, slice_index_or, Option, None}
+use Rattle.std.specs.Prelude.{ℕ, List, [], ◌∷◌, ◌++◌, drop, map, length, slice_index_or, Option, None}
 use Rattle.std.specs.List.{flat_map, range_with_len}
 use Rattle.std.specs.Option.{option_or}
 use Rattle.pg_layout.specs.Text.{Text}
 use Rattle.pg_config.specs.Config.{Config}
+use Rattle.ruled_table.specs.Columns.{places_of}
+use Rattle.ruled_table.specs.Shown.{look_config, shown_row}
 use Rattle.ruled_table.specs.Tables.{fault_with, text_with}
 use Rattle.ruled_table.specs.declared.bounds.Bounds.{Bounds}
 use Rattle.ruled_table.specs.declared.fault.ViewFault.{ViewFault}
+use Rattle.ruled_table.specs.declared.options.Options.{Options}
 
 -- a field's name and its text
 abbrev pub pair_at : List Text → List Text → ℕ → List Text
@@ -24,19 +27,29 @@ block_of bounds config names texts = text_with bounds config None (pairs_of name
 abbrev pub block_fault : Bounds → Config → List Text → List Text → Option ViewFault
 block_fault bounds config names texts = fault_with bounds config None (pairs_of names texts)
 
--- the blocks of records with these names, and what is wrong with the first one of which something is
-abbrev pub blocks_in : Bounds → Config → List Text → List (List Text) → Text
-blocks_in bounds config names rows = flat_map (block_of bounds config names) rows
+-- of rows, of which the first has the names
+module _ (options : Options) (rows : List (List Text)) where
+  abbrev pub places_in : List ℕ
+  places_in = places_of options.columns.items rows
 
-abbrev pub blocks_in_fault : Bounds → Config → List Text → List (List Text) → Option ViewFault
-blocks_in_fault bounds config names [] = None
-blocks_in_fault bounds config names (texts ∷ rows) = option_or (block_fault bounds config names texts) (blocks_in_fault bounds config names rows)
+  abbrev pub names_in : List Text
+  names_in = shown_row options places_in (slice_index_or rows 0 [])
 
--- the blocks of the records below a header
-abbrev pub blocks_of : Bounds → Config → List (List Text) → Text
-blocks_of bounds config [] = []
-blocks_of bounds config (names ∷ rows) = blocks_in bounds config names rows
+  -- the block of a record, and what is wrong with its sizes
+  abbrev pub record_block : List Text → Text
+  record_block row = block_of options.bounds (look_config options.look) names_in (shown_row options places_in row)
 
-abbrev pub blocks_fault : Bounds → Config → List (List Text) → Option ViewFault
-blocks_fault bounds config [] = None
-blocks_fault bounds config (names ∷ rows) = blocks_in_fault bounds config names rows
+  abbrev pub record_fault : List Text → Option ViewFault
+  record_fault row = block_fault options.bounds (look_config options.look) names_in (shown_row options places_in row)
+
+  -- what is wrong with the first record of which something is
+  abbrev pub records_fault : List (List Text) → Option ViewFault
+  records_fault [] = None
+  records_fault (row ∷ more) = option_or (record_fault row) (records_fault more)
+
+  -- the blocks of all records
+  abbrev pub blocks_text : Text
+  blocks_text = flat_map record_block (drop 1 rows)
+
+  abbrev pub blocks_fault : Option ViewFault
+  blocks_fault = records_fault (drop 1 rows)

@@ -8,6 +8,7 @@ pub mod Faults
 pub mod Layouts
 pub mod LentRows
 pub mod Look
+pub mod Named
 pub mod Numbers
 pub mod Plans
 pub mod RowLines

@@ -1,11 +1,11 @@
 -- The text of rows, and why there is none.
-use Rattle.std.specs.Prelude.{List, ◌∷◌, [], map, Option, None, if◌then◌else◌}
+use Rattle.std.specs.Prelude.{List, ◌∷◌, [], Option, None, if◌then◌else◌}
 use Rattle.std.specs.Option.{option_or}
 use Rattle.pg_layout.specs.Text.{Text}
-use Rattle.ruled_table.specs.Blocks.{blocks_fault, blocks_of}
-use Rattle.ruled_table.specs.Columns.{column_fault, places_of}
+use Rattle.ruled_table.specs.Blocks.{blocks_fault, blocks_text}
+use Rattle.ruled_table.specs.Columns.{column_fault}
 use Rattle.ruled_table.specs.Layouts.{first_fault, layout_of, whole_text}
-pub use Rattle.ruled_table.specs.Shown.{heads, limit_of, line_in, look_config, seen_text, shown_row, shown_text, sided_config}
+use Rattle.ruled_table.specs.Shown.{heads}
 use Rattle.ruled_table.specs.declared.fault.ViewFault.{ViewFault}
 use Rattle.ruled_table.specs.declared.options.Options.{Options}
 
@@ -20,22 +20,19 @@ abbrev pub whole_fault : Options → List (List Text) → Option ViewFault
 whole_fault options [] = None
 whole_fault options (row ∷ rows) = first_fault options (row ∷ rows)
 
--- ---- as a block for each record
+-- ---- as one table, or as a block for each record
 
-abbrev pub shown_rows : Options → List (List Text) → List (List Text)
-shown_rows options rows = map (shown_row options (places_of options.columns.items rows)) (heads options rows)
+abbrev pub all_text : Options → List (List Text) → Text
+all_text options rows = if options.is_vertical then blocks_text options rows else whole_table options rows
 
--- ---- the text of all rows
+abbrev pub all_fault : Options → List (List Text) → Option ViewFault
+all_fault options rows = if options.is_vertical then blocks_fault options rows else whole_fault options rows
 
--- of those that are shown
+-- ---- of those that are shown
+
 abbrev pub table_text : Options → List (List Text) → Text
-table_text options rows =
-    if options.is_vertical then blocks_of options.bounds (look_config options.look) (shown_rows options rows)
-    else whole_table options (heads options rows)
+table_text options rows = all_text options (heads options rows)
 
 -- why there is none: the names of columns, or the sizes
 abbrev pub table_fault : Options → List (List Text) → Option ViewFault
-table_fault options rows =
-    option_or (column_fault options.columns.items rows)
-    (if options.is_vertical then blocks_fault options.bounds (look_config options.look) (shown_rows options rows)
-    else whole_fault options (heads options rows))
+table_fault options rows = option_or (column_fault options.columns.items rows) (all_fault options (heads options rows))

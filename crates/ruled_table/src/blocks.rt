@@ -1,19 +1,37 @@
 //! Records as blocks: a table for each record, with a row for each field.
 
-ghost use Rattle.std.specs.Prelude.{◌≡◌, map, string_bytes, IfOk};
+ghost use Rattle.std.specs.Prelude.{◌≡◌, List, map, string_bytes, IfOk};
 ghost use Rattle.csv.specs.Records.{fields_of};
+ghost use Rattle.pg_layout.specs.Text.{Text};
 ghost use Rattle.ruled_table.specs.Blocks as spec;
+ghost use Rattle.ruled_table.specs.Columns.{column_fault};
 ghost use Rattle.ruled_table.specs.Faults.{Tells};
-ghost use Rattle.ruled_table.specs.LentRows.{fields_at, texts_of};
+ghost use Rattle.ruled_table.specs.LentRows.{fields_at};
+ghost use Rattle.ruled_table.specs.Named.{HasNames};
 ghost use Rattle.ruled_table.specs.Shown.{look_config};
+ghost use Rattle.ruled_table.specs.declared.options.Options.{Options};
 
 use crate::bounds::Bounds;
+use crate::columns::places_of;
 use crate::fault::ViewFault;
 use crate::lent_rows::{LentRows, text_in};
 use crate::look::Look;
+use crate::options::Options;
+use crate::rows::{all_stand, made_record};
 use crate::table::{look_config, text_with};
 use csv::StringRecord;
 use std::alloc::{AllocError, Global};
+
+/// Records as blocks: a table for each, with a row for each field, of its name and its text.
+#[derive(Drop)]
+pub struct Blocks<'a> {
+    alloc: Global,
+    options: &'a Options,
+    /// The names of the fields, as they are shown.
+    names: StringRecord,
+    /// Where the fields that are shown stand in a record.
+    places: Vec<usize>,
+}
 
 // A field's name and its text.
 fn pair_at(
@@ -71,42 +89,41 @@ fn block_of(
     Ok(text)
 }
 
-// The blocks of these rows.
-fn blocks_in(
-    alloc: Global,
-    bounds: &Bounds,
-    look: Look,
-    names: &StringRecord,
-    rows: LentRows<'_>,
-) -> Result<String, ViewFault>
-    ensures text { IfOk result (λ text. string_bytes text ≡ spec.blocks_in bounds.now (look_config look) (fields_at rows.entry.places.now (fields_of names.now)) (texts_of rows.entry)) }
-    ensures fault { Tells (spec.blocks_in_fault bounds.now (look_config look) (fields_at rows.entry.places.now (fields_of names.now)) (texts_of rows.entry)) result }
-{
-    let LentRows { records, places } = rows;
-    let mut text = String::new(alloc);
-    for fields in records {
-        let block = block_of(alloc, bounds, look, names, fields, places)?;
-        text.push_str(&block)?;
+impl<'a> Blocks<'a> {
+    /// The blocks of records, of which the first of these rows has the names.
+    ///
+    /// The fault is the first name of a column that it lacks, or want of memory.
+    pub fn new(
+        alloc: Global,
+        options: &'a Options,
+        rows: &[StringRecord],
+    ) -> Result<Blocks<'a>, ViewFault>
+        ensures names { IfOk result (HasNames options.now (map fields_of rows.now)) }
+        ensures fault { Tells (column_fault options.now.columns.items (map fields_of rows.now)) result }
+    {
+        let places = places_of(alloc, &options.columns, rows)?;
+        let names = match rows {
+            [names, ..] => made_record(alloc, options, names)?,
+            [] => StringRecord::new(alloc),
+        };
+        Ok(Blocks {
+            alloc,
+            options,
+            names,
+            places,
+        })
     }
-    Ok(text)
-}
 
-/// The blocks of the rows below a header.
-pub(crate) fn blocks_of(
-    alloc: Global,
-    bounds: &Bounds,
-    look: Look,
-    rows: LentRows<'_>,
-) -> Result<String, ViewFault>
-    ensures text { IfOk result (λ text. string_bytes text ≡ spec.blocks_of bounds.now (look_config look) (texts_of rows.entry)) }
-    ensures fault { Tells (spec.blocks_fault bounds.now (look_config look) (texts_of rows.entry)) result }
-{
-    let LentRows { records, places } = rows;
-    match records {
-        [] => Ok(String::new(alloc)),
-        [names, records @ ..] => {
-            let below = LentRows { records, places };
-            blocks_in(alloc, bounds, look, names, below)
+    /// The block of a record, and an empty line.
+    pub fn block(&self, fields: &StringRecord) -> Result<String, ViewFault>
+        ensures text { (options : Options) (rows : List (List Text)) → HasNames options rows self.now → IfOk result (λ text. string_bytes text ≡ spec.record_block options rows (fields_of fields.now)) }
+        ensures fault { (options : Options) (rows : List (List Text)) → HasNames options rows self.now → Tells (spec.record_fault options rows (fields_of fields.now)) result }
+    {
+        let Options { bounds, look, .. } = self.options;
+        if all_stand(self.options, fields) {
+            return block_of(self.alloc, bounds, *look, &self.names, fields, &self.places);
         }
+        let shown = made_record(self.alloc, self.options, fields)?;
+        block_of(self.alloc, bounds, *look, &self.names, &shown, &self.places)
     }
 }

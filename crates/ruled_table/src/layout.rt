@@ -1,17 +1,18 @@
 //! What the first rows of a table say of all its rows.
 
-ghost use Rattle.std.specs.Prelude.{◌≡◌, ◌++◌, ◌∷◌, [], map, slice_index_or, IfOk};
+ghost use Rattle.std.specs.Prelude.{◌≡◌, ◌++◌, ◌∷◌, [], map, slice_index_or, take, true, IfOk, OnOk};
 ghost use Rattle.csv.specs.Records.{fields_of};
 ghost use Rattle.ruled_table.specs.Faults.{Tells};
 ghost use Rattle.ruled_table.specs.Layouts as spec;
 ghost use Rattle.ruled_table.specs.LentRows.{texts_at};
 ghost use Rattle.ruled_table.specs.Plans.{plan_in};
+ghost use Rattle.ruled_table.specs.Shown.{shown_text};
 
 use crate::columns::places_of;
 use crate::fault::ViewFault;
 use crate::lent_rows::LentRows;
 use crate::options::Options;
-use crate::rows::shown_records;
+use crate::rows::{all_stand, shown_records};
 use crate::widths::{first_config, sizes_of_rows};
 use csv::StringRecord;
 use pg_config::SpannedConfig;
@@ -60,11 +61,8 @@ fn first_ruler(alloc: Global, rows: &[StringRecord]) -> Result<StringRecord, All
     }
 }
 
-/// Rows with a ruler below them, in which each column has one character.
-pub(crate) fn with_ruler(
-    alloc: Global,
-    rows: Vec<StringRecord>,
-) -> Result<Vec<StringRecord>, AllocError>
+// Rows with a ruler below them, in which each column has one character.
+fn with_ruler(alloc: Global, rows: Vec<StringRecord>) -> Result<Vec<StringRecord>, AllocError>
     ensures { IfOk result (λ measured. map fields_of measured.items ≡ map fields_of rows.items ++ spec.ruler_of (slice_index_or (map fields_of rows.items) 0 []) ∷ []) }
 {
     let ruler = first_ruler(alloc, &rows)?;
@@ -73,18 +71,78 @@ pub(crate) fn with_ruler(
     Ok(measured)
 }
 
-/// The rows above the ruler.
-pub(crate) fn above_ruler(measured: &[StringRecord]) -> &[StringRecord]
+// The rows above the ruler.
+fn above_ruler(measured: &[StringRecord]) -> &[StringRecord]
     ensures { result.now ≡ spec.but_last measured.now }
 {
     &measured[..measured.len().saturating_sub(1)]
 }
 
+// Whether each field of each of these rows is shown as it stands.
+fn rows_stand(options: &Options, rows: &[StringRecord]) -> bool
+    ensures { result ≡ true → map (map (shown_text options.now)) (map fields_of rows.now) ≡ map fields_of rows.now }
+{
+    for fields in rows {
+        if !all_stand(options, fields) {
+            return false;
+        }
+    }
+    true
+}
+
+// So many first rows, or all.
+fn first_of(rows: &[StringRecord], count: usize) -> &[StringRecord]
+    ensures { result.now ≡ take count rows.now }
+{
+    match rows.get(..count) {
+        Some(first) => first,
+        None => rows,
+    }
+}
+
 impl Layout {
-    /// The layout of a table whose first rows are these, a header among them.
+    /// The layout of a table of which so many first rows are these, a header among them, or all where there are
+    /// fewer. The rows stay as they are.
     ///
-    /// The fault is that of the names of columns, or of the sizes of these rows, in this order, or want of memory.
+    /// The fault is that of the names of columns, or of the sizes of the first rows, in this order, or want of memory.
+    /// No row is copied where all are first ones, and have no text that is shown in another form.
     pub fn of_rows(
+        alloc: Global,
+        options: &Options,
+        count: usize,
+        rows: &mut Vec<StringRecord>,
+    ) -> Result<Layout, ViewFault>
+        ensures layout { IfOk result (λ layout. plan_in layout ≡ spec.layout_of options.now (take count (map fields_of rows.old.items))) }
+        ensures rows { OnOk result (map fields_of rows.new.items ≡ map fields_of rows.old.items) }
+        ensures fault { Tells (spec.layout_fault options.now (take count (map fields_of rows.old.items))) result }
+    {
+        if rows.len() <= count && rows_stand(options, rows) {
+            return Layout::of_standing(alloc, options, rows);
+        }
+        Layout::of_copies(alloc, options, first_of(rows, count))
+    }
+
+    // The layout of these rows, each text of which is shown as it stands.
+    fn of_standing(
+        alloc: Global,
+        options: &Options,
+        rows: &mut Vec<StringRecord>,
+    ) -> Result<Layout, ViewFault>
+        requires { map (map (shown_text options.now)) (map fields_of rows.old.items) ≡ map fields_of rows.old.items }
+        ensures layout { IfOk result (λ layout. plan_in layout ≡ spec.layout_of options.now (map fields_of rows.old.items)) }
+        ensures rows { OnOk result (map fields_of rows.new.items ≡ map fields_of rows.old.items) }
+        ensures fault { Tells (spec.layout_fault options.now (map fields_of rows.old.items)) result }
+    {
+        let places = places_of(alloc, &options.columns, rows)?;
+        let ruler = first_ruler(alloc, rows)?;
+        rows.push(ruler)?;
+        let layout = Layout::of_measured(alloc, options, places, rows)?;
+        rows.pop();
+        Ok(layout)
+    }
+
+    // The layout of these rows, by copies of them.
+    fn of_copies(
         alloc: Global,
         options: &Options,
         first: &[StringRecord],
@@ -99,8 +157,8 @@ impl Layout {
         Layout::of_measured(alloc, options, places, &measured)
     }
 
-    /// The layout of rows of which the last one is a ruler, by the places of their columns.
-    pub(crate) fn of_measured(
+    // The layout of rows of which the last one is a ruler, by the places of their columns.
+    fn of_measured(
         alloc: Global,
         options: &Options,
         places: Vec<usize>,

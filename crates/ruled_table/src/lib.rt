@@ -19,11 +19,12 @@ mod table_rows;
 mod view;
 mod widths;
 
+pub use crate::blocks::Blocks;
 pub use crate::bounds::Bounds;
 pub use crate::fault::ViewFault;
 pub use crate::layout::Layout;
 pub use crate::look::Look;
 pub use crate::options::Options;
 pub use crate::table_rows::TableRows;
-pub use crate::view::view_rows;
+pub use crate::view::heads_of;
 pub use pg_table::{Breaking, Overflow};

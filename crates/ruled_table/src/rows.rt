@@ -67,8 +67,8 @@ fn stands(options: &Options, text: &str) -> bool
     is_plain_text(text)
 }
 
-// Whether each field of a record is.
-fn all_stand(options: &Options, fields: &StringRecord) -> bool
+/// Whether each field of a record is shown as it stands.
+pub(crate) fn all_stand(options: &Options, fields: &StringRecord) -> bool
     ensures { result ≡ true → map (shown_text options.now) (fields_of fields.now) ≡ fields_of fields.now }
 {
     for place in 0..fields.len() {
@@ -79,8 +79,8 @@ fn all_stand(options: &Options, fields: &StringRecord) -> bool
     true
 }
 
-// A record of the texts that are shown of a record's fields.
-fn made_record(
+/// A record of the texts that are shown of a record's fields.
+pub(crate) fn made_record(
     alloc: Global,
     options: &Options,
     fields: &StringRecord,

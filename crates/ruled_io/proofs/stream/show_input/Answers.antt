@@ -13,32 +13,32 @@ use Rattle.ruled_io.proofs.Shows.{failed-ends}
 use Rattle.ruled_io.proofs.Tables.{read-fails}
 use Rattle.ruled_io.proofs.stream.show_input.Goals as goal
 
-pub returns-in_err-front : goal.returns-in_err-front
-returns-in_err-front g c =
+pub returns-in_err-front-clause-ends : goal.returns-in_err-front-clause-ends
+returns-in_err-front-clause-ends g c =
     let request = c.args.request.now in
     let count = c.args.count in
-    let old = g.W.Write.contents c.args.out.now in
+    let old = g.W.Write.contents c.args.out.now.writer in
     let found : RunFault = c.in_err-front.field-0.0 in
     if-known {P = λ bytes. StreamsAll request count bytes old old c.from_residual.result} (g.R.Read.remaining c.args.pieces.now.input)
     (λ bytes is. failed-ends request.view (streamed_count request count bytes) (streamed_rows request count bytes) (streamed_wrong request count bytes) old found c.from_residual.result c.from_residual.ensures.1 (read-fails found c.in_err-front.ensures.failed))
 
-pub returns-then-is_database : goal.returns-then-is_database
-returns-then-is_database g c =
+pub returns-then-is_database-clause-ends : goal.returns-then-is_database-clause-ends
+returns-then-is_database-clause-ends g c =
     let request = c.args.request.now in
-    let old = g.W.Write.contents c.args.out.now in
+    let old = g.W.Write.contents c.args.out.now.writer in
     let left = g.R.Read.remaining c.read_front.new.self.input in
     let r : Result (Unit {0}) RunFault = Err (Input (Stream Database)) in
     let holds : holds_database request.source c.in_ok-front.front.items ≡ true = ap (holds_database request.source) (sym c.deref.ensures.value) ∙ sym c.is_database.ensures ∙ c.if-is_database.true in
     if-more {P = λ all. ReadsFront request.source all left c.in_ok-front.front.items} {Q = λ bytes. StreamsAll request c.args.count bytes old old r} (g.R.Read.remaining c.args.pieces.now.input) c.in_ok-front.ensures.read
     (λ bytes is front. database-ends request c.args.count bytes old r (front.3.0 ∙ holds) refl)
 
-pub returns : goal.returns
-returns g c =
+pub returns-clause-ends : goal.returns-clause-ends
+returns-clause-ends g c =
     let request = c.args.request.now in
     let count = c.args.count in
     let front : List ℕ = c.in_ok-front.front.items in
-    let old = g.W.Write.contents c.args.out.now in
-    let new = g.W.Write.contents c.show_rows.new.out in
+    let old = g.W.Write.contents c.args.out.now.writer in
+    let new = g.W.Write.contents c.show_rows.new.out.writer in
     let left = g.R.Read.remaining c.read_front.new.self.input in
     let format = c.format_streamed-format.result in
     let result = c.show_rows.result in
@@ -49,6 +49,6 @@ returns g c =
     if-more {P = λ all. ReadsFront request.source all left front} {Q = λ bytes. StreamsAll request count bytes old new result} (g.R.Read.remaining c.args.pieces.now.input) c.in_ok-front.ensures.read
     (λ bytes is reads.
     let ends = subst (λ (xs : List ℕ). Ends request.view (first_count request.view format count) (sound_rows format (record_count count) (xs ++ reads.0)) (wrong_in format (record_count count) (xs ++ reads.0)) old new result) c.deref-3.ensures.value
-    (c.show_rows.ensures reads.0 reads.2)
+    (c.show_rows.ensures.ends reads.0 reads.2)
     in
     rows-end-so request count front reads.0 bytes format old new result reads.1 reads.3.0 none shown reads.3.1 ends)

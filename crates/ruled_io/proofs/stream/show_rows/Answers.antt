@@ -9,32 +9,32 @@ use Rattle.ruled_io.proofs.Shows.{failed-ends}
 use Rattle.ruled_io.proofs.Tables.{read-fails}
 use Rattle.ruled_io.proofs.stream.show_rows.Goals as goal
 
-pub returns-in_err-reading : goal.returns-in_err-reading
-returns-in_err-reading g c = λ rest known.
+pub returns-in_err-reading-clause-ends : goal.returns-in_err-reading-clause-ends
+returns-in_err-reading-clause-ends g c = λ rest known.
     let options = c.args.options.now in
     let all : List ℕ = c.args.front.now ++ rest in
     let records : ℕ = record_count c.args.count in
-    failed-ends options (first_count options c.args.format c.args.count) (sound_rows c.args.format records all) (wrong_in c.args.format records all) (g.W.Write.contents c.args.out.now)
+    failed-ends options (first_count options c.args.format c.args.count) (sound_rows c.args.format records all) (wrong_in c.args.format records all) (g.W.Write.contents c.args.out.now.writer)
     (Input c.in_err-reading.field-0.0) c.from_residual.result c.from_residual.ensures.1 (ap is_memory c.in_err-reading.ensures.memory)
 
-pub returns-in_err-reading-2 : goal.returns-in_err-reading-2
-returns-in_err-reading-2 g c = λ rest known.
+pub returns-in_err-reading-2-clause-ends : goal.returns-in_err-reading-2-clause-ends
+returns-in_err-reading-2-clause-ends g c = λ rest known.
     let options = c.args.options.now in
     let all : List ℕ = c.args.front.now ++ rest in
     let records : ℕ = record_count c.args.count in
-    failed-ends options (first_count options c.args.format c.args.count) (sound_rows c.args.format records all) (wrong_in c.args.format records all) (g.W.Write.contents c.args.out.now)
+    failed-ends options (first_count options c.args.format c.args.count) (sound_rows c.args.format records all) (wrong_in c.args.format records all) (g.W.Write.contents c.args.out.now.writer)
     c.in_err-reading-2.field-0.0 c.from_residual-in_err-reading-2.result c.from_residual-in_err-reading-2.ensures.1 (read-fails c.in_err-reading-2.field-0.0 c.in_err-reading-2.ensures.failed)
 
-pub returns : goal.returns
-returns g c = λ rest known.
+pub returns-clause-ends : goal.returns-clause-ends
+returns-clause-ends g c = λ rest known.
     let options = c.args.options.now in
     let format = c.args.format in
     let all : List ℕ = c.args.front.now ++ rest in
     let records : ℕ = c.record_count.result in
-    let old = g.W.Write.contents c.args.out.now in
-    let new = g.W.Write.contents c.show_table.new.out in
+    let old = g.W.Write.contents c.args.out.now.writer in
+    let new = g.W.Write.contents c.show_table.new.out.writer in
     let begun = stands-so format records all (Some rest) (map fields_of c.new-rows.result.items) (map fields_of c.of_front.new.rows.items) c.in_ok-reading.reading (ap (map fields_of) c.new-rows.ensures.items) (c.in_ok-reading.ensures.given rest) in
     let here = subst (λ (left : Option (List ℕ)). Stands format records all left (map fields_of c.of_front.new.rows.items) c.in_ok-reading.reading) (sym known) begun in
-    let ends = c.show_table.ensures format records all c.first_count-first.ensures.some c.in_ok-reading-2.ensures.enough (c.in_ok-reading-2.ensures.given format records all here) in
+    let ends = c.show_table.ensures.ends format records all c.first_count-first.ensures.some c.in_ok-reading-2.ensures.enough (c.in_ok-reading-2.ensures.given format records all here) in
     subst (λ (n : ℕ). Ends options (first_count options format c.args.count) (sound_rows format n all) (wrong_in format n all) old new c.show_table.result) c.record_count.ensures
     (subst (λ (first : ℕ). Ends options first (sound_rows format records all) (wrong_in format records all) old new c.show_table.result) c.first_count-first.ensures.same ends)

@@ -1,32 +1,32 @@
-use Rattle.std.proofs.Common.{◌≡◌, ◌∙◌, ◌<◌, [], ℕ, List, None, Option, length, map, take, sym, ap, arith}
+use Rattle.std.proofs.Common.{◌≡◌, ◌∙◌, ◌<◌, [], ℕ, List, None, Option, length, map, take, sym, ap, subst, arith}
 use Rattle.std.specs.Prelude.{option_map}
 use Rattle.std.specs.Option.{option_or}
 use Rattle.std.proofs.lemmas.Bool.{eqb-true}
-use Rattle.std.proofs.lemmas.List.{length-map, take-map}
+use Rattle.std.proofs.lemmas.List.{length-map}
 use Rattle.csv.specs.Records.{fields_of}
 use Rattle.pg_layout.specs.Text.{Text}
 use Rattle.ruled_table.specs.Plans.{plan_in}
 use Rattle.ruled_table.specs.Layouts.{first_fault, layout_fault, layout_of, start_fault}
 use Rattle.ruled_table.specs.declared.fault.ViewFault.{ViewFault}
 use Rattle.ruled_io.specs.Faults.{of_view}
-use Rattle.ruled_io.specs.Reading.{sound_rows, wrong_in}
+use Rattle.ruled_io.specs.Reading.{Stands, sound_rows, wrong_in}
 use Rattle.ruled_io.specs.Steps.{wrong_within}
 use Rattle.ruled_io.proofs.Shows.{above-none, first-rows, judged, no-rows, none-ends, open-rows, refused-ends, some-rows, table-ends}
 use Rattle.ruled_io.proofs.stream.show_table.Goals as goal
 
-pub returns-then-is_empty : goal.returns-then-is_empty
-returns-then-is_empty g c = λ format records all some enough stands.
+pub returns-then-is_empty-clause-ends : goal.returns-then-is_empty-clause-ends
+returns-then-is_empty-clause-ends g c = λ format records all some enough stands.
     let given : List (List Text) = map fields_of c.args.rows.items in
     let left = g.R.Read.remaining c.args.pieces.now.input in
     let long : length given ≡ length c.args.rows.items = length-map c.args.rows.items fields_of in
     let count : c.len.result ≡ length given = omega (arith, c.len.ensures, c.args.rows.ok, long) in
     let zero : length given ≡ 0 = omega (arith, eqb-true _ 0 (sym c.is_empty.ensures ∙ c.if-is_empty.true), c.args.rows.ok, long) in
     let clean : wrong_within c.args.count (length given) c.args.reading ≡ None = ap (λ (n : ℕ). wrong_within c.args.count n c.args.reading) (sym count) ∙ sym c.wrong_within.ensures ∙ c.in_default.is in
-    none-ends c.args.options.now c.args.count (sound_rows format records all) (wrong_in format records all) (g.W.Write.contents c.args.out.now)
+    none-ends c.args.options.now c.args.count (sound_rows format records all) (wrong_in format records all) (g.W.Write.contents c.args.out.now.writer)
     (no-rows c.args.count format records all left given c.args.reading some zero enough stands clean)
 
-pub returns-in_err-layout : goal.returns-in_err-layout
-returns-in_err-layout g c = λ format records all some enough stands.
+pub returns-in_err-layout-clause-ends : goal.returns-in_err-layout-clause-ends
+returns-in_err-layout-clause-ends g c = λ format records all some enough stands.
     let given : List (List Text) = map fields_of c.args.rows.items in
     let options = c.args.options.now in
     let sound = sound_rows format records all in
@@ -35,15 +35,13 @@ returns-in_err-layout g c = λ format records all some enough stands.
     let count : c.len.result ≡ length given = omega (arith, c.len.ensures, c.args.rows.ok, long) in
     let above : 0 < length given = omega (arith, above-none _ (sym c.is_empty.ensures ∙ c.if-is_empty.false), c.args.rows.ok, long) in
     let clean : wrong_within c.args.count (length given) c.args.reading ≡ None = ap (λ (n : ℕ). wrong_within c.args.count n c.args.reading) (sym count) ∙ sym c.wrong_within.ensures ∙ c.in_default.is in
-    let first : map fields_of c.first_of.result.now ≡ take c.args.count sound =
-    ap (map fields_of) (c.first_of.ensures ∙ ap (take c.args.count) c.deref.ensures.value) ∙ sym (take-map fields_of c.args.count c.args.rows.items) ∙ first-rows c.args.count format records all left given c.args.reading enough stands
-    in
-    refused-ends options c.args.count sound (wrong_in format records all) (g.W.Write.contents c.args.out.now) c.in_err-layout.field-0.0 (first_fault options (take c.args.count sound)) c.from_residual.result c.from_residual.ensures.1
+    let first : take c.args.count given ≡ take c.args.count sound = first-rows c.args.count format records all left given c.args.reading enough stands in
+    refused-ends options c.args.count sound (wrong_in format records all) (g.W.Write.contents c.args.out.now.writer) c.in_err-layout.field-0.0 (first_fault options (take c.args.count sound)) c.from_residual.result c.from_residual.ensures.1
     (judged options c.args.count sound (wrong_in format records all) (open-rows c.args.count format records all left given c.args.reading enough stands clean) (some-rows c.args.count format records all left given c.args.reading above stands))
     (λ kept. ap (λ (w : Option ViewFault). option_or w (start_fault (layout_of options (take c.args.count sound)))) (ap (layout_fault options) (sym first) ∙ c.in_err-layout.ensures.fault kept))
 
-pub returns-in_err-table : goal.returns-in_err-table
-returns-in_err-table g c = λ format records all some enough stands.
+pub returns-in_err-table-clause-ends : goal.returns-in_err-table-clause-ends
+returns-in_err-table-clause-ends g c = λ format records all some enough stands.
     let given : List (List Text) = map fields_of c.args.rows.items in
     let options = c.args.options.now in
     let sound = sound_rows format records all in
@@ -52,17 +50,15 @@ returns-in_err-table g c = λ format records all some enough stands.
     let count : c.len.result ≡ length given = omega (arith, c.len.ensures, c.args.rows.ok, long) in
     let above : 0 < length given = omega (arith, above-none _ (sym c.is_empty.ensures ∙ c.if-is_empty.false), c.args.rows.ok, long) in
     let clean : wrong_within c.args.count (length given) c.args.reading ≡ None = ap (λ (n : ℕ). wrong_within c.args.count n c.args.reading) (sym count) ∙ sym c.wrong_within.ensures ∙ c.in_default.is in
-    let first : map fields_of c.first_of.result.now ≡ take c.args.count sound =
-    ap (map fields_of) (c.first_of.ensures ∙ ap (take c.args.count) c.deref.ensures.value) ∙ sym (take-map fields_of c.args.count c.args.rows.items) ∙ first-rows c.args.count format records all left given c.args.reading enough stands
-    in
+    let first : take c.args.count given ≡ take c.args.count sound = first-rows c.args.count format records all left given c.args.reading enough stands in
     let laid : plan_in c.in_ok-layout.layout ≡ layout_of options (take c.args.count sound) = c.in_ok-layout.ensures.layout ∙ ap (layout_of options) first in
     let fine : layout_fault options (take c.args.count sound) ≡ None = ap (layout_fault options) (sym first) ∙ c.in_ok-layout.ensures.fault in
-    refused-ends options c.args.count sound (wrong_in format records all) (g.W.Write.contents c.args.out.now) c.in_err-table.field-0.0 (first_fault options (take c.args.count sound)) c.from_residual-in_err-table.result c.from_residual-in_err-table.ensures.1
+    refused-ends options c.args.count sound (wrong_in format records all) (g.W.Write.contents c.args.out.now.writer) c.in_err-table.field-0.0 (first_fault options (take c.args.count sound)) c.from_residual-in_err-table.result c.from_residual-in_err-table.ensures.1
     (judged options c.args.count sound (wrong_in format records all) (open-rows c.args.count format records all left given c.args.reading enough stands clean) (some-rows c.args.count format records all left given c.args.reading above stands))
     (λ kept. ap (λ (w : Option ViewFault). option_or w (start_fault (layout_of options (take c.args.count sound)))) fine ∙ ap start_fault (sym laid) ∙ c.in_err-table.ensures.fault kept)
 
-pub returns : goal.returns
-returns g c = λ format records all some enough stands.
+pub returns-clause-ends : goal.returns-clause-ends
+returns-clause-ends g c = λ format records all some enough stands.
     let given : List (List Text) = map fields_of c.args.rows.items in
     let options = c.args.options.now in
     let sound = sound_rows format records all in
@@ -71,13 +67,12 @@ returns g c = λ format records all some enough stands.
     let count : c.len.result ≡ length given = omega (arith, c.len.ensures, c.args.rows.ok, long) in
     let above : 0 < length given = omega (arith, above-none _ (sym c.is_empty.ensures ∙ c.if-is_empty.false), c.args.rows.ok, long) in
     let clean : wrong_within c.args.count (length given) c.args.reading ≡ None = ap (λ (n : ℕ). wrong_within c.args.count n c.args.reading) (sym count) ∙ sym c.wrong_within.ensures ∙ c.in_default.is in
-    let first : map fields_of c.first_of.result.now ≡ take c.args.count sound =
-    ap (map fields_of) (c.first_of.ensures ∙ ap (take c.args.count) c.deref.ensures.value) ∙ sym (take-map fields_of c.args.count c.args.rows.items) ∙ first-rows c.args.count format records all left given c.args.reading enough stands
-    in
+    let first : take c.args.count given ≡ take c.args.count sound = first-rows c.args.count format records all left given c.args.reading enough stands in
     let laid : plan_in c.in_ok-layout.layout ≡ layout_of options (take c.args.count sound) = c.in_ok-layout.ensures.layout ∙ ap (layout_of options) first in
     let fine : layout_fault options (take c.args.count sound) ≡ None = ap (layout_fault options) (sym first) ∙ c.in_ok-layout.ensures.fault in
     let started : start_fault (layout_of options (take c.args.count sound)) ≡ None = ap start_fault (sym laid) ∙ c.in_ok-table.ensures.fault in
     let none : first_fault options (take c.args.count sound) ≡ None = ap (λ (w : Option ViewFault). option_or w (start_fault (layout_of options (take c.args.count sound)))) fine ∙ started in
-    table-ends options c.args.count sound (wrong_in format records all) (plan_in c.in_ok-layout.layout) (g.W.Write.contents c.args.out.now) (g.W.Write.contents c.write_table.new.out) c.write_table.result laid
+    table-ends options c.args.count sound (wrong_in format records all) (plan_in c.in_ok-layout.layout) (g.W.Write.contents c.args.out.now.writer) (g.W.Write.contents c.write_table.new.out.writer) c.write_table.result laid
     (judged options c.args.count sound (wrong_in format records all) (open-rows c.args.count format records all left given c.args.reading enough stands clean) (some-rows c.args.count format records all left given c.args.reading above stands) ∙ ap (option_map of_view) none)
-    (c.write_table.ensures options (plan_in c.in_ok-layout.layout) format records all [] stands c.in_ok-table.ensures.begun)
+    (c.write_table.ensures.ends options (plan_in c.in_ok-layout.layout) format records all []
+    (subst (λ (rows : List (List Text)). Stands format records all left rows c.args.reading) (sym c.in_ok-layout.ensures.rows) stands) c.in_ok-table.ensures.begun)

@@ -13,5 +13,5 @@ silent found (Err other) failed is fault same soft =
     let e : other ≡ fault = cc in
     absurd (true≢false (sym (write-fails found failed) ∙ (sym (ap is_failure (sym e ∙ is)) ∙ soft)))
 
-pub returns-in_err-flush-clause-told : goal.returns-in_err-flush-clause-told
-returns-in_err-flush-clause-told g c = silent c.in_err-flush.field-0.0 c.from_residual.result (c.in_err-flush.ensures.failed c.in_err-flush.field-0.0 refl) c.from_residual.ensures.1
+pub returns-in_err-flush-clause-early : goal.returns-in_err-flush-clause-early
+returns-in_err-flush-clause-early g c = silent c.in_err-flush.field-0.0 c.from_residual.result (c.in_err-flush.ensures.failed c.in_err-flush.field-0.0 refl) c.from_residual.ensures.1

@@ -5,15 +5,18 @@ use Rattle.ruled_io.proofs.Inputs.{if-more}
 use Rattle.ruled_io.proofs.Shows.{ends-kept}
 use Rattle.ruled_io.proofs.stream.stream.Goals as goal
 
-pub returns : goal.returns
-returns g c =
+pub returns-clause-ends : goal.returns-clause-ends
+returns-clause-ends g c =
     let request = c.args.request.now in
     let count = c.args.count in
-    let old = g.W.Write.contents c.args.out.now in
-    let mid = g.W.Write.contents c.show_input-answer.new.out in
-    let new = g.W.Write.contents c.show_to_end.new.out in
+    let old = g.W.Write.contents c.args.out.now.writer in
+    let mid = g.W.Write.contents c.show_input-answer.new.out.writer in
+    let new = g.W.Write.contents c.show_to_end.new.out.writer in
     let answer = c.show_input-answer.result in
     let result = c.show_to_end.result in
-    let known = subst (λ (given : Option (List ℕ)). IfSome given (λ bytes. StreamsAll request count bytes old mid answer)) (ap g.R.Read.remaining c.new-pieces.ensures) c.show_input-answer.ensures in
+    let known = subst (λ (given : Option (List ℕ)). IfSome given (λ bytes. StreamsAll request count bytes old mid answer)) (ap g.R.Read.remaining c.new-pieces.ensures) c.show_input-answer.ensures.ends in
     if-more {P = λ bytes. StreamsAll request count bytes old mid answer} {Q = λ bytes. StreamsAll request count bytes old new result} (g.R.Read.remaining c.args.input) known
-    (λ bytes is ends. ends-kept request.view (streamed_count request count bytes) (streamed_rows request count bytes) (streamed_wrong request count bytes) old mid new answer result ends c.show_to_end.ensures.kept c.show_to_end.ensures.fine c.show_to_end.ensures.told)
+    (λ bytes is ends. ends-kept request.view (streamed_count request count bytes) (streamed_rows request count bytes) (streamed_wrong request count bytes) old mid new answer result ends c.show_to_end.ensures.kept c.show_to_end.ensures.fine c.show_to_end.ensures.early)
+
+pub returns-clause-told : goal.returns-clause-told
+returns-clause-told g c = λ none. c.show_to_end.ensures.told (c.show_input-answer.ensures.told none)

@@ -8,74 +8,80 @@ use Rattle.ruled_io.proofs.Tables.{Runs, read-fails, runs-begin, runs-end, runs-
 use Rattle.ruled_io.proofs.stream.write_table.Goals as goal
 
 pub loop-init : goal.loop-init
-loop-init g c = λ options plan format records all above stands has.
-    runs-begin options plan format records all above (map fields_of c.args.rows.items) (g.R.Read.remaining c.args.pieces.now.input) c.args.reading c.args.table (g.W.Write.contents c.args.out.now) stands has
+loop-init g c = (
+  λ options plan format records all above stands has.
+      runs-begin options plan format records all above (map fields_of c.args.rows.items) (g.R.Read.remaining c.args.pieces.now.input) c.args.reading c.args.table (g.W.Write.contents c.args.out.now.writer) stands has,
+  λ none. none,
+)
 
-pub returns-in_err-write_rows : goal.returns-in_err-write_rows
-returns-in_err-write_rows g c = λ options plan format records all above stands has.
+pub returns-in_err-write_rows-clause-ends : goal.returns-in_err-write_rows-clause-ends
+returns-in_err-write_rows-clause-ends g c = λ options plan format records all above stands has.
     let left = g.R.Read.remaining c.loop.pieces.input in
-    let old = g.W.Write.contents c.args.out.now in
-    let mid = g.W.Write.contents c.loop.out in
-    let new = g.W.Write.contents c.write_rows.new.out in
-    let runs = subst (λ (rows : List Row). Runs options plan format records all above left c.loop.reading (map fields_of rows) c.loop.table old mid) (sym c.deref.ensures.value) (c.loop.invariant options plan format records all above stands has) in
+    let old = g.W.Write.contents c.args.out.now.writer in
+    let mid = g.W.Write.contents c.loop.out.writer in
+    let new = g.W.Write.contents c.write_rows.new.out.writer in
+    let runs = subst (λ (rows : List Row). Runs options plan format records all above left c.loop.reading (map fields_of rows) c.loop.table old mid) (sym c.deref.ensures.value) (c.loop.invariant.0 options plan format records all above stands has) in
     runs-stop options plan format records all above (map fields_of c.deref.result.now) left c.loop.reading c.loop.table old mid new c.in_err-write_rows.field-0.0 c.from_residual.result c.from_residual.ensures.1
     (λ done some. c.in_err-write_rows.ensures.failed options plan done some) runs
 
-pub returns-in-Done : goal.returns-in-Done
-returns-in-Done g c = λ options plan format records all above stands has.
+pub returns-in-Done-clause-ends : goal.returns-in-Done-clause-ends
+returns-in-Done-clause-ends g c = λ options plan format records all above stands has.
     let left = g.R.Read.remaining c.loop.pieces.input in
-    let old = g.W.Write.contents c.args.out.now in
-    let mid = g.W.Write.contents c.loop.out in
-    let wrote = g.W.Write.contents c.write_rows.new.out in
-    let new = g.W.Write.contents c.write_end.new.out in
-    let runs = subst (λ (rows : List Row). Runs options plan format records all above left c.loop.reading (map fields_of rows) c.loop.table old mid) (sym c.deref.ensures.value) (c.loop.invariant options plan format records all above stands has) in
-    runs-end options plan format records all above left c.loop.reading c.in-Done.wrong c.write_rows.new.table old wrote new c.write_end.result c.in-Done.is (λ rows some. c.write_end.ensures options plan rows some)
+    let old = g.W.Write.contents c.args.out.now.writer in
+    let mid = g.W.Write.contents c.loop.out.writer in
+    let wrote = g.W.Write.contents c.write_rows.new.out.writer in
+    let new = g.W.Write.contents c.write_end.new.out.writer in
+    let runs = subst (λ (rows : List Row). Runs options plan format records all above left c.loop.reading (map fields_of rows) c.loop.table old mid) (sym c.deref.ensures.value) (c.loop.invariant.0 options plan format records all above stands has) in
+    runs-end options plan format records all above left c.loop.reading c.in-Done.wrong c.write_rows.new.table old wrote new c.write_end.result c.in-Done.is (λ rows some. c.write_end.ensures.ends options plan rows some)
     (runs-wrote options plan format records all above (map fields_of c.deref.result.now) left c.loop.reading c.loop.table c.write_rows.new.table old mid wrote
     (λ done some. c.in_ok-write_rows.ensures.after options plan done some) (λ done some. c.in_ok-write_rows.ensures.written options plan done some) runs)
 
-pub returns-in_err-flush-in-More : goal.returns-in_err-flush-in-More
-returns-in_err-flush-in-More g c = λ options plan format records all above stands has.
+pub returns-in_err-flush-in-More-clause-ends : goal.returns-in_err-flush-in-More-clause-ends
+returns-in_err-flush-in-More-clause-ends g c = λ options plan format records all above stands has.
     let left = g.R.Read.remaining c.loop.pieces.input in
-    let old = g.W.Write.contents c.args.out.now in
-    let mid = g.W.Write.contents c.loop.out in
-    let wrote = g.W.Write.contents c.write_rows.new.out in
+    let old = g.W.Write.contents c.args.out.now.writer in
+    let mid = g.W.Write.contents c.loop.out.writer in
+    let wrote = g.W.Write.contents c.write_rows.new.out.writer in
     let found = c.in_err-flush-in-More.field-0.0 in
-    let runs = subst (λ (rows : List Row). Runs options plan format records all above left c.loop.reading (map fields_of rows) c.loop.table old mid) (sym c.deref.ensures.value) (c.loop.invariant options plan format records all above stands has) in
-    runs-fail options plan format records all above [] left c.loop.reading c.write_rows.new.table old wrote (g.W.Write.contents c.flush.new.out) found c.from_residual-in_err-flush-in-More.result c.from_residual-in_err-flush-in-More.ensures.1
+    let runs = subst (λ (rows : List Row). Runs options plan format records all above left c.loop.reading (map fields_of rows) c.loop.table old mid) (sym c.deref.ensures.value) (c.loop.invariant.0 options plan format records all above stands has) in
+    runs-fail options plan format records all above [] left c.loop.reading c.write_rows.new.table old wrote (g.W.Write.contents c.flush.new.self.writer) found c.from_residual-in_err-flush-in-More.result c.from_residual-in_err-flush-in-More.ensures.1
     (write-fails found (c.in_err-flush-in-More.ensures.failed found refl)) c.in_err-flush-in-More.ensures.kept
     (runs-wrote options plan format records all above (map fields_of c.deref.result.now) left c.loop.reading c.loop.table c.write_rows.new.table old mid wrote
     (λ done some. c.in_ok-write_rows.ensures.after options plan done some) (λ done some. c.in_ok-write_rows.ensures.written options plan done some) runs)
 
-pub returns-in_err-reading-in-More : goal.returns-in_err-reading-in-More
-returns-in_err-reading-in-More g c = λ options plan format records all above stands has.
+pub returns-in_err-reading-in-More-clause-ends : goal.returns-in_err-reading-in-More-clause-ends
+returns-in_err-reading-in-More-clause-ends g c = λ options plan format records all above stands has.
     let left = g.R.Read.remaining c.loop.pieces.input in
-    let old = g.W.Write.contents c.args.out.now in
-    let mid = g.W.Write.contents c.loop.out in
-    let wrote = g.W.Write.contents c.write_rows.new.out in
+    let old = g.W.Write.contents c.args.out.now.writer in
+    let mid = g.W.Write.contents c.loop.out.writer in
+    let wrote = g.W.Write.contents c.write_rows.new.out.writer in
     let found = c.in_err-reading-in-More.field-0.0 in
-    let runs = subst (λ (rows : List Row). Runs options plan format records all above left c.loop.reading (map fields_of rows) c.loop.table old mid) (sym c.deref.ensures.value) (c.loop.invariant options plan format records all above stands has) in
-    runs-fail options plan format records all above [] left c.loop.reading c.write_rows.new.table old wrote (g.W.Write.contents c.flush.new.out) found c.from_residual-in_err-reading-in-More.result c.from_residual-in_err-reading-in-More.ensures.1
+    let runs = subst (λ (rows : List Row). Runs options plan format records all above left c.loop.reading (map fields_of rows) c.loop.table old mid) (sym c.deref.ensures.value) (c.loop.invariant.0 options plan format records all above stands has) in
+    runs-fail options plan format records all above [] left c.loop.reading c.write_rows.new.table old wrote (g.W.Write.contents c.flush.new.self.writer) found c.from_residual-in_err-reading-in-More.result c.from_residual-in_err-reading-in-More.ensures.1
     (read-fails found c.in_err-reading-in-More.ensures.failed) c.in_ok-flush-in-More.ensures.kept
     (runs-wrote options plan format records all above (map fields_of c.deref.result.now) left c.loop.reading c.loop.table c.write_rows.new.table old mid wrote
     (λ done some. c.in_ok-write_rows.ensures.after options plan done some) (λ done some. c.in_ok-write_rows.ensures.written options plan done some) runs)
 
 pub loop-preserved : goal.loop-preserved
-loop-preserved g c = λ options plan format records all above stands has.
-    let left = g.R.Read.remaining c.loop.pieces.input in
-    let old = g.W.Write.contents c.args.out.now in
-    let mid = g.W.Write.contents c.loop.out in
-    let wrote = g.W.Write.contents c.write_rows.new.out in
-    let new = g.W.Write.contents c.flush.new.out in
-    let runs = subst (λ (rows : List Row). Runs options plan format records all above left c.loop.reading (map fields_of rows) c.loop.table old mid) (sym c.deref.ensures.value) (c.loop.invariant options plan format records all above stands has) in
-    runs-on options plan format records all above (map fields_of c.clear.new.self.items) (map fields_of c.read_on.new.rows.items) left (g.R.Read.remaining c.read_on.new.self.input) c.in-More.reader c.in_ok-reading-in-More.reading c.write_rows.new.table old wrote new
-    (ap (map fields_of) c.clear.ensures.items) c.in_ok-flush-in-More.ensures.kept
-    (λ given here. c.in_ok-reading-in-More.ensures.given format records all given here)
-    (subst (λ (r : Reading). Runs options plan format records all above left r [] c.write_rows.new.table old wrote) c.in-More.is
-    (runs-wrote options plan format records all above (map fields_of c.deref.result.now) left c.loop.reading c.loop.table c.write_rows.new.table old mid wrote
-    (λ done some. c.in_ok-write_rows.ensures.after options plan done some) (λ done some. c.in_ok-write_rows.ensures.written options plan done some) runs))
+loop-preserved g c = (
+  λ options plan format records all above stands has.
+      let left = g.R.Read.remaining c.loop.pieces.input in
+      let old = g.W.Write.contents c.args.out.now.writer in
+      let mid = g.W.Write.contents c.loop.out.writer in
+      let wrote = g.W.Write.contents c.write_rows.new.out.writer in
+      let new = g.W.Write.contents c.flush.new.self.writer in
+      let runs = subst (λ (rows : List Row). Runs options plan format records all above left c.loop.reading (map fields_of rows) c.loop.table old mid) (sym c.deref.ensures.value) (c.loop.invariant.0 options plan format records all above stands has) in
+      runs-on options plan format records all above (map fields_of c.clear.new.self.items) (map fields_of c.read_on.new.rows.items) left (g.R.Read.remaining c.read_on.new.self.input) c.in-More.reader c.in_ok-reading-in-More.reading c.write_rows.new.table old wrote new
+      (ap (map fields_of) c.clear.ensures.items) c.in_ok-flush-in-More.ensures.kept
+      (λ given here. c.in_ok-reading-in-More.ensures.given format records all given here)
+      (subst (λ (r : Reading). Runs options plan format records all above left r [] c.write_rows.new.table old wrote) c.in-More.is
+      (runs-wrote options plan format records all above (map fields_of c.deref.result.now) left c.loop.reading c.loop.table c.write_rows.new.table old mid wrote
+      (λ done some. c.in_ok-write_rows.ensures.after options plan done some) (λ done some. c.in_ok-write_rows.ensures.written options plan done some) runs)),
+  λ none. c.in_ok-flush-in-More.ensures.told,
+)
 
-pub returns : goal.returns
-returns g c = λ options plan format records all above stands has.
+pub returns-clause-ends : goal.returns-clause-ends
+returns-clause-ends g c = λ options plan format records all above stands has.
     let r : Result (Unit {0}) RunFault = Err Read in
-    runs-fail options plan format records all above (map fields_of c.loop.rows.items) (g.R.Read.remaining c.loop.pieces.input) c.loop.reading c.loop.table (g.W.Write.contents c.args.out.now) (g.W.Write.contents c.loop.out) (g.W.Write.contents c.loop.out) Read r
-    refl refl (Keeps-refl (g.W.Write.contents c.loop.out)) (c.loop.invariant options plan format records all above stands has)
+    runs-fail options plan format records all above (map fields_of c.loop.rows.items) (g.R.Read.remaining c.loop.pieces.input) c.loop.reading c.loop.table (g.W.Write.contents c.args.out.now.writer) (g.W.Write.contents c.loop.out.writer) (g.W.Write.contents c.loop.out.writer) Read r
+    refl refl (Keeps-refl (g.W.Write.contents c.loop.out.writer)) (c.loop.invariant.0 options plan format records all above stands has)

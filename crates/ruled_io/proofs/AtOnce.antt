@@ -1,0 +1,161 @@
+-- Rows that are written when all of them are there.
+use Rattle.std.proofs.Common.{◌≡◌, ◌∙◌, ◌<◌, ℕ, Bool, true, false, List, [], ◌∷◌, ◌++◌, Option, Some, None, Result, Ok, Err, OnErr, OnOk, drop, length, map, append-nil, refl, sym, ap, subst, arith}
+use Rattle.std.specs.Prelude.{IfErr, not}
+use Rattle.std.specs.List.{flat_map}
+use Rattle.std.specs.Option.{option_or}
+use Rattle.std.specs.Io.KnownBytes.{Appends, Keeps}
+use Rattle.std.specs.Result.{IsErrAnd}
+use Rattle.std.proofs.KnownBytes.{Appends-nil, Keeps-refl}
+use Rattle.std.proofs.lemmas.Bool.{false≢true, true≢false}
+use Rattle.pg_layout.specs.Text.{Text}
+use Rattle.ruled_table.specs.Appended.{HasAppended}
+use Rattle.ruled_table.specs.Blocks.{record_block, record_fault, records_fault}
+use Rattle.ruled_table.specs.Faults as tables
+use Rattle.ruled_table.specs.Columns.{column_fault}
+use Rattle.ruled_table.specs.Layouts.{first_fault, layout_of, whole_text}
+use Rattle.ruled_table.specs.Shown.{heads, limit_of}
+use Rattle.ruled_table.specs.Plans.{Plan}
+use Rattle.ruled_table.specs.RowLines.{begun_text}
+use Rattle.ruled_table.specs.View.{all_fault, all_text, table_fault, table_text, whole_fault, whole_table}
+use Rattle.ruled_table.specs.declared.fault.ViewFault.{ViewFault}
+use Rattle.ruled_table.specs.declared.fault.ViewFault.TheVariants as view
+use Rattle.ruled_table.specs.declared.options.Options.{Options}
+use Rattle.ruled_table.specs.declared.table_rows.TableRows.{TableRows}
+use Rattle.ruled_io.specs.Faults.{is_early, is_memory, is_of_write, is_read, of_view}
+use Rattle.ruled_io.specs.Steps.{Draws, DrawsInMemory, EndsBelow, FailsIn, Grows, Nears, WritesRows}
+use Rattle.ruled_io.specs.Writing.{Begins}
+use Rattle.ruled_io.specs.declared.fault.RunFault.{RunFault}
+use Rattle.ruled_io.specs.declared.fault.RunFault.TheVariants.{Input, Read, Closed, Write}
+use Rattle.ruled_table.proofs.WholeTables.{heads-named as tables-named}
+use Rattle.ruled_io.proofs.Drawn.{begun-none, begun-whole}
+use Rattle.ruled_io.proofs.Growing.{begins-behind, begins-longer, begins-none, grows-more, nears-more, nears-on}
+use Rattle.ruled_io.proofs.Written.{Goes, goes-end, goes-on}
+
+-- ---- faults
+
+pub of-write : (fault : RunFault) → is_of_write fault ≡ true → (is_read fault ≡ false) × (is_early fault ≡ false)
+of-write (Input fault) failed = absurd (false≢true failed)
+of-write Read failed = absurd (false≢true failed)
+of-write Closed failed = (refl, refl)
+of-write Write failed = (refl, refl)
+
+-- what is drawn of what is in memory is drawn
+pub draws-so : {X : Type 0} (text : Text) (wrong : Option ViewFault) (old new : Option (List ℕ)) (result : Result X RunFault) → DrawsInMemory text wrong old new result → Draws text wrong old new result
+draws-so text wrong old new (Ok x) drawn = drawn
+draws-so text wrong old new (Err (Input fault)) (read, early, begun) = (λ soft. absurd (true≢false (sym (ap not soft) ∙ early)), λ lost. begun)
+draws-so text wrong old new (Err Read) (read, early, begun) = absurd (true≢false read)
+draws-so text wrong old new (Err Closed) (read, early, begun) = begun
+draws-so text wrong old new (Err Write) (read, early, begun) = begun
+
+-- what no read has
+pub writes-only : {X : Type 0} (result : Result X RunFault) → ((fault : RunFault) → result ≡ Err fault → is_of_write fault ≡ true) → IfErr result (λ fault. is_read fault ≡ false)
+writes-only (Ok x) failed = tt
+writes-only (Err fault) failed = (of-write fault (failed fault refl)).0
+
+-- a text is written
+pub written-draws : {X : Type 0} (text bytes : Text) (wrong : Option ViewFault) (old new : Option (List ℕ)) (result : Result X RunFault) → bytes ≡ text → wrong ≡ None → OnOk result (Appends old new bytes) → OnErr result (Begins old new bytes)
+    → ((fault : RunFault) → result ≡ Err fault → is_of_write fault ≡ true) → DrawsInMemory text wrong old new result
+written-draws text bytes wrong old new (Ok x) same fine wrote begun failed = (fine, subst (Appends old new) same wrote)
+written-draws text bytes wrong old new (Err fault) same fine wrote begun failed = let (read, early) = of-write fault (failed fault refl) in (read, early, subst (Begins old new) same begun)
+
+-- before anything is drawn
+found-draws : (text : Text) (wrong : Option ViewFault) (old : Option (List ℕ)) (found : ViewFault) → (tables.is_memory found ≡ false → wrong ≡ Some found) → Draws text wrong old old {X = Unit {0}} (Err (of_view found))
+found-draws text wrong old (view.Column name) right = (λ soft. (rw (right refl) refl, Keeps-refl old), λ lost. absurd (false≢true lost))
+found-draws text wrong old view.Totals right = (λ soft. (rw (right refl) refl, Keeps-refl old), λ lost. absurd (false≢true lost))
+found-draws text wrong old view.Memory right = (λ soft. absurd (true≢false soft), λ lost. begins-none old old text (Keeps-refl old))
+
+pub view-draws : (text : Text) (wrong : Option ViewFault) (old : Option (List ℕ)) (found : ViewFault) (result : Result (Unit {0}) RunFault) → (tables.is_memory found ≡ false → wrong ≡ Some found) → IsErrAnd result (λ fault. fault ≡ of_view found)
+    → Draws text wrong old old result
+view-draws text wrong old found (Ok x) right is = absurd is
+view-draws text wrong old found (Err fault) right is = subst (λ (f : RunFault). Draws text wrong old old {X = Unit {0}} (Err f)) (sym is) (found-draws text wrong old found right)
+
+-- ---- a table
+
+module _ (options : Options) (plan : Plan) (rows : List (List Text)) where
+  -- its lines are a beginning of its text
+  pub lines-begun : (table : TableRows) (old new : Option (List ℕ)) → HasAppended options plan [] table → Nears (begun_text options plan []) (begun_text options plan rows) old new → Begins old new (whole_text options plan rows)
+  lines-begun table old new has near =
+      let (more, is, begun) = nears-on (begun_text options plan []) (begun_text options plan rows) (whole_text options plan rows) old new near (begun-whole options plan [] table rows has) in
+      subst (Begins old new) (ap (λ (t : Text). t ++ more) (sym (begun-none options plan)) ∙ is) begun
+
+  -- behind them is its end
+  pub end-lines : {X : Type 0} (old mid new : Option (List ℕ)) (result : Result X RunFault) → WritesRows options plan [] rows old mid → EndsBelow options plan rows None rows mid new result → OnOk result (Appends old new (whole_text options plan rows))
+  end-lines old mid new (Ok x) wrote (none, grown) =
+      let (more, is, appends) = grows-more (begun_text options plan []) (begun_text options plan rows) (whole_text options plan rows) old mid new wrote grown in
+      subst (Appends old new) (ap (λ (t : Text). t ++ more) (sym (begun-none options plan)) ∙ is) appends
+  end-lines old mid new (Err fault) wrote ends = tt
+
+  pub end-begun : {X : Type 0} (old mid new : Option (List ℕ)) (result : Result X RunFault) → WritesRows options plan [] rows old mid → EndsBelow options plan rows None rows mid new result → OnErr result (Begins old new (whole_text options plan rows))
+  end-begun old mid new (Ok x) wrote ends = tt
+  end-begun old mid new (Err fault) wrote (near, cause) =
+      let (more, is, begun) = nears-more (begun_text options plan []) (begun_text options plan rows) (whole_text options plan rows) old mid new wrote near in
+      subst (Begins old new) (ap (λ (t : Text). t ++ more) (sym (begun-none options plan)) ∙ is) begun
+
+-- where there is a row, its fault is that of first rows
+pub some-fault : (options : Options) (rows : List (List Text)) → 0 < length rows → whole_fault options rows ≡ first_fault options rows
+some-fault options [] some = absurd (omega (arith, some))
+some-fault options (row ∷ rows) some = refl
+
+-- of no rows nothing is drawn
+pub none-draws : (options : Options) (rows : List (List Text)) (old : Option (List ℕ)) → rows ≡ [] → (whole_fault options rows ≡ None) × Appends old old (whole_table options rows)
+none-draws options rows old none = rw none (refl, Appends-nil old)
+
+-- ---- blocks
+
+module _ (options : Options) (names : List (List Text)) where
+  -- so much is written of the blocks of records, of which these are left
+  abbrev pub Blocked : List (List Text) → List (List Text) → Option (List ℕ) → Option (List ℕ) → Type 0
+  Blocked all rest old new = Goes old new (flat_map (record_block options names) all) (flat_map (record_block options names) rest) × (records_fault options names rest ≡ records_fault options names all)
+
+  pub blocked-begin : (all : List (List Text)) (old : Option (List ℕ)) → Blocked all all old old
+  blocked-begin all old = (([], refl, Appends-nil old), refl)
+
+  pub blocked-on : (all rest : List (List Text)) (row : List Text) (old mid new : Option (List ℕ)) → Blocked all (row ∷ rest) old mid → (record_fault options names row ≡ None) × Appends mid new (record_block options names row) → Blocked all rest old new
+  blocked-on all rest row old mid new (goes, faults) (fine, wrote) = (
+    goes-on old mid new (flat_map (record_block options names) all) (flat_map (record_block options names) (row ∷ rest)) (record_block options names row) (flat_map (record_block options names) rest) goes refl wrote,
+    ap (λ (f : Option ViewFault). option_or f (records_fault options names rest)) (sym fine) ∙ faults,
+  )
+
+  pub blocked-stops : (all rest : List (List Text)) (row : List Text) (old mid new : Option (List ℕ)) (fault : RunFault) → Blocked all (row ∷ rest) old mid
+      → DrawsInMemory (record_block options names row) (record_fault options names row) mid new {X = Unit {0}} (Err fault) → DrawsInMemory (flat_map (record_block options names) all) (records_fault options names all) old new {X = Unit {0}} (Err fault)
+  blocked-stops all rest row old mid new fault ((done, is, wrote), faults) (read, early, begun) =
+      let block : Text = record_block options names row in
+      let more : Text = flat_map (record_block options names) rest in
+      (read, early, subst (Begins old new) (sym is) (begins-behind old mid new done (block ++ more) wrote (begins-longer mid new block more begun)))
+
+  pub blocked-end : (all rest : List (List Text)) (old new : Option (List ℕ)) → rest ≡ [] → Blocked all rest old new → (records_fault options names all ≡ None) × Appends old new (flat_map (record_block options names) all)
+  blocked-end all rest old new none (goes, faults) =
+      (sym faults ∙ ap (records_fault options names) none, goes-end old new (flat_map (record_block options names) all) (flat_map (record_block options names) rest) goes (ap (flat_map (record_block options names)) none))
+
+  pub blocked-handed : (all rest : List (List Text)) (row : List Text) (old mid new : Option (List ℕ)) (found : RunFault) (result : Result (Unit {0}) RunFault) → Blocked all (row ∷ rest) old mid
+      → DrawsInMemory (record_block options names row) (record_fault options names row) mid new {X = Unit {0}} (Err found) → IsErrAnd result (λ fault. fault ≡ found)
+      → DrawsInMemory (flat_map (record_block options names) all) (records_fault options names all) old new result
+  blocked-handed all rest row old mid new found (Ok x) blocked draws is = absurd is
+  blocked-handed all rest row old mid new found (Err fault) blocked draws is =
+      subst (λ (f : RunFault). DrawsInMemory (flat_map (record_block options names) all) (records_fault options names all) old new {X = Unit {0}} (Err f)) (sym is) (blocked-stops all rest row old mid new found blocked draws)
+
+-- ---- the table of all rows
+
+pub whole-draws : {X : Type 0} (options : Options) (plan : Plan) (given rows : List (List Text)) (old new : Option (List ℕ)) (result : Result X RunFault) → plan ≡ layout_of options given → rows ≡ given → whole_fault options given ≡ None
+    → DrawsInMemory (whole_text options plan rows) None old new result → Draws (whole_table options given) (whole_fault options given) old new result
+whole-draws options plan given rows old new result laid same none draws =
+    let text : whole_text options plan rows ≡ whole_table options given = ap (λ (p : Plan). whole_text options p rows) laid ∙ ap (whole_text options (layout_of options given)) same in
+    let so : Draws (whole_text options plan rows) None old new result = draws-so (whole_text options plan rows) None old new result draws in
+    subst (λ (w : Option ViewFault). Draws (whole_table options given) w old new result) (sym none) (subst (λ (t : Text). Draws t None old new result) text so)
+
+-- those that are shown of all rows, in one form of two
+pub shown-draws : {X : Type 0} (options : Options) (all rows : List (List Text)) (text : Text) (wrong : Option ViewFault) (old new : Option (List ℕ)) (result : Result X RunFault) → rows ≡ heads options all → column_fault options.columns.items all ≡ None
+    → text ≡ all_text options rows → wrong ≡ all_fault options rows → Draws text wrong old new result → Draws (table_text options all) (table_fault options all) old new result
+shown-draws options all rows text wrong old new result are named is told draws =
+    let texts : text ≡ table_text options all = is ∙ ap (all_text options) are in
+    let faults : wrong ≡ table_fault options all = told ∙ ap (all_fault options) are ∙ ap (λ (f : Option ViewFault). option_or f (all_fault options (heads options all))) (sym named) in
+    subst (λ (w : Option ViewFault). Draws (table_text options all) w old new result) faults (subst (λ (t : Text). Draws t wrong old new result) texts draws)
+
+-- those that are shown have the columns of all
+pub heads-named : (options : Options) (all rows : List (List Text)) → rows ≡ heads options all → column_fault options.columns.items all ≡ None → column_fault options.columns.items rows ≡ None
+heads-named options all rows are none = ap (column_fault options.columns.items) are ∙ tables-named (limit_of options) options.columns.items all none
+
+-- a row less
+pub drop-one : {X Y : Type 0} (f : X → Y) (xs : List X) → map f (drop 1 xs) ≡ drop 1 (map f xs)
+drop-one f [] = refl
+drop-one f (x ∷ xs) = refl

@@ -1,0 +1,210 @@
+//! Rows that are shown when all of them are there.
+
+ghost use Rattle.std.specs.Prelude.{◌≡◌, [], List, None, drop, map, true, false, IfErr, IfOk, IfSome, OnErr, OnOk};
+ghost use Rattle.std.specs.Io.KnownBytes.{Appends, Keeps};
+ghost use Rattle.std.specs.List.{flat_map};
+ghost use Rattle.csv.specs.Records.{fields_of};
+ghost use Rattle.pg_layout.specs.Text.{Text};
+ghost use Rattle.ruled_table.specs.Appended.{HasAppended};
+ghost use Rattle.ruled_table.specs.Blocks.{blocks_fault, blocks_text, record_block, record_fault, records_fault};
+ghost use Rattle.ruled_table.specs.Columns.{column_fault};
+ghost use Rattle.ruled_table.specs.Layouts.{whole_text};
+ghost use Rattle.ruled_table.specs.Named.{HasNames};
+ghost use Rattle.ruled_table.specs.Plans.{Plan};
+ghost use Rattle.ruled_table.specs.View.{table_fault, table_text, whole_fault, whole_table};
+ghost use Rattle.ruled_io.specs.Faults.{IsOfRead, is_early, is_read};
+ghost use Rattle.ruled_io.specs.Output.{TellsWrite, failure_of, write_part};
+ghost use Rattle.ruled_io.specs.Runs.{AreRows, CausedAtOnce, LacksInput, ShowsAll};
+ghost use Rattle.ruled_io.specs.Steps.{Draws, DrawsInMemory};
+ghost use Rattle.ruled_io.specs.Writing.{Begins};
+ghost use Rattle.ruled_table.specs.declared.options.Options.{Options};
+
+use crate::fault::{InputFault, RunFault};
+use crate::input::all_rows;
+use crate::lines::{write_end, write_rows};
+use crate::output::Output;
+use crate::request::Request;
+use csv::StringRecord;
+use ruled_table::{Blocks, Layout, Options, TableRows, heads_of};
+use std::alloc::Global;
+use std::io::{ErrorKind, Read, Write};
+
+// All that an input gives, or that it can't be read.
+fn read_whole<R: Read>(alloc: Global, input: &mut R) -> Result<Vec<u8>, RunFault>
+    ensures whole { IfOk result (λ bytes. IfSome (R.remaining input.old) (λ given. bytes.items ≡ given)) }
+    ensures failed { IfErr result IsOfRead }
+{
+    let mut bytes = Vec::new(alloc);
+    match input.read_to_end(&mut bytes) {
+        Ok(_) => Ok(bytes),
+        Err(error) if error.kind() == ErrorKind::OutOfMemory => {
+            Err(RunFault::Input(InputFault::Memory))
+        }
+        Err(_) => Err(RunFault::Read),
+    }
+}
+
+// The rows that are asked of an input, of which nothing else is kept.
+fn read_rows<R: Read>(
+    alloc: Global,
+    request: &Request,
+    input: &mut R,
+) -> Result<Vec<StringRecord>, RunFault>
+    ensures rows { IfOk result (λ rows. IfSome (R.remaining input.old) (λ bytes. AreRows request.now.source bytes (map fields_of rows.items))) }
+    ensures cause { IfErr result (λ fault. IfSome (R.remaining input.old) (λ bytes. LacksInput request.now.source bytes fault)) }
+    ensures unwritten { IfErr result (λ fault. write_part fault ≡ None) }
+{
+    let bytes = read_whole(alloc, input)?;
+    Ok(all_rows(alloc, &request.source, &bytes)?)
+}
+
+// Writes the lines of all rows of a table, and its end.
+fn write_lines<W: Write + Drop>(
+    alloc: Global,
+    mut table: TableRows<'_>,
+    rows: &[StringRecord],
+    out: &mut Output<W>,
+) -> Result<(), RunFault>
+    ensures lines { (options : Options) (plan : Plan) → HasAppended options plan [] table.entry → OnOk result (Appends (W.contents out.old.writer) (W.contents out.new.writer) (whole_text options plan (map fields_of rows.now))) }
+    ensures begun { (options : Options) (plan : Plan) → HasAppended options plan [] table.entry → OnErr result (Begins (W.contents out.old.writer) (W.contents out.new.writer) (whole_text options plan (map fields_of rows.now))) }
+    ensures told { TellsWrite (failure_of out.old) (failure_of out.new) result }
+    ensures writes { IfErr result (λ fault. is_read fault ≡ false) }
+{
+    let mut buf = String::new(alloc);
+    write_rows(&mut table, rows, &mut buf, out)?;
+    write_end(table, None, &mut buf, out)
+}
+
+// Why rows in memory aren't written. Where their lines can't be counted, they have no room there for their table.
+fn fault_in_memory(fault: RunFault) -> RunFault
+    ensures part { write_part result ≡ write_part fault }
+    ensures read { is_read result ≡ is_read fault }
+    ensures late { is_read fault ≡ false → is_early result ≡ false }
+{
+    match fault {
+        RunFault::Input(_) => RunFault::Input(InputFault::Memory),
+        _ => fault,
+    }
+}
+
+// Writes a table of these rows.
+fn write_whole<W: Write + Drop>(
+    alloc: Global,
+    table: TableRows<'_>,
+    rows: &[StringRecord],
+    out: &mut Output<W>,
+) -> Result<(), RunFault>
+    ensures draws { (options : Options) (plan : Plan) → HasAppended options plan [] table.entry → DrawsInMemory (whole_text options plan (map fields_of rows.now)) None (W.contents out.old.writer) (W.contents out.new.writer) result }
+    ensures told { TellsWrite (failure_of out.old) (failure_of out.new) result }
+{
+    match write_lines(alloc, table, rows, out) {
+        Ok(()) => Ok(()),
+        Err(fault) => Err(fault_in_memory(fault)),
+    }
+}
+
+// Shows rows as one table.
+fn show_whole<W: Write + Drop>(
+    alloc: Global,
+    options: &Options,
+    mut rows: Vec<StringRecord>,
+    out: &mut Output<W>,
+) -> Result<(), RunFault>
+    ensures draws { Draws (whole_table options.now (map fields_of rows.items)) (whole_fault options.now (map fields_of rows.items)) (W.contents out.old.writer) (W.contents out.new.writer) result }
+    ensures told { TellsWrite (failure_of out.old) (failure_of out.new) result }
+{
+    if rows.is_empty() {
+        return Ok(());
+    }
+    let layout = Layout::of_rows(alloc, options, usize::MAX, &mut rows)?;
+    let table = TableRows::new(alloc, options, &layout)?;
+    write_whole(alloc, table, &rows, out)
+}
+
+// Writes the block of a record. Texts in memory whose sizes can't be counted have no room there for a block.
+fn write_block<W: Write + Drop>(
+    blocks: &Blocks<'_>,
+    fields: &StringRecord,
+    out: &mut Output<W>,
+) -> Result<(), RunFault>
+    ensures draws { (options : Options) (rows : List (List Text)) → HasNames options rows blocks.now → DrawsInMemory (record_block options rows (fields_of fields.now)) (record_fault options rows (fields_of fields.now)) (W.contents out.old.writer) (W.contents out.new.writer) result }
+    ensures told { TellsWrite (failure_of out.old) (failure_of out.new) result }
+{
+    match blocks.block(fields) {
+        Ok(text) => out.write(text.as_bytes()),
+        Err(_) => Err(RunFault::Input(InputFault::Memory)),
+    }
+}
+
+// Writes the blocks of records.
+fn write_blocks<W: Write + Drop>(
+    blocks: &Blocks<'_>,
+    records: &[StringRecord],
+    out: &mut Output<W>,
+) -> Result<(), RunFault>
+    ensures draws { (options : Options) (rows : List (List Text)) → HasNames options rows blocks.now → DrawsInMemory (flat_map (record_block options rows) (map fields_of records.now)) (records_fault options rows (map fields_of records.now)) (W.contents out.old.writer) (W.contents out.new.writer) result }
+    ensures told { TellsWrite (failure_of out.old) (failure_of out.new) result }
+{
+    for fields in records {
+        write_block(blocks, fields, out)?;
+    }
+    Ok(())
+}
+
+// The records below the row of their names.
+fn below_names(rows: &[StringRecord]) -> &[StringRecord]
+    ensures { result.now ≡ drop 1 rows.now }
+{
+    match rows {
+        [_, records @ ..] => records,
+        [] => rows,
+    }
+}
+
+// Shows rows as blocks.
+fn show_blocks<W: Write + Drop>(
+    alloc: Global,
+    options: &Options,
+    rows: &[StringRecord],
+    out: &mut Output<W>,
+) -> Result<(), RunFault>
+    ensures draws { column_fault options.now.columns.items (map fields_of rows.now) ≡ None → Draws (blocks_text options.now (map fields_of rows.now)) (blocks_fault options.now (map fields_of rows.now)) (W.contents out.old.writer) (W.contents out.new.writer) result }
+    ensures told { TellsWrite (failure_of out.old) (failure_of out.new) result }
+{
+    let blocks = Blocks::new(alloc, options, rows)?;
+    write_blocks(&blocks, below_names(rows), out)
+}
+
+// Shows those of all rows that are asked.
+fn show_rows<W: Write + Drop>(
+    alloc: Global,
+    options: &Options,
+    rows: Vec<StringRecord>,
+    out: &mut Output<W>,
+) -> Result<(), RunFault>
+    ensures draws { Draws (table_text options.now (map fields_of rows.items)) (table_fault options.now (map fields_of rows.items)) (W.contents out.old.writer) (W.contents out.new.writer) result }
+    ensures told { TellsWrite (failure_of out.old) (failure_of out.new) result }
+{
+    let rows = heads_of(alloc, options, rows)?;
+    if options.is_vertical {
+        return show_blocks(alloc, options, &rows, out);
+    }
+    show_whole(alloc, options, rows, out)
+}
+
+/// Shows the rows that are asked of an input when all of them are there.
+pub(crate) fn show_at_once<R: Read, W: Write + Drop>(
+    alloc: Global,
+    request: &Request,
+    input: &mut R,
+    out: &mut Output<W>,
+) -> Result<(), RunFault>
+    ensures shown { OnOk result (IfSome (R.remaining input.old) (λ bytes. (text : _) × ShowsAll request.now bytes text × Appends (W.contents out.old.writer) (W.contents out.new.writer) text)) }
+    ensures cause { IfErr result (λ fault. IfSome (R.remaining input.old) (λ bytes. CausedAtOnce request.now bytes fault (W.contents out.old.writer) (W.contents out.new.writer))) }
+    ensures unwritten { IfErr result (λ fault. is_early fault ≡ true → Keeps (W.contents out.old.writer) (W.contents out.new.writer)) }
+    ensures told { TellsWrite (failure_of out.old) (failure_of out.new) result }
+{
+    let rows = read_rows(alloc, request, input)?;
+    show_rows(alloc, &request.view, rows, out)?;
+    out.flush()
+}

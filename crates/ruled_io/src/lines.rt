@@ -1,0 +1,72 @@
+//! The lines of a table that are written one row after another.
+
+ghost use Rattle.std.specs.Prelude.{◌≡◌, ◌++◌, ◌∷◌, [], ℕ, List, map, option_map, false, IfErr, OnOk};
+ghost use Rattle.csv.specs.Records.{fields_of};
+ghost use Rattle.ruled_table.specs.Appended.{HasAppended};
+ghost use Rattle.ruled_table.specs.Plans.{Plan};
+ghost use Rattle.ruled_io.specs.Faults.{but_line_in, is_read};
+ghost use Rattle.ruled_io.specs.Output.{TellsWrite, failure_of};
+ghost use Rattle.ruled_io.specs.Steps.{EndsBelow, FailsIn, WritesRows};
+ghost use Rattle.ruled_table.specs.declared.options.Options.{Options};
+
+use crate::fault::{InputFault, RunFault};
+use crate::output::Output;
+use csv::StringRecord;
+use ruled_table::TableRows;
+use std::io::Write;
+
+// Writes the lines of a row.
+fn write_row<W: Write + Drop>(
+    table: &mut TableRows<'_>,
+    fields: &StringRecord,
+    buf: &mut String,
+    out: &mut Output<W>,
+) -> Result<(), RunFault>
+    ensures after { (options : Options) (plan : Plan) (above : List (List (List ℕ))) → HasAppended options plan above table.old → OnOk result (HasAppended options plan (above ++ fields_of fields.now ∷ []) table.new) }
+    ensures written { (options : Options) (plan : Plan) (above : List (List (List ℕ))) → HasAppended options plan above table.old → OnOk result (WritesRows options plan above (fields_of fields.now ∷ []) (W.contents out.old.writer) (W.contents out.new.writer)) }
+    ensures failed { (options : Options) (plan : Plan) (above : List (List (List ℕ))) → HasAppended options plan above table.old → IfErr result (FailsIn options plan above (fields_of fields.now ∷ []) (W.contents out.old.writer) (W.contents out.new.writer)) }
+    ensures told { TellsWrite (failure_of out.old) (failure_of out.new) result }
+    ensures writes { IfErr result (λ fault. is_read fault ≡ false) }
+{
+    buf.clear();
+    table.push(fields, buf)?;
+    out.write(buf.as_bytes())
+}
+
+/// Writes the lines of rows.
+pub(crate) fn write_rows<W: Write + Drop>(
+    table: &mut TableRows<'_>,
+    rows: &[StringRecord],
+    buf: &mut String,
+    out: &mut Output<W>,
+) -> Result<(), RunFault>
+    ensures after { (options : Options) (plan : Plan) (above : List (List (List ℕ))) → HasAppended options plan above table.old → OnOk result (HasAppended options plan (above ++ map fields_of rows.now) table.new) }
+    ensures written { (options : Options) (plan : Plan) (above : List (List (List ℕ))) → HasAppended options plan above table.old → OnOk result (WritesRows options plan above (map fields_of rows.now) (W.contents out.old.writer) (W.contents out.new.writer)) }
+    ensures failed { (options : Options) (plan : Plan) (above : List (List (List ℕ))) → HasAppended options plan above table.old → IfErr result (FailsIn options plan above (map fields_of rows.now) (W.contents out.old.writer) (W.contents out.new.writer)) }
+    ensures told { TellsWrite (failure_of out.old) (failure_of out.new) result }
+    ensures writes { IfErr result (λ fault. is_read fault ≡ false) }
+{
+    for fields in rows {
+        write_row(table, fields, buf, out)?;
+    }
+    Ok(())
+}
+
+/// Writes the end of a table whose rows are all there are, or tells what is wrong behind them.
+pub(crate) fn write_end<W: Write + Drop>(
+    table: TableRows<'_>,
+    wrong: Option<InputFault>,
+    buf: &mut String,
+    out: &mut Output<W>,
+) -> Result<(), RunFault>
+    ensures ends { (options : Options) (plan : Plan) (rows : List (List (List ℕ))) → HasAppended options plan rows table.entry → EndsBelow options plan rows (option_map but_line_in wrong) rows (W.contents out.old.writer) (W.contents out.new.writer) result }
+    ensures told { TellsWrite (failure_of out.old) (failure_of out.new) result }
+    ensures writes { IfErr result (λ fault. is_read fault ≡ false) }
+{
+    if let Some(fault) = wrong {
+        return Err(RunFault::Input(fault));
+    }
+    buf.clear();
+    table.finish(buf)?;
+    out.write(buf.as_bytes())
+}
