@@ -57,8 +57,8 @@ fn print_rows(
     text: &mut String,
 ) -> Result<()> {
     let stream = RowStream::new(alloc, config, table, &NoColors, table.columns, None)?;
-    let rows = (0..table.rows).map(|_| row_of(alloc, table));
-    Ok(stream.print_results(rows, text)?)
+    let mut rows = (0..table.rows).map(|_| row_of(alloc, table));
+    Ok(stream.print_results(&mut rows, text)?)
 }
 
 // Appends all rows of a table, each of which is shown at once.

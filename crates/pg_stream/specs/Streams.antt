@@ -1,5 +1,6 @@
 -- A stream of rows: it holds the latest row until the next one is there, and appends the others.
 use Rattle.std.specs.Prelude.{◌≡◌, ℕ, ◌++◌, true, false, nat_lt, List, [], ◌∷◌, Option, Some, None, option_map, unwrap_or, IfSome, Result, Ok, Err, IsErr, Bool, String, string_bytes, ⊤, ◌⊎◌, if◌then◌else◌}
+use Rattle.std.specs.Iterator.{Yields, YieldsThen}
 use Rattle.pg_layout.specs.declared.position.Position.{Position}
 use Rattle.pg_layout.specs.Colors.{Color}
 use Rattle.pg_layout.specs.Text.{Text}
@@ -168,10 +169,23 @@ abbrev pub PrintsRun : {Z U : Type 0} → Bool → Printing → List (List Text)
 PrintsRun true s rows old new result = PrintsRows s rows old new result
 PrintsRun false s rows old new result = IsErr result × PrintsButLatest s rows old new result
 
--- The same of items that may be errors: where others may come behind them, the call stopped at an error, which is the latest,
--- or for a fault of the rows before the latest.
+-- the last of these items is this error, and the others are none
+abbrev pub EndsInError : {A E : Type 0} → E → List (Result A E) → Type 0
+EndsInError error [] = ⊥
+EndsInError error (Ok row ∷ items) = EndsInError error items
+EndsInError error (Err other ∷ items) = (other ≡ error) × (items ≡ [])
+
+-- An iterator gave these items, which may be errors. A call stopped at the first error, which is the latest item: it asks for none
+-- behind it. Or it stopped for a fault of the rows before the latest, or printed all rows of an iterator that gave no error.
 abbrev pub PrintsResultsRun : {Z U E : Type 0} → Bool → Streaming → List (Result (List Text) E) → String Z → String Z → Result U (RowsFault E) → Type 0
-PrintsResultsRun true s items old new result = PrintsResults s items old new result
+PrintsResultsRun true s items old new (Ok value) = PrintsResults s items old new (Ok value)
+PrintsResultsRun {U} true s items old new (Err (InStream fault)) = (first_error items ≡ None) × PrintsRows {U = U} s.before (rows_left s (rows_before items)) old new (Err fault)
+PrintsResultsRun true s items old new (Err (Source error)) = ⊥
 PrintsResultsRun false s items old new (Ok value) = ⊥
 PrintsResultsRun {U} false s items old new (Err (InStream fault)) = (first_error items ≡ None) × PrintsButLatest {U = U} s.before (rows_left s (rows_before items)) old new (Err fault)
-PrintsResultsRun {U} false s items old new (Err (Source error)) = PrintsResults {U = U} s items old new (Err (Source error))
+PrintsResultsRun false s items old new (Err (Source error)) = EndsInError error items × PrintsButLatest {U = Unit {0}} s.before (rows_left s (rows_before items)) old new (Ok tt)
+
+-- calls of `next` gave these items, and left the iterator at this state: behind the last item, or behind the `None` that ended a whole run
+abbrev pub IsLeftAt : {I A : Type 0} → (I → Option A → I → Type 0) → I → List A → Bool → I → Type 0
+IsLeftAt steps from items true at = YieldsThen steps from items None at
+IsLeftAt steps from items false at = Yields steps from items at

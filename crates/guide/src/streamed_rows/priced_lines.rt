@@ -38,7 +38,8 @@ fn print_lines(
     buf: &mut String,
 ) -> Result<(), RowsFault<LineFault>> {
     let stream = RowStream::new(alloc, config, dimension, &NoColors, COLUMNS, None)?;
-    stream.print_results(lines.lines().map(|line| cells_of(alloc, line)), buf)
+    let mut rows = lines.lines().map(|line| cells_of(alloc, line));
+    stream.print_results(&mut rows, buf)
 }
 
 /// Appends a row for each line. A line without a price ends the list: the rows above it stay,

@@ -97,7 +97,7 @@ impl<'a> StreamCase<'a> {
         match way {
             Way::PrintVec => Ok(stream.print_vec(self.rows(memory)?, buf)?),
             Way::PrintAll => Ok(stream.print_all(self.rows(memory)?.into_iter(), buf)?),
-            _ => stream.print_results(self.items(memory)?.into_iter(), buf),
+            _ => stream.print_results(&mut self.items(memory)?.into_iter(), buf),
         }
     }
 

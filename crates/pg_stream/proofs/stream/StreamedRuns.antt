@@ -7,8 +7,9 @@ use Rattle.std.specs.Prelude.{String, Result, Ok, Err}
 use Rattle.std.specs.Iterator.{Yields}
 use Rattle.std.specs.Iterator.Runs.{SomeRun}
 use Rattle.pg_layout.specs.Text.{Text}
-use Rattle.pg_stream.specs.Streams.{Streaming, held_text, HeldFits, after_push, rows_left, rows_before, first_error, AppendsIf, PrintsRows, PrintsButLatest, PrintsUntil, PrintsRun, PrintsResultsRun}
+use Rattle.pg_stream.specs.Streams.{Streaming, held_text, HeldFits, after_push, rows_left, rows_before, first_error, EndsInError, AppendsIf, PrintsRows, PrintsButLatest, PrintsRun, PrintsResultsRun, IsLeftAt}
 use Rattle.pg_stream.specs.declared.fault.RowsFault.TheVariants.{Stream, Source}
+use Rattle.pg_stream.specs.declared.fault.RowsFault.{RowsFault}
 use Rattle.pg_stream.specs.declared.fault.StreamFault.{StreamFault}
 use Rattle.pg_stream.proofs.stream.StreamedRows.{push-goes, push-goes-but-latest, push-stops-but-latest, none-left}
 
@@ -80,8 +81,8 @@ module _ {A E : Type 0} where
   rows-more (Ok row ∷ items) next none = ap (λ l. row ∷ l) (rows-more items next none)
   rows-more (Err error ∷ items) next none = some-error error none
 
-  error-behind : (items : List (Result A E)) (error : E) → first_error items ≡ None → first_error (items ++ Err error ∷ []) ≡ Some error
-  error-behind [] error none = refl
+  error-behind : (items : List (Result A E)) (error : E) → first_error items ≡ None → EndsInError error (items ++ Err error ∷ [])
+  error-behind [] error none = (refl, refl)
   error-behind (Ok row ∷ items) error none = error-behind items error none
   error-behind (Err other ∷ items) error none = some-error other none
 
@@ -100,63 +101,77 @@ no-items old s = record { none = refl; rows = none-behind old s }
 
 -- ---- a run of such items
 
+-- one more call
+yields-more : {I A : Type 0} (steps : I → Option A → I → Type 0) (from : I) (items : List A) (at : I) (x : A) (later : I) → Yields steps from items at → steps at (Some x) later → Yields steps from (items ++ x ∷ []) later
+yields-more {I} steps from [] at x later same step = (later, subst (λ (i : I). steps i (Some x) later) (sym same) step, refl)
+yields-more steps from (y ∷ ys) at x later (next, first, rest) step = (next, first, yields-more steps next ys at x later rest step)
+
 viewed : {A B : Type 0} (view : A → B) (items : List A) (x : A) (item : B) → view x ≡ item → map view (items ++ x ∷ []) ≡ map view items ++ item ∷ []
 viewed {B} view items x item is = map-append view items (x ∷ []) ∙ ap (λ (i : B). map view items ++ i ∷ []) is
 
 module _ {I A Z E : Type 0} (view : A → Result (List Text) E) (steps : I → Option A → I → Type 0) where
-  pub results-go-on : {V : Type 0} {old now after : String Z} {value : V} (items : List A) (s q began : Streaming) (x : A) (cells : List Text) → RowsBehind old now s began (map view items) → view x ≡ Ok cells
-      → AppendsIf (HeldFits s) s.before.rows (held_text s) now after (Ok value) → q ≡ after_push s cells → RowsBehind old after q began (map view (items ++ x ∷ []))
-  results-go-on {old} {after} items s q began x cells p is appends next =
-      let told : RowsBehind old after q began (map view items ++ Ok cells ∷ []) = record {
-        none = none-more (map view items) cells p.none;
-        rows = rw (rows-more (map view items) cells p.none) (one-more s q began (rows_before (map view items)) cells p.rows appends next);
+  -- the items that came so far
+  pub record Ran (old now : String Z) (s began : Streaming) (from at : I) : Type 0 where
+    pub items : List A
+    pub gave : Yields steps from items at
+    pub behind : RowsBehind old now s began (map view items)
+
+  pub none-ran : (old : String Z) (s : Streaming) (from : I) → Ran old old s s from from
+  none-ran old s from = record { items = []; gave = refl; behind = no-items old s }
+
+  -- what a call prints of the run that it made
+  abbrev PrintsRan : String Z → String Z → Streaming → I → I → Result (Unit {0}) (RowsFault E) → Type 0
+  PrintsRan old new began from at result = SomeRun steps from (λ run. PrintsResultsRun run.whole began (map view run.items) old new result × IsLeftAt steps from run.items run.whole at)
+
+  pub results-go-on : {V : Type 0} {old now after : String Z} {value : V} {from at later : I} (s q began : Streaming) (x : A) (cells : List Text) → Ran old now s began from at → steps at (Some x) later → view x ≡ Ok cells
+      → AppendsIf (HeldFits s) s.before.rows (held_text s) now after (Ok value) → q ≡ after_push s cells → Ran old after q began from later
+  results-go-on {old} {after} {from} {at} {later} s q began x cells p step is appends next =
+      let told : RowsBehind old after q began (map view p.items ++ Ok cells ∷ []) = record {
+        none = none-more (map view p.items) cells p.behind.none;
+        rows = rw (rows-more (map view p.items) cells p.behind.none) (one-more s q began (rows_before (map view p.items)) cells p.behind.rows appends next);
       } in
-      rw (viewed view items x (Ok cells) is) told
+      record { items = p.items ++ x ∷ []; gave = yields-more steps from p.items at x later p.gave step; behind = rw (viewed view p.items x (Ok cells) is) told }
 
   -- the row before the latest wasn't printed
-  pub results-stop : {V : Type 0} {old now new : String Z} {rows at later : I} (items : List A) (s began : Streaming) (fault : StreamFault) (x : A) (cells : List Text) → Yields steps rows items at
-      → RowsBehind old now s began (map view items) → steps at (Some x) later → view x ≡ Ok cells → AppendsIf {U = V} (HeldFits s) s.before.rows (held_text s) now new (Err fault)
-      → SomeRun steps rows (λ done. PrintsResultsRun {U = Unit {0}} done.whole began (map view done.items) old new (Err (Stream fault)))
-  results-stop {old} {new} {rows} {at} {later} items s began fault x cells ran p step is appends =
-      let told : PrintsResultsRun {U = Unit {0}} false began (map view items ++ Ok cells ∷ []) old new (Err (Stream fault)) = (
-        none-more (map view items) cells p.none,
-        rw (rows-more (map view items) cells p.none) (stopped-behind s began (rows_before (map view items)) cells fault p.rows appends),
+  pub results-stop : {V : Type 0} {old now new : String Z} {from at later : I} (s began : Streaming) (fault : StreamFault) (x : A) (cells : List Text) → Ran old now s began from at
+      → steps at (Some x) later → view x ≡ Ok cells → AppendsIf {U = V} (HeldFits s) s.before.rows (held_text s) now new (Err fault) → PrintsRan old new began from later (Err (Stream fault))
+  results-stop {old} {new} {from} {at} {later} s began fault x cells p step is appends =
+      let told : PrintsResultsRun {U = Unit {0}} false began (map view p.items ++ Ok cells ∷ []) old new (Err (Stream fault)) = (
+        none-more (map view p.items) cells p.behind.none,
+        rw (rows-more (map view p.items) cells p.behind.none) (stopped-behind s began (rows_before (map view p.items)) cells fault p.behind.rows appends),
       ) in (
-        run steps rows (items ++ x ∷ []) false (to_item steps rows later items x (at, ran, step)),
+        run steps from (p.items ++ x ∷ []) false (to_item steps from later p.items x (at, p.gave, step)),
         refl,
-        subst (λ (l : List (Result (List Text) E)). PrintsResultsRun {U = Unit {0}} false began l old new (Err (Stream fault))) (sym (viewed view items x (Ok cells) is)) told,
+        (subst (λ (l : List (Result (List Text) E)). PrintsResultsRun {U = Unit {0}} false began l old new (Err (Stream fault))) (sym (viewed view p.items x (Ok cells) is)) told, yields-more steps from p.items at x later p.gave step),
       )
 
   -- the latest is an error
-  pub results-fail : {old now : String Z} {rows at later : I} (items : List A) (s began : Streaming) (error : E) (x : A) → Yields steps rows items at
-      → RowsBehind old now s began (map view items) → steps at (Some x) later → view x ≡ Err error
-      → SomeRun steps rows (λ done. PrintsResultsRun {U = Unit {0}} done.whole began (map view done.items) old now (Err (Source error)))
-  results-fail {old} {now} {rows} {at} {later} items s began error x ran p step is =
+  pub results-fail : {old now : String Z} {from at later : I} (s began : Streaming) (error : E) (x : A) → Ran old now s began from at → steps at (Some x) later → view x ≡ Err error → PrintsRan old now began from later (Err (Source error))
+  results-fail {old} {now} {from} {at} {later} s began error x p step is =
       let none : PrintsButLatest {U = Unit {0}} s.before (rows_left s []) now now (Ok tt) = none-left now s.before s.held tt in
-      let printed : PrintsButLatest {U = Unit {0}} began.before (rows_left began (rows_before (map view items))) old now (Ok tt) =
-      subst (λ (l : List (List Text)). PrintsButLatest {U = Unit {0}} began.before (rows_left began l) old now (Ok tt)) (append-nil (rows_before (map view items))) (p.rows.but-latest [] now (Ok tt) none) in
-      let told : PrintsResultsRun {U = Unit {0}} false began (map view items ++ Err error ∷ []) old now (Err (Source error)) = (
-        error-behind (map view items) error p.none,
-        rw (rows-behind (map view items) error p.none) printed,
+      let printed : PrintsButLatest {U = Unit {0}} began.before (rows_left began (rows_before (map view p.items))) old now (Ok tt) =
+      subst (λ (l : List (List Text)). PrintsButLatest {U = Unit {0}} began.before (rows_left began l) old now (Ok tt)) (append-nil (rows_before (map view p.items))) (p.behind.rows.but-latest [] now (Ok tt) none) in
+      let told : PrintsResultsRun {U = Unit {0}} false began (map view p.items ++ Err error ∷ []) old now (Err (Source error)) = (
+        error-behind (map view p.items) error p.behind.none,
+        rw (rows-behind (map view p.items) error p.behind.none) printed,
       ) in (
-        run steps rows (items ++ x ∷ []) false (to_item steps rows later items x (at, ran, step)),
+        run steps from (p.items ++ x ∷ []) false (to_item steps from later p.items x (at, p.gave, step)),
         refl,
-        subst (λ (l : List (Result (List Text) E)). PrintsResultsRun {U = Unit {0}} false began l old now (Err (Source error))) (sym (viewed view items x (Err error) is)) told,
+        (subst (λ (l : List (Result (List Text) E)). PrintsResultsRun {U = Unit {0}} false began l old now (Err (Source error))) (sym (viewed view p.items x (Err error) is)) told, yields-more steps from p.items at x later p.gave step),
       )
 
   -- no item came behind the latest
-  pub results-end-ok : {old now new : String Z} {rows at later : I} (items : List A) (s began : Streaming) → Yields steps rows items at → RowsBehind old now s began (map view items)
-      → steps at None later → PrintsRows {U = Unit {0}} s.before (rows_left s []) now new (Ok tt) → SomeRun steps rows (λ done. PrintsResultsRun {U = Unit {0}} done.whole began (map view done.items) old new (Ok tt))
-  results-end-ok {rows} {at} {later} items s began ran p step done = (
-    run steps rows items true (to_end steps rows items (later, (at, ran, step))),
+  pub results-end-ok : {old now new : String Z} {from at later : I} (s began : Streaming) → Ran old now s began from at → steps at None later → PrintsRows {U = Unit {0}} s.before (rows_left s []) now new (Ok tt) → PrintsRan old new began from later (Ok tt)
+  results-end-ok {from} {at} {later} s began p step done = (
+    run steps from p.items true (to_end steps from p.items (later, (at, p.gave, step))),
     refl,
-    (p.none, ended-behind s began (rows_before (map view items)) (Ok tt) p.rows done),
+    ((p.behind.none, ended-behind s began (rows_before (map view p.items)) (Ok tt) p.behind.rows done), (at, p.gave, step)),
   )
 
-  pub results-end-err : {old now new : String Z} {rows at later : I} (items : List A) (s began : Streaming) (fault : StreamFault) → Yields steps rows items at → RowsBehind old now s began (map view items)
-      → steps at None later → PrintsRows {U = Unit {0}} s.before (rows_left s []) now new (Err fault) → SomeRun steps rows (λ done. PrintsResultsRun {U = Unit {0}} done.whole began (map view done.items) old new (Err (Stream fault)))
-  results-end-err {old} {new} {rows} {at} {later} items s began fault ran p step done = (
-    run steps rows items true (to_end steps rows items (later, (at, ran, step))),
+  pub results-end-err : {old now new : String Z} {from at later : I} (s began : Streaming) (fault : StreamFault) → Ran old now s began from at → steps at None later → PrintsRows {U = Unit {0}} s.before (rows_left s []) now new (Err fault)
+      → PrintsRan old new began from later (Err (Stream fault))
+  results-end-err {from} {at} {later} s began fault p step done = (
+    run steps from p.items true (to_end steps from p.items (later, (at, p.gave, step))),
     refl,
-    subst (λ (e : Option E). PrintsUntil {U = Unit {0}} e began.before (rows_left began (rows_before (map view items))) old new (Err fault)) (sym p.none) (ended-behind s began (rows_before (map view items)) (Err fault) p.rows done),
+    ((p.behind.none, ended-behind s began (rows_before (map view p.items)) (Err fault) p.behind.rows done), (at, p.gave, step)),
   )

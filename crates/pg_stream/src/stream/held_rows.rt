@@ -8,7 +8,7 @@ ghost use Rattle.pg_layout.specs.Records.{AlwaysGives};
 ghost use Rattle.pg_layout.specs.Text.{Text};
 ghost use Rattle.pg_stream.specs.Inside.Held.{streamed, AreSoundAt};
 ghost use Rattle.pg_picture.specs.Inside.Sheets.{bare_table};
-ghost use Rattle.pg_stream.specs.Streams.{held_text, HeldFits, after_push, rows_left, AppendsIf, PrintsRows, PrintsResults, PrintsRun, PrintsResultsRun};
+ghost use Rattle.pg_stream.specs.Streams.{held_text, HeldFits, after_push, rows_left, AppendsIf, PrintsRows, PrintsResults, PrintsRun, PrintsResultsRun, IsLeftAt};
 
 use crate::fault::{RowsFault, StreamFault};
 use crate::printer::{Frame, Progress};
@@ -118,7 +118,7 @@ impl<S: AsStr + Drop, A: Allocator, V: Allocator> HeldRows<'_, S, A, V> {
     pub(crate) fn push_results<'f, T, D, C, B, E, I, W>(
         self,
         frame: &'f Frame<'f, D, C, B>,
-        rows: I,
+        rows: &mut I,
         buf: &mut String<W>,
     ) -> Result<(), RowsFault<E>>
     where
@@ -127,19 +127,19 @@ impl<S: AsStr + Drop, A: Allocator, V: Allocator> HeldRows<'_, S, A, V> {
         C: Colors,
         B: Allocator,
         E: Drop,
-        I: Iterator<Item = Result<Vec<S, V>, E>> + Drop,
+        I: Iterator<Item = Result<Vec<S, V>, E>>,
         W: Allocator,
         requires is { bare_table D.width D.height C.color frame.now.sheet ≡ T.table }
         requires sound { AreSoundAt T.table frame.now self }
-        requires can { I.can_next rows }
-        requires ends { IsFinite (I.remaining rows) }
-        ensures prints { (items : List (Result (List Text) E)) → AlwaysGives (λ x y. result_map_both (λ row. map S.text row.items) (λ error. error) x ≡ y) I.next_gives rows items → PrintsResults (streamed S.text T.table frame.now.hint self.entry) items buf.old buf.new result }
-        ensures runs { SomeRun I.next_gives rows (λ run. PrintsResultsRun run.whole (streamed S.text T.table frame.now.hint self.entry) (map (λ item. result_map_both (λ row. map S.text row.items) (λ error. error) item) run.items) buf.old buf.new result) }
-        ensures empty { self.entry.held ≡ None → AlwaysGives (λ x y. result_map_both (λ row. map S.text row.items) (λ error. error) x ≡ y) I.next_gives rows [] → IsOk result × (buf.new ≡ buf.old) }
+        requires can { I.can_next rows.old }
+        requires ends { IsFinite (I.remaining rows.old) }
+        ensures prints { (items : List (Result (List Text) E)) → AlwaysGives (λ x y. result_map_both (λ row. map S.text row.items) (λ error. error) x ≡ y) I.next_gives rows.old items → PrintsResults (streamed S.text T.table frame.now.hint self.entry) items buf.old buf.new result }
+        ensures runs { SomeRun I.next_gives rows.old (λ run. PrintsResultsRun run.whole (streamed S.text T.table frame.now.hint self.entry) (map (λ item. result_map_both (λ row. map S.text row.items) (λ error. error) item) run.items) buf.old buf.new result × IsLeftAt I.next_gives rows.old run.items run.whole rows.new) }
+        ensures empty { self.entry.held ≡ None → AlwaysGives (λ x y. result_map_both (λ row. map S.text row.items) (λ error. error) x ≡ y) I.next_gives rows.old [] → IsOk result × (buf.new ≡ buf.old) }
     {
         let mut room = [0; SEPARATOR_ROOM];
         let mut pushed = self.with_room(&mut room);
-        for row in rows {
+        while let Some(row) = rows.next() {
             let cells = match row {
                 Ok(cells) => cells,
                 Err(error) => return Err(RowsFault::Source(error)),

@@ -10,7 +10,7 @@ ghost use Rattle.pg_picture.specs.Appending.{AppendsOrNothing};
 ghost use Rattle.pg_picture.specs.declared.fits.Misfit.{Misfit};
 ghost use Rattle.pg_stream.specs.Conditions.{PrinterFits, printer_misfit};
 ghost use Rattle.pg_stream.specs.Printing.{printer, rows_text};
-ghost use Rattle.pg_stream.specs.Streams.{streaming, held_text, HeldFits, after_push, rows_left, AppendsIf, PrintsRows, PrintsResults, PrintsRun, PrintsResultsRun};
+ghost use Rattle.pg_stream.specs.Streams.{streaming, held_text, HeldFits, after_push, rows_left, AppendsIf, PrintsRows, PrintsResults, PrintsRun, PrintsResultsRun, IsLeftAt};
 ghost use Rattle.pg_stream.specs.declared.fault.StreamFault.{StreamFault};
 
 use crate::fault::{RowsFault, StreamFault};
@@ -253,26 +253,28 @@ impl<
     /// is none. It stops at a row that doesn't fit, like [`RowStream::print_all`]
     /// (`RowsFault::Stream`).
     ///
-    /// At an error it returns `RowsFault::Source`. The rows before it are complete, except for the
-    /// latest: it isn't known whether that is the last, so it is neither tested nor printed.
+    /// At an error it returns `RowsFault::Source`, and takes no item behind it. The rows before it are
+    /// complete, except for the latest: it isn't known whether that is the last, so it is neither
+    /// tested nor printed.
     ///
     /// Precondition: the iterator can be run to its end. Those over arrays, vectors and the lines
     /// of a reader can. [`RowStream::print_vec`] takes rows that are no errors, and has no
     /// precondition.
     ///
     /// ```rust
-    /// stream.print_results(reader.lines(alloc).map(|line| cells_of(alloc, line)), &mut buf)?;
+    /// let mut rows = reader.lines(alloc).map(|line| cells_of(alloc, line));
+    /// stream.print_results(&mut rows, &mut buf)?;
     /// ```
-    pub fn print_results<E: Drop, I: Iterator<Item = Result<Vec<S, V>, E>> + Drop, W: Allocator>(
+    pub fn print_results<E: Drop, I: Iterator<Item = Result<Vec<S, V>, E>>, W: Allocator>(
         self,
-        rows: I,
+        rows: &mut I,
         buf: &mut String<W>,
     ) -> Result<(), RowsFault<E>>
-        requires can { I.can_next rows }
-        requires ends { IsFinite (I.remaining rows) }
-        ensures prints { (items : List (Result (List Text) E)) → AlwaysGives (λ x y. result_map_both (λ row. map S.text row.items) (λ error. error) x ≡ y) I.next_gives rows items → PrintsResults (streaming D.width D.height C.color self.entry) items buf.old buf.new result }
-        ensures runs { SomeRun I.next_gives rows (λ run. PrintsResultsRun run.whole (streaming D.width D.height C.color self.entry) (map (λ item. result_map_both (λ row. map S.text row.items) (λ error. error) item) run.items) buf.old buf.new result) }
-        ensures empty { (streaming D.width D.height C.color self.entry).held ≡ None → AlwaysGives (λ x y. result_map_both (λ row. map S.text row.items) (λ error. error) x ≡ y) I.next_gives rows [] → IsOk result × (buf.new ≡ buf.old) }
+        requires can { I.can_next rows.old }
+        requires ends { IsFinite (I.remaining rows.old) }
+        ensures prints { (items : List (Result (List Text) E)) → AlwaysGives (λ x y. result_map_both (λ row. map S.text row.items) (λ error. error) x ≡ y) I.next_gives rows.old items → PrintsResults (streaming D.width D.height C.color self.entry) items buf.old buf.new result }
+        ensures runs { SomeRun I.next_gives rows.old (λ run. PrintsResultsRun run.whole (streaming D.width D.height C.color self.entry) (map (λ item. result_map_both (λ row. map S.text row.items) (λ error. error) item) run.items) buf.old buf.new result × IsLeftAt I.next_gives rows.old run.items run.whole rows.new) }
+        ensures empty { (streaming D.width D.height C.color self.entry).held ≡ None → AlwaysGives (λ x y. result_map_both (λ row. map S.text row.items) (λ error. error) x ≡ y) I.next_gives rows.old [] → IsOk result × (buf.new ≡ buf.old) }
     {
         let RowStream {
             frame,

@@ -7,19 +7,19 @@ use Rattle.pg_stream.specs.Inside.Held.{streamed}
 use Rattle.pg_stream.specs.Streams.{Streaming}
 use Rattle.pg_stream.specs.declared.fault.RowsFault.{RowsFault}
 use Rattle.pg_stream.proofs.stream.StreamedResults.{none-streamed, item-taken, streamed-next, streamed-stops, streamed-fails, streamed-ends}
-use Rattle.pg_stream.proofs.stream.StreamedRuns.{no-items, results-go-on, results-stop, results-fail, results-end-ok, results-end-err}
+use Rattle.pg_stream.proofs.stream.StreamedRuns.{none-ran, results-go-on, results-stop, results-fail, results-end-ok, results-end-err}
 use Rattle.pg_stream.proofs.stream.NoRows.{untouched, touched, some-row}
 use Rattle.pg_stream.proofs.stream.held_rows.HeldRows.push_results.Goals as goal
 
 pub loop-row-init : goal.loop-row-init
 loop-row-init g c =
-    rw (c.into_iter-row-iterator.ensures.into_iter_gives, c.with_room-pushed.ensures) (
+    rw c.with_room-pushed.ensures (
       c.requires.can,
       c.requires.ends,
-      λ items left. none-streamed (Unit {0}) (λ x. result_map_both (λ row. map g.S.AsStr.text row.items) (λ error. error) x) g.I.Iterator.next_gives c.args.buf.now c.args.rows (streamed g.S.AsStr.text g.T.TableMarker.table c.args.frame.now.hint c.args.self) items left,
+      λ items left. none-streamed (Unit {0}) (λ x. result_map_both (λ row. map g.S.AsStr.text row.items) (λ error. error) x) g.I.Iterator.next_gives c.args.buf.now c.args.rows.now (streamed g.S.AsStr.text g.T.TableMarker.table c.args.frame.now.hint c.args.self) items left,
       (record { printer = c.requires.sound.0.printer; kept = tt }, c.requires.sound.1),
-      no-items c.args.buf.now (streamed g.S.AsStr.text g.T.TableMarker.table c.args.frame.now.hint c.args.self),
-      untouched g.I.Iterator.next_gives c.args.self.held c.args.rows c.args.buf.now,
+      none-ran (λ x. result_map_both (λ row. map g.S.AsStr.text row.items) (λ error. error) x) g.I.Iterator.next_gives c.args.buf.now (streamed g.S.AsStr.text g.T.TableMarker.table c.args.frame.now.hint c.args.self) c.args.rows.now,
+      untouched g.I.Iterator.next_gives c.args.self.held c.args.rows.now c.args.buf.now,
     )
 
 pub returns-in-Err-clause-prints : goal.returns-in-Err-clause-prints
@@ -36,7 +36,7 @@ returns-in-Err-clause-runs g c =
     let now : Streaming = streamed g.S.AsStr.text g.T.TableMarker.table c.args.frame.now.hint c.loop-row.pushed in
     let began : Streaming = streamed g.S.AsStr.text g.T.TableMarker.table c.args.frame.now.hint c.args.self in
     let view : Result _ g.row.E.Denot → Result (List Text) g.row.E.Denot = λ x. result_map_both (λ row. map g.S.AsStr.text row.items) (λ error. error) x in
-    rw (← c.into_iter-row-iterator.ensures.into_iter_gives) (results-fail view g.I.Iterator.next_gives c.loop-row.yielded now began c.in-Err.error c.in-Some.row c.loop-row.yielded_by c.loop-row.invariant.4 c.in-Some.ensures.steps (ap view c.in-Err.is))
+    (results-fail view g.I.Iterator.next_gives now began c.in-Err.error c.in-Some.row c.loop-row.invariant.4 c.in-Some.ensures.steps (ap view c.in-Err.is))
 
 pub returns-in_err-push-clause-prints : goal.returns-in_err-push-clause-prints
 returns-in_err-push-clause-prints g c =
@@ -56,7 +56,7 @@ returns-in_err-push-clause-runs g c =
     let began : Streaming = streamed g.S.AsStr.text g.T.TableMarker.table c.args.frame.now.hint c.args.self in
     let view : Result _ g.row.E.Denot → Result (List Text) g.row.E.Denot = λ x. result_map_both (λ row. map g.S.AsStr.text row.items) (λ error. error) x in
     let cells : List Text = map g.S.AsStr.text c.in-Ok.cells.items in
-    rw (p.1, p.2, ← c.into_iter-row-iterator.ensures.into_iter_gives) (results-stop view g.I.Iterator.next_gives c.loop-row.yielded now began c.in_err-push.field-0.0 c.in-Some.row cells c.loop-row.yielded_by c.loop-row.invariant.4 c.in-Some.ensures.steps (ap view c.in-Ok.is) c.in_err-push.ensures.prints)
+    rw (p.1, p.2) (results-stop view g.I.Iterator.next_gives now began c.in_err-push.field-0.0 c.in-Some.row cells c.loop-row.invariant.4 c.in-Some.ensures.steps (ap view c.in-Ok.is) c.in_err-push.ensures.prints)
 
 pub loop-row-preserved : goal.loop-row-preserved
 loop-row-preserved g c =
@@ -72,7 +72,7 @@ loop-row-preserved g c =
           streamed-next (Unit {0}) view g.I.Iterator.next_gives now next began items cells
           (item-taken (Unit {0}) view g.I.Iterator.next_gives now began items c.in-Some.row (Ok cells) (c.loop-row.invariant.2 items left) c.in-Some.ensures.steps (ap view c.in-Ok.is)) c.in_ok-push.ensures.prints c.in_ok-push.ensures.after,
       c.in_ok-push.ensures.sound,
-      results-go-on view g.I.Iterator.next_gives c.loop-row.yielded now next began c.in-Some.row cells c.loop-row.invariant.4 (ap view c.in-Ok.is) c.in_ok-push.ensures.prints c.in_ok-push.ensures.after,
+      results-go-on view g.I.Iterator.next_gives now next began c.in-Some.row cells c.loop-row.invariant.4 c.in-Some.ensures.steps (ap view c.in-Ok.is) c.in_ok-push.ensures.prints c.in_ok-push.ensures.after,
       touched g.I.Iterator.next_gives c.in-Some.row c.loop-row.invariant.5 c.in-Some.ensures.steps,
     )
 
@@ -83,7 +83,7 @@ returns-in_err-finish-clause-prints g c =
     let began : Streaming = streamed g.S.AsStr.text g.T.TableMarker.table c.args.frame.now.hint c.args.self in
     let view : Result _ g.row.E.Denot → Result (List Text) g.row.E.Denot = λ x. result_map_both (λ row. map g.S.AsStr.text row.items) (λ error. error) x in
     rw (p.1, p.2) (λ items left.
-    streamed-ends (Unit {0}) view g.I.Iterator.next_gives c.finish.new.buf now began items (Err (RowsFault.Stream c.in_err-finish.field-0.0)) (c.loop-row.invariant.2 items left) c.in-None.ensures.steps c.in_err-finish.ensures.prints)
+    streamed-ends (Unit {0}) view g.I.Iterator.next_gives c.finish.new.buf now began items (Err (RowsFault.Stream c.in_err-finish.field-0.0)) (c.loop-row.invariant.2 items left) c.in_default.ensures.steps c.in_err-finish.ensures.prints)
 
 pub returns-in_err-finish-clause-runs : goal.returns-in_err-finish-clause-runs
 returns-in_err-finish-clause-runs g c =
@@ -91,21 +91,21 @@ returns-in_err-finish-clause-runs g c =
     let now : Streaming = streamed g.S.AsStr.text g.T.TableMarker.table c.args.frame.now.hint c.loop-row.pushed in
     let began : Streaming = streamed g.S.AsStr.text g.T.TableMarker.table c.args.frame.now.hint c.args.self in
     let view : Result _ g.row.E.Denot → Result (List Text) g.row.E.Denot = λ x. result_map_both (λ row. map g.S.AsStr.text row.items) (λ error. error) x in
-    rw (p.1, p.2, ← c.into_iter-row-iterator.ensures.into_iter_gives) (results-end-err view g.I.Iterator.next_gives c.loop-row.yielded now began c.in_err-finish.field-0.0 c.loop-row.yielded_by c.loop-row.invariant.4 c.in-None.ensures.steps c.in_err-finish.ensures.prints)
+    rw (p.1, p.2) (results-end-err view g.I.Iterator.next_gives now began c.in_err-finish.field-0.0 c.loop-row.invariant.4 c.in_default.ensures.steps c.in_err-finish.ensures.prints)
 
 pub returns-clause-prints : goal.returns-clause-prints
 returns-clause-prints g c =
     let now : Streaming = streamed g.S.AsStr.text g.T.TableMarker.table c.args.frame.now.hint c.loop-row.pushed in
     let began : Streaming = streamed g.S.AsStr.text g.T.TableMarker.table c.args.frame.now.hint c.args.self in
     let view : Result _ g.row.E.Denot → Result (List Text) g.row.E.Denot = λ x. result_map_both (λ row. map g.S.AsStr.text row.items) (λ error. error) x in
-    λ items left. streamed-ends (Unit {0}) view g.I.Iterator.next_gives c.finish.new.buf now began items (Ok tt) (c.loop-row.invariant.2 items left) c.in-None.ensures.steps (refl, c.in_ok-finish.ensures.prints)
+    λ items left. streamed-ends (Unit {0}) view g.I.Iterator.next_gives c.finish.new.buf now began items (Ok tt) (c.loop-row.invariant.2 items left) c.in_default.ensures.steps (refl, c.in_ok-finish.ensures.prints)
 
 pub returns-clause-runs : goal.returns-clause-runs
 returns-clause-runs g c =
     let now : Streaming = streamed g.S.AsStr.text g.T.TableMarker.table c.args.frame.now.hint c.loop-row.pushed in
     let began : Streaming = streamed g.S.AsStr.text g.T.TableMarker.table c.args.frame.now.hint c.args.self in
     let view : Result _ g.row.E.Denot → Result (List Text) g.row.E.Denot = λ x. result_map_both (λ row. map g.S.AsStr.text row.items) (λ error. error) x in
-    rw (← c.into_iter-row-iterator.ensures.into_iter_gives) (results-end-ok view g.I.Iterator.next_gives c.loop-row.yielded now began c.loop-row.yielded_by c.loop-row.invariant.4 c.in-None.ensures.steps c.in_ok-finish.ensures.prints)
+    (results-end-ok view g.I.Iterator.next_gives now began c.loop-row.invariant.4 c.in_default.ensures.steps c.in_ok-finish.ensures.prints)
 
 -- an item that was taken came from the iterator
 pub returns-in-Err-clause-empty : goal.returns-in-Err-clause-empty
