@@ -2,7 +2,7 @@
 //! by hand among them, and reports each call that returns or appends something else.
 //!
 //! The input has a part for each subject, behind a line `== NAME`: `values`, which has no lines, `settings`, `texts`,
-//! `tables` and `streams`. A part has sections:
+//! `tables`, `streams`, and `scripts`, which has lines of its own ([`scripts`]). The other parts have sections:
 //!
 //! - `: NAME` begins a section.
 //! - `|a|b|` is a row of texts: a bar before the first text, and one behind each. `|` is a row without cells, and
@@ -18,6 +18,7 @@
 
 mod case;
 mod fault;
+mod scripts;
 mod settings;
 mod streams;
 mod subject;

@@ -1,6 +1,7 @@
 //! The subjects of the cases, and the part of the input on each.
 
 use crate::case::follow_all;
+use crate::scripts::case::ScriptCase;
 use crate::settings::case::SettingsCase;
 use crate::streams::case::StreamCase;
 use crate::tables::case::TableCase;
@@ -25,6 +26,8 @@ enum Subject {
     Tables,
     /// Tables whose rows come one at a time.
     Streams,
+    /// Scripts of `pgshow`.
+    Scripts,
 }
 
 impl Subject {
@@ -36,6 +39,7 @@ impl Subject {
             "texts" => Some(Subject::Texts),
             "tables" => Some(Subject::Tables),
             "streams" => Some(Subject::Streams),
+            "scripts" => Some(Subject::Scripts),
             _ => None,
         }
     }
@@ -48,6 +52,7 @@ impl Subject {
             Subject::Texts => ("texts", "fitted"),
             Subject::Tables => ("tables", "drawn"),
             Subject::Streams => ("tables", "printed"),
+            Subject::Scripts => ("scripts", "answered"),
         }
     }
 
@@ -65,6 +70,7 @@ impl Subject {
             Subject::Texts => follow_all(&mut TextCase::new(alloc), lines, report),
             Subject::Tables => follow_all(&mut TableCase::new(alloc), lines, report),
             Subject::Streams => follow_all(&mut StreamCase::new(alloc), lines, report),
+            Subject::Scripts => follow_all(&mut ScriptCase::new(alloc), lines, report),
         }
     }
 }

@@ -1,11 +1,13 @@
 //! Facts about single values, which no section can write: what lines, widths, colours, values by place and records
-//! are, and what the cases are made with.
+//! are, what the cases are made with, and what `pgshow` does where no script can say it.
 
 pub(crate) mod colors;
+pub(crate) mod endings;
 pub(crate) mod failing;
 pub(crate) mod given;
 pub(crate) mod places;
 pub(crate) mod pushed;
+pub(crate) mod scripts;
 pub(crate) mod texts;
 
 use crate::fault::CaseFault;
@@ -56,5 +58,6 @@ pub(crate) fn check_values(alloc: Global, report: &mut Report) -> Result<(), Cas
     pushed::check_pushed(alloc, report)?;
     given::check_given(alloc, report)?;
     failing::check_failing(alloc, report);
-    Ok(())
+    endings::check_endings(alloc, report)?;
+    scripts::check_scripts(alloc, report)
 }

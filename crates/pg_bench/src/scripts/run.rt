@@ -3,7 +3,7 @@
 use pg_testing::ledger::Rule;
 use pg_testing::refusing::Refusing;
 use pg_testing::streams::{FailingReader, FailingWriter};
-use std::alloc::{AllocError, Global};
+use std::alloc::Global;
 
 /// Calls of a run that may fail.
 #[derive(Debug, Clone, Copy, PartialEq, Eq)]
@@ -14,8 +14,19 @@ pub(crate) enum Kind {
     Read,
     /// Writes of the table, and its flush.
     Write,
-    /// Writes of the line that is told, and its flush.
+    /// Writes of the error line, and its flush.
     Tell,
+}
+
+/// A script, and what its run answers where no call fails.
+#[derive(Clone, Copy)]
+pub(crate) struct Given<'c> {
+    pub(crate) alloc: Global,
+    /// The arguments.
+    pub(crate) words: &'c [String],
+    pub(crate) script: &'c str,
+    /// The exit status, what is shown, and the line of the error.
+    pub(crate) answer: (u8, &'c str, &'c str),
 }
 
 /// What a run leaves.
@@ -25,17 +36,12 @@ pub(crate) struct Run {
     pub(crate) status: u8,
     /// What was written of a table.
     pub(crate) out: Vec<u8>,
-    /// What was written of a fault.
+    /// What was written of an error.
     pub(crate) err: Vec<u8>,
     /// Whether a call failed by the rule.
     pub(crate) has_failed: bool,
     /// How many calls came of the kind that the rule is for.
     pub(crate) calls: u64,
-}
-
-/// The arguments of a run in this mode.
-pub(crate) fn arguments(alloc: Global, mode: &str) -> Result<Vec<String>, AllocError> {
-    Ok(vec![in alloc; String::from_str(alloc, mode)?]?)
 }
 
 // The memory of a run.
@@ -53,14 +59,15 @@ fn rule_for(kind: Kind, (failing, rule): (Kind, Rule)) -> Rule {
 }
 
 impl Run {
-    /// Runs a script with these arguments, while calls of a kind fail by a rule.
-    pub(crate) fn new(alloc: Global, words: &[String], script: &str, failing: (Kind, Rule)) -> Run {
-        let memory = memory_by(alloc, rule_for(Kind::Memory, failing));
-        let (mut out, mut err) = (Vec::new(alloc), Vec::new(alloc));
-        let mut input = FailingReader::new(script.as_bytes(), rule_for(Kind::Read, failing));
+    /// Runs a script while calls of a kind fail by a rule.
+    pub(crate) fn new(given: Given<'_>, failing: (Kind, Rule)) -> Run {
+        let memory = memory_by(given.alloc, rule_for(Kind::Memory, failing));
+        let (mut out, mut err) = (Vec::new(given.alloc), Vec::new(given.alloc));
+        let mut input = FailingReader::new(given.script.as_bytes(), rule_for(Kind::Read, failing));
         let mut table = FailingWriter::new(&mut out, rule_for(Kind::Write, failing));
         let mut line = FailingWriter::new(&mut err, rule_for(Kind::Tell, failing));
-        let status = pg_show::run(&memory, words, &mut input, &mut table, &mut line).status();
+        let ending = pg_show::run(&memory, given.words, &mut input, &mut table, &mut line);
+        let status = ending.status();
         let (has_failed, calls) = match failing.0 {
             Kind::Memory => (memory.has_refused(), memory.requests()),
             Kind::Read => (input.has_failed(), input.reads()),
@@ -77,11 +84,13 @@ impl Run {
     }
 
     /// Whether it leaves this, and nothing else.
-    pub(crate) fn leaves(&self, status: u8, shown: &[u8], told: &[u8]) -> bool {
-        self.status == status && self.out.as_slice() == shown && self.err.as_slice() == told
+    pub(crate) fn leaves(&self, status: u8, shown: &[u8], told: &str) -> bool {
+        self.status == status
+            && self.out.as_slice() == shown
+            && self.err.as_slice() == told.as_bytes()
     }
 
-    /// Whether it leaves this status, no table, and a beginning of this line, which is told in pieces.
+    /// Whether it leaves this status, no table, and a beginning of this line, which is written in pieces.
     pub(crate) fn leaves_part(&self, status: u8, told: &str) -> bool {
         let is_begun = told.as_bytes().starts_with(self.err.as_slice());
         self.status == status && self.out.is_empty() && is_begun
