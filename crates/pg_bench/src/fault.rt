@@ -8,7 +8,7 @@ use pg_testing::LineFault;
 use std::alloc::{AllocError, AllocFailed};
 
 /// Why a line or a case isn't followed.
-#[derive(Debug, Clone, Copy, PartialEq, Eq)]
+#[derive(Debug, Clone, Copy)]
 pub(crate) enum CaseFault {
     /// The line isn't understood.
     Unknown,

@@ -14,7 +14,7 @@ use std::alloc::Global;
 use std::io::{self, ErrorKind, Read, Write};
 
 /// What the cases of a part are about.
-#[derive(Debug, Clone, Copy, PartialEq, Eq)]
+#[derive(Clone, Copy)]
 enum Subject {
     /// Single values, which no section can write.
     Values,

@@ -33,7 +33,7 @@ fn long_text(alloc: Global, second: &str) -> Result<String, AllocError> {
 }
 
 /// So many rows of the same cell three times, and the number of rows that is given beforehand.
-#[derive(Debug, Clone, Copy)]
+#[derive(Clone, Copy)]
 struct Alike {
     cell: &'static str,
     count: usize,

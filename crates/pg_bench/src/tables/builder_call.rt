@@ -5,7 +5,7 @@ use pg_layout::{AlignmentHorizontal, Borders, HorizontalLine, Indent, Sides};
 use pg_testing::settings::{Words, header_line_named};
 
 /// A title over a row line.
-#[derive(Debug, Clone, Copy)]
+#[derive(Clone, Copy)]
 pub(crate) struct Title<'t> {
     /// The number of the row line.
     pub(crate) row: usize,
@@ -16,7 +16,7 @@ pub(crate) struct Title<'t> {
 }
 
 /// A call of a builder.
-#[derive(Debug, Clone, Copy)]
+#[derive(Clone, Copy)]
 pub(crate) enum BuilderCall<'t> {
     /// None: the table stays as it is.
     Nothing,

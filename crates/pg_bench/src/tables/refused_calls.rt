@@ -12,7 +12,7 @@ use pg_testing::trial::{Outcome, Trial};
 use std::alloc::Global;
 
 /// How a call of a table ends while memory is refused.
-#[derive(Debug, Drop)]
+#[derive(Drop)]
 struct Tried {
     /// Whether the call succeeds.
     is_set: bool,

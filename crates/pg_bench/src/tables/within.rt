@@ -14,7 +14,7 @@ use std::alloc::{Allocator, Global};
 const ANY: &str = "any";
 
 /// What a line `within` says.
-#[derive(Debug, Clone, Copy)]
+#[derive(Clone, Copy)]
 pub(crate) struct Within<'a> {
     width: usize,
     how: Overflow<'a>,

@@ -7,7 +7,7 @@ use pg_testing::trial::{Outcome, Trial};
 use std::alloc::{AllocError, Allocator, Global};
 
 /// A call that makes a text of another one.
-#[derive(Debug, Clone, Copy)]
+#[derive(Clone, Copy)]
 pub(crate) enum FitCall<'a> {
     /// `wrap` at a width.
     Wrap(usize, Breaking),
