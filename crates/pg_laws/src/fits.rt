@@ -4,14 +4,12 @@ ghost use Rattle.pg_laws.specs.FitLaws.{SpansFitByPlaces, HeightsStay, BodyHasIt
 
 /// The test of spans is true exactly if every rectangle has a size and ends inside the table, and
 /// no place lies in two of them.
-#[tactic(auto, using(crate::proofs::SpansByPlaces::spans_fit-by_places))]
 pub fn spans_fit_by_places()
     ensures { SpansFitByPlaces }
 {}
 
 /// A rectangle's height is the same in each table that it ends in. The body has as many lines as
 /// its height says.
-#[tactic(auto, using(pg_picture::proofs::HeightsOfRectangles::rect_height-of_rect, pg_picture::proofs::HeightsOfRectangles::length-table_body))]
 pub fn heights_are_lines()
     ensures stay { HeightsStay }
     ensures body { BodyHasItsHeight }
@@ -19,7 +17,6 @@ pub fn heights_are_lines()
 
 /// A table with rows and columns and no misfit has spans and totals that fit, and room in each of
 /// its cells. Colours don't matter.
-#[tactic(auto, using(pg_picture::proofs::Rooms::fits, crate::proofs::FirstMisfits::misfit_of-colors))]
 pub fn no_misfit_means_fits()
     ensures parts { NoMisfitMeansFits }
     ensures colors { ColorsDontMatter }

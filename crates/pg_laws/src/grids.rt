@@ -6,7 +6,6 @@ use pg_layout::{Colors, Dimension, Records};
 
 /// A streaming grid and a looked-up grid of the same parts append the same text, byte for byte, if
 /// the records give their number of rows, or no side margin has an offset from the end.
-#[tactic(auto, using(crate::proofs::GridTexts::texts-are-one))]
 pub fn streamed_and_looked_up_texts_are_one<R: Records, D: Dimension, C: Colors>()
     ensures { TextsAreOne R.Records D.Dimension C.Colors }
 {}

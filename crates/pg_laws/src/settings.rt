@@ -4,7 +4,6 @@
 ghost use Rattle.pg_laws.specs.SettingLaws.{TheLatestCounts, ABorderHasItsParts, ABorderOverridesItsPlaces, ABorderIsAnswered, ABorderOfColorsIsAnswered, RowLineHorizontals, RowLineCrossings, RowLineVerticals, RowLinesStay, ColumnLinesStay, AStartIsAnswered, AnEndIsAnswered, AnOffsetMarksItsPlace, AColumnSpanIsAnswered, ARowSpanIsAnswered, WhatWasSetIsTold, NothingWasSetAtFirst};
 
 /// After a setter, the places that its entity holds have the new value, and all others keep theirs.
-#[tactic(auto, using(pg_config::proofs::SettingsLaw::setting_of-with_setting))]
 pub fn the_latest_setting_counts<V>()
     ensures { TheLatestCounts V }
 {}
