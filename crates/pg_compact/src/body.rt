@@ -51,14 +51,14 @@ impl<D: Dimension, C: Colors> CompactPrinter<'_, D, C> {
         self.push_foot(buf, width)
     }
 
-    // Whether no line stands above the rows.
+    // Whether no line is above the rows.
     fn has_no_head(&self) -> bool
         ensures { result ≡ (length (head_lines (printed_table D.width C.color self.now [])) == 0) }
     {
         self.config.get_margin().top.size == 0 && !self.config.get_borders().has_top()
     }
 
-    // What stands above the rows: the top margin and the top line.
+    // What is above the rows: the top margin and the top line.
     fn push_head<A: Allocator>(&self, buf: &mut String<A>, width: usize) -> Result<(), AllocError>
         requires width { width ≡ compact_full_width (printed_table D.width C.color self.now []) }
         ensures { Appends buf.old buf.new result (continued 0 (head_lines (printed_table D.width C.color self.now []))) }
@@ -75,7 +75,7 @@ impl<D: Dimension, C: Colors> CompactPrinter<'_, D, C> {
         )
     }
 
-    // What stands below the rows: the bottom line and the bottom margin.
+    // What is below the rows: the bottom line and the bottom margin.
     fn push_foot<A: Allocator>(&self, buf: &mut String<A>, width: usize) -> Result<(), AllocError>
         requires width { width ≡ compact_full_width (printed_table D.width C.color self.now []) }
         ensures { Appends buf.old buf.new result (fed (foot_lines (printed_table D.width C.color self.now []))) }
@@ -117,7 +117,7 @@ impl<D: Dimension, C: Colors> CompactPrinter<'_, D, C> {
         Ok(())
     }
 
-    // The lines of a row; `is_first` tells whether no line stands before them.
+    // The lines of a row; `is_first` is whether no line is before them.
     fn push_row<T, Cells, A>(
         &self,
         buf: &mut String<A>,
@@ -157,7 +157,7 @@ impl<D: Dimension, C: Colors> CompactPrinter<'_, D, C> {
         self.push_text_row(buf, row, cells)
     }
 
-    // So many padding lines; `is_first` tells whether no line stands before them.
+    // So many padding lines; `is_first` is whether no line is before them.
     fn push_padding_rows<A: Allocator>(
         &self,
         buf: &mut String<A>,
@@ -186,7 +186,7 @@ impl<D: Dimension, C: Colors> CompactPrinter<'_, D, C> {
         self.push_padding_row(buf, color)
     }
 
-    // The separator between two rows, where its line is there, after its line feed.
+    // The separator between two rows, if its line exists, after its line feed.
     fn push_inner_separator<A: Allocator>(
         &self,
         buf: &mut String<A>,
@@ -203,8 +203,7 @@ impl<D: Dimension, C: Colors> CompactPrinter<'_, D, C> {
         self.push_kept_separator(buf, kept)
     }
 
-    // A separator where its line is there, after the line feed that separates it from the line
-    // before.
+    // A separator, if its line exists, after the line feed that separates it from the line before.
     fn push_separator_if<A: Allocator>(
         &self,
         buf: &mut String<A>,

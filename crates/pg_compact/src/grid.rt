@@ -56,14 +56,15 @@ where
     D: Dimension + Drop,
     C: Colors + Drop,
 {
-    /// Appends the picture of the table, whose records may be read (all records in memory may),
-    /// have at most `usize::MAX` rows, and in which the columns fit if there are rows: of records
-    /// that know their rows [`CompactGrid::fits`] is the test, and [`TablePrinter::print`] the call
-    /// that makes it first. Of a table with no rows or no columns the buffer is unchanged.
+    /// Appends the picture of the table. Preconditions: the records are readable, as records in
+    /// memory always are, and have at most `usize::MAX` rows, and the columns fit if there are
+    /// rows. For records that know their number of rows [`CompactGrid::fits`] is the test, and
+    /// [`TablePrinter::print`] the call that makes it first. A table with no rows or no columns
+    /// leaves the buffer unchanged.
     ///
     /// The rows are read once, each as it is printed. Allocates only for the buffer. An error comes
-    /// only where the buffer's room is too small for the picture and it gets no more memory; the
-    /// buffer then holds a beginning of the picture behind what it held before.
+    /// only if the buffer's room is too small for the picture and memory is refused; the buffer
+    /// then has gained a beginning of the picture.
     pub fn build<A: Allocator>(self, buf: &mut String<A>) -> Result<(), AllocError>
         requires readable { MayBeRead R.Records self }
         requires rows { (compact_table R.texts R.columns D.width C.color self).rows ≤ usize.MAX }
@@ -82,9 +83,9 @@ where
         printer.push_table(buf, self.records.iter_rows())
     }
 
-    /// The picture of the table as a text of its own, under the conditions of `build`; of records
-    /// that know their rows `text` is the call that tests them first. An error comes if no memory
-    /// is found; a table with no rows or no columns asks for none.
+    /// The picture of the table as a text of its own, under the preconditions of `build`. For
+    /// records that know their number of rows `text` tests them first. The only error is out of
+    /// memory; a table with no rows or no columns allocates nothing.
     pub fn to_string<A: Allocator>(self, alloc: A) -> Result<String<A>, AllocError>
         requires readable { MayBeRead R.Records self }
         requires rows { (compact_table R.texts R.columns D.width C.color self).rows ≤ usize.MAX }
@@ -104,10 +105,9 @@ where
     D: Dimension + Drop,
     C: Colors + Drop,
 {
-    /// Whether the columns fit: the condition of `build` and `to_string` on its sizes, as a test.
-    /// It returns the first thing that doesn't (`pg_picture::fits::Misfit`), and allocates nothing.
-    /// A table with no rows or no columns fits. The records stay unread, and their rows can be
-    /// counted.
+    /// Whether the columns fit: the precondition of `build` and `to_string` on its sizes, as a
+    /// test. The error is the first misfit (`pg_picture::fits::Misfit`). Allocates nothing, and
+    /// reads no records, whose rows can be counted. A table with no rows or no columns fits.
     pub fn fits(&self) -> Result<(), Misfit>
         ensures exact { result ≡ unless_misfit (compact_misfit (compact_table R.texts R.columns D.width C.color self.now)) }
         ensures fits { IsOk result → CompactFits (compact_table R.texts R.columns D.width C.color self.now) }

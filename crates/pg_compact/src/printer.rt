@@ -6,7 +6,7 @@ ghost use Rattle.pg_compact.specs.Inside.RowEdges.{AreEdges};
 use crate::row_edges::RowEdges;
 use pg_config::CompactConfig;
 
-// What a compact table's lines are drawn by, whatever the texts of its rows.
+// What draws the lines of a compact table, whatever the texts of its rows.
 #[derive(Drop)]
 pub(crate) struct CompactPrinter<'a, D, C> {
     pub(crate) config: &'a CompactConfig,

@@ -1,4 +1,4 @@
-//! What stands round the cells of all rows, put together once a table.
+//! What is round the cells of all rows, put together once for a table.
 
 ghost use Rattle.std.specs.Prelude.{◌≡◌};
 ghost use Rattle.std.specs.Option.{ForSome};
@@ -8,11 +8,11 @@ ghost use Rattle.pg_compact.specs.Inside.RowEdges.{AreEdges, row_start, row_end,
 use crate::short_text::ShortText;
 use pg_config::CompactConfig;
 
-/// The texts left of a row's cells, between two of them and right of them, where they are short.
+/// The texts left of a row's cells, between two of them and right of them, if they are short.
 #[derive(Debug, Drop)]
 pub(crate) struct RowEdges {
     pub(crate) start: Option<ShortText>,
-    /// Nothing where the glyph has no colour: it is appended quicker as a character.
+    /// Nothing if the glyph has no colour: it is appended faster as a character.
     pub(crate) between: Option<ShortText>,
     pub(crate) end: Option<ShortText>,
 }
@@ -30,7 +30,7 @@ impl RowEdges {
     }
 }
 
-// What stands left of a row's cells: the left margin and the left glyph.
+// What is left of a row's cells: the left margin and the left glyph.
 fn start_text(config: &CompactConfig) -> Option<ShortText>
     ensures { ForSome result (λ text. text ≡ row_start (settings_of config.now)) }
 {
@@ -40,7 +40,7 @@ fn start_text(config: &CompactConfig) -> Option<ShortText>
     Some(text)
 }
 
-// What stands between two cells: a glyph in its colour.
+// What is between two cells: a glyph in its colour.
 fn text_between(config: &CompactConfig) -> Option<ShortText>
     ensures { ForSome result (λ text. text ≡ between_cells (settings_of config.now)) }
 {
@@ -51,7 +51,7 @@ fn text_between(config: &CompactConfig) -> Option<ShortText>
     Some(text)
 }
 
-// What stands right of a row's cells: the right glyph and the right margin.
+// What is right of a row's cells: the right glyph and the right margin.
 fn end_text(config: &CompactConfig) -> Option<ShortText>
     ensures { ForSome result (λ text. text ≡ row_end (settings_of config.now)) }
 {

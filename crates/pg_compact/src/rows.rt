@@ -45,7 +45,7 @@ impl<D: Dimension, C: Colors> CompactPrinter<'_, D, C> {
         self.push_row_end(buf)
     }
 
-    // What stands left of a row's cells: the left margin and the left glyph.
+    // What is left of a row's cells: the left margin and the left glyph.
     #[tactic(auto, unfolding(crate::specs::Inside::RowEdges::row_start))]
     fn push_row_start<A: Allocator>(&self, buf: &mut String<A>) -> Result<(), AllocError>
         ensures { Appends buf.old buf.new result (row_start (settings_of self.now.config.now)) }
@@ -62,7 +62,7 @@ impl<D: Dimension, C: Colors> CompactPrinter<'_, D, C> {
         push_border_glyph(buf, borders.left, colors.left)
     }
 
-    // What stands right of a row's cells: the right glyph and the right margin.
+    // What is right of a row's cells: the right glyph and the right margin.
     #[tactic(auto, unfolding(crate::specs::Inside::RowEdges::row_end))]
     fn push_row_end<A: Allocator>(&self, buf: &mut String<A>) -> Result<(), AllocError>
         ensures { Appends buf.old buf.new result (row_end (settings_of self.now.config.now)) }

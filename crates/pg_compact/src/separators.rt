@@ -53,7 +53,7 @@ fn crossing_before(column: usize, crossing: Option<char>) -> Option<char>
 }
 
 impl<D: Dimension, C: Colors> CompactPrinter<'_, D, C> {
-    // The separator between two rows: the one that is kept, or a new one, which is kept.
+    // The separator between two rows: the kept one, or a new one, which is then kept.
     pub(super) fn push_kept_separator<A: Allocator>(
         &self,
         buf: &mut String<A>,

@@ -1,4 +1,4 @@
-//! A short text that lies in its value, so that what many lines have in common is put together once.
+//! A short text inside its value, so that what many lines share is put together once.
 
 ghost use Rattle.std.specs.Prelude.{◌≡◌, ◌≤◌, ◌++◌, [], List, ℕ, length, take, true, OnSome, Some, option_map};
 ghost use Rattle.std.specs.Str.{is_utf8};
@@ -13,7 +13,7 @@ use std::str;
 // How many bytes a short text has room for: those of a margin and a glyph in colours of three numbers.
 const ROOM: usize = 128;
 
-/// A text that is no longer than its room, which lies in the value itself.
+/// A text that is no longer than its room, inside the value itself.
 #[derive(Debug, Drop)]
 pub(crate) struct ShortText {
     bytes: [u8; ROOM],
@@ -44,11 +44,11 @@ impl ShortText {
     pub(crate) fn as_str(&self) -> &str
         ensures { result.now ≡ self.now }
     {
-        // The bytes are those of a text. Asking that again would cost more than copying them.
+        // The bytes are those of a text. Testing that again would cost more than copying them.
         unsafe { str::from_utf8_unchecked(&self.bytes[..self.len]) }
     }
 
-    // Puts a text behind it, if there is room for that.
+    // Appends a text, if there is room.
     fn push_text(&mut self, text: &str) -> Option<()>
         ensures { OnSome result (self.new ≡ self.old ++ text.now) }
     {
@@ -62,7 +62,7 @@ impl ShortText {
         Some(())
     }
 
-    // Puts a character behind it `count` times, if there is room for that.
+    // Appends a character `count` times, if there is room.
     fn push_repeated(&mut self, c: char, count: usize) -> Option<()>
         ensures { OnSome result (self.new ≡ self.old ++ repeated c count) }
     {
@@ -74,7 +74,7 @@ impl ShortText {
         Some(())
     }
 
-    /// Puts a character behind it `count` times in a colour, if there is room for that.
+    /// Appends a character `count` times in a colour, if there is room.
     pub(crate) fn push_colored(&mut self, c: char, count: usize, color: ANSIStr<'_>) -> Option<()>
         ensures { OnSome result (self.new ≡ self.old ++ in_color (Some (str_color color.entry)) (repeated c count)) }
     {
@@ -83,7 +83,7 @@ impl ShortText {
         self.push_text(color.suffix())
     }
 
-    /// Puts a glyph behind it in its colour, if there is room for that.
+    /// Appends a glyph in its colour, if there is room.
     pub(crate) fn push_glyph(
         &mut self,
         glyph: Option<char>,
@@ -98,7 +98,7 @@ impl ShortText {
         }
     }
 
-    /// Puts an indent behind it in its colour, if there is room for that; an empty colour is none.
+    /// Appends an indent in its colour, if there is room; an empty colour is none.
     pub(crate) fn push_indent(&mut self, indent: Indent, color: ANSIStr<'_>) -> Option<()>
         ensures { OnSome result (self.new ≡ self.old ++ compact_indent indent.fill indent.size (str_color color.entry)) }
     {

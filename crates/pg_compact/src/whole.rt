@@ -1,4 +1,4 @@
-//! The compact grid tests whether each line of its texts is shown.
+//! Tests whether a compact grid shows each line of its texts.
 
 ghost use Rattle.std.specs.Prelude.{◌≡◌, ◌≤◌, true, IsOk};
 ghost use Rattle.pg_picture.specs.Shown.{compact_unshown_of, unless_unshown};
@@ -16,10 +16,10 @@ where
     D: Dimension + Drop,
     C: Colors + Drop,
 {
-    /// Whether the columns fit, and each text has one line, which is what a compact table shows of
-    /// it: else the first thing that doesn't fit, as `fits` returns it, and where all fits the
-    /// first cell whose text has more lines. Allocates nothing. A table with no rows or no columns
-    /// shows all.
+    /// Whether the columns fit, and each text has one line, which is all that a compact table shows
+    /// of it. An error is the first misfit, as `fits` returns it; if there is none, it is the first
+    /// cell whose text has more lines. Allocates nothing. A table with no rows or no columns shows
+    /// all.
     pub fn shows_all(&self) -> Result<(), Unshown>
         ensures exact { result ≡ unless_unshown (compact_unshown_of (compact_table R.texts R.columns D.width C.color self.now)) }
         ensures fits { IsOk result → CompactFits (compact_table R.texts R.columns D.width C.color self.now) }

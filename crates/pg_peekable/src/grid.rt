@@ -11,8 +11,8 @@ use std::marker::{Brand, PhantomData};
 /// A table printer over records that can be read at any place, a dimension that gives the sizes of
 /// columns and rows, and colours of cells.
 ///
-/// The table is that of its parts: the rows and columns of the records, the widths and heights of
-/// the dimension, what the configuration was told, and the colours.
+/// The table is that of these parts: the rows and columns of the records, the widths and heights of
+/// the dimension, the settings of the configuration, and the colours.
 #[derive(Debug, Clone, Drop)]
 pub struct PeekableGrid<R, G, D, C> {
     pub(crate) records: R,
@@ -59,10 +59,10 @@ where
     ghost use Rattle.pg_peekable.specs.Inside.LookedUpTable.{CanDraw, IsFull, IsShapeOf};
 
     /// Whether the table fits: its spans, its totals, and in each cell the text's widest line, the
-    /// side paddings and the padding above the text. Lines that a row isn't high enough for are no
-    /// misfit: they are left out. It is the condition of `build` and `to_string` as a test, which
-    /// returns the first thing that doesn't fit (`pg_picture::fits::Misfit`), and allocates
-    /// nothing. A table with no rows or no columns fits.
+    /// side paddings and the top padding. Lines for which a row isn't high enough are no misfit:
+    /// they are left out. This is the precondition of `build` and `to_string`, as a test. The error
+    /// is the first misfit (`pg_picture::fits::Misfit`). Allocates nothing. A table with no rows or
+    /// no columns fits.
     pub fn fits(&self) -> Result<(), Misfit>
         ensures exact { result ≡ unless_misfit (misfit_of (printed_table R.Records D.Dimension C.Colors self.now)) }
         ensures fits { IsOk result → misfit_of (printed_table R.Records D.Dimension C.Colors self.now) ≡ None }
@@ -71,11 +71,11 @@ where
         table_fits(&self.records, self.config, &self.dimension)
     }
 
-    /// Appends the picture of the table, which fits: [`PeekableGrid::fits`] is the test, and
-    /// [`TablePrinter::print`] the call that makes it first. Of a table with no rows or no columns the
-    /// buffer is unchanged.
+    /// Appends the picture of the table. Precondition: the table fits. [`PeekableGrid::fits`] is
+    /// the test, and [`TablePrinter::print`] the call that makes it first. A table with no rows or
+    /// no columns leaves the buffer unchanged.
     ///
-    /// Where each glyph and each fill takes one column, and no glyph of a column line is missing, all
+    /// If each glyph and each fill takes one column, and no glyph of a column line is missing, all
     /// lines of the body are as wide as the table.
     ///
     /// Allocates only for the buffer. An error comes only where the buffer's room is too small for
@@ -96,9 +96,9 @@ where
         self.push_picture(buf, rows, columns)
     }
 
-    /// The picture of the table as a text of its own, under the condition of `build`; `text` is the
-    /// call that tests it first. An error comes if no memory is found; a table with no rows or no
-    /// columns asks for none.
+    /// The picture of the table as a text of its own, under the precondition of `build`; `text` is
+    /// the call that tests it first. The only error is out of memory; a table with no rows or no
+    /// columns allocates nothing.
     pub fn to_string<A: Allocator>(&self, alloc: A) -> Result<String<A>, AllocError>
         requires fits { misfit_of (printed_table R.Records D.Dimension C.Colors self.now) ≡ None }
         ensures text { IfOk result (λ text. string_bytes text ≡ picture Known (printed_table R.Records D.Dimension C.Colors self.now)) }
@@ -118,7 +118,7 @@ where
         requires full { IsFull (printed_table R.Records D.Dimension C.Colors self.now) rows columns }
         ensures { Appends buf.old buf.new result (joined (picture_lines Known (printed_table R.Records D.Dimension C.Colors self.now))) }
     {
-        // Shows that the spans stand in order.
+        // Shows that the spans are in order.
         let _spans = self.config.spans();
         let width = full_width(self.config, &self.dimension, columns).unwrap();
         let height = body_height(self.config, &self.dimension, rows).unwrap();

@@ -13,11 +13,11 @@ use pg_picture::{CellPlace, SeparatorKeeper, TableMarker};
 use std::alloc::{AllocError, Allocator};
 use std::marker::PhantomData;
 
-/// Where the lines of a text stand in their cell, and how far the text was read.
+/// The place of a text's lines in their cell, and how far the text was read.
 #[derive(Debug, Clone, Copy)]
 pub(super) struct Reading {
     pub(super) place: CellPlace,
-    // The number of the line at which the cursor stands.
+    // The number of the line at the cursor.
     next: usize,
     cursor: LineCursor,
 }
@@ -97,7 +97,7 @@ pub(super) struct KeptCell {
     reading: Reading,
 }
 
-/// The rectangle of a cell, and how many of its lines stand above a row.
+/// The rectangle of a cell, and how many of its lines are above a row.
 pub(super) struct KeptRectangle<T: TableMarker> {
     pub(super) rectangle: Rectangle,
     pub(super) row: usize,

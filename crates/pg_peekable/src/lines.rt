@@ -16,7 +16,7 @@ pub(crate) struct LineOfRow<T: TableMarker> {
     ghost is: { IsLine T.table row height number } by { Prim.hlevel props },
 }
 
-/// A separator that is there: the row below it, or how many rows there are for the last one.
+/// A separator that exists: the row below it, or the number of rows for the last one.
 #[derive(Drop)]
 pub(crate) struct Separator<T: TableMarker> {
     pub(crate) row: usize,

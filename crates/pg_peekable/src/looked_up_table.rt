@@ -1,4 +1,4 @@
-//! A table that is drawn: what all functions are handed that draw a part of it.
+//! A table that is drawn: what all functions take that draw a part of it.
 
 ghost use Rattle.std.specs.Prelude.{◌≡◌, ◌<◌, false, None};
 ghost use Rattle.pg_config.specs.Config.{has_horizontal};

@@ -39,8 +39,8 @@ where
         self.push_new_separator(buf, kept, separator)
     }
 
-    // The separator between two rows: the one that is kept, or a new one, which is kept where all of
-    // them are equal.
+    // The separator between two rows: the kept one, or a new one, which is kept if all of them are
+    // equal.
     fn push_inner_separator<A: Allocator>(
         &self,
         buf: &mut String<A>,

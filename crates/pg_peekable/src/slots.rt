@@ -1,4 +1,4 @@
-//! For how many columns of a table something is kept from line to line.
+//! The number of columns for which something is kept from line to line.
 
 ghost use Rattle.std.specs.Prelude.{◌≡◌};
 ghost use Rattle.pg_picture.specs.Appending.{Appends};
@@ -11,19 +11,19 @@ use pg_layout::{Colors, Dimension, PeekableRecords};
 use pg_picture::{SEPARATOR_ROOM, TableMarker};
 use std::alloc::{AllocError, Allocator};
 
-/// How many columns a table has at most that needs few slots.
+/// The most columns of a table that needs few slots.
 const FEW: usize = 16;
 
-/// How many terminal columns a line has at most whose separator needs little room.
+/// The most terminal columns of a line whose separator needs little room.
 const NARROW: usize = 256;
 
 /// This room, in bytes: a separator without colours takes at most four for each terminal column.
 const NARROW_ROOM: usize = 1024;
 
-/// How many columns a table has at most that needs more of them.
+/// The most columns of a table that needs more of them.
 const SOME: usize = 128;
 
-/// For how many columns something is kept at most.
+/// The most columns for which something is kept.
 const MANY: usize = 1024;
 
 impl<'g, T, R, D, C, B> LookedUpTable<'g, T, R, D, C, B>
@@ -35,7 +35,7 @@ where
     B: Allocator,
 {
     // The lines of the body, with as many slots as its columns need. Many slots cost more than they
-    // save where each cell has one line.
+    // save if each cell has one line.
     pub(super) fn push_kept_body<A: Allocator>(&self, buf: &mut String<A>) -> Result<(), AllocError>
         ensures { Appends buf.old buf.new result (body_text Known T.table T.table.config.margin.top.size 0 (table_body T.table)) }
     {
@@ -96,7 +96,7 @@ where
         self.push_body(buf, &mut kept)
     }
 
-    // Whether a cell may have more lines than one.
+    // Whether a cell may have more than one line.
     fn may_have_tall_cells(&self) -> bool {
         if self.is_spanned {
             return true;

@@ -187,8 +187,8 @@ where
         }
     }
 
-    // How many lines of a rectangle stand above a row, if it is known how many stand above an
-    // earlier one. With each row comes the separator below it.
+    // How many lines of a rectangle are above a row, if it is known how many are above an earlier
+    // one. Each row comes with the separator below it.
     fn lines_above(&self, known: KeptRectangle<T>, row: usize) -> usize
         requires row { IsRowFrom T.table known.row row }
         ensures { result ≡ rows_height T.table known.rectangle.corner.row (row - known.rectangle.corner.row) }

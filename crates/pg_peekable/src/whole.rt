@@ -1,4 +1,4 @@
-//! The looked-up grid tests whether each line of its texts is shown.
+//! Tests whether a looked-up grid shows each line of its texts.
 
 use crate::grid::PeekableGrid;
 use pg_config::SpannedConfig;
@@ -20,10 +20,10 @@ where
     ghost use Rattle.pg_picture.specs.Table.{is_empty};
     ghost use Rattle.pg_peekable.specs.Grids.{printed_table};
 
-    /// Whether the table fits, and shows each line of its texts: else the first thing that doesn't
-    /// fit, as `fits` returns it, and where all fits the first cell that isn't high enough for its
-    /// lines below the padding above them. Rows that no height was told for are 0 high. Allocates
-    /// nothing. A table with no rows or no columns shows all.
+    /// Whether the table fits, and shows each line of its texts. An error is the first misfit, as
+    /// `fits` returns it; if there is none, it is the first cell that isn't high enough for its
+    /// lines below its top padding. Rows without a height are 0 high. Allocates nothing. A table
+    /// with no rows or no columns shows all.
     pub fn shows_all(&self) -> Result<(), Unshown>
         ensures exact { result ≡ unless_unshown (unshown_of (printed_table R.Records D.Dimension C.Colors self.now)) }
         ensures fits { IsOk result → misfit_of (printed_table R.Records D.Dimension C.Colors self.now) ≡ None }

@@ -107,7 +107,7 @@ where
         self.sheet.colors.get_color(pos)
     }
 
-    /// The horizontal alignment of a cell, which isn't looked up where all cells have one.
+    /// The horizontal alignment of a cell, which isn't looked up if all cells have one.
     #[inline(always)]
     pub fn side_of(self, pos: Position) -> AlignmentHorizontal
         ensures { result ≡ get_alignment_horizontal T.table.config pos }
@@ -225,7 +225,8 @@ where
         }
     }
 
-    // The glyph of a vertical and its colour. Between two columns they aren't looked up where all have one.
+    // The glyph of a vertical and its colour. Between two columns they aren't looked up if all have
+    // one.
     #[inline(always)]
     fn glyph_of(self, pos: Position) -> (Option<char>, Option<&'s ANSIBuf<B>>)
         ensures glyph { result.0 ≡ get_vertical self.entry.sheet.now.config.now pos self.entry.sheet.now.columns }

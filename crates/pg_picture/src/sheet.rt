@@ -41,7 +41,7 @@ pub struct Sheet<'a, D, C, B: Allocator = Global> {
     /// The style of all cells, if no setting is for only some of them.
     pub all: Option<CellStyle<'a, B>>,
     ghost is_of_all: { ForSome all (λ style. IsStyleButAcross config.now (style_of style)) },
-    /// The horizontal alignment that all cells have, if none is for some of them.
+    /// The horizontal alignment of all cells, if none is for only some of them.
     pub side: Option<AlignmentHorizontal>,
     ghost is_side: { ForSome side (IsSideOfAll config.now) },
     /// Whether all cells have a style that is simple to draw: a text of one line between columns of
@@ -50,7 +50,7 @@ pub struct Sheet<'a, D, C, B: Allocator = Global> {
     ghost is_of_simple: { is_simple ≡ are_simple all },
     pub verticals: VerticalKind,
     ghost is_lined: { verticals ≡ verticals_of config.now },
-    /// The glyph of all verticals between two columns, where they have no colour and none of their
+    /// The glyph of all verticals between two columns, if they have no colour and none of their
     /// places was set.
     pub inner: Option<char>,
     ghost is_inner: { inner ≡ inner_vertical config.now },

@@ -1,5 +1,5 @@
-//! A table within a width: its columns are narrowed to it, and texts that are wider than their column
-//! are wrapped or cut.
+//! A table within a width: its columns are narrowed to it, and texts wider than their column are
+//! wrapped or cut.
 
 use crate::fault::TableFault;
 use crate::natural::NaturalTable;
@@ -11,10 +11,10 @@ use pg_fit::OverlaidRecords;
 use pg_layout::{Colors, ConstantDimension, ExactRecords, PeekableRecords};
 use std::alloc::{Allocator, Global};
 
-/// A table whose columns were narrowed ([`NaturalTable::within`]), at the natural sizes of its texts, of
-/// which those that were too wide are wrapped or cut. Where it keeps spans, its columns have the widths
-/// that they were narrowed to. Only these and the other texts take memory: records, settings and colours
-/// are lent.
+/// A table whose columns were narrowed ([`NaturalTable::within`]), at the natural sizes of its
+/// texts, of which those that were too wide are wrapped or cut. If it keeps spans, its columns have
+/// the narrowed widths. Only these widths and the new texts take memory: records, settings and
+/// colours are lent.
 #[derive(Debug)]
 pub struct FittedTable<'a, R, C, B: Allocator = Global, A: Allocator = Global> {
     records: OverlaidRecords<R, A>,
@@ -23,7 +23,7 @@ pub struct FittedTable<'a, R, C, B: Allocator = Global, A: Allocator = Global> {
     colors: &'a C,
 }
 
-// Written out, so that a caller's proof has one call where it lets the table go.
+// Written out, so that a caller's proof has one call when it drops the table.
 impl<'a, R: Drop, C, B: Allocator, A: Allocator> Drop for FittedTable<'a, R, C, B, A> {
     fn drop(self) {
         let FittedTable {
@@ -51,13 +51,13 @@ where
     ghost use Rattle.pg_table.specs.Inside.Fitting.{HasPlainWidths, AreFittedBelow, IsFitted, plain_full_width};
     ghost use Rattle.pg_table.specs.Printing.{printed_table_of, natural_parts};
 
-    /// The width of a line, in terminal columns, where each column is as narrow as wrapping or cutting
-    /// can make it, the side margins and the column lines among it. Of a table that keeps no spans no
-    /// width below it can be had.
+    /// The width of a line, in terminal columns, if each column is as narrow as wrapping or cutting
+    /// can make it, including the side margins and the column lines. A table without spans can't
+    /// have a smaller width.
     ///
-    /// `Totals` comes where it passes `usize::MAX` or the columns are too many to count. A table that
-    /// keeps spans takes memory for it: `Spans` comes where these don't fit, and `Memory` where memory is
-    /// refused.
+    /// The error is `Totals` if it exceeds `usize::MAX` or there are too many columns to count. A
+    /// table with spans allocates for it: then the error is `Spans` if these don't fit, and
+    /// `Memory` if memory is refused.
     pub fn least_width<A: Allocator + Copy>(
         &self,
         alloc: A,
@@ -75,8 +75,8 @@ where
         self.plain_least_width(how).ok_or(TableFault::Totals)
     }
 
-    // The width of a line of a table that keeps no spans, where each column is as narrow as it can be, or
-    // None where it passes `usize::MAX` or the columns are too many to count.
+    // The width of a line of a table without spans if each column is as narrow as it can be, or
+    // `None` if it exceeds `usize::MAX` or there are too many columns to count.
     fn plain_least_width(&self, how: Overflow) -> Option<usize>
         ensures { result ≡ (if nat_lt (R.columns self.now.records) (2 ^ 64 - 1) then if_fits (plain_full_width how.entry self.now.config.now (R.texts self.now.records) (R.columns self.now.records)) else None) }
     {
@@ -90,13 +90,13 @@ where
         plus(plus(inner, margin.left.size), margin.right.size)
     }
 
-    /// The table within so many terminal columns, the side margins and the column lines among them:
-    /// where it is wider, columns are narrowed, the widest first ([`pg_fit::narrow`]), and texts that
-    /// are wider than their column are wrapped or cut.
+    /// The table within so many terminal columns, including the side margins and the column lines:
+    /// if it is wider, columns are narrowed, the widest first ([`pg_fit::narrow`]), and texts wider
+    /// than their column are wrapped or cut.
     ///
-    /// Its lines are at most so wide, or as wide as [`NaturalTable::least_width`] tells, where a tail is
-    /// of printable ASCII and ellipses. Where nothing is too wide it draws the same table, and takes no
-    /// memory, if no span is kept. Errors as those of [`NaturalTable::within_limits`].
+    /// Its lines are at most that wide, or as wide as [`NaturalTable::least_width`] returns, if the
+    /// tail is printable ASCII and ellipses. If nothing is too wide and no span is kept, it draws
+    /// the same table, and allocates nothing. Errors are those of [`NaturalTable::within_limits`].
     pub fn within<A: Allocator + Copy>(
         &self,
         alloc: A,
@@ -113,17 +113,17 @@ where
         self.within_limits(alloc, width, &[], how)
     }
 
-    /// [`NaturalTable::within`] where the first columns have limits of their own, their paddings among them:
-    /// `limits[0]` is the greatest width of column 0, `usize::MAX` is no limit, and columns behind the
-    /// last have none. With a width of `usize::MAX` the limits alone count.
+    /// [`NaturalTable::within`] with limits for the first columns, paddings included: `limits[0]`
+    /// is the greatest width of column 0, `usize::MAX` is no limit, and columns after the last one
+    /// have none. With a width of `usize::MAX` only the limits count.
     ///
-    /// A table of which the natural width of a column passes `usize::MAX`, or whose columns are too many
-    /// to count, is answered by `Totals`, before any memory is taken. `Memory` comes where memory is
-    /// refused, but not where nothing is too wide. A table without cells is answered by neither.
+    /// The error is `Totals`, before anything is allocated, if the natural width of a column
+    /// exceeds `usize::MAX` or there are too many columns to count; and `Memory` if memory is
+    /// refused, but not if nothing is too wide. A table without cells has neither error.
     ///
-    /// Where the table keeps spans, a cell is wrapped or cut to the width of its columns together, and the
-    /// columns are drawn as wide as they were narrowed to. `Spans` and `Totals` then come as those of
-    /// [`NaturalTable::natural_dimension`], and memory is taken for widths, too.
+    /// If the table keeps spans, a cell is wrapped or cut to the width of its columns together, and
+    /// the columns are drawn at their narrowed widths. Then `Spans` and `Totals` are those of
+    /// [`NaturalTable::natural_dimension`], and widths take memory, too.
     pub fn within_limits<A: Allocator + Copy>(
         &self,
         alloc: A,
@@ -154,8 +154,8 @@ where
         })
     }
 
-    // Sets other texts for the cells whose texts are too wide for their columns, and answers how wide
-    // these are; of a table that keeps no spans nothing.
+    // Sets other texts for the cells whose texts are too wide for their columns, and returns the
+    // columns' widths; of a table without spans nothing.
     fn fit<A: Allocator + Copy>(
         &self,
         alloc: A,
@@ -177,7 +177,7 @@ where
         Ok(Vec::new(alloc))
     }
 
-    // Sets other texts for the cells of a table that keeps no spans, where they are too wide for their
+    // Sets other texts for the cells of a table without spans, if they are too wide for their
     // columns.
     fn fit_plain<A: Allocator + Copy>(
         &self,
@@ -229,7 +229,7 @@ where
         NaturalTable::new(&self.records, self.config, self.colors)
     }
 
-    // The table with columns of at least the widths that they were narrowed to.
+    // The table whose columns have at least the narrowed widths.
     fn told(&self) -> ToldTable<'_, &OverlaidRecords<R, A>, C, B>
         ensures records { result.table.records.now ≡ self.now.records }
         ensures config { result.table.config.now ≡ self.now.config.now }
@@ -248,8 +248,8 @@ where
         self.natural().keeps_spans()
     }
 
-    /// The widths of the columns and the heights of the rows at the fitted texts, in terminal columns
-    /// and lines; errors as those of [`NaturalTable::natural_dimension`].
+    /// The widths of the columns and the heights of the rows with the fitted texts, in terminal
+    /// columns and lines. Errors are those of [`NaturalTable::natural_dimension`].
     pub fn natural_dimension<D: Allocator + Copy>(
         &self,
         alloc: D,
@@ -265,7 +265,7 @@ where
         self.natural().natural_dimension(alloc)
     }
 
-    /// Whether the table can be printed, as [`NaturalTable::fits`] tells.
+    /// Whether the table can be printed, like [`NaturalTable::fits`].
     pub fn fits<D: Allocator + Copy>(&self, alloc: D) -> Result<(), TableFault>
         ensures ok { IsOk result → fault_of (printed_fitted_table R.texts R.columns C.color self.now) ≡ None }
         ensures fault { (fault : TableFault) → result ≡ Err fault → CanFail (printed_fitted_table R.texts R.columns C.color self.now) fault }
@@ -277,8 +277,8 @@ where
         self.natural().fits(alloc)
     }
 
-    /// Appends the picture of the table; errors as those of [`NaturalTable::print`]. A table with no rows
-    /// or no columns appends nothing, and takes no memory.
+    /// Appends the picture of the table. Errors are those of [`NaturalTable::print`]. A table with
+    /// no rows or no columns appends and allocates nothing.
     pub fn print<D: Allocator + Copy, W: Allocator>(
         &self,
         alloc: D,
@@ -296,8 +296,8 @@ where
         self.natural().print(alloc, buf)
     }
 
-    /// The picture of the table as a text of its own; errors as those of [`FittedTable::print`]. A table
-    /// with no rows or no columns asks for no memory.
+    /// The picture of the table as a text of its own. Errors are those of [`FittedTable::print`]. A
+    /// table with no rows or no columns allocates nothing.
     pub fn to_string<D: Allocator + Copy>(&self, alloc: D) -> Result<String<D>, TableFault>
         ensures text { IfOk result (λ text. string_bytes text ≡ picture Known (printed_fitted_table R.texts R.columns C.color self.now)) }
         ensures even { IsNarrowLook self.now.config.now → IfOk result (λ text. IsEvenText (string_bytes text)) }

@@ -1,4 +1,4 @@
-//! Sizes of which the widths are told.
+//! Sizes with given widths.
 
 ghost use Rattle.std.specs.Prelude.{◌≡◌, IfOk, Some, None, Err};
 ghost use Rattle.pg_table.specs.Natural.{natural_sizes};
@@ -11,17 +11,17 @@ use pg_config::SpannedConfig;
 use pg_layout::{ConstantDimension, ExactRecords, NoColors, PeekableRecords};
 use std::alloc::Allocator;
 
-/// Sizes of these widths, and of the natural heights of the rows of these records: a table that fits
-/// them shows each line of its texts. Heights don't depend on widths, since no printer breaks a text
-/// into lines: texts that are to be wrapped are wrapped before.
+/// Sizes with these widths, and the natural heights of the rows of these records: a table that fits
+/// them shows each line of its texts. Heights don't depend on widths, since no printer breaks a
+/// text into lines: texts are wrapped beforehand.
 ///
 /// ```text
 /// let sizes = heights_for(alloc, &records, &config, vec![in alloc; 12, 40]?)?;
 /// PeekableGrid::new(&records, &config, &sizes, &NoColors).print_whole(&mut buf)?;
 /// ```
 ///
-/// The faults are those of [`NaturalTable::natural_dimension`]: `Spans` and `Totals`, which a width
-/// or a height of a cell that passes `usize::MAX` is too, and `Memory`. `alloc` gives the memory for
+/// The errors are those of [`NaturalTable::natural_dimension`]: `Spans`; `Totals`, also if the
+/// width or height of a cell exceeds `usize::MAX`; and `Memory`. `alloc` provides the memory for
 /// the heights.
 pub fn heights_for<R, B, A>(
     alloc: A,

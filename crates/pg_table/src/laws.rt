@@ -4,9 +4,9 @@ ghost use Rattle.pg_table.specs.Laws.{NaturalTablesHaveRoom, TotalsHoldSizes, Pl
 ghost use Rattle.pg_table.specs.ShownLaws.{NaturalHeightsShowAll};
 ghost use Rattle.pg_table.specs.WideningLaws.{CellsHaveRoom, NoColumnShrinks, NoColumnPassesItsCells, EnoughStays, AloneIsExact};
 
-/// At its natural sizes a table has room for each of its shown cells: nothing but spans that don't fit
-/// and its totals can misfit. Where the totals fit, each natural size does. Without spans each column
-/// is as wide as its widest cell, and each row as high as its highest one.
+/// At its natural sizes a table has room for each of its shown cells: only spans and totals can
+/// misfit. If the totals fit, each natural size does. Without spans each column is as wide as its
+/// widest cell, and each row as high as its highest one.
 pub fn natural_tables_have_room()
     ensures room { NaturalTablesHaveRoom }
     ensures sizes { TotalsHoldSizes }
@@ -14,9 +14,9 @@ pub fn natural_tables_have_room()
 {}
 
 /// Columns, or rows, have room for each cell that takes several of them. None is narrower than its
-/// widest cell of one column, and none is wider than its widest cell; where no cell lacks room, each
-/// stays as it is. A cell of whose columns no other cell of as many or more takes any is filled
-/// exactly.
+/// widest cell of one column, or wider than its widest cell. If no cell lacks room, each stays
+/// unchanged. A cell is filled exactly if no other cell of as many or more columns takes one of its
+/// columns.
 pub fn columns_are_widened_as_needed()
     ensures room { CellsHaveRoom }
     ensures least { NoColumnShrinks }
@@ -25,16 +25,16 @@ pub fn columns_are_widened_as_needed()
     ensures exact { AloneIsExact }
 {}
 
-/// The glyphs of each look by name and of each line below a header take one column each, as all of
-/// printable ASCII and the box drawings do, and so do the fills of a table that was told nothing. Where
-/// only such glyphs are told, the lines of a table at its natural sizes are equally wide (the clause
+/// The glyphs of each look by name and of each line below a header take one column each, like all
+/// of printable ASCII and the box drawings, and so do the fills of a table with default settings.
+/// With such glyphs alone, the lines of a table at its natural sizes are equally wide (the clause
 /// `even` of [`crate::Table::print`]).
 pub fn looks_are_narrow()
     ensures { LooksAreNarrow }
 {}
 
-/// At any widths and its natural heights, as [`crate::heights_for`] tells them, a table that fits
-/// shows each line of its texts: nothing but a misfit keeps it from being printed whole.
+/// At any widths and its natural heights, which [`crate::heights_for`] returns, a table that fits
+/// shows each line of its texts: only a misfit keeps it from being printed whole.
 pub fn natural_heights_show_all()
     ensures { NaturalHeightsShowAll }
 {}

@@ -21,13 +21,13 @@ use pg_picture::TextFacts;
 use pg_picture::fits::columns_of;
 use std::alloc::{AllocError, Allocator};
 
-// Tells a proof that these sizes are numbers of 64 bits. It does nothing when it runs.
+// Shows a proof that these sizes have 64 bits. It does nothing when it runs.
 #[inline(always)]
 fn are_numbers(sizes: &[usize])
     ensures { all_fit sizes.now ≡ true }
 {}
 
-// Shows that all widths and all heights are numbers of 64 bits.
+// Shows that all widths and all heights have 64 bits.
 #[inline(always)]
 fn both_are_numbers<A: Allocator>(sizes: &ConstantDimension<A>)
     ensures widths { all_fit sizes.now.0.items ≡ true }
@@ -37,7 +37,7 @@ fn both_are_numbers<A: Allocator>(sizes: &ConstantDimension<A>)
     are_numbers(&sizes.1);
 }
 
-// Raises sizes to those that they are to have at least.
+// Raises sizes to at least these.
 fn raise(sizes: &mut [usize], least: &[usize])
     ensures same { length sizes.new ≡ length sizes.old }
     ensures raised { (k : ℕ) → k < length sizes.old → slice_index sizes.new k ≡ max (slice_index least.now k) (slice_index sizes.old k) }
@@ -48,7 +48,7 @@ fn raise(sizes: &mut [usize], least: &[usize])
 }
 
 impl<'a, R: PeekableRecords + ExactRecords, B: Allocator> NaturalSizes<'a, R, B> {
-    // The width of a cell whose text takes so many columns, or its height, or None where it passes
+    // The width of a cell whose text takes so many columns, or its height, or `None` if it exceeds
     // `usize::MAX`.
     #[inline(always)]
     fn with_text(&self, axis: Axis, pos: Position, text: usize) -> Option<usize>
@@ -58,7 +58,8 @@ impl<'a, R: PeekableRecords + ExactRecords, B: Allocator> NaturalSizes<'a, R, B>
         self.paddings(axis, pos)?.checked_add(text)
     }
 
-    // The width and the height of a cell, each None where it passes `usize::MAX`. Its text is read once.
+    // The width and the height of a cell, each `None` if it exceeds `usize::MAX`. Its text is read
+    // once.
     #[inline(always)]
     fn measure(&self, pos: Position) -> (Option<usize>, Option<usize>)
         requires row { pos.row < length (R.texts self.now.records) }
@@ -102,8 +103,8 @@ impl<'a, R: PeekableRecords + ExactRecords, B: Allocator> NaturalSizes<'a, R, B>
         Some(height.max(high))
     }
 
-    // Raises the widths to those of the cells without a span in a row, and answers how high these are;
-    // None where a size of one passes `usize::MAX`. Goes from left column to left column.
+    // Raises the widths to those of the cells without a span in a row, and returns the greatest
+    // height of these; `None` if a size exceeds `usize::MAX`. Goes from left column to left column.
     fn measure_row(&self, row: usize, widths: &mut [usize]) -> Option<usize>
         requires row { row < length (R.texts self.now.records) }
         requires fit { spans_fit self.now.config.now.spans (length (R.texts self.now.records)) (R.columns self.now.records) ≡ true }
@@ -113,7 +114,7 @@ impl<'a, R: PeekableRecords + ExactRecords, B: Allocator> NaturalSizes<'a, R, B>
         ensures widths { IfSome result (λ height. (k : ℕ) → k < R.columns self.now.records → slice_index widths.new k ≡ max (slice_index widths.old k) (wide self.now.config.now (text_at (R.texts self.now.records)) row k)) }
         ensures huge { result ≡ None → HasHugeIn self.now.config.now (text_at (R.texts self.now.records)) (R.columns self.now.records) row }
     {
-        // Shows that the spans stand in order.
+        // Shows that the spans are in order.
         let _spans = self.config.spans();
         let columns = self.records.count_columns();
         let mut height: usize = 0;
@@ -128,8 +129,8 @@ impl<'a, R: PeekableRecords + ExactRecords, B: Allocator> NaturalSizes<'a, R, B>
         Some(height)
     }
 
-    // Raises the widths to those of the cells without a span, and answers the heights of the rows by
-    // them; None where a size of one passes `usize::MAX`.
+    // Raises the widths to those of the cells without a span, and returns the heights of the rows
+    // by them; `None` if a size exceeds `usize::MAX`.
     fn measure_rows<A: Allocator>(
         &self,
         alloc: A,
@@ -153,7 +154,7 @@ impl<'a, R: PeekableRecords + ExactRecords, B: Allocator> NaturalSizes<'a, R, B>
         Ok(Some(heights))
     }
 
-    // The sizes by the cells without a span; None where a size of one passes `usize::MAX`.
+    // The sizes by the cells without a span; `None` if a size of one exceeds `usize::MAX`.
     fn singles<A: Allocator + Copy>(
         &self,
         alloc: A,
@@ -170,8 +171,8 @@ impl<'a, R: PeekableRecords + ExactRecords, B: Allocator> NaturalSizes<'a, R, B>
         }
     }
 
-    // What a cell with a span needs of its columns and of its rows; None where its width or its height
-    // passes `usize::MAX`.
+    // What a cell with a span needs of its columns and of its rows; `None` if its width or its
+    // height exceeds `usize::MAX`.
     fn need(&self, span: Span) -> Option<(Need, Need)>
         requires { span_fits (length (R.texts self.now.records)) (R.columns self.now.records) span ≡ true }
         ensures columns { IfSome result (λ needs. needs.0 ≡ need_of Columns self.now.config.now (text_at (R.texts self.now.records)) (R.columns self.now.records) span) }
@@ -243,7 +244,7 @@ impl<'a, R: PeekableRecords + ExactRecords, B: Allocator> NaturalSizes<'a, R, B>
         widened(alloc, sizes, needs)
     }
 
-    // The sizes from these, with room for cells with a span; None where a size of one passes
+    // The sizes from these, with room for cells with a span; `None` if a size of one exceeds
     // `usize::MAX`.
     fn with_spans<A: Allocator + Copy>(
         &self,
@@ -267,8 +268,8 @@ impl<'a, R: PeekableRecords + ExactRecords, B: Allocator> NaturalSizes<'a, R, B>
         }
     }
 
-    /// The natural sizes of a table with cells whose spans fit; None where the width or the height of a
-    /// shown cell passes `usize::MAX`. Each text is read once.
+    /// The natural sizes of a table with cells whose spans fit; `None` if the width or the height
+    /// of a shown cell exceeds `usize::MAX`. Each text is read once.
     pub(crate) fn measured<A: Allocator + Copy>(
         &self,
         alloc: A,
@@ -305,7 +306,7 @@ impl<'a, R: PeekableRecords + ExactRecords, B: Allocator> NaturalSizes<'a, R, B>
         ensures heights { IfOk result (λ o. IfSome o (λ d. d.1.items ≡ natural_sizes Rows self.now.config.now (R.texts self.now.records) (R.columns self.now.records))) }
         ensures sized { IfOk result (λ o. is_some o ≡ cells_fit self.now.config.now (text_at (R.texts self.now.records)) (length (R.texts self.now.records)) (R.columns self.now.records)) }
     {
-        // Shows that the spans stand in order.
+        // Shows that the spans are in order.
         let _spans = self.config.spans();
         match self.singles(alloc)? {
             Some(mut sizes) => {
@@ -317,7 +318,8 @@ impl<'a, R: PeekableRecords + ExactRecords, B: Allocator> NaturalSizes<'a, R, B>
         }
     }
 
-    /// Whether the width and the height of each shown cell are at most `usize::MAX`. Takes no memory.
+    /// Whether the width and the height of each shown cell are at most `usize::MAX`. Allocates
+    /// nothing.
     pub(crate) fn cells_fit(&self) -> bool
         ensures { result ≡ cells_fit self.now.config.now (text_at (R.texts self.now.records)) (length (R.texts self.now.records)) (R.columns self.now.records) }
     {

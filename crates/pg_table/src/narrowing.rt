@@ -1,4 +1,4 @@
-//! The widths of columns within limits, and the texts that are fitted to them.
+//! The widths of columns within limits, and the texts fitted to them.
 
 ghost use Rattle.std.specs.Prelude.{◌^◌, ◌&&◌, nat_lt, Err, ◌≡◌, ◌<◌, ◌≤◌, ◌+◌, ◌-◌, ℕ, IfOk, IfSome, IsOk, OnOk, MatchOption, [], false, true, length, slice_index, sum_by};
 ghost use Rattle.std.specs.Bool.{OnTrue};
@@ -21,14 +21,14 @@ use pg_fit::{ColumnRange, OverlaidRecords, narrow};
 use pg_layout::{ExactRecords, PeekableRecords, Position};
 use std::alloc::{AllocError, Allocator};
 
-/// The greatest width of a column, where the first columns are told theirs.
+/// The greatest width of a column, if the first columns have limits.
 pub(crate) fn limit_of(limits: &[usize], column: usize) -> usize
     ensures { result ≡ limit_of limits.now column }
 {
     limits.get(column).copied().unwrap_or(usize::MAX)
 }
 
-/// What a total leaves to so many columns: without their verticals and the side margins.
+/// What a total leaves to so many columns: it without their column lines and the side margins.
 pub(crate) fn room_of<B: Allocator>(
     config: &SpannedConfig<B>,
     total: usize,
@@ -45,7 +45,7 @@ pub(crate) fn room_of<B: Allocator>(
 }
 
 impl<'a, R: PeekableRecords + ExactRecords, B: Allocator> NaturalSizes<'a, R, B> {
-    /// How wide a cell is at least, or None where it passes `usize::MAX`.
+    /// How wide a cell is at least, or `None` if it exceeds `usize::MAX`.
     pub(crate) fn least_cell(&self, how: Overflow, pos: Position) -> Option<usize>
         requires row { pos.row < rows_of R.texts R.columns self.now }
         requires column { pos.col < R.columns self.now.records }
@@ -56,7 +56,7 @@ impl<'a, R: PeekableRecords + ExactRecords, B: Allocator> NaturalSizes<'a, R, B>
         self.paddings(Axis::Columns, pos)?.checked_add(least)
     }
 
-    // How wide a column is at least, or None where it passes `usize::MAX`.
+    // How wide a column is at least, or `None` if it exceeds `usize::MAX`.
     fn least_width(&self, how: Overflow, column: usize) -> Option<usize>
         requires { column < R.columns self.now.records }
         ensures { result ≡ if_fits (least_of R.texts R.columns self.now how.entry column) }
@@ -68,7 +68,7 @@ impl<'a, R: PeekableRecords + ExactRecords, B: Allocator> NaturalSizes<'a, R, B>
         Some(width)
     }
 
-    /// How wide the columns are at least together, or None where it passes `usize::MAX`.
+    /// How wide the columns are at least together, or `None` if it exceeds `usize::MAX`.
     pub(crate) fn least_total(&self, how: Overflow) -> Option<usize>
         ensures { result ≡ if_fits (sum_by (least_of R.texts R.columns self.now how.entry) (range_with_len 0 (R.columns self.now.records))) }
     {
@@ -79,8 +79,8 @@ impl<'a, R: PeekableRecords + ExactRecords, B: Allocator> NaturalSizes<'a, R, B>
         Some(sum)
     }
 
-    /// Whether the columns of a table without spans are within limits at their natural widths, or None
-    /// where one of these passes `usize::MAX`. Takes no memory.
+    /// Whether the columns of a table without spans are within limits at their natural widths, or
+    /// `None` if one of these exceeds `usize::MAX`. Allocates nothing.
     pub(crate) fn are_within(&self, total: usize, limits: &[usize]) -> Option<bool>
         requires count { R.columns self.now.records < usize.MAX }
         requires plain { self.now.config.now.spans ≡ [] }
@@ -100,7 +100,7 @@ impl<'a, R: PeekableRecords + ExactRecords, B: Allocator> NaturalSizes<'a, R, B>
         Some(within)
     }
 
-    // How narrow the columns may be, and how wide they would be, but for their limits.
+    // How narrow the columns may be, and how wide they would be without limits.
     fn ranges<A: Allocator>(
         &self,
         alloc: A,
@@ -142,7 +142,7 @@ impl<'a, R: PeekableRecords + ExactRecords, B: Allocator> NaturalSizes<'a, R, B>
         Ok(widths)
     }
 
-    /// Sets another text for a cell where its text is too wide for so many columns.
+    /// Sets another text for a cell whose text is too wide for so many columns.
     pub(crate) fn fit_cell<A: Allocator + Copy>(
         &self,
         alloc: A,
@@ -214,11 +214,12 @@ impl<'a, R: PeekableRecords + ExactRecords, B: Allocator> NaturalSizes<'a, R, B>
         Ok(())
     }
 
-    /// Sets other texts for the cells of a table without spans whose texts are too wide for the widths
-    /// that their columns get within a total and limits. Where the natural widths are within these, it takes no memory.
+    /// Sets other texts for the cells of a table without spans whose texts are too wide for the
+    /// widths of their columns within a total and limits. If the natural widths are within these,
+    /// it allocates nothing.
     ///
-    /// `Totals` comes where the columns are too many to count, or a natural width passes `usize::MAX`,
-    /// before any memory is taken.
+    /// The error is `Totals`, before anything is allocated, if there are too many columns to count
+    /// or a natural width exceeds `usize::MAX`.
     pub(crate) fn fit_texts<A: Allocator + Copy>(
         &self,
         alloc: A,

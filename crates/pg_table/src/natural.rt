@@ -1,4 +1,4 @@
-//! A table at its natural sizes, over records, settings and colours that are lent to it.
+//! A table at its natural sizes, over lent records, settings and colours.
 
 ghost use Rattle.std.specs.Prelude.{◌≡◌};
 ghost use Rattle.pg_table.specs.Printing.{natural_parts};
@@ -12,9 +12,9 @@ use pg_picture::fits::{spans_fit, totals_fit};
 use std::alloc::{AllocError, Allocator, Global};
 
 /// A table over records that can be read at any place, at its natural sizes: each column as wide as
-/// its widest cell, and each row as high as its highest one, a cell being its text with the paddings
-/// round it. What a cell with a span lacks beside smaller cells is shared out evenly over its columns
-/// and its rows. Nothing is copied: records, settings and colours are lent.
+/// its widest cell, and each row as high as its highest one, paddings included. What a cell with a
+/// span lacks beside smaller cells is shared out evenly over its columns and its rows. Nothing is
+/// copied: records, settings and colours are lent.
 ///
 /// ```text
 /// NaturalTable::new(&records, &config, &NoColors).print(alloc, &mut buf)?;
@@ -27,8 +27,8 @@ pub struct NaturalTable<'a, R, C, B: Allocator = Global> {
 }
 
 impl<'a, R, C, B: Allocator> NaturalTable<'a, R, C, B> {
-    /// The table of these records, which may be a reference, of what the configuration was told, and
-    /// of these colours. Takes no memory.
+    /// The table of these records, which may be a reference, with the settings of this
+    /// configuration and these colours. Allocates nothing.
     pub fn new(records: R, config: &'a SpannedConfig<B>, colors: &'a C) -> NaturalTable<'a, R, C, B>
         ensures { natural_parts result ≡ (records, config.now, colors.now) }
     {
@@ -63,9 +63,9 @@ where
     /// The natural widths of the columns and the natural heights of the rows, in terminal columns
     /// and lines.
     ///
-    /// `Spans` comes exactly where the table has cells and its spans don't fit; `Totals` exactly where
-    /// they do and one of the sizes, or the width or the height of a shown cell, passes `usize::MAX`,
-    /// also where memory is refused; `Memory` where memory is refused and neither is so.
+    /// The error is `Spans` exactly if the table has cells and its spans don't fit; else `Totals`
+    /// exactly if one of the sizes, or the width or height of a shown cell, exceeds `usize::MAX`,
+    /// even if memory is refused; else `Memory` if memory is refused.
     pub fn natural_dimension<A: Allocator + Copy>(
         &self,
         alloc: A,
@@ -88,8 +88,8 @@ where
         }
     }
 
-    // Why the table has no natural sizes: its spans don't fit, or a size passes `usize::MAX`. Takes no
-    // memory.
+    // Why the table has no natural sizes: its spans don't fit, or a size exceeds `usize::MAX`.
+    // Allocates nothing.
     pub(crate) fn sizes_fault(&self) -> Option<TableFault>
         ensures { result ≡ sizes_fault_of R.texts R.columns (natural_parts self.now) }
     {
@@ -129,11 +129,12 @@ where
         Ok(sizes.listed(alloc)?)
     }
 
-    /// Whether the table can be printed at its natural sizes: its spans fit, and the natural sizes and
-    /// the totals are at most `usize::MAX`. A table with no rows or no columns can, and takes no memory.
+    /// Whether the table can be printed at its natural sizes: its spans fit, and the natural sizes
+    /// and the totals are at most `usize::MAX`. A table with no rows or no columns can, and
+    /// allocates nothing.
     ///
-    /// `alloc` gives the memory for the sizes. Where it is refused, a table without a span is still told
-    /// by its totals, and only then answered by `Memory`; one with a span is answered by `Memory`.
+    /// `alloc` provides the memory for the sizes. If it is refused, a table without spans still
+    /// reports its totals, and `Memory` only after them; one with a span reports `Memory`.
     pub fn fits<A: Allocator + Copy>(&self, alloc: A) -> Result<(), TableFault>
         ensures ok { IsOk result → fault_of (printed_table_of R.texts R.columns C.color (natural_parts self.now)) ≡ None }
         ensures fault { (fault : TableFault) → result ≡ Err fault → CanFail (printed_table_of R.texts R.columns C.color (natural_parts self.now)) fault }
@@ -146,13 +147,13 @@ where
     }
 
     /// Appends the picture of the table at its natural sizes. A table with no rows or no columns
-    /// appends nothing, and takes no memory.
+    /// appends and allocates nothing.
     ///
-    /// A table whose spans don't fit is answered by `Spans`, before any memory is taken; one of which a
-    /// natural size, the width of a line or the number of lines passes `usize::MAX` by `Totals`, also
-    /// where memory is refused, if it keeps no span. The buffer then stays as it was. `alloc` gives the
-    /// memory for the sizes. Where memory is refused, the answer is `Memory`, and the buffer holds a
-    /// beginning of the picture behind what it held before.
+    /// The error is `Spans` if the spans don't fit, before anything is allocated; `Totals` if a
+    /// natural size, the width of a line or the number of lines exceeds `usize::MAX`, even if
+    /// memory is refused, if no span is kept. The buffer is then unchanged. `alloc` provides the
+    /// memory for the sizes. If memory is refused, the error is `Memory`, and the buffer has gained
+    /// a beginning of the picture.
     pub fn print<A: Allocator + Copy, W: Allocator>(
         &self,
         alloc: A,
@@ -172,8 +173,8 @@ where
         Ok(())
     }
 
-    /// The picture of the table at its natural sizes as a text of its own; errors as those of
-    /// [`NaturalTable::print`]. A table with no rows or no columns asks for no memory.
+    /// The picture of the table at its natural sizes as a text of its own. Errors are those of
+    /// [`NaturalTable::print`]. A table with no rows or no columns allocates nothing.
     pub fn to_string<A: Allocator + Copy>(&self, alloc: A) -> Result<String<A>, TableFault>
         ensures text { IfOk result (λ text. string_bytes text ≡ picture Known (printed_table_of R.texts R.columns C.color (natural_parts self.now))) }
         ensures ok { IsOk result → fault_of (printed_table_of R.texts R.columns C.color (natural_parts self.now)) ≡ None }
@@ -209,7 +210,7 @@ where
         }
     }
 
-    // What is answered where memory is refused for the sizes of a table with cells whose spans fit.
+    // The error if memory is refused for the sizes of a table with cells whose spans fit.
     fn fault_without_memory(&self) -> TableFault
         requires some { is_empty (printed_table_of R.texts R.columns C.color (natural_parts self.now)) ≡ false }
         requires fit { spans_fit self.now.config.now.spans (length (R.texts self.now.records)) (R.columns self.now.records) ≡ true }
@@ -232,12 +233,12 @@ where
         totals_fit(self.config, dimension, rows, columns)
     }
 
-    /// Whether its spans fit, which stand in their order.
+    /// Whether its spans fit, which are in order.
     pub(crate) fn spans_fit(&self) -> bool
         ensures ascending { IsAscending by_columns self.now.config.now.spans }
         ensures fit { result ≡ spans_fit self.now.config.now.spans (length (R.texts self.now.records)) (R.columns self.now.records) }
     {
-        // Shows that the spans stand in order.
+        // Shows that the spans are in order.
         let _spans = self.config.spans();
         let (rows, columns) = (self.records.count_rows(), self.records.count_columns());
         spans_fit(self.config, rows, columns)
@@ -278,7 +279,7 @@ where
             && self.body_height().is_some()
     }
 
-    // How many terminal columns a line has, its side margins among them, or None where they pass
+    // How many terminal columns a line has, its side margins among them, or `None` if they exceed
     // `usize::MAX`.
     fn full_width(&self) -> Option<usize>
         requires count { R.columns self.now.records < usize.MAX }
@@ -292,7 +293,7 @@ where
         plus(plus(columns, margin.left.size), margin.right.size)
     }
 
-    // How many lines the body has, or None where they pass `usize::MAX`.
+    // How many lines the body has, or `None` if they exceed `usize::MAX`.
     fn body_height(&self) -> Option<usize>
         requires count { length (R.texts self.now.records) < usize.MAX }
         requires some { is_empty (printed_table_of R.texts R.columns C.color (natural_parts self.now)) ≡ false }

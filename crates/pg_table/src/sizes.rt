@@ -17,7 +17,7 @@ use pg_layout::{
 use pg_picture::{TextFacts, text_width};
 use std::alloc::{AllocError, Allocator};
 
-/// A sum with a number more, or None where it passes `usize::MAX`.
+/// A sum with a number more, or `None` if it exceeds `usize::MAX`.
 pub(crate) fn plus(sum: Option<usize>, more: usize) -> Option<usize>
     ensures { (n : ℕ) → sum ≡ if_fits n → result ≡ if_fits (n + more) }
 {
@@ -58,7 +58,7 @@ pub(crate) struct NaturalSizes<'a, R, B: Allocator> {
 impl<'a, R: PeekableRecords + ExactRecords, B: Allocator> NaturalSizes<'a, R, B> {
     ghost use Rattle.pg_table.specs.Inside.Sizes.{size_of, sizes_of, count_of, cells_of};
 
-    /// The natural sizes of these records in a table that is told this.
+    /// The natural sizes of these records in a table with these settings.
     pub(crate) fn new(records: R, config: &'a SpannedConfig<B>) -> NaturalSizes<'a, R, B>
         ensures records { result.records ≡ records }
         ensures config { result.config.now ≡ config.now }
@@ -112,7 +112,7 @@ impl<'a, R: PeekableRecords + ExactRecords, B: Allocator> NaturalSizes<'a, R, B>
         }
     }
 
-    // What the paddings of a cell take, or None where it passes `usize::MAX`.
+    // What the paddings of a cell take, or `None` if it exceeds `usize::MAX`.
     #[inline(always)]
     pub(crate) fn paddings(&self, axis: Axis, pos: Position) -> Option<usize>
         ensures { result ≡ if_fits (paddings axis self.now.config.now pos) }
@@ -144,7 +144,7 @@ impl<'a, R: PeekableRecords + ExactRecords, B: Allocator> NaturalSizes<'a, R, B>
         }
     }
 
-    // The width of a cell, or its height, or None where it passes `usize::MAX`.
+    // The width of a cell, or its height, or `None` if it exceeds `usize::MAX`.
     #[inline(always)]
     fn cell_size(&self, axis: Axis, pos: Position) -> Option<usize>
         requires row { pos.row < length (R.texts self.now.records) }
@@ -155,7 +155,7 @@ impl<'a, R: PeekableRecords + ExactRecords, B: Allocator> NaturalSizes<'a, R, B>
             .checked_add(self.text_size(axis, pos))
     }
 
-    // The natural size of a column or a row, or None where it passes `usize::MAX`.
+    // The natural size of a column or a row, or `None` if it exceeds `usize::MAX`.
     #[inline(always)]
     pub(crate) fn size(&self, axis: Axis, k: usize) -> Option<usize>
         requires { k < count_of R.texts R.columns self.now axis }
@@ -168,7 +168,7 @@ impl<'a, R: PeekableRecords + ExactRecords, B: Allocator> NaturalSizes<'a, R, B>
         Some(size)
     }
 
-    /// Whether all widths and all heights are at most `usize::MAX`. Takes no memory.
+    /// Whether all widths and all heights are at most `usize::MAX`. Allocates nothing.
     pub(crate) fn fit(&self) -> bool
         ensures { result ≡ (all_fit (sizes_of R.texts R.columns self.now Columns) && all_fit (sizes_of R.texts R.columns self.now Rows)) }
     {
@@ -186,8 +186,8 @@ impl<'a, R: PeekableRecords + ExactRecords, B: Allocator> NaturalSizes<'a, R, B>
         true
     }
 
-    /// The sum of all sizes of columns, or of rows, or None where it passes `usize::MAX`. Takes no
-    /// memory.
+    /// The sum of all sizes of columns, or of rows, or `None` if it exceeds `usize::MAX`. Allocates
+    /// nothing.
     pub(crate) fn total(&self, axis: Axis) -> Option<usize>
         ensures { result ≡ if_fits (sum_by (size_of R.texts R.columns self.now axis) (range_with_len 0 (count_of R.texts R.columns self.now axis))) }
     {

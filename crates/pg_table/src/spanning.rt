@@ -45,7 +45,7 @@ fn are_within<B: Allocator>(
     true
 }
 
-// How narrow columns may be, and how wide they would be, but for their limits.
+// How narrow columns may be, and how wide they would be without limits.
 fn ranges_of<A: Allocator>(
     alloc: A,
     least: &[usize],
@@ -71,7 +71,7 @@ impl<'a, R: PeekableRecords + ExactRecords, B: Allocator> NaturalSizes<'a, R, B>
         requires { spans_fit self.now.config.now.spans (length (R.texts self.now.records)) (R.columns self.now.records) ≡ true }
         ensures { result ≡ is_single self.now.config.now.spans pos }
     {
-        // Shows that the spans stand in order.
+        // Shows that the spans are in order.
         let _spans = self.config.spans();
         if !self.config.is_cell_visible(pos) {
             return false;
@@ -79,8 +79,8 @@ impl<'a, R: PeekableRecords + ExactRecords, B: Allocator> NaturalSizes<'a, R, B>
         self.config.left_span(pos).is_none()
     }
 
-    // What a cell without a span takes at least, and nothing of any other place; None where it passes
-    // `usize::MAX`.
+    // What a cell without a span takes at least, and nothing for any other place; `None` if it
+    // exceeds `usize::MAX`.
     fn least_single(&self, how: Overflow, pos: Position) -> Option<usize>
         requires fit { spans_fit self.now.config.now.spans (length (R.texts self.now.records)) (R.columns self.now.records) ≡ true }
         requires row { pos.row < length (R.texts self.now.records) }
@@ -94,7 +94,7 @@ impl<'a, R: PeekableRecords + ExactRecords, B: Allocator> NaturalSizes<'a, R, B>
         self.least_cell(how, pos)
     }
 
-    // How wide the cells of a column without a span are at least, or None where that passes
+    // How wide the cells of a column without a span are at least, or `None` if that exceeds
     // `usize::MAX`.
     fn least_by_singles(&self, how: Overflow, column: usize) -> Option<usize>
         requires fit { spans_fit self.now.config.now.spans (length (R.texts self.now.records)) (R.columns self.now.records) ≡ true }
@@ -109,7 +109,8 @@ impl<'a, R: PeekableRecords + ExactRecords, B: Allocator> NaturalSizes<'a, R, B>
         Some(width)
     }
 
-    // How wide the cells without a span of each column are at least, or None where that passes `usize::MAX`.
+    // How wide the cells without a span of each column are at least, or `None` if that exceeds
+    // `usize::MAX`.
     fn least_singles<A: Allocator>(
         &self,
         alloc: A,
@@ -129,7 +130,7 @@ impl<'a, R: PeekableRecords + ExactRecords, B: Allocator> NaturalSizes<'a, R, B>
         Ok(Some(widths))
     }
 
-    // What a cell with a span needs at least of its columns, or None where its least width passes
+    // What a cell with a span needs at least of its columns, or `None` if its least width exceeds
     // `usize::MAX`.
     fn least_need(&self, how: Overflow, span: Span) -> Option<Need>
         requires { span_fits (length (R.texts self.now.records)) (R.columns self.now.records) span ≡ true }
@@ -149,8 +150,8 @@ impl<'a, R: PeekableRecords + ExactRecords, B: Allocator> NaturalSizes<'a, R, B>
         })
     }
 
-    // What each cell with a span needs at least of its columns, in the order of the spans, or None where a
-    // least width passes `usize::MAX`.
+    // What each cell with a span needs at least of its columns, in the order of the spans, or
+    // `None` where a least width exceeds `usize::MAX`.
     fn least_needs<A: Allocator>(
         &self,
         alloc: A,
@@ -170,7 +171,8 @@ impl<'a, R: PeekableRecords + ExactRecords, B: Allocator> NaturalSizes<'a, R, B>
         Ok(Some(needs))
     }
 
-    /// How wide each column is at least, or None where the least width of a cell passes `usize::MAX`.
+    /// How wide each column is at least, or `None` where the least width of a cell exceeds
+    /// `usize::MAX`.
     pub(crate) fn least_widths<A: Allocator + Copy>(
         &self,
         alloc: A,
@@ -180,7 +182,7 @@ impl<'a, R: PeekableRecords + ExactRecords, B: Allocator> NaturalSizes<'a, R, B>
         ensures widths { IfOk result (λ o. IfSome o (λ v. v.items ≡ map (spanned_least_width how.entry self.now.config.now (R.texts self.now.records) (R.columns self.now.records)) (range_with_len 0 (R.columns self.now.records)))) }
         ensures huge { IfOk result (λ o. o ≡ None → HasHugeLeast how.entry self.now.config.now (R.texts self.now.records) (R.columns self.now.records)) }
     {
-        // Shows that the spans stand in order.
+        // Shows that the spans are in order.
         let _spans = self.config.spans();
         let Some(mut singles) = self.least_singles(alloc, how)? else {
             return Ok(None);
@@ -191,7 +193,7 @@ impl<'a, R: PeekableRecords + ExactRecords, B: Allocator> NaturalSizes<'a, R, B>
         Ok(Some(widened(alloc, &mut singles, &mut needs)?))
     }
 
-    /// The widths of the columns within a total and limits, where these are the natural ones.
+    /// The widths of the columns within a total and limits, given the natural ones.
     pub(crate) fn spanned_widths<A: Allocator + Copy>(
         &self,
         alloc: A,

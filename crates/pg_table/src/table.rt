@@ -23,12 +23,12 @@ mod settings;
 mod spans;
 mod title;
 
-/// Rows of texts, drawn at their natural sizes: each column as wide as its widest cell, and each row
-/// as high as its highest one, a cell being its text with the paddings round it. What a cell with a
-/// span lacks beside smaller cells is shared out evenly over its columns and its rows.
+/// Rows of texts, drawn at their natural sizes: each column as wide as its widest cell, and each
+/// row as high as its highest one, paddings included. What a cell with a span lacks beside smaller
+/// cells is shared out evenly over its columns and its rows.
 ///
-/// It has ASCII borders, no paddings, and texts at the left, unless it is told otherwise. Each
-/// setting of [`SpannedConfig`], spans among them, can be told by [`Table::with_config`].
+/// By default it has ASCII borders, no paddings, and left-aligned texts. Each setting of
+/// [`SpannedConfig`], including spans, can be set by [`Table::with_config`].
 ///
 /// ```text
 /// let rows = vec![in alloc; vec![in alloc; "a", "b"]?, vec![in alloc; "ccc", "d"]?]?;
@@ -39,7 +39,7 @@ mod title;
 pub struct Table<T, A: Allocator = Global> {
     records: VecRecords<T, A>,
     config: SpannedConfig<A>,
-    // No type of the caller's: that would be one type more for all who name a table.
+    // No type of the caller's: that would be one more type parameter for all who name a table.
     colors: ColorsMap<A>,
 }
 
@@ -51,7 +51,7 @@ impl<T, A: Allocator> Model for Table<T, A> {
     ghost view = { λ t. record { rows = t.records; config = t.config; colors = t.colors } };
 }
 
-// What a table is told before it is told anything: ASCII borders. Takes no memory.
+// The default settings of a table: ASCII borders. Allocates nothing.
 fn ascii_config<A: Allocator + Copy>(alloc: A) -> SpannedConfig<A>
     ensures { result ≡ ascii_config }
 {
@@ -66,10 +66,10 @@ impl<T: AsStr + Drop, A: Allocator + Copy> Table<T, A> {
     ghost use Rattle.pg_layout.specs.Records.{ragged_row};
     ghost use Rattle.pg_table.specs.Even.{IsNarrowLook};
 
-    /// A table of these rows; `Ragged` with the first row whose length differs from that of row 0,
-    /// where there is one, and no other error.
+    /// A table of these rows. The only error is `Ragged` with the first row whose length differs
+    /// from that of row 0.
     ///
-    /// Takes no memory: `alloc` is kept for later settings. Rows that are refused are dropped.
+    /// Allocates nothing: `alloc` is kept for later settings. Refused rows are dropped.
     pub fn new(alloc: A, rows: Vec<Vec<T, A>, A>) -> Result<Table<T, A>, TableFault>
         ensures parts { IfOk result (λ table. table ≡ record { rows = map (λ row. row.items) rows.items; config = ascii_config; colors = [] }) }
         ensures exact { result_err result ≡ option_map TableFault.Ragged (ragged_row (map (λ row. row.items) rows.items)) }
@@ -92,7 +92,7 @@ impl<T, A: Allocator> Table<T, A> {
     ghost use Rattle.pg_table.specs.Even.{IsNarrowLook, are_line_glyphs, are_line_fills};
     ghost use Rattle.pg_table.specs.OwnRows.{aligned};
 
-    /// The table with this padding of all cells. Takes no memory.
+    /// The table with this padding of all cells. Allocates nothing.
     pub fn with_padding(mut self, padding: Sides<Indent>) -> Table<T, A>
     where
         A: Clone,
@@ -103,7 +103,7 @@ impl<T, A: Allocator> Table<T, A> {
         self
     }
 
-    /// The table with the texts of all cells at this side. Takes no memory.
+    /// The table with the texts of all cells aligned like this. Allocates nothing.
     pub fn with_alignment(mut self, alignment: AlignmentHorizontal) -> Table<T, A>
     where
         A: Clone,
@@ -125,8 +125,8 @@ impl<T, A: Allocator> Table<T, A> {
         self
     }
 
-    /// The table with all that this configuration was told, in place of all that it was told itself:
-    /// borders, paddings, alignments and a line below its header among them.
+    /// The table with all settings of this configuration, in place of its own: borders, paddings,
+    /// alignments and a line below its header included.
     pub fn with_config(mut self, config: SpannedConfig<A>) -> Table<T, A>
         ensures table { result ≡ record self { config = config } }
         ensures narrow { IsNarrowLook config → IsNarrowLook result.config }
@@ -135,7 +135,7 @@ impl<T, A: Allocator> Table<T, A> {
         self
     }
 
-    /// The table with these colours of cells, in place of all colours that it had.
+    /// The table with these colours of cells, in place of all that it had.
     pub fn with_colors(mut self, colors: ColorsMap<A>) -> Table<T, A>
         ensures table { result ≡ record self { colors = colors } }
         ensures narrow { IsNarrowLook self.config → IsNarrowLook result.config }
@@ -158,12 +158,12 @@ impl<T: AsStr + Drop, A: Allocator> Table<T, A> {
     ghost use Rattle.pg_table.specs.Printing.{fault_of, is_spanned, printed_table, CanFail, Prints};
     ghost use Rattle.pg_table.specs.declared.sizes.Axis.TheVariants.{Columns, Rows};
 
-    /// Draws a line between row 0 and row 1, and no other row line but those of the borders. A glyph
-    /// that the line lacks is as it was; a table of less than two rows has no such line.
+    /// Draws a line between row 0 and row 1, and no other row line but those of the borders. A
+    /// glyph that the line lacks stays unchanged; a table of fewer than two rows has no such line.
     ///
-    /// Takes memory for its places, one for each column and each column line; where that is refused,
-    /// nothing changes. Of less than two rows, no columns, or a line without glyphs none is wanted.
-    /// [`Table::with_header_line`] does the same to a table by value.
+    /// Allocates for its places, one for each column and each column line. If memory is refused,
+    /// nothing changes. With fewer than two rows, no columns, or a line without glyphs nothing is
+    /// allocated.
     pub fn set_header_line(&mut self, line: HorizontalLine<char>) -> Result<(), AllocError>
     where
         A: Clone,
@@ -180,8 +180,8 @@ impl<T: AsStr + Drop, A: Allocator> Table<T, A> {
         self.config.set_row_line(1, columns, line)
     }
 
-    /// Draws a line between row 0 and row 1 of a table by value ([`Table::set_header_line`]). Where
-    /// memory is refused the table is let go.
+    /// Draws a line between row 0 and row 1 of a table by value ([`Table::set_header_line`]). After
+    /// an error the table is dropped.
     ///
     /// ```text
     /// let table = table.with_borders(Borders::psql()).with_header_line(HorizontalLine::psql())?;
@@ -204,9 +204,9 @@ impl<T: AsStr + Drop, A: Allocator> Table<T, A> {
     /// The natural widths of the columns and the natural heights of the rows, in terminal columns
     /// and lines.
     ///
-    /// `Spans` comes exactly where the table has cells and its spans don't fit; `Totals` exactly where
-    /// they do and one of the sizes, or the width or the height of a shown cell, passes `usize::MAX`,
-    /// also where memory is refused; `Memory` where memory is refused and neither is so.
+    /// The error is `Spans` exactly if the table has cells and its spans don't fit; else `Totals`
+    /// exactly if one of the sizes, or the width or height of a shown cell, exceeds `usize::MAX`,
+    /// even if memory is refused; else `Memory` if memory is refused.
     pub fn natural_dimension<B: Allocator + Copy>(
         &self,
         alloc: B,
@@ -220,13 +220,13 @@ impl<T: AsStr + Drop, A: Allocator> Table<T, A> {
     }
 
     /// Appends the picture of the table at its natural sizes. A table with no rows or no columns
-    /// appends nothing, and takes no memory.
+    /// appends and allocates nothing.
     ///
-    /// A table whose spans don't fit is answered by `Spans`, before any memory is taken; one of which a
-    /// natural size, the width of a line or the number of lines passes `usize::MAX` by `Totals`, also
-    /// where memory is refused, if it keeps no span. The buffer then stays as it was. `alloc` gives the
-    /// memory for the sizes. Where memory is refused, the answer is `Memory`, and the buffer holds a
-    /// beginning of the picture behind what it held before.
+    /// The error is `Spans` if the spans don't fit, before anything is allocated; `Totals` if a
+    /// natural size, the width of a line or the number of lines exceeds `usize::MAX`, even if
+    /// memory is refused, if no span is kept. The buffer is then unchanged. `alloc` provides the
+    /// memory for the sizes. If memory is refused, the error is `Memory`, and the buffer has gained
+    /// a beginning of the picture.
     pub fn print<B: Allocator + Copy, W: Allocator>(
         &self,
         alloc: B,
@@ -241,8 +241,8 @@ impl<T: AsStr + Drop, A: Allocator> Table<T, A> {
         self.natural().print(alloc, buf)
     }
 
-    /// The picture of the table at its natural sizes as a text of its own; errors as those of
-    /// [`Table::print`]. A table with no rows or no columns asks for no memory.
+    /// The picture of the table at its natural sizes as a text of its own. Errors are those of
+    /// [`Table::print`]. A table with no rows or no columns allocates nothing.
     pub fn to_string<B: Allocator + Copy>(&self, alloc: B) -> Result<String<B>, TableFault>
         ensures text { IfOk result (λ text. string_bytes text ≡ picture Known (printed_table T.text self.now)) }
         ensures even { IsNarrowLook self.now.config → IfOk result (λ text. IsEvenText (string_bytes text)) }
@@ -253,9 +253,9 @@ impl<T: AsStr + Drop, A: Allocator> Table<T, A> {
         self.natural().to_string(alloc)
     }
 
-    /// The width of a line, in terminal columns, where each column is as narrow as wrapping or cutting
-    /// can make it; errors as those of [`NaturalTable::least_width`]. Only a table that keeps spans takes
-    /// memory for it.
+    /// The width of a line, in terminal columns, if each column is as narrow as wrapping or cutting
+    /// can make it. Errors are those of [`NaturalTable::least_width`]. Only a table with spans
+    /// allocates for it.
     pub fn least_width<B: Allocator + Copy>(
         &self,
         alloc: B,
@@ -270,13 +270,13 @@ impl<T: AsStr + Drop, A: Allocator> Table<T, A> {
         self.natural().least_width(alloc, how)
     }
 
-    /// The table within so many terminal columns, the side margins and the column lines among them:
-    /// where it is wider, columns are narrowed, the widest first, and texts that are wider than their
-    /// column are wrapped or cut.
+    /// The table within so many terminal columns, including the side margins and the column lines:
+    /// if it is wider, columns are narrowed, the widest first, and texts wider than their column
+    /// are wrapped or cut.
     ///
-    /// Its lines are at most so wide, or as wide as [`Table::least_width`] tells, where a tail is of
-    /// printable ASCII and ellipses. Where nothing is too wide it draws the same table, and takes no
-    /// memory, if no span is kept. Errors as those of [`NaturalTable::within_limits`].
+    /// Its lines are at most that wide, or as wide as [`Table::least_width`] returns, if the tail
+    /// is printable ASCII and ellipses. If nothing is too wide and no span is kept, it draws the
+    /// same table, and allocates nothing. Errors are those of [`NaturalTable::within_limits`].
     ///
     /// ```text
     /// let how = Overflow::Wrap(Breaking::BetweenWords);
@@ -298,8 +298,7 @@ impl<T: AsStr + Drop, A: Allocator> Table<T, A> {
         self.natural().within(alloc, width, how)
     }
 
-    /// [`Table::within`] where the first columns have limits of their own
-    /// ([`NaturalTable::within_limits`]).
+    /// [`Table::within`] with limits for the first columns ([`NaturalTable::within_limits`]).
     pub fn within_limits<B: Allocator + Copy>(
         &self,
         alloc: B,
@@ -319,7 +318,7 @@ impl<T: AsStr + Drop, A: Allocator> Table<T, A> {
         self.natural().within_limits(alloc, width, limits, how)
     }
 
-    // Why the table has no natural sizes ([`Table::natural_dimension`]). Takes no memory.
+    // Why the table has no natural sizes ([`Table::natural_dimension`]). Allocates nothing.
     fn sizes_fault(&self) -> Option<TableFault>
         ensures { result ≡ own_sizes_fault T.text self.now }
     {

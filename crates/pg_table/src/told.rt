@@ -1,4 +1,4 @@
-//! A table that keeps spans, with columns of at least the widths that are told.
+//! A table with spans whose columns have at least given widths.
 
 ghost use Rattle.std.specs.Prelude.{◌≡◌, ◌⊎◌, ◌++◌, [], length, true, false, Some, None, Err, IfOk, IsOk, OnOk, string_bytes};
 ghost use Rattle.pg_fit.specs.Overlaid.{other_text};
@@ -31,7 +31,7 @@ where
     C: Colors,
     B: Allocator,
 {
-    /// The least width of a line of a table that keeps spans.
+    /// The least width of a line of a table with spans.
     pub(crate) fn spanned_least_width<A: Allocator + Copy>(
         &self,
         alloc: A,
@@ -60,8 +60,8 @@ where
         }
     }
 
-    /// Sets other texts for the cells of a table that keeps spans whose texts are too wide for their
-    /// columns, and answers how wide these are.
+    /// Sets other texts for the cells of a table with spans whose texts are too wide for their
+    /// columns, and returns the columns' widths.
     pub(crate) fn fit_spanned<A: Allocator + Copy>(
         &self,
         alloc: A,
@@ -75,7 +75,7 @@ where
         ensures records { records.new.records ≡ records.old.records }
         ensures fits { IfOk result (λ widths. AreFittedTogether within.now.how within.now.total within.now.limits.now self.now.config.now (R.texts self.now.records) (R.columns self.now.records) widths.items (other_text records.new.others (R.texts self.now.records))) }
     {
-        // Shows that the spans stand in order.
+        // Shows that the spans are in order.
         let _spans = self.config.spans();
         let mut dimension = self.natural_dimension(alloc)?;
         let sizes = self.sizes();
@@ -85,7 +85,7 @@ where
     }
 }
 
-/// A table that keeps spans, whose columns are at least so wide.
+/// A table with spans whose columns have at least these widths.
 #[derive(Debug, Drop)]
 pub(crate) struct ToldTable<'a, R, C, B: Allocator> {
     pub(crate) table: NaturalTable<'a, R, C, B>,
@@ -119,7 +119,7 @@ where
         }
     }
 
-    // Its sizes, where it has no fault.
+    // Its sizes, if it has no fault.
     fn sized<A: Allocator + Copy>(&self, alloc: A) -> Result<ConstantDimension<A>, TableFault>
         requires { keeps_spans self.now.table.config.now (R.texts self.now.table.records) (R.columns self.now.table.records) ≡ true }
         ensures widths { IfOk result (λ d. d.0.items ≡ widths_from self.now.widths.now self.now.table.config.now (R.texts self.now.table.records) (R.columns self.now.table.records)) }
@@ -153,7 +153,7 @@ where
         totals_fit(self.table.config, dimension, rows, columns)
     }
 
-    /// Whether it can be printed, as [`NaturalTable::fits`] tells.
+    /// Whether it can be printed, like [`NaturalTable::fits`].
     pub(crate) fn fits<A: Allocator + Copy>(&self, alloc: A) -> Result<(), TableFault>
         requires { keeps_spans self.now.table.config.now (R.texts self.now.table.records) (R.columns self.now.table.records) ≡ true }
         ensures ok { IsOk result → fault_of (told_of R.texts R.columns C.color self.now.widths.now (natural_parts self.now.table)) ≡ None }

@@ -15,7 +15,7 @@ use std::alloc::{AllocError, AllocFailed};
 use std::io::Write;
 use std::{fmt, io};
 
-/// Why rows can't be shown one after another.
+/// Why rows can't be streamed.
 #[derive(Clone, Copy)]
 pub enum StreamedFault {
     /// One value of JSON holds all rows.
@@ -24,7 +24,7 @@ pub enum StreamedFault {
     Database,
 }
 
-/// Why an input has no table: its bytes, what is asked of it, or want of memory.
+/// Why an input has no table: its bytes, the request, or out of memory.
 #[derive(Clone, Copy)]
 pub enum InputFault {
     /// The bytes of separated values hold no rows.
@@ -35,15 +35,15 @@ pub enum InputFault {
     Sql(SqlFault),
     /// The input is a database, and no query says which rows are shown.
     NoQuery,
-    /// Rows of the database may stand in a log that isn't read.
+    /// Rows of the database may be in a log that isn't read.
     Log,
-    /// Rows can't be shown one after another.
+    /// Rows can't be streamed.
     Stream(StreamedFault),
     /// Row 0 has no field of this name, of those that [`ruled_table::Options::columns`] lists, counted from 0.
     Column(usize),
     /// The sizes of the table are too large.
     Totals,
-    /// Memory was refused.
+    /// Out of memory.
     Memory,
 }
 
@@ -164,7 +164,7 @@ impl fmt::Display for StreamedFault {
 }
 
 impl InputFault {
-    // The exit status that tells of it.
+    // Its exit status.
     fn status(self) -> u8
         ensures { result ≡ spec.status_of_input self }
     {
@@ -175,7 +175,7 @@ impl InputFault {
         }
     }
 
-    // Writes the line that tells of it. An error is the writer's.
+    // Writes its error line. An error is the writer's.
     fn tell<W: Write>(self, request: &Request, err: &mut W) -> io::Result<()> {
         match self {
             InputFault::Rows(fault) => writeln!(err, "{fault}"),
@@ -198,7 +198,7 @@ impl InputFault {
     }
 }
 
-// What is said of a log that isn't read.
+// The words for a log that isn't read.
 fn words_of(log: Log) -> &'static str {
     match log {
         Log::Unknown => "a database in WAL mode, whose log can't be seen",
@@ -207,7 +207,7 @@ fn words_of(log: Log) -> &'static str {
 }
 
 impl RunFault {
-    /// The exit status that tells of it: 0 where nobody reads what is written.
+    /// Its exit status: 0 if nobody reads the output.
     pub fn status(self) -> u8
         ensures { result ≡ spec.status_of self }
     {
@@ -218,7 +218,7 @@ impl RunFault {
         }
     }
 
-    // Writes the line that tells of it. An error is the writer's.
+    // Writes its error line. An error is the writer's.
     pub(crate) fn tell<W: Write>(self, request: &Request, err: &mut W) -> io::Result<()> {
         write!(err, "ruled: ")?;
         match self {

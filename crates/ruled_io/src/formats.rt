@@ -19,7 +19,7 @@ pub enum Format {
     JsonLines,
 }
 
-/// What an input is by the name of its format, or by what the name of its file ends with.
+/// The kind of an input, by the name of its format or by its file's extension.
 #[derive(Clone, Copy)]
 pub enum Kind {
     /// Rows in a format.
@@ -32,7 +32,7 @@ impl Kind {
     /// The names of formats, as they are listed.
     pub const NAMES: [&'static str; 5] = ["csv", "tsv", "json", "jsonl", "sqlite"];
 
-    /// What is of this name, or of a file whose name ends with it.
+    /// The kind of this name, or of this extension.
     pub fn by_name(name: &str) -> Option<Kind>
         ensures { result ≡ spec.kind_named name.now }
     {
@@ -135,7 +135,7 @@ fn format_seen(alloc: Global, bytes: &[u8]) -> Result<Format, AllocError>
     Ok(shown)
 }
 
-/// The format of the bytes of an input: that which is told, or else that which they show.
+/// The format of the bytes of an input: the given one, else the one that they show.
 pub(crate) fn format_in(
     alloc: Global,
     told: Option<Format>,
@@ -149,7 +149,7 @@ pub(crate) fn format_in(
     }
 }
 
-/// The format of rows that are shown one after another: that which is told, or else that which the first bytes show.
+/// The format of streamed rows: the given one, else the one that the first bytes show.
 pub(crate) fn format_streamed(told: Option<Format>, bytes: &[u8]) -> Format
     ensures { result ≡ spec.format_streamed told bytes.now }
 {

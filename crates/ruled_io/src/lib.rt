@@ -1,5 +1,5 @@
-//! A run of the command `ruled`: a request, a reader and two writers in, the table of the rows that are asked of the
-//! input out, all at once or row by row. All that is read and written of the command is here.
+//! A run of the command `ruled`: a request, a reader and two writers in, the table of the requested
+//! rows out, at once or row by row. All that the command reads and writes passes here.
 #![tactic(auto)]
 
 mod at_once;

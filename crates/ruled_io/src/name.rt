@@ -7,7 +7,7 @@ ghost use Rattle.ruled_io.specs.Names as spec;
 use pg_fit::sign_of;
 use std::fmt;
 
-// What stands in a line for a character: what a table shows for it, and a picture for a line feed, too.
+// The character for a character in a line: as a table shows it, and a picture for a line feed, too.
 fn sign_in_line(c: char) -> char
     ensures { result ≡ spec.sign_in_line c }
 {
@@ -24,8 +24,8 @@ fn write_line<W: fmt::Write>(text: &str, f: &mut fmt::Formatter<W>) -> fmt::Resu
     Ok(())
 }
 
-/// A text on one line of a terminal, which it can't act on: each control character, a line feed among them,
-/// is shown as a character for it.
+/// A text on one line that a terminal can't obey: each control character, line feeds included, is
+/// shown as a character for it.
 #[derive(Clone, Copy)]
 pub struct OneLine<'a>(pub &'a str);
 
@@ -37,7 +37,7 @@ impl fmt::Display for OneLine<'_> {
     }
 }
 
-/// What the user has named, as an error line shows it: in quotes, and as [`OneLine`] shows it.
+/// A name that the user gave, as an error line shows it: in quotes, and like [`OneLine`].
 #[derive(Clone, Copy)]
 pub struct Quoted<'a>(pub &'a str);
 

@@ -75,7 +75,7 @@ impl<W: Write + Drop> Output<W> {
         self.writer
     }
 
-    // Writes some bytes, and returns how many; none where the write is to be tried again.
+    // Writes some bytes, and returns how many; none if the write is to be tried again.
     fn write_some(&mut self, bytes: &[u8]) -> Result<usize, RunFault>
         ensures within { IfOk result (λ count. count ≤ length bytes.now) }
         ensures written { IfOk result (λ count. Appends (W.contents self.old.writer) (W.contents self.new.writer) (take count bytes.now)) }

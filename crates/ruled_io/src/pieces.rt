@@ -1,4 +1,4 @@
-//! The bytes of an input, one piece after another.
+//! The bytes of an input, piece by piece.
 
 ghost use Rattle.std.specs.Prelude.{◌≡◌, ◌≤◌, ◌<◌, ◌++◌, ℕ, List, length, take, map, true, false, Err, Ok, IfErr, IfOk, IfSome, OnOk};
 ghost use Rattle.std.specs.Io.KnownBytes.{Consumes, IsAtEnd};
@@ -17,7 +17,7 @@ use std::alloc::Global;
 use std::io;
 use std::io::{ErrorKind, Read};
 
-/// An input whose bytes are read one piece after another.
+/// An input whose bytes are read piece by piece.
 #[derive(Drop)]
 pub(crate) struct Pieces<R: Drop> {
     input: R,
@@ -25,7 +25,7 @@ pub(crate) struct Pieces<R: Drop> {
     buffer: [u8; 8192],
 }
 
-// What an error of a reader tells.
+// The fault of a reader's error.
 fn fault_of_read(error: io::Error) -> RunFault
     ensures { IsOfRead result }
 {
@@ -46,7 +46,7 @@ impl<R: Read + Drop> Pieces<R> {
         }
     }
 
-    // Reads a piece, and tells how many bytes it has: none at the end.
+    // Reads a piece, and returns how many bytes it has: none at the end.
     fn read(&mut self) -> Result<usize, RunFault>
         ensures within { IfOk result (λ count. count ≤ 8192) }
         ensures piece { IfOk result (λ count. Consumes (R.remaining self.old.input) (R.remaining self.new.input) (take count self.new.buffer)) }
@@ -83,7 +83,7 @@ impl<R: Read + Drop> Pieces<R> {
         Err(RunFault::Read)
     }
 
-    /// Reads the first bytes of an input, as many as show what it is where that isn't told.
+    /// Reads the first bytes of an input, as many as show what it is, if that isn't given.
     pub(crate) fn read_front(&mut self, alloc: Global, source: &Source) -> Result<Vec<u8>, RunFault>
         ensures read { IfOk result (λ front. IfSome (R.remaining self.old.input) (λ all. ReadsFront source.now all (R.remaining self.new.input) front.items)) }
         ensures failed { IfErr result IsOfRead }

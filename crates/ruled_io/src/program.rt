@@ -20,12 +20,12 @@ use std::io::{Read, Write};
 /// How a run ended.
 #[derive(Clone, Copy)]
 pub struct Ending {
-    /// Why no table was shown, or not all of it, or `None` where all was.
+    /// Why no table was shown, or not all of it; `None` if all was.
     pub fault: Option<RunFault>,
 }
 
 impl Ending {
-    /// The exit status: 0 where a table was shown, or nobody reads it.
+    /// The exit status: 0 if a table was shown, or nobody reads it.
     pub fn status(&self) -> u8
         ensures { result ≡ status_after self.now.fault }
     {
@@ -55,7 +55,7 @@ fn show<R: Read + Drop, W: Write + Drop>(
     }
 }
 
-// How a run ended with this answer; its fault is told, except where nobody reads what is written.
+// The ending of a run with this result; its fault is reported, unless nobody reads the output.
 fn ending_of<W: Write>(answer: Result<(), RunFault>, request: &Request, err: &mut W) -> Ending
     ensures fault { result.fault ≡ result_err answer }
     ensures silent { result.fault ≡ None → Keeps (W.contents err.old) (W.contents err.new) }
@@ -73,19 +73,20 @@ fn ending_of<W: Write>(answer: Result<(), RunFault>, request: &Request, err: &mu
     }
 }
 
-/// Shows the table of the rows that are asked of `input`, or tells why there is none: of a database the
-/// rows that its query has, and else those that the bytes hold.
+/// Shows the table of the rows that are requested of `input`, or reports why there is none: for a
+/// database the rows of its query, else those that the bytes hold.
 ///
 /// At once, all of `input` is read, and what is wrong with it or its table is reported, before anything is written.
 /// Then each row is written to `out` when it is drawn, so no text of the table is kept. If memory is refused or a
 /// write fails meanwhile, a beginning of the text has been written.
 ///
-/// Row by row, widths and sides are those of the first so many rows, at least one, and of a header, or of all where
-/// there are fewer; nothing is written before these are there. Then each row is written to `out` when its line is
-/// there, with texts that are wider than their column wrapped or cut, and `out` is flushed. Memory is that of the
-/// first rows, of one row and of buffers, whatever the input. A fault of the first rows, `Totals` among them, is told
-/// before anything is written. A later one ends the table behind the rows above it, and so does `Totals` of a row
-/// that has no room below them, whose lines can't be counted.
+/// Row by row, the first so many rows, at least one, and the header determine widths and sides, or
+/// all rows if there are fewer; nothing is written before these have come. Then each row is written
+/// to `out` when its line has come, with texts wider than their column wrapped or cut, and `out` is
+/// flushed. Memory is that of the first rows, of one row and of buffers, whatever the input. A
+/// fault of the first rows, `Totals` included, is reported before anything is written. A later one
+/// ends the table after the rows above it, and so does `Totals` of a row without room below them,
+/// whose lines can't be counted.
 ///
 /// Each fault is one line on `err`, except that nothing is reported where nobody reads what is written. A failed write
 /// to `err` changes no result. `Closed` and `Write` are returned if a write to `out` has failed so, and only then.

@@ -1,4 +1,4 @@
-//! Readers of rows, to which the bytes of an input come one piece after another.
+//! Readers of rows whose bytes come in pieces.
 
 ghost use Rattle.std.specs.Prelude.{◌≡◌, ◌++◌, [], ℕ, List, Some, map, IfErr, IfOk};
 ghost use Rattle.csv.specs.Records.{fields_of};
@@ -21,19 +21,20 @@ pub(crate) enum Reader {
     Lines(LineReader),
 }
 
-/// Where the reading of an input stands.
+/// How far an input is read.
 #[derive(Drop)]
 pub(crate) enum Reading {
     /// More bytes may come.
     More(Reader),
-    /// All rows were given: those above the first bad one, with what is wrong, or those that there are.
+    /// All rows were read: those above the first bad one, with what is wrong, or all that there
+    /// are.
     Done(Option<InputFault>),
 }
 
 impl Reader {
     /// Reads the next bytes, and appends the rows that are complete with them, or those above the first bad one.
     ///
-    /// The fault is want of memory.
+    /// The only fault is out of memory.
     pub(crate) fn read(
         self,
         bytes: &[u8],
@@ -56,10 +57,10 @@ impl Reader {
         }
     }
 
-    /// Ends the reading, behind which no byte is left, and appends the rows that end with it, or those above the first bad
-    /// one.
+    /// Ends the reading when no byte is left, and appends the rows that end with it, or those above
+    /// the first bad one.
     ///
-    /// The fault is want of memory.
+    /// The only fault is out of memory.
     pub(crate) fn finish(self, rows: &mut Vec<StringRecord>) -> Result<Reading, InputFault>
         ensures given { (format : Format) (records : ℕ) (bytes : List ℕ) → HasTaken format records bytes self → IfOk result (Ends format records bytes (map fields_of rows.old.items) (map fields_of rows.new.items)) }
         ensures memory { IfErr result (λ fault. fault ≡ InputFault.Memory) }
@@ -80,10 +81,10 @@ impl Reader {
 }
 
 impl Reading {
-    /// The reading of an input in this format, of which these are the first bytes; so many first records say the columns
-    /// of lines of JSON.
+    /// The reading of an input in this format, of which these are the first bytes; the members of
+    /// so many first records are the columns of lines of JSON.
     ///
-    /// The fault is want of memory.
+    /// The only fault is out of memory.
     pub(crate) fn of_front(
         alloc: Global,
         format: Format,

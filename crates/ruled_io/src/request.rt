@@ -1,4 +1,4 @@
-//! What is asked of a run.
+//! Requests.
 
 ghost use Rattle.std.specs.Prelude.{◌≡◌, option_map};
 ghost use Rattle.ruled_io.specs.Requests as spec;
@@ -14,13 +14,13 @@ pub enum Log {
     Empty,
     /// One may have rows that the file lacks.
     Filled,
-    /// They can't be seen, as those of standard input. Rows may stand in one where the database is in
-    /// WAL mode.
+    /// They can't be seen, as those of standard input. If the database is in WAL mode, rows may be
+    /// in one.
     Unknown,
 }
 
 impl Log {
-    // Whether rows of the database with these bytes may stand in a log.
+    // Whether rows of the database with these bytes may be in a log.
     pub(crate) fn hides_rows(self, bytes: &[u8]) -> bool
         ensures { result ≡ spec.hides_rows self bytes.now }
     {
@@ -37,17 +37,18 @@ impl Log {
 pub enum Source {
     /// Rows in this format.
     Rows(Format),
-    /// Rows in the format that the first bytes show: what begins with `[` is JSON; what begins with `{` is JSON
-    /// where it is one value, and else JSON lines; anything else has tabs between its fields where the first line
-    /// has a tab and no comma, and else commas. A database, which the first bytes show, too, is refused, since no
-    /// query says which of its rows are shown.
+    /// Rows in the format that the first bytes show: `[` begins JSON; `{` begins JSON if all is one
+    /// value, else lines of JSON; anything else has tabs between its fields if the first line has a
+    /// tab and no comma, else commas. A database, which the first bytes show, too, is refused,
+    /// since no query says which of its rows are shown.
     Seen(Log),
-    /// A database of SQLite, of which this statement of SQL says which rows are shown. Without one it is refused.
+    /// A database of SQLite, and the SQL statement that selects its rows. Without one it is
+    /// refused.
     Database { query: Option<String>, log: Log },
 }
 
 impl Source {
-    // The format of its rows, where it is told.
+    // The format of its rows, if it is given.
     pub(crate) fn format(&self) -> Option<Format>
         ensures { result ≡ spec.format_told self.now }
     {
@@ -57,7 +58,7 @@ impl Source {
         }
     }
 
-    // Whether it is a database, where these are its bytes, or the first of them.
+    // Whether it is a database, if these are its bytes, or the first of them.
     pub(crate) fn is_database(&self, bytes: &[u8]) -> bool
         ensures { result ≡ spec.holds_database self.now bytes.now }
     {
@@ -68,7 +69,7 @@ impl Source {
         }
     }
 
-    // The query of a database, where there is one.
+    // The query of a database, if there is one.
     pub(crate) fn query(&self) -> Option<&str>
         ensures { option_map (λ query. query.now) result ≡ spec.query_of self.now }
     {
@@ -107,13 +108,14 @@ impl Source {
 /// When rows are shown.
 #[derive(Clone, Copy)]
 pub enum Rows {
-    /// All at once, behind the last one.
+    /// All at once, after the last one.
     AtOnce,
-    /// Each when it comes, with the widths and the sides of the first so many, at least one, and of a header.
+    /// Each when it comes, with the widths and the sides of the first so many, at least one, and of
+    /// a header.
     FromFirst(usize),
 }
 
-/// What is asked of a run.
+/// What a run is to show.
 #[derive(Drop)]
 pub struct Request {
     /// What the input is.

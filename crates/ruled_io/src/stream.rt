@@ -181,7 +181,7 @@ fn show_input<R: Read + Drop, W: Write + Drop>(
     show_rows(alloc, &request.view, format, count, &front, pieces, out)
 }
 
-// Shows what was written, behind which there is no more, whatever the answer is.
+// Flushes the output after its end, whatever the result is.
 fn show_to_end<W: Write + Drop>(
     answer: Result<(), RunFault>,
     out: &mut Output<W>,

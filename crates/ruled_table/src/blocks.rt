@@ -92,7 +92,7 @@ fn block_of(
 impl<'a> Blocks<'a> {
     /// The blocks of records, of which the first of these rows has the names.
     ///
-    /// The fault is the first name of a column that it lacks, or want of memory.
+    /// The fault is the first name of a column that it lacks, or out of memory.
     pub fn new(
         alloc: Global,
         options: &'a Options,

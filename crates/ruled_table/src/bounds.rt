@@ -1,4 +1,4 @@
-//! How wide a table may be.
+//! The greatest widths of a table and its columns.
 
 ghost use Rattle.std.specs.Prelude.{◌≡◌, ◌≢◌, string_bytes, Err, IfOk, IsOk, None, is_none, false};
 ghost use Rattle.pg_picture.specs.Picture.{picture};
@@ -15,23 +15,24 @@ use pg_layout::{NoColors, Records};
 use pg_table::{NaturalTable, Overflow, TableFault};
 use std::alloc::{AllocError, Global};
 
-/// How wide a table may be, and what becomes of texts that are wider than their columns.
+/// The greatest widths of a table and its columns, and what happens to texts that are wider than
+/// their columns.
 ///
-/// Where a table is wider than told its columns are narrowed, the widest first. A column is as wide as
-/// its widest character at least, where texts are wrapped, and as the sign that they end with, where
-/// they are cut; so a table of many columns may still be wider.
+/// If a table is too wide, its columns are narrowed, the widest first. A column stays at least as
+/// wide as its widest character if texts are wrapped, and as the `…` if they are cut; so a table of
+/// many columns may still be too wide.
 #[derive(Drop)]
 pub struct Bounds {
-    /// How many columns of a terminal a line takes at most; without it as many as are wanted.
+    /// The most terminal columns of a line; without it there is no limit.
     pub width: Option<u32>,
-    /// How many columns of a terminal the texts of each column take at most that is shown; one limit
-    /// alone is that of all. A column of which nothing is said, or `None`, has no limit.
+    /// The most terminal columns that the texts of each shown column take; one limit alone is for
+    /// all. A column without one, or with `None`, has no limit.
     pub limits: Vec<Option<u32>>,
-    /// What becomes of texts that are wider than their columns.
+    /// What happens to texts that are wider than their columns.
     pub overflow: Overflow<'static>,
 }
 
-// The greatest width of a column, whose texts may take so many columns: a space stands at each side.
+// The greatest width of a column whose texts may take so many columns: a space is at each side.
 fn limit_of(columns: Option<u32>) -> usize
     ensures { result ≡ spec.limit_of columns }
 {
@@ -70,7 +71,7 @@ impl Bounds {
         Ok(limits)
     }
 
-    /// The picture of the table of these rows within the bounds, where some are told, and else at its
+    /// The picture of the table of these rows within the bounds, if there are any, else at its
     /// natural sizes.
     pub(crate) fn picture(
         &self,

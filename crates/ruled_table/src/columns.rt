@@ -1,4 +1,4 @@
-//! The columns that are shown.
+//! The shown columns.
 
 ghost use Rattle.std.specs.Prelude.{◌≡◌, [], map, option_map, slice_index_or, IfOk};
 ghost use Rattle.std.specs.List.{range_with_len};
@@ -11,7 +11,7 @@ use crate::fault::ViewFault;
 use csv::StringRecord;
 use std::alloc::{AllocError, Global};
 
-/// What is said of a column: one word alone is for all.
+/// What is set for a column: one value alone is for all.
 pub(crate) fn told_of<T: Copy>(words: &[Option<T>], column: usize) -> Option<T>
     ensures { result ≡ told_of words.now column }
 {
@@ -21,7 +21,7 @@ pub(crate) fn told_of<T: Copy>(words: &[Option<T>], column: usize) -> Option<T>
     }
 }
 
-/// A field of a row, or an empty text where there is none.
+/// A field of a row, or an empty text if there is none.
 pub fn field_at(fields: &StringRecord, place: usize) -> &str
     ensures { result.now ≡ slice_index_or (fields_of fields.now) place [] }
 {
@@ -58,7 +58,7 @@ fn first_columns(alloc: Global, count: usize) -> Result<Vec<usize>, AllocError>
     Ok(places)
 }
 
-// The columns of these names, of those that there are.
+// The columns of these names that exist.
 fn named_columns(
     alloc: Global,
     names: &[String],
@@ -90,7 +90,7 @@ fn columns_in(
     Ok(named_columns(alloc, names, header)?)
 }
 
-/// The places of the columns that are shown, or the first name that no column has.
+/// The places of the shown columns, or the first name that no column has.
 pub fn places_of(
     alloc: Global,
     names: &[String],

@@ -1,4 +1,4 @@
-//! Texts in which Markdown reads no more than text.
+//! Texts that Markdown reads as text.
 
 ghost use Rattle.std.specs.Prelude.{◌≡◌, ◌++◌, true, chars, string_bytes, IfOk, OnOk};
 ghost use Rattle.std.specs.List.{list_all};
@@ -6,7 +6,7 @@ ghost use Rattle.ruled_table.specs.Escapes.{escape_of, escaped_text, is_plain};
 
 use std::alloc::{AllocError, Global};
 
-// Appends what stands for a character.
+// Appends the escape of a character.
 fn push_escaped(c: char, text: &mut String) -> Result<(), AllocError>
     ensures { OnOk result (string_bytes text.new ≡ string_bytes text.old ++ escape_of c) }
 {
@@ -18,7 +18,7 @@ fn push_escaped(c: char, text: &mut String) -> Result<(), AllocError>
     }
 }
 
-// Whether no other character stands for this one.
+// Whether a character needs no escape.
 fn is_plain(c: char) -> bool
     ensures { result ≡ is_plain c }
 {
@@ -32,14 +32,14 @@ fn has_plain_alone(text: &str) -> bool
     text.chars().all(|c| is_plain(c))
 }
 
-/// Whether a text is as it stands one cell of a table of Markdown.
+/// Whether a text needs no escapes as one cell of a Markdown table.
 pub(crate) fn is_plain_text(text: &str) -> bool
     ensures { result ≡ true → escaped_text text.now ≡ text.now }
 {
     has_plain_alone(text)
 }
 
-/// A text as one cell of a table of Markdown: a bar is `\|`, a backslash `\\`, and a line feed `<br>`.
+/// A text as one cell of a Markdown table: a bar is `\|`, a backslash `\\`, and a line feed `<br>`.
 pub(crate) fn escaped(alloc: Global, text: &str) -> Result<String, AllocError>
     ensures { IfOk result (λ escaped. string_bytes escaped ≡ escaped_text text.now) }
 {

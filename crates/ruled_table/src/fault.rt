@@ -16,7 +16,7 @@ pub enum ViewFault {
     Column(usize),
     /// The sizes of the table are too large.
     Totals,
-    /// Memory was refused.
+    /// Out of memory.
     Memory,
 }
 

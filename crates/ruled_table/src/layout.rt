@@ -1,4 +1,4 @@
-//! What the first rows of a table say of all its rows.
+//! What the first rows of a table determine for all its rows.
 
 ghost use Rattle.std.specs.Prelude.{◌≡◌, ◌++◌, ◌∷◌, [], map, slice_index_or, take, true, IfOk, OnOk};
 ghost use Rattle.csv.specs.Records.{fields_of};
@@ -20,8 +20,8 @@ use pg_layout::ConstantDimension;
 use std::alloc::{AllocError, Global};
 use std::marker::Model;
 
-/// What the first rows of a table say of all its rows: the columns that are shown, what they look like, and how wide
-/// they are. Each column has room for at least one character.
+/// What the first rows of a table determine for all its rows: the shown columns, their look and
+/// their widths. Each column has room for at least one character.
 #[derive(Drop)]
 pub struct Layout {
     pub(crate) places: Vec<usize>,
@@ -101,11 +101,12 @@ fn first_of(rows: &[StringRecord], count: usize) -> &[StringRecord]
 }
 
 impl Layout {
-    /// The layout of a table of which so many first rows are these, a header among them, or all where there are
-    /// fewer. The rows stay as they are.
+    /// The layout of a table of which so many first rows are these, a header among them, or all if
+    /// there are fewer. The rows stay as they are.
     ///
-    /// The fault is that of the names of columns, or of the sizes of the first rows, in this order, or want of memory.
-    /// No row is copied where all are first ones, and have no text that is shown in another form.
+    /// The fault is that of the names of columns, or of the sizes of the first rows, in this order,
+    /// or out of memory. No row is copied if all are first ones, and have no text that is shown in
+    /// another form.
     pub fn of_rows(
         alloc: Global,
         options: &Options,

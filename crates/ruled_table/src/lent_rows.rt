@@ -13,7 +13,7 @@ use pg_layout::{
     get_text_width,
 };
 
-/// A field of a row by its column, where each has a place, or an empty text where there is none.
+/// A field of a row by its column, if each has a place, or an empty text if there is none.
 pub(crate) fn text_in<'a>(fields: &'a StringRecord, places: &[usize], column: usize) -> &'a str
     ensures { result.now ≡ slice_index_or (fields_at places.now (fields_of fields.now)) column [] }
 {
@@ -23,7 +23,7 @@ pub(crate) fn text_in<'a>(fields: &'a StringRecord, places: &[usize], column: us
     }
 }
 
-/// The texts of a row that are left.
+/// The remaining texts of a row.
 #[derive(Drop)]
 pub struct LentColumns<'a> {
     fields: &'a StringRecord,
@@ -49,11 +49,11 @@ impl<'a> Iterator for LentColumns<'a> {
 pub struct LentRows<'a> {
     /// The records.
     pub records: &'a [StringRecord],
-    /// Where the field of each column stands in its record.
+    /// The place of each column's field in its record.
     pub places: &'a [usize],
 }
 
-/// The rows that are left.
+/// The remaining rows.
 #[derive(Drop)]
 pub struct LentRowsIter<'a> {
     rows: LentRows<'a>,

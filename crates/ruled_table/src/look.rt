@@ -1,4 +1,4 @@
-//! What tables look like.
+//! The looks of tables.
 
 ghost use Rattle.std.specs.Prelude.{◌≡◌, Some, IfSome};
 ghost use Rattle.ruled_table.specs.Look as spec;
@@ -6,7 +6,7 @@ ghost use Rattle.ruled_table.specs.declared.look.Look.{Look};
 
 use pg_layout::{Borders, HorizontalLine};
 
-/// What a table looks like: the borders of this name. Those that have no lines between all rows have
+/// The look of a table: the borders of this name. Those that have no lines between all rows have
 /// one below a header, except for `Blank`.
 #[derive(Clone, Copy)]
 pub enum Look {
@@ -60,7 +60,7 @@ impl Look {
         Look::ALL.iter().copied().find(|look| look.name() == name)
     }
 
-    /// The look of this name, if it is one's.
+    /// The look of this name, if there is one.
     pub fn by_name(name: &str) -> Option<Look>
         ensures named { IfSome result (λ look. spec.name_of look ≡ name.now) }
         ensures every { (look : Look) → spec.name_of look ≡ name.now → result ≡ Some look }
@@ -85,7 +85,7 @@ impl Look {
         }
     }
 
-    // The line below a header, where it is one of its own.
+    // The line below a header, if the look has one of its own.
     pub(crate) fn header_line(self) -> Option<HorizontalLine<char>>
         ensures { result ≡ spec.header_line_of self }
     {

@@ -27,7 +27,7 @@ fn are_digits(text: &[u8]) -> bool
     !text.is_empty() && has_digits_alone(text)
 }
 
-// Digits, and commas behind the first one.
+// Digits, and commas after the first one.
 fn is_whole(text: &[u8]) -> bool
     ensures { result ≡ spec.is_whole text.now }
 {
@@ -37,7 +37,7 @@ fn is_whole(text: &[u8]) -> bool
     }
 }
 
-// Where a point stands first.
+// The place of the first point.
 fn point_of(text: &[u8]) -> Option<usize>
     ensures place { result ≡ position (λ byte. byte == 46) text.now }
     ensures within { IfSome result (λ point. point < length text.now) }
@@ -45,7 +45,7 @@ fn point_of(text: &[u8]) -> Option<usize>
     text.iter().position(|byte| *byte == b'.')
 }
 
-// Where an `e` stands first.
+// The place of the first `e`.
 fn mark_of(text: &[u8]) -> Option<usize>
     ensures place { result ≡ position (λ byte. (byte == 101) || (byte == 69)) text.now }
     ensures within { IfSome result (λ mark. mark < length text.now) }
@@ -53,7 +53,7 @@ fn mark_of(text: &[u8]) -> Option<usize>
     text.iter().position(|byte| *byte == b'e' || *byte == b'E')
 }
 
-// A whole number, or digits behind a point and perhaps a whole number in front of it.
+// A whole number, or digits after a point and perhaps a whole number before it.
 fn is_decimal(text: &[u8]) -> bool
     ensures { result ≡ spec.is_decimal text.now }
 {
@@ -86,7 +86,7 @@ fn without_percent(text: &[u8]) -> &[u8]
     }
 }
 
-// A decimal number, and perhaps a power of ten behind it.
+// A decimal number, and perhaps a power of ten after it.
 fn is_scaled(text: &[u8]) -> bool
     ensures { result ≡ spec.is_scaled text.now }
 {
@@ -96,8 +96,9 @@ fn is_scaled(text: &[u8]) -> bool
     }
 }
 
-/// Whether a text is a number: perhaps a sign, a whole number whose digits may be parted by commas, or
-/// digits with a point before or among them, perhaps a power of ten, and perhaps a percent sign.
+/// Whether a text is a number: perhaps a sign; a whole number, whose digits may have commas between
+/// them, or digits with a point before or among them; perhaps a power of ten; and perhaps a percent
+/// sign.
 #[tactic(auto, unfolding(crate::specs::Numbers::is_number))]
 pub(crate) fn is_number(text: &str) -> bool
     ensures { result ≡ spec.is_number text.now }

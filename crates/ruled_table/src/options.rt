@@ -7,23 +7,23 @@ use pg_layout::AlignmentHorizontal;
 /// How rows are shown.
 #[derive(Drop)]
 pub struct Options {
-    /// What the table looks like.
+    /// The look of the table.
     pub look: Look,
     /// Whether row 0 is a header, with a line below it.
     pub has_header: bool,
-    /// The columns that are shown, in this order, by their names in row 0. Where no name is listed, all
-    /// are shown.
+    /// The shown columns, in this order, by their names in row 0. If no name is listed, all are
+    /// shown.
     pub columns: Vec<String>,
-    /// At which side of its cells each column stands that is shown; one side alone is that of all. A
-    /// column of which nothing is said, or `None`, stands right where each text below the header is a
-    /// number or blank, and else left.
+    /// The alignment of each shown column; one alone is for all. A column without one, or with
+    /// `None`, is right-aligned if each text below the header is a number or blank, else
+    /// left-aligned.
     pub sides: Vec<Option<AlignmentHorizontal>>,
-    /// How many rows are shown at most, besides a header.
+    /// The most rows that are shown, not counting a header.
     pub head: Option<u32>,
-    /// Whether each row below row 0 is shown as a block of its own: a table with a row for each field, of
-    /// its name in row 0 and its text, both at the left, and an empty line below it.
+    /// Whether each row below row 0 is shown as a block of its own: a table with a row for each
+    /// field, with its name in row 0 and its text, both left-aligned, and an empty line below it.
     pub is_vertical: bool,
-    /// How wide the table may be, or each block.
+    /// The greatest widths of the table, or of each block, and of columns.
     pub bounds: Bounds,
     /// Whether control characters are sent as they are.
     pub is_raw: bool,

@@ -28,7 +28,7 @@ pub(crate) type Sheet<'a, S> = SizedStream<'a, S, ConstantDimension, NoColors>;
 
 /// The rows of a table, whose lines are appended to a buffer, one row after another, and then its end.
 ///
-/// A call that fails appends nothing. What a further call appends isn't said then.
+/// A call that fails appends nothing. What a further call then appends isn't defined.
 #[derive(Drop)]
 pub(crate) struct RowLines<'a, S: AsStr> {
     sheet: Sheet<'a, S>,
@@ -64,7 +64,7 @@ fn print_end<S: AsStr + Drop>(sheet: Sheet<'_, S>, lines: &mut String) -> Result
     Ok(())
 }
 
-// Lines without the line feed in front of them, where there is one.
+// Lines without the line feed before them, if there is one.
 fn but_feed(is_begun: bool, lines: &str) -> &str
     ensures { result.now ≡ but_feed is_begun lines.now }
 {
@@ -77,7 +77,8 @@ fn but_feed(is_begun: bool, lines: &str) -> &str
     }
 }
 
-// Appends lines with a line feed behind them, in place of that which stands in front of them but for the first ones.
+// Appends lines with a line feed after them, in place of the one before them, except for the first
+// ones.
 fn append_lines(is_begun: bool, lines: &mut String, buf: &mut String) -> Result<(), AllocError>
     ensures appended { OnOk result (string_bytes buf.new ≡ string_bytes buf.old ++ ended_by is_begun (string_bytes lines.old)) }
     ensures failed { OnErr result (string_bytes buf.new ≡ string_bytes buf.old) }
@@ -108,7 +109,7 @@ impl<'a, S: AsStr + Drop> RowLines<'a, S> {
         })
     }
 
-    /// Appends the lines of a row of these cells, with a line feed behind each.
+    /// Appends the lines of a row of these cells, each with a line feed after it.
     pub(crate) fn push(&mut self, cells: Vec<S>, buf: &mut String) -> Result<(), ViewFault>
         ensures lines { (plan : Plan) (above : List (List Text)) → HasDrawn plan above self.old → OnOk result (GrowsTo (begun_of plan above) (begun_of plan (above ++ map S.text cells.items ∷ [])) (string_bytes buf.old) (string_bytes buf.new)) }
         ensures after { (plan : Plan) (above : List (List Text)) → HasDrawn plan above self.old → OnOk result (HasDrawn plan (above ++ map S.text cells.items ∷ []) self.new) }
@@ -121,7 +122,7 @@ impl<'a, S: AsStr + Drop> RowLines<'a, S> {
         Ok(())
     }
 
-    /// Appends the end of the table; of no rows nothing.
+    /// Appends the end of the table; without rows nothing.
     pub(crate) fn finish(self, buf: &mut String) -> Result<(), ViewFault>
         ensures end { (plan : Plan) (cells : List (List Text)) → HasDrawn plan cells self.entry → AreEven plan cells → OnOk result (GrowsTo (begun_of plan cells) (whole_of plan cells) (string_bytes buf.old) (string_bytes buf.new)) }
         ensures fault { (plan : Plan) (cells : List (List Text)) → HasDrawn plan cells self.entry → (fault : ViewFault) → result ≡ Err fault → fault ≡ Memory }

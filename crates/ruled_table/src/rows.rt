@@ -1,4 +1,5 @@
-//! The rows that are shown: a record whose fields show as they stand is taken as it is, and else made anew.
+//! The shown rows: a record whose fields are shown as they are is taken itself, any other one is
+//! made anew.
 
 ghost use Rattle.std.specs.Cow.{cow_str_bytes};
 ghost use Rattle.std.specs.Prelude.{◌≡◌, map, true, IfOk};
@@ -13,7 +14,7 @@ use pg_fit::{is_visible, visible};
 use std::alloc::{AllocError, Global};
 use std::borrow::CowStr;
 
-// Whether nothing of a text has to be made visible: it is to be sent as it is, or has no control characters.
+// Whether a text is shown as it is: it is sent raw, or has no control characters.
 fn is_seen(is_raw: bool, text: &str) -> bool
     ensures { result ≡ true → seen_text is_raw text.now ≡ text.now }
 {
@@ -23,7 +24,7 @@ fn is_seen(is_raw: bool, text: &str) -> bool
     true
 }
 
-// A text in which control characters are seen, unless it is to be sent as it is.
+// A text with visible control characters, unless it is sent raw.
 fn seen_text(alloc: Global, is_raw: bool, text: &str) -> Result<CowStr<'_>, AllocError>
     ensures { IfOk result (λ seen. cow_str_bytes seen ≡ seen_text is_raw text.now) }
 {
@@ -36,7 +37,7 @@ fn seen_text(alloc: Global, is_raw: bool, text: &str) -> Result<CowStr<'_>, Allo
     Ok(CowStr::Owned(visible(alloc, text)?))
 }
 
-/// A text as it is shown: lent where it stands as it is, and else made.
+/// A text as it is shown: lent if it is unchanged, else made.
 pub fn shown_text<'a>(
     alloc: Global,
     options: &Options,
@@ -54,7 +55,7 @@ pub fn shown_text<'a>(
     Ok(CowStr::Owned(escaped(alloc, seen.as_str())?))
 }
 
-// Whether a text is shown as it stands.
+// Whether a text is shown unchanged.
 fn stands(options: &Options, text: &str) -> bool
     ensures { result ≡ true → shown_text options.now text.now ≡ text.now }
 {
@@ -95,7 +96,7 @@ pub(crate) fn made_record(
     Ok(shown)
 }
 
-// A record of the texts that are shown of a record's fields: itself, where each is shown as it stands.
+// A record of the shown texts of a record's fields: itself, if each is unchanged.
 fn shown_record(
     alloc: Global,
     options: &Options,
@@ -125,7 +126,7 @@ pub fn shown_records(
     Ok(rows)
 }
 
-// How many rows are shown at most, where that is told.
+// The most rows that are shown, if that is set.
 fn limit_of(options: &Options) -> Option<usize>
     ensures { result ≡ limit_of options.now }
 {

@@ -1,4 +1,4 @@
-//! At which side of its cells the texts of a column stand.
+//! The alignment of columns.
 
 ghost use Rattle.std.specs.Prelude.{◌≡◌, [], slice_index_or, OnOk};
 ghost use Rattle.std.specs.List.{list_all};
@@ -83,7 +83,8 @@ fn set_side(
     }
 }
 
-/// Sets the side of each column of these rows: that which is said of it, or else the right of numbers.
+/// Sets the side of each column of these rows: the one that is set for it, else right for numbers
+/// and left for others.
 pub(crate) fn set_sides(
     config: &mut SpannedConfig,
     has_header: bool,

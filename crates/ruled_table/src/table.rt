@@ -19,7 +19,7 @@ use pg_config::SpannedConfig;
 use pg_layout::{Entity, ExactRecords, HorizontalLine, Indent, Records, Sides};
 use std::alloc::{AllocError, Global};
 
-/// What a table looks like, but for the line below its header.
+/// The look of a table, without the line below its header.
 pub(crate) fn look_config(alloc: Global, look: Look) -> Result<SpannedConfig, AllocError>
     ensures { IfOk result (λ config. config ≡ look_config look) }
 {
@@ -30,7 +30,7 @@ pub(crate) fn look_config(alloc: Global, look: Look) -> Result<SpannedConfig, Al
     Ok(config)
 }
 
-/// The line below a header, where the table has one.
+/// The line below a header, if the table has one.
 pub(crate) fn line_in(options: &Options) -> Option<HorizontalLine<char>>
     ensures { result ≡ line_in options.now }
 {
@@ -41,7 +41,7 @@ pub(crate) fn line_in(options: &Options) -> Option<HorizontalLine<char>>
     }
 }
 
-/// What the table of these rows looks like, but for that line.
+/// The look of the table of these rows, without that line.
 pub(crate) fn sided_config(
     alloc: Global,
     options: &Options,
@@ -54,7 +54,7 @@ pub(crate) fn sided_config(
     Ok(config)
 }
 
-/// Sets the line below a header, where the table has one, and rows below it.
+/// Sets the line below a header, if the table has one, and rows below it.
 pub(crate) fn set_line_below(
     config: &mut SpannedConfig,
     line: Option<HorizontalLine<char>>,

@@ -1,4 +1,4 @@
-//! The rows of a table, of which each may come when the others are drawn.
+//! The rows of a table, each of which may come after others are drawn.
 
 ghost use Rattle.std.specs.Cow.{cow_str_bytes};
 ghost use Rattle.std.specs.Prelude.{◌≡◌, ◌++◌, ◌∷◌, [], List, length, map, string_bytes, Err, IfOk, OnErr, OnOk};
@@ -30,7 +30,7 @@ use std::borrow::CowStr;
 
 /// The rows of a table of this layout, whose lines are appended to a buffer, one row after another, and then its end.
 ///
-/// Where a call fails it appends nothing, and each further one fails for want of memory.
+/// A call that fails appends nothing, and after it each further one fails as out of memory.
 #[derive(Drop)]
 pub struct TableRows<'a> {
     alloc: Global,
@@ -97,9 +97,9 @@ impl<'a> TableRows<'a> {
         })
     }
 
-    /// Appends the lines of a row, with a line feed behind each.
+    /// Appends the lines of a row, each with a line feed after it.
     ///
-    /// `ViewFault::Totals` says that its lines can't be counted below those above it.
+    /// `ViewFault::Totals` means that its lines can't be counted below those above it.
     pub fn push(&mut self, fields: &StringRecord, buf: &mut String) -> Result<(), ViewFault>
         ensures lines { (options : Options) (plan : Plan) (rows : List (List Text)) → HasAppended options plan rows self.old → OnOk result (GrowsTo (begun_text options plan rows) (begun_text options plan (rows ++ fields_of fields.now ∷ [])) (string_bytes buf.old) (string_bytes buf.new)) }
         ensures after { (options : Options) (plan : Plan) (rows : List (List Text)) → HasAppended options plan rows self.old → OnOk result (HasAppended options plan (rows ++ fields_of fields.now ∷ []) self.new) }
@@ -120,7 +120,7 @@ impl<'a> TableRows<'a> {
         Ok(())
     }
 
-    /// Appends the end of the table; of no rows nothing.
+    /// Appends the end of the table; without rows nothing.
     pub fn finish(self, buf: &mut String) -> Result<(), ViewFault>
         ensures end { (options : Options) (plan : Plan) (rows : List (List Text)) → HasAppended options plan rows self.entry → OnOk result (GrowsTo (begun_text options plan rows) (whole_text options plan rows) (string_bytes buf.old) (string_bytes buf.new)) }
         ensures fault { (options : Options) (plan : Plan) (rows : List (List Text)) → HasAppended options plan rows self.entry → (fault : ViewFault) → result ≡ Err fault → fault ≡ Memory }

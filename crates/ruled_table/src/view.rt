@@ -15,7 +15,8 @@ use std::alloc::Global;
 
 /// The rows that are shown of these, of which the first is row 0.
 ///
-/// The fault is the first name of a column that row 0 lacks, whether rows are shown or not, or want of memory.
+/// The fault is the first name of a column that row 0 lacks, whether rows are shown or not, or out
+/// of memory.
 pub fn heads_of(
     alloc: Global,
     options: &Options,

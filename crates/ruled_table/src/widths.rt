@@ -1,4 +1,4 @@
-//! What a table looks like whose first rows are known, and the texts of the others within its columns.
+//! The look of a table whose first rows are known, and the texts of the others within its columns.
 
 ghost use Rattle.std.specs.Cow.{cow_str_bytes};
 ghost use Rattle.std.specs.Prelude.{◌≡◌, string_bytes, IfOk};
@@ -18,7 +18,7 @@ use pg_table::{NaturalTable, Overflow, TableFault};
 use std::alloc::{AllocError, Global};
 use std::borrow::CowStr;
 
-/// What the table looks like whose first rows are these: a header alone has no line below it.
+/// The look of the table whose first rows are these: a header alone has no line below it.
 pub fn first_config(
     alloc: Global,
     options: &Options,
@@ -44,7 +44,7 @@ fn natural_sizes(
     NaturalTable::new(records, config, &NoColors).natural_dimension(alloc)
 }
 
-// The sizes of a table of these records within the bounds that are told.
+// The sizes of a table of these records within the bounds that are set.
 fn fitted_sizes(
     alloc: Global,
     bounds: &Bounds,
@@ -89,7 +89,7 @@ pub fn sizes_of_rows(
     sizes_of(alloc, bounds, config, rows).map_err(fault_in)
 }
 
-// A text as it is, where it takes at most so many columns, and else cut to them.
+// A text, unchanged if it takes at most so many columns, else cut to them.
 fn narrowed(alloc: Global, width: usize, text: String) -> Result<String, AllocError>
     ensures { IfOk result (λ narrow. string_bytes narrow ≡ spec.narrowed width (string_bytes text)) }
 {
@@ -114,7 +114,7 @@ fn overflowed(
     }
 }
 
-/// A text within so many columns: lent as it is where it takes no more, and else wrapped, or cut.
+/// A text within so many columns: lent unchanged if it takes no more, else wrapped, or cut.
 pub(crate) fn lent_within<'a>(
     alloc: Global,
     overflow: Overflow<'_>,
@@ -142,7 +142,7 @@ pub fn text_within(
     lent_within(alloc, overflow, width, text)?.into_owned(alloc)
 }
 
-/// How many columns the texts of a column may take, of which a space stands at each side.
+/// How many columns the texts of a column may take; a space is at each side.
 pub fn room_of(widths: &ConstantDimension, column: usize) -> usize
     ensures { result ≡ spec.room_of (spec.widths_in widths.now) column }
 {

@@ -14,8 +14,8 @@ impl<T: AsStr + Drop, A: Allocator + Copy> Table<T, A> {
     /// glyphs of these borders, as [`pg_config::SpannedConfig::set_span_crossings`] does for the rows and
     /// columns of this table.
     ///
-    /// Where memory is refused, nothing changes; without spans none is asked for. A span or a line that
-    /// is told later changes no crossing.
+    /// If memory is refused, nothing changes; without spans nothing is allocated. A span or a line
+    /// that is set later changes no crossing.
     pub fn set_span_crossings(&mut self, alloc: A, borders: Borders<char>) -> Result<(), AllocError>
         ensures ok { OnOk result (self.new ≡ crossed borders self.old) }
         ensures err { OnErr result (self.new ≡ self.old) }
@@ -26,7 +26,7 @@ impl<T: AsStr + Drop, A: Allocator + Copy> Table<T, A> {
     }
 
     /// Draws crossings that follow the merged cells, in a table by value
-    /// ([`Table::set_span_crossings`]). Where memory is refused the table is let go.
+    /// ([`Table::set_span_crossings`]). After an error the table is dropped.
     ///
     /// ```text
     /// let table = table.with_config(config).with_span_crossings(alloc, Borders::sharp())?;

@@ -13,11 +13,11 @@ use std::alloc::{AllocError, Allocator};
 use std::convert::AsStr;
 
 impl<T: AsStr + Drop, A: Allocator> Table<T, A> {
-    /// Draws a line above a row, counted from 0. A glyph that the line lacks is as it was. The frame
-    /// stays as it is: above row 0 and below the last row nothing changes.
+    /// Draws a line above a row, counted from 0. A glyph that the line lacks stays unchanged. So
+    /// does the frame: above row 0 and below the last row nothing changes.
     ///
-    /// Takes memory for its places, one for each column and each column line; where that is refused,
-    /// nothing changes. A line that changes nothing takes none.
+    /// Allocates for its places, one for each column and each column line. If memory is refused,
+    /// nothing changes. A line that changes nothing allocates nothing.
     ///
     /// ```text
     /// table.set_row_line(2, HorizontalLine::sharp())?; // ├──┼──┤
@@ -38,8 +38,8 @@ impl<T: AsStr + Drop, A: Allocator> Table<T, A> {
         self.config.set_row_line(row, columns, line)
     }
 
-    /// The table with a line above a row ([`Table::set_row_line`]). Where memory is refused the table is
-    /// let go.
+    /// The table with a line above a row ([`Table::set_row_line`]). After an error the table is
+    /// dropped.
     pub fn with_row_line(
         mut self,
         row: usize,
@@ -59,8 +59,8 @@ impl<T: AsStr + Drop, A: Allocator> Table<T, A> {
         }
     }
 
-    /// Draws a line above the last row, as above a row of sums ([`Table::set_row_line`]). A table of
-    /// less than two rows has no such line.
+    /// Draws a line above the last row, such as a row of sums ([`Table::set_row_line`]). A table of
+    /// fewer than two rows has no such line.
     pub fn set_foot_line(&mut self, line: HorizontalLine<char>) -> Result<(), AllocError>
     where
         A: Clone,
@@ -74,8 +74,8 @@ impl<T: AsStr + Drop, A: Allocator> Table<T, A> {
         self.set_row_line(last, line)
     }
 
-    /// The table with a line above the last row ([`Table::set_foot_line`]). Where memory is refused the
-    /// table is let go.
+    /// The table with a line above the last row ([`Table::set_foot_line`]). After an error the
+    /// table is dropped.
     ///
     /// ```text
     /// let table = table.with_foot_line(HorizontalLine::sharp())?;

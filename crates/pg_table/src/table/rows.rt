@@ -12,11 +12,11 @@ use std::convert::AsStr;
 
 impl<T: Drop, A: Allocator> Table<T, A> {
     /// Adds a row below the others: a vector of as many texts as the other rows have. Settings and
-    /// colours stay; a line below the header has the places that it had.
+    /// colours stay; a line below the header keeps its places.
     ///
-    /// Answers `Ragged` with the row's number, counted from 0, where there is a row 0 of another length,
-    /// and else `Memory` where memory is refused. After both the table is as it was, and the row is
-    /// dropped. In a table without rows the first one may have any length.
+    /// The error is `Ragged` with the row's number, counted from 0, if there is a row 0 of another
+    /// length, else `Memory` if memory is refused. After either the table is unchanged, and the row
+    /// is dropped. In a table without rows the first one may have any length.
     ///
     /// ```text
     /// let mut table = Table::new(alloc, Vec::new(alloc))?;

@@ -1,4 +1,4 @@
-//! The settings of a table: what it was told, and how it is told by reference.
+//! The settings of a table, and its setters by reference.
 
 ghost use Rattle.std.specs.Borrow.{sem, Lends};
 ghost use Rattle.std.specs.Prelude.{◌≡◌, true, Err, IfOk, IsOk, OnErr, OnOk};
@@ -15,15 +15,16 @@ use pg_layout::{AlignmentHorizontal, Borders, ColorsMap, Entity, Indent, Sides};
 use std::alloc::{AllocError, Allocator};
 
 impl<T, A: Allocator> Table<T, A> {
-    /// What the table was told: borders, paddings, alignments, spans and all else but colours of cells.
+    /// The settings of the table: borders, paddings, alignments, spans and everything but colours
+    /// of cells.
     pub fn config(&self) -> &SpannedConfig<A>
         ensures { result.now ≡ self.now.config }
     {
         &self.config
     }
 
-    /// The settings of the table, to change any of them. Takes no memory; the setter that is called says
-    /// what it takes.
+    /// The settings of the table, to change any of them. Allocates nothing itself, but the setter
+    /// that you call may.
     ///
     /// ```text
     /// table.config_mut().set_row_span(Position::new(1, 0), 2)?;
@@ -43,8 +44,8 @@ impl<T, A: Allocator> Table<T, A> {
         &self.colors
     }
 
-    /// Tells the table all that this configuration was told, in place of all that it was told itself
-    /// ([`Table::with_config`]). Takes no memory.
+    /// Sets all settings of this configuration, in place of all that the table had
+    /// ([`Table::with_config`]). Allocates nothing.
     pub fn set_config(&mut self, config: SpannedConfig<A>)
         ensures table { self.new ≡ record self.old { config = config } }
         ensures narrow { IsNarrowLook config → IsNarrowLook self.new.config }
@@ -52,8 +53,8 @@ impl<T, A: Allocator> Table<T, A> {
         self.config = config;
     }
 
-    /// Gives the cells these colours, in place of all colours that they had ([`Table::with_colors`]).
-    /// Takes no memory.
+    /// Sets the colours of the cells, in place of all that they had ([`Table::with_colors`]).
+    /// Allocates nothing.
     pub fn set_colors(&mut self, colors: ColorsMap<A>)
         ensures table { self.new ≡ record self.old { colors = colors } }
         ensures narrow { IsNarrowLook self.old.config → IsNarrowLook self.new.config }
@@ -61,7 +62,7 @@ impl<T, A: Allocator> Table<T, A> {
         self.colors = colors;
     }
 
-    /// Gives the table these borders ([`Table::with_borders`]). Takes no memory.
+    /// Sets the borders of the table ([`Table::with_borders`]). Allocates nothing.
     pub fn set_borders(&mut self, borders: Borders<char>)
         ensures table { self.new ≡ record self.old { config = record self.old.config { borders = borders } } }
         ensures narrow { IsNarrowLook self.old.config → are_line_glyphs borders ≡ true → IsNarrowLook self.new.config }
@@ -69,7 +70,7 @@ impl<T, A: Allocator> Table<T, A> {
         self.config.set_borders(borders);
     }
 
-    /// Gives all cells this padding ([`Table::with_padding`]). Takes no memory.
+    /// Sets the padding of all cells ([`Table::with_padding`]). Allocates nothing.
     pub fn set_padding(&mut self, padding: Sides<Indent>)
     where
         A: Clone,
@@ -79,7 +80,7 @@ impl<T, A: Allocator> Table<T, A> {
         self.config.set_padding(Entity::Global, padding).unwrap();
     }
 
-    /// Puts the texts of all cells at this side ([`Table::with_alignment`]). Takes no memory.
+    /// Aligns the texts of all cells ([`Table::with_alignment`]). Allocates nothing.
     pub fn set_alignment(&mut self, alignment: AlignmentHorizontal)
     where
         A: Clone,
@@ -91,11 +92,11 @@ impl<T, A: Allocator> Table<T, A> {
             .unwrap();
     }
 
-    /// Puts the texts of a column, counted from 0, at this side. Of a cell the latest call counts, so a
-    /// later [`Table::set_alignment`] takes it away; a column that the table hasn't changes nothing
+    /// Aligns the texts of a column, counted from 0. The latest call for a cell counts, so a later
+    /// [`Table::set_alignment`] overrides it; a column that the table doesn't have changes nothing
     /// that is drawn.
     ///
-    /// Takes memory for the column, unless one was told of it before; where that is refused, nothing
+    /// Allocates for the column, unless it was aligned before. If memory is refused, nothing
     /// changes.
     pub fn set_column_alignment(
         &mut self,
@@ -113,8 +114,8 @@ impl<T, A: Allocator> Table<T, A> {
             .set_alignment_horizontal(Entity::Column(column), alignment)
     }
 
-    /// Puts the texts of a column at this side, in a table by value ([`Table::set_column_alignment`]).
-    /// Where memory is refused the table is let go.
+    /// Aligns the texts of a column, in a table by value ([`Table::set_column_alignment`]). After
+    /// an error the table is dropped.
     ///
     /// ```text
     /// let table = table.with_column_alignment(1, AlignmentHorizontal::Right)?;

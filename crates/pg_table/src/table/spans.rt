@@ -15,11 +15,11 @@ use std::alloc::{AllocError, Allocator};
 use std::convert::AsStr;
 
 impl<T: Drop, A: Allocator> Table<T, A> {
-    /// The table with a cell over so many columns, itself among them; 1 takes the span away. The texts
+    /// The table with a cell over so many columns, including its own; 1 removes the span. The texts
     /// of the cells that it covers aren't shown. Spans that leave the table or share a place are
     /// reported when it is printed (`Spans`).
     ///
-    /// Takes memory only for a cell without a span; where that is refused the table is let go.
+    /// Allocates only for a cell without a span. After an error the table is dropped.
     ///
     /// ```text
     /// let table = table.with_column_span(Position::new(0, 0), 3)?;
@@ -43,7 +43,7 @@ impl<T: Drop, A: Allocator> Table<T, A> {
         }
     }
 
-    /// The table with a cell over so many rows, as [`Table::with_column_span`] for columns.
+    /// The table with a cell over so many rows, like [`Table::with_column_span`] for columns.
     pub fn with_row_span(mut self, pos: Position, rows: usize) -> Result<Table<T, A>, TableFault>
     where
         A: Clone,
@@ -62,11 +62,11 @@ impl<T: Drop, A: Allocator> Table<T, A> {
 
 impl<T: AsStr + Drop, A: Allocator> Table<T, A> {
     /// Makes a row, counted from 0, a panel: its first cell takes all columns, and the texts of its
-    /// other cells aren't shown. A row that isn't there changes nothing.
+    /// other cells aren't shown. A row that doesn't exist changes nothing.
     ///
-    /// The lines above and below the panel keep their crossings until
-    /// [`Table::set_span_crossings`] redraws them. Takes memory only where the first cell has no span;
-    /// where that is refused, nothing changes.
+    /// The lines above and below the panel keep their crossings until [`Table::set_span_crossings`]
+    /// redraws them. Allocates only if the first cell has no span. If memory is refused, nothing
+    /// changes.
     ///
     /// ```text
     /// table.set_panel(0)?;
@@ -89,8 +89,7 @@ impl<T: AsStr + Drop, A: Allocator> Table<T, A> {
         self.config.set_column_span(Position::new(row, 0), columns)
     }
 
-    /// The table with a row as a panel ([`Table::set_panel`]). Where memory is refused the table is let
-    /// go.
+    /// The table with a row as a panel ([`Table::set_panel`]). After an error the table is dropped.
     ///
     /// ```text
     /// let table = table.with_panel(0)?.with_span_crossings(alloc, Borders::modern())?;

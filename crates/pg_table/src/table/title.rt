@@ -17,17 +17,16 @@ use std::alloc::{AllocError, Allocator};
 use std::convert::AsStr;
 
 impl<T: AsStr + Drop, A: Allocator + Copy> Table<T, A> {
-    /// Puts a title over the glyphs of row line `row`, as 0 for the line above row 0, between the first
-    /// column line and the last one: at the left, at the right or in the middle of them, where the
-    /// columns are as wide as they are now. What is longer is cut there.
+    /// Puts a title over the glyphs of row line `row`, where 0 is the line above row 0, between the
+    /// first column line and the last one: at the left, at the right or in the middle, at the
+    /// columns' current widths. A title that is too long is cut there.
     ///
-    /// A line feed, and a character that doesn't take one column, is shown as `�`. A line that isn't
-    /// there gets no title, and what a merged cell hides of a line stays hidden. The title is told
-    /// last: a text or a setting that is told later moves none of it.
+    /// A line feed, or a character that doesn't take one column, becomes `�`. A line that doesn't
+    /// exist gets no title, and what a merged cell hides of a line stays hidden. Call it last: a
+    /// later text or setting doesn't move the title.
     ///
-    /// An error where the natural sizes aren't told ([`Table::natural_dimension`]) or memory is
-    /// refused; then nothing changes. An empty title, and one over a line that isn't there, takes no
-    /// memory.
+    /// The error is that of the natural sizes ([`Table::natural_dimension`]), or `Memory`; then
+    /// nothing changes. An empty title, or one over a line that doesn't exist, allocates nothing.
     ///
     /// ```text
     /// table.set_title(alloc, 0, "Orders", AlignmentHorizontal::Center)?; // ╭─Orders─╮
@@ -60,7 +59,7 @@ impl<T: AsStr + Drop, A: Allocator + Copy> Table<T, A> {
         }
     }
 
-    // Whether a title over row line `row` can be seen: it has a character, and the line is there.
+    // Whether a title over row line `row` is seen: it has a character, and the line exists.
     fn shows_title(&self, row: usize, title: &str) -> bool
         ensures same { result ≡ false → (side : AlignmentHorizontal) → titled row side title.now T.text self.now ≡ self.now }
         ensures empty { title.now ≡ [] → result ≡ false }
@@ -72,7 +71,7 @@ impl<T: AsStr + Drop, A: Allocator + Copy> Table<T, A> {
         self.config.has_horizontal(row, self.count_rows())
     }
 
-    // Puts the glyphs of a title over row line `row`, where the columns have these widths.
+    // Puts the glyphs of a title over row line `row`, for columns of these widths.
     fn set_title_glyphs(
         &mut self,
         alloc: A,
@@ -92,8 +91,8 @@ impl<T: AsStr + Drop, A: Allocator + Copy> Table<T, A> {
             .set_line_glyphs(alloc, row, size, dimension, start, glyphs)
     }
 
-    /// Puts a title over row line `row` of a table by value ([`Table::set_title`]). Where there is an
-    /// error the table is let go.
+    /// Puts a title over row line `row` of a table by value ([`Table::set_title`]). After an error
+    /// the table is dropped.
     ///
     /// ```text
     /// let table = table.with_title(alloc, 0, "Orders", AlignmentHorizontal::Left)?;
@@ -129,7 +128,7 @@ fn title_glyph(c: char) -> char
     }
 }
 
-// What stands for the characters of a title.
+// The glyphs for the characters of a title.
 fn title_glyphs<A: Allocator>(alloc: A, title: &str) -> Result<Vec<char, A>, AllocError>
     ensures { IfOk result (λ glyphs. glyphs.items ≡ map title_glyph (chars title.now)) }
 {
