@@ -1,4 +1,4 @@
-//! Control characters, which a terminal acts on, as characters that are seen.
+//! Control characters, which a terminal obeys, as visible characters.
 
 ghost use Rattle.std.specs.Prelude.{◌≡◌, ◌+◌, ◌≤◌, true, length, IsTrue, IfOk, string_bytes, not, chars};
 ghost use Rattle.std.specs.List.{list_all};
@@ -27,15 +27,15 @@ fn is_hidden(c: char) -> bool
     )
 }
 
-// Whether a terminal acts on a character: those below a space but for the line feed, DEL, those from
-// U+0080 to U+009F, and hidden ones.
+// Whether a terminal obeys or hides a character: those below a space except the line feed, DEL,
+// those from U+0080 to U+009F, and hidden ones.
 fn is_control(c: char) -> bool
     ensures { result ≡ is_control c }
 {
     c != '\n' && (c < ' ' || ('\u{7f}'..='\u{9f}').contains(&c) || is_hidden(c))
 }
 
-/// What a visible text has for a character: see [`visible`].
+/// The character for a character in a visible text (see [`visible`]).
 pub fn sign_of(c: char) -> char
     ensures { result ≡ sign_of c }
 {
@@ -49,17 +49,17 @@ pub fn sign_of(c: char) -> char
     if code == 0x7f { '␡' } else { '�' }
 }
 
-/// Whether a text may be sent to a terminal as it is: it has no control character but line feeds, and
-/// no hidden character (see [`visible`]).
+/// Whether a text may be sent to a terminal as it is: it has no control character except line
+/// feeds, and no hidden character (see [`visible`]).
 pub fn is_visible(text: &str) -> bool
     ensures { result ≡ list_all (λ c. not (is_control c)) (chars text.now) }
 {
     is_printable(text.as_bytes()) || text.chars().all(|c| !is_control(c))
 }
 
-// Whether each byte is a printable character of ASCII, as nearly all texts of tables are: no other
-// test is needed then, and bytes that are compared in blocks cost less than characters.
-// Two blocks, which may overlap, hold a text of at most twice their length.
+// Whether each byte is a printable ASCII character, as in nearly all texts of tables: then no other
+// test is needed, and comparing bytes in blocks costs less than comparing characters. Two blocks,
+// which may overlap, hold a text of at most twice their length.
 #[inline(always)]
 pub(crate) fn is_printable(bytes: &[u8]) -> bool
     ensures { IsTrue result → list_all is_printable bytes.now ≡ true }
@@ -109,13 +109,14 @@ fn is_block_printable<const N: usize>(bytes: &[u8], from: usize) -> bool
     (below == 0) & (above == 0)
 }
 
-/// A text in which control characters are seen, each as a character that takes one column, so that a
-/// terminal doesn't act on them: `␀` to `␟` for those below a space, a tab (`␉`), a carriage return
-/// (`␍`) and an escape (`␛`) among them, `␡` for DEL, and `�` for those from U+0080 to U+009F. `�` is
-/// also shown for hidden characters, which turn or hide what is beside them: U+00AD, U+061C, U+180E,
-/// U+200B, U+200E, U+200F, U+2028 to U+202E, U+2060 to U+206F, U+FEFF, U+FFF9 to U+FFFB, and tags
-/// (U+E0000 to U+E007F). Joiners and variation selectors stay, since emoji and letters need them. Lines
-/// stay lines, and a text in which there is none stays byte for byte ([`is_visible`] tells).
+/// A text with visible control characters, each as a character that takes one column, so that a
+/// terminal doesn't obey them: `␀` to `␟` for those below a space, such as a tab (`␉`), a carriage
+/// return (`␍`) and an escape (`␛`), `␡` for DEL, and `�` for those from U+0080 to U+009F. `�` is
+/// also shown for hidden characters, which turn or hide what is beside them: U+00AD, U+061C,
+/// U+180E, U+200B, U+200E, U+200F, U+2028 to U+202E, U+2060 to U+206F, U+FEFF, U+FFF9 to U+FFFB,
+/// and tags (U+E0000 to U+E007F). Joiners and variation selectors stay, since emoji and letters
+/// need them. Lines stay lines. A text without these characters stays, byte for byte
+/// ([`is_visible`] tests it).
 ///
 /// ```text
 /// visible(alloc, "\tred: \x1b[31m\r\n")? // "␉red: ␛[31m␍\n"

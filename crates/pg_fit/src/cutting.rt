@@ -1,4 +1,4 @@
-//! Texts whose lines are cut where they are too wide.
+//! Texts whose lines are cut if they are too wide.
 
 ghost use Rattle.std.specs.Prelude.{◌≡◌, ◌++◌, IfOk, OnOk, string_bytes};
 ghost use Rattle.pg_fit.specs.Cutting.{beginning, cut_line, cut_text};
@@ -8,8 +8,8 @@ use pg_layout::{get_line_width, get_lines};
 use std::alloc::{AllocError, Allocator};
 use unicode_segmentation::UnicodeSegmentation;
 
-/// A text whose lines are cut where they are too wide, with a tail behind what is left, as `…`. A
-/// tail that is itself too wide is cut, too, and stands alone.
+/// A text whose lines are cut if they are too wide, and then end with a tail, such as `…`. A tail
+/// that is itself too wide is cut, too, and is then alone.
 pub fn cut<A: Allocator>(
     alloc: A,
     text: &str,
@@ -30,7 +30,7 @@ pub fn cut<A: Allocator>(
     Ok(out)
 }
 
-/// Appends a line, cut where it is too wide.
+/// Appends a line, cut if it is too wide.
 pub(crate) fn push_cut<W: Allocator>(
     line: &str,
     width: usize,

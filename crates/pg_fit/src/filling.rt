@@ -14,9 +14,8 @@ use pg_layout::get_line_width;
 use std::alloc::{AllocError, Allocator};
 use unicode_segmentation::UnicodeSegmentation;
 
-/// Puts a piece of the text on the line that is being filled, or, where the line then doesn't fit,
-/// ends that line, appends it, and begins the next one with the piece. Gives the line that is being
-/// filled afterwards.
+/// Puts a piece of the text on the current line. If the line then doesn't fit, ends and appends it
+/// first, and begins the next one with the piece. Returns the current line afterwards.
 pub(crate) fn take<W: Allocator>(
     text: &str,
     width: usize,
@@ -56,8 +55,8 @@ pub(crate) fn take<W: Allocator>(
     Ok(line_of(text, piece))
 }
 
-/// Puts the characters of a part of the text, one after another, on the line that is being filled and
-/// on further ones.
+/// Puts the characters of a part of the text, one after another, on the current line and on further
+/// ones.
 pub(crate) fn take_characters<W: Allocator>(
     text: &str,
     width: usize,
@@ -109,7 +108,7 @@ fn count_spaces(text: &str) -> usize
     word.unwrap_or(text.len())
 }
 
-// How many bytes stand before the first space, or how many there are, if there is none.
+// How many bytes come before the first space, or how many there are, if there is none.
 fn count_word(text: &str) -> usize
     ensures { result ≡ position_or_len (λ b. b == 32) text.now }
 {
@@ -117,8 +116,8 @@ fn count_word(text: &str) -> usize
     space.unwrap_or(text.len())
 }
 
-/// The next word from the end of the last one on: what stands behind spaces, up to the next space.
-/// The first word begins with the text.
+/// The next word after the last one: what follows spaces, up to the next space. The first word
+/// begins with the text.
 pub(crate) fn next_word(text: &str, at: usize) -> Option<Part>
     requires { IsCharBoundary text.now at }
     ensures { MatchOption result (words_from text.now at ≡ []) (λ w. IsNextWord text.now at w.begin w.end) }
@@ -137,7 +136,7 @@ pub(crate) fn next_word(text: &str, at: usize) -> Option<Part>
 }
 
 /// Puts the words of a text on lines, one after another, and the characters of a word that is wider
-/// than a line. Gives the line that is being filled afterwards.
+/// than a line. Returns the current line afterwards.
 pub(crate) fn take_words<W: Allocator>(
     text: &str,
     width: usize,
@@ -161,7 +160,7 @@ pub(crate) fn take_words<W: Allocator>(
     Ok(line)
 }
 
-// Puts a word on the line that is being filled, or its characters, where it is wider than a line.
+// Puts a word on the current line, or its characters, if it is wider than a line.
 fn take_word<W: Allocator>(
     text: &str,
     width: usize,

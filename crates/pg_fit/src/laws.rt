@@ -4,8 +4,8 @@ ghost use Rattle.pg_fit.specs.Laws.{LinesFit, NothingIsLost, OnlySpacesAreLost, 
 ghost use Rattle.pg_fit.specs.Laws.{CutTextsStay, CutLinesStand, CutTextsFit, VisibleTextsStay, NoControlsAreLeft, SignsTakeOneColumn};
 ghost use Rattle.pg_fit.specs.Narrowing.{FillsTheRoom, WithinRanges, IsEvenHanded, LimitsHold, StayNatural, EndAtLeast};
 
-/// Each line of a wrapped text is at most as wide as it may be, unless a character is wider. Broken
-/// between characters, the lines of a line together are that line; between words, but for spaces. A
+/// Each line of a wrapped text is at most as wide as allowed, unless a character is wider. Broken
+/// between characters, the lines of a line together are that line; between words, up to spaces. A
 /// text that fits stays.
 pub fn wrapped_lines_fit()
     ensures fit { LinesFit }
@@ -14,15 +14,15 @@ pub fn wrapped_lines_fit()
     ensures stay { FittingTextsStay }
 {}
 
-/// The lines of a wrapped text are those that its lines were broken into, so it is at most as wide as
-/// it may be, unless a character is wider.
+/// The lines of a wrapped text are those into which its lines were broken, so it is at most as wide
+/// as allowed, unless a character is wider.
 pub fn wrapped_texts_fit()
     ensures lines { LinesStand }
     ensures fit { WrappedTextsFit }
 {}
 
-/// A text that is cut has as many lines as before, and a text that fits stays. Each line is at most as
-/// wide as it may be, where the tail is of printable ASCII and ellipses.
+/// A cut text has as many lines as before, and a text that fits stays. Each line is at most as wide
+/// as allowed, if the tail is printable ASCII and ellipses.
 pub fn cut_texts_fit()
     ensures line { CutLinesFit }
     ensures stay { CutTextsStay }
@@ -30,18 +30,19 @@ pub fn cut_texts_fit()
     ensures fit { CutTextsFit }
 {}
 
-/// In a visible text no control character is left, and one that has none stays. What stands for one
-/// takes one column.
+/// A visible text has no control character, and a text without one stays. Each replacement takes
+/// one column.
 pub fn visible_texts_are_seen()
     ensures none { NoControlsAreLeft }
     ensures stay { VisibleTextsStay }
     ensures column { SignsTakeOneColumn }
 {}
 
-/// Narrowed widths add up to the room, unless the natural widths take less, or the least widths more.
-/// Each lies between the least and the natural width of its column. No column is narrower by two than
-/// another that could be narrower, unless it has its natural width. A limit holds, unless the column
-/// can't be as narrow. Columns that fit have their natural widths, and those that can't, their least.
+/// Narrowed widths add up to the room, unless the natural widths take less, or the least widths
+/// more. Each lies between the least and the natural width of its column. No column is narrower by
+/// two than another that could be narrower, unless it has its natural width. A limit holds, unless
+/// the column can't be that narrow. Columns that fit have their natural widths, and those that
+/// can't fit their least.
 pub fn narrowed_widths_fill_the_room()
     ensures room { FillsTheRoom }
     ensures ranges { WithinRanges }

@@ -1,5 +1,5 @@
-//! Texts within widths: lines that are too wide are wrapped or cut, columns are narrowed to a total, and
-//! records take other texts at some places.
+//! Texts within widths: lines that are too wide are wrapped or cut, columns are narrowed to a
+//! total, and some texts of records are replaced.
 #![tactic(auto)]
 
 mod controls;

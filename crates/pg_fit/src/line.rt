@@ -40,7 +40,9 @@ pub(crate) fn line_of(text: &str, piece: Part) -> Line
     }
 }
 
-/// How many columns a line takes with what stands behind it up to a byte, if these are at most so many.
+/// How many columns a line takes with what follows it up to a byte, if these are at most so many.
+/// Only what follows the line is measured if its characters add up, so that a line of n pieces
+/// isn't measured n times.
 ///
 /// Only what is behind the line is measured where its characters add up, so that a line of n pieces isn't
 /// measured n times.

@@ -1,21 +1,21 @@
-//! How wide columns are within a bound.
+//! The widths of columns within a room.
 
 ghost use Rattle.std.specs.Prelude.{◌≡◌, ◌+◌, ◌-◌, ◌≤◌, nat_le, IfOk};
 ghost use Rattle.pg_fit.specs.Narrowing.{share, limited, gain, total, widest, level, narrowed};
 
 use std::alloc::{AllocError, Allocator};
 
-/// How narrow a column may be, and how wide it would be where there is room, in terminal columns.
+/// How narrow a column may be, and how wide it would be with enough room, in terminal columns.
 #[derive(Debug, Clone, Copy, PartialEq, Eq)]
 pub struct ColumnRange {
     /// The width below which the column is never narrowed.
     pub least: usize,
-    /// The width that it has where nothing need be narrowed.
+    /// The width of the column if nothing need be narrowed.
     pub natural: usize,
 }
 
 impl ColumnRange {
-    /// Lowers the natural width to this one, or to the least width where that is greater.
+    /// Lowers the natural width to this one, but not below the least width.
     pub fn limited(self, width: usize) -> ColumnRange
         ensures { result ≡ limited width self }
     {
@@ -25,7 +25,7 @@ impl ColumnRange {
         }
     }
 
-    // Its width where no column is wider than a level: its natural width, but at most the level, and
+    // Its width if no column is wider than a level: its natural width, but at most the level, and
     // at least its least.
     #[inline(always)]
     fn share(self, level: usize) -> usize
@@ -34,7 +34,7 @@ impl ColumnRange {
         self.least.max(self.natural.min(level))
     }
 
-    // What it gets of what is left: one, where it could be wider.
+    // What it gets of the rest: one, if it could be wider.
     #[inline(always)]
     fn gain(self, left: usize, level: usize) -> usize
         ensures value { result ≡ gain left level self }
@@ -98,12 +98,12 @@ fn find_level(room: usize, columns: &[ColumnRange]) -> usize
     low
 }
 
-/// The widths of columns within a room. No column is wider than a level, unless it can't be as narrow;
-/// the level is the greatest at which the columns fit. What is left of the room goes, a terminal
-/// column each, to the first of the columns that are narrowed.
+/// The widths of columns within a room. No column is wider than a level, unless its least width is
+/// greater; the level is the greatest at which the columns fit. The rest of the room goes, a
+/// terminal column each, to the first of the columns that are still narrowed.
 ///
-/// Where all fit at their natural widths they have them, and where they don't fit at their least
-/// widths, those.
+/// If all fit at their natural widths, they have these; if they don't fit at their least widths,
+/// they have those.
 ///
 /// ```text
 /// // three columns of 4, 20 and 30, which can be narrowed to 1, within 30

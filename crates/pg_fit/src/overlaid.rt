@@ -1,4 +1,4 @@
-//! Records of which some texts are other ones.
+//! Records with other texts at some places.
 
 ghost use Rattle.std.specs.Prelude.{◌≡◌, ◌<◌, IfOk, OnOk, OnErr, Some, [], length};
 ghost use Rattle.std.specs.Iterator.{YieldsFirstBy, item_count};
@@ -14,8 +14,8 @@ use pg_layout::{
 use std::alloc::{AllocError, Allocator, Global};
 use std::marker::Model;
 
-/// Records of which some texts are other ones: those that were set for a place, the latest of which
-/// counts. Only these take memory; a look-up searches among them.
+/// Records with other texts at some places: those set for a place, of which the latest counts. Only
+/// these take memory; a look-up searches among them.
 ///
 /// Lend it to a printer: `&OverlaidRecords` is [`Records`], and can be read at any place. The records
 /// below may be a reference themselves, so nothing is copied.
@@ -25,7 +25,7 @@ pub struct OverlaidRecords<R, A: Allocator = Global> {
     others: Places<Position, String<A>, A>,
 }
 
-// Written out, so that a caller's proof has one call where it lets the records go.
+// Written out, so that a caller's proof has one call when it drops the records.
 impl<R: Drop, A: Allocator> Drop for OverlaidRecords<R, A> {
     fn drop(self) {
         let OverlaidRecords { records, others } = self;
@@ -43,7 +43,7 @@ impl<R, A: Allocator> Model for OverlaidRecords<R, A> {
 }
 
 impl<R, A: Allocator> OverlaidRecords<R, A> {
-    /// The records with their own texts. Takes no memory.
+    /// The records with their own texts. Allocates nothing.
     pub fn new(alloc: A, records: R) -> OverlaidRecords<R, A>
         ensures { result ≡ record { records = records; others = [] } }
     {
@@ -53,7 +53,7 @@ impl<R, A: Allocator> OverlaidRecords<R, A> {
         }
     }
 
-    /// Sets another text for a place, in place of an earlier one. Where memory is refused nothing
+    /// Sets another text for a place, in place of an earlier one. If memory is refused, nothing
     /// changes.
     pub fn set(&mut self, pos: Position, text: String<A>) -> Result<(), AllocError>
     where

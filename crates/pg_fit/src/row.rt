@@ -10,16 +10,16 @@ use pg_layout::{count_lines, first_line, get_line_width};
 use std::alloc::{AllocError, Allocator, Global};
 use std::convert::AsStr;
 
-/// A cell of a row that was cut or wrapped: its text as it was, or the one that was made in its place.
+/// A cell of a row that was cut or wrapped: its own text, or the one made in its place.
 #[derive(Debug)]
 pub enum Fitted<S, A: Allocator = Global> {
-    /// It is narrow enough, and in a row that was cut it has one line.
+    /// It is narrow enough, and has one line if the row was cut.
     Kept(S),
     /// Some of its lines were cut, left out or broken.
     Made(String<A>),
 }
 
-// Written out, so that a caller's proof has one call where it lets cells go.
+// Written out, so that a caller's proof has one call when it drops cells.
 impl<S: Drop, A: Allocator> Drop for Fitted<S, A> {
     fn drop(self) {
         match self {
@@ -46,7 +46,7 @@ fn is_fitting(text: &str, width: usize) -> bool
     count_lines(text) == 1 && get_line_width(text) <= width
 }
 
-// The width of a column, or 0 where it has none.
+// The width of a column, or 0 if it has none.
 pub(crate) fn width_of_column(widths: &[usize], column: usize) -> usize
     ensures { result ≡ slice_index_or widths.now column 0 }
 {
@@ -72,12 +72,12 @@ fn fit_cell<S: AsStr + Drop, A: Allocator>(
     Ok(Fitted::Made(made))
 }
 
-/// The cells of a row, each cut to one line of at most so many columns, with a tail behind what is
-/// left of a line that is too wide. A cell with no width gets none.
+/// The cells of a row, each cut to one line of at most so many columns; a line that is too wide
+/// ends with the tail. A cell without a width has width 0.
 ///
 /// Such a row has room in a table whose rows have one line and whose columns have these widths and
-/// their paddings, so a long text ends no stream of rows. Only cells that are cut take memory, besides
-/// the row itself, and a row without cells takes none.
+/// their paddings, so a long text ends no stream of rows. Apart from the row itself only cut cells
+/// take memory, and a row without cells takes none.
 ///
 /// ```text
 /// fit_row(alloc, vec![in alloc; "tea", "dried leaves\nof a plant"]?, &[5, 8], "…")? // tea | dried l…

@@ -29,12 +29,12 @@ fn wrap_cell<S: AsStr + Drop, A: Allocator>(
     Ok(Fitted::Made(made))
 }
 
-/// The cells of a row, each wrapped in so many columns, as [`wrap`](crate::wrap) does it. A cell with no width gets none, so
-/// each of its characters a line.
+/// The cells of a row, each wrapped in so many columns, like [`wrap`](crate::wrap). A cell without
+/// a width has width 0, so each of its characters has a line.
 ///
-/// Such a row is as high as [`row_height`] says, and has room in columns of these widths and their
-/// paddings where no character is wider than its column. Only cells that are wrapped take memory, besides
-/// the row itself, and a row without cells takes none.
+/// Such a row is as high as [`row_height`] returns, and has room in columns of these widths and
+/// their paddings if no character is wider than its column. Apart from the row itself only wrapped
+/// cells take memory, and a row without cells takes none.
 ///
 /// ```text
 /// wrap_row(alloc, vec![in alloc; "tea", "dried leaves of a plant"]?, &[5, 12], Breaking::BetweenWords)?
@@ -60,8 +60,8 @@ pub fn wrap_row<S: AsStr + Drop, B: Allocator, A: Allocator + Copy>(
     Ok(row)
 }
 
-/// How many lines a row of these cells needs: those of the cell that has the most, and none where there is
-/// no cell. Paddings above and below are not counted.
+/// How many lines a row of these cells needs: those of the cell with the most, and 0 without cells.
+/// Paddings above and below aren't counted.
 pub fn row_height<S: AsStr>(cells: &[S]) -> usize
     ensures { result ≡ row_height (map S.text cells.now) }
 {

@@ -1,4 +1,4 @@
-//! Texts whose lines are broken where they are too wide.
+//! Texts whose lines are broken if they are too wide.
 
 ghost use Rattle.std.specs.Prelude.{◌≡◌, ◌++◌, ◌≤◌, [], ◌∷◌, IfOk, OnOk, length, slice_range, string_bytes};
 ghost use Rattle.std.specs.Str.{IsCharBoundary};
@@ -20,7 +20,7 @@ pub enum Breaking {
     BetweenWords,
 }
 
-/// A text whose lines are broken where they are too wide. A line takes as much as fits, and at least
+/// A text whose lines are broken if they are too wide. A line takes as much as fits, and at least
 /// one character, as a reader counts them.
 pub fn wrap<A: Allocator>(
     alloc: A,
@@ -60,7 +60,7 @@ fn push_line<W: Allocator>(
     Ok(())
 }
 
-// Puts the pieces of a line on lines. Gives the line that is being filled afterwards.
+// Puts the pieces of a line on lines. Returns the current line afterwards.
 fn take_line<W: Allocator>(
     line: &str,
     width: usize,
