@@ -4,7 +4,8 @@ ghost use Rattle.std.specs.Prelude.{◌≡◌, ℕ, ◌+◌, ◌<◌, IfOk, leng
 ghost use Rattle.std.specs.List.{range_with_len};
 ghost use Rattle.std.specs.Option.{ForSome};
 ghost use Rattle.pg_layout.specs.Records.{text_at};
-ghost use Rattle.pg_config.specs.Cells.{IsStyleOfAll, style_of};
+ghost use Rattle.pg_config.specs.Cells.{style_of};
+ghost use Rattle.pg_config.specs.Common.{IsStyleButAcross};
 ghost use Rattle.pg_config.specs.Config.{get_formatting, get_padding};
 ghost use Rattle.pg_picture.specs.Sizes.{if_fits};
 ghost use Rattle.pg_table.specs.Natural.{paddings, text_size, cell_size, cell_at, all_fit};
@@ -50,9 +51,10 @@ impl Axis {
 pub(crate) struct NaturalSizes<'a, R, B: Allocator> {
     pub(crate) records: R,
     pub(crate) config: &'a SpannedConfig<B>,
-    // The style that all cells have, where no setting is for some of them.
+    // The style that all cells have except for their alignments, if no other setting is for some of
+    // them.
     all: Option<CellStyle<'a, B>>,
-    ghost is_of_all: { ForSome all (λ style. IsStyleOfAll config.now (style_of style)) },
+    ghost is_of_all: { ForSome all (λ style. IsStyleButAcross config.now (style_of style)) },
 }
 
 impl<'a, R: PeekableRecords + ExactRecords, B: Allocator> NaturalSizes<'a, R, B> {
@@ -66,7 +68,7 @@ impl<'a, R: PeekableRecords + ExactRecords, B: Allocator> NaturalSizes<'a, R, B>
         NaturalSizes {
             records,
             config,
-            all: CellStyle::of_all(config),
+            all: CellStyle::of_all_but_across(config),
         }
     }
 
