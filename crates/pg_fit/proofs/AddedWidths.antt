@@ -58,7 +58,7 @@ simple-character c h =
     (λ (w : (in_ranges ranges c ≡ true) × (0xA0 < c) × (c ≤ 0x10_FFFF)). let simple = simple-inside c w.0 w.1 w.2 in grind (arith, nat_tests))
     (where-is c h)
 
-simple-characters : (cs : List ℕ) → list_all adds_up cs ≡ true → list_all is_simple cs ≡ true
+pub simple-characters : (cs : List ℕ) → list_all adds_up cs ≡ true → list_all is_simple cs ≡ true
 simple-characters [] h = refl
 simple-characters (c ∷ cs) h =
     let parts = and_parts (adds_up c) (list_all adds_up cs) h in

@@ -40,7 +40,7 @@ held-plain width front (c ∷ cs) none all =
       | false ↦ none
     ]
 
-beginning-plain : (width : ℕ) (line : Text) → IsLine line → NoFeeds (beginning width line)
+pub beginning-plain : (width : ℕ) (line : Text) → IsLine line → NoFeeds (beginning width line)
 beginning-plain width line is = held-plain width [] (graphemes true line) tt (subst NoFeeds (sym (concat-segments (is_grapheme_break true) line is.0)) is.1)
 
 cut_line-plain : (width : ℕ) (tail line : Text) → IsLine tail → IsLine line → NoFeeds (cut_line width tail line)
@@ -70,7 +70,7 @@ cut_lines_stand width tail text utf8 tail-utf8 one = lines_of-cut width tail tex
 
 -- ---- cut texts fit
 
-tail-plain : (cs : List ℕ) → list_all is_tail_character cs ≡ true → NoFeeds (encode_utf8_all cs)
+pub tail-plain : (cs : List ℕ) → list_all is_tail_character cs ≡ true → NoFeeds (encode_utf8_all cs)
 tail-plain [] h = tt
 tail-plain (c ∷ cs) h =
     let parts = and_parts (is_tail_character c) (list_all is_tail_character cs) h in

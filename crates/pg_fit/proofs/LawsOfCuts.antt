@@ -29,12 +29,12 @@ stand-utf8 text to at [] utf8 start stand = tt
 stand-utf8 text to at (p ∷ ps) utf8 start stand =
     (subst IsUtf8 stand.1 (IsUtf8-between text at (at + length p) utf8 (omega arith) start stand.2), stand-utf8 text to (at + length p) ps utf8 stand.2 stand.3)
 
-graphemes-utf8 : (line : Text) → IsUtf8 line → EachUtf8 (graphemes true line)
+pub graphemes-utf8 : (line : Text) → IsUtf8 line → EachUtf8 (graphemes true line)
 graphemes-utf8 line utf8 =
     subst EachUtf8 (ap (graphemes true) (slice_range-all line))
     (stand-utf8 line (length line) 0 (graphemes true (slice_range line 0 (length line))) utf8 (IsCharBoundary-start line utf8) (characters-stand line 0 (length line) utf8 (omega arith) (IsCharBoundary-start line utf8) (IsCharBoundary-end line)))
 
-held-utf8 : (width : ℕ) (front : Text) (cs : List Text) → IsUtf8 front → EachUtf8 cs → IsUtf8 (held width front cs)
+pub held-utf8 : (width : ℕ) (front : Text) (cs : List Text) → IsUtf8 front → EachUtf8 cs → IsUtf8 (held width front cs)
 held-utf8 width front [] utf8 each = utf8
 held-utf8 width front (c ∷ cs) utf8 each =
     elim (fits width (front ++ c)) as (λ v. IsUtf8 (cond v (held width (front ++ c) cs) front)) [
@@ -52,7 +52,7 @@ held-fits width front (c ∷ cs) low =
       | false ↦ λ h. low
     ] refl
 
-beginning-fits : (width : ℕ) (line : Text) → width_of (beginning width line) ≤ width
+pub beginning-fits : (width : ℕ) (line : Text) → width_of (beginning width line) ≤ width
 beginning-fits width line = held-fits width [] (graphemes true line) (omega (arith, nothing_wide))
 
 -- ---- tails
@@ -74,7 +74,7 @@ tails-simple (c ∷ cs) h =
     let parts = and_parts (is_tail_character c) (list_all is_tail_character cs) h in
     ap (λ v. v && list_all is_simple cs) (tail-simple c parts.0) ∙ tails-simple cs parts.1
 
-tailed : (front tail : Text) → IsUtf8 front → list_all is_tail_character (chars tail) ≡ true → width_of (front ++ tail) ≡ width_of front + width_of tail
+pub tailed : (front tail : Text) → IsUtf8 front → list_all is_tail_character (chars tail) ≡ true → width_of (front ++ tail) ≡ width_of front + width_of tail
 tailed front tail utf8 h = simple-behind front tail utf8 (tails-simple (chars tail) h)
 
 pub cut_lines_fit : CutLinesFit

@@ -5,12 +5,14 @@ pub mod CharactersOfParts
 pub mod WordsOfTexts
 pub mod WrappedLines
 pub mod LeastWidths
+pub mod LongerEnds
 pub mod LawsOfLines
 pub mod CutLines
 pub mod LawsOfCuts
 pub mod LawsOfTexts
 pub mod LawsOfSpaces
 pub mod LawsOfCutTexts
+pub mod LawsOfCutsAway
 pub mod LawsOfControls
 pub mod PrintableBytes
 pub mod RowsByWidth

@@ -1,5 +1,7 @@
 pub mod Wrapping
 pub mod Cutting
+pub mod CuttingAway
+pub mod CuttingAwayLaws
 pub mod Controls
 pub mod Printable
 pub mod Rows

@@ -53,8 +53,8 @@ pub(crate) fn push_cut<W: Allocator>(
     Ok(())
 }
 
-// The characters that a line begins with, as far as they fit.
-fn begin_of(line: &str, width: usize) -> &str
+/// The characters that a line begins with, as far as they fit.
+pub(crate) fn begin_of(line: &str, width: usize) -> &str
     ensures { result.now ≡ beginning width line.now }
 {
     let mut front = Line {

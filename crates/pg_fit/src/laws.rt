@@ -2,6 +2,10 @@
 
 ghost use Rattle.pg_fit.specs.Laws.{LinesFit, NothingIsLost, OnlySpacesAreLost, FittingTextsStay, LinesStand, WrappedTextsFit, CutLinesFit};
 ghost use Rattle.pg_fit.specs.Laws.{CutTextsStay, CutLinesStand, CutTextsFit, VisibleTextsStay, NoControlsAreLeft, SignsTakeOneColumn};
+ghost use Rattle.std.specs.Prelude.{◌≡◌, ◌∷◌, ◌++◌, codes};
+ghost use Rattle.pg_fit.specs.CuttingAway.{cut_away_text};
+ghost use Rattle.pg_fit.specs.declared.cutting_away.Kept.TheVariants.{End, BothEnds};
+ghost use Rattle.pg_fit.specs.CuttingAwayLaws.{FrontCutsFit, CutAwayLinesFit, CutAwayTextsStay, CutAwayLinesStand, CutAwayTextsFit};
 ghost use Rattle.pg_fit.specs.Narrowing.{FillsTheRoom, WithinRanges, IsEvenHanded, LimitsHold, StayNatural, EndAtLeast};
 
 /// Each line of a wrapped text is at most as wide as allowed, unless a character is wider. Broken
@@ -30,6 +34,17 @@ pub fn cut_texts_fit()
     ensures fit { CutTextsFit }
 {}
 
+/// A text that is cut in front or in the middle has as many lines as before, and a text that fits
+/// stays. Each line is at most as wide as allowed, if the tail is printable ASCII and ellipses; a line
+/// that is cut in front, with any tail.
+pub fn front_and_middle_cuts_fit()
+    ensures front { FrontCutsFit }
+    ensures line { CutAwayLinesFit }
+    ensures stay { CutAwayTextsStay }
+    ensures lines { CutAwayLinesStand }
+    ensures fit { CutAwayTextsFit }
+{}
+
 /// A visible text has no control character, and a text without one stays. Each replacement takes
 /// one column.
 pub fn visible_texts_are_seen()
@@ -50,4 +65,12 @@ pub fn narrowed_widths_fill_the_room()
     ensures limits { LimitsHold }
     ensures natural { StayNatural }
     ensures least { EndAtLeast }
+{}
+
+/// Worked examples: a path that is cut in front, and letters that are cut in the middle.
+pub fn ends_by_example()
+    ensures front { cut_away_text End 6 (codes "..") (codes "lib/foo.rs") ≡ codes "..o.rs" }
+    ensures middle { cut_away_text BothEnds 7 (codes "..") (codes "abcdefuvwxyz") ≡ codes "abc..yz" }
+    ensures tail { cut_away_text BothEnds 2 (codes "...") (codes "abcd") ≡ codes ".." }
+    ensures lines { cut_away_text End 2 (codes "-") (codes "abc" ++ 10 ∷ codes "de") ≡ codes "-c" ++ 10 ∷ codes "de" }
 {}

@@ -75,8 +75,8 @@ pub(crate) fn columns_within(text: &str, width: usize, line: Line, end: usize) -
     }
 }
 
-// Whether each character of a text adds its own width to that of any text before it.
-fn adds_up(text: &str) -> bool
+/// Whether each character of a text adds its own width to that of any text before it.
+pub(crate) fn adds_up(text: &str) -> bool
     ensures { result ≡ list_all adds_up (chars text.now) }
 {
     is_printable(text.as_bytes()) || text.chars().all(|c| is_additive(c))

@@ -1,0 +1,22 @@
+use Rattle.std.proofs.Common.{refl}
+use Rattle.unicode_segmentation.proofs.Computing.{unicode_segmentation}
+use Rattle.unicode_width.proofs.Computing.{unicode_width}
+use Rattle.pg_layout.specs.Text.{lines_of, width_of}
+use Rattle.pg_fit.specs.CuttingAway.{cut_away_line, cut_away_text}
+use Rattle.pg_fit.proofs.laws.ends_by_example.Goals as goal
+
+pub returns-clause-front : goal.returns-clause-front
+unfolding unicode_segmentation unicode_width lines_of width_of cut_away_line cut_away_text
+returns-clause-front c = refl
+
+pub returns-clause-middle : goal.returns-clause-middle
+unfolding unicode_segmentation unicode_width lines_of width_of cut_away_line cut_away_text
+returns-clause-middle c = refl
+
+pub returns-clause-tail : goal.returns-clause-tail
+unfolding unicode_segmentation unicode_width lines_of width_of cut_away_line cut_away_text
+returns-clause-tail c = refl
+
+pub returns-clause-lines : goal.returns-clause-lines
+unfolding unicode_segmentation unicode_width lines_of width_of cut_away_line cut_away_text
+returns-clause-lines c = refl
