@@ -14,6 +14,7 @@ pub mod LawsOfSpaces
 pub mod LawsOfCutTexts
 pub mod LawsOfCutsAway
 pub mod LawsOfControls
+pub mod LawsOfEscapes
 pub mod PrintableBytes
 pub mod RowsByWidth
 pub mod CutRows

@@ -6,6 +6,8 @@ ghost use Rattle.std.specs.Prelude.{◌≡◌, ◌∷◌, ◌++◌, codes};
 ghost use Rattle.pg_fit.specs.CuttingAway.{cut_away_text};
 ghost use Rattle.pg_fit.specs.declared.cutting_away.Kept.TheVariants.{End, BothEnds};
 ghost use Rattle.pg_fit.specs.CuttingAwayLaws.{FrontCutsFit, CutAwayLinesFit, CutAwayTextsStay, CutAwayLinesStand, CutAwayTextsFit};
+ghost use Rattle.pg_fit.specs.Escapes.{without_escapes};
+ghost use Rattle.pg_fit.specs.EscapesLaws.{NoEscapesAreLeft, TextsWithoutEscapesStay, LineFeedsStay};
 ghost use Rattle.pg_fit.specs.Narrowing.{FillsTheRoom, WithinRanges, IsEvenHanded, LimitsHold, StayNatural, EndAtLeast};
 
 /// Each line of a wrapped text is at most as wide as allowed, unless a character is wider. Broken
@@ -53,6 +55,14 @@ pub fn visible_texts_are_seen()
     ensures column { SignsTakeOneColumn }
 {}
 
+/// A text without its escape sequences has no escape, and as many lines as before; and a text without
+/// an escape stays.
+pub fn escapes_are_left_out()
+    ensures none { NoEscapesAreLeft }
+    ensures stay { TextsWithoutEscapesStay }
+    ensures lines { LineFeedsStay }
+{}
+
 /// Narrowed widths add up to the room, unless the natural widths take less, or the least widths
 /// more. Each lies between the least and the natural width of its column. No column is narrower by
 /// two than another that could be narrower, unless it has its natural width. A limit holds, unless
@@ -67,10 +77,14 @@ pub fn narrowed_widths_fill_the_room()
     ensures least { EndAtLeast }
 {}
 
-/// Worked examples: a path that is cut in front, and letters that are cut in the middle.
+/// Worked examples: a path that is cut in front, letters that are cut in the middle, and a word without
+/// its colour.
 pub fn ends_by_example()
     ensures front { cut_away_text End 6 (codes "..") (codes "lib/foo.rs") ≡ codes "..o.rs" }
     ensures middle { cut_away_text BothEnds 7 (codes "..") (codes "abcdefuvwxyz") ≡ codes "abc..yz" }
     ensures tail { cut_away_text BothEnds 2 (codes "...") (codes "abcd") ≡ codes ".." }
     ensures lines { cut_away_text End 2 (codes "-") (codes "abc" ++ 10 ∷ codes "de") ≡ codes "-c" ++ 10 ∷ codes "de" }
+    ensures color { without_escapes (27 ∷ codes "[31mred" ++ 27 ∷ codes "[0m") ≡ codes "red" }
+    ensures link { without_escapes (27 ∷ codes "]8;;x" ++ 7 ∷ codes "here" ++ 27 ∷ codes "]8;;" ++ 27 ∷ codes "\\") ≡ codes "here" }
+    ensures broken { without_escapes (27 ∷ codes "[3" ++ 10 ∷ codes "b") ≡ 10 ∷ codes "b" }
 {}

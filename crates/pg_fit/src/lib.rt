@@ -5,6 +5,7 @@
 mod controls;
 mod cutting;
 mod cutting_away;
+mod escapes;
 mod filling;
 mod laws;
 mod least;
@@ -18,9 +19,10 @@ mod wrapping;
 pub use crate::controls::{is_visible, sign_of, visible};
 pub use crate::cutting::cut;
 pub use crate::cutting_away::{cut_front, cut_middle};
+pub use crate::escapes::without_escapes;
 pub use crate::laws::{
-    cut_texts_fit, ends_by_example, front_and_middle_cuts_fit, narrowed_widths_fill_the_room,
-    visible_texts_are_seen, wrapped_lines_fit, wrapped_texts_fit,
+    cut_texts_fit, ends_by_example, escapes_are_left_out, front_and_middle_cuts_fit,
+    narrowed_widths_fill_the_room, visible_texts_are_seen, wrapped_lines_fit, wrapped_texts_fit,
 };
 pub use crate::least::least_width;
 pub use crate::narrowing::{ColumnRange, narrow};

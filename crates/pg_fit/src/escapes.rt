@@ -1,0 +1,80 @@
+//! Texts without the escape sequences of terminals.
+
+ghost use Rattle.std.specs.Prelude.{◌≡◌, IfOk, string_bytes};
+ghost use Rattle.pg_fit.specs.Escapes.{after, begins_command, is_shown, without_escapes};
+
+use std::alloc::{AllocError, Allocator};
+
+/// What a terminal makes of the next character of a text.
+#[derive(Debug, Clone, Copy, PartialEq, Eq)]
+pub(crate) enum Reading {
+    /// Shows it.
+    Shown,
+    /// Reads it as a part of an escape sequence.
+    Escaped,
+    /// Reads it as a part of a control sequence (CSI), such as a colour.
+    Control,
+    /// Reads it as a part of a command (OSC), such as a link or a title.
+    Command,
+}
+
+// Whether a character behind an escape begins a command or another string that ST ends.
+fn begins_command(c: char) -> bool
+    ensures { result ≡ begins_command c }
+{
+    matches!(c, ']' | 'P' | 'X' | '^' | '_')
+}
+
+impl Reading {
+    // What a terminal makes of the character behind this one.
+    fn after(self, c: char) -> Reading
+        ensures { result ≡ after self c }
+    {
+        match (self, c) {
+            (_, '\u{1b}') => Reading::Escaped,
+            (_, '\n') => Reading::Shown,
+            (Reading::Escaped, '[') => Reading::Control,
+            (Reading::Escaped, ' '..='/') => Reading::Escaped,
+            (Reading::Escaped, _) if begins_command(c) => Reading::Command,
+            (Reading::Control, ' '..='?') => Reading::Control,
+            (Reading::Command, '\u{7}' | '\u{9c}') => Reading::Shown,
+            (Reading::Command, _) => Reading::Command,
+            _ => Reading::Shown,
+        }
+    }
+
+    // Whether a character is no part of a sequence.
+    fn is_shown(self, c: char) -> bool
+        ensures { result ≡ is_shown self c }
+    {
+        match (self, c) {
+            (_, '\u{1b}') => false,
+            (_, '\n') | (Reading::Shown, _) => true,
+            (Reading::Escaped | Reading::Control, _) => !(' '..='~').contains(&c),
+            (Reading::Command, _) => false,
+        }
+    }
+}
+
+/// A text without the escape sequences that a terminal obeys, so that it is measured, cut and wrapped
+/// as what is seen: control sequences such as colours (CSI), commands such as links (OSC, which BEL or
+/// ST ends) and other strings, and short ones such as `ESC c` and `ESC ( B`. A line feed ends a
+/// sequence that isn't complete, and stays, as do other control characters ([`crate::visible`] shows
+/// them).
+///
+/// ```text
+/// without_escapes(alloc, "\x1b[31mred\x1b[0m")? // "red"
+/// ```
+pub fn without_escapes<A: Allocator>(alloc: A, text: &str) -> Result<String<A>, AllocError>
+    ensures { IfOk result (λ shown. string_bytes shown ≡ without_escapes text.now) }
+{
+    let mut out = String::new(alloc);
+    let mut reading = Reading::Shown;
+    for c in text.chars() {
+        if reading.is_shown(c) {
+            out.push(c)?;
+        }
+        reading = reading.after(c);
+    }
+    Ok(out)
+}
