@@ -12,7 +12,7 @@ use Rattle.pg_stream.specs.Conditions.{RowFits}
 use Rattle.pg_stream.specs.Inside.Held.{IsSoundAt}
 use Rattle.pg_stream.specs.Inside.Sized.{first_height, height_in, IsSizedAt}
 use Rattle.pg_picture.specs.Inside.Sheets.{bare_table}
-use Rattle.pg_stream.specs.LiveStreams.{AppendsEnd}
+use Rattle.pg_stream.specs.LiveStreams.{AppendsEnd, LentFits}
 use Rattle.pg_stream.specs.Printers.{now_of}
 use Rattle.pg_stream.specs.Printing.{Printing, row_text, finish_text, after_row}
 use Rattle.pg_stream.specs.SizedStreams.{CountsLines, IsNextHeight}
@@ -61,6 +61,17 @@ module _ {D C B S A : Type 0} (width height : D → ℕ → ℕ) (color : C → 
       told-fits texts fits =
           row_fits-by (now heights) (height_in progress.rows high above) heights (sym same) apart sized.alone texts
           (subst (λ (q : Printing). RowFits q texts false) (told-now progress) fits)
+
+      -- likewise for a row that is lent
+      pub lent-told : (texts : List Text) → LentFits (now heights) texts → LentFits (now_of told hint progress) texts
+      lent-told texts fits =
+          subst (λ (q : Printing). LentFits q texts) (sym (told-now progress))
+          (row_fits-by (now heights) heights (height_in progress.rows high above) same apart sized.alone texts fits.0, fits.1, sym same ∙ fits.2)
+
+      pub told-lent : (texts : List Text) → LentFits (now_of told hint progress) texts → LentFits (now heights) texts
+      told-lent texts fits =
+          let known : LentFits (now (height_in progress.rows high above)) texts = subst (λ (q : Printing). LentFits q texts) (told-now progress) fits in
+          (row_fits-by (now heights) (height_in progress.rows high above) heights (sym same) apart sized.alone texts known.0, known.1, same ∙ known.2)
 
       pub text-told : (texts : List Text) → row_text (now_of told hint progress) texts false ≡ row_text (now heights) texts false
       text-told texts =

@@ -3,7 +3,7 @@
 ghost use Rattle.std.specs.Prelude.{◌≡◌, ◌↔◌, ◌++◌, ℕ, true, false, map, Some, None, IfOk, IsOk, OnOk, Err, string_bytes};
 ghost use Rattle.pg_picture.specs.declared.fits.Misfit.{Misfit};
 ghost use Rattle.pg_stream.specs.Conditions.{RowFits};
-ghost use Rattle.pg_stream.specs.LiveStreams.{living, AppendsEnd};
+ghost use Rattle.pg_stream.specs.LiveStreams.{living, AppendsEnd, LentFits};
 ghost use Rattle.pg_stream.specs.Printing.{printer, row_text, after_row};
 ghost use Rattle.pg_stream.specs.SizedStreams.{sized_misfit, CountsLines, IsNextHeight};
 ghost use Rattle.pg_stream.specs.Streams.{AppendsIf};
@@ -18,6 +18,7 @@ use pg_picture::fits::Misfit;
 use std::alloc::{Allocator, Global};
 use std::convert::AsStr;
 use std::marker::{Brand, Model};
+use std::slice::Iter;
 
 /// Prints a table whose rows come one at a time, each with its height, and each when it is pushed.
 ///
@@ -161,6 +162,53 @@ impl<'a, S: AsStr + Drop, D: Dimension, C: Colors, B: Allocator, A: Allocator> S
         self.progress
             .push_cells::<Brand, RowSizes<'_, D>, C, B, V, W>(&frame, cells, kind, false, buf)?;
         self.above += height;
+        self.is_lost = false;
+        Ok(())
+    }
+
+    /// Prints a row of one line whose cells are lent for this call: they need no vector, and
+    /// needn't live as long as the stream.
+    ///
+    /// A row can be lent if no cell of the table spans others. For a row that can't, or doesn't
+    /// fit, the error is `StreamFault::Row` with its number; then nothing is appended. Otherwise it
+    /// is like [`SizedStream::push`] with a height of 1.
+    #[inline(always)]
+    pub fn push_lent<X: AsStr, W: Allocator>(
+        &mut self,
+        cells: &[X],
+        buf: &mut String<W>,
+    ) -> Result<(), StreamFault>
+        ensures appends { (heights : ℕ → ℕ) → IsNextHeight (living D.width (λ _. heights) C.color self.old).printed 1 → OnOk result (string_bytes buf.new ≡ string_bytes buf.old ++ row_text (living D.width (λ _. heights) C.color self.old).printed (map X.text cells.now) false) }
+        ensures after { (heights : ℕ → ℕ) → IsNextHeight (living D.width (λ _. heights) C.color self.old).printed 1 → OnOk result (living D.width (λ _. heights) C.color self.new ≡ record { printed = after_row (living D.width (λ _. heights) C.color self.old).printed (map X.text cells.now) false; is_lost = false }) }
+        ensures prints { (heights : ℕ → ℕ) → IsNextHeight (living D.width (λ _. heights) C.color self.old).printed 1 → (living D.width (λ _. heights) C.color self.old).is_lost ≡ false → AppendsIf (LentFits (living D.width (λ _. heights) C.color self.old).printed (map X.text cells.now)) (living D.width (λ _. heights) C.color self.old).printed.rows (row_text (living D.width (λ _. heights) C.color self.old).printed (map X.text cells.now) false) buf.old buf.new result }
+        ensures misfit { (row : ℕ) → result ≡ Err (StreamFault.Row row) → self.new ≡ self.old }
+        ensures memory { result ≡ Err StreamFault.Memory → (living D.width D.height C.color self.new).is_lost ≡ true }
+        ensures lost { (living D.width D.height C.color self.old).is_lost ≡ true → (result ≡ Err StreamFault.Memory) × (buf.new ≡ buf.old) }
+    {
+        if self.is_lost {
+            return Err(StreamFault::Memory);
+        }
+        let row = self.progress.rows;
+        let sizes = RowSizes {
+            widths: self.frame.sheet.dimension,
+            row,
+            height: 1,
+            above: self.above,
+        };
+        let frame = self.frame.with_sizes(&sizes);
+        let Some(kind) = self.progress.kind_if_lent(&frame, cells) else {
+            return Err(StreamFault::Row(row));
+        };
+        self.is_lost = true;
+        self.progress
+            .push_single::<Brand, RowSizes<'_, D>, C, B, &X, Iter<'_, X>, W>(
+                &frame,
+                cells.iter(),
+                kind,
+                false,
+                buf,
+            )?;
+        self.above += 1;
         self.is_lost = false;
         Ok(())
     }
