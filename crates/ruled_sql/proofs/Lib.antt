@@ -1,3 +1,7 @@
 mod Answering
+mod Listing
 mod Made
 mod Refused
+mod Reading
+mod Tabling
+mod Walking

@@ -1,61 +1,17 @@
 //! The rows of an answer, as texts.
 
-ghost use Rattle.std.specs.Prelude.{◌≡◌, ◌++◌, ◌∷◌, [], codes, map, string_bytes, Err, IfOk, OnOk};
-ghost use Rattle.hex.specs.Hex.{encode_lower};
+ghost use Rattle.std.specs.Prelude.{◌≡◌, map, Err, IfOk};
 ghost use Rattle.csv.specs.Records.{fields_of};
-ghost use Rattle.sqlite_value.specs.Value.{owned};
 ghost use Rattle.ruled_sql.specs.Answers.{AreAnswered, HoldsNone, shown_rows, shown_text};
 ghost use Rattle.ruled_sql.specs.declared.fault.SqlFault.TheVariants.{Database};
 
 use crate::database::{answer_of, open};
 use crate::fault::{QueryFault, SqlFault};
+use crate::value::{push_text, push_value};
 use csv::StringRecord;
 use sqlite::Row;
-use sqlite_sql::spelling::{of_float, of_integer};
-use sqlite_value::value::{Bytes, ValueRef};
-use std::alloc::{AllocError, Global};
-
-// Bytes as a literal of SQL.
-fn literal_of(alloc: Global, bytes: &[u8]) -> Result<String, AllocError>
-    ensures { IfOk result (λ text. string_bytes text ≡ codes "x'" ++ (encode_lower bytes.now ++ codes "'")) }
-{
-    let mut text = String::from_str(alloc, "x'")?;
-    let digits = hex::encode(alloc, bytes)?;
-    text.push_str(&digits)?;
-    text.push_str("'")?;
-    Ok(text)
-}
-
-// Appends a text, of this row.
-fn push_text(fields: &mut StringRecord, row: usize, bytes: &[u8]) -> Result<(), QueryFault>
-    ensures { OnOk result (fields_of fields.new ≡ fields_of fields.old ++ bytes.now ∷ []) }
-{
-    match str::from_utf8(bytes) {
-        Ok(text) => Ok(fields.push_field(text)?),
-        Err(_) => Err(QueryFault::Encoding(row)),
-    }
-}
-
-// Appends a value, of this row.
-fn push_value(
-    alloc: Global,
-    fields: &mut StringRecord,
-    row: usize,
-    value: ValueRef<'_>,
-) -> Result<(), QueryFault>
-    ensures { OnOk result (fields_of fields.new ≡ fields_of fields.old ++ shown_text (owned value.entry) ∷ []) }
-{
-    match value {
-        ValueRef::Null => Ok(fields.push_field("")?),
-        ValueRef::Int(number) => push_text(fields, row, of_integer(number).as_slice()),
-        ValueRef::Real(number) => push_text(fields, row, of_float(number).as_slice()),
-        ValueRef::Text(bytes) => push_text(fields, row, bytes),
-        ValueRef::Blob(bytes) => {
-            let text = literal_of(alloc, bytes)?;
-            Ok(fields.push_field(&text)?)
-        }
-    }
-}
+use sqlite_value::value::Bytes;
+use std::alloc::Global;
 
 // The names of the columns.
 fn header_of(alloc: Global, names: &[Bytes]) -> Result<StringRecord, QueryFault>
