@@ -53,6 +53,8 @@ enum Takes {
 #[derive(Clone, Copy)]
 struct Choice {
     name: &'static str,
+    /// Its letter, if it has one.
+    short: Option<char>,
     /// What the help calls its value.
     value: &'static str,
     takes: Takes,
@@ -66,6 +68,7 @@ struct Choice {
 /// An option without a value, which goes with all others.
 const FLAG: Choice = Choice {
     name: "",
+    short: None,
     value: "",
     takes: Takes::Nothing,
     is_list: false,
@@ -84,6 +87,7 @@ const CHOICES: [Choice; 17] = [
     },
     Choice {
         name: "format",
+        short: Some('f'),
         value: "FORMAT",
         takes: Takes::Format,
         help: "How rows are written: separated by commas or tabs, as one value of JSON, as lines of JSON, or in a database of SQLite; else the ending of the file's name tells it, or else its first bytes",
@@ -91,6 +95,7 @@ const CHOICES: [Choice; 17] = [
     },
     Choice {
         name: "query",
+        short: Some('q'),
         value: "SQL",
         takes: Takes::Text,
         help: "The rows of a database of SQLite that are shown: a statement that changes nothing",
@@ -98,6 +103,7 @@ const CHOICES: [Choice; 17] = [
     },
     Choice {
         name: "delimiter",
+        short: Some('d'),
         value: "C",
         takes: Takes::Text,
         help: "What stands between two fields: a character, or the word tab",
@@ -110,6 +116,7 @@ const CHOICES: [Choice; 17] = [
     },
     Choice {
         name: "columns",
+        short: Some('c'),
         value: "NAMES",
         takes: Takes::Text,
         is_list: true,
@@ -118,6 +125,7 @@ const CHOICES: [Choice; 17] = [
     },
     Choice {
         name: "head",
+        short: Some('n'),
         value: "N",
         takes: Takes::Number,
         help: "How many rows are shown at most, besides the header",
@@ -125,6 +133,7 @@ const CHOICES: [Choice; 17] = [
     },
     Choice {
         name: "look",
+        short: Some('l'),
         value: "LOOK",
         takes: Takes::Look,
         help: "What the table looks like",
@@ -132,6 +141,7 @@ const CHOICES: [Choice; 17] = [
     },
     Choice {
         name: "align",
+        short: Some('a'),
         value: "SIDES",
         takes: Takes::Side,
         is_list: true,
@@ -150,6 +160,7 @@ const CHOICES: [Choice; 17] = [
     },
     Choice {
         name: "width",
+        short: Some('w'),
         value: "N",
         takes: Takes::Number,
         conflicts: &["markdown"],
@@ -158,6 +169,7 @@ const CHOICES: [Choice; 17] = [
     },
     Choice {
         name: "max-column-width",
+        short: None,
         value: "N",
         takes: Takes::Number,
         is_list: true,
@@ -193,11 +205,15 @@ const CHOICES: [Choice; 17] = [
 
 // An option that takes a value.
 fn option<'a>(alloc: Global, choice: &Choice) -> Arg<'a> {
-    Arg::new(alloc, choice.name)
+    let option = Arg::new(alloc, choice.name)
         .long(choice.name)
         .value_name(choice.value)
         .help(choice.help)
-        .action(ArgAction::Set)
+        .action(ArgAction::Set);
+    match choice.short {
+        Some(letter) => option.short(letter),
+        None => option,
+    }
 }
 
 // An argument, but for what it can't be used with.
