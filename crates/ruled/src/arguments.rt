@@ -9,6 +9,8 @@ use std::alloc::{AllocError, Global};
 use std::env::VarError;
 use std::{env, io};
 
+static RAGGED: [&str; 2] = ["pad", "cut"];
+
 static SIDES: [&str; 5] = ["auto", "left", "right", "centre", "center"];
 
 /// What is to be shown.
@@ -47,6 +49,8 @@ enum Takes {
     Look,
     /// The name of a side.
     Side,
+    /// What happens to ragged rows.
+    Ragged,
 }
 
 /// An argument of the command.
@@ -77,7 +81,7 @@ const FLAG: Choice = Choice {
 };
 
 /// All arguments, in the order of the help.
-const CHOICES: [Choice; 17] = [
+const CHOICES: [Choice; 19] = [
     Choice {
         name: "file",
         value: "FILE",
@@ -115,6 +119,13 @@ const CHOICES: [Choice; 17] = [
         ..FLAG
     },
     Choice {
+        name: "ragged",
+        value: "HOW",
+        takes: Takes::Ragged,
+        help: "Rows may have more or fewer fields than row 0: missing fields are empty, and further ones get columns without a name (pad) or are left out (cut)",
+        ..FLAG
+    },
+    Choice {
         name: "columns",
         short: Some('c'),
         value: "NAMES",
@@ -129,6 +140,14 @@ const CHOICES: [Choice; 17] = [
         value: "N",
         takes: Takes::Number,
         help: "How many rows are shown at most, besides the header",
+        ..FLAG
+    },
+    Choice {
+        name: "tail",
+        value: "N",
+        takes: Takes::Number,
+        conflicts: &["no-header"],
+        help: "How many rows below the header are shown at most, the last ones",
         ..FLAG
     },
     Choice {
@@ -197,7 +216,7 @@ const CHOICES: [Choice; 17] = [
         name: "stream",
         value: "ROWS",
         takes: Takes::Rows,
-        conflicts: &["head", "vertical", "markdown"],
+        conflicts: &["head", "tail", "vertical", "markdown"],
         help: "Each row is shown when it comes, at the widths of the header and the first ROWS rows below it, or the first 1000",
         ..FLAG
     },
@@ -238,6 +257,7 @@ fn argument<'a>(alloc: Global, choice: &Choice, looks: &'a [&'a str]) -> Arg<'a>
             .value_parser(looks)
             .default_value("sharp"),
         Takes::Side => option(alloc, choice).value_parser(SIDES.as_slice()),
+        Takes::Ragged => option(alloc, choice).value_parser(RAGGED.as_slice()),
     }
 }
 
@@ -303,7 +323,7 @@ fn rows_with(delimiter: &str, asked: Option<Kind>) -> Result<Source, &'static st
         }
         Some(Kind::Database) => Err("a database has no delimiter"),
         Some(Kind::Rows(Format::Separated(_))) | None => {
-            Ok(Source::Rows(Format::Separated(delimiter)))
+            Ok(Source::Rows(Format::separated(delimiter, false)))
         }
     }
 }
@@ -324,8 +344,16 @@ fn source_without_query(found: &ArgMatches, asked: Option<Kind>) -> Result<Sourc
     Ok(match asked.or(kind_in_name(found)) {
         Some(Kind::Rows(format)) => Source::Rows(format),
         Some(Kind::Database) => database(None),
-        None => Source::Seen(Log::Unknown),
+        None => Source::Seen {
+            log: Log::Unknown,
+            is_ragged: false,
+        },
     })
+}
+
+// Whether row 0 is as long as the longest row.
+fn is_padded(found: &ArgMatches) -> bool {
+    found.get_str("ragged") == Some("pad")
 }
 
 // What the input is, but for the words of a query, or why it can't be.
@@ -338,10 +366,20 @@ fn source_asked(found: &ArgMatches) -> Result<Source, &'static str> {
         }
         source = database(None);
     }
-    if matches!(source, Source::Database { .. }) && found.get_one::<u32>("stream").is_some() {
-        return Err("a database can't be streamed");
-    }
+    source.set_ragged(found.get_str("ragged").is_some());
     Ok(source)
+}
+
+// Why the input can't be streamed, if it can't.
+fn unstreamed(found: &ArgMatches, source: &Source) -> Option<&'static str> {
+    found.get_one::<u32>("stream")?;
+    if matches!(source, Source::Database { .. }) {
+        return Some("a database can't be streamed");
+    }
+    if is_padded(found) {
+        return Some("--ragged pad needs all rows, so it can't be streamed; --ragged cut can");
+    }
+    None
 }
 
 // What the table looks like.
@@ -433,7 +471,9 @@ fn view_of(
         has_header: !found.get_flag("no-header"),
         columns: names_of(alloc, found.get_strs("columns"))?,
         sides: sides_of(alloc, found.get_strs("align"))?,
+        is_padded: is_padded(found),
         head: found.get_one::<u32>("head"),
+        tail: found.get_one::<u32>("tail"),
         is_vertical: found.get_flag("vertical"),
         bounds: bounds_of(alloc, found, columns)?,
         is_raw: found.get_flag("raw"),
@@ -530,7 +570,11 @@ fn tell_of(rt: &HostRuntime, words: &[String]) -> io::Result<u8> {
 
 // What the input is, and what its table looks like, or why they can't be.
 fn input_and_look(found: &ArgMatches) -> Result<(Source, Look), &'static str> {
-    Ok((source_asked(found)?, look_asked(found)?))
+    let source = source_asked(found)?;
+    if let Some(told) = unstreamed(found, &source) {
+        return Err(told);
+    }
+    Ok((source, look_asked(found)?))
 }
 
 /// Reads the arguments, and tells what clap has to say of them.

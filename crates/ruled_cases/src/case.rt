@@ -29,7 +29,9 @@ impl Case {
             has_header: true,
             columns: Vec::new(alloc),
             sides: Vec::new(alloc),
+            is_padded: false,
             head: None,
+            tail: None,
             is_vertical: false,
             bounds: Bounds {
                 width: None,
@@ -42,7 +44,7 @@ impl Case {
         Ok(Case {
             name: String::from_str(alloc, name)?,
             request: Request {
-                source: Source::Rows(Format::Separated(b',')),
+                source: Source::Rows(Format::separated(b',', false)),
                 rows: Rows::AtOnce,
                 view,
             },

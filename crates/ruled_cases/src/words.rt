@@ -8,7 +8,10 @@ use std::alloc::{AllocError, Global};
 // The source that a word names: that of a format, or the one that the input shows.
 fn source_of(word: &str) -> Option<Source> {
     if word == "seen" {
-        return Some(Source::Seen(Log::Empty));
+        return Some(Source::Seen {
+            log: Log::Empty,
+            is_ragged: false,
+        });
     }
     match Kind::by_name(word)? {
         Kind::Rows(format) => Some(Source::Rows(format)),
@@ -64,6 +67,7 @@ fn set_view(
             view.is_markdown = true;
         }
         "head" => view.head = value.parse().ok(),
+        "tail" => view.tail = value.parse().ok(),
         "width" => view.bounds.width = value.parse().ok(),
         "limit" => view.bounds.limits.push(value.parse().ok())?,
         "cut" => view.bounds.overflow = Overflow::Cut("…"),
@@ -90,11 +94,16 @@ fn set_input(
 ) -> Result<Option<()>, AllocError> {
     let source = match name {
         "format" => source_of(value),
-        "delimiter" => Some(Source::Rows(Format::Separated(delimiter_of(value)))),
+        "delimiter" => Some(Source::Rows(Format::separated(delimiter_of(value), false))),
         "query" => Some(Source::Database {
             query: Some(String::from_str(alloc, value)?),
             log: request.source.log(),
         }),
+        "ragged" => {
+            request.source.set_ragged(true);
+            request.view.is_padded = value == "pad";
+            return Ok(Some(()));
+        }
         "log" => {
             let Some(log) = log_of(value) else {
                 return Ok(None);

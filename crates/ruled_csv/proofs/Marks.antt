@@ -10,6 +10,7 @@ use Rattle.ruled_csv.specs.declared.fault.RowsFault.{RowsFault}
 use Rattle.ruled_csv.specs.declared.reader.Front.{Front}
 use Rattle.ruled_csv.specs.declared.reader.Front.TheVariants as front
 use Rattle.ruled_csv.proofs.Scans.{fault-stays, scan-append}
+use Rattle.ruled_csv.specs.declared.dialect.Dialect.{Dialect}
 
 -- the bytes of the mark
 abbrev mark : List ℕ
@@ -105,23 +106,23 @@ strip-late before (byte ∷ text) past =
     ∙ append_assoc (strip_bom before) (byte ∷ []) text
 
 -- in a text no row ends, and nothing is wrong
-abbrev pub IsBare : ℕ → List ℕ → Type 0
-IsBare delimiter text = ((scan_of delimiter text).rows ≡ []) × ((scan_of delimiter text).fault ≡ None)
+abbrev pub IsBare : Dialect → List ℕ → Type 0
+IsBare dialect text = ((scan_of dialect text).rows ≡ []) × ((scan_of dialect text).fault ≡ None)
 
 -- among the first two bytes of a mark none does
-begins-one : (delimiter : ℕ) → IsBare delimiter (0xEF ∷ [])
-begins-one delimiter = elim (cases_Bool (0xEF == delimiter)) [
+begins-one : (dialect : Dialect) → IsBare dialect (0xEF ∷ [])
+begins-one dialect = elim (cases_Bool (0xEF == dialect.delimiter)) [
   | inl is-true ↦ rw is-true (refl, refl)
   | inr is-false ↦ rw is-false (refl, refl)
 ]
 
-pub mark-begins : (delimiter : ℕ) → IsBare delimiter (0xEF ∷ 0xBB ∷ [])
-mark-begins delimiter = elim (cases_Bool (0xEF == delimiter)) [
-  | inl is-true ↦ elim (cases_Bool (0xBB == delimiter)) [
+pub mark-begins : (dialect : Dialect) → IsBare dialect (0xEF ∷ 0xBB ∷ [])
+mark-begins dialect = elim (cases_Bool (0xEF == dialect.delimiter)) [
+  | inl is-true ↦ elim (cases_Bool (0xBB == dialect.delimiter)) [
     | inl both ↦ rw (is-true, both) (refl, refl)
     | inr is-false ↦ rw (is-true, is-false) (refl, refl)
   ]
-  | inr is-false ↦ elim (cases_Bool (0xBB == delimiter)) [
+  | inr is-false ↦ elim (cases_Bool (0xBB == dialect.delimiter)) [
     | inl is-true ↦ rw (is-false, is-true) (refl, refl)
     | inr neither ↦ rw (is-false, neither) (refl, refl)
   ]
@@ -134,35 +135,35 @@ bom-begins a b c e =
     (eqb-true a 0xEF front.0, eqb-true b 0xBB front.1)
 
 -- bytes in front of others lose a mark as all do, unless it ends behind them
-pub mark-parts : (delimiter : ℕ) (bytes behind : List ℕ) → (strip_bom (bytes ++ behind) ≡ strip_bom bytes ++ behind) ⊎ IsBare delimiter (strip_bom bytes)
+pub mark-parts : (dialect : Dialect) (bytes behind : List ℕ) → (strip_bom (bytes ++ behind) ≡ strip_bom bytes ++ behind) ⊎ IsBare dialect (strip_bom bytes)
 unfolding strip_bom
-mark-parts delimiter [] behind = inr (refl, refl)
-mark-parts delimiter (a ∷ []) [] = inl refl
-mark-parts delimiter (a ∷ []) (b ∷ []) = inl refl
-mark-parts delimiter (a ∷ []) (b ∷ c ∷ rest) = elim (cases_Bool (is_bom a b c)) [
-  | inl is-true ↦ inr (rw (bom-begins a b c is-true).0 (begins-one delimiter))
+mark-parts dialect [] behind = inr (refl, refl)
+mark-parts dialect (a ∷ []) [] = inl refl
+mark-parts dialect (a ∷ []) (b ∷ []) = inl refl
+mark-parts dialect (a ∷ []) (b ∷ c ∷ rest) = elim (cases_Bool (is_bom a b c)) [
+  | inl is-true ↦ inr (rw (bom-begins a b c is-true).0 (begins-one dialect))
   | inr is-false ↦ inl (rw is-false refl)
 ]
-mark-parts delimiter (a ∷ b ∷ []) [] = inl refl
-mark-parts delimiter (a ∷ b ∷ []) (c ∷ rest) = elim (cases_Bool (is_bom a b c)) [
-  | inl is-true ↦ inr (rw ((bom-begins a b c is-true).0, (bom-begins a b c is-true).1) (mark-begins delimiter))
+mark-parts dialect (a ∷ b ∷ []) [] = inl refl
+mark-parts dialect (a ∷ b ∷ []) (c ∷ rest) = elim (cases_Bool (is_bom a b c)) [
+  | inl is-true ↦ inr (rw ((bom-begins a b c is-true).0, (bom-begins a b c is-true).1) (mark-begins dialect))
   | inr is-false ↦ inl (rw is-false refl)
 ]
-mark-parts delimiter (a ∷ b ∷ c ∷ rest) behind = elim (cases_Bool (is_bom a b c)) [
+mark-parts dialect (a ∷ b ∷ c ∷ rest) behind = elim (cases_Bool (is_bom a b c)) [
   | inl is-true ↦ inl (rw is-true refl)
   | inr is-false ↦ inl (rw is-false refl)
 ]
 
 -- a fault of bytes isn't in the first ones of a mark
-pub marked-fault : (delimiter : ℕ) (bytes behind : List ℕ) (fault : RowsFault) → (scan_of delimiter (strip_bom bytes)).fault ≡ Some fault → strip_bom (bytes ++ behind) ≡ strip_bom bytes ++ behind
-marked-fault delimiter bytes behind fault found = elim (mark-parts delimiter bytes behind) [
+pub marked-fault : (dialect : Dialect) (bytes behind : List ℕ) (fault : RowsFault) → (scan_of dialect (strip_bom bytes)).fault ≡ Some fault → strip_bom (bytes ++ behind) ≡ strip_bom bytes ++ behind
+marked-fault dialect bytes behind fault found = elim (mark-parts dialect bytes behind) [
   | inl parts ↦ parts
   | inr bare ↦ let none = sym bare.1 ∙ found in cc
 ]
 
 -- and so it is one of all that are in front of others
-pub fault-behind-mark : (delimiter : ℕ) (bytes behind : List ℕ) (fault : RowsFault) → (scan_of delimiter (strip_bom bytes)).fault ≡ Some fault → (scan_of delimiter (strip_bom (bytes ++ behind))).fault ≡ Some fault
-fault-behind-mark delimiter bytes behind fault found =
-    ap (λ (text : List ℕ). (scan_of delimiter text).fault) (marked-fault delimiter bytes behind fault found)
-    ∙ ap (λ (s : Scan). s.fault) (scan-append delimiter scan_start (strip_bom bytes) behind)
-    ∙ fault-stays delimiter (scan_of delimiter (strip_bom bytes)) behind fault found
+pub fault-behind-mark : (dialect : Dialect) (bytes behind : List ℕ) (fault : RowsFault) → (scan_of dialect (strip_bom bytes)).fault ≡ Some fault → (scan_of dialect (strip_bom (bytes ++ behind))).fault ≡ Some fault
+fault-behind-mark dialect bytes behind fault found =
+    ap (λ (text : List ℕ). (scan_of dialect text).fault) (marked-fault dialect bytes behind fault found)
+    ∙ ap (λ (s : Scan). s.fault) (scan-append dialect scan_start (strip_bom bytes) behind)
+    ∙ fault-stays dialect (scan_of dialect (strip_bom bytes)) behind fault found

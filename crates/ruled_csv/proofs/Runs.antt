@@ -1,6 +1,6 @@
 -- Runs: bytes of which none is a quote and none ends a line.
-use Rattle.std.proofs.Common.{◌≡◌, ◌≢◌, ◌<◌, ◌≤◌, ◌∙◌, ℕ, zero, suc, ◌+◌, ◌-◌, Bool, true, false, List, [], ◌∷◌, ◌++◌, length, take, drop, Option, None, Some, IsTrue, inl, inr, refl, sym, ap, get_or, append-nil, append_assoc, arith, eq-eqb}
-use Rattle.std.specs.Prelude.{◌==◌, ◌||◌, ◌&&◌, not, fold, is_ok, if◌then◌else◌, OnOk, Result, Ok, Err}
+use Rattle.std.proofs.Common.{◌≡◌, ◌≢◌, ◌<◌, ◌≤◌, ◌∙◌, ℕ, zero, suc, ◌+◌, ◌-◌, Bool, true, false, List, [], ◌∷◌, ◌++◌, length, take, drop, Option, None, Some, inl, inr, refl, sym, ap, get_or, append-nil, append_assoc, arith, eq-eqb}
+use Rattle.std.specs.Prelude.{◌==◌, ◌||◌, not, fold, is_ok, if◌then◌else◌, OnOk, Result, Ok, Err}
 use Rattle.std.specs.List.{list_all}
 use Rattle.std.specs.Option.{option_or, unwrap_or}
 use Rattle.std.specs.List.{slice_range}
@@ -12,9 +12,9 @@ use Rattle.csv.specs.declared.parser.State.TheVariants as st
 use Rattle.memchr.specs.Find.{IsFirstByte, is_byte3}
 use Rattle.ruled_csv.specs.Inside.{Hand, Joins, Scan, calm_lines, cut_fields, fields_behind, hand_cut, is_bare, is_calm, scan_after, scan_from, state_behind, state_of}
 use Rattle.ruled_csv.specs.Quotes.{is_closing, is_quoted}
-use Rattle.ruled_csv.specs.declared.lines.Lines.{Lines}
 use Rattle.ruled_csv.specs.declared.scanner.Standing.{Standing}
 use Rattle.ruled_csv.specs.declared.scanner.Standing.TheVariants as at
+use Rattle.ruled_csv.specs.declared.dialect.Dialect.{Dialect}
 
 -- ---- what a search finds
 
@@ -62,35 +62,35 @@ same-scan s hand = rw (append-nil s.rows, or-none s.fault) refl
 
 -- ---- a run in quotes
 
-quoted-byte : (delimiter : ℕ) (s : Scan) (byte : ℕ) → is_calm byte ≡ true → s.hand.state ≡ st.InQuoted
-    → scan_after delimiter s byte ≡ record s { hand = record s.hand { field = s.hand.field ++ byte ∷ []; lines = calm_lines s.hand.lines } }
-quoted-byte delimiter s byte calm quoted =
+quoted-byte : (dialect : Dialect) (s : Scan) (byte : ℕ) → is_calm byte ≡ true → s.hand.state ≡ st.InQuoted
+    → scan_after dialect s byte ≡ record s { hand = record s.hand { field = s.hand.field ++ byte ∷ []; lines = calm_lines s.hand.lines } }
+quoted-byte dialect s byte calm quoted =
     let no = calm-parts byte calm in
     rw (quoted, no.quote, no.return, no.feed)
     (same-scan s (record { state = st.InQuoted; fields = s.hand.fields; field = s.hand.field ++ byte ∷ []; lines = calm_lines s.hand.lines; opened = s.hand.opened }))
 
-quoted-run : (delimiter : ℕ) (s : Scan) (byte : ℕ) (rest : List ℕ) → list_all is_calm (byte ∷ rest) ≡ true → s.hand.state ≡ st.InQuoted
-    → scan_from delimiter s (byte ∷ rest) ≡ record s { hand = record s.hand { field = s.hand.field ++ byte ∷ rest; lines = calm_lines s.hand.lines } }
-quoted-run delimiter s byte [] calm quoted = quoted-byte delimiter s byte (and_parts (is_calm byte) (list_all is_calm []) calm).0 quoted
-quoted-run delimiter s byte (next ∷ rest) calm quoted =
+quoted-run : (dialect : Dialect) (s : Scan) (byte : ℕ) (rest : List ℕ) → list_all is_calm (byte ∷ rest) ≡ true → s.hand.state ≡ st.InQuoted
+    → scan_from dialect s (byte ∷ rest) ≡ record s { hand = record s.hand { field = s.hand.field ++ byte ∷ rest; lines = calm_lines s.hand.lines } }
+quoted-run dialect s byte [] calm quoted = quoted-byte dialect s byte (and_parts (is_calm byte) (list_all is_calm []) calm).0 quoted
+quoted-run dialect s byte (next ∷ rest) calm quoted =
     let parts = and_parts (is_calm byte) (list_all is_calm (next ∷ rest)) calm in
     let after : Scan = record s { hand = record s.hand { field = s.hand.field ++ byte ∷ []; lines = calm_lines s.hand.lines } } in
-    ap (λ (t : Scan). scan_from delimiter t (next ∷ rest)) (quoted-byte delimiter s byte parts.0 quoted)
-    ∙ quoted-run delimiter after next rest parts.1 quoted
+    ap (λ (t : Scan). scan_from dialect t (next ∷ rest)) (quoted-byte dialect s byte parts.0 quoted)
+    ∙ quoted-run dialect after next rest parts.1 quoted
     ∙ ap (λ (xs : List ℕ). record s { hand = record s.hand { field = xs; lines = calm_lines s.hand.lines } }) (append_assoc s.hand.field (byte ∷ []) (next ∷ rest))
 
-pub quoted-joins : (delimiter : ℕ) (run : List ℕ) (old : Hand) → list_all is_calm run ≡ true → 0 < length run → old.state ≡ st.InQuoted
-    → Joins delimiter run old (record old { field = old.field ++ run; lines = calm_lines old.lines })
-quoted-joins delimiter [] old calm some quoted = absurd (omega arith)
-quoted-joins delimiter (byte ∷ rest) old calm some quoted = λ s is.
-    quoted-run delimiter s byte rest calm (ap (λ (hand : Hand). hand.state) is ∙ quoted)
+pub quoted-joins : (dialect : Dialect) (run : List ℕ) (old : Hand) → list_all is_calm run ≡ true → 0 < length run → old.state ≡ st.InQuoted
+    → Joins dialect run old (record old { field = old.field ++ run; lines = calm_lines old.lines })
+quoted-joins dialect [] old calm some quoted = absurd (omega arith)
+quoted-joins dialect (byte ∷ rest) old calm some quoted = λ s is.
+    quoted-run dialect s byte rest calm (ap (λ (hand : Hand). hand.state) is ∙ quoted)
     ∙ ap (λ (hand : Hand). record s { hand = record hand { field = hand.field ++ byte ∷ rest; lines = calm_lines hand.lines } }) is
 
 -- ---- a run in no quotes
 
 -- the row at hand behind a byte of it
-abbrev cut-byte : ℕ → Hand → ℕ → Hand
-cut-byte delimiter hand byte = record (hand_cut delimiter hand (byte ∷ [])) { lines = calm_lines hand.lines }
+abbrev cut-byte : Dialect → Hand → ℕ → Hand
+cut-byte dialect hand byte = record (hand_cut dialect hand (byte ∷ [])) { lines = calm_lines hand.lines }
 
 abbrev ended-field : Hand → Hand
 ended-field hand = record { state = st.StartField; fields = hand.fields ++ hand.field ∷ []; field = []; lines = calm_lines hand.lines; opened = hand.opened }
@@ -98,55 +98,55 @@ ended-field hand = record { state = st.StartField; fields = hand.fields ++ hand.
 abbrev joined-field : Hand → ℕ → Hand
 joined-field hand byte = record { state = st.InField; fields = hand.fields; field = hand.field ++ byte ∷ []; lines = calm_lines hand.lines; opened = hand.opened }
 
-bare-byte : (delimiter : ℕ) (s : Scan) (byte : ℕ) (before : Standing) → is_calm byte ≡ true → s.hand.state ≡ state_of before → is_bare (state_of before) ≡ true
-    → scan_after delimiter s byte ≡ record s { hand = cut-byte delimiter s.hand byte }
-bare-byte delimiter s byte at.Row calm is bare =
+bare-byte : (dialect : Dialect) (s : Scan) (byte : ℕ) (before : Standing) → is_calm byte ≡ true → s.hand.state ≡ state_of before → is_bare (state_of before) ≡ true
+    → scan_after dialect s byte ≡ record s { hand = cut-byte dialect s.hand byte }
+bare-byte dialect s byte at.Row calm is bare =
     let no = calm-parts byte calm in
-    elim (cases_Bool (byte == delimiter)) [
+    elim (cases_Bool (byte == dialect.delimiter)) [
       | inl ends ↦ rw (is, no.quote, no.return, no.feed, ends) (same-scan s (ended-field s.hand))
       | inr joins ↦ rw (is, no.quote, no.return, no.feed, joins) (same-scan s (joined-field s.hand byte))
     ]
-bare-byte delimiter s byte at.Return calm is bare =
+bare-byte dialect s byte at.Return calm is bare =
     let no = calm-parts byte calm in
-    elim (cases_Bool (byte == delimiter)) [
+    elim (cases_Bool (byte == dialect.delimiter)) [
       | inl ends ↦ rw (is, no.quote, no.return, no.feed, ends) (same-scan s (ended-field s.hand))
       | inr joins ↦ rw (is, no.quote, no.return, no.feed, joins) (same-scan s (joined-field s.hand byte))
     ]
-bare-byte delimiter s byte at.Field calm is bare =
+bare-byte dialect s byte at.Field calm is bare =
     let no = calm-parts byte calm in
-    elim (cases_Bool (byte == delimiter)) [
+    elim (cases_Bool (byte == dialect.delimiter)) [
       | inl ends ↦ rw (is, no.quote, no.return, no.feed, ends) (same-scan s (ended-field s.hand))
       | inr joins ↦ rw (is, no.quote, no.return, no.feed, joins) (same-scan s (joined-field s.hand byte))
     ]
-bare-byte delimiter s byte at.Plain calm is bare =
+bare-byte dialect s byte at.Plain calm is bare =
     let no = calm-parts byte calm in
-    elim (cases_Bool (byte == delimiter)) [
+    elim (cases_Bool (byte == dialect.delimiter)) [
       | inl ends ↦ rw (is, no.return, no.feed, ends) (same-scan s (ended-field s.hand))
       | inr joins ↦ rw (is, no.return, no.feed, joins) (same-scan s (joined-field s.hand byte))
     ]
-bare-byte delimiter s byte at.Quoted calm is bare = absurd (false≢true bare)
-bare-byte delimiter s byte at.Closing calm is bare = absurd (false≢true bare)
+bare-byte dialect s byte at.Quoted calm is bare = absurd (false≢true bare)
+bare-byte dialect s byte at.Closing calm is bare = absurd (false≢true bare)
 
-bare-run : (delimiter : ℕ) (s : Scan) (byte : ℕ) (rest : List ℕ) (before : Standing) → list_all is_calm (byte ∷ rest) ≡ true → s.hand.state ≡ state_of before → is_bare (state_of before) ≡ true
-    → scan_from delimiter s (byte ∷ rest) ≡ record s { hand = record (hand_cut delimiter s.hand (byte ∷ rest)) { lines = calm_lines s.hand.lines } }
-bare-run delimiter s byte [] before calm is bare = bare-byte delimiter s byte before (and_parts (is_calm byte) (list_all is_calm []) calm).0 is bare
-bare-run delimiter s byte (next ∷ rest) before calm is bare =
+bare-run : (dialect : Dialect) (s : Scan) (byte : ℕ) (rest : List ℕ) (before : Standing) → list_all is_calm (byte ∷ rest) ≡ true → s.hand.state ≡ state_of before → is_bare (state_of before) ≡ true
+    → scan_from dialect s (byte ∷ rest) ≡ record s { hand = record (hand_cut dialect s.hand (byte ∷ rest)) { lines = calm_lines s.hand.lines } }
+bare-run dialect s byte [] before calm is bare = bare-byte dialect s byte before (and_parts (is_calm byte) (list_all is_calm []) calm).0 is bare
+bare-run dialect s byte (next ∷ rest) before calm is bare =
     let parts = and_parts (is_calm byte) (list_all is_calm (next ∷ rest)) calm in
-    let after : Scan = record s { hand = cut-byte delimiter s.hand byte } in
-    ap (λ (t : Scan). scan_from delimiter t (next ∷ rest)) (bare-byte delimiter s byte before parts.0 is bare)
-    ∙ elim (cases_Bool (byte == delimiter)) [
-      | inl ends ↦ bare-run delimiter after next rest at.Field parts.1 (ap field-or-plain ends) refl
-      | inr joins ↦ bare-run delimiter after next rest at.Plain parts.1 (ap field-or-plain joins) refl
+    let after : Scan = record s { hand = cut-byte dialect s.hand byte } in
+    ap (λ (t : Scan). scan_from dialect t (next ∷ rest)) (bare-byte dialect s byte before parts.0 is bare)
+    ∙ elim (cases_Bool (byte == dialect.delimiter)) [
+      | inl ends ↦ bare-run dialect after next rest at.Field parts.1 (ap field-or-plain ends) refl
+      | inr joins ↦ bare-run dialect after next rest at.Plain parts.1 (ap field-or-plain joins) refl
     ] where
       field-or-plain : Bool → State
       field-or-plain ends = if ends then st.StartField else st.InField
 
-pub bare-joins : (delimiter : ℕ) (run : List ℕ) (old : Hand) (before : Standing) → list_all is_calm run ≡ true → 0 < length run → old.state ≡ state_of before → is_bare (state_of before) ≡ true
-    → Joins delimiter run old (record (hand_cut delimiter old run) { lines = calm_lines old.lines })
-bare-joins delimiter [] old before calm some at bare = absurd (omega arith)
-bare-joins delimiter (byte ∷ rest) old before calm some at bare = λ s is.
-    bare-run delimiter s byte rest before calm (ap (λ (hand : Hand). hand.state) is ∙ at) bare
-    ∙ ap (λ (hand : Hand). record s { hand = record (hand_cut delimiter hand (byte ∷ rest)) { lines = calm_lines hand.lines } }) is
+pub bare-joins : (dialect : Dialect) (run : List ℕ) (old : Hand) (before : Standing) → list_all is_calm run ≡ true → 0 < length run → old.state ≡ state_of before → is_bare (state_of before) ≡ true
+    → Joins dialect run old (record (hand_cut dialect old run) { lines = calm_lines old.lines })
+bare-joins dialect [] old before calm some at bare = absurd (omega arith)
+bare-joins dialect (byte ∷ rest) old before calm some at bare = λ s is.
+    bare-run dialect s byte rest before calm (ap (λ (hand : Hand). hand.state) is ∙ at) bare
+    ∙ ap (λ (hand : Hand). record s { hand = record (hand_cut dialect hand (byte ∷ rest)) { lines = calm_lines hand.lines } }) is
 
 -- bytes that are appended where there is room
 pub on-grown : {T E : Type 0} (result : Result T E) (new more old : List ℕ) → new ≡ (if is_ok result then more else old) → OnOk result (new ≡ more)
@@ -181,39 +181,39 @@ part-more run start i low high =
 fold-more : {B : Type 0} (f : B → ℕ → B) (b : B) (run : List ℕ) (i : ℕ) → i < length run → fold f b (take (i + 1) run) ≡ f (fold f b (take i run)) (get_or run i 0)
 fold-more f b run i within = ap (fold f b) (take_more run i 0 within) ∙ fold-append f b (take i run) (get_or run i 0 ∷ [])
 
-module _ (delimiter : ℕ) (run : List ℕ) (i : ℕ) (within : i < length run) where
-  pub state-ends : (state : State) → get_or run i 0 ≡ delimiter → st.StartField ≡ fold (state_behind delimiter) state (take (i + 1) run)
-  state-ends state ends = sym (fold-more (state_behind delimiter) state run i within ∙ rw (eq-eqb (get_or run i 0) delimiter ends) refl)
+module _ (dialect : Dialect) (run : List ℕ) (i : ℕ) (within : i < length run) where
+  pub state-ends : (state : State) → get_or run i 0 ≡ dialect.delimiter → st.StartField ≡ fold (state_behind dialect) state (take (i + 1) run)
+  state-ends state ends = sym (fold-more (state_behind dialect) state run i within ∙ rw (eq-eqb (get_or run i 0) dialect.delimiter ends) refl)
 
-  pub state-joins : (state : State) → get_or run i 0 ≢ delimiter → st.InField ≡ fold (state_behind delimiter) state (take (i + 1) run)
-  state-joins state joins = sym (fold-more (state_behind delimiter) state run i within ∙ rw (ne_eqb (get_or run i 0) delimiter joins) refl)
+  pub state-joins : (state : State) → get_or run i 0 ≢ dialect.delimiter → st.InField ≡ fold (state_behind dialect) state (take (i + 1) run)
+  state-joins state joins = sym (fold-more (state_behind dialect) state run i within ∙ rw (ne_eqb (get_or run i 0) dialect.delimiter joins) refl)
 
   module _ (first : List (List ℕ) × List ℕ) (start : ℕ) (fields : List (List ℕ)) (field : List ℕ) (low : start ≤ i)
-      (cut : fold (fields_behind delimiter) first (take i run) ≡ (fields, field ++ slice_range run start i)) where
-    next : fold (fields_behind delimiter) first (take (i + 1) run) ≡ fields_behind delimiter (fields, field ++ slice_range run start i) (get_or run i 0)
-    next = fold-more (fields_behind delimiter) first run i within ∙ ap (λ (parts : List (List ℕ) × List ℕ). fields_behind delimiter parts (get_or run i 0)) cut
+      (cut : fold (fields_behind dialect) first (take i run) ≡ (fields, field ++ slice_range run start i)) where
+    next : fold (fields_behind dialect) first (take (i + 1) run) ≡ fields_behind dialect (fields, field ++ slice_range run start i) (get_or run i 0)
+    next = fold-more (fields_behind dialect) first run i within ∙ ap (λ (parts : List (List ℕ) × List ℕ). fields_behind dialect parts (get_or run i 0)) cut
 
-    pub field-ends : get_or run i 0 ≡ delimiter → fold (fields_behind delimiter) first (take (i + 1) run) ≡ (fields ++ (field ++ slice_range run start i) ∷ [], [] ++ slice_range run (i + 1) (i + 1))
+    pub field-ends : get_or run i 0 ≡ dialect.delimiter → fold (fields_behind dialect) first (take (i + 1) run) ≡ (fields ++ (field ++ slice_range run start i) ∷ [], [] ++ slice_range run (i + 1) (i + 1))
     field-ends ends =
         let none : i + 1 - (i + 1) ≡ 0 = omega arith in
-        next ∙ rw (eq-eqb (get_or run i 0) delimiter ends, none) refl
+        next ∙ rw (eq-eqb (get_or run i 0) dialect.delimiter ends, none) refl
 
-    pub field-joins : get_or run i 0 ≢ delimiter → fold (fields_behind delimiter) first (take (i + 1) run) ≡ (fields, field ++ slice_range run start (i + 1))
+    pub field-joins : get_or run i 0 ≢ dialect.delimiter → fold (fields_behind dialect) first (take (i + 1) run) ≡ (fields, field ++ slice_range run start (i + 1))
     field-joins joins =
-        next ∙ rw (ne_eqb (get_or run i 0) delimiter joins)
+        next ∙ rw (ne_eqb (get_or run i 0) dialect.delimiter joins)
         (ap (λ (xs : List ℕ). (fields, xs)) (append_assoc field (slice_range run start i) (get_or run i 0 ∷ []) ∙ ap (λ (xs : List ℕ). field ++ xs) (sym (part-more run start i low within))))
 
 -- behind the last byte the rest of the run joins the field at hand
-pub cut-done : (delimiter : ℕ) (old now : Hand) (run rest : List ℕ) (state : State) (i : ℕ) → length run ≤ i → now ≡ record old { fields = now.fields; field = now.field }
-    → fold (fields_behind delimiter) (old.fields, old.field) (take i run) ≡ (now.fields, now.field ++ rest) → state ≡ fold (state_behind delimiter) old.state (take i run)
-    → record now { state = state; field = now.field ++ rest } ≡ hand_cut delimiter old run
-cut-done delimiter old now run rest state i past same cut is =
+pub cut-done : (dialect : Dialect) (old now : Hand) (run rest : List ℕ) (state : State) (i : ℕ) → length run ≤ i → now ≡ record old { fields = now.fields; field = now.field }
+    → fold (fields_behind dialect) (old.fields, old.field) (take i run) ≡ (now.fields, now.field ++ rest) → state ≡ fold (state_behind dialect) old.state (take i run)
+    → record now { state = state; field = now.field ++ rest } ≡ hand_cut dialect old run
+cut-done dialect old now run rest state i past same cut is =
     let whole = take_all i run past in
-    let parts = ap (fold (fields_behind delimiter) (old.fields, old.field)) (sym whole) ∙ cut in
-    let states = is ∙ ap (fold (state_behind delimiter) old.state) whole in
+    let parts = ap (fold (fields_behind dialect) (old.fields, old.field)) (sym whole) ∙ cut in
+    let states = is ∙ ap (fold (state_behind dialect) old.state) whole in
     ap (λ (hand : Hand). record hand { state = state; fields = now.fields; field = now.field ++ rest }) same
     ∙ ap (λ (end : List (List ℕ) × List ℕ). record old { state = state; fields = end.0; field = end.1 }) (sym parts)
-    ∙ ap (λ (s : State). record old { state = s; fields = (cut_fields delimiter old run).0; field = (cut_fields delimiter old run).1 }) states
+    ∙ ap (λ (s : State). record old { state = s; fields = (cut_fields dialect old run).0; field = (cut_fields dialect old run).1 }) states
 
 -- the part behind a place is all that is left
 pub part-rest : (run : List ℕ) (start i : ℕ) → length run ≤ i → slice_range run start i ≡ drop start run

@@ -12,69 +12,70 @@ use Rattle.csv.specs.declared.parser.State.TheVariants as st
 use Rattle.ruled_csv.specs.Inside.{Scan, last_row, scan_after, scan_from, scan_of, scan_start, with_row}
 use Rattle.ruled_csv.specs.Quotes.{state_from}
 use Rattle.ruled_csv.specs.Rows.{config_of, ended_in}
+use Rattle.ruled_csv.specs.declared.dialect.Dialect.{Dialect}
 
 -- ---- the rows of csv
 
 -- the rows of a text from a state on, with the fields and the field at hand
-abbrev rest : ℕ → State → List (List ℕ) → List ℕ → List ℕ → List (List (List ℕ))
-rest delimiter s fields field [] = cons_option (if ends_at_end s then Some (fields ++ field ∷ []) else None) []
-rest delimiter s fields field (byte ∷ text) =
-    if is_end (step (config_of delimiter) s byte).1 then fields_after (step (config_of delimiter) s byte).1 fields field ∷ rest delimiter (step (config_of delimiter) s byte).0 [] [] text
-    else rest delimiter (step (config_of delimiter) s byte).0 (fields_after (step (config_of delimiter) s byte).1 fields field) (field_after (step (config_of delimiter) s byte).1 byte field) text
+abbrev rest : Dialect → State → List (List ℕ) → List ℕ → List ℕ → List (List (List ℕ))
+rest dialect s fields field [] = cons_option (if ends_at_end s then Some (fields ++ field ∷ []) else None) []
+rest dialect s fields field (byte ∷ text) =
+    if is_end (step (config_of dialect) s byte).1 then fields_after (step (config_of dialect) s byte).1 fields field ∷ rest dialect (step (config_of dialect) s byte).0 [] [] text
+    else rest dialect (step (config_of dialect) s byte).0 (fields_after (step (config_of dialect) s byte).1 fields field) (field_after (step (config_of dialect) s byte).1 byte field) text
 
-no-rows : (delimiter n : ℕ) → records_from (config_of delimiter) n st.StartRecord [] ≡ []
+no-rows : (dialect : Dialect) (n : ℕ) → records_from (config_of dialect) n st.StartRecord [] ≡ []
 unfolding records_from next_record
-no-rows delimiter zero = refl
-no-rows delimiter (suc n) = refl
+no-rows dialect zero = refl
+no-rows dialect (suc n) = refl
 
-rest-is : (delimiter n : ℕ) (s : State) (fields : List (List ℕ)) (field text : List ℕ) → length text ≤ n
-    → records_next (records_from (config_of delimiter) n) (next_record (config_of delimiter) s fields field text) ≡ rest delimiter s fields field text
+rest-is : (dialect : Dialect) (n : ℕ) (s : State) (fields : List (List ℕ)) (field text : List ℕ) → length text ≤ n
+    → records_next (records_from (config_of dialect) n) (next_record (config_of dialect) s fields field text) ≡ rest dialect s fields field text
 unfolding records_from next_record
-rest-is delimiter n s fields field [] enough = elim (cases_Bool (ends_at_end s)) [
-  | inl ends ↦ rw ends (ap (λ (rows : List (List (List ℕ))). (fields ++ field ∷ []) ∷ rows) (no-rows delimiter n))
+rest-is dialect n s fields field [] enough = elim (cases_Bool (ends_at_end s)) [
+  | inl ends ↦ rw ends (ap (λ (rows : List (List (List ℕ))). (fields ++ field ∷ []) ∷ rows) (no-rows dialect n))
   | inr none ↦ rw none refl
 ]
-rest-is delimiter zero s fields field (byte ∷ text) enough = absurd (omega arith)
-rest-is delimiter (suc n) s fields field (byte ∷ text) enough =
-    let done = step (config_of delimiter) s byte in
-    elim (cases_Bool (is_end (step (config_of delimiter) s byte).1)) [
-      | inl ends ↦ rw ends (ap (λ (rows : List (List (List ℕ))). fields_after done.1 fields field ∷ rows) (rest-is delimiter n done.0 [] [] text (omega arith)))
-      | inr on ↦ rw on (rest-is delimiter (suc n) done.0 (fields_after done.1 fields field) (field_after done.1 byte field) text (omega arith))
+rest-is dialect zero s fields field (byte ∷ text) enough = absurd (omega arith)
+rest-is dialect (suc n) s fields field (byte ∷ text) enough =
+    let done = step (config_of dialect) s byte in
+    elim (cases_Bool (is_end (step (config_of dialect) s byte).1)) [
+      | inl ends ↦ rw ends (ap (λ (rows : List (List (List ℕ))). fields_after done.1 fields field ∷ rows) (rest-is dialect n done.0 [] [] text (omega arith)))
+      | inr on ↦ rw on (rest-is dialect (suc n) done.0 (fields_after done.1 fields field) (field_after done.1 byte field) text (omega arith))
     ]
 
-records-are-rest : (delimiter : ℕ) (text : List ℕ) → records (config_of delimiter) text ≡ rest delimiter st.StartRecord [] [] text
+records-are-rest : (dialect : Dialect) (text : List ℕ) → records (config_of dialect) text ≡ rest dialect st.StartRecord [] [] text
 unfolding records_from
-records-are-rest delimiter text =
-    ap (λ (n : ℕ). records_from (config_of delimiter) n st.StartRecord text) (add-one (length text)) ∙ rest-is delimiter (length text) st.StartRecord [] [] text (omega arith)
+records-are-rest dialect text =
+    ap (λ (n : ℕ). records_from (config_of dialect) n st.StartRecord text) (add-one (length text)) ∙ rest-is dialect (length text) st.StartRecord [] [] text (omega arith)
 
 -- ---- those of a scan
 
 -- a byte ends a row, or none
-byte-rows : (delimiter : ℕ) (text : List ℕ) (s : State) (ends : Bool) (rows : List (List (List ℕ))) (fields : List (List ℕ)) (field : List ℕ)
-    → rows ++ (if ends then fields ∷ rest delimiter s [] [] text else rest delimiter s fields field text)
-    ≡ with_row rows (if ends then Some fields else None) ++ rest delimiter s (if ends then [] else fields) (if ends then [] else field) text
-byte-rows delimiter text s true rows fields field = sym (append_assoc rows (fields ∷ []) (rest delimiter s [] [] text))
-byte-rows delimiter text s false rows fields field = ap (λ (xs : List (List (List ℕ))). xs ++ rest delimiter s fields field text) (sym (append-nil rows))
+byte-rows : (dialect : Dialect) (text : List ℕ) (s : State) (ends : Bool) (rows : List (List (List ℕ))) (fields : List (List ℕ)) (field : List ℕ)
+    → rows ++ (if ends then fields ∷ rest dialect s [] [] text else rest dialect s fields field text)
+    ≡ with_row rows (if ends then Some fields else None) ++ rest dialect s (if ends then [] else fields) (if ends then [] else field) text
+byte-rows dialect text s true rows fields field = sym (append_assoc rows (fields ∷ []) (rest dialect s [] [] text))
+byte-rows dialect text s false rows fields field = ap (λ (xs : List (List (List ℕ))). xs ++ rest dialect s fields field text) (sym (append-nil rows))
 
-rest-scanned : (delimiter : ℕ) (scan : Scan) (text : List ℕ) → scan.rows ++ rest delimiter scan.hand.state scan.hand.fields scan.hand.field text
-    ≡ with_row (scan_from delimiter scan text).rows (last_row (scan_from delimiter scan text).hand)
-rest-scanned delimiter scan [] = refl
-rest-scanned delimiter scan (byte ∷ text) =
-    let done = step (config_of delimiter) scan.hand.state byte in
-    byte-rows delimiter text done.0 (is_end done.1) scan.rows (fields_after done.1 scan.hand.fields scan.hand.field) (field_after done.1 byte scan.hand.field)
-    ∙ rest-scanned delimiter (scan_after delimiter scan byte) text
+rest-scanned : (dialect : Dialect) (scan : Scan) (text : List ℕ) → scan.rows ++ rest dialect scan.hand.state scan.hand.fields scan.hand.field text
+    ≡ with_row (scan_from dialect scan text).rows (last_row (scan_from dialect scan text).hand)
+rest-scanned dialect scan [] = refl
+rest-scanned dialect scan (byte ∷ text) =
+    let done = step (config_of dialect) scan.hand.state byte in
+    byte-rows dialect text done.0 (is_end done.1) scan.rows (fields_after done.1 scan.hand.fields scan.hand.field) (field_after done.1 byte scan.hand.field)
+    ∙ rest-scanned dialect (scan_after dialect scan byte) text
 
 -- all rows of a text: those that ended, and the one at hand
-pub records-scanned : (delimiter : ℕ) (text : List ℕ) → records (config_of delimiter) text ≡ with_row (scan_of delimiter text).rows (last_row (scan_of delimiter text).hand)
-records-scanned delimiter text = records-are-rest delimiter text ∙ rest-scanned delimiter scan_start text
+pub records-scanned : (dialect : Dialect) (text : List ℕ) → records (config_of dialect) text ≡ with_row (scan_of dialect text).rows (last_row (scan_of dialect text).hand)
+records-scanned dialect text = records-are-rest dialect text ∙ rest-scanned dialect scan_start text
 
 -- a letter ends no row, and belongs to one
-letter-joins : (delimiter : ℕ) (s : State) → (is_end (step (config_of delimiter) s 120).1 ≡ false) × (ends_at_end (step (config_of delimiter) s 120).0 ≡ true)
-letter-joins delimiter s = elim (cases_Bool (120 == delimiter)) [
+letter-joins : (dialect : Dialect) (s : State) → (is_end (step (config_of dialect) s 120).1 ≡ false) × (ends_at_end (step (config_of dialect) s 120).0 ≡ true)
+letter-joins dialect s = elim (cases_Bool (120 == dialect.delimiter)) [
   | inl is ↦ go s is
   | inr other ↦ go2 s other
 ] where
-  go : (s : State) → (120 == delimiter) ≡ true → (is_end (step (config_of delimiter) s 120).1 ≡ false) × (ends_at_end (step (config_of delimiter) s 120).0 ≡ true)
+  go : (s : State) → (120 == dialect.delimiter) ≡ true → (is_end (step (config_of dialect) s 120).1 ≡ false) × (ends_at_end (step (config_of dialect) s 120).0 ≡ true)
   go st.StartRecord is = rw is (refl, refl)
   go st.StartField is = rw is (refl, refl)
   go st.InField is = rw is (refl, refl)
@@ -84,7 +85,7 @@ letter-joins delimiter s = elim (cases_Bool (120 == delimiter)) [
   go st.InComment is = (refl, refl)
   go st.AfterCr is = rw is (refl, refl)
 
-  go2 : (s : State) → (120 == delimiter) ≡ false → (is_end (step (config_of delimiter) s 120).1 ≡ false) × (ends_at_end (step (config_of delimiter) s 120).0 ≡ true)
+  go2 : (s : State) → (120 == dialect.delimiter) ≡ false → (is_end (step (config_of dialect) s 120).1 ≡ false) × (ends_at_end (step (config_of dialect) s 120).0 ≡ true)
   go2 st.StartRecord is = rw is (refl, refl)
   go2 st.StartField is = rw is (refl, refl)
   go2 st.InField is = rw is (refl, refl)
@@ -100,25 +101,25 @@ all-but-last xs x =
     rw long (take-append_seam xs (x ∷ []))
 
 -- the rows that end in a text are those that a scan has found
-pub ended-scanned : (delimiter : ℕ) (text : List ℕ) → ended_in delimiter text ≡ (scan_of delimiter text).rows
-ended-scanned delimiter text =
-    let s = scan_of delimiter text in
-    let letter = letter-joins delimiter s.hand.state in
-    let behind = fold-append (scan_after delimiter) scan_start text (120 ∷ []) in
-    let all = records-scanned delimiter (text ++ 120 ∷ []) ∙ ap (λ (t : Scan). with_row t.rows (last_row t.hand)) behind in
+pub ended-scanned : (dialect : Dialect) (text : List ℕ) → ended_in dialect text ≡ (scan_of dialect text).rows
+ended-scanned dialect text =
+    let s = scan_of dialect text in
+    let letter = letter-joins dialect s.hand.state in
+    let behind = fold-append (scan_after dialect) scan_start text (120 ∷ []) in
+    let all = records-scanned dialect (text ++ 120 ∷ []) ∙ ap (λ (t : Scan). with_row t.rows (last_row t.hand)) behind in
     let rows = rw (letter.0, letter.1, append-nil s.rows) at all in
     ap (λ (rs : List (List (List ℕ))). take (length rs - 1) rs) rows ∙ all-but-last s.rows _
 
 -- ---- what else it has
 
-pub state-scanned : (delimiter : ℕ) (scan : Scan) (text : List ℕ) → (scan_from delimiter scan text).hand.state ≡ state_from delimiter scan.hand.state text
-state-scanned delimiter scan [] = refl
-state-scanned delimiter scan (byte ∷ text) = state-scanned delimiter (scan_after delimiter scan byte) text
+pub state-scanned : (dialect : Dialect) (scan : Scan) (text : List ℕ) → (scan_from dialect scan text).hand.state ≡ state_from dialect scan.hand.state text
+state-scanned dialect scan [] = refl
+state-scanned dialect scan (byte ∷ text) = state-scanned dialect (scan_after dialect scan byte) text
 
 -- a scan over two texts
-pub scan-append : (delimiter : ℕ) (scan : Scan) (text more : List ℕ) → scan_from delimiter scan (text ++ more) ≡ scan_from delimiter (scan_from delimiter scan text) more
-scan-append delimiter scan text more = fold-append (scan_after delimiter) scan text more
+pub scan-append : (dialect : Dialect) (scan : Scan) (text more : List ℕ) → scan_from dialect scan (text ++ more) ≡ scan_from dialect (scan_from dialect scan text) more
+scan-append dialect scan text more = fold-append (scan_after dialect) scan text more
 
-pub fault-stays : (delimiter : ℕ) (scan : Scan) (text : List ℕ) (fault : _) → scan.fault ≡ Some fault → (scan_from delimiter scan text).fault ≡ Some fault
-fault-stays delimiter scan [] fault found = found
-fault-stays delimiter scan (byte ∷ text) fault found = fault-stays delimiter (scan_after delimiter scan byte) text fault (rw found refl)
+pub fault-stays : (dialect : Dialect) (scan : Scan) (text : List ℕ) (fault : _) → scan.fault ≡ Some fault → (scan_from dialect scan text).fault ≡ Some fault
+fault-stays dialect scan [] fault found = found
+fault-stays dialect scan (byte ∷ text) fault found = fault-stays dialect (scan_after dialect scan byte) text fault (rw found refl)

@@ -20,6 +20,7 @@ use Rattle.ruled_csv.specs.declared.fault.RowsFault.{RowsFault}
 use Rattle.ruled_csv.specs.declared.fault.RowsFault.TheVariants.{OpenQuote, BehindQuote}
 use Rattle.ruled_csv.specs.declared.lines.Lines.{Lines}
 use Rattle.ruled_csv.proofs.Scans.{ended-scanned, records-scanned, scan-append, state-scanned}
+use Rattle.ruled_csv.specs.declared.dialect.Dialect.{Dialect}
 
 -- ---- byte by byte
 
@@ -30,11 +31,11 @@ by-bytes P none more text = go [] text none where
   go front [] holds = subst P (sym (append-nil front)) holds
   go front (byte ∷ text) holds = subst P (append_assoc front (byte ∷ []) text) (go (front ++ byte ∷ []) text (more front byte holds))
 
-scan-more : (delimiter : ℕ) (text : List ℕ) (byte : ℕ) → scan_of delimiter (text ++ byte ∷ []) ≡ scan_after delimiter (scan_of delimiter text) byte
-scan-more delimiter text byte = scan-append delimiter scan_start text (byte ∷ [])
+scan-more : (dialect : Dialect) (text : List ℕ) (byte : ℕ) → scan_of dialect (text ++ byte ∷ []) ≡ scan_after dialect (scan_of dialect text) byte
+scan-more dialect text byte = scan-append dialect scan_start text (byte ∷ [])
 
-state-is : (delimiter : ℕ) (text : List ℕ) → (scan_of delimiter text).hand.state ≡ state_behind delimiter text
-state-is delimiter text = state-scanned delimiter scan_start text
+state-is : (dialect : Dialect) (text : List ℕ) → (scan_of dialect text).hand.state ≡ state_behind dialect text
+state-is dialect text = state-scanned dialect scan_start text
 
 -- the front of a text with a byte more
 front-of : (text : List ℕ) (byte n : ℕ) → n ≤ length text → take n (text ++ byte ∷ []) ≡ take n text
@@ -46,9 +47,9 @@ take-all (byte ∷ text) = ap (λ (xs : List ℕ). byte ∷ xs) (take-all text)
 
 -- ---- lines
 
-lines-scanned : (delimiter : ℕ) (s : Scan) (text : List ℕ) → (scan_from delimiter s text).hand.lines ≡ fold lines_after s.hand.lines text
-lines-scanned delimiter s [] = refl
-lines-scanned delimiter s (byte ∷ text) = lines-scanned delimiter (scan_after delimiter s byte) text
+lines-scanned : (dialect : Dialect) (s : Scan) (text : List ℕ) → (scan_from dialect s text).hand.lines ≡ fold lines_after s.hand.lines text
+lines-scanned dialect s [] = refl
+lines-scanned dialect s (byte ∷ text) = lines-scanned dialect (scan_after dialect s byte) text
 
 abbrev count-at : (count before : ℕ) → Lines
 count-at count before = record { line = min (1 + count) (2 ^ 64 - 1); is_behind_return = before == 13 }
@@ -75,11 +76,11 @@ lines-counted count before (byte ∷ text) =
     ∙ ap (λ (n : ℕ). min (1 + (count + n)) (2 ^ 64 - 1)) (sym (sum_by-append (λ pair. if ends_line pair then 1 else 0) ((before, byte) ∷ []) tail))
 
 -- the line at which a scan has come
-line-is : (delimiter : ℕ) (text : List ℕ) → (scan_of delimiter text).hand.lines.line ≡ line_behind text
-line-is delimiter text =
+line-is : (dialect : Dialect) (text : List ℕ) → (scan_of dialect text).hand.lines.line ≡ line_behind text
+line-is dialect text =
     let all = count_by ends_line (zip (0 ∷ text) text) in
     let sum : 0 + all ≡ all = omega arith in
-    ap (λ (lines : Lines). lines.line) (lines-scanned delimiter scan_start text) ∙ lines-counted 0 0 text ∙ ap (λ (n : ℕ). min (1 + n) (2 ^ 64 - 1)) sum
+    ap (λ (lines : Lines). lines.line) (lines-scanned dialect scan_start text) ∙ lines-counted 0 0 text ∙ ap (λ (n : ℕ). min (1 + n) (2 ^ 64 - 1)) sum
 
 -- ---- text behind a quote
 
@@ -106,39 +107,39 @@ abbrev pub place-of : List ℕ → Bool → Option ℕ
 place-of text here = if here then Some (length text) else None
 
 -- whether the byte behind a text is text behind a quote
-abbrev next-behind : ℕ → List ℕ → ℕ → Option ℕ
-next-behind delimiter text byte = place-of text (is_behind (state_behind delimiter text) (state_behind delimiter (text ++ byte ∷ [])))
+abbrev next-behind : Dialect → List ℕ → ℕ → Option ℕ
+next-behind dialect text byte = place-of text (is_behind (state_behind dialect text) (state_behind dialect (text ++ byte ∷ [])))
 
-pub first-more : (delimiter : ℕ) (text : List ℕ) (byte : ℕ) → first_behind_quote delimiter (text ++ byte ∷ []) ≡ option_or (first_behind_quote delimiter text) (next-behind delimiter text byte)
-first-more delimiter text byte =
+pub first-more : (dialect : Dialect) (text : List ℕ) (byte : ℕ) → first_behind_quote dialect (text ++ byte ∷ []) ≡ option_or (first_behind_quote dialect text) (next-behind dialect text byte)
+first-more dialect text byte =
     let all = text ++ byte ∷ [] in
     let n = length text in
     let long : length all ≡ suc n = omega (arith, length-append text (byte ∷ [])) in
     let nought : 0 + n ≡ n = omega arith in
-    let before = find-same (is_behind_quote delimiter all) (is_behind_quote delimiter text) 0 n (λ k within. rw (front-of text byte k (omega arith), front-of text byte (k + 1) (omega arith)) refl) in
-    let here = ap (λ (xs : List ℕ). is_closing (state_behind delimiter xs)) (take-append_seam text (byte ∷ [])) in
+    let before = find-same (is_behind_quote dialect all) (is_behind_quote dialect text) 0 n (λ k within. rw (front-of text byte k (omega arith), front-of text byte (k + 1) (omega arith)) refl) in
+    let here = ap (λ (xs : List ℕ). is_closing (state_behind dialect xs)) (take-append_seam text (byte ∷ [])) in
     let whole : take (n + 1) all ≡ all = ap (λ (k : ℕ). take k all) (add-one n ∙ sym long) ∙ take-all all in
-    ap (λ (k : ℕ). find (is_behind_quote delimiter all) (range_with_len 0 k)) long
-    ∙ ap (find (is_behind_quote delimiter all)) (range-more 0 n ∙ ap (λ (k : ℕ). range_with_len 0 n ++ k ∷ []) nought)
-    ∙ find-append (is_behind_quote delimiter all) (range_with_len 0 n) (n ∷ [])
+    ap (λ (k : ℕ). find (is_behind_quote dialect all) (range_with_len 0 k)) long
+    ∙ ap (find (is_behind_quote dialect all)) (range-more 0 n ∙ ap (λ (k : ℕ). range_with_len 0 n ++ k ∷ []) nought)
+    ∙ find-append (is_behind_quote dialect all) (range_with_len 0 n) (n ∷ [])
     ∙ rw (before, here, whole) refl
 
 -- which a scan knows by the states in front of the byte and behind it
-pub first-next : (delimiter : ℕ) (text : List ℕ) (byte : ℕ) → first_behind_quote delimiter text ≡ None
-    → first_behind_quote delimiter (text ++ byte ∷ []) ≡ place-of text (is_behind (scan_of delimiter text).hand.state (scan_after delimiter (scan_of delimiter text) byte).hand.state)
-first-next delimiter text byte none =
+pub first-next : (dialect : Dialect) (text : List ℕ) (byte : ℕ) → first_behind_quote dialect text ≡ None
+    → first_behind_quote dialect (text ++ byte ∷ []) ≡ place-of text (is_behind (scan_of dialect text).hand.state (scan_after dialect (scan_of dialect text) byte).hand.state)
+first-next dialect text byte none =
     let all = text ++ byte ∷ [] in
-    let s = scan_of delimiter text in
-    first-more delimiter text byte
-    ∙ ap (λ (o : Option ℕ). option_or o (next-behind delimiter text byte)) none
-    ∙ ap (λ (state : State). place-of text (is_behind state (state_behind delimiter all))) (sym (state-is delimiter text))
-    ∙ ap (λ (state : State). place-of text (is_behind s.hand.state state)) (sym (state-is delimiter all) ∙ ap (λ (t : Scan). t.hand.state) (scan-more delimiter text byte))
+    let s = scan_of dialect text in
+    first-more dialect text byte
+    ∙ ap (λ (o : Option ℕ). option_or o (next-behind dialect text byte)) none
+    ∙ ap (λ (state : State). place-of text (is_behind state (state_behind dialect all))) (sym (state-is dialect text))
+    ∙ ap (λ (state : State). place-of text (is_behind s.hand.state state)) (sym (state-is dialect all) ∙ ap (λ (t : Scan). t.hand.state) (scan-more dialect text byte))
 
 -- ---- rows
 
 -- what is wrong with the first bad one of these rows
-abbrev pub fault-of : List (List (List ℕ)) → Option RowsFault
-fault-of rows = first_fault (columns_of rows) 0 rows
+abbrev pub fault-of : Dialect → List (List (List ℕ)) → Option RowsFault
+fault-of dialect rows = first_fault dialect (columns_of rows) 0 rows
 
 or-assoc : {X : Type 0} (a b c : Option X) → option_or (option_or a b) c ≡ option_or a (option_or b c)
 or-assoc None b c = refl
@@ -148,179 +149,179 @@ or-none : {X : Type 0} (a : Option X) → option_or a None ≡ a
 or-none None = refl
 or-none (Some x) = refl
 
-rows-more : (columns k m : ℕ) (rows : List (List (List ℕ))) (row : List (List ℕ)) → m ≡ k + length rows → first_fault columns k (rows ++ row ∷ []) ≡ option_or (first_fault columns k rows) (row_fault columns m row)
-rows-more columns k m [] row at = or-none (row_fault columns k row) ∙ ap (λ (n : ℕ). row_fault columns n row) (omega (arith, at))
-rows-more columns k m (fields ∷ rows) row at =
-    ap (option_or (row_fault columns k fields)) (rows-more columns (k + 1) m rows row (omega (arith, at)))
-    ∙ sym (or-assoc (row_fault columns k fields) (first_fault columns (k + 1) rows) (row_fault columns m row))
+rows-more : (dialect : Dialect) (columns k m : ℕ) (rows : List (List (List ℕ))) (row : List (List ℕ)) → m ≡ k + length rows → first_fault dialect columns k (rows ++ row ∷ []) ≡ option_or (first_fault dialect columns k rows) (row_fault dialect columns m row)
+rows-more dialect columns k m [] row at = or-none (row_fault dialect columns k row) ∙ ap (λ (n : ℕ). row_fault dialect columns n row) (omega (arith, at))
+rows-more dialect columns k m (fields ∷ rows) row at =
+    ap (option_or (row_fault dialect columns k fields)) (rows-more dialect columns (k + 1) m rows row (omega (arith, at)))
+    ∙ sym (or-assoc (row_fault dialect columns k fields) (first_fault dialect columns (k + 1) rows) (row_fault dialect columns m row))
 
-fault-with : (rows : List (List (List ℕ))) (found : Option (List (List ℕ))) → fault-of (with_row rows found) ≡ option_or (fault-of rows) (fault_below rows found)
-fault-with rows None = ap fault-of (append-nil rows) ∙ sym (or-none (fault-of rows))
-fault-with [] (Some row) = or-none (row_fault (length row) 0 row)
-fault-with (first ∷ rows) (Some row) = rows-more (length first) 0 (length (first ∷ rows)) (first ∷ rows) row (omega arith)
+fault-with : (dialect : Dialect) (rows : List (List (List ℕ))) (found : Option (List (List ℕ))) → fault-of dialect (with_row rows found) ≡ option_or (fault-of dialect rows) (fault_below dialect rows found)
+fault-with dialect rows None = ap (fault-of dialect) (append-nil rows) ∙ sym (or-none (fault-of dialect rows))
+fault-with dialect [] (Some row) = or-none (row_fault dialect (length row) 0 row)
+fault-with dialect (first ∷ rows) (Some row) = rows-more dialect (length first) 0 (length (first ∷ rows)) (first ∷ rows) row (omega arith)
 
 -- ---- a text
 
 -- the fault of the rows up to a place, or else of the text that stands there behind a quote
-abbrev found-at : ℕ → List ℕ → Option ℕ → Option RowsFault
-found-at delimiter text place = option_or (fault-of (scan_of delimiter (up_to place text)).rows) (option_map (λ n. BehindQuote (line_behind (take n text))) place)
+abbrev found-at : Dialect → List ℕ → Option ℕ → Option RowsFault
+found-at dialect text place = option_or (fault-of dialect (scan_of dialect (up_to place text)).rows) (option_map (λ n. BehindQuote (line_behind (take n text))) place)
 
-module _ (delimiter : ℕ) (text : List ℕ) (byte : ℕ) (holds : (scan_of delimiter text).fault ≡ found-at delimiter text (first_behind_quote delimiter text)) where
-  found-before : (n : ℕ) → first_behind_quote delimiter text ≡ Some n → (scan_of delimiter (text ++ byte ∷ [])).fault ≡ found-at delimiter (text ++ byte ∷ []) (first_behind_quote delimiter (text ++ byte ∷ []))
+module _ (dialect : Dialect) (text : List ℕ) (byte : ℕ) (holds : (scan_of dialect text).fault ≡ found-at dialect text (first_behind_quote dialect text)) where
+  found-before : (n : ℕ) → first_behind_quote dialect text ≡ Some n → (scan_of dialect (text ++ byte ∷ [])).fault ≡ found-at dialect (text ++ byte ∷ []) (first_behind_quote dialect (text ++ byte ∷ []))
   found-before n is =
-      let within = find-within (is_behind_quote delimiter text) 0 (length text) n is in
+      let within = find-within (is_behind_quote dialect text) 0 (length text) n is in
       let front = front-of text byte n (omega (arith, within)) in
-      let place : first_behind_quote delimiter (text ++ byte ∷ []) ≡ Some n = rw is at (first-more delimiter text byte) in
+      let place : first_behind_quote dialect (text ++ byte ∷ []) ≡ Some n = rw is at (first-more dialect text byte) in
       let before = rw is at holds in
-      ap (λ (s : Scan). s.fault) (scan-more delimiter text byte)
-      ∙ rw (before, place, front) (or-assoc (fault-of (scan_of delimiter (take n text)).rows) (Some (BehindQuote (line_behind (take n text)))) _)
+      ap (λ (s : Scan). s.fault) (scan-more dialect text byte)
+      ∙ rw (before, place, front) (or-assoc (fault-of dialect (scan_of dialect (take n text)).rows) (Some (BehindQuote (line_behind (take n text)))) _)
 
   -- the byte is text behind a quote, or not
   decide : (here : Bool)
-      → option_or (fault-of (scan_of delimiter text).rows) (option_or (if here then Some (BehindQuote (scan_of delimiter text).hand.lines.line) else None) (fault_below (scan_of delimiter text).rows (row_ended delimiter (scan_of delimiter text).hand byte)))
-      ≡ found-at delimiter (text ++ byte ∷ []) (if here then Some (length text) else None)
+      → option_or (fault-of dialect (scan_of dialect text).rows) (option_or (if here then Some (BehindQuote (scan_of dialect text).hand.lines.line) else None) (fault_below dialect (scan_of dialect text).rows (row_ended dialect (scan_of dialect text).hand byte)))
+      ≡ found-at dialect (text ++ byte ∷ []) (if here then Some (length text) else None)
   decide true =
-      ap (λ (line : ℕ). option_or (fault-of (scan_of delimiter text).rows) (Some (BehindQuote line))) (line-is delimiter text)
-      ∙ sym (ap (λ (xs : List ℕ). option_or (fault-of (scan_of delimiter xs).rows) (Some (BehindQuote (line_behind xs)))) (take-append_seam text (byte ∷ [])))
+      ap (λ (line : ℕ). option_or (fault-of dialect (scan_of dialect text).rows) (Some (BehindQuote line))) (line-is dialect text)
+      ∙ sym (ap (λ (xs : List ℕ). option_or (fault-of dialect (scan_of dialect xs).rows) (Some (BehindQuote (line_behind xs)))) (take-append_seam text (byte ∷ [])))
   decide false =
-      sym (fault-with (scan_of delimiter text).rows (row_ended delimiter (scan_of delimiter text).hand byte))
-      ∙ ap (λ (t : Scan). fault-of t.rows) (sym (scan-more delimiter text byte))
-      ∙ sym (or-none (fault-of (scan_of delimiter (text ++ byte ∷ [])).rows))
+      sym (fault-with dialect (scan_of dialect text).rows (row_ended dialect (scan_of dialect text).hand byte))
+      ∙ ap (λ (t : Scan). fault-of dialect t.rows) (sym (scan-more dialect text byte))
+      ∙ sym (or-none (fault-of dialect (scan_of dialect (text ++ byte ∷ [])).rows))
 
-  found-next : first_behind_quote delimiter text ≡ None → (scan_of delimiter (text ++ byte ∷ [])).fault ≡ found-at delimiter (text ++ byte ∷ []) (first_behind_quote delimiter (text ++ byte ∷ []))
+  found-next : first_behind_quote dialect text ≡ None → (scan_of dialect (text ++ byte ∷ [])).fault ≡ found-at dialect (text ++ byte ∷ []) (first_behind_quote dialect (text ++ byte ∷ []))
   found-next none =
       let all = text ++ byte ∷ [] in
-      let s = scan_of delimiter text in
-      let row = row_ended delimiter s.hand byte in
-      let after = (scan_after delimiter s byte).hand.state in
-      let before : s.fault ≡ fault-of s.rows = (rw none at holds) ∙ or-none (fault-of s.rows) in
-      ap (λ (t : Scan). t.fault) (scan-more delimiter text byte)
-      ∙ ap (λ (f : Option RowsFault). option_or f (option_or (behind_fault delimiter s.hand byte) (fault_below s.rows row))) before
+      let s = scan_of dialect text in
+      let row = row_ended dialect s.hand byte in
+      let after = (scan_after dialect s byte).hand.state in
+      let before : s.fault ≡ fault-of dialect s.rows = (rw none at holds) ∙ or-none (fault-of dialect s.rows) in
+      ap (λ (t : Scan). t.fault) (scan-more dialect text byte)
+      ∙ ap (λ (f : Option RowsFault). option_or f (option_or (behind_fault dialect s.hand byte) (fault_below dialect s.rows row))) before
       ∙ decide (is_behind s.hand.state after)
-      ∙ ap (found-at delimiter all) (sym (first-next delimiter text byte none))
+      ∙ ap (found-at dialect all) (sym (first-next dialect text byte none))
 
-fault-scanned : (delimiter : ℕ) (text : List ℕ) → (scan_of delimiter text).fault ≡ found-at delimiter text (first_behind_quote delimiter text)
-fault-scanned delimiter = by-bytes (λ text. (scan_of delimiter text).fault ≡ found-at delimiter text (first_behind_quote delimiter text)) refl more where
-  more : (text : List ℕ) (byte : ℕ) → (scan_of delimiter text).fault ≡ found-at delimiter text (first_behind_quote delimiter text)
-      → (scan_of delimiter (text ++ byte ∷ [])).fault ≡ found-at delimiter (text ++ byte ∷ []) (first_behind_quote delimiter (text ++ byte ∷ []))
-  more text byte holds = go (first_behind_quote delimiter text) refl where
-    go : (place : Option ℕ) → first_behind_quote delimiter text ≡ place → (scan_of delimiter (text ++ byte ∷ [])).fault ≡ found-at delimiter (text ++ byte ∷ []) (first_behind_quote delimiter (text ++ byte ∷ []))
-    go (Some n) is = found-before delimiter text byte holds n is
-    go None none = found-next delimiter text byte holds none
+fault-scanned : (dialect : Dialect) (text : List ℕ) → (scan_of dialect text).fault ≡ found-at dialect text (first_behind_quote dialect text)
+fault-scanned dialect = by-bytes (λ text. (scan_of dialect text).fault ≡ found-at dialect text (first_behind_quote dialect text)) refl more where
+  more : (text : List ℕ) (byte : ℕ) → (scan_of dialect text).fault ≡ found-at dialect text (first_behind_quote dialect text)
+      → (scan_of dialect (text ++ byte ∷ [])).fault ≡ found-at dialect (text ++ byte ∷ []) (first_behind_quote dialect (text ++ byte ∷ []))
+  more text byte holds = go (first_behind_quote dialect text) refl where
+    go : (place : Option ℕ) → first_behind_quote dialect text ≡ place → (scan_of dialect (text ++ byte ∷ [])).fault ≡ found-at dialect (text ++ byte ∷ []) (first_behind_quote dialect (text ++ byte ∷ []))
+    go (Some n) is = found-before dialect text byte holds n is
+    go None none = found-next dialect text byte holds none
 
 -- ---- the quote that is open
 
-quote-same : (delimiter : ℕ) (text : List ℕ) (byte n : ℕ) → n ≤ length text → quote_at delimiter (text ++ byte ∷ []) n ≡ quote_at delimiter text n
-quote-same delimiter text byte zero within = refl
-quote-same delimiter text byte (suc n) within = rw (front-of text byte (suc n) within, quote-same delimiter text byte n (omega (arith, within))) refl
+quote-same : (dialect : Dialect) (text : List ℕ) (byte n : ℕ) → n ≤ length text → quote_at dialect (text ++ byte ∷ []) n ≡ quote_at dialect text n
+quote-same dialect text byte zero within = refl
+quote-same dialect text byte (suc n) within = rw (front-of text byte (suc n) within, quote-same dialect text byte n (omega (arith, within))) refl
 
-quote-within : (delimiter : ℕ) (text : List ℕ) (n : ℕ) → quote_at delimiter text n ≤ n
-quote-within delimiter text zero = omega arith
-quote-within delimiter text (suc n) = elim (cases_Bool (is_quoted (state_behind delimiter (take (suc n) text)) || is_closing (state_behind delimiter (take (suc n) text)))) [
-  | inl within ↦ rw within (omega (arith, quote-within delimiter text n))
+quote-within : (dialect : Dialect) (text : List ℕ) (n : ℕ) → quote_at dialect text n ≤ n
+quote-within dialect text zero = omega arith
+quote-within dialect text (suc n) = elim (cases_Bool (is_quoted (state_behind dialect (take (suc n) text)) || is_closing (state_behind dialect (take (suc n) text)))) [
+  | inl within ↦ rw within (omega (arith, quote-within dialect text n))
   | inr bare ↦ rw bare (omega arith)
 ]
 
-quote-bare : (delimiter : ℕ) (text : List ℕ) (n : ℕ) → is_bare (state_behind delimiter (take n text)) ≡ true → quote_at delimiter text n ≡ n
-quote-bare delimiter text zero bare = refl
-quote-bare delimiter text (suc n) bare = rw (not-true _ bare) refl where
+quote-bare : (dialect : Dialect) (text : List ℕ) (n : ℕ) → is_bare (state_behind dialect (take n text)) ≡ true → quote_at dialect text n ≡ n
+quote-bare dialect text zero bare = refl
+quote-bare dialect text (suc n) bare = rw (not-true _ bare) refl where
   not-true : (b : Bool) → not b ≡ true → b ≡ false
   not-true false e = refl
   not-true true e = absurd (false≢true e)
 
-abbrev Opened : ℕ → List ℕ → Type 0
-Opened delimiter text = is_bare (state_behind delimiter text) ≡ false → (scan_of delimiter text).hand.opened ≡ line_behind (take (quote_at delimiter text (length text)) text)
+abbrev Opened : Dialect → List ℕ → Type 0
+Opened dialect text = is_bare (state_behind dialect text) ≡ false → (scan_of dialect text).hand.opened ≡ line_behind (take (quote_at dialect text (length text)) text)
 
-opened-is : (delimiter : ℕ) (text : List ℕ) → Opened delimiter text
-opened-is delimiter = by-bytes (Opened delimiter) (λ none. absurd (true≢false none)) more where
+opened-is : (dialect : Dialect) (text : List ℕ) → Opened dialect text
+opened-is dialect = by-bytes (Opened dialect) (λ none. absurd (true≢false none)) more where
   not-false : (b : Bool) → not b ≡ false → b ≡ true
   not-false true e = refl
   not-false false e = absurd (true≢false e)
 
-  more : (text : List ℕ) (byte : ℕ) → Opened delimiter text → Opened delimiter (text ++ byte ∷ [])
+  more : (text : List ℕ) (byte : ℕ) → Opened dialect text → Opened dialect (text ++ byte ∷ [])
   more text byte before within =
       let all = text ++ byte ∷ [] in
       let n = length text in
-      let s = scan_of delimiter text in
-      let next = scan-more delimiter text byte in
+      let s = scan_of dialect text in
+      let next = scan-more dialect text byte in
       let long : length all ≡ suc n = omega (arith, length-append text (byte ∷ [])) in
       let whole : take (suc n) all ≡ all = ap (λ (k : ℕ). take k all) (sym long) ∙ take-all all in
-      let place : quote_at delimiter all (length all) ≡ quote_at delimiter text n = rw (long, whole, not-false _ within) (quote-same delimiter text byte n (omega arith)) in
-      let front = ap (λ (k : ℕ). line_behind (take k all)) place ∙ ap line_behind (front-of text byte (quote_at delimiter text n) (quote-within delimiter text n)) in
-      let after : is_bare (scan_after delimiter s byte).hand.state ≡ false = rw (← ap (λ (t : Scan). t.hand.state) next, state-is delimiter all) within in
+      let place : quote_at dialect all (length all) ≡ quote_at dialect text n = rw (long, whole, not-false _ within) (quote-same dialect text byte n (omega arith)) in
+      let front = ap (λ (k : ℕ). line_behind (take k all)) place ∙ ap line_behind (front-of text byte (quote_at dialect text n) (quote-within dialect text n)) in
+      let after : is_bare (scan_after dialect s byte).hand.state ≡ false = rw (← ap (λ (t : Scan). t.hand.state) next, state-is dialect all) within in
       ap (λ (t : Scan). t.hand.opened) next ∙ elim (cases_Bool (is_bare s.hand.state)) [
         | inl bare ↦
-            let at = quote-bare delimiter text n (rw (take-all text, ← state-is delimiter text) bare) in
-            rw (bare, after) (line-is delimiter text ∙ sym (front ∙ ap (λ (k : ℕ). line_behind (take k text)) at ∙ ap line_behind (take-all text)))
-        | inr inside ↦ rw inside (before (rw (← state-is delimiter text) inside) ∙ sym front)
+            let at = quote-bare dialect text n (rw (take-all text, ← state-is dialect text) bare) in
+            rw (bare, after) (line-is dialect text ∙ sym (front ∙ ap (λ (k : ℕ). line_behind (take k text)) at ∙ ap line_behind (take-all text)))
+        | inr inside ↦ rw inside (before (rw (← state-is dialect text) inside) ∙ sym front)
       ]
 
 -- ---- the faults of bytes
 
-pub quoted-by : (delimiter : ℕ) (text : List ℕ) (place : Option ℕ) (quote : Option RowsFault) → first_behind_quote delimiter text ≡ place → quote_fault delimiter text ≡ quote
-    → quoted_rows delimiter text ≡ (if is_none quote then records (config_of delimiter) text else ended_in delimiter (up_to place text))
-quoted-by delimiter text place quote at is = rw (is, at) refl
+pub quoted-by : (dialect : Dialect) (text : List ℕ) (place : Option ℕ) (quote : Option RowsFault) → first_behind_quote dialect text ≡ place → quote_fault dialect text ≡ quote
+    → quoted_rows dialect text ≡ (if is_none quote then records (config_of dialect) text else ended_in dialect (up_to place text))
+quoted-by dialect text place quote at is = rw (is, at) refl
 
-text-fault-by : (delimiter : ℕ) (text : List ℕ) (place : Option ℕ) (quote : Option RowsFault) → first_behind_quote delimiter text ≡ place → quote_fault delimiter text ≡ quote
-    → text_fault delimiter text ≡ option_or (fault-of (if is_none quote then records (config_of delimiter) text else ended_in delimiter (up_to place text))) quote
-text-fault-by delimiter text place quote at is = ap (λ (rows : List (List (List ℕ))). option_or (fault-of rows) (quote_fault delimiter text)) (quoted-by delimiter text place quote at is) ∙ ap (option_or _) is
+text-fault-by : (dialect : Dialect) (text : List ℕ) (place : Option ℕ) (quote : Option RowsFault) → first_behind_quote dialect text ≡ place → quote_fault dialect text ≡ quote
+    → text_fault dialect text ≡ option_or (fault-of dialect (if is_none quote then records (config_of dialect) text else ended_in dialect (up_to place text))) quote
+text-fault-by dialect text place quote at is = ap (λ (rows : List (List (List ℕ))). option_or (fault-of dialect rows) (quote_fault dialect text)) (quoted-by dialect text place quote at is) ∙ ap (option_or _) is
 
-pub open-is : (delimiter : ℕ) (text : List ℕ) → open_fault delimiter text ≡ scan.open_fault (scan_of delimiter text).hand
-open-is delimiter text =
-    let state = state-is delimiter text in
-    elim (cases_Bool (is_quoted (state_behind delimiter text))) [
-      | inl quoted ↦ rw (state, quoted) (ap (λ (line : ℕ). Some (OpenQuote line)) (sym (opened-is delimiter text (rw quoted refl))))
+pub open-is : (dialect : Dialect) (text : List ℕ) → open_fault dialect text ≡ scan.open_fault (scan_of dialect text).hand
+open-is dialect text =
+    let state = state-is dialect text in
+    elim (cases_Bool (is_quoted (state_behind dialect text))) [
+      | inl quoted ↦ rw (state, quoted) (ap (λ (line : ℕ). Some (OpenQuote line)) (sym (opened-is dialect text (rw quoted refl))))
       | inr none ↦ rw (state, none) refl
     ]
 
 -- with no fault so far, no text is behind a quote, and no row is bad
-pub clean : (delimiter : ℕ) (text : List ℕ) → (scan_of delimiter text).fault ≡ None → (first_behind_quote delimiter text ≡ None) × (fault-of (scan_of delimiter text).rows ≡ None)
-clean delimiter text right = go (first_behind_quote delimiter text) refl where
+pub clean : (dialect : Dialect) (text : List ℕ) → (scan_of dialect text).fault ≡ None → (first_behind_quote dialect text ≡ None) × (fault-of dialect (scan_of dialect text).rows ≡ None)
+clean dialect text right = go (first_behind_quote dialect text) refl where
   never : (before : Option RowsFault) (fault : RowsFault) → ¬ (option_or before (Some fault) ≡ None)
   never None fault e = let f = e in cc
   never (Some x) fault e = let f = e in cc
 
-  go : (place : Option ℕ) → first_behind_quote delimiter text ≡ place → (first_behind_quote delimiter text ≡ None) × (fault-of (scan_of delimiter text).rows ≡ None)
-  go None none = (none, sym (or-none (fault-of (scan_of delimiter text).rows)) ∙ sym (rw none at (fault-scanned delimiter text)) ∙ right)
-  go (Some n) is = absurd (never (fault-of (scan_of delimiter (take n text)).rows) _ (sym (rw is at (fault-scanned delimiter text)) ∙ right))
+  go : (place : Option ℕ) → first_behind_quote dialect text ≡ place → (first_behind_quote dialect text ≡ None) × (fault-of dialect (scan_of dialect text).rows ≡ None)
+  go None none = (none, sym (or-none (fault-of dialect (scan_of dialect text).rows)) ∙ sym (rw none at (fault-scanned dialect text)) ∙ right)
+  go (Some n) is = absurd (never (fault-of dialect (scan_of dialect (take n text)).rows) _ (sym (rw is at (fault-scanned dialect text)) ∙ right))
 
 -- and what is wrong in the end is wrong with the row at hand
-pub fault-last : (delimiter : ℕ) (text : List ℕ) → (scan_of delimiter text).fault ≡ None
-    → text_fault delimiter text ≡ option_or (scan.open_fault (scan_of delimiter text).hand) (fault_below (scan_of delimiter text).rows (last_row (scan_of delimiter text).hand))
-fault-last delimiter text right =
-    let (none, sound) = clean delimiter text right in
-    last none sound (scan.open_fault (scan_of delimiter text).hand) (rw none (open-is delimiter text)) where
-      last : first_behind_quote delimiter text ≡ None → fault-of (scan_of delimiter text).rows ≡ None → (quote : Option RowsFault) → quote_fault delimiter text ≡ quote
-          → text_fault delimiter text ≡ option_or quote (fault_below (scan_of delimiter text).rows (last_row (scan_of delimiter text).hand))
+pub fault-last : (dialect : Dialect) (text : List ℕ) → (scan_of dialect text).fault ≡ None
+    → text_fault dialect text ≡ option_or (scan.open_fault (scan_of dialect text).hand) (fault_below dialect (scan_of dialect text).rows (last_row (scan_of dialect text).hand))
+fault-last dialect text right =
+    let (none, sound) = clean dialect text right in
+    last none sound (scan.open_fault (scan_of dialect text).hand) (rw none (open-is dialect text)) where
+      last : first_behind_quote dialect text ≡ None → fault-of dialect (scan_of dialect text).rows ≡ None → (quote : Option RowsFault) → quote_fault dialect text ≡ quote
+          → text_fault dialect text ≡ option_or quote (fault_below dialect (scan_of dialect text).rows (last_row (scan_of dialect text).hand))
       last none sound None is =
-          text-fault-by delimiter text None None none is
+          text-fault-by dialect text None None none is
           ∙ or-none _
-          ∙ ap fault-of (records-scanned delimiter text)
-          ∙ fault-with (scan_of delimiter text).rows (last_row (scan_of delimiter text).hand)
+          ∙ ap (fault-of dialect) (records-scanned dialect text)
+          ∙ fault-with dialect (scan_of dialect text).rows (last_row (scan_of dialect text).hand)
           ∙ rw sound refl
       last none sound (Some fault) is =
-          text-fault-by delimiter text None (Some fault) none is
-          ∙ ap (λ (rows : List (List (List ℕ))). option_or (fault-of rows) (Some fault)) (ended-scanned delimiter text)
+          text-fault-by dialect text None (Some fault) none is
+          ∙ ap (λ (rows : List (List (List ℕ))). option_or (fault-of dialect rows) (Some fault)) (ended-scanned dialect text)
           ∙ rw sound refl
 
 -- and a fault that was found is that of the text
-pub fault-found : (delimiter : ℕ) (text : List ℕ) (fault : RowsFault) → (scan_of delimiter text).fault ≡ Some fault → text_fault delimiter text ≡ Some fault
-fault-found delimiter text fault found = go (first_behind_quote delimiter text) refl where
-  late : (quote : Option RowsFault) → first_behind_quote delimiter text ≡ None → fault-of (scan_of delimiter text).rows ≡ Some fault → quote_fault delimiter text ≡ quote → text_fault delimiter text ≡ Some fault
+pub fault-found : (dialect : Dialect) (text : List ℕ) (fault : RowsFault) → (scan_of dialect text).fault ≡ Some fault → text_fault dialect text ≡ Some fault
+fault-found dialect text fault found = go (first_behind_quote dialect text) refl where
+  late : (quote : Option RowsFault) → first_behind_quote dialect text ≡ None → fault-of dialect (scan_of dialect text).rows ≡ Some fault → quote_fault dialect text ≡ quote → text_fault dialect text ≡ Some fault
   late None none bad is =
-      text-fault-by delimiter text None None none is
-      ∙ ap (λ (rows : List (List (List ℕ))). option_or (fault-of rows) None) (records-scanned delimiter text)
-      ∙ ap (λ (f : Option RowsFault). option_or f None) (fault-with (scan_of delimiter text).rows (last_row (scan_of delimiter text).hand))
+      text-fault-by dialect text None None none is
+      ∙ ap (λ (rows : List (List (List ℕ))). option_or (fault-of dialect rows) None) (records-scanned dialect text)
+      ∙ ap (λ (f : Option RowsFault). option_or f None) (fault-with dialect (scan_of dialect text).rows (last_row (scan_of dialect text).hand))
       ∙ rw bad refl
   late (Some other) none bad is =
-      text-fault-by delimiter text None (Some other) none is
-      ∙ ap (λ (rows : List (List (List ℕ))). option_or (fault-of rows) (Some other)) (ended-scanned delimiter text)
+      text-fault-by dialect text None (Some other) none is
+      ∙ ap (λ (rows : List (List (List ℕ))). option_or (fault-of dialect rows) (Some other)) (ended-scanned dialect text)
       ∙ rw bad refl
 
-  go : (place : Option ℕ) → first_behind_quote delimiter text ≡ place → text_fault delimiter text ≡ Some fault
-  go None none = late (quote_fault delimiter text) none (sym (or-none (fault-of (scan_of delimiter text).rows)) ∙ sym (rw none at (fault-scanned delimiter text)) ∙ found) refl
+  go : (place : Option ℕ) → first_behind_quote dialect text ≡ place → text_fault dialect text ≡ Some fault
+  go None none = late (quote_fault dialect text) none (sym (or-none (fault-of dialect (scan_of dialect text).rows)) ∙ sym (rw none at (fault-scanned dialect text)) ∙ found) refl
   go (Some n) is =
-      text-fault-by delimiter text (Some n) (Some (BehindQuote (line_behind (take n text)))) is (rw is refl)
-      ∙ ap (λ (rows : List (List (List ℕ))). option_or (fault-of rows) (Some (BehindQuote (line_behind (take n text))))) (ended-scanned delimiter (take n text))
-      ∙ sym (rw is at (fault-scanned delimiter text))
+      text-fault-by dialect text (Some n) (Some (BehindQuote (line_behind (take n text)))) is (rw is refl)
+      ∙ ap (λ (rows : List (List (List ℕ))). option_or (fault-of dialect rows) (Some (BehindQuote (line_behind (take n text))))) (ended-scanned dialect (take n text))
+      ∙ sym (rw is at (fault-scanned dialect text))
       ∙ found

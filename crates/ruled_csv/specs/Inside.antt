@@ -24,6 +24,7 @@ use Rattle.ruled_csv.specs.declared.scanner.Scanner.{Scanner}
 use Rattle.ruled_csv.specs.declared.scanner.Standing.{Standing}
 use Rattle.ruled_csv.specs.declared.scanner.Standing.TheVariants as at
 use Rattle.ruled_csv.specs.declared.scanner.Step.{Step}
+use Rattle.ruled_csv.specs.declared.dialect.Dialect.{Dialect}
 
 -- ---- a byte
 
@@ -110,10 +111,10 @@ hand_of s = record { state = state_of s.standing; fields = fields_of s.row; fiel
 abbrev pub empty_hand : Hand
 empty_hand = record { state = st.StartRecord; fields = []; field = []; lines = lines_start; opened = 1 }
 
-module _ (delimiter : ℕ) (hand : Hand) (byte : ℕ) where
+module _ (dialect : Dialect) (hand : Hand) (byte : ℕ) where
   -- what a byte does to it
   abbrev pub done : State × Action
-  done = step (config_of delimiter) hand.state byte
+  done = step (config_of dialect) hand.state byte
 
   abbrev pub hand_after : Hand
   hand_after = record {
@@ -152,25 +153,25 @@ pub record Scan : Type 0 where
 abbrev pub with_row : List (List (List ℕ)) → Option (List (List ℕ)) → List (List (List ℕ))
 with_row rows row = rows ++ cons_option row []
 
-abbrev pub fault_below : List (List (List ℕ)) → Option (List (List ℕ)) → Option RowsFault
-fault_below rows None = None
-fault_below rows (Some row) = row_fault (columns_of (rows ++ row ∷ [])) (length rows) row
+abbrev pub fault_below : Dialect → List (List (List ℕ)) → Option (List (List ℕ)) → Option RowsFault
+fault_below dialect rows None = None
+fault_below dialect rows (Some row) = row_fault dialect (columns_of (rows ++ row ∷ [])) (length rows) row
 
-abbrev pub scan_after : ℕ → Scan → ℕ → Scan
-scan_after delimiter scan byte = record {
-  rows = with_row scan.rows (row_ended delimiter scan.hand byte);
-  hand = hand_after delimiter scan.hand byte;
-  fault = option_or scan.fault (option_or (behind_fault delimiter scan.hand byte) (fault_below scan.rows (row_ended delimiter scan.hand byte)));
+abbrev pub scan_after : Dialect → Scan → ℕ → Scan
+scan_after dialect scan byte = record {
+  rows = with_row scan.rows (row_ended dialect scan.hand byte);
+  hand = hand_after dialect scan.hand byte;
+  fault = option_or scan.fault (option_or (behind_fault dialect scan.hand byte) (fault_below dialect scan.rows (row_ended dialect scan.hand byte)));
 }
 
 abbrev pub scan_start : Scan
 scan_start = record { rows = []; hand = empty_hand; fault = None }
 
-abbrev pub scan_from : ℕ → Scan → List ℕ → Scan
-scan_from delimiter scan text = fold (scan_after delimiter) scan text
+abbrev pub scan_from : Dialect → Scan → List ℕ → Scan
+scan_from dialect scan text = fold (scan_after dialect) scan text
 
-abbrev pub scan_of : ℕ → List ℕ → Scan
-scan_of delimiter text = scan_from delimiter scan_start text
+abbrev pub scan_of : Dialect → List ℕ → Scan
+scan_of dialect text = scan_from dialect scan_start text
 
 -- ---- a run: bytes of which none is a quote and none ends a line
 
@@ -178,26 +179,26 @@ abbrev pub is_calm : ℕ → Bool
 is_calm byte = not (is_byte3 34 13 10 byte)
 
 -- behind a byte of a run that is in no quotes: what is in front of the next one, and the fields with the one at hand
-abbrev pub state_behind : ℕ → State → ℕ → State
-state_behind delimiter state byte = if byte == delimiter then st.StartField else st.InField
+abbrev pub state_behind : Dialect → State → ℕ → State
+state_behind dialect state byte = if byte == dialect.delimiter then st.StartField else st.InField
 
-abbrev pub fields_behind : ℕ → List (List ℕ) × List ℕ → ℕ → List (List ℕ) × List ℕ
-fields_behind delimiter (fields, field) byte = if byte == delimiter then (fields ++ field ∷ [], []) else (fields, field ++ byte ∷ [])
+abbrev pub fields_behind : Dialect → List (List ℕ) × List ℕ → ℕ → List (List ℕ) × List ℕ
+fields_behind dialect (fields, field) byte = if byte == dialect.delimiter then (fields ++ field ∷ [], []) else (fields, field ++ byte ∷ [])
 
 -- the fields that a run cuts off
-abbrev pub cut_fields : ℕ → Hand → List ℕ → List (List ℕ) × List ℕ
-cut_fields delimiter hand run = fold (fields_behind delimiter) (hand.fields, hand.field) run
+abbrev pub cut_fields : Dialect → Hand → List ℕ → List (List ℕ) × List ℕ
+cut_fields dialect hand run = fold (fields_behind dialect) (hand.fields, hand.field) run
 
-abbrev pub hand_cut : ℕ → Hand → List ℕ → Hand
-hand_cut delimiter hand run = record hand {
-  state = fold (state_behind delimiter) hand.state run;
-  fields = (cut_fields delimiter hand run).0;
-  field = (cut_fields delimiter hand run).1;
+abbrev pub hand_cut : Dialect → Hand → List ℕ → Hand
+hand_cut dialect hand run = record hand {
+  state = fold (state_behind dialect) hand.state run;
+  fields = (cut_fields dialect hand run).0;
+  field = (cut_fields dialect hand run).1;
 }
 
 -- among these bytes no row ends and nothing is wrong, and behind them this row is at hand
-abbrev pub Joins : ℕ → List ℕ → Hand → Hand → Type 0
-Joins delimiter text old new = (scan : Scan) → scan.hand ≡ old → scan_from delimiter scan text ≡ record scan { hand = new }
+abbrev pub Joins : Dialect → List ℕ → Hand → Hand → Type 0
+Joins dialect text old new = (scan : Scan) → scan.hand ≡ old → scan_from dialect scan text ≡ record scan { hand = new }
 
 -- ---- bytes
 
@@ -225,8 +226,8 @@ abbrev pub Counts : List (List (List ℕ)) → ℕ → Option ℕ → Type 0
 Counts above rows columns = (rows ≡ number_of (length above)) × (columns ≡ columns_known above)
 
 -- what a reader has of a scan
-pub record Holds (delimiter : ℕ) (scan : Scan) (reader : RowReader) : Type 0 where
-  pub delimiter_is : reader.scanner.delimiter ≡ delimiter
+pub record Holds (dialect : Dialect) (scan : Scan) (reader : RowReader) : Type 0 where
+  pub dialect_is : reader.scanner.dialect ≡ dialect
   pub hand : hand_of reader.scanner ≡ scan.hand
   pub counts : Counts scan.rows reader.rows reader.columns
   pub right : scan.fault ≡ None

@@ -10,13 +10,14 @@ use Rattle.ruled_csv.specs.Lines.{line_behind}
 use Rattle.ruled_csv.specs.Rows.{config_of}
 use Rattle.ruled_csv.specs.declared.fault.RowsFault.{RowsFault}
 use Rattle.ruled_csv.specs.declared.fault.RowsFault.TheVariants.{OpenQuote, BehindQuote}
+use Rattle.ruled_csv.specs.declared.dialect.Dialect.{Dialect}
 
 -- where the reading of `csv` stands behind these bytes, from a state on
-abbrev pub state_from : ℕ → State → List ℕ → State
-state_from delimiter state bytes = fold (λ s byte. (step (config_of delimiter) s byte).0) state bytes
+abbrev pub state_from : Dialect → State → List ℕ → State
+state_from dialect state bytes = fold (λ s byte. (step (config_of dialect) s byte).0) state bytes
 
-abbrev pub state_behind : ℕ → List ℕ → State
-state_behind delimiter bytes = state_from delimiter st.StartRecord bytes
+abbrev pub state_behind : Dialect → List ℕ → State
+state_behind dialect bytes = state_from dialect st.StartRecord bytes
 
 -- a quote is open
 abbrev pub is_quoted : State → Bool
@@ -51,10 +52,10 @@ is_plain st.InEscape = false
 is_plain st.InComment = false
 is_plain st.AfterCr = false
 
-module _ (delimiter : ℕ) (text : List ℕ) where
+module _ (dialect : Dialect) (text : List ℕ) where
   -- the byte at this place is text behind a closing quote
   abbrev pub is_behind_quote : ℕ → Bool
-  is_behind_quote n = is_closing (state_behind delimiter (take n text)) && is_plain (state_behind delimiter (take (n + 1) text))
+  is_behind_quote n = is_closing (state_behind dialect (take n text)) && is_plain (state_behind dialect (take (n + 1) text))
 
   -- the first such place
   abbrev pub first_behind_quote : Option ℕ
@@ -64,25 +65,15 @@ module _ (delimiter : ℕ) (text : List ℕ) where
   abbrev pub quote_at : ℕ → ℕ
   quote_at zero = zero
   quote_at (suc n) =
-      let state = state_behind delimiter (take (suc n) text) in
+      let state = state_behind dialect (take (suc n) text) in
       if is_quoted state || is_closing state then quote_at n else suc n
 
   -- the last quote is open at the end
   abbrev pub open_fault : Option RowsFault
   open_fault =
-      if is_quoted (state_behind delimiter text) then Some (OpenQuote (line_behind (take (quote_at (length text)) text)))
+      if is_quoted (state_behind dialect text) then Some (OpenQuote (line_behind (take (quote_at (length text)) text)))
       else None
 
   -- what is wrong with the quotes: text behind one, or else one that is open at the end
   abbrev pub quote_fault : Option RowsFault
   quote_fault = option_or (option_map (λ n. BehindQuote (line_behind (take n text))) first_behind_quote) open_fault
-
--- ---- line by line
-
--- where the reading stands in front of a line, by whether a quote is open there
-abbrev pub state_in_front : Bool → State
-state_in_front is_open = if is_open then st.InQuoted else st.StartRecord
-
--- whether a quote is open behind a line
-unfoldable pub leaves_open : ℕ → Bool → List ℕ → Bool
-leaves_open delimiter is_open line = is_quoted (state_from delimiter (state_in_front is_open) line)

@@ -7,12 +7,13 @@ use Rattle.ruled_csv.specs.declared.fault.RowsFault.{RowsFault}
 use Rattle.ruled_csv.specs.declared.fault.RowsFault.TheVariants.{Memory}
 use Rattle.ruled_csv.specs.declared.reader.Front.TheVariants as front
 use Rattle.ruled_csv.specs.declared.reader.RowReader.{RowReader}
+use Rattle.ruled_csv.specs.declared.dialect.Dialect.{Dialect}
 
 -- A reader has read these bytes, and found nothing wrong. What it holds of them is no matter of a caller, who has this from
 -- `new` of no bytes, and from `read` of more and more.
-pub record HasRead (delimiter : ℕ) (bytes : List ℕ) (reader : RowReader) : Type 0 where
+pub record HasRead (dialect : Dialect) (bytes : List ℕ) (reader : RowReader) : Type 0 where
   pub front : reader.front ≡ fold front_after front.Start bytes
-  pub scan : Holds delimiter (scan_of delimiter (strip_bom bytes)) reader
+  pub scan : Holds dialect (scan_of dialect (strip_bom bytes)) reader
 
 -- behind the old rows stand those which with the rows above are all of these
 abbrev pub AppendsRest : {R : Type 0} → List R → List R → List R → List R → Type 0

@@ -2,24 +2,25 @@
 use Rattle.std.specs.Prelude.{ℕ, ◌-◌, List, [], ◌∷◌, ◌++◌, length, take}
 use Rattle.csv.specs.declared.parser.Config.{Config}
 use Rattle.csv.specs.Reading.{default_config, records, strip_bom}
+use Rattle.ruled_csv.specs.declared.dialect.Dialect.{Dialect}
 
 -- the fields are parted by this byte, and quoted as in CSV
-abbrev pub config_of : ℕ → Config
-config_of delimiter = record default_config { delimiter = delimiter }
+abbrev pub config_of : Dialect → Config
+config_of dialect = record default_config { delimiter = dialect.delimiter }
 
 -- the rows of these bytes, without a byte order mark at their front: each is the list of its fields
-abbrev pub rows_of : ℕ → List ℕ → List (List (List ℕ))
-rows_of delimiter bytes = records (config_of delimiter) (strip_bom bytes)
+abbrev pub rows_of : Dialect → List ℕ → List (List (List ℕ))
+rows_of dialect bytes = records (config_of dialect) (strip_bom bytes)
 
 -- the rows that end in a text, whatever follows it: with a letter behind the text, all but the one that has the letter
-abbrev pub ended_in : ℕ → List ℕ → List (List (List ℕ))
-ended_in delimiter text =
-    let rows = records (config_of delimiter) (text ++ 120 ∷ []) in
+abbrev pub ended_in : Dialect → List ℕ → List (List (List ℕ))
+ended_in dialect text =
+    let rows = records (config_of dialect) (text ++ 120 ∷ []) in
     take (length rows - 1) rows
 
 -- and those of these bytes
-abbrev pub ended_rows : ℕ → List ℕ → List (List (List ℕ))
-ended_rows delimiter bytes = ended_in delimiter (strip_bom bytes)
+abbrev pub ended_rows : Dialect → List ℕ → List (List (List ℕ))
+ended_rows dialect bytes = ended_in dialect (strip_bom bytes)
 
 -- how many columns rows have: as many as row 0 has fields
 abbrev pub columns_of : List (List (List ℕ)) → ℕ

@@ -67,7 +67,7 @@ impl fmt::Display for RowsFault {
                 let fields_word = if *fields == 1 { "field" } else { "fields" };
                 write!(
                     f,
-                    "line {line}: {fields} {fields_word}, and row 0 has {columns}"
+                    "line {line}: {fields} {fields_word}, and row 0 has {columns}; see --ragged"
                 )
             }
             RowsFault::Encoding { line, .. } => write!(f, "line {line}: not UTF-8"),

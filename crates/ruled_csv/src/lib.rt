@@ -1,6 +1,7 @@
 //! The rows that bytes of separated values hold, and what is wrong with bytes that hold none.
 #![tactic(auto)]
 
+mod dialect;
 mod fault;
 mod lines;
 mod quotes;
@@ -8,7 +9,8 @@ mod reader;
 mod records;
 mod scanner;
 
+pub use crate::dialect::Dialect;
 pub use crate::fault::RowsFault;
-pub use crate::quotes::{leaves_open, without_mark};
+pub use crate::quotes::without_mark;
 pub use crate::reader::RowReader;
 pub use crate::records::read_rows;

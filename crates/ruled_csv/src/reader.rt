@@ -2,11 +2,13 @@
 
 ghost use Rattle.std.specs.Prelude.{◌≡◌, ◌≤◌, ◌++◌, ◌∷◌, [], ℕ, List, length, map, take, Some, IfOk, OnErr, OnOk};
 ghost use Rattle.csv.specs.Records.{fields_of};
-ghost use Rattle.ruled_csv.specs.Faults.{Tells, number_of, row_fault, rows_fault, sound_rows};
+ghost use Rattle.ruled_csv.specs.declared.dialect.Dialect.{Dialect};
+ghost use Rattle.ruled_csv.specs.Faults.{Tells, has_length, number_of, row_fault, rows_fault, sound_rows};
 ghost use Rattle.ruled_csv.specs.Inside.{Counts, Holds, Scan, ends_mark, fault_below, front_after, row_ended, scan_after, with_row};
 ghost use Rattle.ruled_csv.specs.Reading.{AppendsRest, AppendsSome, Foretells, HasRead, OnFault};
 ghost use Rattle.ruled_csv.specs.Rows.{ended_rows, rows_of};
 
+use crate::dialect::Dialect;
 use crate::fault::RowsFault;
 use crate::scanner::Scanner;
 use csv::{ByteRecord, StringRecord};
@@ -45,18 +47,26 @@ impl Front {
     }
 }
 
+// Whether a row may have so many fields.
+fn has_length(dialect: Dialect, columns: usize, fields: usize) -> bool
+    ensures { result ≡ has_length dialect columns fields }
+{
+    dialect.is_ragged || fields == columns
+}
+
 // The text of a row that begins on this line, or what is wrong with it.
 fn text_of(
     fields: ByteRecord,
     row: usize,
     line: usize,
+    dialect: Dialect,
     columns: usize,
 ) -> Result<StringRecord, RowsFault>
     ensures same { IfOk result (λ text. fields_of text ≡ fields_of fields) }
-    ensures fault { (number : ℕ) → row ≡ number_of number → Tells (row_fault columns number (fields_of fields)) result }
+    ensures fault { (number : ℕ) → row ≡ number_of number → Tells (row_fault dialect columns number (fields_of fields)) result }
 {
     let count = fields.len();
-    if count != columns {
+    if !has_length(dialect, columns, count) {
         return Err(RowsFault::Length {
             row,
             line,
@@ -72,13 +82,13 @@ fn text_of(
 
 /// A reader of rows whose bytes come in pieces of any length.
 ///
-/// Each row comes with the bytes that end it. The byte `delimiter` separates fields, which are
-/// quoted as in CSV. LF, CRLF and a lone CR end a row, an empty line is no row, and a byte order
+/// Each row comes with the bytes that end it. The byte `dialect.delimiter` separates fields, which
+/// are quoted as in CSV. LF, CRLF and a lone CR end a row, an empty line is no row, and a byte order
 /// mark at the very front is skipped.
 ///
 /// A fault ends the reading. It is that of the first bad row, whatever follows: a row with another
-/// number of fields than row 0, with a field that isn't UTF-8, with text after a closing quote, or
-/// with a quote that isn't closed.
+/// number of fields than row 0, unless rows may be ragged, with a field that isn't UTF-8, with text
+/// after a closing quote, or with a quote that isn't closed.
 #[derive(Drop)]
 pub struct RowReader {
     front: Front,
@@ -91,12 +101,12 @@ pub struct RowReader {
 
 impl RowReader {
     /// A reader that has read nothing.
-    pub fn new(alloc: Global, delimiter: u8) -> RowReader
-        ensures { HasRead delimiter [] result }
+    pub fn new(alloc: Global, dialect: Dialect) -> RowReader
+        ensures { HasRead dialect [] result }
     {
         RowReader {
             front: Front::Start,
-            scanner: Scanner::new(alloc, delimiter),
+            scanner: Scanner::new(alloc, dialect),
             rows: 0,
             columns: None,
         }
@@ -109,10 +119,11 @@ impl RowReader {
         ensures rows { OnOk result (map fields_of rows.new.items ≡ map fields_of rows.old.items ++ fields_of fields ∷ []) }
         ensures kept { OnErr result (rows.new.items ≡ rows.old.items) }
         ensures counted { (above : List (List (List ℕ))) → Counts above self.old.rows self.old.columns → OnOk result (Counts (above ++ fields_of fields ∷ []) self.new.rows self.new.columns) }
-        ensures fault { (above : List (List (List ℕ))) → Counts above self.old.rows self.old.columns → Tells (fault_below above (Some (fields_of fields))) result }
+        ensures fault { (above : List (List (List ℕ))) → Counts above self.old.rows self.old.columns → Tells (fault_below self.old.scanner.dialect above (Some (fields_of fields))) result }
     {
         let columns = self.columns.unwrap_or(fields.len());
-        let text = text_of(fields, self.rows, self.scanner.begun(), columns)?;
+        let (line, dialect) = (self.scanner.begun(), self.scanner.dialect);
+        let text = text_of(fields, self.rows, line, dialect, columns)?;
         rows.push(text)?;
         self.rows = self.rows.saturating_add(1);
         self.columns = Some(columns);
@@ -122,10 +133,10 @@ impl RowReader {
     // Reads a byte of the text after any byte order mark.
     fn scan(&mut self, byte: u8, rows: &mut Vec<StringRecord>) -> Result<(), RowsFault>
         ensures front { self.new.front ≡ self.old.front }
-        ensures read { (delimiter : ℕ) (scan : Scan) → Holds delimiter scan self.old → OnOk result (Holds delimiter (scan_after delimiter scan byte) self.new) }
-        ensures rows { (delimiter : ℕ) (scan : Scan) → Holds delimiter scan self.old → OnOk result (map fields_of rows.new.items ≡ with_row (map fields_of rows.old.items) (row_ended delimiter scan.hand byte)) }
+        ensures read { (dialect : Dialect) (scan : Scan) → Holds dialect scan self.old → OnOk result (Holds dialect (scan_after dialect scan byte) self.new) }
+        ensures rows { (dialect : Dialect) (scan : Scan) → Holds dialect scan self.old → OnOk result (map fields_of rows.new.items ≡ with_row (map fields_of rows.old.items) (row_ended dialect scan.hand byte)) }
         ensures kept { OnErr result (rows.new.items ≡ rows.old.items) }
-        ensures fault { (delimiter : ℕ) (scan : Scan) → Holds delimiter scan self.old → Foretells (scan_after delimiter scan byte).fault result }
+        ensures fault { (dialect : Dialect) (scan : Scan) → Holds dialect scan self.old → Foretells (scan_after dialect scan byte).fault result }
     {
         match self.scanner.read(byte)? {
             Some(fields) => self.give(fields, rows),
@@ -135,11 +146,11 @@ impl RowReader {
 
     // Reads a byte.
     fn read_byte(&mut self, byte: u8, rows: &mut Vec<StringRecord>) -> Result<(), RowsFault>
-        ensures read { (delimiter : ℕ) (before : List ℕ) → HasRead delimiter before self.old → OnOk result (HasRead delimiter (before ++ byte ∷ []) self.new) }
-        ensures rows { (delimiter : ℕ) (before : List ℕ) → HasRead delimiter before self.old → OnOk result (AppendsRest (ended_rows delimiter before) (ended_rows delimiter (before ++ byte ∷ [])) (map fields_of rows.old.items) (map fields_of rows.new.items)) }
-        ensures fault { (delimiter : ℕ) (before behind : List ℕ) → HasRead delimiter before self.old → Foretells (rows_fault delimiter ((before ++ byte ∷ []) ++ behind)) result }
-        ensures sound { (delimiter : ℕ) (before behind : List ℕ) → HasRead delimiter before self.old → OnFault result
-            (sound_rows delimiter ((before ++ byte ∷ []) ++ behind) ≡ ended_rows delimiter before) }
+        ensures read { (dialect : Dialect) (before : List ℕ) → HasRead dialect before self.old → OnOk result (HasRead dialect (before ++ byte ∷ []) self.new) }
+        ensures rows { (dialect : Dialect) (before : List ℕ) → HasRead dialect before self.old → OnOk result (AppendsRest (ended_rows dialect before) (ended_rows dialect (before ++ byte ∷ [])) (map fields_of rows.old.items) (map fields_of rows.new.items)) }
+        ensures fault { (dialect : Dialect) (before behind : List ℕ) → HasRead dialect before self.old → Foretells (rows_fault dialect ((before ++ byte ∷ []) ++ behind)) result }
+        ensures sound { (dialect : Dialect) (before behind : List ℕ) → HasRead dialect before self.old → OnFault result
+            (sound_rows dialect ((before ++ byte ∷ []) ++ behind) ≡ ended_rows dialect before) }
         ensures kept { OnErr result (rows.new.items ≡ rows.old.items) }
     {
         let ends_mark = self.front.ends_mark(byte);
@@ -155,8 +166,8 @@ impl RowReader {
     // are found at once.
     fn read_run(&mut self, bytes: &[u8]) -> Result<usize, AllocError>
         ensures within { IfOk result (λ count. count ≤ length bytes.now) }
-        ensures read { (delimiter : ℕ) (before : List ℕ) → HasRead delimiter before self.old → IfOk result (λ count. HasRead delimiter (before ++ take count bytes.now) self.new) }
-        ensures rows { (delimiter : ℕ) (before : List ℕ) → HasRead delimiter before self.old → IfOk result (λ count. ended_rows delimiter (before ++ take count bytes.now) ≡ ended_rows delimiter before) }
+        ensures read { (dialect : Dialect) (before : List ℕ) → HasRead dialect before self.old → IfOk result (λ count. HasRead dialect (before ++ take count bytes.now) self.new) }
+        ensures rows { (dialect : Dialect) (before : List ℕ) → HasRead dialect before self.old → IfOk result (λ count. ended_rows dialect (before ++ take count bytes.now) ≡ ended_rows dialect before) }
     {
         match self.front {
             Front::Text => self.scanner.read_run(bytes),
@@ -167,14 +178,14 @@ impl RowReader {
     /// Reads the next bytes, and appends the rows that end among them; after a fault, those above
     /// the first bad row.
     pub fn read(self, bytes: &[u8], rows: &mut Vec<StringRecord>) -> Result<RowReader, RowsFault>
-        ensures read { (delimiter : ℕ) (before : List ℕ) → HasRead delimiter before self → IfOk result (λ reader. HasRead delimiter (before ++ bytes.now) reader) }
-        ensures rows { (delimiter : ℕ) (before : List ℕ) → HasRead delimiter before self → OnOk result (AppendsRest (ended_rows delimiter before) (ended_rows delimiter (before ++ bytes.now)) (map fields_of rows.old.items) (map fields_of rows.new.items)) }
-        ensures fault { (delimiter : ℕ) (before behind : List ℕ) → HasRead delimiter before self → Foretells (rows_fault delimiter ((before ++ bytes.now) ++ behind)) result }
-        ensures sound { (delimiter : ℕ) (before behind : List ℕ) → HasRead delimiter before self → OnFault result
-            (AppendsRest (ended_rows delimiter before) (sound_rows delimiter ((before ++ bytes.now) ++ behind))
+        ensures read { (dialect : Dialect) (before : List ℕ) → HasRead dialect before self → IfOk result (λ reader. HasRead dialect (before ++ bytes.now) reader) }
+        ensures rows { (dialect : Dialect) (before : List ℕ) → HasRead dialect before self → OnOk result (AppendsRest (ended_rows dialect before) (ended_rows dialect (before ++ bytes.now)) (map fields_of rows.old.items) (map fields_of rows.new.items)) }
+        ensures fault { (dialect : Dialect) (before behind : List ℕ) → HasRead dialect before self → Foretells (rows_fault dialect ((before ++ bytes.now) ++ behind)) result }
+        ensures sound { (dialect : Dialect) (before behind : List ℕ) → HasRead dialect before self → OnFault result
+            (AppendsRest (ended_rows dialect before) (sound_rows dialect ((before ++ bytes.now) ++ behind))
             (map fields_of rows.old.items) (map fields_of rows.new.items)) }
-        ensures cut { (delimiter : ℕ) (before behind : List ℕ) → HasRead delimiter before self → OnErr result
-            (AppendsSome (ended_rows delimiter before) (sound_rows delimiter ((before ++ bytes.now) ++ behind))
+        ensures cut { (dialect : Dialect) (before behind : List ℕ) → HasRead dialect before self → OnErr result
+            (AppendsSome (ended_rows dialect before) (sound_rows dialect ((before ++ bytes.now) ++ behind))
             (map fields_of rows.old.items) (map fields_of rows.new.items)) }
     {
         let mut reader = self;
@@ -191,10 +202,10 @@ impl RowReader {
     /// Ends the reading when no byte is left, and appends the row that ends with the input, unless
     /// it is bad.
     pub fn finish(self, rows: &mut Vec<StringRecord>) -> Result<(), RowsFault>
-        ensures rows { (delimiter : ℕ) (bytes : List ℕ) → HasRead delimiter bytes self → OnOk result (AppendsRest (ended_rows delimiter bytes) (rows_of delimiter bytes) (map fields_of rows.old.items) (map fields_of rows.new.items)) }
-        ensures fault { (delimiter : ℕ) (bytes : List ℕ) → HasRead delimiter bytes self → Tells (rows_fault delimiter bytes) result }
-        ensures sound { (delimiter : ℕ) (bytes : List ℕ) → HasRead delimiter bytes self → OnFault result
-            (AppendsRest (ended_rows delimiter bytes) (sound_rows delimiter bytes)
+        ensures rows { (dialect : Dialect) (bytes : List ℕ) → HasRead dialect bytes self → OnOk result (AppendsRest (ended_rows dialect bytes) (rows_of dialect bytes) (map fields_of rows.old.items) (map fields_of rows.new.items)) }
+        ensures fault { (dialect : Dialect) (bytes : List ℕ) → HasRead dialect bytes self → Tells (rows_fault dialect bytes) result }
+        ensures sound { (dialect : Dialect) (bytes : List ℕ) → HasRead dialect bytes self → OnFault result
+            (AppendsRest (ended_rows dialect bytes) (sound_rows dialect bytes)
             (map fields_of rows.old.items) (map fields_of rows.new.items)) }
         ensures kept { OnErr result (rows.new.items ≡ rows.old.items) }
     {

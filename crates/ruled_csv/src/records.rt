@@ -5,6 +5,7 @@ ghost use Rattle.csv.specs.Records.{fields_of};
 ghost use Rattle.ruled_csv.specs.Faults.{Tells, rows_fault};
 ghost use Rattle.ruled_csv.specs.Rows.{rows_of};
 
+use crate::dialect::Dialect;
 use crate::fault::RowsFault;
 use crate::reader::RowReader;
 use csv::StringRecord;
@@ -12,16 +13,21 @@ use std::alloc::Global;
 
 /// The rows of separated values, each a record of its fields.
 ///
-/// The byte `delimiter` separates fields, which are quoted as in CSV. LF, CRLF and a lone CR end a
-/// row, an empty line is no row, and a byte order mark at the front is skipped. The fault is that
-/// of the first bad row: one with another number of fields than row 0, one that isn't UTF-8, or one
-/// in which a quote isn't closed or is followed by text. The only other fault is out of memory.
-pub fn read_rows(alloc: Global, delimiter: u8, bytes: &[u8]) -> Result<Vec<StringRecord>, RowsFault>
-    ensures rows { IfOk result (λ rows. map fields_of rows.items ≡ rows_of delimiter bytes.now) }
-    ensures fault { Tells (rows_fault delimiter bytes.now) result }
+/// The byte `dialect.delimiter` separates fields, which are quoted as in CSV. LF, CRLF and a lone CR
+/// end a row, an empty line is no row, and a byte order mark at the front is skipped. The fault is
+/// that of the first bad row: one with another number of fields than row 0, unless rows may be
+/// ragged, one that isn't UTF-8, or one in which a quote isn't closed or is followed by text. The
+/// only other fault is out of memory.
+pub fn read_rows(
+    alloc: Global,
+    dialect: Dialect,
+    bytes: &[u8],
+) -> Result<Vec<StringRecord>, RowsFault>
+    ensures rows { IfOk result (λ rows. map fields_of rows.items ≡ rows_of dialect bytes.now) }
+    ensures fault { Tells (rows_fault dialect bytes.now) result }
 {
     let mut rows = Vec::new(alloc);
-    let reader = RowReader::new(alloc, delimiter).read(bytes, &mut rows)?;
+    let reader = RowReader::new(alloc, dialect).read(bytes, &mut rows)?;
     reader.finish(&mut rows)?;
     Ok(rows)
 }

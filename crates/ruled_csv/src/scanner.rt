@@ -5,11 +5,13 @@ ghost use Rattle.std.specs.List.{list_all};
 ghost use Rattle.csv.specs.Machine.{in_field, start_field, step};
 ghost use Rattle.csv.specs.Records.{fields_of};
 ghost use Rattle.csv.specs.declared.parser.State.TheVariants as st;
+ghost use Rattle.ruled_csv.specs.declared.dialect.Dialect.{Dialect};
 ghost use Rattle.ruled_csv.specs.Faults.{Tells};
 ghost use Rattle.ruled_csv.specs.Inside.{Joins, behind_fault, empty_hand, hand_after, hand_cut, hand_of, is_act_behind, is_bare, is_behind, is_calm, is_open, last_row, open_fault, opens, row_ended, state_of, step_of};
 ghost use Rattle.ruled_csv.specs.Quotes.{is_closing, is_plain, is_quoted};
 ghost use Rattle.ruled_csv.specs.Rows.{config_of};
 
+use crate::dialect::Dialect;
 use crate::fault::RowsFault;
 use crate::lines::Lines;
 use csv::ByteRecord;
@@ -58,14 +60,14 @@ pub(crate) struct Step {
 }
 
 // What a byte does that can't open a quote.
-fn plain_step(delimiter: u8, byte: u8) -> Step
-    ensures step { step_of result ≡ in_field (config_of delimiter) byte }
+fn plain_step(dialect: Dialect, byte: u8) -> Step
+    ensures step { step_of result ≡ in_field (config_of dialect) byte }
     ensures opens { is_open result.act ≡ false }
     ensures behind { is_act_behind result.act ≡ false }
     ensures bare { is_bare (state_of result.next) ≡ true }
 {
     let (next, act) = match byte {
-        _ if byte == delimiter => (Standing::Field, Act::EndField),
+        _ if byte == dialect.delimiter => (Standing::Field, Act::EndField),
         b'\r' => (Standing::Return, Act::EndRow),
         b'\n' => (Standing::Row, Act::EndRow),
         _ => (Standing::Plain, Act::Join),
@@ -74,13 +76,13 @@ fn plain_step(delimiter: u8, byte: u8) -> Step
 }
 
 // What a byte does after a closing quote.
-fn behind_step(delimiter: u8, byte: u8) -> Step
-    ensures step { step_of result ≡ in_field (config_of delimiter) byte }
+fn behind_step(dialect: Dialect, byte: u8) -> Step
+    ensures step { step_of result ≡ in_field (config_of dialect) byte }
     ensures opens { is_open result.act ≡ false }
     ensures behind { is_act_behind result.act ≡ is_plain (state_of result.next) }
     ensures bare { is_bare (state_of result.next) ≡ true }
 {
-    let step = plain_step(delimiter, byte);
+    let step = plain_step(dialect, byte);
     match step.act {
         Act::Join => Step {
             next: step.next,
@@ -91,8 +93,8 @@ fn behind_step(delimiter: u8, byte: u8) -> Step
 }
 
 // What the first byte of a field does.
-fn first_step(delimiter: u8, byte: u8) -> Step
-    ensures step { step_of result ≡ start_field (config_of delimiter) byte }
+fn first_step(dialect: Dialect, byte: u8) -> Step
+    ensures step { step_of result ≡ start_field (config_of dialect) byte }
     ensures opens { is_open result.act ≡ not (is_bare (state_of result.next)) }
     ensures behind { is_act_behind result.act ≡ false }
 {
@@ -102,12 +104,12 @@ fn first_step(delimiter: u8, byte: u8) -> Step
             act: Act::Open,
         };
     }
-    plain_step(delimiter, byte)
+    plain_step(dialect, byte)
 }
 
 // What a byte does inside quotes.
 fn quoted_step(byte: u8) -> Step
-    ensures step { (delimiter : ℕ) → step_of result ≡ step (config_of delimiter) st.InQuoted byte }
+    ensures step { (dialect : Dialect) → step_of result ≡ step (config_of dialect) st.InQuoted byte }
     ensures opens { is_open result.act ≡ false }
     ensures behind { is_act_behind result.act ≡ false }
 {
@@ -134,8 +136,8 @@ fn run_of(bytes: &[u8]) -> usize
 
 impl Standing {
     // What the byte after this does.
-    fn step(self, delimiter: u8, byte: u8) -> Step
-        ensures step { step_of result ≡ step (config_of delimiter) (state_of self) byte }
+    fn step(self, dialect: Dialect, byte: u8) -> Step
+        ensures step { step_of result ≡ step (config_of dialect) (state_of self) byte }
         ensures opens { is_open result.act ≡ opens (state_of self) (state_of result.next) }
         ensures behind { is_act_behind result.act ≡ is_behind (state_of self) (state_of result.next) }
     {
@@ -144,22 +146,15 @@ impl Standing {
                 next: Standing::Row,
                 act: Act::Pass,
             },
-            Standing::Row | Standing::Return | Standing::Field => first_step(delimiter, byte),
-            Standing::Plain => plain_step(delimiter, byte),
+            Standing::Row | Standing::Return | Standing::Field => first_step(dialect, byte),
+            Standing::Plain => plain_step(dialect, byte),
             Standing::Quoted => quoted_step(byte),
             Standing::Closing if byte == b'"' => Step {
                 next: Standing::Quoted,
                 act: Act::Join,
             },
-            Standing::Closing => behind_step(delimiter, byte),
+            Standing::Closing => behind_step(dialect, byte),
         }
-    }
-
-    /// What comes before the byte after this one.
-    pub(crate) fn after(self, delimiter: u8, byte: u8) -> Standing
-        ensures { state_of result ≡ (step (config_of delimiter) (state_of self) byte).0 }
-    {
-        self.step(delimiter, byte).next
     }
 
     /// Whether a quote is open.
@@ -185,7 +180,7 @@ impl Standing {
 /// A scan over bytes, with the current row so far.
 #[derive(Drop)]
 pub(crate) struct Scanner {
-    delimiter: u8,
+    pub(crate) dialect: Dialect,
     standing: Standing,
     row: ByteRecord,
     field: Vec<u8>,
@@ -198,12 +193,12 @@ pub(crate) struct Scanner {
 
 impl Scanner {
     /// A scan at the first byte.
-    pub(crate) fn new(alloc: Global, delimiter: u8) -> Scanner
-        ensures delimiter { result.delimiter ≡ delimiter }
+    pub(crate) fn new(alloc: Global, dialect: Dialect) -> Scanner
+        ensures dialect { result.dialect ≡ dialect }
         ensures hand { hand_of result ≡ empty_hand }
     {
         Scanner {
-            delimiter,
+            dialect,
             standing: Standing::Row,
             row: ByteRecord::new(alloc),
             field: Vec::new(alloc),
@@ -215,7 +210,7 @@ impl Scanner {
 
     /// Begins anew.
     pub(crate) fn restart(&mut self)
-        ensures delimiter { self.new.delimiter ≡ self.old.delimiter }
+        ensures dialect { self.new.dialect ≡ self.old.dialect }
         ensures hand { hand_of self.new ≡ empty_hand }
     {
         self.standing = Standing::Row;
@@ -233,7 +228,7 @@ impl Scanner {
     // Ends the current field.
     fn end_field(&mut self) -> Result<(), AllocError>
         ensures hand { OnOk result (hand_of self.new ≡ record (hand_of self.old) { fields = (hand_of self.old).fields ++ ((hand_of self.old).field ∷ []); field = [] }) }
-        ensures delimiter { self.new.delimiter ≡ self.old.delimiter }
+        ensures dialect { self.new.dialect ≡ self.old.dialect }
     {
         self.row.push_field(&self.field)?;
         self.field.clear();
@@ -244,7 +239,7 @@ impl Scanner {
     fn end_row(&mut self) -> Result<ByteRecord, AllocError>
         ensures row { IfOk result (λ row. fields_of row ≡ (hand_of self.old).fields ++ ((hand_of self.old).field ∷ [])) }
         ensures hand { OnOk result (hand_of self.new ≡ record (hand_of self.old) { fields = []; field = [] }) }
-        ensures delimiter { self.new.delimiter ≡ self.old.delimiter }
+        ensures dialect { self.new.dialect ≡ self.old.dialect }
     {
         self.end_field()?;
         let row = self.row.clone()?;
@@ -255,7 +250,7 @@ impl Scanner {
     // Adds these bytes to the current field, and ends it.
     fn end_field_with(&mut self, bytes: &[u8]) -> Result<(), AllocError>
         ensures hand { OnOk result (hand_of self.new ≡ record (hand_of self.old) { fields = (hand_of self.old).fields ++ (((hand_of self.old).field ++ bytes.now) ∷ []); field = [] }) }
-        ensures delimiter { self.new.delimiter ≡ self.old.delimiter }
+        ensures dialect { self.new.dialect ≡ self.old.dialect }
     {
         if self.field.is_empty() {
             return self.row.push_field(bytes);
@@ -266,10 +261,10 @@ impl Scanner {
 
     // Reads a run outside quotes.
     fn cut_run(&mut self, run: &[u8]) -> Result<(), AllocError>
-        ensures hand { OnOk result (hand_of self.new ≡ hand_cut self.old.delimiter (hand_of self.old) run.now) }
-        ensures delimiter { self.new.delimiter ≡ self.old.delimiter }
+        ensures hand { OnOk result (hand_of self.new ≡ hand_cut self.old.dialect (hand_of self.old) run.now) }
+        ensures dialect { self.new.dialect ≡ self.old.dialect }
     {
-        let delimiter = self.delimiter;
+        let delimiter = self.dialect.delimiter;
         let mut standing = self.standing;
         let mut start = 0;
         for at in 0..run.len() {
@@ -290,8 +285,8 @@ impl Scanner {
         requires calm { IsTrue (list_all is_calm run.now) }
         requires some { 0 < length run.now }
         requires open { is_closing (state_of self.old.standing) ≡ false }
-        ensures hand { OnOk result (Joins self.old.delimiter run.now (hand_of self.old) (hand_of self.new)) }
-        ensures delimiter { self.new.delimiter ≡ self.old.delimiter }
+        ensures hand { OnOk result (Joins self.old.dialect run.now (hand_of self.old) (hand_of self.new)) }
+        ensures dialect { self.new.dialect ≡ self.old.dialect }
     {
         self.begun = if self.standing.is_between() {
             self.lines.line()
@@ -310,8 +305,8 @@ impl Scanner {
     /// quote that may close its field it reads none.
     pub(crate) fn read_run(&mut self, bytes: &[u8]) -> Result<usize, AllocError>
         ensures within { IfOk result (λ count. count ≤ length bytes.now) }
-        ensures hand { IfOk result (λ count. Joins self.old.delimiter (take count bytes.now) (hand_of self.old) (hand_of self.new)) }
-        ensures delimiter { self.new.delimiter ≡ self.old.delimiter }
+        ensures hand { IfOk result (λ count. Joins self.old.dialect (take count bytes.now) (hand_of self.old) (hand_of self.new)) }
+        ensures dialect { self.new.dialect ≡ self.old.dialect }
     {
         if self.standing.is_closing() || !begins_run(bytes) {
             return Ok(0);
@@ -326,12 +321,12 @@ impl Scanner {
 
     /// Reads a byte, and returns the row that ends with it.
     pub(crate) fn read(&mut self, byte: u8) -> Result<Option<ByteRecord>, RowsFault>
-        ensures row { IfOk result (λ found. option_map fields_of found ≡ row_ended self.old.delimiter (hand_of self.old) byte) }
-        ensures hand { OnOk result (hand_of self.new ≡ hand_after self.old.delimiter (hand_of self.old) byte) }
-        ensures fault { Tells (behind_fault self.old.delimiter (hand_of self.old) byte) result }
-        ensures delimiter { self.new.delimiter ≡ self.old.delimiter }
+        ensures row { IfOk result (λ found. option_map fields_of found ≡ row_ended self.old.dialect (hand_of self.old) byte) }
+        ensures hand { OnOk result (hand_of self.new ≡ hand_after self.old.dialect (hand_of self.old) byte) }
+        ensures fault { Tells (behind_fault self.old.dialect (hand_of self.old) byte) result }
+        ensures dialect { self.new.dialect ≡ self.old.dialect }
     {
-        let step = self.standing.step(self.delimiter, byte);
+        let step = self.standing.step(self.dialect, byte);
         let line = self.lines.line();
         if self.standing.is_between() {
             self.begun = line;
@@ -361,6 +356,7 @@ impl Scanner {
     pub(crate) fn end(&mut self) -> Result<Option<ByteRecord>, RowsFault>
         ensures row { IfOk result (λ found. option_map fields_of found ≡ last_row (hand_of self.old)) }
         ensures fault { Tells (open_fault (hand_of self.old)) result }
+        ensures dialect { self.new.dialect ≡ self.old.dialect }
     {
         match self.standing {
             Standing::Row | Standing::Return => Ok(None),

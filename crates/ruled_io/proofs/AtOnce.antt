@@ -13,7 +13,7 @@ use Rattle.ruled_table.specs.Blocks.{record_block, record_fault, records_fault}
 use Rattle.ruled_table.specs.Faults as tables
 use Rattle.ruled_table.specs.Columns.{column_fault}
 use Rattle.ruled_table.specs.Layouts.{first_fault, layout_of, whole_text}
-use Rattle.ruled_table.specs.Shown.{heads, limit_of}
+use Rattle.ruled_table.specs.Arranged.{arranged, chosen_rows}
 use Rattle.ruled_table.specs.Plans.{Plan}
 use Rattle.ruled_table.specs.RowLines.{begun_text}
 use Rattle.ruled_table.specs.View.{all_fault, all_text, table_fault, table_text, whole_fault, whole_table}
@@ -26,7 +26,7 @@ use Rattle.ruled_io.specs.Steps.{Draws, DrawsInMemory, EndsBelow, FailsIn, Grows
 use Rattle.ruled_io.specs.Writing.{Begins}
 use Rattle.ruled_io.specs.declared.fault.RunFault.{RunFault}
 use Rattle.ruled_io.specs.declared.fault.RunFault.TheVariants.{Input, Read, Closed, Write}
-use Rattle.ruled_table.proofs.WholeTables.{heads-named as tables-named}
+use Rattle.ruled_table.proofs.WholeTables.{chosen-named as tables-named}
 use Rattle.ruled_io.proofs.Drawn.{begun-none, begun-whole}
 use Rattle.ruled_io.proofs.Growing.{begins-behind, begins-longer, begins-none, grows-more, nears-more, nears-on}
 use Rattle.ruled_io.proofs.Written.{Goes, goes-end, goes-on}
@@ -144,16 +144,16 @@ whole-draws options plan given rows old new result laid same none draws =
     subst (λ (w : Option ViewFault). Draws (whole_table options given) w old new result) (sym none) (subst (λ (t : Text). Draws t None old new result) text so)
 
 -- those that are shown of all rows, in one form of two
-pub shown-draws : {X : Type 0} (options : Options) (all rows : List (List Text)) (text : Text) (wrong : Option ViewFault) (old new : Option (List ℕ)) (result : Result X RunFault) → rows ≡ heads options all → column_fault options.columns.items all ≡ None
+pub shown-draws : {X : Type 0} (options : Options) (all rows : List (List Text)) (text : Text) (wrong : Option ViewFault) (old new : Option (List ℕ)) (result : Result X RunFault) → rows ≡ chosen_rows options all → column_fault options.columns.items (arranged options all) ≡ None
     → text ≡ all_text options rows → wrong ≡ all_fault options rows → Draws text wrong old new result → Draws (table_text options all) (table_fault options all) old new result
 shown-draws options all rows text wrong old new result are named is told draws =
     let texts : text ≡ table_text options all = is ∙ ap (all_text options) are in
-    let faults : wrong ≡ table_fault options all = told ∙ ap (all_fault options) are ∙ ap (λ (f : Option ViewFault). option_or f (all_fault options (heads options all))) (sym named) in
+    let faults : wrong ≡ table_fault options all = told ∙ ap (all_fault options) are ∙ ap (λ (f : Option ViewFault). option_or f (all_fault options (chosen_rows options all))) (sym named) in
     subst (λ (w : Option ViewFault). Draws (table_text options all) w old new result) faults (subst (λ (t : Text). Draws t wrong old new result) texts draws)
 
 -- those that are shown have the columns of all
-pub heads-named : (options : Options) (all rows : List (List Text)) → rows ≡ heads options all → column_fault options.columns.items all ≡ None → column_fault options.columns.items rows ≡ None
-heads-named options all rows are none = ap (column_fault options.columns.items) are ∙ tables-named (limit_of options) options.columns.items all none
+pub chosen-named : (options : Options) (all rows : List (List Text)) → rows ≡ chosen_rows options all → column_fault options.columns.items (arranged options all) ≡ None → column_fault options.columns.items rows ≡ None
+chosen-named options all rows are none = ap (column_fault options.columns.items) are ∙ tables-named options all none
 
 -- a row less
 pub drop-one : {X Y : Type 0} (f : X → Y) (xs : List X) → map f (drop 1 xs) ≡ drop 1 (map f xs)

@@ -23,7 +23,7 @@ use Rattle.ruled_io.specs.declared.fault.InputFault.{InputFault}
 use Rattle.ruled_io.specs.declared.fault.InputFault.TheVariants.{Memory}
 use Rattle.ruled_io.specs.declared.fault.RunFault.{RunFault}
 use Rattle.ruled_io.specs.declared.fault.RunFault.TheVariants.{Input, Read, Closed, Write}
-use Rattle.ruled_io.specs.declared.formats.Format.{Format}
+use Rattle.ruled_io.specs.declared.formats.Known.{Known}
 use Rattle.ruled_io.specs.declared.request.Request.{Request}
 use Rattle.ruled_io.specs.declared.request.Source.{Source}
 use Rattle.ruled_io.proofs.Growing.{begins-all, begins-kept}
@@ -32,16 +32,16 @@ use Rattle.ruled_io.proofs.Growing.{begins-all, begins-kept}
 
 module _ {V : Type 0} (rows : V → List (List Text)) (source : Source) (bytes : List ℕ) where
   -- they are in the bytes
-  pub held_rows : (told : Option Format) (result : Result V InputFault) → holds_database source bytes ≡ false → told ≡ format_told source
-      → IfOk result (λ v. rows v ≡ rows_in told bytes) → Tells (input_fault told bytes) result → IfOk result (λ v. AreRows source bytes (rows v))
+  pub held_rows : (known : Known) (result : Result V InputFault) → holds_database source bytes ≡ false → known ≡ format_told source
+      → IfOk result (λ v. rows v ≡ rows_in known bytes) → Tells (input_fault known bytes) result → IfOk result (λ v. AreRows source bytes (rows v))
   held_rows told (Ok v) other is held tells =
-      subst (λ (holds : Bool). AreRowsAs holds source bytes (rows v)) (sym other) (ap (λ (t : Option Format). input_fault t bytes) (sym is) ∙ tells, held ∙ ap (λ (t : Option Format). rows_in t bytes) is)
+      subst (λ (holds : Bool). AreRowsAs holds source bytes (rows v)) (sym other) (ap (λ (t : Known). input_fault t bytes) (sym is) ∙ tells, held ∙ ap (λ (t : Known). rows_in t bytes) is)
   held_rows told (Err fault) other is held tells = tt
 
-  pub lacking_rows : (told : Option Format) (result : Result V InputFault) → holds_database source bytes ≡ false → told ≡ format_told source → Tells (input_fault told bytes) result → IfErr result (LacksRows source bytes)
+  pub lacking_rows : (known : Known) (result : Result V InputFault) → holds_database source bytes ≡ false → known ≡ format_told source → Tells (input_fault known bytes) result → IfErr result (LacksRows source bytes)
   lacking_rows told (Ok v) other is tells = tt
   lacking_rows told (Err fault) other is tells =
-      subst (λ (holds : Bool). LacksRowsAs holds source bytes fault) (sym other) (λ counts. ap (λ (t : Option Format). input_fault t bytes) (sym is) ∙ tells counts)
+      subst (λ (holds : Bool). LacksRowsAs holds source bytes fault) (sym other) (λ counts. ap (λ (t : Known). input_fault t bytes) (sym is) ∙ tells counts)
 
   -- they are asked of a database
   pub asked_held : (result : Result V InputFault) → holds_database source bytes ≡ true → IfOk result (λ v. AreAsked source bytes (rows v)) → IfOk result (λ v. AreRows source bytes (rows v))

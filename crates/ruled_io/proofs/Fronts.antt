@@ -7,8 +7,8 @@ use Rattle.std.proofs.lemmas.Bool.Decides.{nat_tests}
 use Rattle.std.proofs.lemmas.Bool.{and_parts, cases_Bool, eqb-true, false≢true}
 use Rattle.std.proofs.lemmas.List.Folds.{find-append}
 use Rattle.csv.specs.Reading.{is_bom, strip_bom}
-use Rattle.ruled_io.specs.Formats.{delimiter_seen, ends_line, first_line, first_sign, format_from, format_shown, has}
-use Rattle.ruled_io.specs.declared.formats.Format.TheVariants.{Separated}
+use Rattle.ruled_io.specs.Formats.{delimiter_seen, ends_line, first_line, first_sign, format_from, format_shown, has, separated}
+use Rattle.ruled_io.specs.declared.formats.Format.{Format}
 
 -- ---- marks
 
@@ -93,22 +93,22 @@ delimiter-shown text behind ends = ap (λ (line : List ℕ). if has 9 line && no
 sign-shown : (text behind : List ℕ) (sign : ℕ) → first_sign text ≡ Some sign → first_sign (text ++ behind) ≡ Some sign
 sign-shown text behind sign is = find-append _ text behind ∙ rw is refl
 
-same-delimiter : (sign : Option ℕ) (text other : List ℕ) → delimiter_seen other ≡ delimiter_seen text → format_from sign other ≡ format_from sign text
-same-delimiter None text other same = ap Separated same
-same-delimiter (Some sign) text other same = rw same refl
+same-delimiter : (is_ragged : Bool) (sign : Option ℕ) (text other : List ℕ) → delimiter_seen other ≡ delimiter_seen text → format_from is_ragged sign other ≡ format_from is_ragged sign text
+same-delimiter is_ragged None text other same = ap (λ (delimiter : ℕ). separated delimiter is_ragged) same
+same-delimiter is_ragged (Some sign) text other same = rw same refl
 
 -- by the first line
-pub line-shown : (text behind : List ℕ) (sign : ℕ) → first_sign text ≡ Some sign → list_any ends_line text ≡ true → format_from (first_sign (text ++ behind)) (text ++ behind) ≡ format_from (first_sign text) text
-line-shown text behind sign is ends =
-    rw (sign-shown text behind sign is, is) (same-delimiter (Some sign) text (text ++ behind) (delimiter-shown text behind ends))
+pub line-shown : (is_ragged : Bool) (text behind : List ℕ) (sign : ℕ) → first_sign text ≡ Some sign → list_any ends_line text ≡ true → format_from is_ragged (first_sign (text ++ behind)) (text ++ behind) ≡ format_from is_ragged (first_sign text) text
+line-shown is_ragged text behind sign is ends =
+    rw (sign-shown text behind sign is, is) (same-delimiter is_ragged (Some sign) text (text ++ behind) (delimiter-shown text behind ends))
 
 -- by the first sign
-pub bracket-shown : (text behind : List ℕ) (sign : ℕ) → first_sign text ≡ Some sign → (sign ≡ 91) ⊎ (sign ≡ 123) → format_from (first_sign (text ++ behind)) (text ++ behind) ≡ format_from (first_sign text) text
-bracket-shown text behind sign is (inl bracket) = rw (sign-shown text behind sign is, is, bracket) refl
-bracket-shown text behind sign is (inr brace) = rw (sign-shown text behind sign is, is, brace) refl
+pub bracket-shown : (is_ragged : Bool) (text behind : List ℕ) (sign : ℕ) → first_sign text ≡ Some sign → (sign ≡ 91) ⊎ (sign ≡ 123) → format_from is_ragged (first_sign (text ++ behind)) (text ++ behind) ≡ format_from is_ragged (first_sign text) text
+bracket-shown is_ragged text behind sign is (inl bracket) = rw (sign-shown text behind sign is, is, bracket) refl
+bracket-shown is_ragged text behind sign is (inr brace) = rw (sign-shown text behind sign is, is, brace) refl
 
 -- of an input
-pub input-shown : (bytes text behind : List ℕ) → text ≡ strip_bom bytes → starts_with nat_eq (bytes ++ behind) bom ≡ starts_with nat_eq bytes bom
-    → format_from (first_sign (text ++ behind)) (text ++ behind) ≡ format_from (first_sign text) text → format_shown (bytes ++ behind) ≡ format_shown bytes
-input-shown bytes text behind is mark shown =
-    rw (text-shown bytes behind mark) (subst (λ (t : List ℕ). format_from (first_sign (t ++ behind)) (t ++ behind) ≡ format_from (first_sign t) t) is shown)
+pub input-shown : (is_ragged : Bool) (bytes text behind : List ℕ) → text ≡ strip_bom bytes → starts_with nat_eq (bytes ++ behind) bom ≡ starts_with nat_eq bytes bom
+    → format_from is_ragged (first_sign (text ++ behind)) (text ++ behind) ≡ format_from is_ragged (first_sign text) text → format_shown is_ragged (bytes ++ behind) ≡ format_shown is_ragged bytes
+input-shown is_ragged bytes text behind is mark shown =
+    rw (text-shown bytes behind mark) (subst (λ (t : List ℕ). format_from is_ragged (first_sign (t ++ behind)) (t ++ behind) ≡ format_from is_ragged (first_sign t) t) is shown)

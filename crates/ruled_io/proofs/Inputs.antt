@@ -30,22 +30,22 @@ took-none given mid left front piece took more none = subst (Consumes given left
 pub took-more : (given mid left : Option (List ℕ)) (front piece grown : List ℕ) → Consumes given mid front → Consumes mid left piece → grown ≡ front ++ piece → Consumes given left grown
 took-more given mid left front piece grown took more is = subst (Consumes given left) (sym is) (Consumes-trans given mid left front piece took more)
 
-pub shown-front : (given left : Option (List ℕ)) (front : List ℕ) → Consumes given left front → ((behind : List ℕ) → format_shown (front ++ behind) ≡ format_shown front) → ((behind : List ℕ) → is_database (front ++ behind) ≡ is_database front) → IfSome given (ShowsInput front)
+pub shown-front : (given left : Option (List ℕ)) (front : List ℕ) → Consumes given left front → ((is_ragged : Bool) (behind : List ℕ) → format_shown is_ragged (front ++ behind) ≡ format_shown is_ragged front) → ((behind : List ℕ) → is_database (front ++ behind) ≡ is_database front) → IfSome given (ShowsInput front)
 shown-front None left front took format database = tt
 shown-front (Some all) None front took format database = absurd took
-shown-front (Some all) (Some rest) front took format database = (ap format_shown took ∙ format rest, ap is_database took ∙ database rest)
+shown-front (Some all) (Some rest) front took format database = (λ is_ragged. ap (format_shown is_ragged) took ∙ format is_ragged rest, ap is_database took ∙ database rest)
 
 pub shown-all : (given mid : Option (List ℕ)) (front : List ℕ) → Consumes given mid front → IsAtEnd mid → IfSome given (ShowsInput front)
 shown-all None mid front took end = tt
 shown-all (Some all) None front took end = absurd took
 shown-all (Some all) (Some rest) front took end =
     let same : all ≡ front = took ∙ ap (λ (xs : List ℕ). front ++ xs) end ∙ append-nil front in
-    (ap format_shown same, ap is_database same)
+    (λ is_ragged. ap (format_shown is_ragged) same, ap is_database same)
 
 -- nothing is told of it
 abbrev pub is_seen : Source → Bool
 is_seen (source.Rows format) = false
-is_seen (source.Seen log) = true
+is_seen (source.Seen log is_ragged) = true
 is_seen (source.Database query log) = false
 
 -- they are read then
@@ -58,14 +58,14 @@ front-seen items s (Some all) (Some rest) (Ok front) seen took shows = let (data
 
 pub seen-shows : (s : Source) → is_seen s ≡ true → (front all : List ℕ) → ShowsInput front all → (holds_database s all ≡ holds_database s front) × (format_streamed (format_told s) all ≡ format_streamed (format_told s) front)
 seen-shows (source.Rows format) is front all shows = absurd (true≢false (sym is))
-seen-shows (source.Seen log) is front all shows = (shows.1, shows.0)
+seen-shows (source.Seen log is_ragged) is front all shows = (shows.1, shows.0 is_ragged)
 seen-shows (source.Database query log) is front all shows = absurd (true≢false (sym is))
 
 -- nothing is read where it is
 pub front-told : (s : Source) (given : Option (List ℕ)) (front : List ℕ) → is_seen s ≡ false → front ≡ [] → IfSome given (λ all. ReadsFront s all given front)
 front-told s None front told none = tt
 front-told (source.Rows format) (Some all) front told none = rw none (all, refl, refl, (refl, λ other. refl))
-front-told (source.Seen log) (Some all) front told none = absurd (true≢false told)
+front-told (source.Seen log is_ragged) (Some all) front told none = absurd (true≢false told)
 front-told (source.Database query log) (Some all) front told none = rw none (all, refl, refl, (refl, λ other. absurd (true≢false other)))
 
 -- ---- rows

@@ -23,6 +23,7 @@ use Rattle.ruled_json.specs.declared.line_reader.LineReader.{LineReader}
 use Rattle.ruled_io.specs.Faults.{but_line_in, fault_of_json, fault_of_rows}
 use Rattle.ruled_io.proofs.Readings.{given-on}
 use Rattle.ruled_io.specs.Reading.{AppendsRest, Ends, Gives, GoesOn, ended_rows}
+use Rattle.ruled_csv.specs.declared.dialect.Dialect.{Dialect}
 use Rattle.ruled_io.specs.declared.fault.InputFault.{InputFault}
 use Rattle.ruled_io.specs.declared.fault.InputFault.TheVariants as input
 use Rattle.ruled_io.specs.declared.formats.Format.{Format}
@@ -47,13 +48,13 @@ lines-wrong (json_fault.NoColumn place) some = refl
 lines-wrong json_fault.Memory some = absurd (some refl)
 
 module _ (format : Format) (records : ℕ) (before bytes all : List ℕ) (old new : List (List Text)) where
-  pub rows-more : (delimiter : ℕ) (reader : RowReader) → format ≡ Separated delimiter → csv_reading.HasRead delimiter (before ++ bytes) reader
-      → AppendsRest (csv_rows.ended_rows delimiter before) (csv_rows.ended_rows delimiter (before ++ bytes)) old new → Gives format records before bytes all old new (More (Rows reader))
-  rows-more delimiter reader is has rest = subst (λ (f : Format). Gives f records before bytes all old new (More (Rows reader))) (sym is) ((delimiter, refl, has), rest)
+  pub rows-more : (dialect : Dialect) (reader : RowReader) → format ≡ Separated dialect → csv_reading.HasRead dialect (before ++ bytes) reader
+      → AppendsRest (csv_rows.ended_rows dialect before) (csv_rows.ended_rows dialect (before ++ bytes)) old new → Gives format records before bytes all old new (More (Rows reader))
+  rows-more dialect reader is has rest = subst (λ (f : Format). Gives f records before bytes all old new (More (Rows reader))) (sym is) ((dialect, refl, has), rest)
 
-  pub rows-bad : (delimiter : ℕ) (found : RowsFault) → found ≢ rows_fault.Memory → format ≡ Separated delimiter → (found ≢ rows_fault.Memory → csv_faults.rows_fault delimiter all ≡ Some (csv_faults.but_line found))
-      → (found ≢ rows_fault.Memory → AppendsRest (csv_rows.ended_rows delimiter before) (csv_faults.sound_rows delimiter all) old new) → Gives format records before bytes all old new (Done (Some (input.Rows found)))
-  rows-bad delimiter found some is told rest =
+  pub rows-bad : (dialect : Dialect) (found : RowsFault) → found ≢ rows_fault.Memory → format ≡ Separated dialect → (found ≢ rows_fault.Memory → csv_faults.rows_fault dialect all ≡ Some (csv_faults.but_line found))
+      → (found ≢ rows_fault.Memory → AppendsRest (csv_rows.ended_rows dialect before) (csv_faults.sound_rows dialect all) old new) → Gives format records before bytes all old new (Done (Some (input.Rows found)))
+  rows-bad dialect found some is told rest =
       subst (λ (f : Format). Gives f records before bytes all old new (Done (Some (input.Rows found)))) (sym is)
       (ap (option_map fault_of_rows) (told some) ∙ ap (λ (f : InputFault). Some f) (rows-wrong found some), rest some)
 
@@ -68,13 +69,13 @@ module _ (format : Format) (records : ℕ) (before bytes all : List ℕ) (old ne
       (ap (option_map fault_of_json) (told some) ∙ ap (λ (f : InputFault). Some f) (lines-wrong found some), rest some)
 
 module _ (format : Format) (records : ℕ) (bytes : List ℕ) (old new : List (List Text)) where
-  pub rows-end : (delimiter : ℕ) → format ≡ Separated delimiter → csv_faults.rows_fault delimiter bytes ≡ None
-      → AppendsRest (csv_rows.ended_rows delimiter bytes) (csv_faults.sound_rows delimiter bytes) old new → Ends format records bytes old new (Done None)
-  rows-end delimiter is none rest = subst (λ (f : Format). Ends f records bytes old new (Done None)) (sym is) (ap (option_map fault_of_rows) none, rest)
+  pub rows-end : (dialect : Dialect) → format ≡ Separated dialect → csv_faults.rows_fault dialect bytes ≡ None
+      → AppendsRest (csv_rows.ended_rows dialect bytes) (csv_faults.sound_rows dialect bytes) old new → Ends format records bytes old new (Done None)
+  rows-end dialect is none rest = subst (λ (f : Format). Ends f records bytes old new (Done None)) (sym is) (ap (option_map fault_of_rows) none, rest)
 
-  pub rows-end-bad : (delimiter : ℕ) (found : RowsFault) → found ≢ rows_fault.Memory → format ≡ Separated delimiter → (found ≢ rows_fault.Memory → csv_faults.rows_fault delimiter bytes ≡ Some (csv_faults.but_line found))
-      → (found ≢ rows_fault.Memory → AppendsRest (csv_rows.ended_rows delimiter bytes) (csv_faults.sound_rows delimiter bytes) old new) → Ends format records bytes old new (Done (Some (input.Rows found)))
-  rows-end-bad delimiter found some is told rest =
+  pub rows-end-bad : (dialect : Dialect) (found : RowsFault) → found ≢ rows_fault.Memory → format ≡ Separated dialect → (found ≢ rows_fault.Memory → csv_faults.rows_fault dialect bytes ≡ Some (csv_faults.but_line found))
+      → (found ≢ rows_fault.Memory → AppendsRest (csv_rows.ended_rows dialect bytes) (csv_faults.sound_rows dialect bytes) old new) → Ends format records bytes old new (Done (Some (input.Rows found)))
+  rows-end-bad dialect found some is told rest =
       subst (λ (f : Format). Ends f records bytes old new (Done (Some (input.Rows found)))) (sym is)
       (ap (option_map fault_of_rows) (told some) ∙ ap (λ (f : InputFault). Some f) (rows-wrong found some), rest some)
 
@@ -94,9 +95,9 @@ nil-front : {X : Type 0} (xs ys : List X) → xs ++ ys ≡ [] → xs ≡ []
 nil-front [] ys none = refl
 nil-front (x ∷ xs) ys none = cc
 
-no-rows : (delimiter : ℕ) → csv_faults.sound_rows delimiter [] ≡ []
+no-rows : (dialect : Dialect) → csv_faults.sound_rows dialect [] ≡ []
 unfolding csv_faults.sound_rows strip_bom records_from next_record
-no-rows delimiter = refl
+no-rows dialect = refl
 
 no-lines : (records : ℕ) → json_streamed.sound_line_rows records [] ≡ []
 unfolding strip_bom json_rows.line_rows_of json_faults.line_rows_fault
@@ -104,10 +105,10 @@ no-lines records =
     let none = at_once.fault-as-at-once records [] (omega arith) in
     at_once.as-at-once records [] none (omega arith)
 
-pub rows-begin : (delimiter : ℕ) (reader : RowReader) → csv_reading.HasRead delimiter [] reader → csv_rows.ended_rows delimiter [] ≡ []
-rows-begin delimiter reader has =
-    let (more, same) = csv.ended-sound delimiter [] [] reader has in
-    nil-front (csv_rows.ended_rows delimiter []) more (sym same ∙ no-rows delimiter)
+pub rows-begin : (dialect : Dialect) (reader : RowReader) → csv_reading.HasRead dialect [] reader → csv_rows.ended_rows dialect [] ≡ []
+rows-begin dialect reader has =
+    let (more, same) = csv.ended-sound dialect [] [] reader has in
+    nil-front (csv_rows.ended_rows dialect []) more (sym same ∙ no-rows dialect)
 
 pub lines-begin : (records : ℕ) (reader : LineReader) → json_reading.HasRead records [] reader → json_streamed.ended_line_rows records [] ≡ []
 lines-begin records reader has =

@@ -13,8 +13,8 @@ use Rattle.ruled_io.specs.declared.reader.Reading.TheVariants.{More, Done}
 
 -- rows that are complete are a beginning of all
 ended-sound : (format : Format) (records : ℕ) (before behind : List ℕ) (reader : Reader) → HasTaken format records before reader → (more : List (List Text)) × (ended_rows format records before ++ more ≡ sound_rows format records (before ++ behind))
-ended-sound format records before behind (Rows reader) (delimiter, is, has) =
-    let (more, same) = csv.ended-sound delimiter before behind reader has in
+ended-sound format records before behind (Rows reader) (dialect, is, has) =
+    let (more, same) = csv.ended-sound dialect before behind reader has in
     subst (λ (f : Format). (more : List (List Text)) × (ended_rows f records before ++ more ≡ sound_rows f records (before ++ behind))) (sym is) (more, sym same)
 ended-sound format records before behind (Lines reader) (is, has) =
     let (more, same) = json.ended-sound records before behind reader has in

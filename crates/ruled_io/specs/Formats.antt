@@ -8,14 +8,20 @@ use Rattle.ruled_json.specs.Faults.{is_value}
 use Rattle.ruled_io.specs.declared.formats.Format.{Format}
 use Rattle.ruled_io.specs.declared.formats.Format.TheVariants.{Separated, Json, JsonLines}
 use Rattle.ruled_io.specs.declared.formats.Kind.{Kind}
+use Rattle.ruled_io.specs.declared.formats.Known.{Known}
+use Rattle.ruled_io.specs.declared.formats.Known.TheVariants as known
 use Rattle.ruled_io.specs.declared.formats.Kind.TheVariants.{Rows, Database}
+
+-- fields with this byte between two of them, in rows of one length or not
+abbrev pub separated : ℕ → Bool → Format
+separated delimiter is_ragged = Separated (record { delimiter = delimiter; is_ragged = is_ragged })
 
 -- ---- names
 
 abbrev pub kind_named : List ℕ → Option Kind
 kind_named name =
-    if bytes_eq name (codes "csv") then Some (Rows (Separated 44))
-    else if bytes_eq name (codes "tsv") || bytes_eq name (codes "tab") then Some (Rows (Separated 9))
+    if bytes_eq name (codes "csv") then Some (Rows (separated 44 false))
+    else if bytes_eq name (codes "tsv") || bytes_eq name (codes "tab") then Some (Rows (separated 9 false))
     else if bytes_eq name (codes "json") then Some (Rows Json)
     else if bytes_eq name (codes "jsonl") || bytes_eq name (codes "ndjson") then Some (Rows JsonLines)
     else if bytes_eq name (codes "sqlite") || bytes_eq name (codes "sqlite3") || bytes_eq name (codes "db") then Some Database
@@ -44,32 +50,32 @@ delimiter_seen bytes = if has 9 (first_line bytes) && not (has 44 (first_line by
 
 -- what begins with an opening bracket is JSON, what begins with an opening brace has a value of JSON on each line, and what
 -- begins with neither has its fields apart
-abbrev pub format_from : Option ℕ → List ℕ → Format
-format_from None bytes = Separated (delimiter_seen bytes)
-format_from (Some sign) bytes =
+abbrev pub format_from : Bool → Option ℕ → List ℕ → Format
+format_from is_ragged None bytes = separated (delimiter_seen bytes) is_ragged
+format_from is_ragged (Some sign) bytes =
     if sign == 91 then Json
     else if sign == 123 then JsonLines
-    else Separated (delimiter_seen bytes)
+    else separated (delimiter_seen bytes) is_ragged
 
 -- the format that bytes show, without a byte order mark at their front
-abbrev pub format_shown : List ℕ → Format
-format_shown bytes = format_from (first_sign (strip_bom bytes)) (strip_bom bytes)
+abbrev pub format_shown : Bool → List ℕ → Format
+format_shown is_ragged bytes = format_from is_ragged (first_sign (strip_bom bytes)) (strip_bom bytes)
 
 -- where all bytes are there, what would have a value on each line is one value, where it is one
 abbrev pub is_one_value : Format → List ℕ → Bool
-is_one_value (Separated delimiter) bytes = false
+is_one_value (Separated dialect) bytes = false
 is_one_value Json bytes = true
 is_one_value JsonLines bytes = is_value (strip_bom bytes)
 
 -- the format that is told, or else the one that all bytes show
-abbrev pub format_in : Option Format → List ℕ → Format
-format_in (Some format) bytes = format
-format_in None bytes = if is_one_value (format_shown bytes) bytes then Json else format_shown bytes
+abbrev pub format_in : Known → List ℕ → Format
+format_in (known.Format format) bytes = format
+format_in (known.Nothing is_ragged) bytes = if is_one_value (format_shown is_ragged bytes) bytes then Json else format_shown is_ragged bytes
 
 -- the format that is told, or else the one that the first bytes show, whatever follows them
-abbrev pub format_streamed : Option Format → List ℕ → Format
-format_streamed (Some format) bytes = format
-format_streamed None bytes = format_shown bytes
+abbrev pub format_streamed : Known → List ℕ → Format
+format_streamed (known.Format format) bytes = format
+format_streamed (known.Nothing is_ragged) bytes = format_shown is_ragged bytes
 
 -- what the file of a database of SQLite begins with
 abbrev pub mark : List ℕ

@@ -1,9 +1,10 @@
 -- The rows of an input whose bytes come one piece after another.
-use Rattle.std.specs.Prelude.{◌≡◌, ℕ, false, List, [], ◌++◌, Option, Some, option_map}
+use Rattle.std.specs.Prelude.{◌≡◌, ℕ, Bool, false, List, [], ◌++◌, Option, Some, option_map}
 use Rattle.pg_layout.specs.Text.{Text}
 use Rattle.ruled_csv.specs.Faults as csv_faults
 use Rattle.ruled_csv.specs.Reading as csv_reading
 use Rattle.ruled_csv.specs.Rows as csv_rows
+use Rattle.ruled_csv.specs.declared.dialect.Dialect.{Dialect}
 use Rattle.ruled_json.specs.Reading as json_reading
 use Rattle.ruled_json.specs.Streamed as json_streamed
 use Rattle.ruled_io.specs.Faults.{but_line_in, fault_of_json, fault_of_rows}
@@ -24,13 +25,13 @@ use Rattle.ruled_io.specs.declared.reader.Reading.TheVariants.{More, Done}
 
 -- its rows above the first bad one, all where nothing is wrong; so many first records say the columns of lines of JSON
 abbrev pub sound_rows : Format → ℕ → List ℕ → List (List Text)
-sound_rows (Separated delimiter) records bytes = csv_faults.sound_rows delimiter bytes
+sound_rows (Separated dialect) records bytes = csv_faults.sound_rows dialect bytes
 sound_rows Json records bytes = []
 sound_rows JsonLines records bytes = json_streamed.sound_line_rows records bytes
 
 -- what is wrong with it; a value that holds all rows isn't read one row after another
 abbrev pub wrong_in : Format → ℕ → List ℕ → Option InputFault
-wrong_in (Separated delimiter) records bytes = option_map fault_of_rows (csv_faults.rows_fault delimiter bytes)
+wrong_in (Separated dialect) records bytes = option_map fault_of_rows (csv_faults.rows_fault dialect bytes)
 wrong_in Json records bytes = Some (Stream Value)
 wrong_in JsonLines records bytes = option_map fault_of_json (json_streamed.streamed_line_fault records bytes)
 
@@ -38,13 +39,13 @@ wrong_in JsonLines records bytes = option_map fault_of_json (json_streamed.strea
 
 -- the rows that are complete in it
 abbrev pub ended_rows : Format → ℕ → List ℕ → List (List Text)
-ended_rows (Separated delimiter) records bytes = csv_rows.ended_rows delimiter bytes
+ended_rows (Separated dialect) records bytes = csv_rows.ended_rows dialect bytes
 ended_rows Json records bytes = []
 ended_rows JsonLines records bytes = json_streamed.ended_line_rows records bytes
 
 -- a reader has read these bytes of an input in this format, and found nothing wrong
 abbrev pub HasTaken : Format → ℕ → List ℕ → Reader → Type 0
-HasTaken format records bytes (Rows reader) = (delimiter : ℕ) × (format ≡ Separated delimiter) × csv_reading.HasRead delimiter bytes reader
+HasTaken format records bytes (Rows reader) = (dialect : Dialect) × (format ≡ Separated dialect) × csv_reading.HasRead dialect bytes reader
 HasTaken format records bytes (Lines reader) = (format ≡ JsonLines) × json_reading.HasRead records bytes reader
 
 -- behind the old rows stand those which with the rows above are all of these
@@ -81,7 +82,7 @@ GoesOn format records all left given old new reading = (more : List (List Text))
 
 -- they show its format, and whether it is a database
 abbrev pub ShowsInput : List ℕ → List ℕ → Type 0
-ShowsInput front all = (format_shown all ≡ format_shown front) × (is_database all ≡ is_database front)
+ShowsInput front all = ((is_ragged : Bool) → format_shown is_ragged all ≡ format_shown is_ragged front) × (is_database all ≡ is_database front)
 
 -- where that isn't told
 abbrev pub ShowsSource : Source → List ℕ → List ℕ → Type 0

@@ -4,39 +4,53 @@ use Rattle.pg_layout.specs.Text.{Text}
 use Rattle.ruled_sql.specs.Answers.{keeps_log}
 use Rattle.ruled_io.specs.Formats as formats
 use Rattle.ruled_io.specs.declared.formats.Format.{Format}
+use Rattle.ruled_io.specs.declared.formats.Format.TheVariants as format
+use Rattle.ruled_io.specs.declared.formats.Known.{Known}
+use Rattle.ruled_io.specs.declared.formats.Known.TheVariants as known
 use Rattle.ruled_io.specs.declared.request.Log.{Log}
 use Rattle.ruled_io.specs.declared.request.Log.TheVariants.{Empty, Filled, Unknown}
 use Rattle.ruled_io.specs.declared.request.Source.{Source}
 use Rattle.ruled_io.specs.declared.request.Source.TheVariants.{Rows, Seen, Database}
 
--- the format of its rows, where it is told
-abbrev pub format_told : Source → Option Format
-format_told (Rows format) = Some format
-format_told (Seen log) = None
-format_told (Database query log) = None
+-- what is told of the format of its rows
+abbrev pub format_told : Source → Known
+format_told (Rows format) = known.Format format
+format_told (Seen log is_ragged) = known.Nothing is_ragged
+format_told (Database query log) = known.Nothing false
 
 -- it is a database: that is told, or the first bytes show it
 abbrev pub holds_database : Source → List ℕ → Bool
 holds_database (Rows format) bytes = false
-holds_database (Seen log) bytes = formats.is_database bytes
+holds_database (Seen log is_ragged) bytes = formats.is_database bytes
 holds_database (Database query log) bytes = true
 
 -- the query of a database
 abbrev pub query_of : Source → Option Text
 query_of (Rows format) = None
-query_of (Seen log) = None
+query_of (Seen log is_ragged) = None
 query_of (Database query log) = option_map string_bytes query
 
 -- what is known of its logs
 abbrev pub log_of : Source → Log
 log_of (Rows format) = Empty
-log_of (Seen log) = log
+log_of (Seen log is_ragged) = log
 log_of (Database query log) = log
 
 abbrev pub with_log : Log → Source → Source
-with_log known (Rows format) = Rows format
-with_log known (Seen log) = Seen known
-with_log known (Database query log) = Database query known
+with_log log (Rows format) = Rows format
+with_log log (Seen old is_ragged) = Seen log is_ragged
+with_log log (Database query old) = Database query log
+
+-- rows of separated values may be ragged, or not
+abbrev pub ragged_format : Bool → Format → Format
+ragged_format is_ragged (format.Separated dialect) = format.Separated (record dialect { is_ragged = is_ragged })
+ragged_format is_ragged format.Json = format.Json
+ragged_format is_ragged format.JsonLines = format.JsonLines
+
+abbrev pub with_ragged : Bool → Source → Source
+with_ragged is_ragged (Rows format) = Rows (ragged_format is_ragged format)
+with_ragged is_ragged (Seen log old) = Seen log is_ragged
+with_ragged is_ragged (Database query log) = Database query log
 
 -- rows of a database may stand in a log beside its file
 abbrev pub hides_rows : Log → List ℕ → Bool

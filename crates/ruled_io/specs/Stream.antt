@@ -24,7 +24,7 @@ use Rattle.ruled_io.specs.declared.request.Request.{Request}
 
 -- row 0 is no record: it is a header, or has the names of members
 abbrev pub has_names : Options → Format → Bool
-has_names options (Separated delimiter) = options.has_header
+has_names options (Separated dialect) = options.has_header
 has_names options Json = true
 has_names options JsonLines = true
 

@@ -25,7 +25,7 @@ use crate::lines::{write_end, write_rows};
 use crate::output::Output;
 use crate::request::Request;
 use csv::StringRecord;
-use ruled_table::{Blocks, Layout, Options, TableRows, heads_of};
+use ruled_table::{Blocks, Layout, Options, TableRows, chosen_rows};
 use std::alloc::Global;
 use std::io::{ErrorKind, Read, Write};
 
@@ -185,7 +185,7 @@ fn show_rows<W: Write + Drop>(
     ensures draws { Draws (table_text options.now (map fields_of rows.items)) (table_fault options.now (map fields_of rows.items)) (W.contents out.old.writer) (W.contents out.new.writer) result }
     ensures told { TellsWrite (failure_of out.old) (failure_of out.new) result }
 {
-    let rows = heads_of(alloc, options, rows)?;
+    let rows = chosen_rows(alloc, options, rows)?;
     if options.is_vertical {
         return show_blocks(alloc, options, &rows, out);
     }

@@ -1,22 +1,44 @@
 //! The formats of rows.
 
-ghost use Rattle.std.specs.Prelude.{◌≡◌, ◌<◌, ◌++◌, ℕ, List, None, length, nat_eq, position, true, IfOk, IfSome};
+ghost use Rattle.std.specs.Prelude.{◌≡◌, ◌<◌, ◌++◌, ℕ, Bool, List, length, nat_eq, position, true, IfOk, IfSome};
 ghost use Rattle.std.specs.List.{list_any, starts_with};
 ghost use Rattle.ruled_io.specs.Formats as spec;
+ghost use Rattle.ruled_io.specs.declared.formats.Known.TheVariants as known;
 
-use ruled_csv::without_mark;
+use ruled_csv::{Dialect, without_mark};
 use ruled_json::is_value;
 use std::alloc::{AllocError, Global};
 
 /// How bytes hold rows.
 #[derive(Clone, Copy)]
 pub enum Format {
-    /// Fields with this byte between two of them, quoted as in CSV, and a row on each line.
-    Separated(u8),
+    /// Fields with a byte between two of them, quoted as in CSV, and a row on each line.
+    Separated(Dialect),
     /// One JSON value: an array of objects, or an object.
     Json,
     /// JSON, an object on each line.
     JsonLines,
+}
+
+/// What is known of a format before a byte is read.
+#[derive(Clone, Copy)]
+pub(crate) enum Known {
+    /// All of it.
+    Format(Format),
+    /// Nothing, except whether rows of separated values may be ragged.
+    Nothing { is_ragged: bool },
+}
+
+impl Format {
+    /// Separated values with this byte between two fields, whose rows may be ragged or not.
+    pub fn separated(delimiter: u8, is_ragged: bool) -> Format
+        ensures { result ≡ spec.separated delimiter is_ragged }
+    {
+        Format::Separated(Dialect {
+            delimiter,
+            is_ragged,
+        })
+    }
 }
 
 /// The kind of an input, by the name of its format or by its file's extension.
@@ -37,8 +59,8 @@ impl Kind {
         ensures { result ≡ spec.kind_named name.now }
     {
         match name {
-            "csv" => Some(Kind::Rows(Format::Separated(b','))),
-            "tsv" | "tab" => Some(Kind::Rows(Format::Separated(b'\t'))),
+            "csv" => Some(Kind::Rows(Format::separated(b',', false))),
+            "tsv" | "tab" => Some(Kind::Rows(Format::separated(b'\t', false))),
             "json" => Some(Kind::Rows(Format::Json)),
             "jsonl" | "ndjson" => Some(Kind::Rows(Format::JsonLines)),
             "sqlite" | "sqlite3" | "db" => Some(Kind::Database),
@@ -102,14 +124,14 @@ pub(crate) fn is_database(bytes: &[u8]) -> bool
 }
 
 // The format that the first bytes show, where what begins with an opening brace has a value of JSON on each line.
-fn format_shown(bytes: &[u8]) -> Format
-    ensures { result ≡ spec.format_shown bytes.now }
+fn format_shown(is_ragged: bool, bytes: &[u8]) -> Format
+    ensures { result ≡ spec.format_shown is_ragged bytes.now }
 {
     let text = without_mark(bytes);
     match first_sign(text) {
         Some(b'[') => Format::Json,
         Some(b'{') => Format::JsonLines,
-        _ => Format::Separated(delimiter_seen(text)),
+        _ => Format::separated(delimiter_seen(text), is_ragged),
     }
 }
 
@@ -125,10 +147,10 @@ fn is_one_value(alloc: Global, shown: Format, bytes: &[u8]) -> Result<bool, Allo
 }
 
 // The format that all bytes of an input show.
-fn format_seen(alloc: Global, bytes: &[u8]) -> Result<Format, AllocError>
-    ensures { IfOk result (λ format. format ≡ spec.format_in None bytes.now) }
+fn format_seen(alloc: Global, is_ragged: bool, bytes: &[u8]) -> Result<Format, AllocError>
+    ensures { IfOk result (λ format. format ≡ spec.format_in (known.Nothing is_ragged) bytes.now) }
 {
-    let shown = format_shown(bytes);
+    let shown = format_shown(is_ragged, bytes);
     if is_one_value(alloc, shown, bytes)? {
         return Ok(Format::Json);
     }
@@ -136,26 +158,22 @@ fn format_seen(alloc: Global, bytes: &[u8]) -> Result<Format, AllocError>
 }
 
 /// The format of the bytes of an input: the given one, else the one that they show.
-pub(crate) fn format_in(
-    alloc: Global,
-    told: Option<Format>,
-    bytes: &[u8],
-) -> Result<Format, AllocError>
-    ensures { IfOk result (λ format. format ≡ spec.format_in told bytes.now) }
+pub(crate) fn format_in(alloc: Global, known: Known, bytes: &[u8]) -> Result<Format, AllocError>
+    ensures { IfOk result (λ format. format ≡ spec.format_in known bytes.now) }
 {
-    match told {
-        Some(format) => Ok(format),
-        None => format_seen(alloc, bytes),
+    match known {
+        Known::Format(format) => Ok(format),
+        Known::Nothing { is_ragged } => format_seen(alloc, is_ragged, bytes),
     }
 }
 
 /// The format of streamed rows: the given one, else the one that the first bytes show.
-pub(crate) fn format_streamed(told: Option<Format>, bytes: &[u8]) -> Format
-    ensures { result ≡ spec.format_streamed told bytes.now }
+pub(crate) fn format_streamed(known: Known, bytes: &[u8]) -> Format
+    ensures { result ≡ spec.format_streamed known bytes.now }
 {
-    match told {
-        Some(format) => format,
-        None => format_shown(bytes),
+    match known {
+        Known::Format(format) => format,
+        Known::Nothing { is_ragged } => format_shown(is_ragged, bytes),
     }
 }
 
@@ -175,7 +193,7 @@ fn has_line_end(text: &[u8]) -> bool
 
 // Whether the first bytes of a text show the format of all of it.
 fn shows_text(text: &[u8]) -> bool
-    ensures { result ≡ true → (behind : List ℕ) → spec.format_from (spec.first_sign (text.now ++ behind)) (text.now ++ behind) ≡ spec.format_from (spec.first_sign text.now) text.now }
+    ensures { result ≡ true → (is_ragged : Bool) (behind : List ℕ) → spec.format_from is_ragged (spec.first_sign (text.now ++ behind)) (text.now ++ behind) ≡ spec.format_from is_ragged (spec.first_sign text.now) text.now }
 {
     match first_sign(text) {
         Some(b'[' | b'{') => true,
@@ -186,7 +204,7 @@ fn shows_text(text: &[u8]) -> bool
 
 /// Whether the first bytes of an input show its format and whether it is a database, whatever follows them.
 pub(crate) fn shows_input(bytes: &[u8]) -> bool
-    ensures format { result ≡ true → (behind : List ℕ) → spec.format_shown (bytes.now ++ behind) ≡ spec.format_shown bytes.now }
+    ensures format { result ≡ true → (is_ragged : Bool) (behind : List ℕ) → spec.format_shown is_ragged (bytes.now ++ behind) ≡ spec.format_shown is_ragged bytes.now }
     ensures database { result ≡ true → (behind : List ℕ) → spec.is_database (bytes.now ++ behind) ≡ spec.is_database bytes.now }
 {
     if !shows_mark(bytes, b"\xef\xbb\xbf") {

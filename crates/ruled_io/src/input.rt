@@ -7,7 +7,7 @@ ghost use Rattle.ruled_io.specs.Input.{format_fault, input_fault, rows_in, rows_
 ghost use Rattle.ruled_io.specs.Runs.{AreAsked, AreRows, LacksRows, LacksRowsAs};
 
 use crate::fault::InputFault;
-use crate::formats::{Format, format_in};
+use crate::formats::{Format, Known, format_in};
 use crate::request::Source;
 use csv::StringRecord;
 use ruled_csv::{read_rows, without_mark};
@@ -21,22 +21,18 @@ fn rows_of(alloc: Global, format: Format, bytes: &[u8]) -> Result<Vec<StringReco
     ensures fault { Tells (format_fault format bytes.now) result }
 {
     match format {
-        Format::Separated(delimiter) => Ok(read_rows(alloc, delimiter, bytes)?),
+        Format::Separated(dialect) => Ok(read_rows(alloc, dialect, bytes)?),
         Format::Json => Ok(ruled_json::read_rows(alloc, without_mark(bytes))?),
         Format::JsonLines => Ok(read_line_rows(alloc, without_mark(bytes))?),
     }
 }
 
 // The rows that bytes hold, of which the first is row 0, or why there are none.
-fn rows_in(
-    alloc: Global,
-    told: Option<Format>,
-    bytes: &[u8],
-) -> Result<Vec<StringRecord>, InputFault>
-    ensures rows { IfOk result (λ rows. map fields_of rows.items ≡ rows_in told bytes.now) }
-    ensures fault { Tells (input_fault told bytes.now) result }
+fn rows_in(alloc: Global, known: Known, bytes: &[u8]) -> Result<Vec<StringRecord>, InputFault>
+    ensures rows { IfOk result (λ rows. map fields_of rows.items ≡ rows_in known bytes.now) }
+    ensures fault { Tells (input_fault known bytes.now) result }
 {
-    let format = format_in(alloc, told, bytes)?;
+    let format = format_in(alloc, known, bytes)?;
     rows_of(alloc, format, bytes)
 }
 
@@ -66,5 +62,5 @@ pub(crate) fn all_rows(
     if source.is_database(bytes) {
         return asked_rows(alloc, source, bytes);
     }
-    rows_in(alloc, source.format(), bytes)
+    rows_in(alloc, source.known(), bytes)
 }

@@ -89,7 +89,7 @@ impl<R: Read + Drop> Pieces<R> {
         ensures failed { IfErr result IsOfRead }
     {
         match source {
-            Source::Seen(_) => self.read_shown(alloc),
+            Source::Seen { .. } => self.read_shown(alloc),
             _ => Ok(Vec::new(alloc)),
         }
     }

@@ -96,8 +96,8 @@ impl Reading {
         ensures memory { IfErr result (λ fault. fault ≡ InputFault.Memory) }
     {
         match format {
-            Format::Separated(delimiter) => {
-                let reader = RowReader::new(alloc, delimiter);
+            Format::Separated(dialect) => {
+                let reader = RowReader::new(alloc, dialect);
                 Reader::Rows(reader).read(front, rows)
             }
             Format::JsonLines => {

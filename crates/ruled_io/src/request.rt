@@ -3,7 +3,7 @@
 ghost use Rattle.std.specs.Prelude.{◌≡◌, option_map};
 ghost use Rattle.ruled_io.specs.Requests as spec;
 
-use crate::formats::{Format, is_database};
+use crate::formats::{Format, Known, is_database};
 use ruled_sql::keeps_log;
 use ruled_table::Options;
 
@@ -40,21 +40,24 @@ pub enum Source {
     /// Rows in the format that the first bytes show: `[` begins JSON; `{` begins JSON if all is one
     /// value, else lines of JSON; anything else has tabs between its fields if the first line has a
     /// tab and no comma, else commas. A database, which the first bytes show, too, is refused,
-    /// since no query says which of its rows are shown.
-    Seen(Log),
+    /// since no query says which of its rows are shown. Rows of separated values may be ragged or not.
+    Seen { log: Log, is_ragged: bool },
     /// A database of SQLite, and the SQL statement that selects its rows. Without one it is
     /// refused.
     Database { query: Option<String>, log: Log },
 }
 
 impl Source {
-    // The format of its rows, if it is given.
-    pub(crate) fn format(&self) -> Option<Format>
+    // What is known of the format of its rows.
+    pub(crate) fn known(&self) -> Known
         ensures { result ≡ spec.format_told self.now }
     {
         match self {
-            Source::Rows(format) => Some(*format),
-            Source::Seen(_) | Source::Database { .. } => None,
+            Source::Rows(format) => Known::Format(*format),
+            Source::Seen { is_ragged, .. } => Known::Nothing {
+                is_ragged: *is_ragged,
+            },
+            Source::Database { .. } => Known::Nothing { is_ragged: false },
         }
     }
 
@@ -64,7 +67,7 @@ impl Source {
     {
         match self {
             Source::Rows(_) => false,
-            Source::Seen(_) => is_database(bytes),
+            Source::Seen { .. } => is_database(bytes),
             Source::Database { .. } => true,
         }
     }
@@ -88,7 +91,7 @@ impl Source {
     {
         match self {
             Source::Rows(_) => Log::Empty,
-            Source::Seen(log) => *log,
+            Source::Seen { log, .. } => *log,
             Source::Database { log, .. } => *log,
         }
     }
@@ -99,8 +102,19 @@ impl Source {
     {
         match self {
             Source::Rows(_) => {}
-            Source::Seen(log) => *log = known,
+            Source::Seen { log, .. } => *log = known,
             Source::Database { log, .. } => *log = known,
+        }
+    }
+
+    /// Sets whether rows of separated values may have more or fewer fields than row 0.
+    pub fn set_ragged(&mut self, ragged: bool)
+        ensures { self.new ≡ spec.with_ragged ragged self.old }
+    {
+        match self {
+            Source::Rows(Format::Separated(dialect)) => dialect.is_ragged = ragged,
+            Source::Seen { is_ragged, .. } => *is_ragged = ragged,
+            Source::Rows(_) | Source::Database { .. } => {}
         }
     }
 }

@@ -177,7 +177,7 @@ fn show_input<R: Read + Drop, W: Write + Drop>(
     if request.source.is_database(&front) {
         return Err(RunFault::Input(InputFault::Stream(StreamedFault::Database)));
     }
-    let format = format_streamed(request.source.format(), &front);
+    let format = format_streamed(request.source.known(), &front);
     show_rows(alloc, &request.view, format, count, &front, pieces, out)
 }
 

@@ -1,8 +1,9 @@
 -- Texts and rows that are shown, one after another.
-use Rattle.std.proofs.Common.{◌≡◌, ◌<◌, ◌∙◌, ◌∷◌, ◌++◌, ◌+◌, ℕ, List, [], map, take, drop, length, get_or, slice_index_or, append_assoc, refl, sym, ap, arith}
+use Rattle.std.proofs.Common.{◌≡◌, ◌<◌, ◌∙◌, ◌∷◌, ◌++◌, ◌+◌, ◌-◌, ℕ, max, List, [], Some, map, take, drop, length, get_or, slice_index_or, append_assoc, refl, sym, ap, arith}
 use Rattle.std.specs.List.{range_with_len}
-use Rattle.std.proofs.lemmas.List.{drop_more, map-append, take_more}
+use Rattle.std.proofs.lemmas.List.{drop-map, drop_more, length-map, map-append, take-map, take_more}
 use Rattle.std.proofs.lemmas.List.FromFn.{map-range_with_len_more}
+use Rattle.ruled_table.specs.Arranged.{last_of}
 
 -- one element more of what is made of the first numbers
 pub made_next : {X Z : Type 0} (view : X → Z) (f : ℕ → Z) (made : List X) (x : X) (n : ℕ) → view x ≡ f n
@@ -50,3 +51,12 @@ same_more {X} f xs i d within stays before =
 -- what is left of a list begins with its next element
 pub drop_next : {X : Type 0} (xs : List X) (i : ℕ) (x : X) → i < length xs → x ≡ get_or xs i x → drop i xs ≡ x ∷ drop (i + 1) xs
 drop_next {X} xs i x within is = drop_more xs i x within ∙ ap (λ (y : X). y ∷ drop (i + 1) xs) (sym is)
+
+-- the last ones of a list, of which those between are taken out
+pub last-kept : {X Y : Type 0} (f : X → Y) (xs : List X) (count end : ℕ) → end ≡ length xs - count → 1 < end → map f (take 1 xs ++ drop end xs) ≡ last_of (Some count) (map f xs)
+last-kept {X} {Y} f xs count end is some =
+    let same : end ≡ max 1 (length (map f xs) - count) = omega (arith, is, some, length-map xs f) in
+    map-append f (take 1 xs) (drop end xs)
+    ∙ ap (λ (ys : List Y). ys ++ map f (drop end xs)) (sym (take-map f 1 xs))
+    ∙ ap (λ (ys : List Y). take 1 (map f xs) ++ ys) (sym (drop-map f end xs))
+    ∙ ap (λ (n : ℕ). take 1 (map f xs) ++ drop n (map f xs)) same

@@ -1,4 +1,5 @@
 pub mod Appended
+pub mod Arranged
 pub mod Blocks
 pub mod Bounds
 pub mod Columns

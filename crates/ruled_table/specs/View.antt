@@ -2,10 +2,10 @@
 use Rattle.std.specs.Prelude.{List, ◌∷◌, [], Option, None, if◌then◌else◌}
 use Rattle.std.specs.Option.{option_or}
 use Rattle.pg_layout.specs.Text.{Text}
+use Rattle.ruled_table.specs.Arranged.{arranged, chosen_rows}
 use Rattle.ruled_table.specs.Blocks.{blocks_fault, blocks_text}
 use Rattle.ruled_table.specs.Columns.{column_fault}
 use Rattle.ruled_table.specs.Layouts.{first_fault, layout_of, whole_text}
-use Rattle.ruled_table.specs.Shown.{heads}
 use Rattle.ruled_table.specs.declared.fault.ViewFault.{ViewFault}
 use Rattle.ruled_table.specs.declared.options.Options.{Options}
 
@@ -28,11 +28,11 @@ all_text options rows = if options.is_vertical then blocks_text options rows els
 abbrev pub all_fault : Options → List (List Text) → Option ViewFault
 all_fault options rows = if options.is_vertical then blocks_fault options rows else whole_fault options rows
 
--- ---- of those that are shown
+-- ---- of those that are shown of an input's rows
 
 abbrev pub table_text : Options → List (List Text) → Text
-table_text options rows = all_text options (heads options rows)
+table_text options rows = all_text options (chosen_rows options rows)
 
 -- why there is none: the names of columns, or the sizes
 abbrev pub table_fault : Options → List (List Text) → Option ViewFault
-table_fault options rows = option_or (column_fault options.columns.items rows) (all_fault options (heads options rows))
+table_fault options rows = option_or (column_fault options.columns.items (arranged options rows)) (all_fault options (chosen_rows options rows))

@@ -1,6 +1,7 @@
 //! Rows as a table: texts and options in, the picture of their table out. Nothing is read or written.
 #![tactic(auto)]
 
+mod arrangement;
 mod blocks;
 mod bounds;
 mod columns;
@@ -25,6 +26,7 @@ pub use crate::fault::ViewFault;
 pub use crate::layout::Layout;
 pub use crate::look::Look;
 pub use crate::options::Options;
+pub use crate::rows::limit_of;
 pub use crate::table_rows::TableRows;
-pub use crate::view::heads_of;
+pub use crate::view::chosen_rows;
 pub use pg_table::{Breaking, Overflow};

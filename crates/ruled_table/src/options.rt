@@ -18,8 +18,13 @@ pub struct Options {
     /// `None`, is right-aligned if each text below the header is a number or blank, else
     /// left-aligned.
     pub sides: Vec<Option<AlignmentHorizontal>>,
+    /// Whether row 0 gets an empty name for each further column of the longest row. Else the fields of a row
+    /// beyond those of row 0 are left out. Missing fields are empty.
+    pub is_padded: bool,
     /// The most rows that are shown, not counting a header.
     pub head: Option<u32>,
+    /// The most rows below row 0 that are shown, the last ones of those that `head` allows.
+    pub tail: Option<u32>,
     /// Whether each row below row 0 is shown as a block of its own: a table with a row for each
     /// field, with its name in row 0 and its text, both left-aligned, and an empty line below it.
     pub is_vertical: bool,

@@ -4,6 +4,7 @@
 ghost use Rattle.std.specs.Cow.{cow_str_bytes};
 ghost use Rattle.std.specs.Prelude.{◌≡◌, map, true, IfOk};
 ghost use Rattle.csv.specs.Records.{fields_of};
+ghost use Rattle.ruled_table.specs.Arranged.{tails};
 ghost use Rattle.ruled_table.specs.Shown.{heads, seen_text, shown_text, limit_of};
 
 use crate::columns::field_at;
@@ -126,8 +127,8 @@ pub fn shown_records(
     Ok(rows)
 }
 
-// The most rows that are shown, if that is set.
-fn limit_of(options: &Options) -> Option<usize>
+/// The most rows that [`Options::head`] allows, a header among them, if that is set.
+pub fn limit_of(options: &Options) -> Option<usize>
     ensures { result ≡ limit_of options.now }
 {
     let rows = options.head? as usize;
@@ -143,4 +144,18 @@ pub(crate) fn heads(options: &Options, rows: Vec<StringRecord>) -> Vec<StringRec
         heads.truncate(limit);
     }
     heads
+}
+
+/// Row 0, and the last rows below it that are shown.
+pub(crate) fn tails(options: &Options, rows: Vec<StringRecord>) -> Vec<StringRecord>
+    ensures { map fields_of result.items ≡ tails options.now (map fields_of rows.items) }
+{
+    let mut tails = rows;
+    if let Some(count) = options.tail {
+        let end = tails.len().saturating_sub(count as usize);
+        if end > 1 {
+            tails.drain(1..end);
+        }
+    }
+    tails
 }

@@ -4,12 +4,13 @@ ghost use Rattle.std.specs.Prelude.{◌≡◌, map, IfOk};
 ghost use Rattle.csv.specs.Records.{fields_of};
 ghost use Rattle.ruled_table.specs.Columns.{column_fault};
 ghost use Rattle.ruled_table.specs.Faults.{Tells};
-ghost use Rattle.ruled_table.specs.Shown as spec;
+ghost use Rattle.ruled_table.specs.Arranged as spec;
 
+use crate::arrangement::arranged;
 use crate::columns::places_of;
 use crate::fault::ViewFault;
 use crate::options::Options;
-use crate::rows::heads;
+use crate::rows::{heads, tails};
 use csv::StringRecord;
 use std::alloc::Global;
 
@@ -17,14 +18,15 @@ use std::alloc::Global;
 ///
 /// The fault is the first name of a column that row 0 lacks, whether rows are shown or not, or out
 /// of memory.
-pub fn heads_of(
+pub fn chosen_rows(
     alloc: Global,
     options: &Options,
     rows: Vec<StringRecord>,
 ) -> Result<Vec<StringRecord>, ViewFault>
-    ensures rows { IfOk result (λ shown. map fields_of shown.items ≡ spec.heads options.now (map fields_of rows.items)) }
-    ensures fault { Tells (column_fault options.now.columns.items (map fields_of rows.items)) result }
+    ensures rows { IfOk result (λ shown. map fields_of shown.items ≡ spec.chosen_rows options.now (map fields_of rows.items)) }
+    ensures fault { Tells (column_fault options.now.columns.items (spec.arranged options.now (map fields_of rows.items))) result }
 {
+    let rows = arranged(alloc, options, rows)?;
     let _places = places_of(alloc, &options.columns, &rows)?;
-    Ok(heads(options, rows))
+    Ok(tails(options, heads(options, rows)))
 }

@@ -1,4 +1,4 @@
-use Rattle.std.proofs.Common.{◌∙◌, ap, sym, take}
+use Rattle.std.proofs.Common.{◌∙◌, ap, take}
 use Rattle.std.specs.List.{list_all}
 use Rattle.ruled_csv.specs.Inside.{is_calm}
 use Rattle.ruled_csv.proofs.Runs.{calm-found}

@@ -7,7 +7,7 @@ use Rattle.ruled_io.specs.declared.fault.InputFault.TheVariants.{Stream}
 use Rattle.ruled_io.specs.declared.fault.RunFault.{RunFault}
 use Rattle.ruled_io.specs.declared.fault.RunFault.TheVariants.{Input}
 use Rattle.ruled_io.specs.declared.fault.StreamedFault.TheVariants.{Database}
-use Rattle.ruled_io.specs.declared.formats.Format.{Format}
+use Rattle.ruled_io.specs.declared.formats.Known.{Known}
 use Rattle.ruled_io.proofs.Inputs.{database-ends, if-known, if-more, rows-end-so}
 use Rattle.ruled_io.proofs.Shows.{failed-ends}
 use Rattle.ruled_io.proofs.Tables.{read-fails}
@@ -44,7 +44,7 @@ returns-clause-ends g c =
     let result = c.show_rows.result in
     let none : holds_database request.source front ≡ false = ap (holds_database request.source) (sym c.deref.ensures.value) ∙ sym c.is_database.ensures ∙ c.if-is_database.false in
     let shown : format ≡ format_streamed (format_told request.source) front =
-    c.format_streamed-format.ensures ∙ ap (λ (told : Option Format). format_streamed told c.deref-2.result.now) c.format.ensures ∙ ap (format_streamed (format_told request.source)) c.deref-2.ensures.value
+    c.format_streamed-format.ensures ∙ ap (λ (known : Known). format_streamed known c.deref-2.result.now) c.known.ensures ∙ ap (format_streamed (format_told request.source)) c.deref-2.ensures.value
     in
     if-more {P = λ all. ReadsFront request.source all left front} {Q = λ bytes. StreamsAll request count bytes old new result} (g.R.Read.remaining c.args.pieces.now.input) c.in_ok-front.ensures.read
     (λ bytes is reads.

@@ -6,5 +6,5 @@ pub returns : goal.returns
 unfolding strip_bom
 returns c = record {
   front = refl;
-  scan = record { delimiter_is = c.new.ensures.delimiter; hand = c.new.ensures.hand; counts = (refl, refl); right = refl };
+  scan = record { dialect_is = c.new.ensures.dialect; hand = c.new.ensures.hand; counts = (refl, refl); right = refl };
 }

@@ -1,4 +1,4 @@
-use Rattle.std.proofs.Common.{◌≡◌, ◌≢◌, ◌<◌, ◌+◌, ◌∙◌, ◌++◌, ◌∷◌, [], List, ℕ, length, get_or, sym, ap, arith}
+use Rattle.std.proofs.Common.{◌≡◌, ◌≢◌, ◌<◌, ◌+◌, ◌∙◌, ◌++◌, ◌∷◌, [], length, get_or, sym, ap, arith}
 use Rattle.std.specs.List.{slice_range}
 use Rattle.ruled_csv.specs.Inside.{Hand, hand_of}
 use Rattle.ruled_csv.proofs.Runs.{field-ends, field-joins, state-ends, state-joins}
@@ -8,34 +8,34 @@ pub loop-at-preserved-then-run-at : goal.loop-at-preserved-then-run-at
 loop-at-preserved-then-run-at c =
     let run = c.args.run.now in
     let i = c.loop-at.at in
-    let delimiter = c.args.self.now.delimiter in
+    let dialect = c.args.self.now.dialect in
     let old = hand_of c.args.self.now in
     let now = hand_of c.loop-at.self in
     let (low, same, parts, cut, states) = c.loop-at.invariant in
     let within : i < length run = c.loop-at-test.true in
-    let joins : get_or run i 0 ≢ delimiter = c.if-run-at.true in (
+    let joins : get_or run i 0 ≢ dialect.delimiter = c.if-run-at.true in (
       omega (arith, low),
       same,
       parts,
-      field-joins delimiter run i within (old.fields, old.field) c.loop-at.start now.fields now.field low cut joins,
-      state-joins delimiter run i within old.state joins,
+      field-joins dialect run i within (old.fields, old.field) c.loop-at.start now.fields now.field low cut joins,
+      state-joins dialect run i within old.state joins,
     )
 
 pub loop-at-preserved : goal.loop-at-preserved
 loop-at-preserved c =
     let run = c.args.run.now in
     let i = c.loop-at.at in
-    let delimiter = c.args.self.now.delimiter in
+    let dialect = c.args.self.now.dialect in
     let old = hand_of c.args.self.now in
     let now = hand_of c.loop-at.self in
     let (low, same, parts, cut, states) = c.loop-at.invariant in
     let within : i < length run = c.loop-at-test.true in
-    let ends : get_or run i 0 ≡ delimiter = c.if-run-at.false in
+    let ends : get_or run i 0 ≡ dialect.delimiter = c.if-run-at.false in
     let ended = c.in_ok-end_field_with.ensures in
     let fields = now.fields ++ (now.field ++ slice_range run c.loop-at.start i) ∷ [] in (
       omega arith,
-      ended.delimiter ∙ same,
+      ended.dialect ∙ same,
       ended.hand ∙ ap (λ (hand : Hand). record hand { fields = fields; field = [] }) parts ∙ ap (λ (hand : Hand). record old { fields = hand.fields; field = hand.field }) (sym ended.hand),
-      field-ends delimiter run i within (old.fields, old.field) c.loop-at.start now.fields now.field low cut ends ∙ ap (λ (hand : Hand). (hand.fields, hand.field ++ slice_range run (i + 1) (i + 1))) (sym ended.hand),
-      state-ends delimiter run i within old.state ends,
+      field-ends dialect run i within (old.fields, old.field) c.loop-at.start now.fields now.field low cut ends ∙ ap (λ (hand : Hand). (hand.fields, hand.field ++ slice_range run (i + 1) (i + 1))) (sym ended.hand),
+      state-ends dialect run i within old.state ends,
     )

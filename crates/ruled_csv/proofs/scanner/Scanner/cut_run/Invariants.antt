@@ -9,7 +9,7 @@ invariant-loop-at l =
     let old = hand_of l.fn.self in
     let now = hand_of l.self in
     (l.start ≤ l.at)
-    × (l.self.delimiter ≡ l.fn.self.delimiter)
+    × (l.self.dialect ≡ l.fn.self.dialect)
     × (now ≡ record old { fields = now.fields; field = now.field })
-    × (fold (fields_behind l.fn.self.delimiter) (old.fields, old.field) (take l.at l.run) ≡ (now.fields, now.field ++ slice_range l.run l.start l.at))
-    × (state_of l.standing ≡ fold (state_behind l.fn.self.delimiter) (state_of l.fn.self.standing) (take l.at l.run))
+    × (fold (fields_behind l.fn.self.dialect) (old.fields, old.field) (take l.at l.run) ≡ (now.fields, now.field ++ slice_range l.run l.start l.at))
+    × (state_of l.standing ≡ fold (state_behind l.fn.self.dialect) (state_of l.fn.self.standing) (take l.at l.run))

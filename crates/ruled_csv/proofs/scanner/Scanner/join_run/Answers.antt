@@ -1,4 +1,4 @@
-use Rattle.std.proofs.Common.{◌≡◌, ◌∙◌, ◌++◌, List, ℕ, append_assoc, refl, sym, ap, subst}
+use Rattle.std.proofs.Common.{◌∙◌, ◌++◌, List, ℕ, append_assoc, refl, sym, ap, subst}
 use Rattle.std.proofs.lemmas.Result.{on_ok_weaker}
 use Rattle.csv.specs.Records.{partial_of}
 use Rattle.ruled_csv.specs.Inside.{Hand, Joins, calm_lines, hand_cut, hand_of, state_of}
@@ -12,13 +12,13 @@ returns-then-is_quoted-clause-hand c =
     let run = c.args.run.now in
     let hand = hand_of old in
     let quoted = quoted-state old.standing (sym c.is_quoted.ensures ∙ c.if-is_quoted.true) in
-    let joined = quoted-joins old.delimiter run hand c.requires.calm c.requires.some quoted in
+    let joined = quoted-joins old.dialect run hand c.requires.calm c.requires.some quoted in
     on_ok_weaker c.extend_from_slice.result
     (λ items.
     let field = append_assoc (partial_of old.row) old.field.items run ∙ ap (λ (xs : List ℕ). partial_of old.row ++ xs) (sym items) in
-    let joins = subst (λ (xs : List ℕ). Joins old.delimiter run hand (record hand { field = xs; lines = calm_lines old.lines })) field joined in
+    let joins = subst (λ (xs : List ℕ). Joins old.dialect run hand (record hand { field = xs; lines = calm_lines old.lines })) field joined in
     let after = partial_of old.row ++ c.extend_from_slice.new.self.items in
-    subst (λ (lines : Lines). Joins old.delimiter run hand (record hand { field = after; lines = lines })) (sym c.behind_text-self.ensures) joins)
+    subst (λ (lines : Lines). Joins old.dialect run hand (record hand { field = after; lines = lines })) (sym c.behind_text-self.ensures) joins)
     (on-grown c.extend_from_slice.result _ _ _ c.extend_from_slice.ensures.items)
 
 pub returns-else-is_quoted-clause-hand : goal.returns-else-is_quoted-clause-hand
@@ -27,9 +27,9 @@ returns-else-is_quoted-clause-hand c =
     let run = c.args.run.now in
     let hand = hand_of old in
     let bare = bare-state (state_of old.standing) (sym c.is_quoted.ensures ∙ c.if-is_quoted.false) c.requires.open in
-    let joined = bare-joins old.delimiter run hand old.standing c.requires.calm c.requires.some refl bare in
+    let joined = bare-joins old.dialect run hand old.standing c.requires.calm c.requires.some refl bare in
     on_ok_weaker c.cut_run.result
     (λ is.
-    let after = ap (λ (lines : Lines). hand_cut old.delimiter (record hand { lines = lines }) run) (sym c.behind_text-self.ensures) ∙ sym is in
-    subst (λ (h : Hand). Joins old.delimiter run hand h) after joined)
+    let after = ap (λ (lines : Lines). hand_cut old.dialect (record hand { lines = lines }) run) (sym c.behind_text-self.ensures) ∙ sym is in
+    subst (λ (h : Hand). Joins old.dialect run hand h) after joined)
     c.cut_run.ensures.hand

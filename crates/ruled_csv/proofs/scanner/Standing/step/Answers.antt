@@ -6,4 +6,4 @@ use Rattle.ruled_csv.specs.declared.scanner.Standing.{Standing}
 use Rattle.ruled_csv.proofs.scanner.Standing.step.Goals as goal
 
 pub returns-in-Quoted-clause-step : goal.returns-in-Quoted-clause-step
-returns-in-Quoted-clause-step c = c.quoted_step.ensures.step c.args.delimiter ∙ ap (λ (s : Standing). step (config_of c.args.delimiter) (state_of s) c.args.byte) (sym c.in-Quoted.is)
+returns-in-Quoted-clause-step c = c.quoted_step.ensures.step c.args.dialect ∙ ap (λ (s : Standing). step (config_of c.args.dialect) (state_of s) c.args.byte) (sym c.in-Quoted.is)

@@ -10,9 +10,9 @@ use Rattle.ruled_io.proofs.reader.Reader.read.Goals as goal
 pub returns-in-Err-clause-given : goal.returns-in-Err-clause-given
 returns-in-Err-clause-given c = λ format records before behind taken.
     let some : c.in-Err.fault ≢ rows_fault.Memory = search rules in
-    let (delimiter, is, has) = subst (λ (r : Reader). HasTaken format records before r) c.in-Rows.is taken in
-    rows-bad format records before c.args.bytes.now ((before ++ c.args.bytes.now) ++ behind) (map fields_of c.args.rows.now.items) (map fields_of c.read.new.rows.items) delimiter c.in-Err.fault some is
-    (c.in-Err.ensures.fault delimiter before behind has) (c.in-Err.ensures.sound delimiter before behind has)
+    let (dialect, is, has) = subst (λ (r : Reader). HasTaken format records before r) c.in-Rows.is taken in
+    rows-bad format records before c.args.bytes.now ((before ++ c.args.bytes.now) ++ behind) (map fields_of c.args.rows.now.items) (map fields_of c.read.new.rows.items) dialect c.in-Err.fault some is
+    (c.in-Err.ensures.fault dialect before behind has) (c.in-Err.ensures.sound dialect before behind has)
 
 pub returns-in-Err-read-clause-given : goal.returns-in-Err-read-clause-given
 returns-in-Err-read-clause-given c = λ format records before behind taken.

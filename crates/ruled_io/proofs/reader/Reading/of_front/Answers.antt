@@ -8,8 +8,8 @@ use Rattle.ruled_io.proofs.reader.Reading.of_front.Goals as goal
 pub returns-in-Separated-clause-given : goal.returns-in-Separated-clause-given
 returns-in-Separated-clause-given c = λ rest.
     front-rows c.args.format c.args.records c.args.front.now rest (map fields_of c.args.rows.now.items) (map fields_of c.read.new.rows.items) c.read.result
-    (ap (λ (f : Format). ended_rows f c.args.records []) c.in-Separated.is ∙ rows-begin c.in-Separated.delimiter c.new-reader.result c.new-reader.ensures)
-    (c.read.ensures.given c.args.format c.args.records [] rest (c.in-Separated.delimiter, c.in-Separated.is, c.new-reader.ensures))
+    (ap (λ (f : Format). ended_rows f c.args.records []) c.in-Separated.is ∙ rows-begin c.in-Separated.dialect c.new-reader.result c.new-reader.ensures)
+    (c.read.ensures.given c.args.format c.args.records [] rest (c.in-Separated.dialect, c.in-Separated.is, c.new-reader.ensures))
 
 pub returns-in-JsonLines-clause-given : goal.returns-in-JsonLines-clause-given
 returns-in-JsonLines-clause-given c = λ rest.
