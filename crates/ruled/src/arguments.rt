@@ -306,10 +306,14 @@ fn kind_asked(found: &ArgMatches) -> Result<Option<Kind>, &'static str> {
     }
 }
 
-// What the ending of the file's name tells.
-fn kind_in_name(found: &ArgMatches) -> Option<Kind> {
-    let (_, ending) = name_in(found)?.rsplit_once('.')?;
-    Kind::by_name(ending)
+// What the extension of the file's name says of the input, if anything. A file of CSV may have any delimiter.
+fn source_in_name(found: &ArgMatches) -> Option<Source> {
+    let (_, extension) = name_in(found)?.rsplit_once('.')?;
+    match Kind::by_name(extension)? {
+        Kind::Rows(_) if extension == "csv" => Some(Source::Values { is_ragged: false }),
+        Kind::Rows(format) => Some(Source::Rows(format)),
+        Kind::Database => Some(database(None)),
+    }
 }
 
 // Rows with this delimiter, unless another format is asked for.
@@ -341,13 +345,13 @@ fn source_without_query(found: &ArgMatches, asked: Option<Kind>) -> Result<Sourc
     if let Some(delimiter) = found.get_str("delimiter") {
         return rows_with(delimiter, asked);
     }
-    Ok(match asked.or(kind_in_name(found)) {
+    Ok(match asked {
         Some(Kind::Rows(format)) => Source::Rows(format),
         Some(Kind::Database) => database(None),
-        None => Source::Seen {
+        None => source_in_name(found).unwrap_or(Source::Seen {
             log: Log::Unknown,
             is_ragged: false,
-        },
+        }),
     })
 }
 

@@ -7,11 +7,15 @@ use std::alloc::{AllocError, Global};
 
 // The source that a word names: that of a format, or the one that the input shows.
 fn source_of(word: &str) -> Option<Source> {
-    if word == "seen" {
-        return Some(Source::Seen {
-            log: Log::Empty,
-            is_ragged: false,
-        });
+    match word {
+        "seen" => {
+            return Some(Source::Seen {
+                log: Log::Empty,
+                is_ragged: false,
+            });
+        }
+        "values" => return Some(Source::Values { is_ragged: false }),
+        _ => {}
     }
     match Kind::by_name(word)? {
         Kind::Rows(format) => Some(Source::Rows(format)),

@@ -1,14 +1,20 @@
 -- What the first bytes of an input show of all of it.
-use Rattle.std.proofs.Common.{◌≡◌, ◌∙◌, ◌⊎◌, inl, inr, ℕ, ◌≤◌, ◌&&◌, not, Bool, true, false, List, [], ◌∷◌, ◌++◌, Option, Some, None, length, take, suc, ◌+◌, nat_eq, nat_lt, eq-eqb, refl, sym, ap, subst, arith, rules}
-use Rattle.std.specs.Prelude.{◌==◌, if◌then◌else◌}
-use Rattle.std.specs.List.{before_first, list_any, position_or_len, starts_with}
-use Rattle.std.proofs.lemmas.List.{take_all}
+use Rattle.std.proofs.Common.{◌≡◌, ◌∙◌, ◌≢◌, ◌⊎◌, inl, inr, ℕ, ◌≤◌, ◌<◌, ◌&&◌, not, Bool, true, false, List, [], ◌∷◌, ◌++◌, Option, Some, None, drop, get_or, length, min, take, add-one, suc, ◌+◌, nat_eq, nat_lt, eq-eqb, refl, sym, ap, subst, arith, rules}
+use Rattle.std.specs.Prelude.{◌==◌, codes, is_some, if◌then◌else◌}
+use Rattle.std.specs.List.{count_by, before_first, list_any, position_or_len, starts_with}
+use Rattle.std.proofs.Math.Seq.{drop-cons}
+use Rattle.std.proofs.lemmas.List.Sums.{sum_by-cons}
+use Rattle.std.proofs.lemmas.List.{drop-append-le, drop_all, length-take, take_all}
 use Rattle.std.proofs.lemmas.Bool.Decides.{nat_tests}
-use Rattle.std.proofs.lemmas.Bool.{and_parts, cases_Bool, eqb-true, false≢true}
+use Rattle.std.proofs.lemmas.Bool.{and_parts, cases_Bool, eqb-true, false≢true, ne_eqb}
 use Rattle.std.proofs.lemmas.List.Folds.{find-append}
 use Rattle.csv.specs.Reading.{is_bom, strip_bom}
-use Rattle.ruled_io.specs.Formats.{delimiter_seen, ends_line, first_line, first_sign, format_from, format_shown, has, separated}
+use Rattle.ruled_io.specs.Formats.{count_of, delimiter_seen, ends_line, filled_text, fills_line, first_line, first_sign, format_from, format_shown, is_database, outside, separated, setting_in, setting_of, values_seen}
+use Rattle.ruled_io.specs.Reading.{HoldsOn, SetsAlike, ShowsInput, ShowsText}
 use Rattle.ruled_io.specs.declared.formats.Format.{Format}
+use Rattle.ruled_io.specs.declared.formats.Format.TheVariants.{Separated, Json, JsonLines}
+use Rattle.ruled_io.specs.declared.formats.Known.{Known}
+use Rattle.ruled_io.specs.declared.formats.Known.TheVariants as known
 
 -- ---- marks
 
@@ -85,8 +91,125 @@ line-before bytes = elim (cases_Bool (nat_lt (position_or_len ends_line bytes) (
   | inr past ↦ rw past (sym (take_all (position_or_len ends_line bytes) bytes (search (rules, nat_tests, past))))
 ]
 
-delimiter-shown : (text behind : List ℕ) → list_any ends_line text ≡ true → delimiter_seen (text ++ behind) ≡ delimiter_seen text
-delimiter-shown text behind ends = ap (λ (line : List ℕ). if has 9 line && not (has 44 line) then 9 else 44) (line-before (text ++ behind) ∙ before-shown ends_line text behind ends ∙ sym (line-before text))
+line-shown : (text behind : List ℕ) → list_any ends_line text ≡ true → first_line (text ++ behind) ≡ first_line text
+line-shown text behind ends = line-before (text ++ behind) ∙ before-shown ends_line text behind ends ∙ sym (line-before text)
+
+-- ---- the first line that isn't empty
+
+-- a text behind the empty lines at its front
+abbrev filled : List ℕ → List ℕ
+filled [] = []
+filled (byte ∷ text) = if ends_line byte then filled text else byte ∷ text
+
+place-of : (text : List ℕ) → filled_text text ≡ drop (position_or_len fills_line text) text
+place-of text = elim (cases_Bool (nat_lt (position_or_len fills_line text) (length text))) [
+  | inl within ↦ rw within refl
+  | inr past ↦ rw past (sym (drop_all (position_or_len fills_line text) text (search (rules, nat_tests, past))))
+]
+
+one-less : {X : Type 0} (n : ℕ) (x : X) (xs : List X) → drop (1 + n) (x ∷ xs) ≡ drop n xs
+one-less n x xs = let next : 1 + n ≡ suc n = omega arith in rw next refl
+
+dropped : (text : List ℕ) → drop (position_or_len fills_line text) text ≡ filled text
+dropped [] = refl
+dropped (byte ∷ text) = elim (cases_Bool (ends_line byte)) [
+  | inl ends ↦ rw ends (one-less _ byte text ∙ dropped text)
+  | inr goes ↦ rw goes refl
+]
+
+filled-is : (text : List ℕ) → filled_text text ≡ filled text
+filled-is text = place-of text ∙ dropped text
+
+filled-on : (text behind : List ℕ) → list_any ends_line (filled text) ≡ true → filled (text ++ behind) ≡ filled text ++ behind
+filled-on [] behind some = absurd (false≢true some)
+filled-on (byte ∷ text) behind some = elim (cases_Bool (ends_line byte)) [
+  | inl ends ↦ rw ends (filled-on text behind (rw ends at some))
+  | inr goes ↦ rw goes refl
+]
+
+filled-within : (text : List ℕ) → list_any ends_line (filled text) ≡ true → list_any ends_line text ≡ true
+filled-within [] some = some
+filled-within (byte ∷ text) some = elim (cases_Bool (ends_line byte)) [
+  | inl ends ↦ rw ends refl
+  | inr goes ↦ let here : list_any ends_line (byte ∷ text) ≡ true = rw goes at some in here
+]
+
+-- ---- the delimiter
+
+abbrev HasFilled : List ℕ → Type 0
+HasFilled text = list_any ends_line (filled_text text) ≡ true
+
+module _ (text behind : List ℕ) (has : HasFilled text) where
+  some : list_any ends_line (filled text) ≡ true
+  some = ap (list_any ends_line) (sym (filled-is text)) ∙ has
+
+  setting-shown : setting_of (text ++ behind) ≡ setting_of text
+  setting-shown = ap setting_in (line-shown text behind (filled-within text some))
+
+  filled-shown : first_line (filled_text (text ++ behind)) ≡ first_line (filled_text text)
+  filled-shown =
+      ap first_line (filled-is (text ++ behind) ∙ filled-on text behind some)
+      ∙ line-shown (filled text) behind some
+      ∙ ap first_line (sym (filled-is text))
+
+  delimiter-shown : delimiter_seen (text ++ behind) ≡ delimiter_seen text
+  delimiter-shown = rw (setting-shown, filled-shown) refl
+
+-- a line that sets the delimiter has five bytes
+line-short : (text : List ℕ) → length (first_line text) ≤ length text
+line-short text =
+    let same : length (first_line text) ≡ min (position_or_len ends_line text) (length text) = ap length (line-before text) ∙ length-take (position_or_len ends_line text) text in
+    omega (arith, same)
+
+-- how often a line has a byte from a place on: that of the next byte, and from there on
+abbrev counted : ℕ → Bool → List ℕ → ℕ
+counted byte is_quoted line = count_by (λ other. other == byte) (outside is_quoted line)
+
+module _ (line : List ℕ) (i byte count : ℕ) (is_quoted : Bool) (within : i < length line) (before : count + counted byte is_quoted (drop i line) ≡ count_of line byte) where
+  next : drop i line ≡ get_or line i 0 ∷ drop (i + 1) line
+  next = drop-cons line i 0 within ∙ ap (λ (n : ℕ). get_or line i 0 ∷ drop n line) (sym (add-one i))
+
+  from-here : count + counted byte is_quoted (get_or line i 0 ∷ drop (i + 1) line) ≡ count_of line byte
+  from-here = rw next at before
+
+  -- a quote turns the side
+  pub turns : get_or line i 0 ≡ 34 → count + counted byte (not is_quoted) (drop (i + 1) line) ≡ count_of line byte
+  turns quote = rw quote at from-here
+
+  -- a byte in quotes, or another one, counts for nothing
+  pub passes : get_or line i 0 ≢ 34 → (is_quoted ≡ true) ⊎ (get_or line i 0 ≢ byte) → count + counted byte is_quoted (drop (i + 1) line) ≡ count_of line byte
+  passes other either = go is_quoted either (rw (ne_eqb (get_or line i 0) 34 other) at from-here) where
+    go : (q : Bool) → (q ≡ true) ⊎ (get_or line i 0 ≢ byte)
+        → count + count_by (λ other. other == byte) (if q then outside q (drop (i + 1) line) else get_or line i 0 ∷ outside q (drop (i + 1) line)) ≡ count_of line byte → count + counted byte q (drop (i + 1) line) ≡ count_of line byte
+    go true either is = is
+    go false (inl never) is = absurd (false≢true never)
+    go false (inr differs) is =
+        let rest : List ℕ = outside false (drop (i + 1) line) in
+        let none : count_by (λ other. other == byte) (get_or line i 0 ∷ rest) ≡ 0 + count_by (λ other. other == byte) rest = sum_by-cons (λ (x : ℕ). if x == byte then 1 else 0) (get_or line i 0) rest ∙ rw (ne_eqb (get_or line i 0) byte differs) refl in
+        omega (arith, is, none)
+
+  -- the byte counts outside them
+  pub counts : get_or line i 0 ≢ 34 → is_quoted ≡ false → get_or line i 0 ≡ byte → (count + 1) + counted byte is_quoted (drop (i + 1) line) ≡ count_of line byte
+  counts other bare same = go is_quoted bare (rw (ne_eqb (get_or line i 0) 34 other) at from-here) where
+    go : (q : Bool) → q ≡ false
+        → count + count_by (λ other. other == byte) (if q then outside q (drop (i + 1) line) else get_or line i 0 ∷ outside q (drop (i + 1) line)) ≡ count_of line byte → (count + 1) + counted byte q (drop (i + 1) line) ≡ count_of line byte
+    go true never is = absurd (false≢true (sym never))
+    go false none is =
+        let rest : List ℕ = outside false (drop (i + 1) line) in
+        let one : count_by (λ other. other == byte) (get_or line i 0 ∷ rest) ≡ 1 + count_by (λ other. other == byte) rest = sum_by-cons (λ (x : ℕ). if x == byte then 1 else 0) (get_or line i 0) rest ∙ rw (eq-eqb (get_or line i 0) byte same) refl in
+        omega (arith, is, one)
+
+set-long : (line : List ℕ) (sign : ℕ) → setting_in line ≡ Some sign → length line ≡ 5
+set-long line sign is = elim (cases_Bool (starts_with nat_eq line (codes "sep=") && (length line == 5) && nat_lt (get_or line 4 0) 128 && not (get_or line 4 0 == 34))) [
+  | inl all ↦
+      let first = and_parts (starts_with nat_eq line (codes "sep=") && (length line == 5) && nat_lt (get_or line 4 0) 128) (not (get_or line 4 0 == 34)) all in
+      let second = and_parts (starts_with nat_eq line (codes "sep=") && (length line == 5)) (nat_lt (get_or line 4 0) 128) first.0 in
+      eqb-true (length line) 5 (and_parts (starts_with nat_eq line (codes "sep=")) (length line == 5) second.0).1
+  | inr none ↦ let e = rw none at is in cc
+]
+
+long-text : (text : List ℕ) (sign : ℕ) → setting_of text ≡ Some sign → 5 ≤ length text
+long-text text sign is = omega (arith, set-long (first_line text) sign is, line-short text)
 
 -- ---- the format
 
@@ -97,18 +220,62 @@ same-delimiter : (is_ragged : Bool) (sign : Option ℕ) (text other : List ℕ) 
 same-delimiter is_ragged None text other same = ap (λ (delimiter : ℕ). separated delimiter is_ragged) same
 same-delimiter is_ragged (Some sign) text other same = rw same refl
 
--- by the first line
-pub line-shown : (is_ragged : Bool) (text behind : List ℕ) (sign : ℕ) → first_sign text ≡ Some sign → list_any ends_line text ≡ true → format_from is_ragged (first_sign (text ++ behind)) (text ++ behind) ≡ format_from is_ragged (first_sign text) text
-line-shown is_ragged text behind sign is ends =
-    rw (sign-shown text behind sign is, is) (same-delimiter is_ragged (Some sign) text (text ++ behind) (delimiter-shown text behind ends))
+-- what a complete line shows
+sets : (format : Format) (text behind : List ℕ) → HasFilled text → SetsAlike format text behind
+sets (Separated dialect) text behind has = (setting-shown text behind has, λ some. is-set (setting_of text) refl some) where
+  is-set : (set : Option ℕ) → setting_of text ≡ set → is_some set ≡ true → 5 ≤ length text
+  is-set None is some = absurd (false≢true some)
+  is-set (Some sign) is some = long-text text sign is
+sets Json text behind has = tt
+sets JsonLines text behind has = tt
 
--- by the first sign
-pub bracket-shown : (is_ragged : Bool) (text behind : List ℕ) (sign : ℕ) → first_sign text ≡ Some sign → (sign ≡ 91) ⊎ (sign ≡ 123) → format_from is_ragged (first_sign (text ++ behind)) (text ++ behind) ≡ format_from is_ragged (first_sign text) text
-bracket-shown is_ragged text behind sign is (inl bracket) = rw (sign-shown text behind sign is, is, bracket) refl
-bracket-shown is_ragged text behind sign is (inr brace) = rw (sign-shown text behind sign is, is, brace) refl
+pub values-shown : (is_ragged : Bool) (text behind : List ℕ) → HasFilled text → ShowsText (known.Values is_ragged) text behind
+values-shown is_ragged text behind has = record {
+  format = ap (λ (delimiter : ℕ). separated delimiter is_ragged) (delimiter-shown text behind has);
+  setting = sets (values_seen is_ragged text) text behind has;
+}
 
--- of an input
-pub input-shown : (is_ragged : Bool) (bytes text behind : List ℕ) → text ≡ strip_bom bytes → starts_with nat_eq (bytes ++ behind) bom ≡ starts_with nat_eq bytes bom
-    → format_from is_ragged (first_sign (text ++ behind)) (text ++ behind) ≡ format_from is_ragged (first_sign text) text → format_shown is_ragged (bytes ++ behind) ≡ format_shown is_ragged bytes
-input-shown is_ragged bytes text behind is mark shown =
-    rw (text-shown bytes behind mark) (subst (λ (t : List ℕ). format_from is_ragged (first_sign (t ++ behind)) (t ++ behind) ≡ format_from is_ragged (first_sign t) t) is shown)
+-- with a format that is known, too
+pub told-shown : (format : Format) (text behind : List ℕ) → HasFilled text → ShowsText (known.Format format) text behind
+told-shown format text behind has = record { format = refl; setting = sets format text behind has }
+
+-- and by the first sign
+pub line-shows : (is_ragged : Bool) (text behind : List ℕ) (sign : ℕ) → first_sign text ≡ Some sign → HasFilled text → ShowsText (known.Nothing is_ragged) text behind
+line-shows is_ragged text behind sign is has = record {
+  format = rw (sign-shown text behind sign is, is) (same-delimiter is_ragged (Some sign) text (text ++ behind) (delimiter-shown text behind has));
+  setting = sets (format_from is_ragged (first_sign text) text) text behind has;
+}
+
+-- JSON sets no delimiter
+pub json-shown : (format : Format) (text behind : List ℕ) → (format ≡ Json) ⊎ (format ≡ JsonLines) → ShowsText (known.Format format) text behind
+json-shown format text behind (inl is) = record { format = refl; setting = rw is tt }
+json-shown format text behind (inr is) = record { format = refl; setting = rw is tt }
+
+pub bracket-shows : (is_ragged : Bool) (text behind : List ℕ) (sign : ℕ) → first_sign text ≡ Some sign → (sign ≡ 91) ⊎ (sign ≡ 123) → ShowsText (known.Nothing is_ragged) text behind
+bracket-shows is_ragged text behind sign is (inl bracket) = record { format = rw (sign-shown text behind sign is, is, bracket) refl; setting = rw (is, bracket) tt }
+bracket-shows is_ragged text behind sign is (inr brace) = record { format = rw (sign-shown text behind sign is, is, brace) refl; setting = rw (is, brace) tt }
+
+-- ---- an input
+
+drop-on : (n : ℕ) (xs more : List ℕ) → n ≤ length xs → drop n (xs ++ more) ≡ drop n xs ++ more
+drop-on n xs more within = drop-append-le n xs more within
+
+content-by : (format : Format) (bytes text behind : List ℕ) → text ≡ strip_bom bytes → strip_bom (bytes ++ behind) ≡ text ++ behind → SetsAlike format text behind → HoldsOn format bytes behind
+content-by (Separated dialect) bytes text behind is on (same, long) = elim (cases_Bool (is_some (setting_of text))) [
+  | inl set ↦ rw (on, same, ← is, set) (drop-on 5 text behind (long set))
+  | inr none ↦ rw (on, same, ← is, none) refl
+]
+content-by Json bytes text behind is on sets = refl
+content-by JsonLines bytes text behind is on sets = refl
+
+pub input-shown : (k : Known) (bytes text behind : List ℕ) → text ≡ strip_bom bytes → starts_with nat_eq (bytes ++ behind) bom ≡ starts_with nat_eq bytes bom → is_database (bytes ++ behind) ≡ is_database bytes
+    → ShowsText k text behind → ShowsInput k bytes behind
+input-shown k bytes text behind is mark database shown =
+    let on : strip_bom (bytes ++ behind) ≡ text ++ behind = text-shown bytes behind mark ∙ ap (λ (t : List ℕ). t ++ behind) (sym is) in
+    record {
+      database = database;
+      rows = record {
+        format = ap (format_shown k) on ∙ shown.format ∙ ap (format_shown k) is;
+        content = subst (λ (t : List ℕ). HoldsOn (format_shown k t) bytes behind) is (content-by (format_shown k text) bytes text behind is on shown.setting);
+      };
+    }

@@ -4,11 +4,13 @@ use Rattle.std.specs.Prelude.{◌==◌, IfOk, IfSome}
 use Rattle.std.specs.Io.KnownBytes.{Consumes, IsAtEnd}
 use Rattle.std.specs.Result.{IsErrAnd}
 use Rattle.std.proofs.KnownBytes.{Consumes-trans}
+use Rattle.std.proofs.lemmas.List.{append_cancel_left}
 use Rattle.std.proofs.lemmas.Bool.{cases_Bool, lt-ltb, true≢false}
 use Rattle.pg_layout.specs.Text.{Text}
 use Rattle.ruled_table.specs.declared.options.Options.{Options}
-use Rattle.ruled_io.specs.Formats.{format_shown, format_streamed, is_database}
-use Rattle.ruled_io.specs.Reading.{GoesOn, ReadsFront, ShowsInput, Stands, sound_rows, wrong_in}
+use Rattle.csv.specs.Reading.{strip_bom}
+use Rattle.ruled_io.specs.Formats.{content_of, format_shown, format_streamed, is_database}
+use Rattle.ruled_io.specs.Reading.{BeginsSo, GoesOn, HoldsOn, ReadsFront, ShowsFormat, ShowsInput, ShowsSource, Stands, sound_rows, wrong_in}
 use Rattle.ruled_io.specs.Requests.{format_told, holds_database}
 use Rattle.ruled_io.specs.Stream.{Ends, StreamsAll, first_count, has_names, record_count, streamed_count, streamed_rows, streamed_wrong}
 use Rattle.ruled_io.specs.declared.fault.InputFault.TheVariants.{Stream}
@@ -16,6 +18,8 @@ use Rattle.ruled_io.specs.declared.fault.RunFault.{RunFault}
 use Rattle.ruled_io.specs.declared.fault.RunFault.TheVariants.{Input}
 use Rattle.ruled_io.specs.declared.fault.StreamedFault.TheVariants.{Database}
 use Rattle.ruled_io.specs.declared.formats.Format.{Format}
+use Rattle.ruled_io.specs.declared.formats.Format.TheVariants.{Separated, Json, JsonLines}
+use Rattle.ruled_io.specs.declared.formats.Known.{Known}
 use Rattle.ruled_io.specs.declared.reader.Reading.{Reading}
 use Rattle.ruled_io.specs.declared.request.Request.{Request}
 use Rattle.ruled_io.specs.declared.request.Source.{Source}
@@ -30,43 +34,41 @@ took-none given mid left front piece took more none = subst (Consumes given left
 pub took-more : (given mid left : Option (List ℕ)) (front piece grown : List ℕ) → Consumes given mid front → Consumes mid left piece → grown ≡ front ++ piece → Consumes given left grown
 took-more given mid left front piece grown took more is = subst (Consumes given left) (sym is) (Consumes-trans given mid left front piece took more)
 
-pub shown-front : (given left : Option (List ℕ)) (front : List ℕ) → Consumes given left front → ((is_ragged : Bool) (behind : List ℕ) → format_shown is_ragged (front ++ behind) ≡ format_shown is_ragged front) → ((behind : List ℕ) → is_database (front ++ behind) ≡ is_database front) → IfSome given (ShowsInput front)
-shown-front None left front took format database = tt
-shown-front (Some all) None front took format database = absurd took
-shown-front (Some all) (Some rest) front took format database = (λ is_ragged. ap (format_shown is_ragged) took ∙ format is_ragged rest, ap is_database took ∙ database rest)
+pub shown-front : (known : Known) (given left : Option (List ℕ)) (front : List ℕ) → Consumes given left front → ((behind : List ℕ) → ShowsInput known front behind) → IfSome given (BeginsSo known front)
+shown-front known None left front took shows = tt
+shown-front known (Some all) None front took shows = absurd took
+shown-front known (Some all) (Some rest) front took shows = (rest, took, shows rest)
 
-pub shown-all : (given mid : Option (List ℕ)) (front : List ℕ) → Consumes given mid front → IsAtEnd mid → IfSome given (ShowsInput front)
-shown-all None mid front took end = tt
-shown-all (Some all) None front took end = absurd took
-shown-all (Some all) (Some rest) front took end =
-    let same : all ≡ front = took ∙ ap (λ (xs : List ℕ). front ++ xs) end ∙ append-nil front in
-    (λ is_ragged. ap (format_shown is_ragged) same, ap is_database same)
+-- all of it shows itself
+content-whole : (format : Format) (bytes : List ℕ) → HoldsOn format bytes []
+content-whole format bytes = ap (content_of format) (append-nil bytes) ∙ sym (append-nil (content_of format bytes))
 
--- nothing is told of it
-abbrev pub is_seen : Source → Bool
-is_seen (source.Rows format) = false
-is_seen (source.Seen log is_ragged) = true
-is_seen (source.Database query log) = false
+shows-whole : (known : Known) (bytes : List ℕ) → ShowsInput known bytes []
+shows-whole known bytes = record {
+  database = ap is_database (append-nil bytes);
+  rows = record { format = ap (λ (xs : List ℕ). format_shown known (strip_bom xs)) (append-nil bytes); content = content-whole (format_shown known (strip_bom bytes)) bytes };
+}
 
--- they are read then
-pub front-seen : {V : Type 0} (items : V → List ℕ) (s : Source) (given left : Option (List ℕ)) (result : Result V RunFault) → ((front all : List ℕ) → ShowsInput front all → (holds_database s all ≡ holds_database s front) × (format_streamed (format_told s) all ≡ format_streamed (format_told s) front))
-    → IfOk result (λ front. Consumes given left (items front)) → IfOk result (λ front. IfSome given (ShowsInput (items front))) → IfOk result (λ front. IfSome given (λ all. ReadsFront s all left (items front)))
-front-seen items s given left (Err fault) seen took shows = tt
-front-seen items s None left (Ok front) seen took shows = tt
-front-seen items s (Some all) None (Ok front) seen took shows = absurd took
-front-seen items s (Some all) (Some rest) (Ok front) seen took shows = let (database, format) = seen (items front) all shows in (rest, took, refl, (database, λ other. format))
+pub shown-all : (known : Known) (given mid : Option (List ℕ)) (front : List ℕ) → Consumes given mid front → IsAtEnd mid → IfSome given (BeginsSo known front)
+shown-all known None mid front took end = tt
+shown-all known (Some all) None front took end = absurd took
+shown-all known (Some all) (Some rest) front took end = ([], took ∙ ap (λ (xs : List ℕ). front ++ xs) end, shows-whole known front)
 
-pub seen-shows : (s : Source) → is_seen s ≡ true → (front all : List ℕ) → ShowsInput front all → (holds_database s all ≡ holds_database s front) × (format_streamed (format_told s) all ≡ format_streamed (format_told s) front)
-seen-shows (source.Rows format) is front all shows = absurd (true≢false (sym is))
-seen-shows (source.Seen log is_ragged) is front all shows = (shows.1, shows.0 is_ragged)
-seen-shows (source.Database query log) is front all shows = absurd (true≢false (sym is))
+source-shows : (s : Source) (front behind : List ℕ) → ShowsInput (format_told s) front behind → ShowsSource s front behind
+source-shows (source.Rows format) front behind shows = (refl, λ none. shows.rows)
+source-shows (source.Values is_ragged) front behind shows = (refl, λ none. shows.rows)
+source-shows (source.Seen log is_ragged) front behind shows = (shows.database, λ none. shows.rows)
+source-shows (source.Database query log) front behind shows = (refl, λ none. absurd (true≢false none))
 
--- nothing is read where it is
-pub front-told : (s : Source) (given : Option (List ℕ)) (front : List ℕ) → is_seen s ≡ false → front ≡ [] → IfSome given (λ all. ReadsFront s all given front)
-front-told s None front told none = tt
-front-told (source.Rows format) (Some all) front told none = rw none (all, refl, refl, (refl, λ other. refl))
-front-told (source.Seen log is_ragged) (Some all) front told none = absurd (true≢false told)
-front-told (source.Database query log) (Some all) front told none = rw none (all, refl, refl, (refl, λ other. absurd (true≢false other)))
+-- its first bytes are read
+pub front-seen : {V : Type 0} (items : V → List ℕ) (s : Source) (given left : Option (List ℕ)) (known : Known) (result : Result V RunFault) → known ≡ format_told s
+    → IfOk result (λ front. Consumes given left (items front)) → IfOk result (λ front. IfSome given (BeginsSo known (items front))) → IfOk result (λ front. IfSome given (λ all. ReadsFront s all left (items front)))
+front-seen items s given left known (Err fault) told took shows = tt
+front-seen items s None left known (Ok front) told took shows = tt
+front-seen items s (Some all) None known (Ok front) told took shows = absurd took
+front-seen items s (Some all) (Some rest) known (Ok front) told took (behind, is, begins) =
+    let same : rest ≡ behind = append_cancel_left (items front) rest behind (sym took ∙ is) in
+    (behind, is, ap (λ (xs : List ℕ). Some xs) same, source-shows s (items front) behind (subst (λ (k : Known). ShowsInput k (items front) behind) told begins))
 
 -- ---- rows
 
@@ -94,14 +96,22 @@ database-ends request count bytes old result holds is =
 
 -- the rows of an input in the format that its first bytes show
 pub rows-end-so : {X : Type 0} (request : Request) (count : ℕ) (front rest all : List ℕ) (format : Format) (old new : Option (List ℕ)) (result : Result X RunFault) → all ≡ front ++ rest
-    → (holds_database request.source all ≡ holds_database request.source front) → holds_database request.source front ≡ false → format ≡ format_streamed (format_told request.source) front
-    → (holds_database request.source front ≡ false → format_streamed (format_told request.source) all ≡ format_streamed (format_told request.source) front)
-    → Ends request.view (first_count request.view format count) (sound_rows format (record_count count) (front ++ rest)) (wrong_in format (record_count count) (front ++ rest)) old new result → StreamsAll request count all old new result
+    → ShowsSource request.source front rest → holds_database request.source front ≡ false → format ≡ format_streamed (format_told request.source) front
+    → Ends request.view (first_count request.view format count) (sound_rows format (record_count count) (content_of format front ++ rest)) (wrong_in format (record_count count) (content_of format front ++ rest)) old new result → StreamsAll request count all old new result
 unfolding streamed_rows streamed_wrong
-rows-end-so request count front rest all format old new result is same none shown streamed ends =
-    let formats : format ≡ format_streamed (format_told request.source) all = shown ∙ sym (streamed none) in
-    rw (same ∙ none) (subst (λ (f : Format). Ends request.view (first_count request.view f count) (sound_rows f (record_count count) all) (wrong_in f (record_count count) all) old new result) formats
-    (subst (λ (xs : List ℕ). Ends request.view (first_count request.view format count) (sound_rows format (record_count count) xs) (wrong_in format (record_count count) xs) old new result) (sym is) ends))
+rows-end-so request count front rest all format old new result is (same, shows) none shown ends =
+    let known : Known = format_told request.source in
+    let both : ShowsFormat known front rest = shows none in
+    let formats : format ≡ format_streamed known all = shown ∙ sym (ap (λ (xs : List ℕ). format_shown known (strip_bom xs)) is ∙ both.format) in
+    let content : content_of format front ++ rest ≡ content_of format all =
+    sym (
+    ap (content_of format) is ∙ ap (λ (f : Format). content_of f (front ++ rest)) shown ∙ both.content
+    ∙ ap (λ (f : Format). content_of f front ++ rest) (sym shown)
+    )
+    in
+    rw (ap (holds_database request.source) is ∙ same ∙ none)
+    (subst (λ (f : Format). Ends request.view (first_count request.view f count) (sound_rows f (record_count count) (content_of f all)) (wrong_in f (record_count count) (content_of f all)) old new result) formats
+    (subst (λ (xs : List ℕ). Ends request.view (first_count request.view format count) (sound_rows format (record_count count) xs) (wrong_in format (record_count count) xs) old new result) content ends))
 
 -- what holds of all bytes
 pub if-known : {P : List ℕ → Type 0} (given : Option (List ℕ)) → ((bytes : List ℕ) → given ≡ Some bytes → P bytes) → IfSome given P

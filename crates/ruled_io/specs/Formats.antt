@@ -1,6 +1,6 @@
 -- The format of bytes, by its name or by what they show.
-use Rattle.std.specs.Prelude.{ℕ, ◌==◌, ◌&&◌, ◌||◌, ◌++◌, ◌∷◌, [], not, codes, bytes_eq, nat_eq, List, find, take, position, false, true, Bool, Option, Some, None, if◌then◌else◌}
-use Rattle.std.specs.List.{list_any, starts_with}
+use Rattle.std.specs.Prelude.{ℕ, ◌==◌, ◌&&◌, ◌||◌, ◌++◌, ◌∷◌, [], not, codes, bytes_eq, nat_eq, nat_lt, List, drop, find, get_or, length, take, position, false, true, Bool, Option, Some, None, is_some, unwrap_or, if◌then◌else◌}
+use Rattle.std.specs.List.{count_by, starts_with}
 use Rattle.std.specs.Option.{option_map_or}
 use Rattle.csv.specs.Reading.{strip_bom}
 use Rattle.json.specs.Word.{is_space}
@@ -12,11 +12,11 @@ use Rattle.ruled_io.specs.declared.formats.Known.{Known}
 use Rattle.ruled_io.specs.declared.formats.Known.TheVariants as known
 use Rattle.ruled_io.specs.declared.formats.Kind.TheVariants.{Rows, Database}
 
+-- ---- names
+
 -- fields with this byte between two of them, in rows of one length or not
 abbrev pub separated : ℕ → Bool → Format
 separated delimiter is_ragged = Separated (record { delimiter = delimiter; is_ragged = is_ragged })
-
--- ---- names
 
 abbrev pub kind_named : List ℕ → Option Kind
 kind_named name =
@@ -27,7 +27,7 @@ kind_named name =
     else if bytes_eq name (codes "sqlite") || bytes_eq name (codes "sqlite3") || bytes_eq name (codes "db") then Some Database
     else None
 
--- ---- what bytes show
+-- ---- lines
 
 -- the first byte that is no space, tab, line feed or carriage return
 abbrev pub first_sign : List ℕ → Option ℕ
@@ -37,45 +37,101 @@ first_sign bytes = find (λ byte. not (is_space byte)) bytes
 abbrev pub ends_line : ℕ → Bool
 ends_line byte = (byte == 10) || (byte == 13)
 
--- what stands in front of the first such byte
+-- what comes before the first such byte
 abbrev pub first_line : List ℕ → List ℕ
 first_line bytes = option_map_or (λ end. take end bytes) (position ends_line bytes) bytes
 
-abbrev pub has : ℕ → List ℕ → Bool
-has byte bytes = list_any (λ other. other == byte) bytes
+-- a byte is in a line that isn't empty
+abbrev pub fills_line : ℕ → Bool
+fills_line byte = not (ends_line byte)
 
--- a tab where the first line has one and no comma, else a comma
+-- a text from its first line on that isn't empty
+abbrev pub filled_text : List ℕ → List ℕ
+filled_text text = option_map_or (λ start. drop start text) (position fills_line text) []
+
+-- ---- the delimiter
+
+-- the bytes of a line outside quotes, where its front is in quotes or not
+abbrev pub outside : Bool → List ℕ → List ℕ
+outside is_quoted [] = []
+outside is_quoted (byte ∷ line) =
+    if byte == 34 then outside (not is_quoted) line
+    else if is_quoted then outside is_quoted line
+    else byte ∷ outside is_quoted line
+
+-- how often a line has a byte outside quotes
+abbrev pub count_of : List ℕ → ℕ → ℕ
+count_of line byte = count_by (λ other. other == byte) (outside false line)
+
+-- which of two bytes a line has more often; if equally often, the first
+abbrev pub oftener : List ℕ → ℕ → ℕ → ℕ
+oftener line first second = if nat_lt (count_of line first) (count_of line second) then second else first
+
+-- a comma, a tab, a semicolon or a bar: the one that a line has most often
+abbrev pub most_frequent : List ℕ → ℕ
+most_frequent line = oftener line (oftener line (oftener line 44 9) 59) 124
+
+-- a first line such as `sep=;` sets the delimiter: an ASCII character other than a quote
+abbrev pub setting_in : List ℕ → Option ℕ
+setting_in line =
+    if starts_with nat_eq line (codes "sep=") && (length line == 5) && nat_lt (get_or line 4 0) 128 && not (get_or line 4 0 == 34) then Some (get_or line 4 0)
+    else None
+
+abbrev pub setting_of : List ℕ → Option ℕ
+setting_of text = setting_in (first_line text)
+
+-- the delimiter that a text sets, or else the most frequent one of its first line that isn't empty
 abbrev pub delimiter_seen : List ℕ → ℕ
-delimiter_seen bytes = if has 9 (first_line bytes) && not (has 44 (first_line bytes)) then 9 else 44
+delimiter_seen text = unwrap_or (setting_of text) (most_frequent (first_line (filled_text text)))
 
--- what begins with an opening bracket is JSON, what begins with an opening brace has a value of JSON on each line, and what
--- begins with neither has its fields apart
+-- ---- the format
+
+-- separated values that a text shows
+abbrev pub values_seen : Bool → List ℕ → Format
+values_seen is_ragged text = separated (delimiter_seen text) is_ragged
+
+-- what begins with an opening bracket is JSON, what begins with an opening brace has a value of JSON on each line, and anything
+-- else is separated values
 abbrev pub format_from : Bool → Option ℕ → List ℕ → Format
-format_from is_ragged None bytes = separated (delimiter_seen bytes) is_ragged
-format_from is_ragged (Some sign) bytes =
+format_from is_ragged None text = values_seen is_ragged text
+format_from is_ragged (Some sign) text =
     if sign == 91 then Json
     else if sign == 123 then JsonLines
-    else separated (delimiter_seen bytes) is_ragged
+    else values_seen is_ragged text
 
--- the format that bytes show, without a byte order mark at their front
-abbrev pub format_shown : Bool → List ℕ → Format
-format_shown is_ragged bytes = format_from is_ragged (first_sign (strip_bom bytes)) (strip_bom bytes)
+-- the format of a text that is known, or that its first bytes show
+abbrev pub format_shown : Known → List ℕ → Format
+format_shown (known.Format format) text = format
+format_shown (known.Values is_ragged) text = values_seen is_ragged text
+format_shown (known.Nothing is_ragged) text = format_from is_ragged (first_sign text) text
 
 -- where all bytes are there, what would have a value on each line is one value, where it is one
-abbrev pub is_one_value : Format → List ℕ → Bool
-is_one_value (Separated dialect) bytes = false
-is_one_value Json bytes = true
-is_one_value JsonLines bytes = is_value (strip_bom bytes)
+abbrev pub is_one_value : Known → Format → List ℕ → Bool
+is_one_value (known.Format format) shown text = false
+is_one_value (known.Values is_ragged) shown text = false
+is_one_value (known.Nothing is_ragged) (Separated dialect) text = false
+is_one_value (known.Nothing is_ragged) Json text = false
+is_one_value (known.Nothing is_ragged) JsonLines text = is_value text
 
--- the format that is told, or else the one that all bytes show
+abbrev pub format_of_all : Known → List ℕ → Format
+format_of_all known text = if is_one_value known (format_shown known text) text then Json else format_shown known text
+
+-- the format of bytes, of which a byte order mark at the front is no text, by all of them, or by the first ones
 abbrev pub format_in : Known → List ℕ → Format
-format_in (known.Format format) bytes = format
-format_in (known.Nothing is_ragged) bytes = if is_one_value (format_shown is_ragged bytes) bytes then Json else format_shown is_ragged bytes
+format_in known bytes = format_of_all known (strip_bom bytes)
 
--- the format that is told, or else the one that the first bytes show, whatever follows them
 abbrev pub format_streamed : Known → List ℕ → Format
-format_streamed (known.Format format) bytes = format
-format_streamed (known.Nothing is_ragged) bytes = format_shown is_ragged bytes
+format_streamed known bytes = format_shown known (strip_bom bytes)
+
+-- ---- the bytes of the rows
+
+-- a line that sets the delimiter is no row: it is an empty line
+abbrev pub content_of : Format → List ℕ → List ℕ
+content_of (Separated dialect) bytes = if is_some (setting_of (strip_bom bytes)) then drop 5 (strip_bom bytes) else bytes
+content_of Json bytes = bytes
+content_of JsonLines bytes = bytes
+
+-- ---- databases
 
 -- what the file of a database of SQLite begins with
 abbrev pub mark : List ℕ

@@ -7,7 +7,7 @@ use Rattle.ruled_csv.specs.Faults as csv_faults
 use Rattle.ruled_json.specs.Rows as json_rows
 use Rattle.ruled_json.specs.Faults as json_faults
 use Rattle.ruled_io.specs.Faults.{fault_of_json, fault_of_rows}
-use Rattle.ruled_io.specs.Formats.{format_in}
+use Rattle.ruled_io.specs.Formats.{content_of, format_in}
 use Rattle.ruled_io.specs.declared.fault.InputFault.{InputFault}
 use Rattle.ruled_io.specs.declared.formats.Format.{Format}
 use Rattle.ruled_io.specs.declared.formats.Format.TheVariants.{Separated, Json, JsonLines}
@@ -27,7 +27,7 @@ format_fault JsonLines bytes = option_map fault_of_json (json_faults.line_rows_f
 
 -- the rows of the format that is told, or else of the one that the bytes show
 abbrev pub rows_in : Known → List ℕ → List (List Text)
-rows_in known bytes = rows_of (format_in known bytes) bytes
+rows_in known bytes = rows_of (format_in known bytes) (content_of (format_in known bytes) bytes)
 
 abbrev pub input_fault : Known → List ℕ → Option InputFault
-input_fault known bytes = format_fault (format_in known bytes) bytes
+input_fault known bytes = format_fault (format_in known bytes) (content_of (format_in known bytes) bytes)

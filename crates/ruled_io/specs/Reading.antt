@@ -1,5 +1,6 @@
 -- The rows of an input whose bytes come one piece after another.
-use Rattle.std.specs.Prelude.{◌≡◌, ℕ, Bool, false, List, [], ◌++◌, Option, Some, option_map}
+use Rattle.std.specs.Prelude.{◌≡◌, ◌≤◌, ℕ, false, true, ⊤, List, [], ◌++◌, length, Option, Some, is_some, option_map}
+use Rattle.csv.specs.Reading.{strip_bom}
 use Rattle.pg_layout.specs.Text.{Text}
 use Rattle.ruled_csv.specs.Faults as csv_faults
 use Rattle.ruled_csv.specs.Reading as csv_reading
@@ -8,13 +9,14 @@ use Rattle.ruled_csv.specs.declared.dialect.Dialect.{Dialect}
 use Rattle.ruled_json.specs.Reading as json_reading
 use Rattle.ruled_json.specs.Streamed as json_streamed
 use Rattle.ruled_io.specs.Faults.{but_line_in, fault_of_json, fault_of_rows}
-use Rattle.ruled_io.specs.Formats.{format_shown, format_streamed, is_database}
+use Rattle.ruled_io.specs.Formats.{content_of, format_shown, is_database, setting_of}
 use Rattle.ruled_io.specs.Requests.{format_told, holds_database}
 use Rattle.ruled_io.specs.declared.fault.InputFault.{InputFault}
 use Rattle.ruled_io.specs.declared.fault.InputFault.TheVariants.{Stream}
 use Rattle.ruled_io.specs.declared.fault.StreamedFault.TheVariants.{Value}
 use Rattle.ruled_io.specs.declared.formats.Format.{Format}
 use Rattle.ruled_io.specs.declared.formats.Format.TheVariants.{Separated, Json, JsonLines}
+use Rattle.ruled_io.specs.declared.formats.Known.{Known}
 use Rattle.ruled_io.specs.declared.request.Source.{Source}
 use Rattle.ruled_io.specs.declared.reader.Reader.{Reader}
 use Rattle.ruled_io.specs.declared.reader.Reader.TheVariants.{Rows, Lines}
@@ -80,16 +82,40 @@ GoesOn format records all left given old new reading = (more : List (List Text))
 
 -- ---- the first bytes of an input
 
--- they show its format, and whether it is a database
-abbrev pub ShowsInput : List ℕ → List ℕ → Type 0
-ShowsInput front all = ((is_ragged : Bool) → format_shown is_ragged all ≡ format_shown is_ragged front) × (is_database all ≡ is_database front)
+-- bytes behind the first ones are bytes behind those of them that hold rows
+abbrev pub HoldsOn : Format → List ℕ → List ℕ → Type 0
+HoldsOn format front behind = content_of format (front ++ behind) ≡ content_of format front ++ behind
 
--- where that isn't told
+-- they show its format, and so which bytes hold its rows
+pub record ShowsFormat (known : Known) (front behind : List ℕ) : Type 0 where
+  pub format : format_shown known (strip_bom (front ++ behind)) ≡ format_shown known (strip_bom front)
+  pub content : HoldsOn (format_shown known (strip_bom front)) front behind
+
+-- and whether it is a database
+pub record ShowsInput (known : Known) (front behind : List ℕ) : Type 0 where
+  pub database : is_database (front ++ behind) ≡ is_database front
+  pub rows : ShowsFormat known front behind
+
+-- they begin it
+abbrev pub BeginsSo : Known → List ℕ → List ℕ → Type 0
+BeginsSo known front all = (behind : List ℕ) × (all ≡ front ++ behind) × ShowsInput known front behind
+
+-- a text behind a byte order mark shows both by its front
+abbrev pub SetsAlike : Format → List ℕ → List ℕ → Type 0
+SetsAlike (Separated dialect) text behind = (setting_of (text ++ behind) ≡ setting_of text) × (is_some (setting_of text) ≡ true → 5 ≤ length text)
+SetsAlike Json text behind = ⊤
+SetsAlike JsonLines text behind = ⊤
+
+pub record ShowsText (known : Known) (text behind : List ℕ) : Type 0 where
+  pub format : format_shown known (text ++ behind) ≡ format_shown known text
+  pub setting : SetsAlike (format_shown known text) text behind
+
+-- what is read of it, where it may be a database
 abbrev pub ShowsSource : Source → List ℕ → List ℕ → Type 0
-ShowsSource source all front =
-    (holds_database source all ≡ holds_database source front)
-    × (holds_database source front ≡ false → format_streamed (format_told source) all ≡ format_streamed (format_told source) front)
+ShowsSource source front behind =
+    (holds_database source (front ++ behind) ≡ holds_database source front)
+    × (holds_database source front ≡ false → ShowsFormat (format_told source) front behind)
 
 -- they are read of it
 abbrev pub ReadsFront : Source → List ℕ → Option (List ℕ) → List ℕ → Type 0
-ReadsFront source all left front = (rest : List ℕ) × (all ≡ front ++ rest) × (left ≡ Some rest) × ShowsSource source all front
+ReadsFront source all left front = (rest : List ℕ) × (all ≡ front ++ rest) × (left ≡ Some rest) × ShowsSource source front rest

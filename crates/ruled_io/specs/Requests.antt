@@ -10,34 +10,39 @@ use Rattle.ruled_io.specs.declared.formats.Known.TheVariants as known
 use Rattle.ruled_io.specs.declared.request.Log.{Log}
 use Rattle.ruled_io.specs.declared.request.Log.TheVariants.{Empty, Filled, Unknown}
 use Rattle.ruled_io.specs.declared.request.Source.{Source}
-use Rattle.ruled_io.specs.declared.request.Source.TheVariants.{Rows, Seen, Database}
+use Rattle.ruled_io.specs.declared.request.Source.TheVariants.{Rows, Values, Seen, Database}
 
 -- what is told of the format of its rows
 abbrev pub format_told : Source → Known
 format_told (Rows format) = known.Format format
+format_told (Values is_ragged) = known.Values is_ragged
 format_told (Seen log is_ragged) = known.Nothing is_ragged
 format_told (Database query log) = known.Nothing false
 
 -- it is a database: that is told, or the first bytes show it
 abbrev pub holds_database : Source → List ℕ → Bool
 holds_database (Rows format) bytes = false
+holds_database (Values is_ragged) bytes = false
 holds_database (Seen log is_ragged) bytes = formats.is_database bytes
 holds_database (Database query log) bytes = true
 
 -- the query of a database
 abbrev pub query_of : Source → Option Text
 query_of (Rows format) = None
+query_of (Values is_ragged) = None
 query_of (Seen log is_ragged) = None
 query_of (Database query log) = option_map string_bytes query
 
 -- what is known of its logs
 abbrev pub log_of : Source → Log
 log_of (Rows format) = Empty
+log_of (Values is_ragged) = Empty
 log_of (Seen log is_ragged) = log
 log_of (Database query log) = log
 
 abbrev pub with_log : Log → Source → Source
 with_log log (Rows format) = Rows format
+with_log log (Values is_ragged) = Values is_ragged
 with_log log (Seen old is_ragged) = Seen log is_ragged
 with_log log (Database query old) = Database query log
 
@@ -49,6 +54,7 @@ ragged_format is_ragged format.JsonLines = format.JsonLines
 
 abbrev pub with_ragged : Bool → Source → Source
 with_ragged is_ragged (Rows format) = Rows (ragged_format is_ragged format)
+with_ragged is_ragged (Values old) = Values is_ragged
 with_ragged is_ragged (Seen log old) = Seen log is_ragged
 with_ragged is_ragged (Database query log) = Database query log
 

@@ -6,7 +6,7 @@ use Rattle.ruled_table.specs.Layouts.{first_fault, layout_of, whole_text}
 use Rattle.ruled_table.specs.Plans.{Plan}
 use Rattle.ruled_table.specs.RowLines.{HasNoRoom, begun_text}
 use Rattle.ruled_io.specs.Faults.{but_line, is_failure, of_view}
-use Rattle.ruled_io.specs.Formats.{format_streamed}
+use Rattle.ruled_io.specs.Formats.{content_of, format_streamed}
 use Rattle.ruled_io.specs.Reading.{sound_rows, wrong_in}
 use Rattle.ruled_io.specs.Requests.{format_told, holds_database}
 use Rattle.ruled_io.specs.Writing.{Begins}
@@ -88,10 +88,10 @@ module _ (request : Request) (count : ℕ) (bytes : List ℕ) where
 
   -- its rows above the first bad one, and what is wrong with it
   unfoldable pub streamed_rows : List (List Text)
-  streamed_rows = if holds_database request.source bytes then [] else sound_rows streamed_format (record_count count) bytes
+  streamed_rows = if holds_database request.source bytes then [] else sound_rows streamed_format (record_count count) (content_of streamed_format bytes)
 
   unfoldable pub streamed_wrong : Option InputFault
-  streamed_wrong = if holds_database request.source bytes then Some (Stream Database) else wrong_in streamed_format (record_count count) bytes
+  streamed_wrong = if holds_database request.source bytes then Some (Stream Database) else wrong_in streamed_format (record_count count) (content_of streamed_format bytes)
 
   abbrev pub streamed_count : ℕ
   streamed_count = first_count request.view streamed_format count

@@ -1,6 +1,9 @@
 //! The formats of rows.
 
-ghost use Rattle.std.specs.Prelude.{◌≡◌, ◌<◌, ◌++◌, ℕ, Bool, List, length, nat_eq, position, true, IfOk, IfSome};
+ghost use Rattle.std.specs.Prelude.{◌≡◌, ◌≤◌, ◌<◌, ◌++◌, ℕ, Bool, List, length, nat_eq, position, true, IfOk, IfSome};
+ghost use Rattle.ruled_csv.specs.declared.dialect.Dialect.{Dialect};
+ghost use Rattle.ruled_io.specs.Reading.{ShowsInput, ShowsText};
+ghost use Rattle.ruled_io.specs.declared.formats.Format.TheVariants.{Separated};
 ghost use Rattle.std.specs.List.{list_any, starts_with};
 ghost use Rattle.ruled_io.specs.Formats as spec;
 ghost use Rattle.ruled_io.specs.declared.formats.Known.TheVariants as known;
@@ -25,6 +28,8 @@ pub enum Format {
 pub(crate) enum Known {
     /// All of it.
     Format(Format),
+    /// That it is separated values, and whether their rows may be ragged. The first line shows the delimiter.
+    Values { is_ragged: bool },
     /// Nothing, except whether rows of separated values may be ragged.
     Nothing { is_ragged: bool },
 }
@@ -104,16 +109,105 @@ fn first_line(bytes: &[u8]) -> &[u8]
     }
 }
 
-// What the first line has between its fields.
-fn delimiter_seen(bytes: &[u8]) -> u8
-    ensures { result ≡ spec.delimiter_seen bytes.now }
+// Whether a byte is in a line that isn't empty.
+fn fills_line(byte: u8) -> bool
+    ensures { result ≡ spec.fills_line byte }
 {
-    let line = first_line(bytes);
-    if line.contains(&b'\t') && !line.contains(&b',') {
-        b'\t'
-    } else {
-        b','
+    !ends_line(byte)
+}
+
+// Where the first line begins that isn't empty.
+fn filled_start(text: &[u8]) -> Option<usize>
+    ensures place { result ≡ position spec.fills_line text.now }
+    ensures within { IfSome result (λ start. start < length text.now) }
+{
+    text.iter().position(|byte| fills_line(*byte))
+}
+
+// A text from its first line on that isn't empty.
+fn filled_text(text: &[u8]) -> &[u8]
+    ensures { result.now ≡ spec.filled_text text.now }
+{
+    match filled_start(text) {
+        Some(start) => &text[start..],
+        None => &[],
     }
+}
+
+// How often a line has a byte outside quotes.
+fn count_of(line: &[u8], byte: u8) -> usize
+    ensures { result ≡ spec.count_of line.now byte }
+{
+    let (mut is_quoted, mut count) = (false, 0usize);
+    for other in line {
+        if *other == b'"' {
+            is_quoted = !is_quoted;
+        } else if !is_quoted && *other == byte {
+            count += 1;
+        }
+    }
+    count
+}
+
+// Which of two bytes a line has more often; if equally often, the first.
+fn oftener(line: &[u8], first: u8, second: u8) -> u8
+    ensures { result ≡ spec.oftener line.now first second }
+{
+    if count_of(line, first) < count_of(line, second) {
+        second
+    } else {
+        first
+    }
+}
+
+// A comma, a tab, a semicolon or a bar: the one that a line has most often.
+fn most_frequent(line: &[u8]) -> u8
+    ensures { result ≡ spec.most_frequent line.now }
+{
+    let found = oftener(line, b',', b'\t');
+    let found = oftener(line, found, b';');
+    oftener(line, found, b'|')
+}
+
+// The delimiter that a line such as `sep=;` sets.
+fn setting_in(line: &[u8]) -> Option<u8>
+    ensures setting { result ≡ spec.setting_in line.now }
+    ensures long { IfSome result (λ sign. length line.now ≡ 5) }
+{
+    if !line.starts_with(b"sep=") || line.len() != 5 {
+        return None;
+    }
+    let sign = line[4];
+    if sign < 128 && sign != b'"' {
+        Some(sign)
+    } else {
+        None
+    }
+}
+
+// The delimiter that a text sets.
+fn setting_of(text: &[u8]) -> Option<u8>
+    ensures setting { result ≡ spec.setting_of text.now }
+    ensures within { IfSome result (λ sign. 5 ≤ length text.now) }
+{
+    setting_in(first_line(text))
+}
+
+// The delimiter that a text sets, or else the most frequent one of its first line that isn't empty.
+fn delimiter_seen(text: &[u8]) -> u8
+    ensures { result ≡ spec.delimiter_seen text.now }
+{
+    match setting_of(text) {
+        Some(delimiter) => delimiter,
+        None => most_frequent(first_line(filled_text(text))),
+    }
+}
+
+// Separated values that a text shows.
+fn values_seen(is_ragged: bool, text: &[u8]) -> Format
+    ensures { result ≡ spec.values_seen is_ragged text.now }
+{
+    Format::separated(delimiter_seen(text), is_ragged)
 }
 
 /// Whether bytes begin as the file of a database of SQLite does.
@@ -123,57 +217,75 @@ pub(crate) fn is_database(bytes: &[u8]) -> bool
     bytes.starts_with(b"SQLite format 3\0")
 }
 
-// The format that the first bytes show, where what begins with an opening brace has a value of JSON on each line.
-fn format_shown(is_ragged: bool, bytes: &[u8]) -> Format
-    ensures { result ≡ spec.format_shown is_ragged bytes.now }
+// The format that a text shows, where what begins with an opening brace has a value of JSON on each line.
+fn format_seen(is_ragged: bool, text: &[u8]) -> Format
+    ensures { result ≡ spec.format_from is_ragged (spec.first_sign text.now) text.now }
 {
-    let text = without_mark(bytes);
     match first_sign(text) {
         Some(b'[') => Format::Json,
         Some(b'{') => Format::JsonLines,
-        _ => Format::separated(delimiter_seen(text), is_ragged),
+        _ => values_seen(is_ragged, text),
     }
 }
 
-// Whether bytes in the format that they show are one value.
-fn is_one_value(alloc: Global, shown: Format, bytes: &[u8]) -> Result<bool, AllocError>
-    ensures { IfOk result (λ is. is ≡ spec.is_one_value shown bytes.now) }
+// The format of a text that is known, or that its first bytes show.
+fn format_shown(known: Known, text: &[u8]) -> Format
+    ensures { result ≡ spec.format_shown known text.now }
 {
-    match shown {
-        Format::Separated(_) => Ok(false),
-        Format::Json => Ok(true),
-        Format::JsonLines => is_value(alloc, without_mark(bytes)),
+    match known {
+        Known::Format(format) => format,
+        Known::Values { is_ragged } => values_seen(is_ragged, text),
+        Known::Nothing { is_ragged } => format_seen(is_ragged, text),
     }
 }
 
-// The format that all bytes of an input show.
-fn format_seen(alloc: Global, is_ragged: bool, bytes: &[u8]) -> Result<Format, AllocError>
-    ensures { IfOk result (λ format. format ≡ spec.format_in (known.Nothing is_ragged) bytes.now) }
+// Whether a text in the format that it shows is one value.
+fn is_one_value(alloc: Global, known: Known, shown: Format, text: &[u8]) -> Result<bool, AllocError>
+    ensures { IfOk result (λ is. is ≡ spec.is_one_value known shown text.now) }
 {
-    let shown = format_shown(is_ragged, bytes);
-    if is_one_value(alloc, shown, bytes)? {
-        return Ok(Format::Json);
+    match (known, shown) {
+        (Known::Nothing { .. }, Format::JsonLines) => is_value(alloc, text),
+        _ => Ok(false),
     }
-    Ok(shown)
 }
 
 /// The format of the bytes of an input: the given one, else the one that they show.
 pub(crate) fn format_in(alloc: Global, known: Known, bytes: &[u8]) -> Result<Format, AllocError>
     ensures { IfOk result (λ format. format ≡ spec.format_in known bytes.now) }
 {
-    match known {
-        Known::Format(format) => Ok(format),
-        Known::Nothing { is_ragged } => format_seen(alloc, is_ragged, bytes),
+    let text = without_mark(bytes);
+    let shown = format_shown(known, text);
+    if is_one_value(alloc, known, shown, text)? {
+        return Ok(Format::Json);
     }
+    Ok(shown)
 }
 
 /// The format of streamed rows: the given one, else the one that the first bytes show.
 pub(crate) fn format_streamed(known: Known, bytes: &[u8]) -> Format
     ensures { result ≡ spec.format_streamed known bytes.now }
 {
-    match known {
-        Known::Format(format) => format,
-        Known::Nothing { is_ragged } => format_shown(is_ragged, bytes),
+    format_shown(known, without_mark(bytes))
+}
+
+// The bytes of separated values without a line that sets the delimiter, except for its end.
+fn without_setting(bytes: &[u8]) -> &[u8]
+    ensures { (dialect : Dialect) → result.now ≡ spec.content_of (Separated dialect) bytes.now }
+{
+    let text = without_mark(bytes);
+    match setting_of(text) {
+        Some(_) => &text[5..],
+        None => bytes,
+    }
+}
+
+/// The bytes that hold the rows of a format.
+pub(crate) fn content_of(format: Format, bytes: &[u8]) -> &[u8]
+    ensures { result.now ≡ spec.content_of format bytes.now }
+{
+    match format {
+        Format::Separated(_) => without_setting(bytes),
+        Format::Json | Format::JsonLines => bytes,
     }
 }
 
@@ -184,28 +296,50 @@ fn shows_mark(bytes: &[u8], mark: &[u8]) -> bool
     bytes.len() >= mark.len() || !mark.starts_with(bytes)
 }
 
-// Whether a line ends in a text.
-fn has_line_end(text: &[u8]) -> bool
-    ensures { result ≡ list_any spec.ends_line text.now }
+// Whether the first line of a text that isn't empty is complete.
+fn has_filled_line(text: &[u8]) -> bool
+    ensures { result ≡ list_any spec.ends_line (spec.filled_text text.now) }
 {
-    text.iter().any(|byte| ends_line(*byte))
+    filled_text(text).iter().any(|byte| ends_line(*byte))
 }
 
-// Whether the first bytes of a text show the format of all of it.
-fn shows_text(text: &[u8]) -> bool
-    ensures { result ≡ true → (is_ragged : Bool) (behind : List ℕ) → spec.format_from is_ragged (spec.first_sign (text.now ++ behind)) (text.now ++ behind) ≡ spec.format_from is_ragged (spec.first_sign text.now) text.now }
+// Whether the first bytes of a text in this format show which bytes of it hold its rows.
+fn shows_rows(format: Format, text: &[u8]) -> bool
+    ensures { result ≡ true → (behind : List ℕ) → ShowsText (known.Format format) text.now behind }
+{
+    match format {
+        Format::Separated(_) => has_filled_line(text),
+        Format::Json => true,
+        Format::JsonLines => true,
+    }
+}
+
+// Whether the first bytes of a text show its format, of which nothing is told.
+fn shows_sign(text: &[u8]) -> bool
+    ensures { result ≡ true → (is_ragged : Bool) (behind : List ℕ) → ShowsText (known.Nothing is_ragged) text.now behind }
 {
     match first_sign(text) {
         Some(b'[' | b'{') => true,
-        Some(_) => has_line_end(text),
+        Some(_) => has_filled_line(text),
         None => false,
     }
 }
 
-/// Whether the first bytes of an input show its format and whether it is a database, whatever follows them.
-pub(crate) fn shows_input(bytes: &[u8]) -> bool
-    ensures format { result ≡ true → (is_ragged : Bool) (behind : List ℕ) → spec.format_shown is_ragged (bytes.now ++ behind) ≡ spec.format_shown is_ragged bytes.now }
-    ensures database { result ≡ true → (behind : List ℕ) → spec.is_database (bytes.now ++ behind) ≡ spec.is_database bytes.now }
+// Whether the first bytes of a text show the format of all of it.
+fn shows_text(known: Known, text: &[u8]) -> bool
+    ensures { result ≡ true → (behind : List ℕ) → ShowsText known text.now behind }
+{
+    match known {
+        Known::Format(format) => shows_rows(format, text),
+        Known::Values { .. } => has_filled_line(text),
+        Known::Nothing { .. } => shows_sign(text),
+    }
+}
+
+/// Whether the first bytes of an input show its format, whether it is a database, and which bytes hold its rows, whatever
+/// follows them.
+pub(crate) fn shows_input(known: Known, bytes: &[u8]) -> bool
+    ensures { result ≡ true → (behind : List ℕ) → ShowsInput known bytes.now behind }
 {
     if !shows_mark(bytes, b"\xef\xbb\xbf") {
         return false;
@@ -213,5 +347,5 @@ pub(crate) fn shows_input(bytes: &[u8]) -> bool
     if !shows_mark(bytes, b"SQLite format 3\0") {
         return false;
     }
-    shows_text(without_mark(bytes))
+    shows_text(known, without_mark(bytes))
 }

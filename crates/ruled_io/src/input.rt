@@ -7,7 +7,7 @@ ghost use Rattle.ruled_io.specs.Input.{format_fault, input_fault, rows_in, rows_
 ghost use Rattle.ruled_io.specs.Runs.{AreAsked, AreRows, LacksRows, LacksRowsAs};
 
 use crate::fault::InputFault;
-use crate::formats::{Format, Known, format_in};
+use crate::formats::{Format, Known, content_of, format_in};
 use crate::request::Source;
 use csv::StringRecord;
 use ruled_csv::{read_rows, without_mark};
@@ -33,7 +33,7 @@ fn rows_in(alloc: Global, known: Known, bytes: &[u8]) -> Result<Vec<StringRecord
     ensures fault { Tells (input_fault known bytes.now) result }
 {
     let format = format_in(alloc, known, bytes)?;
-    rows_of(alloc, format, bytes)
+    rows_of(alloc, format, content_of(format, bytes))
 }
 
 // The rows that are asked of a database.

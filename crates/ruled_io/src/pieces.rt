@@ -4,12 +4,12 @@ ghost use Rattle.std.specs.Prelude.{◌≡◌, ◌≤◌, ◌<◌, ◌++◌, ℕ
 ghost use Rattle.std.specs.Io.KnownBytes.{Consumes, IsAtEnd};
 ghost use Rattle.csv.specs.Records.{fields_of};
 ghost use Rattle.ruled_io.specs.Faults.{IsOfRead};
-ghost use Rattle.ruled_io.specs.Reading.{GoesOn, ReadsFront, ShowsInput, Stands};
+ghost use Rattle.ruled_io.specs.Reading.{BeginsSo, GoesOn, ReadsFront, Stands};
 ghost use Rattle.ruled_io.specs.declared.formats.Format.{Format};
 ghost use Rattle.ruled_io.specs.declared.reader.Reading.{Reading};
 
 use crate::fault::{InputFault, RunFault};
-use crate::formats::shows_input;
+use crate::formats::{Known, shows_input};
 use crate::reader::{Reader, Reading};
 use crate::request::Source;
 use csv::StringRecord;
@@ -64,14 +64,14 @@ impl<R: Read + Drop> Pieces<R> {
     }
 
     // Reads on until the bytes show what the input is, or to the end.
-    fn read_shown(&mut self, alloc: Global) -> Result<Vec<u8>, RunFault>
+    fn read_shown(&mut self, alloc: Global, known: Known) -> Result<Vec<u8>, RunFault>
         ensures read { IfOk result (λ front. Consumes (R.remaining self.old.input) (R.remaining self.new.input) front.items) }
-        ensures shown { IfOk result (λ front. IfSome (R.remaining self.old.input) (ShowsInput front.items)) }
+        ensures shown { IfOk result (λ front. IfSome (R.remaining self.old.input) (BeginsSo known front.items)) }
         ensures failed { IfErr result IsOfRead }
     {
         let mut front = Vec::new(alloc);
         for _ in 0..usize::MAX {
-            if shows_input(&front) {
+            if shows_input(known, &front) {
                 return Ok(front);
             }
             let count = self.read()?;
@@ -83,15 +83,12 @@ impl<R: Read + Drop> Pieces<R> {
         Err(RunFault::Read)
     }
 
-    /// Reads the first bytes of an input, as many as show what it is, if that isn't given.
+    /// Reads the first bytes of an input, as many as show what it is and which bytes hold its rows.
     pub(crate) fn read_front(&mut self, alloc: Global, source: &Source) -> Result<Vec<u8>, RunFault>
         ensures read { IfOk result (λ front. IfSome (R.remaining self.old.input) (λ all. ReadsFront source.now all (R.remaining self.new.input) front.items)) }
         ensures failed { IfErr result IsOfRead }
     {
-        match source {
-            Source::Seen { .. } => self.read_shown(alloc),
-            _ => Ok(Vec::new(alloc)),
-        }
+        self.read_shown(alloc, source.known())
     }
 
     /// Reads the next bytes, and appends the rows that are complete with them.

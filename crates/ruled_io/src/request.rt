@@ -37,9 +37,12 @@ impl Log {
 pub enum Source {
     /// Rows in this format.
     Rows(Format),
+    /// Rows of separated values, with the delimiter that the first line sets or has most often. They may be
+    /// ragged or not.
+    Values { is_ragged: bool },
     /// Rows in the format that the first bytes show: `[` begins JSON; `{` begins JSON if all is one
-    /// value, else lines of JSON; anything else has tabs between its fields if the first line has a
-    /// tab and no comma, else commas. A database, which the first bytes show, too, is refused,
+    /// value, else lines of JSON; anything else is separated values, with the delimiter that the first
+    /// line sets or has most often. A database, which the first bytes show, too, is refused,
     /// since no query says which of its rows are shown. Rows of separated values may be ragged or not.
     Seen { log: Log, is_ragged: bool },
     /// A database of SQLite, and the SQL statement that selects its rows. Without one it is
@@ -54,6 +57,9 @@ impl Source {
     {
         match self {
             Source::Rows(format) => Known::Format(*format),
+            Source::Values { is_ragged } => Known::Values {
+                is_ragged: *is_ragged,
+            },
             Source::Seen { is_ragged, .. } => Known::Nothing {
                 is_ragged: *is_ragged,
             },
@@ -66,7 +72,7 @@ impl Source {
         ensures { result ≡ spec.holds_database self.now bytes.now }
     {
         match self {
-            Source::Rows(_) => false,
+            Source::Rows(_) | Source::Values { .. } => false,
             Source::Seen { .. } => is_database(bytes),
             Source::Database { .. } => true,
         }
@@ -90,7 +96,7 @@ impl Source {
         ensures { result ≡ spec.log_of self.now }
     {
         match self {
-            Source::Rows(_) => Log::Empty,
+            Source::Rows(_) | Source::Values { .. } => Log::Empty,
             Source::Seen { log, .. } => *log,
             Source::Database { log, .. } => *log,
         }
@@ -101,7 +107,7 @@ impl Source {
         ensures { self.new ≡ spec.with_log known self.old }
     {
         match self {
-            Source::Rows(_) => {}
+            Source::Rows(_) | Source::Values { .. } => {}
             Source::Seen { log, .. } => *log = known,
             Source::Database { log, .. } => *log = known,
         }
@@ -113,6 +119,7 @@ impl Source {
     {
         match self {
             Source::Rows(Format::Separated(dialect)) => dialect.is_ragged = ragged,
+            Source::Values { is_ragged } => *is_ragged = ragged,
             Source::Seen { is_ragged, .. } => *is_ragged = ragged,
             Source::Rows(_) | Source::Database { .. } => {}
         }

@@ -15,7 +15,7 @@ ghost use Rattle.ruled_io.specs.declared.formats.Format.{Format};
 ghost use Rattle.ruled_table.specs.declared.options.Options.{Options};
 
 use crate::fault::{InputFault, RunFault, StreamedFault};
-use crate::formats::{Format, format_streamed};
+use crate::formats::{Format, content_of, format_streamed};
 use crate::lines::{write_end, write_rows};
 use crate::output::Output;
 use crate::pieces::Pieces;
@@ -178,7 +178,8 @@ fn show_input<R: Read + Drop, W: Write + Drop>(
         return Err(RunFault::Input(InputFault::Stream(StreamedFault::Database)));
     }
     let format = format_streamed(request.source.known(), &front);
-    show_rows(alloc, &request.view, format, count, &front, pieces, out)
+    let content = content_of(format, &front);
+    show_rows(alloc, &request.view, format, count, content, pieces, out)
 }
 
 // Flushes the output after its end, whatever the result is.

@@ -1,9 +1,14 @@
-use Rattle.std.proofs.Common.{◌∙◌, sym}
-use Rattle.ruled_io.proofs.Fronts.{bracket-shown, line-shown}
+use Rattle.std.proofs.Common.{◌∙◌, sym, subst}
+use Rattle.ruled_io.specs.Reading.{ShowsText}
+use Rattle.ruled_io.specs.declared.formats.Known.{Known}
+use Rattle.ruled_io.proofs.Fronts.{values-shown}
 use Rattle.ruled_io.proofs.formats.shows_text.Goals as goal
 
-pub returns-in-Some-eq91 : goal.returns-in-Some-eq91
-returns-in-Some-eq91 c = λ shows is_ragged behind. bracket-shown is_ragged c.args.text.now behind c.in-Some-eq91.field-0 (sym c.first_sign.ensures ∙ c.in-Some-eq91.is) c.in-Some-eq91.field-0-test
+pub returns-in-Format : goal.returns-in-Format
+returns-in-Format c = λ shows behind. subst (λ (k : Known). ShowsText k c.args.text.now behind) (sym c.in-Format.is) (c.shows_rows.ensures shows behind)
 
-pub returns-in-Some : goal.returns-in-Some
-returns-in-Some c = λ shows is_ragged behind. line-shown is_ragged c.args.text.now behind c.in-Some.field-0 (sym c.first_sign.ensures ∙ c.in-Some.is) (sym c.has_line_end.ensures ∙ shows)
+pub returns-in-Values : goal.returns-in-Values
+returns-in-Values c = λ shows behind. subst (λ (k : Known). ShowsText k c.args.text.now behind) (sym c.in-Values.is) (values-shown c.in-Values.is_ragged c.args.text.now behind (sym c.has_filled_line.ensures ∙ shows))
+
+pub returns-in-Nothing : goal.returns-in-Nothing
+returns-in-Nothing c = λ shows behind. subst (λ (k : Known). ShowsText k c.args.text.now behind) (sym c.in-Nothing.is) (c.shows_sign.ensures shows c.in-Nothing.is_ragged behind)

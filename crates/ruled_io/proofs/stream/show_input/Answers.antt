@@ -1,5 +1,5 @@
 use Rattle.std.proofs.Common.{◌≡◌, ◌∙◌, ◌++◌, ℕ, List, Option, Result, Err, false, true, refl, sym, ap, subst}
-use Rattle.ruled_io.specs.Formats.{format_streamed}
+use Rattle.ruled_io.specs.Formats.{content_of, format_streamed}
 use Rattle.ruled_io.specs.Reading.{ReadsFront, sound_rows, wrong_in}
 use Rattle.ruled_io.specs.Requests.{format_told, holds_database}
 use Rattle.ruled_io.specs.Stream.{Ends, StreamsAll, first_count, record_count, streamed_count, streamed_rows, streamed_wrong}
@@ -30,7 +30,7 @@ returns-then-is_database-clause-ends g c =
     let r : Result (Unit {0}) RunFault = Err (Input (Stream Database)) in
     let holds : holds_database request.source c.in_ok-front.front.items ≡ true = ap (holds_database request.source) (sym c.deref.ensures.value) ∙ sym c.is_database.ensures ∙ c.if-is_database.true in
     if-more {P = λ all. ReadsFront request.source all left c.in_ok-front.front.items} {Q = λ bytes. StreamsAll request c.args.count bytes old old r} (g.R.Read.remaining c.args.pieces.now.input) c.in_ok-front.ensures.read
-    (λ bytes is front. database-ends request c.args.count bytes old r (front.3.0 ∙ holds) refl)
+    (λ bytes is front. database-ends request c.args.count bytes old r (ap (holds_database request.source) front.1 ∙ front.3.0 ∙ holds) refl)
 
 pub returns-clause-ends : goal.returns-clause-ends
 returns-clause-ends g c =
@@ -46,9 +46,10 @@ returns-clause-ends g c =
     let shown : format ≡ format_streamed (format_told request.source) front =
     c.format_streamed-format.ensures ∙ ap (λ (known : Known). format_streamed known c.deref-2.result.now) c.known.ensures ∙ ap (format_streamed (format_told request.source)) c.deref-2.ensures.value
     in
+    let content : c.content_of-content.result.now ≡ content_of format front = c.content_of-content.ensures ∙ ap (content_of format) c.deref-3.ensures.value in
     if-more {P = λ all. ReadsFront request.source all left front} {Q = λ bytes. StreamsAll request count bytes old new result} (g.R.Read.remaining c.args.pieces.now.input) c.in_ok-front.ensures.read
     (λ bytes is reads.
-    let ends = subst (λ (xs : List ℕ). Ends request.view (first_count request.view format count) (sound_rows format (record_count count) (xs ++ reads.0)) (wrong_in format (record_count count) (xs ++ reads.0)) old new result) c.deref-3.ensures.value
+    let ends = subst (λ (xs : List ℕ). Ends request.view (first_count request.view format count) (sound_rows format (record_count count) (xs ++ reads.0)) (wrong_in format (record_count count) (xs ++ reads.0)) old new result) content
     (c.show_rows.ensures.ends reads.0 reads.2)
     in
-    rows-end-so request count front reads.0 bytes format old new result reads.1 reads.3.0 none shown reads.3.1 ends)
+    rows-end-so request count front reads.0 bytes format old new result reads.1 reads.3 none shown ends)
