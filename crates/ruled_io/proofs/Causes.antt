@@ -15,7 +15,7 @@ use Rattle.ruled_table.specs.declared.fault.ViewFault.{ViewFault}
 use Rattle.ruled_io.specs.Faults.{IsOfRead, Tells, fault_of_sql, is_early, is_memory, is_of_write}
 use Rattle.ruled_io.specs.Input.{input_fault, rows_in}
 use Rattle.ruled_io.specs.Output.{failure_in, fault_written, write_part}
-use Rattle.ruled_io.specs.Requests.{format_told, hides_rows, holds_database, log_of}
+use Rattle.ruled_io.specs.Requests.{format_told, hides_rows, holds_database, log_of, rows_needed}
 use Rattle.ruled_io.specs.Runs.{AreAsked, AreRows, AreRowsAs, CausedAtOnce, LacksInput, LacksRows, LacksRowsAs, ShowsAll}
 use Rattle.ruled_io.specs.Steps.{Draws}
 use Rattle.ruled_io.specs.Writing.{Begins}
@@ -33,36 +33,36 @@ use Rattle.ruled_io.proofs.Growing.{begins-all, begins-kept}
 module _ {V : Type 0} (rows : V → List (List Text)) (source : Source) (bytes : List ℕ) where
   -- they are in the bytes
   pub held_rows : (known : Known) (result : Result V InputFault) → holds_database source bytes ≡ false → known ≡ format_told source
-      → IfOk result (λ v. rows v ≡ rows_in known bytes) → Tells (input_fault known bytes) result → IfOk result (λ v. AreRows source bytes (rows v))
+      → IfOk result (λ v. rows v ≡ rows_in None known bytes) → Tells (input_fault None known bytes) result → IfOk result (λ v. AreRows None source bytes (rows v))
   held_rows told (Ok v) other is held tells =
-      subst (λ (holds : Bool). AreRowsAs holds source bytes (rows v)) (sym other) (ap (λ (t : Known). input_fault t bytes) (sym is) ∙ tells, held ∙ ap (λ (t : Known). rows_in t bytes) is)
+      subst (λ (holds : Bool). AreRowsAs None holds source bytes (rows v)) (sym other) (ap (λ (t : Known). input_fault None t bytes) (sym is) ∙ tells, held ∙ ap (λ (t : Known). rows_in None t bytes) is)
   held_rows told (Err fault) other is held tells = tt
 
-  pub lacking_rows : (known : Known) (result : Result V InputFault) → holds_database source bytes ≡ false → known ≡ format_told source → Tells (input_fault known bytes) result → IfErr result (LacksRows source bytes)
+  pub lacking_rows : (known : Known) (result : Result V InputFault) → holds_database source bytes ≡ false → known ≡ format_told source → Tells (input_fault None known bytes) result → IfErr result (LacksRows None source bytes)
   lacking_rows told (Ok v) other is tells = tt
   lacking_rows told (Err fault) other is tells =
-      subst (λ (holds : Bool). LacksRowsAs holds source bytes fault) (sym other) (λ counts. ap (λ (t : Known). input_fault t bytes) (sym is) ∙ tells counts)
+      subst (λ (holds : Bool). LacksRowsAs None holds source bytes fault) (sym other) (λ counts. ap (λ (t : Known). input_fault None t bytes) (sym is) ∙ tells counts)
 
   -- they are asked of a database
-  pub asked_held : (result : Result V InputFault) → holds_database source bytes ≡ true → IfOk result (λ v. AreAsked source bytes (rows v)) → IfOk result (λ v. AreRows source bytes (rows v))
-  asked_held (Ok v) holds asked = subst (λ (h : Bool). AreRowsAs h source bytes (rows v)) (sym holds) asked
+  pub asked_held : (result : Result V InputFault) → holds_database source bytes ≡ true → IfOk result (λ v. AreAsked source bytes (rows v)) → IfOk result (λ v. AreRows None source bytes (rows v))
+  asked_held (Ok v) holds asked = subst (λ (h : Bool). AreRowsAs None h source bytes (rows v)) (sym holds) asked
   asked_held (Err fault) holds asked = tt
 
-  pub asked_lacking : (result : Result V InputFault) → holds_database source bytes ≡ true → IfErr result (LacksRowsAs true source bytes) → IfErr result (LacksRows source bytes)
+  pub asked_lacking : (result : Result V InputFault) → holds_database source bytes ≡ true → IfErr result (LacksRowsAs None true source bytes) → IfErr result (LacksRows None source bytes)
   asked_lacking (Ok v) holds lacks = tt
-  asked_lacking (Err fault) holds lacks = subst (λ (h : Bool). LacksRowsAs h source bytes fault) (sym holds) lacks
+  asked_lacking (Err fault) holds lacks = subst (λ (h : Bool). LacksRowsAs None h source bytes fault) (sym holds) lacks
 
 -- a fault of a query
 pub of_query : {X : Type 0} (source : Source) (bytes : List ℕ) (found : SqlFault) (result : Result X InputFault) → hides_rows (log_of source) bytes ≡ false → (found ≡ sql.Database → HoldsNone bytes) → IsErrAnd result (λ fault. fault ≡ fault_of_sql found)
-    → IfErr result (LacksRowsAs true source bytes)
+    → IfErr result (LacksRowsAs None true source bytes)
 of_query source bytes found (Ok x) shown none told = absurd told
-of_query source bytes sql.Database (Err fault) shown none told = subst (LacksRowsAs true source bytes) (sym told) (shown, none)
-of_query source bytes sql.Damage (Err fault) shown none told = subst (LacksRowsAs true source bytes) (sym told) (shown, none)
-of_query source bytes (sql.Query (query.Refused error)) (Err fault) shown none told = subst (LacksRowsAs true source bytes) (sym told) (shown, none)
-of_query source bytes (sql.Query query.Change) (Err fault) shown none told = subst (LacksRowsAs true source bytes) (sym told) (shown, none)
-of_query source bytes (sql.Query (query.Encoding row)) (Err fault) shown none told = subst (LacksRowsAs true source bytes) (sym told) (shown, none)
-of_query source bytes (sql.Query query.Memory) (Err fault) shown none told = subst (LacksRowsAs true source bytes) (sym told) tt
-of_query source bytes sql.Memory (Err fault) shown none told = subst (LacksRowsAs true source bytes) (sym told) tt
+of_query source bytes sql.Database (Err fault) shown none told = subst (LacksRowsAs None true source bytes) (sym told) (shown, none)
+of_query source bytes sql.Damage (Err fault) shown none told = subst (LacksRowsAs None true source bytes) (sym told) (shown, none)
+of_query source bytes (sql.Query (query.Refused error)) (Err fault) shown none told = subst (LacksRowsAs None true source bytes) (sym told) (shown, none)
+of_query source bytes (sql.Query query.Change) (Err fault) shown none told = subst (LacksRowsAs None true source bytes) (sym told) (shown, none)
+of_query source bytes (sql.Query (query.Encoding row)) (Err fault) shown none told = subst (LacksRowsAs None true source bytes) (sym told) (shown, none)
+of_query source bytes (sql.Query query.Memory) (Err fault) shown none told = subst (LacksRowsAs None true source bytes) (sym told) tt
+of_query source bytes sql.Memory (Err fault) shown none told = subst (LacksRowsAs None true source bytes) (sym told) tt
 
 -- ---- where the bytes are known
 
@@ -96,23 +96,23 @@ each-err (Err fault) p = p fault refl
 
 -- ---- an input
 
-memory-lacks : (holds : Bool) (source : Source) (bytes : List ℕ) → LacksRowsAs holds source bytes Memory
-memory-lacks true source bytes = tt
-memory-lacks false source bytes = λ counts. absurd (true≢false counts)
+memory-lacks : (limit : Option ℕ) (holds : Bool) (source : Source) (bytes : List ℕ) → LacksRowsAs limit holds source bytes Memory
+memory-lacks limit true source bytes = tt
+memory-lacks limit false source bytes = λ counts. absurd (true≢false counts)
 
-pub read-lacks : (source : Source) (bytes : List ℕ) (found : RunFault) → IsOfRead found → LacksInput source bytes found
-read-lacks source bytes found (inl memory) = subst (LacksInput source bytes) (sym memory) (memory-lacks (holds_database source bytes) source bytes)
-read-lacks source bytes found (inr read) = subst (LacksInput source bytes) (sym read) tt
+pub read-lacks : (limit : Option ℕ) (source : Source) (bytes : List ℕ) (found : RunFault) → IsOfRead found → LacksInput limit source bytes found
+read-lacks limit source bytes found (inl memory) = subst (LacksInput limit source bytes) (sym memory) (memory-lacks limit (holds_database source bytes) source bytes)
+read-lacks limit source bytes found (inr read) = subst (LacksInput limit source bytes) (sym read) tt
 
 -- ---- a run at once
 
-pub lacks-caused : (request : Request) (bytes : List ℕ) (old : Option (List ℕ)) (fault : RunFault) → LacksInput request.source bytes fault → CausedAtOnce request bytes fault old old
+pub lacks-caused : (request : Request) (bytes : List ℕ) (old : Option (List ℕ)) (fault : RunFault) → LacksInput (rows_needed request.view) request.source bytes fault → CausedAtOnce request bytes fault old old
 lacks-caused request bytes old (Input fault) lacks = (λ soft. (inl lacks, Keeps-refl old), λ memory. inl (Keeps-refl old))
 lacks-caused request bytes old Read lacks = Keeps-refl old
 lacks-caused request bytes old Closed lacks = absurd lacks
 lacks-caused request bytes old Write lacks = absurd lacks
 
-module _ (request : Request) (bytes : List ℕ) (rows : List (List Text)) (are : AreRows request.source bytes rows) where
+module _ (request : Request) (bytes : List ℕ) (rows : List (List Text)) (are : AreRows (rows_needed request.view) request.source bytes rows) where
   -- their table isn't written
   pub draws-caused : (old new : Option (List ℕ)) (fault : RunFault) → Draws (table_text request.view rows) (table_fault request.view rows) old new {X = Unit {0}} (Err fault) → CausedAtOnce request bytes fault old new
   draws-caused old new (Input fault) (soft, memory) = (λ found. (inr (rows, are, (soft found).0), (soft found).1), λ lost. inr (rows, are, memory lost))
@@ -154,13 +154,13 @@ early-handed text wrong old new found (Ok x) draws is = absurd is
 early-handed text wrong old new found (Err fault) draws is = λ early. draws-early text wrong old new found draws (ap is_early (sym is) ∙ early)
 
 -- the table is written, and then shown
-module _ {X : Type 0} (given : Option (List ℕ)) (request : Request) (rows : List (List Text)) (old mid new : Option (List ℕ)) (result : Result X RunFault) (are : IfSome given (λ bytes. AreRows request.source bytes rows))
+module _ {X : Type 0} (given : Option (List ℕ)) (request : Request) (rows : List (List Text)) (old mid new : Option (List ℕ)) (result : Result X RunFault) (are : IfSome given (λ bytes. AreRows (rows_needed request.view) request.source bytes rows))
     (drawn : (table_fault request.view rows ≡ None) × Appends old mid (table_text request.view rows)) (kept : Keeps mid new) where
   pub shown-drawn : OnOk result (IfSome given (λ bytes. (text : Text) × ShowsAll request bytes text × Appends old new text))
-  shown-drawn = on-ok result (if-so {P = λ bytes. AreRows request.source bytes rows} given are (λ bytes these. drawn-shown request bytes rows these old mid new drawn.0 drawn.1 kept))
+  shown-drawn = on-ok result (if-so {P = λ bytes. AreRows (rows_needed request.view) request.source bytes rows} given are (λ bytes these. drawn-shown request bytes rows these old mid new drawn.0 drawn.1 kept))
 
   pub after-drawn : ((fault : RunFault) → result ≡ Err fault → is_of_write fault ≡ true) → IfErr result (λ fault. IfSome given (λ bytes. CausedAtOnce request bytes fault old new))
-  after-drawn failed = each-err result (λ fault is. if-so {P = λ bytes. AreRows request.source bytes rows} given are (λ bytes these. unshown-caused request bytes rows these old mid new fault (failed fault is) drawn.1 kept))
+  after-drawn failed = each-err result (λ fault is. if-so {P = λ bytes. AreRows (rows_needed request.view) request.source bytes rows} given are (λ bytes these. unshown-caused request bytes rows these old mid new fault (failed fault is) drawn.1 kept))
 
 -- what a result says of a write, its fault does
 pub written-err : {X : Type 0} (r : Result X RunFault) → failure_in r ≡ fault_written (result_err r)

@@ -3,6 +3,7 @@ mod Causes
 mod Drawn
 mod Fronts
 mod Growing
+mod HeadRows
 mod Inputs
 mod Readers
 mod Readings

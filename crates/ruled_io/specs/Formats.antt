@@ -123,6 +123,11 @@ format_in known bytes = format_of_all known (strip_bom bytes)
 abbrev pub format_streamed : Known → List ℕ → Format
 format_streamed known bytes = format_shown known (strip_bom bytes)
 
+abbrev pub is_separated : Format → Bool
+is_separated (Separated dialect) = true
+is_separated Json = false
+is_separated JsonLines = false
+
 -- ---- the bytes of the rows
 
 -- a line that sets the delimiter is no row: it is an empty line

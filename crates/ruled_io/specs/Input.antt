@@ -1,5 +1,5 @@
 -- The rows that an input holds.
-use Rattle.std.specs.Prelude.{ℕ, List, Option, option_map}
+use Rattle.std.specs.Prelude.{ℕ, nat_lt, List, length, take, Option, Some, None, option_map, if◌then◌else◌}
 use Rattle.csv.specs.Reading.{strip_bom}
 use Rattle.pg_layout.specs.Text.{Text}
 use Rattle.ruled_csv.specs.Rows as csv_rows
@@ -25,9 +25,22 @@ format_fault (Separated dialect) bytes = option_map fault_of_rows (csv_faults.ro
 format_fault Json bytes = option_map fault_of_json (json_faults.rows_fault (strip_bom bytes))
 format_fault JsonLines bytes = option_map fault_of_json (json_faults.line_rows_fault (strip_bom bytes))
 
--- the rows of the format that is told, or else of the one that the bytes show
-abbrev pub rows_in : Known → List ℕ → List (List Text)
-rows_in known bytes = rows_of (format_in known bytes) (content_of (format_in known bytes) bytes)
+-- of separated values, the first so many of their rows are enough where so many are sound, whatever comes behind them
+abbrev pub rows_within : Option ℕ → Format → List ℕ → List (List Text)
+rows_within None format bytes = rows_of format bytes
+rows_within (Some limit) (Separated dialect) bytes = take limit (csv_faults.sound_rows dialect bytes)
+rows_within (Some limit) Json bytes = rows_of Json bytes
+rows_within (Some limit) JsonLines bytes = rows_of JsonLines bytes
 
-abbrev pub input_fault : Known → List ℕ → Option InputFault
-input_fault known bytes = format_fault (format_in known bytes) (content_of (format_in known bytes) bytes)
+abbrev pub fault_within : Option ℕ → Format → List ℕ → Option InputFault
+fault_within None format bytes = format_fault format bytes
+fault_within (Some limit) (Separated dialect) bytes = if nat_lt (length (csv_faults.sound_rows dialect bytes)) limit then format_fault (Separated dialect) bytes else None
+fault_within (Some limit) Json bytes = format_fault Json bytes
+fault_within (Some limit) JsonLines bytes = format_fault JsonLines bytes
+
+-- the rows of the format that is known, or else of the one that the bytes show
+abbrev pub rows_in : Option ℕ → Known → List ℕ → List (List Text)
+rows_in limit known bytes = rows_within limit (format_in known bytes) (content_of (format_in known bytes) bytes)
+
+abbrev pub input_fault : Option ℕ → Known → List ℕ → Option InputFault
+input_fault limit known bytes = fault_within limit (format_in known bytes) (content_of (format_in known bytes) bytes)

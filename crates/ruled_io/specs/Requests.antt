@@ -1,8 +1,10 @@
 -- What is asked of a run.
-use Rattle.std.specs.Prelude.{ℕ, Bool, true, false, List, Option, Some, None, option_map, string_bytes}
+use Rattle.std.specs.Prelude.{ℕ, max, Bool, true, false, List, Option, Some, None, option_map, string_bytes, if◌then◌else◌}
 use Rattle.pg_layout.specs.Text.{Text}
 use Rattle.ruled_sql.specs.Answers.{keeps_log}
 use Rattle.ruled_io.specs.Formats as formats
+use Rattle.ruled_table.specs.Shown.{limit_of}
+use Rattle.ruled_table.specs.declared.options.Options.{Options}
 use Rattle.ruled_io.specs.declared.formats.Format.{Format}
 use Rattle.ruled_io.specs.declared.formats.Format.TheVariants as format
 use Rattle.ruled_io.specs.declared.formats.Known.{Known}
@@ -63,3 +65,7 @@ abbrev pub hides_rows : Log → List ℕ → Bool
 hides_rows Empty bytes = false
 hides_rows Filled bytes = true
 hides_rows Unknown bytes = keeps_log bytes
+
+-- so many rows are needed of an input, if not all: those that are shown, and row 0, which names the columns
+abbrev pub rows_needed : Options → Option ℕ
+rows_needed options = if options.is_padded then None else option_map (max 1) (limit_of options)

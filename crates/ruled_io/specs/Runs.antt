@@ -7,7 +7,7 @@ use Rattle.ruled_sql.specs.declared.fault.SqlFault.TheVariants as sql
 use Rattle.ruled_table.specs.View.{table_fault, table_text}
 use Rattle.ruled_io.specs.Faults.{but_line_in, fault_of_view, is_memory}
 use Rattle.ruled_io.specs.Input.{input_fault, rows_in}
-use Rattle.ruled_io.specs.Requests.{format_told, hides_rows, holds_database, log_of, query_of}
+use Rattle.ruled_io.specs.Requests.{format_told, hides_rows, holds_database, log_of, query_of, rows_needed}
 use Rattle.ruled_io.specs.Stream.{StopsStream, streamed_fault, streamed_text, streamed_wrong}
 use Rattle.ruled_io.specs.Writing.{Begins}
 use Rattle.ruled_io.specs.declared.fault.InputFault.{InputFault}
@@ -19,7 +19,7 @@ use Rattle.ruled_io.specs.declared.request.Rows as rows
 use Rattle.ruled_io.specs.declared.request.Rows.TheVariants.{AtOnce, FromFirst}
 use Rattle.ruled_io.specs.declared.request.Source.{Source}
 
--- ---- the rows of all bytes
+-- ---- the rows of all bytes, or of the first of them where so many rows are needed
 
 -- the rows that the query has of the database that the bytes hold
 abbrev pub AnswersOf : Option Text → List ℕ → List (List Text) → Type 0
@@ -31,46 +31,46 @@ abbrev pub AreAsked : Source → List ℕ → List (List Text) → Type 0
 AreAsked source bytes rows = (hides_rows (log_of source) bytes ≡ false) × AnswersOf (query_of source) bytes rows
 
 -- the rows are the answer, or those that the bytes hold
-abbrev pub AreRowsAs : Bool → Source → List ℕ → List (List Text) → Type 0
-AreRowsAs false source bytes rows = (input_fault (format_told source) bytes ≡ None) × (rows ≡ rows_in (format_told source) bytes)
-AreRowsAs true source bytes rows = AreAsked source bytes rows
+abbrev pub AreRowsAs : Option ℕ → Bool → Source → List ℕ → List (List Text) → Type 0
+AreRowsAs limit false source bytes rows = (input_fault limit (format_told source) bytes ≡ None) × (rows ≡ rows_in limit (format_told source) bytes)
+AreRowsAs limit true source bytes rows = AreAsked source bytes rows
 
-abbrev pub AreRows : Source → List ℕ → List (List Text) → Type 0
-AreRows source bytes rows = AreRowsAs (holds_database source bytes) source bytes rows
+abbrev pub AreRows : Option ℕ → Source → List ℕ → List (List Text) → Type 0
+AreRows limit source bytes rows = AreRowsAs limit (holds_database source bytes) source bytes rows
 
 -- why there are none, unless memory was refused; a log that may hide rows comes before all that is asked of a database
-abbrev pub LacksRowsAs : Bool → Source → List ℕ → InputFault → Type 0
-LacksRowsAs false source bytes fault = is_memory fault ≡ false → input_fault (format_told source) bytes ≡ Some (but_line_in fault)
-LacksRowsAs true source bytes (input.Rows fault) = ⊥
-LacksRowsAs true source bytes (input.Json fault) = ⊥
-LacksRowsAs true source bytes (input.Stream fault) = ⊥
-LacksRowsAs true source bytes (input.Sql fault) = (hides_rows (log_of source) bytes ≡ false) × (fault ≡ sql.Database → HoldsNone bytes)
-LacksRowsAs true source bytes input.NoQuery = (hides_rows (log_of source) bytes ≡ false) × (query_of source ≡ None)
-LacksRowsAs true source bytes input.Log = hides_rows (log_of source) bytes ≡ true
-LacksRowsAs true source bytes (input.Column name) = ⊥
-LacksRowsAs true source bytes input.Totals = ⊥
-LacksRowsAs true source bytes input.Memory = ⊤
+abbrev pub LacksRowsAs : Option ℕ → Bool → Source → List ℕ → InputFault → Type 0
+LacksRowsAs limit false source bytes fault = is_memory fault ≡ false → input_fault limit (format_told source) bytes ≡ Some (but_line_in fault)
+LacksRowsAs limit true source bytes (input.Rows fault) = ⊥
+LacksRowsAs limit true source bytes (input.Json fault) = ⊥
+LacksRowsAs limit true source bytes (input.Stream fault) = ⊥
+LacksRowsAs limit true source bytes (input.Sql fault) = (hides_rows (log_of source) bytes ≡ false) × (fault ≡ sql.Database → HoldsNone bytes)
+LacksRowsAs limit true source bytes input.NoQuery = (hides_rows (log_of source) bytes ≡ false) × (query_of source ≡ None)
+LacksRowsAs limit true source bytes input.Log = hides_rows (log_of source) bytes ≡ true
+LacksRowsAs limit true source bytes (input.Column name) = ⊥
+LacksRowsAs limit true source bytes input.Totals = ⊥
+LacksRowsAs limit true source bytes input.Memory = ⊤
 
-abbrev pub LacksRows : Source → List ℕ → InputFault → Type 0
-LacksRows source bytes fault = LacksRowsAs (holds_database source bytes) source bytes fault
+abbrev pub LacksRows : Option ℕ → Source → List ℕ → InputFault → Type 0
+LacksRows limit source bytes fault = LacksRowsAs limit (holds_database source bytes) source bytes fault
 
 -- or the input can't be read
-abbrev pub LacksInput : Source → List ℕ → RunFault → Type 0
-LacksInput source bytes (Input fault) = LacksRows source bytes fault
-LacksInput source bytes Read = ⊤
-LacksInput source bytes Closed = ⊥
-LacksInput source bytes Write = ⊥
+abbrev pub LacksInput : Option ℕ → Source → List ℕ → RunFault → Type 0
+LacksInput limit source bytes (Input fault) = LacksRows limit source bytes fault
+LacksInput limit source bytes Read = ⊤
+LacksInput limit source bytes Closed = ⊥
+LacksInput limit source bytes Write = ⊥
 
 -- ---- what is shown of them at once
 
 -- the text is their picture
 abbrev pub ShowsAll : Request → List ℕ → Text → Type 0
-ShowsAll request bytes text = (rows : List (List Text)) × AreRows request.source bytes rows × (table_fault request.view rows ≡ None) × (text ≡ table_text request.view rows)
+ShowsAll request bytes text = (rows : List (List Text)) × AreRows (rows_needed request.view) request.source bytes rows × (table_fault request.view rows ≡ None) × (text ≡ table_text request.view rows)
 
 -- there are no rows, or they have no table
 abbrev pub CausedAll : Request → List ℕ → InputFault → Type 0
 CausedAll request bytes fault =
-    LacksRows request.source bytes fault ⊎ ((rows : List (List Text)) × AreRows request.source bytes rows × (option_map fault_of_view (table_fault request.view rows) ≡ Some fault))
+    LacksRows (rows_needed request.view) request.source bytes fault ⊎ ((rows : List (List Text)) × AreRows (rows_needed request.view) request.source bytes rows × (option_map fault_of_view (table_fault request.view rows) ≡ Some fault))
 
 -- ---- a run
 
@@ -84,7 +84,7 @@ Shows request bytes text = ShowsBy request.rows request bytes text
 
 -- at once: a beginning of the picture of the rows is written
 abbrev pub IsBegun : Request → List ℕ → Option (List ℕ) → Option (List ℕ) → Type 0
-IsBegun request bytes old new = (rows : List (List Text)) × AreRows request.source bytes rows × Begins old new (table_text request.view rows)
+IsBegun request bytes old new = (rows : List (List Text)) × AreRows (rows_needed request.view) request.source bytes rows × Begins old new (table_text request.view rows)
 
 -- what is wrong is told before anything is written, except that memory may be refused, and a write may fail, while rows are written
 abbrev pub CausedAtOnce : Request → List ℕ → RunFault → Option (List ℕ) → Option (List ℕ) → Type 0

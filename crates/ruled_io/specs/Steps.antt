@@ -1,16 +1,18 @@
--- What the parts of a run row by row do.
-use Rattle.std.specs.Prelude.{◌≡◌, ◌⊎◌, ℕ, ◌≤◌, true, false, ⊤, List, ◌∷◌, ◌++◌, length, nat_lt, Option, Some, None, option_map, Result, Ok, Err, if◌then◌else◌}
+-- What the parts of a run do.
+use Rattle.std.specs.Prelude.{◌≡◌, ◌⊎◌, ℕ, ◌≤◌, true, false, ⊤, List, ◌∷◌, ◌++◌, length, nat_lt, take, Option, Some, None, option_map, Result, Ok, Err, if◌then◌else◌}
 use Rattle.std.specs.Io.KnownBytes.{Appends, Keeps}
 use Rattle.pg_layout.specs.Text.{Text}
 use Rattle.ruled_table.specs.Plans.{Plan}
 use Rattle.ruled_table.specs.RowLines.{HasNoRoom, begun_text}
-use Rattle.ruled_io.specs.Faults.{but_line, fault_of_view, is_early, is_failure, is_memory, is_read}
+use Rattle.ruled_io.specs.Faults.{but_line, but_line_in, fault_of_view, is_early, is_failure, is_memory, is_read}
+use Rattle.ruled_io.specs.Reading.{sound_rows, wrong_in}
 use Rattle.ruled_io.specs.Stream.{lines_in}
 use Rattle.ruled_io.specs.Writing.{Begins}
 use Rattle.ruled_io.specs.declared.fault.InputFault.{InputFault}
 use Rattle.ruled_io.specs.declared.fault.InputFault.TheVariants.{Totals}
 use Rattle.ruled_io.specs.declared.fault.RunFault.{RunFault}
 use Rattle.ruled_io.specs.declared.fault.RunFault.TheVariants.{Input, Read, Closed, Write}
+use Rattle.ruled_io.specs.declared.formats.Format.{Format}
 use Rattle.ruled_io.specs.declared.reader.Reading.{Reading}
 use Rattle.ruled_io.specs.declared.reader.Reading.TheVariants.{More, Done}
 use Rattle.ruled_table.specs.declared.fault.ViewFault.{ViewFault}
@@ -74,3 +76,20 @@ module _ (text : Text) (wrong : Option ViewFault) (old new : Option (List ℕ)) 
   abbrev pub DrawsInMemory : {X : Type 0} → Result X RunFault → Type 0
   DrawsInMemory (Ok x) = (wrong ≡ None) × Appends old new text
   DrawsInMemory (Err fault) = (is_read fault ≡ false) × (is_early fault ≡ false) × Begins old new text
+
+-- ---- the first rows of an input
+
+module _ (format : Format) (limit : ℕ) (all : List ℕ) where
+  -- what is wrong where fewer stand above the first bad one
+  abbrev pub fault_of_first : Option InputFault
+  fault_of_first = if nat_lt (length (sound_rows format 1 all)) limit then wrong_in format 1 all else None
+
+  abbrev pub AreFirst : List (List Text) → Type 0
+  AreFirst rows = (fault_of_first ≡ None) × (rows ≡ take limit (sound_rows format 1 all))
+
+  -- why there are none, unless memory was refused
+  abbrev pub LacksFirst : RunFault → Type 0
+  LacksFirst (Input fault) = is_memory fault ≡ false → fault_of_first ≡ Some (but_line_in fault)
+  LacksFirst Read = ⊤
+  LacksFirst Closed = ⊥
+  LacksFirst Write = ⊥

@@ -14,16 +14,19 @@ ghost use Rattle.ruled_table.specs.Plans.{Plan};
 ghost use Rattle.ruled_table.specs.View.{table_fault, table_text, whole_fault, whole_table};
 ghost use Rattle.ruled_io.specs.Faults.{IsOfRead, is_early, is_read};
 ghost use Rattle.ruled_io.specs.Output.{TellsWrite, failure_of, write_part};
+ghost use Rattle.ruled_io.specs.Requests.{rows_needed};
 ghost use Rattle.ruled_io.specs.Runs.{AreRows, CausedAtOnce, LacksInput, ShowsAll};
 ghost use Rattle.ruled_io.specs.Steps.{Draws, DrawsInMemory};
 ghost use Rattle.ruled_io.specs.Writing.{Begins};
 ghost use Rattle.ruled_table.specs.declared.options.Options.{Options};
 
 use crate::fault::{InputFault, RunFault};
+use crate::heads::{read_heads, rows_needed};
 use crate::input::all_rows;
 use crate::lines::{write_end, write_rows};
 use crate::output::Output;
-use crate::request::Request;
+use crate::pieces::Pieces;
+use crate::request::{Request, Source};
 use csv::StringRecord;
 use ruled_table::{Blocks, Layout, Options, TableRows, chosen_rows};
 use std::alloc::Global;
@@ -44,18 +47,35 @@ fn read_whole<R: Read>(alloc: Global, input: &mut R) -> Result<Vec<u8>, RunFault
     }
 }
 
-// The rows that are asked of an input, of which nothing else is kept.
-fn read_rows<R: Read>(
+// All rows that are asked of an input, of which nothing else is kept.
+fn read_all_rows<R: Read>(
     alloc: Global,
-    request: &Request,
+    source: &Source,
     input: &mut R,
 ) -> Result<Vec<StringRecord>, RunFault>
-    ensures rows { IfOk result (λ rows. IfSome (R.remaining input.old) (λ bytes. AreRows request.now.source bytes (map fields_of rows.items))) }
-    ensures cause { IfErr result (λ fault. IfSome (R.remaining input.old) (λ bytes. LacksInput request.now.source bytes fault)) }
+    ensures rows { IfOk result (λ rows. IfSome (R.remaining input.old) (λ bytes. AreRows None source.now bytes (map fields_of rows.items))) }
+    ensures cause { IfErr result (λ fault. IfSome (R.remaining input.old) (λ bytes. LacksInput None source.now bytes fault)) }
     ensures unwritten { IfErr result (λ fault. write_part fault ≡ None) }
 {
     let bytes = read_whole(alloc, input)?;
-    Ok(all_rows(alloc, &request.source, &bytes)?)
+    Ok(all_rows(alloc, source, &bytes)?)
+}
+
+// The rows that are asked of an input, as many as are needed.
+fn read_rows<R: Read + Drop>(
+    alloc: Global,
+    request: &Request,
+    input: R,
+) -> Result<Vec<StringRecord>, RunFault>
+    ensures rows { IfOk result (λ rows. IfSome (R.remaining input) (λ bytes. AreRows (rows_needed request.now.view) request.now.source bytes (map fields_of rows.items))) }
+    ensures cause { IfErr result (λ fault. IfSome (R.remaining input) (λ bytes. LacksInput (rows_needed request.now.view) request.now.source bytes fault)) }
+    ensures unwritten { IfErr result (λ fault. write_part fault ≡ None) }
+{
+    let mut input = input;
+    match rows_needed(&request.view) {
+        Some(limit) => read_heads(alloc, &request.source, limit, &mut Pieces::new(input)),
+        None => read_all_rows(alloc, &request.source, &mut input),
+    }
 }
 
 // Writes the lines of all rows of a table, and its end.
@@ -193,14 +213,14 @@ fn show_rows<W: Write + Drop>(
 }
 
 /// Shows the rows that are asked of an input when all of them are there.
-pub(crate) fn show_at_once<R: Read, W: Write + Drop>(
+pub(crate) fn show_at_once<R: Read + Drop, W: Write + Drop>(
     alloc: Global,
     request: &Request,
-    input: &mut R,
+    input: R,
     out: &mut Output<W>,
 ) -> Result<(), RunFault>
-    ensures shown { OnOk result (IfSome (R.remaining input.old) (λ bytes. (text : _) × ShowsAll request.now bytes text × Appends (W.contents out.old.writer) (W.contents out.new.writer) text)) }
-    ensures cause { IfErr result (λ fault. IfSome (R.remaining input.old) (λ bytes. CausedAtOnce request.now bytes fault (W.contents out.old.writer) (W.contents out.new.writer))) }
+    ensures shown { OnOk result (IfSome (R.remaining input) (λ bytes. (text : _) × ShowsAll request.now bytes text × Appends (W.contents out.old.writer) (W.contents out.new.writer) text)) }
+    ensures cause { IfErr result (λ fault. IfSome (R.remaining input) (λ bytes. CausedAtOnce request.now bytes fault (W.contents out.old.writer) (W.contents out.new.writer))) }
     ensures unwritten { IfErr result (λ fault. is_early fault ≡ true → Keeps (W.contents out.old.writer) (W.contents out.new.writer)) }
     ensures told { TellsWrite (failure_of out.old) (failure_of out.new) result }
 {

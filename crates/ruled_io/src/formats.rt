@@ -55,6 +55,15 @@ pub enum Kind {
     Database,
 }
 
+impl Format {
+    // Whether it is separated values.
+    pub(crate) fn is_separated(self) -> bool
+        ensures { result ≡ spec.is_separated self }
+    {
+        matches!(self, Format::Separated(_))
+    }
+}
+
 impl Kind {
     /// The names of formats, as they are listed.
     pub const NAMES: [&'static str; 5] = ["csv", "tsv", "json", "jsonl", "sqlite"];

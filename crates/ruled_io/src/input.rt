@@ -1,6 +1,6 @@
 //! The rows that an input holds, or that are asked of it.
 
-ghost use Rattle.std.specs.Prelude.{◌≡◌, map, true, IfErr, IfOk};
+ghost use Rattle.std.specs.Prelude.{◌≡◌, None, map, true, IfErr, IfOk};
 ghost use Rattle.csv.specs.Records.{fields_of};
 ghost use Rattle.ruled_io.specs.Faults.{Tells};
 ghost use Rattle.ruled_io.specs.Input.{format_fault, input_fault, rows_in, rows_of};
@@ -29,8 +29,8 @@ fn rows_of(alloc: Global, format: Format, bytes: &[u8]) -> Result<Vec<StringReco
 
 // The rows that bytes hold, of which the first is row 0, or why there are none.
 fn rows_in(alloc: Global, known: Known, bytes: &[u8]) -> Result<Vec<StringRecord>, InputFault>
-    ensures rows { IfOk result (λ rows. map fields_of rows.items ≡ rows_in known bytes.now) }
-    ensures fault { Tells (input_fault known bytes.now) result }
+    ensures rows { IfOk result (λ rows. map fields_of rows.items ≡ rows_in None known bytes.now) }
+    ensures fault { Tells (input_fault None known bytes.now) result }
 {
     let format = format_in(alloc, known, bytes)?;
     rows_of(alloc, format, content_of(format, bytes))
@@ -39,7 +39,7 @@ fn rows_in(alloc: Global, known: Known, bytes: &[u8]) -> Result<Vec<StringRecord
 // The rows that are asked of a database.
 fn asked_rows(alloc: Global, source: &Source, bytes: &[u8]) -> Result<Vec<StringRecord>, InputFault>
     ensures rows { IfOk result (λ rows. AreAsked source.now bytes.now (map fields_of rows.items)) }
-    ensures cause { IfErr result (LacksRowsAs true source.now bytes.now) }
+    ensures cause { IfErr result (LacksRowsAs None true source.now bytes.now) }
 {
     if source.log().hides_rows(bytes) {
         return Err(InputFault::Log);
@@ -56,8 +56,8 @@ pub(crate) fn all_rows(
     source: &Source,
     bytes: &[u8],
 ) -> Result<Vec<StringRecord>, InputFault>
-    ensures rows { IfOk result (λ rows. AreRows source.now bytes.now (map fields_of rows.items)) }
-    ensures cause { IfErr result (LacksRows source.now bytes.now) }
+    ensures rows { IfOk result (λ rows. AreRows None source.now bytes.now (map fields_of rows.items)) }
+    ensures cause { IfErr result (LacksRows None source.now bytes.now) }
 {
     if source.is_database(bytes) {
         return asked_rows(alloc, source, bytes);

@@ -5,6 +5,7 @@
 mod at_once;
 mod fault;
 mod formats;
+mod heads;
 mod input;
 mod lines;
 mod name;

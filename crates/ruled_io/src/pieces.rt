@@ -91,6 +91,21 @@ impl<R: Read + Drop> Pieces<R> {
         self.read_shown(alloc, source.known())
     }
 
+    /// Reads all that is left, behind these bytes.
+    pub(crate) fn read_rest(&mut self, bytes: &mut Vec<u8>) -> Result<(), RunFault>
+        ensures read { OnOk result (IfSome (R.remaining self.old.input) (λ rest. bytes.new.items ≡ bytes.old.items ++ rest)) }
+        ensures failed { IfErr result IsOfRead }
+    {
+        for _ in 0..usize::MAX {
+            let count = self.read()?;
+            if count == 0 {
+                return Ok(());
+            }
+            bytes.extend_from_slice(&self.buffer[..count])?;
+        }
+        Err(RunFault::Read)
+    }
+
     /// Reads the next bytes, and appends the rows that are complete with them.
     pub(crate) fn read_on(
         &mut self,

@@ -48,9 +48,8 @@ fn show<R: Read + Drop, W: Write + Drop>(
     ensures unwritten { request.now.rows ≡ Rows.AtOnce → IfErr result (λ fault. is_early fault ≡ true → Keeps (W.contents out.old.writer) (W.contents out.new.writer)) }
     ensures told { TellsWrite (failure_of out.old) (failure_of out.new) result }
 {
-    let mut input = input;
     match request.rows {
-        Rows::AtOnce => show_at_once(alloc, request, &mut input, out),
+        Rows::AtOnce => show_at_once(alloc, request, input, out),
         Rows::FromFirst(count) => stream(alloc, request, count, input, out),
     }
 }
@@ -76,7 +75,8 @@ fn ending_of<W: Write>(answer: Result<(), RunFault>, request: &Request, err: &mu
 /// Shows the table of the rows that are requested of `input`, or reports why there is none: for a
 /// database the rows of its query, else those that the bytes hold.
 ///
-/// At once, all of `input` is read, and what is wrong with it or its table is reported, before anything is written.
+/// At once, all of `input` is read, or as much as the first rows need, and what is wrong with them or their table is
+/// reported, before anything is written.
 /// Then each row is written to `out` when it is drawn, so no text of the table is kept. If memory is refused or a
 /// write fails meanwhile, a beginning of the text has been written.
 ///

@@ -53,8 +53,8 @@ fn write_table<R: Read + Drop, W: Write + Drop>(
     Err(RunFault::Read)
 }
 
-// Reads on until so many rows are there, or all.
-fn read_first<R: Read + Drop>(
+/// Reads on until so many rows are there, or all.
+pub(crate) fn read_first<R: Read + Drop>(
     mut reading: Reading,
     count: usize,
     pieces: &mut Pieces<R>,
@@ -78,8 +78,8 @@ fn read_first<R: Read + Drop>(
     Err(RunFault::Read)
 }
 
-// What keeps the first rows from being shown: they end at a bad one.
-fn wrong_within(reading: &Reading, count: usize, rows: usize) -> Option<InputFault>
+/// What keeps the first rows from being shown: they end at a bad one.
+pub(crate) fn wrong_within(reading: &Reading, count: usize, rows: usize) -> Option<InputFault>
     ensures { result ≡ wrong_within count rows reading.now }
 {
     match reading {

@@ -1,6 +1,7 @@
 use Rattle.std.proofs.Common.{◌∙◌, List, ℕ, map}
 use Rattle.csv.specs.Records.{fields_of}
 use Rattle.ruled_table.specs.View.{table_fault, table_text}
+use Rattle.ruled_io.specs.Requests.{rows_needed}
 use Rattle.ruled_io.specs.Runs.{AreRows, CausedAtOnce, LacksInput}
 use Rattle.ruled_io.proofs.Causes.{after-drawn, draws-caused, early-handed, handed-known, if-so, lacks-caused, late, shown-drawn, unwritten-told}
 use Rattle.ruled_io.proofs.at_once.show_at_once.Goals as goal
@@ -8,22 +9,22 @@ use Rattle.ruled_io.proofs.at_once.show_at_once.Goals as goal
 pub returns-in_err-rows-clause-cause : goal.returns-in_err-rows-clause-cause
 returns-in_err-rows-clause-cause g c =
     let request = c.args.request.now in
-    let given = g.R.Read.remaining c.args.input.now in
+    let given = g.R.Read.remaining c.args.input in
     let old = g.W.Write.contents c.args.out.now.writer in
     let found = c.in_err-rows.field-0.0 in
     handed-known given found c.from_residual.result (λ bytes fault. CausedAtOnce request bytes fault old old) c.from_residual.ensures.1
-    (if-so {P = λ bytes. LacksInput request.source bytes found} given c.in_err-rows.ensures.cause (λ bytes lacks. lacks-caused request bytes old found lacks))
+    (if-so {P = λ bytes. LacksInput (rows_needed request.view) request.source bytes found} given c.in_err-rows.ensures.cause (λ bytes lacks. lacks-caused request bytes old found lacks))
 
 pub returns-in_err-show_rows-clause-cause : goal.returns-in_err-show_rows-clause-cause
 returns-in_err-show_rows-clause-cause g c =
     let request = c.args.request.now in
-    let given = g.R.Read.remaining c.args.input.now in
+    let given = g.R.Read.remaining c.args.input in
     let old = g.W.Write.contents c.args.out.now.writer in
     let new = g.W.Write.contents c.show_rows.new.out.writer in
     let rows : List (List (List ℕ)) = map fields_of c.in_ok-rows.rows.items in
     let found = c.in_err-show_rows.field-0.0 in
     handed-known given found c.from_residual-in_err-show_rows.result (λ bytes fault. CausedAtOnce request bytes fault old new) c.from_residual-in_err-show_rows.ensures.1
-    (if-so {P = λ bytes. AreRows request.source bytes rows} given c.in_ok-rows.ensures.rows (λ bytes are. draws-caused request bytes rows are old new found c.in_err-show_rows.ensures.draws))
+    (if-so {P = λ bytes. AreRows (rows_needed request.view) request.source bytes rows} given c.in_ok-rows.ensures.rows (λ bytes are. draws-caused request bytes rows are old new found c.in_err-show_rows.ensures.draws))
 
 pub returns-in_err-show_rows-clause-unwritten : goal.returns-in_err-show_rows-clause-unwritten
 returns-in_err-show_rows-clause-unwritten g c =
@@ -35,7 +36,7 @@ returns-in_err-show_rows-clause-unwritten g c =
 pub returns-clause-shown : goal.returns-clause-shown
 returns-clause-shown g c =
     let request = c.args.request.now in
-    let given = g.R.Read.remaining c.args.input.now in
+    let given = g.R.Read.remaining c.args.input in
     let rows : List (List (List ℕ)) = map fields_of c.in_ok-rows.rows.items in
     shown-drawn given request rows (g.W.Write.contents c.args.out.now.writer) (g.W.Write.contents c.show_rows.new.out.writer) (g.W.Write.contents c.flush.new.self.writer) c.flush.result
     c.in_ok-rows.ensures.rows c.in_ok-show_rows.ensures.draws c.flush.ensures.kept
@@ -43,7 +44,7 @@ returns-clause-shown g c =
 pub returns-clause-cause : goal.returns-clause-cause
 returns-clause-cause g c =
     let request = c.args.request.now in
-    let given = g.R.Read.remaining c.args.input.now in
+    let given = g.R.Read.remaining c.args.input in
     let rows : List (List (List ℕ)) = map fields_of c.in_ok-rows.rows.items in
     after-drawn given request rows (g.W.Write.contents c.args.out.now.writer) (g.W.Write.contents c.show_rows.new.out.writer) (g.W.Write.contents c.flush.new.self.writer) c.flush.result
     c.in_ok-rows.ensures.rows c.in_ok-show_rows.ensures.draws c.flush.ensures.kept c.flush.ensures.failed

@@ -1,0 +1,90 @@
+//! The first rows of an input, of which no more is read than they need.
+
+ghost use Rattle.std.specs.Prelude.{◌≡◌, ◌++◌, ℕ, List, None, Some, map, IfErr, IfOk, IfSome};
+ghost use Rattle.csv.specs.Records.{fields_of};
+ghost use Rattle.ruled_io.specs.Output.{write_part};
+ghost use Rattle.ruled_io.specs.Requests.{rows_needed};
+ghost use Rattle.ruled_io.specs.Runs.{AreRows, LacksInput};
+ghost use Rattle.ruled_io.specs.Steps.{AreFirst, LacksFirst};
+
+use crate::fault::RunFault;
+use crate::formats::{Format, content_of, format_streamed};
+use crate::input::all_rows;
+use crate::pieces::Pieces;
+use crate::reader::Reading;
+use crate::request::Source;
+use crate::stream::{read_first, wrong_within};
+use csv::StringRecord;
+use ruled_table::{Options, limit_of};
+use std::alloc::Global;
+use std::io::Read;
+
+/// How many rows are needed of an input, if not all.
+pub(crate) fn rows_needed(options: &Options) -> Option<usize>
+    ensures { result ≡ rows_needed options.now }
+{
+    if options.is_padded {
+        return None;
+    }
+    Some(limit_of(options)?.max(1))
+}
+
+// The first rows of separated values, of which these are the first bytes.
+fn first_rows<R: Read + Drop>(
+    alloc: Global,
+    format: Format,
+    limit: usize,
+    front: &[u8],
+    pieces: &mut Pieces<R>,
+) -> Result<Vec<StringRecord>, RunFault>
+    ensures rows { (rest : List ℕ) → R.remaining pieces.old.input ≡ Some rest → IfOk result (λ rows. AreFirst format limit (front.now ++ rest) (map fields_of rows.items)) }
+    ensures cause { (rest : List ℕ) → R.remaining pieces.old.input ≡ Some rest → IfErr result (LacksFirst format limit (front.now ++ rest)) }
+    ensures unwritten { IfErr result (λ fault. write_part fault ≡ None) }
+{
+    let mut rows = Vec::new(alloc);
+    let reading = Reading::of_front(alloc, format, 1, front, &mut rows)?;
+    let reading = read_first(reading, limit, pieces, &mut rows)?;
+    if let Some(fault) = wrong_within(&reading, limit, rows.len()) {
+        return Err(RunFault::Input(fault));
+    }
+    rows.truncate(limit);
+    Ok(rows)
+}
+
+// The rows of an input that is read to its end, of which these are the first bytes.
+fn whole_rows<R: Read + Drop>(
+    alloc: Global,
+    source: &Source,
+    front: Vec<u8>,
+    pieces: &mut Pieces<R>,
+) -> Result<Vec<StringRecord>, RunFault>
+    ensures rows { IfOk result (λ rows. IfSome (R.remaining pieces.old.input) (λ rest. AreRows None source.now (front.items ++ rest) (map fields_of rows.items))) }
+    ensures cause { IfErr result (λ fault. IfSome (R.remaining pieces.old.input) (λ rest. LacksInput None source.now (front.items ++ rest) fault)) }
+    ensures unwritten { IfErr result (λ fault. write_part fault ≡ None) }
+{
+    let mut bytes = front;
+    pieces.read_rest(&mut bytes)?;
+    Ok(all_rows(alloc, source, &bytes)?)
+}
+
+/// The rows of an input, of which so many are needed.
+pub(crate) fn read_heads<R: Read + Drop>(
+    alloc: Global,
+    source: &Source,
+    limit: usize,
+    pieces: &mut Pieces<R>,
+) -> Result<Vec<StringRecord>, RunFault>
+    ensures rows { IfOk result (λ rows. IfSome (R.remaining pieces.old.input) (λ bytes. AreRows (Some limit) source.now bytes (map fields_of rows.items))) }
+    ensures cause { IfErr result (λ fault. IfSome (R.remaining pieces.old.input) (λ bytes. LacksInput (Some limit) source.now bytes fault)) }
+    ensures unwritten { IfErr result (λ fault. write_part fault ≡ None) }
+{
+    let front = pieces.read_front(alloc, source)?;
+    if source.is_database(&front) {
+        return whole_rows(alloc, source, front, pieces);
+    }
+    let format = format_streamed(source.known(), &front);
+    if !format.is_separated() {
+        return whole_rows(alloc, source, front, pieces);
+    }
+    first_rows(alloc, format, limit, content_of(format, &front), pieces)
+}
