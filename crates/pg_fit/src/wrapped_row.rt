@@ -2,12 +2,13 @@
 
 ghost use Rattle.std.specs.Prelude.{◌≡◌, ◌++◌, [], true, IfOk, IsOk, List, map, max, length, slice_index_or};
 ghost use Rattle.std.specs.Vec.Iter.{into_iter_items};
+ghost use Rattle.pg_layout.specs.Text.{lines_of};
 ghost use Rattle.pg_fit.specs.Rows.{fitted_text, is_kept, is_narrow, by_width, wrapped_row, row_height};
 ghost use Rattle.pg_fit.specs.Wrapping.{wrapped};
 
 use crate::row::{Fitted, width_of_column};
 use crate::wrapping::{Breaking, wrap};
-use pg_layout::{count_lines, get_text_width};
+use pg_layout::{count_lines, get_text_width, is_plain};
 use std::alloc::{AllocError, Allocator};
 use std::convert::AsStr;
 
@@ -60,6 +61,17 @@ pub fn wrap_row<S: AsStr + Drop, B: Allocator, A: Allocator + Copy>(
     Ok(row)
 }
 
+// How many lines a text has. A plain one has one, and isn't read again for it.
+#[inline(always)]
+fn lines_in(text: &str) -> usize
+    ensures { result ≡ length (lines_of text.now) }
+{
+    if is_plain(text.as_bytes()) {
+        return 1;
+    }
+    count_lines(text)
+}
+
 /// How many lines a row of these cells needs: those of the cell with the most, and 0 without cells.
 /// Paddings above and below aren't counted.
 pub fn row_height<S: AsStr>(cells: &[S]) -> usize
@@ -67,7 +79,7 @@ pub fn row_height<S: AsStr>(cells: &[S]) -> usize
 {
     let mut height = 0;
     for cell in cells {
-        height = count_lines(cell.as_str()).max(height);
+        height = lines_in(cell.as_str()).max(height);
     }
     height
 }

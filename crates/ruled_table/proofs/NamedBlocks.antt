@@ -1,5 +1,5 @@
 -- The blocks of records whose fields have names.
-use Rattle.std.proofs.Common.{◌≡◌, ◌∙◌, ℕ, [], List, Option, map, slice_index_or, ap, ap₂}
+use Rattle.std.proofs.Common.{◌≡◌, ◌∙◌, ℕ, [], List, map, slice_index_or, ap, ap₂}
 use Rattle.csv.specs.Records.{fields_of}
 use Rattle.pg_layout.specs.Text.{Text}
 use Rattle.ruled_table.specs.Blocks.{block_fault, block_of, names_in, places_in, record_block, record_fault}
@@ -7,7 +7,6 @@ use Rattle.ruled_table.specs.LentRows.{fields_at}
 use Rattle.ruled_table.specs.Named.{HasNames}
 use Rattle.ruled_table.specs.Shown.{look_config, shown_row, shown_text}
 use Rattle.ruled_table.specs.declared.blocks.Blocks.{Blocks}
-use Rattle.ruled_table.specs.declared.fault.ViewFault.{ViewFault}
 use Rattle.ruled_table.specs.declared.options.Options.{Options}
 use Rattle.ruled_table.proofs.LentTexts.{row-shown}
 

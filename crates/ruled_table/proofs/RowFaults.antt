@@ -21,6 +21,11 @@ pub row-stops : {X : Type 0} (U : Type 0) (Fits : Type 0) (row : ℕ) (found : S
 row-stops U Fits row found (Ok x) told is = absurd is
 row-stops U Fits row found (Err fault) told is = λ soft. let (total, none) = row-told U found Fits row told (sym (ap is_memory is) ∙ soft) in (is ∙ total, none)
 
+-- the same of a row that is lent, for which it must have room and more
+pub lent-stops : {X : Type 0} (U : Type 0) (Fits Lent : Type 0) (row : ℕ) (found : StreamFault) (r : Result X ViewFault) → (Fits → Lent) → TellsRow {U = U} Lent row (Err found) → IsErrAnd r (λ fault. fault ≡ fault_of_stream found) → TellsRoom (¬ Fits) r
+lent-stops U Fits Lent row found (Ok x) lent told is = absurd is
+lent-stops U Fits Lent row found (Err fault) lent told is = λ soft. let (total, none) = row-told U found Lent row told (sym (ap is_memory is) ∙ soft) in (is ∙ total, λ fits. none (lent fits))
+
 memory-alone : (U : Type 0) (found : StreamFault) → OnlyMemory {U = U} (Err found) → fault_of_stream found ≡ Memory
 memory-alone U (stream.Misfit misfit) only = absurd only
 memory-alone U (stream.Row n) only = absurd only

@@ -52,6 +52,12 @@ unfolding after_rows after_row
 rows-after s [] = sym (add-zero s.rows)
 rows-after s (cells ∷ xs) = let e = rows-after (after_row s cells false) xs in omega (arith, e)
 
+-- the table of the printer stays
+table-after : (s : Printing) (xs : List (List Text)) → (after_rows s xs).table ≡ s.table
+unfolding after_rows after_row
+table-after s [] = refl
+table-after s (cells ∷ xs) = table-after (after_row s cells false) xs
+
 lines-one : (s : Printing) (cells : List Text) → lines_of s (cells ∷ []) ≡ next_lines s cells
 unfolding lines_of
 lines-one s cells = append-nil (next_lines s cells)
@@ -193,6 +199,14 @@ module _ (plan : Plan) (above : List (List Text)) (cells : List Text) where
   alive-next state prints =
       let are = are-heights plan all in
       (are, ap (λ (t : Living). t.is_lost) (prints own-heights (parted own-heights are).0))
+
+  -- it has no spans
+  pub plain-next : (state : (ℕ → ℕ) → Living) → plan.config.spans ≡ [] → HasPrinted plan above state → (state own-heights).printed.table.config.spans ≡ []
+  plain-next state plain prints =
+      ap (λ (t : Living). t.printed.table.config.spans) (prints own-heights (parted own-heights (are-heights plan all)).0)
+      ∙ ap (λ t. t.config.spans) (table-after (start_of plan own-heights) above)
+      ∙ start-spans plan own-heights
+      ∙ plain
 
   -- it has no room
   pub refused-next : (state : (ℕ → ℕ) → Living) → HasPrinted plan above state → ¬ (RowFits (state (heights_of all)).printed cells false) → ¬ (RowFits (after_rows (start_of plan (heights_of all)) above) cells false)

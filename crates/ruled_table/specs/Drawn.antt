@@ -6,7 +6,7 @@ use Rattle.ruled_table.specs.RowLines.{HasPrinted, state_of}
 use Rattle.ruled_table.specs.declared.row_lines.RowLines.{RowLines}
 
 -- the rows of these cells are drawn, by this plan
-pub record HasDrawn {S : Type 0} (plan : Plan) (cells : List (List Text)) (rows : RowLines S) : Type 0 where
+pub record HasDrawn (plan : Plan) (cells : List (List Text)) (rows : RowLines) : Type 0 where
   pub some : 0 < length plan.places
   pub plain : plan.config.spans ≡ []
   pub begun : rows.is_begun ≡ nat_lt 0 (length cells)

@@ -1,5 +1,6 @@
 //! The lines of a table's rows, one row after another.
 
+ghost use Rattle.std.specs.Cow.{cow_str_bytes};
 ghost use Rattle.std.specs.Prelude.{◌≡◌, ◌++◌, ◌∷◌, [], ℕ, List, map, string_bytes, false, true, Err, IfOk, OnErr, OnOk};
 ghost use Rattle.pg_layout.specs.Text.{Text};
 ghost use Rattle.pg_fit.specs.Rows.{row_height};
@@ -21,41 +22,88 @@ use pg_fit::row_height;
 use pg_layout::{ConstantDimension, NoColors};
 use pg_stream::SizedStream;
 use std::alloc::{AllocError, Global};
-use std::convert::AsStr;
+use std::borrow::CowStr;
 
 /// The printer of rows whose widths are known.
-pub(crate) type Sheet<'a, S> = SizedStream<'a, S, ConstantDimension, NoColors>;
+pub(crate) type Sheet<'a> = SizedStream<'a, String, ConstantDimension, NoColors>;
 
 /// The rows of a table, whose lines are appended to a buffer, one row after another, and then its end.
 ///
 /// A call that fails appends nothing. What a further call then appends isn't defined.
 #[derive(Drop)]
-pub(crate) struct RowLines<'a, S: AsStr> {
-    sheet: Sheet<'a, S>,
+pub(crate) struct RowLines<'a> {
+    alloc: Global,
+    sheet: Sheet<'a>,
     /// The lines of the latest row.
     lines: String,
     /// Whether there was a row.
     is_begun: bool,
 }
 
-// Prints a row into a buffer of its own.
-fn print_row<S: AsStr + Drop>(
-    sheet: &mut Sheet<'_, S>,
-    cells: Vec<S>,
+// Cells as texts of their own: a printer that holds cells takes them of one type as long as it
+// lives, and no row lives as long.
+fn owned(alloc: Global, cells: Vec<CowStr<'_>>) -> Result<Vec<String>, AllocError>
+    ensures { IfOk result (λ texts. map string_bytes texts.items ≡ map cow_str_bytes cells.entry.items) }
+{
+    let mut texts = Vec::with_capacity(alloc, cells.len())?;
+    for cell in cells {
+        let text = cell.into_owned(alloc)?;
+        texts.push(text)?;
+    }
+    Ok(texts)
+}
+
+// Appends a row of one line, whose cells are lent.
+fn print_lent(
+    sheet: &mut Sheet<'_>,
+    cells: &[CowStr<'_>],
     lines: &mut String,
 ) -> Result<(), ViewFault>
-    ensures lines { (heights : ℕ → ℕ) → IsNextHeight (state_of heights sheet.old).printed (row_height (map S.text cells.items)) → OnOk result (string_bytes lines.new ≡ row_text (state_of heights sheet.old).printed (map S.text cells.items) false) }
-    ensures after { (heights : ℕ → ℕ) → IsNextHeight (state_of heights sheet.old).printed (row_height (map S.text cells.items)) → OnOk result (state_of heights sheet.new ≡ record { printed = after_row (state_of heights sheet.old).printed (map S.text cells.items) false; is_lost = false }) }
-    ensures room { (heights : ℕ → ℕ) → IsNextHeight (state_of heights sheet.old).printed (row_height (map S.text cells.items)) → (state_of heights sheet.old).is_lost ≡ false → TellsRoom (¬ (RowFits (state_of heights sheet.old).printed (map S.text cells.items) false)) result }
+    ensures lines { (heights : ℕ → ℕ) → IsNextHeight (state_of heights sheet.old).printed 1 → OnOk result (string_bytes lines.new ≡ string_bytes lines.old ++ row_text (state_of heights sheet.old).printed (map cow_str_bytes cells.now) false) }
+    ensures after { (heights : ℕ → ℕ) → IsNextHeight (state_of heights sheet.old).printed 1 → OnOk result (state_of heights sheet.new ≡ record { printed = after_row (state_of heights sheet.old).printed (map cow_str_bytes cells.now) false; is_lost = false }) }
+    ensures room { (heights : ℕ → ℕ) → IsNextHeight (state_of heights sheet.old).printed 1 → (state_of heights sheet.old).is_lost ≡ false → (state_of heights sheet.old).printed.table.config.spans ≡ [] → TellsRoom (¬ (RowFits (state_of heights sheet.old).printed (map cow_str_bytes cells.now) false)) result }
 {
-    let height = row_height(&cells);
-    lines.clear();
+    sheet.push_lent(cells, lines)?;
+    Ok(())
+}
+
+// Appends a row of so many lines.
+fn print_owned(
+    sheet: &mut Sheet<'_>,
+    height: usize,
+    cells: Vec<String>,
+    lines: &mut String,
+) -> Result<(), ViewFault>
+    ensures lines { (heights : ℕ → ℕ) → IsNextHeight (state_of heights sheet.old).printed height → OnOk result (string_bytes lines.new ≡ string_bytes lines.old ++ row_text (state_of heights sheet.old).printed (map string_bytes cells.items) false) }
+    ensures after { (heights : ℕ → ℕ) → IsNextHeight (state_of heights sheet.old).printed height → OnOk result (state_of heights sheet.new ≡ record { printed = after_row (state_of heights sheet.old).printed (map string_bytes cells.items) false; is_lost = false }) }
+    ensures room { (heights : ℕ → ℕ) → IsNextHeight (state_of heights sheet.old).printed height → (state_of heights sheet.old).is_lost ≡ false → TellsRoom (¬ (RowFits (state_of heights sheet.old).printed (map string_bytes cells.items) false)) result }
+{
     sheet.push(height, cells, lines)?;
     Ok(())
 }
 
+// Prints a row into a buffer of its own.
+fn print_row(
+    alloc: Global,
+    sheet: &mut Sheet<'_>,
+    cells: Vec<CowStr<'_>>,
+    lines: &mut String,
+) -> Result<(), ViewFault>
+    ensures lines { (heights : ℕ → ℕ) → IsNextHeight (state_of heights sheet.old).printed (row_height (map cow_str_bytes cells.entry.items)) → OnOk result (string_bytes lines.new ≡ row_text (state_of heights sheet.old).printed (map cow_str_bytes cells.entry.items) false) }
+    ensures after { (heights : ℕ → ℕ) → IsNextHeight (state_of heights sheet.old).printed (row_height (map cow_str_bytes cells.entry.items)) → OnOk result (state_of heights sheet.new ≡ record { printed = after_row (state_of heights sheet.old).printed (map cow_str_bytes cells.entry.items) false; is_lost = false }) }
+    ensures room { (heights : ℕ → ℕ) → IsNextHeight (state_of heights sheet.old).printed (row_height (map cow_str_bytes cells.entry.items)) → (state_of heights sheet.old).is_lost ≡ false → (state_of heights sheet.old).printed.table.config.spans ≡ [] → TellsRoom (¬ (RowFits (state_of heights sheet.old).printed (map cow_str_bytes cells.entry.items) false)) result }
+{
+    lines.clear();
+    let height = row_height(&cells);
+    if height == 1 {
+        return print_lent(sheet, &cells, lines);
+    }
+    let texts = owned(alloc, cells)?;
+    print_owned(sheet, height, texts, lines)
+}
+
 // Prints the end into a buffer of its own.
-fn print_end<S: AsStr + Drop>(sheet: Sheet<'_, S>, lines: &mut String) -> Result<(), ViewFault>
+fn print_end(sheet: Sheet<'_>, lines: &mut String) -> Result<(), ViewFault>
     ensures lines { (heights : ℕ → ℕ) → CountsLines (state_of heights sheet.entry).printed → (state_of heights sheet.entry).is_lost ≡ false → MayEnd (state_of heights sheet.entry).printed → OnOk result (string_bytes lines.new ≡ finish_text (state_of heights sheet.entry).printed) }
     ensures fault { (heights : ℕ → ℕ) → CountsLines (state_of heights sheet.entry).printed → (state_of heights sheet.entry).is_lost ≡ false → MayEnd (state_of heights sheet.entry).printed → (fault : ViewFault) → result ≡ Err fault → fault ≡ Memory }
 {
@@ -90,9 +138,9 @@ fn append_lines(is_begun: bool, lines: &mut String, buf: &mut String) -> Result<
     buf.push_str(but_feed(is_begun, lines.as_str()))
 }
 
-impl<'a, S: AsStr + Drop> RowLines<'a, S> {
+impl<'a> RowLines<'a> {
     /// A table of this layout before its first row.
-    pub(crate) fn new(alloc: Global, layout: &'a Layout) -> Result<RowLines<'a, S>, ViewFault>
+    pub(crate) fn new(alloc: Global, layout: &'a Layout) -> Result<RowLines<'a>, ViewFault>
         ensures begun { IfOk result (λ rows. HasDrawn (plan_in layout.now) [] rows) }
         ensures fault { Tells (start_fault (plan_in layout.now)) result }
     {
@@ -103,6 +151,7 @@ impl<'a, S: AsStr + Drop> RowLines<'a, S> {
         } = layout;
         let sheet = SizedStream::new(alloc, config, widths, &NoColors, places.len())?;
         Ok(RowLines {
+            alloc,
             sheet,
             lines: String::new(alloc),
             is_begun: false,
@@ -110,13 +159,13 @@ impl<'a, S: AsStr + Drop> RowLines<'a, S> {
     }
 
     /// Appends the lines of a row of these cells, each with a line feed after it.
-    pub(crate) fn push(&mut self, cells: Vec<S>, buf: &mut String) -> Result<(), ViewFault>
-        ensures lines { (plan : Plan) (above : List (List Text)) → HasDrawn plan above self.old → OnOk result (GrowsTo (begun_of plan above) (begun_of plan (above ++ map S.text cells.items ∷ [])) (string_bytes buf.old) (string_bytes buf.new)) }
-        ensures after { (plan : Plan) (above : List (List Text)) → HasDrawn plan above self.old → OnOk result (HasDrawn plan (above ++ map S.text cells.items ∷ []) self.new) }
-        ensures room { (plan : Plan) (above : List (List Text)) → HasDrawn plan above self.old → TellsRoom (HasNoRoomBelow plan above (map S.text cells.items)) result }
+    pub(crate) fn push(&mut self, cells: Vec<CowStr<'_>>, buf: &mut String) -> Result<(), ViewFault>
+        ensures lines { (plan : Plan) (above : List (List Text)) → HasDrawn plan above self.old → OnOk result (GrowsTo (begun_of plan above) (begun_of plan (above ++ map cow_str_bytes cells.entry.items ∷ [])) (string_bytes buf.old) (string_bytes buf.new)) }
+        ensures after { (plan : Plan) (above : List (List Text)) → HasDrawn plan above self.old → OnOk result (HasDrawn plan (above ++ map cow_str_bytes cells.entry.items ∷ []) self.new) }
+        ensures room { (plan : Plan) (above : List (List Text)) → HasDrawn plan above self.old → TellsRoom (HasNoRoomBelow plan above (map cow_str_bytes cells.entry.items)) result }
         ensures failed { OnErr result (string_bytes buf.new ≡ string_bytes buf.old) }
     {
-        print_row(&mut self.sheet, cells, &mut self.lines)?;
+        print_row(self.alloc, &mut self.sheet, cells, &mut self.lines)?;
         append_lines(self.is_begun, &mut self.lines, buf)?;
         self.is_begun = true;
         Ok(())

@@ -21,7 +21,7 @@ use crate::layout::Layout;
 use crate::options::Options;
 use crate::row_lines::RowLines;
 use crate::rows::shown_text;
-use crate::widths::{room_of, text_within};
+use crate::widths::{lent_within, room_of};
 use csv::StringRecord;
 use pg_layout::ConstantDimension;
 use pg_table::Overflow;
@@ -36,36 +36,35 @@ pub struct TableRows<'a> {
     alloc: Global,
     options: &'a Options,
     layout: &'a Layout,
-    rows: RowLines<'a, String>,
+    rows: RowLines<'a>,
     /// Whether a call has failed.
     is_over: bool,
 }
 
-// Adds a text within its column, the next one. It is a cell's own, since a printer takes cells of one type as long as
-// it lives, and no row lives as long.
-fn push_within(
+// Adds a text within its column, the next one.
+fn push_within<'a>(
     alloc: Global,
     overflow: Overflow<'_>,
     widths: &ConstantDimension,
-    text: CowStr<'_>,
-    cells: &mut Vec<String>,
+    text: CowStr<'a>,
+    cells: &mut Vec<CowStr<'a>>,
 ) -> Result<(), AllocError>
-    ensures { OnOk result (map string_bytes cells.new.items ≡ map string_bytes cells.old.items ++ spec.text_within overflow.entry (spec.room_of (spec.widths_in widths.now) (length cells.old.items)) (cow_str_bytes text.entry) ∷ []) }
+    ensures { OnOk result (map cow_str_bytes cells.new.items ≡ map cow_str_bytes cells.old.items ++ spec.text_within overflow.entry (spec.room_of (spec.widths_in widths.now) (length cells.old.items)) (cow_str_bytes text.entry) ∷ []) }
 {
     let room = room_of(widths, cells.len());
-    let cell = text_within(alloc, overflow, room, text)?;
+    let cell = lent_within(alloc, overflow, room, text)?;
     Ok(cells.push(cell)?)
 }
 
-// The texts that are shown of a row, within their columns.
-fn cells_shown(
+// The texts that are shown of a row, within their columns: lent where they are unchanged.
+fn cells_shown<'a>(
     alloc: Global,
     options: &Options,
     places: &[usize],
     widths: &ConstantDimension,
-    fields: &StringRecord,
-) -> Result<Vec<String>, AllocError>
-    ensures { IfOk result (λ cells. map string_bytes cells.items ≡ spec.row_within options.now.bounds.overflow (spec.widths_in widths.now) (shown_row options.now places.now (fields_of fields.now))) }
+    fields: &'a StringRecord,
+) -> Result<Vec<CowStr<'a>>, AllocError>
+    ensures { IfOk result (λ cells. map cow_str_bytes cells.items ≡ spec.row_within options.now.bounds.overflow (spec.widths_in widths.now) (shown_row options.now places.now (fields_of fields.now))) }
 {
     let mut cells = Vec::with_capacity(alloc, places.len())?;
     for place in places {

@@ -130,18 +130,6 @@ pub(crate) fn lent_within<'a>(
     Ok(CowStr::Owned(shown))
 }
 
-/// A text within so many columns, as one of its own.
-pub fn text_within(
-    alloc: Global,
-    overflow: Overflow<'_>,
-    width: usize,
-    text: CowStr<'_>,
-) -> Result<String, AllocError>
-    ensures { IfOk result (λ shown. string_bytes shown ≡ spec.text_within overflow.entry width (cow_str_bytes text.entry)) }
-{
-    lent_within(alloc, overflow, width, text)?.into_owned(alloc)
-}
-
 /// How many columns the texts of a column may take; a space is at each side.
 pub fn room_of(widths: &ConstantDimension, column: usize) -> usize
     ensures { result ≡ spec.room_of (spec.widths_in widths.now) column }

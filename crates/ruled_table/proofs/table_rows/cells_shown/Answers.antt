@@ -1,4 +1,4 @@
-use Rattle.std.proofs.Common.{◌≡◌, ◌∙◌, ◌∷◌, ◌++◌, [], ℕ, List, length, map, slice_index_or, string_bytes, ap, arith, rules}
+use Rattle.std.proofs.Common.{◌≡◌, ◌∙◌, ◌∷◌, ◌++◌, [], ℕ, List, length, map, slice_index_or, ap, arith, rules}
 use Rattle.std.specs.Cow.{cow_str_bytes}
 use Rattle.csv.specs.Records.{fields_of}
 use Rattle.pg_layout.specs.Text.{Text}
@@ -18,12 +18,12 @@ loop-place-preserved c =
     let width : ℕ → ℕ = widths_in c.args.widths.now in
     let here : c.field_at.result.now ≡ slice_index_or fields (slice_index_or places i 0) [] = search rules in
     let shown : cow_str_bytes c.in_ok-text.text ≡ shown_text options (slice_index_or fields (slice_index_or places i 0) []) = c.in_ok-text.ensures ∙ ap (shown_text options) here in
-    within-next string_bytes overflow width (λ place. shown_text options (slice_index_or fields place [])) places made c.push_within.new.cells.items i (omega arith)
-    (c.in_ok-push_within.ensures ∙ ap (λ (text : Text). map string_bytes made ++ text_within overflow (room_of width (length made)) text ∷ []) shown)
+    within-next cow_str_bytes overflow width (λ place. shown_text options (slice_index_or fields place [])) places made c.push_within.new.cells.items i (omega arith)
+    (c.in_ok-push_within.ensures ∙ ap (λ (text : Text). map cow_str_bytes made ++ text_within overflow (room_of width (length made)) text ∷ []) shown)
     c.loop-place.invariant
 
 pub returns : goal.returns
 returns c =
     let options = c.args.options.now in
-    within-all string_bytes options.bounds.overflow (widths_in c.args.widths.now) (λ place. shown_text options (slice_index_or (fields_of c.args.fields.now) place [])) c.args.places.now c.loop-place.cells.items c.loop-place.place-index (omega arith)
+    within-all cow_str_bytes options.bounds.overflow (widths_in c.args.widths.now) (λ place. shown_text options (slice_index_or (fields_of c.args.fields.now) place [])) c.args.places.now c.loop-place.cells.items c.loop-place.place-index (omega arith)
     c.loop-place.invariant

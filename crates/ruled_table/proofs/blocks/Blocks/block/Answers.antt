@@ -1,4 +1,4 @@
-use Rattle.std.proofs.Common.{◌≡◌, ◌∙◌, List, Option, map, string_bytes, sym, ap, subst, rules}
+use Rattle.std.proofs.Common.{◌≡◌, ◌∙◌, List, Option, map, string_bytes, sym, ap, subst}
 use Rattle.std.specs.Prelude.{IfOk}
 use Rattle.csv.specs.Records.{fields_of}
 use Rattle.pg_layout.specs.Text.{Text}

@@ -1,12 +1,10 @@
 use Rattle.std.proofs.Common.{◌≡◌, ◌∙◌, ◌∷◌, ◌++◌, [], List, map, slice_index_or, None, Option, sym, ap, rules}
 use Rattle.std.specs.Option.{option_or}
-use Rattle.std.proofs.lemmas.List.{map-append}
 use Rattle.csv.specs.Records.{Row, fields_of}
 use Rattle.pg_layout.specs.Text.{Text}
 use Rattle.ruled_table.specs.Columns.{column_fault}
 use Rattle.ruled_table.specs.Faults.{totals_of}
 use Rattle.ruled_table.specs.Layouts.{config_in, layout_fault, measured_in, places_in, ruler_of}
-use Rattle.ruled_table.specs.Shown.{shown_text}
 use Rattle.ruled_table.specs.Widths.{widths_fault}
 use Rattle.ruled_table.specs.declared.fault.ViewFault.{ViewFault}
 use Rattle.ruled_table.proofs.MeasuredRows.{layout-lent, ruled, sizes-lent}

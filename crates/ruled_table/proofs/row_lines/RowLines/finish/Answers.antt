@@ -8,7 +8,7 @@ use Rattle.ruled_table.proofs.RowPictures.{ends-alive, ends-counted, ends-here, 
 use Rattle.ruled_table.proofs.row_lines.RowLines.finish.Goals as goal
 
 pub returns-clause-end : goal.returns-clause-end
-returns-clause-end g c = λ plan cells drawn even.
+returns-clause-end c = λ plan cells drawn even.
     let state : (ℕ → ℕ) → Living = λ heights. state_of heights c.args.self.sheet in
     let lines : Text = string_bytes c.print_end.new.lines in
     let is = c.in_ok-print_end.ensures.lines (heights_of cells) (ends-counted plan cells state drawn.plain drawn.prints) (ends-alive plan cells state drawn.plain drawn.prints) (ends-here plan cells state drawn.plain drawn.prints) in
@@ -19,7 +19,7 @@ returns-clause-end g c = λ plan cells drawn even.
     }
 
 pub returns-in_err-print_end-clause-fault : goal.returns-in_err-print_end-clause-fault
-returns-in_err-print_end-clause-fault g c = λ plan cells drawn fault same.
+returns-in_err-print_end-clause-fault c = λ plan cells drawn fault same.
     let state : (ℕ → ℕ) → Living = λ heights. state_of heights c.args.self.sheet in
     let told = c.in_err-print_end.ensures.fault (heights_of cells) (ends-counted plan cells state drawn.plain drawn.prints) (ends-alive plan cells state drawn.plain drawn.prints) (ends-here plan cells state drawn.plain drawn.prints) in
     handed-on c.in_err-print_end.field-0.0 c.from_residual.result c.from_residual.ensures.1 (told c.in_err-print_end.field-0.0 refl) fault same

@@ -8,7 +8,7 @@ use Rattle.ruled_table.proofs.StartedTables.{fits-all, fits-made, none-started, 
 use Rattle.ruled_table.proofs.row_lines.RowLines.new.Goals as goal
 
 pub returns-in_err-sheet-clause-fault : goal.returns-in_err-sheet-clause-fault
-returns-in_err-sheet-clause-fault g c =
+returns-in_err-sheet-clause-fault c =
     let inside : Measures = record { places = c.layout.inside.places.items; config = c.layout.inside.config; widths = c.layout.inside.widths.0.items } in
     let plan : Plan = plan_in inside in
     let tall : ℕ → ℕ = λ row. slice_index_or c.layout.inside.widths.1.items row 0 in
@@ -18,7 +18,7 @@ returns-in_err-sheet-clause-fault g c =
     (none-started plan tall c.in_err-sheet.field-0.0 c.from_residual.result (λ fits. whole fits c.in_err-sheet.field-0.0 refl) c.from_residual.ensures.1)
 
 pub returns-clause-begun : goal.returns-clause-begun
-returns-clause-begun g c =
+returns-clause-begun c =
     let inside : Measures = record { places = c.layout.inside.places.items; config = c.layout.inside.config; widths = c.layout.inside.widths.0.items } in
     let plan : Plan = plan_in inside in
     let tall : ℕ → ℕ = λ row. slice_index_or c.layout.inside.widths.1.items row 0 in
@@ -33,7 +33,7 @@ returns-clause-begun g c =
     }
 
 pub returns-clause-fault : goal.returns-clause-fault
-returns-clause-fault g c =
+returns-clause-fault c =
     let inside : Measures = record { places = c.layout.inside.places.items; config = c.layout.inside.config; widths = c.layout.inside.widths.0.items } in
     let plan : Plan = plan_in inside in
     let tall : ℕ → ℕ = λ row. slice_index_or c.layout.inside.widths.1.items row 0 in

@@ -1,15 +1,16 @@
 use Rattle.std.proofs.Common.{ℕ, List, false, map, string_bytes}
+use Rattle.std.specs.Cow.{cow_str_bytes}
 use Rattle.pg_layout.specs.Text.{Text}
 use Rattle.pg_stream.specs.Conditions.{RowFits}
 use Rattle.pg_stream.specs.LiveStreams.{Living}
 use Rattle.ruled_table.specs.RowLines.{HasNoRoomBelow, ended_by, state_of}
 use Rattle.ruled_table.proofs.RowFaults.{room-on}
-use Rattle.ruled_table.proofs.RowsInParts.{alive-next, begun-next, next-height, own-heights, printed-next, refused-next, some-rows}
+use Rattle.ruled_table.proofs.RowsInParts.{alive-next, begun-next, next-height, own-heights, plain-next, printed-next, refused-next, some-rows}
 use Rattle.ruled_table.proofs.row_lines.RowLines.push.Goals as goal
 
 pub returns-clause-lines : goal.returns-clause-lines
-returns-clause-lines g c = λ plan above drawn.
-    let cells : List Text = map g.S.AsStr.text c.args.cells.items in
+returns-clause-lines c = λ plan above drawn.
+    let cells : List Text = map cow_str_bytes c.args.cells.items in
     let lines : Text = string_bytes c.print_row.new.lines in
     let is_begun = c.args.self.now.is_begun in
     record {
@@ -19,8 +20,8 @@ returns-clause-lines g c = λ plan above drawn.
     }
 
 pub returns-clause-after : goal.returns-clause-after
-returns-clause-after g c = λ plan above drawn.
-    let cells : List Text = map g.S.AsStr.text c.args.cells.items in
+returns-clause-after c = λ plan above drawn.
+    let cells : List Text = map cow_str_bytes c.args.cells.items in
     record {
       some = drawn.some;
       plain = drawn.plain;
@@ -29,11 +30,11 @@ returns-clause-after g c = λ plan above drawn.
     }
 
 pub returns-in_err-print_row-clause-room : goal.returns-in_err-print_row-clause-room
-returns-in_err-print_row-clause-room g c = λ plan above drawn.
-    let cells : List Text = map g.S.AsStr.text c.args.cells.items in
+returns-in_err-print_row-clause-room c = λ plan above drawn.
+    let cells : List Text = map cow_str_bytes c.args.cells.items in
     let old : (ℕ → ℕ) → Living = λ heights. state_of heights c.args.self.now.sheet in
     let own = own-heights plan above cells in
     let high = next-height plan above cells old drawn.prints own (alive-next plan above cells old drawn.prints).0 in
     room-on (¬ (RowFits (old own).printed cells false)) (HasNoRoomBelow plan above cells) c.in_err-print_row.field-0.0 c.from_residual.result
     (refused-next plan above cells old drawn.prints)
-    (c.in_err-print_row.ensures.room own high (alive-next plan above cells old drawn.prints).1) c.from_residual.ensures.1
+    (c.in_err-print_row.ensures.room own high (alive-next plan above cells old drawn.prints).1 (plain-next plan above cells old drawn.plain drawn.prints)) c.from_residual.ensures.1

@@ -1,4 +1,5 @@
 use Rattle.std.proofs.Common.{◌≡◌, ◌∙◌, List, map, ap, string_bytes, subst, rules}
+use Rattle.std.specs.Cow.{cow_str_bytes}
 use Rattle.csv.specs.Records.{fields_of}
 use Rattle.pg_layout.specs.Text.{Text}
 use Rattle.ruled_table.specs.Drawn.{HasDrawn}
@@ -17,7 +18,7 @@ returns-clause-lines c = λ options plan rows appended.
     let asked : Options = c.args.self.now.options.now in
     let inside : Measures = record { places = c.layout.inside.places.items; config = c.layout.inside.config; widths = c.layout.inside.widths.0.items } in
     let row : List Text = fields_of c.args.fields.now in
-    let cells : List Text = map string_bytes c.in_ok-cells.cells.items in
+    let cells : List Text = map cow_str_bytes c.in_ok-cells.cells.items in
     let lent : c.deref.result.now ≡ inside.places = search rules in
     let made : cells ≡ row_within asked.bounds.overflow (plan_in inside).width (shown_row asked inside.places row) = rw lent at c.in_ok-cells.ensures in
     let is = cells-next options asked plan (plan_in inside) rows row cells appended.asked (ap plan_in c.layout.view_is ∙ appended.laid) made in
@@ -29,7 +30,7 @@ returns-clause-after c = λ options plan rows appended.
     let asked : Options = c.args.self.now.options.now in
     let inside : Measures = record { places = c.layout.inside.places.items; config = c.layout.inside.config; widths = c.layout.inside.widths.0.items } in
     let row : List Text = fields_of c.args.fields.now in
-    let cells : List Text = map string_bytes c.in_ok-cells.cells.items in
+    let cells : List Text = map cow_str_bytes c.in_ok-cells.cells.items in
     let lent : c.deref.result.now ≡ inside.places = search rules in
     let made : cells ≡ row_within asked.bounds.overflow (plan_in inside).width (shown_row asked inside.places row) = rw lent at c.in_ok-cells.ensures in
     let is = cells-next options asked plan (plan_in inside) rows row cells appended.asked (ap plan_in c.layout.view_is ∙ appended.laid) made in
@@ -44,7 +45,7 @@ returns-in_err-push-clause-room c = λ options plan rows appended.
     let asked : Options = c.args.self.now.options.now in
     let inside : Measures = record { places = c.layout.inside.places.items; config = c.layout.inside.config; widths = c.layout.inside.widths.0.items } in
     let row : List Text = fields_of c.args.fields.now in
-    let cells : List Text = map string_bytes c.in_ok-cells.cells.items in
+    let cells : List Text = map cow_str_bytes c.in_ok-cells.cells.items in
     let lent : c.deref.result.now ≡ inside.places = search rules in
     let made : cells ≡ row_within asked.bounds.overflow (plan_in inside).width (shown_row asked inside.places row) = rw lent at c.in_ok-cells.ensures in
     let own : cells ≡ row_within options.bounds.overflow plan.width (shown_row options plan.places row) =
