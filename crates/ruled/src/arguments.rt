@@ -3,7 +3,7 @@
 use clap::error::ErrorKind;
 use clap::{Arg, ArgAction, ArgMatches, Command};
 use pg_layout::AlignmentHorizontal;
-use ruled_io::{Format, Kind, Log, OneLine, Request, Rows, Source};
+use ruled_io::{Format, Kind, Log, OneLine, Request, Rows, Selection, Source};
 use ruled_table::{Bounds, Breaking, Look, Options, Overflow};
 use std::alloc::{AllocError, Global};
 use std::env::VarError;
@@ -81,7 +81,7 @@ const FLAG: Choice = Choice {
 };
 
 /// All arguments, in the order of the help.
-const CHOICES: [Choice; 19] = [
+const CHOICES: [Choice; 20] = [
     Choice {
         name: "file",
         value: "FILE",
@@ -103,6 +103,13 @@ const CHOICES: [Choice; 19] = [
         value: "SQL",
         takes: Takes::Text,
         help: "The rows of a database of SQLite that are shown: a statement that changes nothing",
+        ..FLAG
+    },
+    Choice {
+        name: "table",
+        value: "NAME",
+        takes: Takes::Text,
+        help: "The table of a database of SQLite that is shown, with all its rows; without it and without --query its tables are listed",
         ..FLAG
     },
     Choice {
@@ -312,7 +319,7 @@ fn source_in_name(found: &ArgMatches) -> Option<Source> {
     match Kind::by_name(extension)? {
         Kind::Rows(_) if extension == "csv" => Some(Source::Values { is_ragged: false }),
         Kind::Rows(format) => Some(Source::Rows(format)),
-        Kind::Database => Some(database(None)),
+        Kind::Database => Some(database(Selection::Tables)),
     }
 }
 
@@ -333,21 +340,25 @@ fn rows_with(delimiter: &str, asked: Option<Kind>) -> Result<Source, &'static st
 }
 
 // A database, of which it isn't known what stands in its logs.
-fn database(query: Option<String>) -> Source {
+fn database(selection: Selection) -> Source {
     Source::Database {
-        query,
+        selection,
         log: Log::Unknown,
     }
 }
 
-// What the input is, but for a query: by what is asked for, by the file's name, or by its first bytes.
-fn source_without_query(found: &ArgMatches, asked: Option<Kind>) -> Result<Source, &'static str> {
+// What the input is, but for what is asked of a database: by what is asked for, by the file's name, or by its first
+// bytes.
+fn source_without_selection(
+    found: &ArgMatches,
+    asked: Option<Kind>,
+) -> Result<Source, &'static str> {
     if let Some(delimiter) = found.get_str("delimiter") {
         return rows_with(delimiter, asked);
     }
     Ok(match asked {
         Some(Kind::Rows(format)) => Source::Rows(format),
-        Some(Kind::Database) => database(None),
+        Some(Kind::Database) => database(Selection::Tables),
         None => source_in_name(found).unwrap_or(Source::Seen {
             log: Log::Unknown,
             is_ragged: false,
@@ -360,15 +371,27 @@ fn is_padded(found: &ArgMatches) -> bool {
     found.get_str("ragged") == Some("pad")
 }
 
-// What the input is, but for the words of a query, or why it can't be.
+// Whether it is asked for a part of a database, or why it can't be.
+fn is_selected(found: &ArgMatches, asked: Option<Kind>) -> Result<bool, &'static str> {
+    let (query, table) = (found.get_str("query"), found.get_str("table"));
+    if query.is_none() && table.is_none() {
+        return Ok(false);
+    }
+    if query.is_some() && table.is_some() {
+        return Err("--query takes no --table");
+    }
+    if found.get_str("delimiter").is_some() || matches!(asked, Some(Kind::Rows(_))) {
+        return Err("only a database takes a query or a table");
+    }
+    Ok(true)
+}
+
+// What the input is, but for the words of a query or a table, or why it can't be.
 fn source_asked(found: &ArgMatches) -> Result<Source, &'static str> {
     let asked = kind_asked(found)?;
-    let mut source = source_without_query(found, asked)?;
-    if found.get_str("query").is_some() {
-        if found.get_str("delimiter").is_some() || matches!(asked, Some(Kind::Rows(_))) {
-            return Err("only a database takes a query");
-        }
-        source = database(None);
+    let mut source = source_without_selection(found, asked)?;
+    if is_selected(found, asked)? {
+        source = database(Selection::Tables);
     }
     source.set_ragged(found.get_str("ragged").is_some());
     Ok(source)
@@ -493,6 +516,17 @@ fn rows_of(found: &ArgMatches) -> Rows {
     }
 }
 
+// The source, with what is asked of a database.
+fn selected(alloc: Global, found: &ArgMatches, source: Source) -> Result<Source, AllocError> {
+    if let Some(query) = found.get_str("query") {
+        return Ok(database(Selection::Query(String::from_str(alloc, query)?)));
+    }
+    if let Some(name) = found.get_str("table") {
+        return Ok(database(Selection::Table(String::from_str(alloc, name)?)));
+    }
+    Ok(source)
+}
+
 // What was asked for, of this source and in this look.
 fn table_of(
     alloc: Global,
@@ -501,10 +535,7 @@ fn table_of(
     look: Look,
     columns: Option<u32>,
 ) -> Result<Wanted, AllocError> {
-    let source = match found.get_str("query") {
-        Some(query) => database(Some(String::from_str(alloc, query)?)),
-        None => source,
-    };
+    let source = selected(alloc, found, source)?;
     Ok(Wanted {
         file: copy_of(alloc, name_in(found))?,
         request: Request {

@@ -1,7 +1,7 @@
 //! What the lines of a case say.
 
 use pg_layout::AlignmentHorizontal;
-use ruled_io::{Format, Kind, Log, Request, Rows, Source};
+use ruled_io::{Format, Kind, Log, Request, Rows, Selection, Source};
 use ruled_table::{Look, Options, Overflow};
 use std::alloc::{AllocError, Global};
 
@@ -20,7 +20,7 @@ fn source_of(word: &str) -> Option<Source> {
     match Kind::by_name(word)? {
         Kind::Rows(format) => Some(Source::Rows(format)),
         Kind::Database => Some(Source::Database {
-            query: None,
+            selection: Selection::Tables,
             log: Log::Empty,
         }),
     }
@@ -100,7 +100,11 @@ fn set_input(
         "format" => source_of(value),
         "delimiter" => Some(Source::Rows(Format::separated(delimiter_of(value), false))),
         "query" => Some(Source::Database {
-            query: Some(String::from_str(alloc, value)?),
+            selection: Selection::Query(String::from_str(alloc, value)?),
+            log: request.source.log(),
+        }),
+        "table" => Some(Source::Database {
+            selection: Selection::Table(String::from_str(alloc, value)?),
             log: request.source.log(),
         }),
         "ragged" => {

@@ -6,25 +6,30 @@ use Rattle.std.specs.Result.{IsErrAnd, result_err}
 use Rattle.std.proofs.KnownBytes.{Appends-kept, Keeps-refl}
 use Rattle.std.proofs.lemmas.Bool.{false≢true, true≢false}
 use Rattle.pg_layout.specs.Text.{Text}
-use Rattle.ruled_sql.specs.Answers.{HoldsNone}
+use Rattle.ruled_sql.specs.declared.fault.DatabaseFault.{DatabaseFault}
+use Rattle.ruled_sql.specs.declared.fault.DatabaseFault.TheVariants as database
 use Rattle.ruled_sql.specs.declared.fault.QueryFault.TheVariants as query
 use Rattle.ruled_sql.specs.declared.fault.SqlFault.{SqlFault}
 use Rattle.ruled_sql.specs.declared.fault.SqlFault.TheVariants as sql
+use Rattle.ruled_sql.specs.declared.fault.TableFault.TheVariants as table
 use Rattle.ruled_table.specs.View.{table_fault, table_text}
 use Rattle.ruled_table.specs.declared.fault.ViewFault.{ViewFault}
-use Rattle.ruled_io.specs.Faults.{IsOfRead, Tells, fault_of_sql, is_early, is_memory, is_of_write}
+use Rattle.ruled_io.specs.Databases.{LacksAnswer, LacksSelected, LacksStored}
+use Rattle.ruled_io.specs.Faults.{IsOfRead, Tells, fault_of_database, fault_of_sql, is_early, is_memory, is_of_write}
 use Rattle.ruled_io.specs.Input.{input_fault, rows_in}
 use Rattle.ruled_io.specs.Output.{failure_in, fault_written, write_part}
-use Rattle.ruled_io.specs.Requests.{format_told, hides_rows, holds_database, log_of, rows_needed}
+use Rattle.ruled_io.specs.Requests.{format_told, hides_rows, holds_database, log_of, rows_needed, selection_of}
 use Rattle.ruled_io.specs.Runs.{AreAsked, AreRows, AreRowsAs, CausedAtOnce, LacksInput, LacksRows, LacksRowsAs, ShowsAll}
 use Rattle.ruled_io.specs.Steps.{Draws}
 use Rattle.ruled_io.specs.Writing.{Begins}
 use Rattle.ruled_io.specs.declared.fault.InputFault.{InputFault}
+use Rattle.ruled_io.specs.declared.fault.InputFault.TheVariants as input
 use Rattle.ruled_io.specs.declared.fault.InputFault.TheVariants.{Memory}
 use Rattle.ruled_io.specs.declared.fault.RunFault.{RunFault}
 use Rattle.ruled_io.specs.declared.fault.RunFault.TheVariants.{Input, Read, Closed, Write}
 use Rattle.ruled_io.specs.declared.formats.Known.{Known}
 use Rattle.ruled_io.specs.declared.request.Request.{Request}
+use Rattle.ruled_io.specs.declared.request.Selection.{Selection}
 use Rattle.ruled_io.specs.declared.request.Source.{Source}
 use Rattle.ruled_io.proofs.Growing.{begins-all, begins-kept}
 
@@ -52,17 +57,52 @@ module _ {V : Type 0} (rows : V → List (List Text)) (source : Source) (bytes :
   asked_lacking (Ok v) holds lacks = tt
   asked_lacking (Err fault) holds lacks = subst (λ (h : Bool). LacksRowsAs None h source bytes fault) (sym holds) lacks
 
--- a fault of a query
-pub of_query : {X : Type 0} (source : Source) (bytes : List ℕ) (found : SqlFault) (result : Result X InputFault) → hides_rows (log_of source) bytes ≡ false → (found ≡ sql.Database → HoldsNone bytes) → IsErrAnd result (λ fault. fault ≡ fault_of_sql found)
+-- ---- what is asked of a database
+
+module _ {X : Type 0} (selection : Option Selection) (bytes : List ℕ) where
+  -- a fault of a query
+  pub of_query : (found : SqlFault) (result : Result X InputFault) → LacksAnswer selection bytes found → IsErrAnd result (λ fault. fault ≡ fault_of_sql found) → IfErr result (LacksSelected selection bytes)
+  of_query found (Ok x) none told = absurd told
+  of_query sql.Database (Err fault) none told = subst (LacksSelected selection bytes) (sym told) none
+  of_query sql.Damage (Err fault) none told = subst (LacksSelected selection bytes) (sym told) none
+  of_query (sql.Query (query.Refused error)) (Err fault) none told = subst (LacksSelected selection bytes) (sym told) none
+  of_query (sql.Query query.Change) (Err fault) none told = subst (LacksSelected selection bytes) (sym told) none
+  of_query (sql.Query (query.Encoding row)) (Err fault) none told = subst (LacksSelected selection bytes) (sym told) none
+  of_query (sql.Query query.Memory) (Err fault) none told = subst (LacksSelected selection bytes) (sym told) tt
+  of_query sql.Memory (Err fault) none told = subst (LacksSelected selection bytes) (sym told) tt
+
+  -- a fault of a table, or of the list of all
+  pub of_stored : (found : DatabaseFault) (result : Result X InputFault) → LacksStored selection bytes found → IsErrAnd result (λ fault. fault ≡ fault_of_database found)
+      → IfErr result (LacksSelected selection bytes)
+  of_stored found (Ok x) lacks told = absurd told
+  of_stored database.Database (Err fault) lacks told = subst (LacksSelected selection bytes) (sym told) lacks
+  of_stored database.Encoding (Err fault) lacks told = subst (LacksSelected selection bytes) (sym told) lacks
+  of_stored database.Absent (Err fault) lacks told = subst (LacksSelected selection bytes) (sym told) lacks
+  of_stored database.Elsewhere (Err fault) lacks told = subst (LacksSelected selection bytes) (sym told) lacks
+  of_stored database.Keyed (Err fault) lacks told = subst (LacksSelected selection bytes) (sym told) lacks
+  of_stored database.Computed (Err fault) lacks told = subst (LacksSelected selection bytes) (sym told) lacks
+  of_stored (database.Schema table.Damage) (Err fault) lacks told = subst (LacksSelected selection bytes) (sym told) lacks
+  of_stored (database.Schema table.Default) (Err fault) lacks told = subst (LacksSelected selection bytes) (sym told) lacks
+  of_stored (database.Schema (table.Encoding row)) (Err fault) lacks told = subst (LacksSelected selection bytes) (sym told) lacks
+  of_stored (database.Schema table.Memory) (Err fault) lacks told = subst (LacksSelected selection bytes) (sym told) tt
+  of_stored (database.Table table.Damage) (Err fault) lacks told = subst (LacksSelected selection bytes) (sym told) lacks
+  of_stored (database.Table table.Default) (Err fault) lacks told = subst (LacksSelected selection bytes) (sym told) lacks
+  of_stored (database.Table (table.Encoding row)) (Err fault) lacks told = subst (LacksSelected selection bytes) (sym told) lacks
+  of_stored (database.Table table.Memory) (Err fault) lacks told = subst (LacksSelected selection bytes) (sym told) tt
+
+-- a fault of a selection, where no log hides rows
+pub of_selection : {X : Type 0} (source : Source) (bytes : List ℕ) (result : Result X InputFault) → hides_rows (log_of source) bytes ≡ false → IfErr result (LacksSelected (selection_of source) bytes)
     → IfErr result (LacksRowsAs None true source bytes)
-of_query source bytes found (Ok x) shown none told = absurd told
-of_query source bytes sql.Database (Err fault) shown none told = subst (LacksRowsAs None true source bytes) (sym told) (shown, none)
-of_query source bytes sql.Damage (Err fault) shown none told = subst (LacksRowsAs None true source bytes) (sym told) (shown, none)
-of_query source bytes (sql.Query (query.Refused error)) (Err fault) shown none told = subst (LacksRowsAs None true source bytes) (sym told) (shown, none)
-of_query source bytes (sql.Query query.Change) (Err fault) shown none told = subst (LacksRowsAs None true source bytes) (sym told) (shown, none)
-of_query source bytes (sql.Query (query.Encoding row)) (Err fault) shown none told = subst (LacksRowsAs None true source bytes) (sym told) (shown, none)
-of_query source bytes (sql.Query query.Memory) (Err fault) shown none told = subst (LacksRowsAs None true source bytes) (sym told) tt
-of_query source bytes sql.Memory (Err fault) shown none told = subst (LacksRowsAs None true source bytes) (sym told) tt
+of_selection source bytes (Ok x) shown lacks = tt
+of_selection source bytes (Err (input.Rows fault)) shown lacks = absurd lacks
+of_selection source bytes (Err (input.Json fault)) shown lacks = absurd lacks
+of_selection source bytes (Err (input.Sql fault)) shown lacks = (shown, lacks)
+of_selection source bytes (Err (input.Database fault)) shown lacks = (shown, lacks)
+of_selection source bytes (Err input.Log) shown lacks = absurd lacks
+of_selection source bytes (Err (input.Stream fault)) shown lacks = absurd lacks
+of_selection source bytes (Err (input.Column name)) shown lacks = absurd lacks
+of_selection source bytes (Err input.Totals) shown lacks = absurd lacks
+of_selection source bytes (Err input.Memory) shown lacks = tt
 
 -- ---- where the bytes are known
 

@@ -58,7 +58,7 @@ source-shows : (s : Source) (front behind : List ℕ) → ShowsInput (format_tol
 source-shows (source.Rows format) front behind shows = (refl, λ none. shows.rows)
 source-shows (source.Values is_ragged) front behind shows = (refl, λ none. shows.rows)
 source-shows (source.Seen log is_ragged) front behind shows = (shows.database, λ none. shows.rows)
-source-shows (source.Database query log) front behind shows = (refl, λ none. absurd (true≢false none))
+source-shows (source.Database selection log) front behind shows = (refl, λ none. absurd (true≢false none))
 
 -- its first bytes are read
 pub front-seen : {V : Type 0} (items : V → List ℕ) (s : Source) (given left : Option (List ℕ)) (known : Known) (result : Result V RunFault) → known ≡ format_told s

@@ -6,13 +6,16 @@ use Rattle.ruled_csv.specs.Faults as csv
 use Rattle.ruled_json.specs.declared.fault.JsonFault.{JsonFault}
 use Rattle.ruled_json.specs.declared.fault.JsonFault.TheVariants as json_faults
 use Rattle.ruled_json.specs.Faults as json
+use Rattle.ruled_sql.specs.declared.fault.DatabaseFault.{DatabaseFault}
+use Rattle.ruled_sql.specs.declared.fault.DatabaseFault.TheVariants as database
 use Rattle.ruled_sql.specs.declared.fault.QueryFault.TheVariants as query
 use Rattle.ruled_sql.specs.declared.fault.SqlFault.{SqlFault}
 use Rattle.ruled_sql.specs.declared.fault.SqlFault.TheVariants as sql
+use Rattle.ruled_sql.specs.declared.fault.TableFault.TheVariants as table
 use Rattle.ruled_table.specs.declared.fault.ViewFault.{ViewFault}
 use Rattle.ruled_table.specs.declared.fault.ViewFault.TheVariants as view
 use Rattle.ruled_io.specs.declared.fault.InputFault.{InputFault}
-use Rattle.ruled_io.specs.declared.fault.InputFault.TheVariants.{Rows, Json, Sql, NoQuery, Log, Stream, Column, Totals, Memory}
+use Rattle.ruled_io.specs.declared.fault.InputFault.TheVariants.{Rows, Json, Sql, Database, Log, Stream, Column, Totals, Memory}
 use Rattle.ruled_io.specs.declared.fault.RunFault.{RunFault}
 use Rattle.ruled_io.specs.declared.fault.RunFault.TheVariants.{Input, Read, Closed, Write}
 use Rattle.ruled_io.specs.declared.output.WriteFault.{WriteFault}
@@ -24,7 +27,7 @@ abbrev pub status_of_input : InputFault → ℕ
 status_of_input (Rows fault) = 2
 status_of_input (Json fault) = 2
 status_of_input (Sql fault) = 2
-status_of_input NoQuery = 2
+status_of_input (Database fault) = 2
 status_of_input Log = 2
 status_of_input (Stream fault) = 2
 status_of_input (Column name) = 2
@@ -50,7 +53,7 @@ abbrev pub is_memory : InputFault → Bool
 is_memory (Rows fault) = false
 is_memory (Json fault) = false
 is_memory (Sql fault) = false
-is_memory NoQuery = false
+is_memory (Database fault) = false
 is_memory Log = false
 is_memory (Stream fault) = false
 is_memory (Column name) = false
@@ -96,7 +99,7 @@ abbrev pub but_line_in : InputFault → InputFault
 but_line_in (Rows fault) = Rows (csv.but_line fault)
 but_line_in (Json fault) = Json (json.but_line fault)
 but_line_in (Sql fault) = Sql fault
-but_line_in NoQuery = NoQuery
+but_line_in (Database fault) = Database fault
 but_line_in Log = Log
 but_line_in (Stream fault) = Stream fault
 but_line_in (Column name) = Column name
@@ -144,6 +147,22 @@ fault_of_sql (sql.Query query.Change) = Sql (sql.Query query.Change)
 fault_of_sql (sql.Query (query.Encoding row)) = Sql (sql.Query (query.Encoding row))
 fault_of_sql (sql.Query query.Memory) = Memory
 fault_of_sql sql.Memory = Memory
+
+abbrev pub fault_of_database : DatabaseFault → InputFault
+fault_of_database database.Database = Database database.Database
+fault_of_database database.Encoding = Database database.Encoding
+fault_of_database database.Absent = Database database.Absent
+fault_of_database database.Elsewhere = Database database.Elsewhere
+fault_of_database database.Keyed = Database database.Keyed
+fault_of_database database.Computed = Database database.Computed
+fault_of_database (database.Schema table.Damage) = Database (database.Schema table.Damage)
+fault_of_database (database.Schema table.Default) = Database (database.Schema table.Default)
+fault_of_database (database.Schema (table.Encoding row)) = Database (database.Schema (table.Encoding row))
+fault_of_database (database.Schema table.Memory) = Memory
+fault_of_database (database.Table table.Damage) = Database (database.Table table.Damage)
+fault_of_database (database.Table table.Default) = Database (database.Table table.Default)
+fault_of_database (database.Table (table.Encoding row)) = Database (database.Table (table.Encoding row))
+fault_of_database (database.Table table.Memory) = Memory
 
 abbrev pub fault_of_view : ViewFault → InputFault
 fault_of_view (view.Column name) = Column name

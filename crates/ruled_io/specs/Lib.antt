@@ -1,3 +1,4 @@
+pub mod Databases
 pub mod Faults
 pub mod Formats
 pub mod Input

@@ -1,6 +1,5 @@
 -- What is asked of a run.
-use Rattle.std.specs.Prelude.{ℕ, max, Bool, true, false, List, Option, Some, None, option_map, string_bytes, if◌then◌else◌}
-use Rattle.pg_layout.specs.Text.{Text}
+use Rattle.std.specs.Prelude.{ℕ, max, Bool, true, false, List, Option, Some, None, option_map, if◌then◌else◌}
 use Rattle.ruled_sql.specs.Answers.{keeps_log}
 use Rattle.ruled_io.specs.Formats as formats
 use Rattle.ruled_table.specs.Shown.{limit_of}
@@ -11,6 +10,7 @@ use Rattle.ruled_io.specs.declared.formats.Known.{Known}
 use Rattle.ruled_io.specs.declared.formats.Known.TheVariants as known
 use Rattle.ruled_io.specs.declared.request.Log.{Log}
 use Rattle.ruled_io.specs.declared.request.Log.TheVariants.{Empty, Filled, Unknown}
+use Rattle.ruled_io.specs.declared.request.Selection.{Selection}
 use Rattle.ruled_io.specs.declared.request.Source.{Source}
 use Rattle.ruled_io.specs.declared.request.Source.TheVariants.{Rows, Values, Seen, Database}
 
@@ -19,34 +19,34 @@ abbrev pub format_told : Source → Known
 format_told (Rows format) = known.Format format
 format_told (Values is_ragged) = known.Values is_ragged
 format_told (Seen log is_ragged) = known.Nothing is_ragged
-format_told (Database query log) = known.Nothing false
+format_told (Database selection log) = known.Nothing false
 
 -- it is a database: that is told, or the first bytes show it
 abbrev pub holds_database : Source → List ℕ → Bool
 holds_database (Rows format) bytes = false
 holds_database (Values is_ragged) bytes = false
 holds_database (Seen log is_ragged) bytes = formats.is_database bytes
-holds_database (Database query log) bytes = true
+holds_database (Database selection log) bytes = true
 
--- the query of a database
-abbrev pub query_of : Source → Option Text
-query_of (Rows format) = None
-query_of (Values is_ragged) = None
-query_of (Seen log is_ragged) = None
-query_of (Database query log) = option_map string_bytes query
+-- what is asked of a database
+abbrev pub selection_of : Source → Option Selection
+selection_of (Rows format) = None
+selection_of (Values is_ragged) = None
+selection_of (Seen log is_ragged) = None
+selection_of (Database selection log) = Some selection
 
 -- what is known of its logs
 abbrev pub log_of : Source → Log
 log_of (Rows format) = Empty
 log_of (Values is_ragged) = Empty
 log_of (Seen log is_ragged) = log
-log_of (Database query log) = log
+log_of (Database selection log) = log
 
 abbrev pub with_log : Log → Source → Source
 with_log log (Rows format) = Rows format
 with_log log (Values is_ragged) = Values is_ragged
 with_log log (Seen old is_ragged) = Seen log is_ragged
-with_log log (Database query old) = Database query log
+with_log log (Database selection old) = Database selection log
 
 -- rows of separated values may be ragged, or not
 abbrev pub ragged_format : Bool → Format → Format
@@ -58,7 +58,7 @@ abbrev pub with_ragged : Bool → Source → Source
 with_ragged is_ragged (Rows format) = Rows (ragged_format is_ragged format)
 with_ragged is_ragged (Values old) = Values is_ragged
 with_ragged is_ragged (Seen log old) = Seen log is_ragged
-with_ragged is_ragged (Database query log) = Database query log
+with_ragged is_ragged (Database selection log) = Database selection log
 
 -- rows of a database may stand in a log beside its file
 abbrev pub hides_rows : Log → List ℕ → Bool

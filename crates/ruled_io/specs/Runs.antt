@@ -2,12 +2,11 @@
 use Rattle.std.specs.Prelude.{◌≡◌, ◌⊎◌, ⊤, ℕ, Bool, true, false, List, Option, Some, None, option_map}
 use Rattle.std.specs.Io.KnownBytes.{Keeps}
 use Rattle.pg_layout.specs.Text.{Text}
-use Rattle.ruled_sql.specs.Answers.{AreAnswered, HoldsNone}
-use Rattle.ruled_sql.specs.declared.fault.SqlFault.TheVariants as sql
 use Rattle.ruled_table.specs.View.{table_fault, table_text}
+use Rattle.ruled_io.specs.Databases.{AreSelected, LacksAnswer, LacksStored}
 use Rattle.ruled_io.specs.Faults.{but_line_in, fault_of_view, is_memory}
 use Rattle.ruled_io.specs.Input.{input_fault, rows_in}
-use Rattle.ruled_io.specs.Requests.{format_told, hides_rows, holds_database, log_of, query_of, rows_needed}
+use Rattle.ruled_io.specs.Requests.{format_told, hides_rows, holds_database, log_of, rows_needed, selection_of}
 use Rattle.ruled_io.specs.Stream.{StopsStream, streamed_fault, streamed_text, streamed_wrong}
 use Rattle.ruled_io.specs.Writing.{Begins}
 use Rattle.ruled_io.specs.declared.fault.InputFault.{InputFault}
@@ -21,14 +20,9 @@ use Rattle.ruled_io.specs.declared.request.Source.{Source}
 
 -- ---- the rows of all bytes, or of the first of them where so many rows are needed
 
--- the rows that the query has of the database that the bytes hold
-abbrev pub AnswersOf : Option Text → List ℕ → List (List Text) → Type 0
-AnswersOf None bytes rows = ⊥
-AnswersOf (Some query) bytes rows = AreAnswered bytes query rows
-
 -- no row stands elsewhere, and these are the answer
 abbrev pub AreAsked : Source → List ℕ → List (List Text) → Type 0
-AreAsked source bytes rows = (hides_rows (log_of source) bytes ≡ false) × AnswersOf (query_of source) bytes rows
+AreAsked source bytes rows = (hides_rows (log_of source) bytes ≡ false) × AreSelected (selection_of source) bytes rows
 
 -- the rows are the answer, or those that the bytes hold
 abbrev pub AreRowsAs : Option ℕ → Bool → Source → List ℕ → List (List Text) → Type 0
@@ -44,8 +38,8 @@ LacksRowsAs limit false source bytes fault = is_memory fault ≡ false → input
 LacksRowsAs limit true source bytes (input.Rows fault) = ⊥
 LacksRowsAs limit true source bytes (input.Json fault) = ⊥
 LacksRowsAs limit true source bytes (input.Stream fault) = ⊥
-LacksRowsAs limit true source bytes (input.Sql fault) = (hides_rows (log_of source) bytes ≡ false) × (fault ≡ sql.Database → HoldsNone bytes)
-LacksRowsAs limit true source bytes input.NoQuery = (hides_rows (log_of source) bytes ≡ false) × (query_of source ≡ None)
+LacksRowsAs limit true source bytes (input.Sql fault) = (hides_rows (log_of source) bytes ≡ false) × LacksAnswer (selection_of source) bytes fault
+LacksRowsAs limit true source bytes (input.Database fault) = (hides_rows (log_of source) bytes ≡ false) × LacksStored (selection_of source) bytes fault
 LacksRowsAs limit true source bytes input.Log = hides_rows (log_of source) bytes ≡ true
 LacksRowsAs limit true source bytes (input.Column name) = ⊥
 LacksRowsAs limit true source bytes input.Totals = ⊥

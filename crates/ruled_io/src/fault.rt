@@ -6,10 +6,10 @@ ghost use Rattle.ruled_io.specs.declared.fault.InputFault.TheVariants.{Memory};
 ghost use Rattle.ruled_io.specs.declared.fault.RunFault.TheVariants.{Input};
 
 use crate::name::Quoted;
-use crate::request::{Log, Request};
+use crate::request::{Log, Request, Selection};
 use ruled_csv::RowsFault;
 use ruled_json::JsonFault;
-use ruled_sql::{QueryFault, SqlFault};
+use ruled_sql::{DatabaseFault, QueryFault, SqlFault, TableFault};
 use ruled_table::ViewFault;
 use std::alloc::{AllocError, AllocFailed};
 use std::io::Write;
@@ -33,8 +33,8 @@ pub enum InputFault {
     Json(JsonFault),
     /// The database can't be opened, or the query has no rows.
     Sql(SqlFault),
-    /// The input is a database, and no query says which rows are shown.
-    NoQuery,
+    /// The database has no such table to show, or no list of tables.
+    Database(DatabaseFault),
     /// Rows of the database may be in a log that isn't read.
     Log,
     /// Rows can't be streamed.
@@ -105,6 +105,18 @@ impl From<SqlFault> for InputFault {
         match fault {
             SqlFault::Memory | SqlFault::Query(QueryFault::Memory) => InputFault::Memory,
             _ => InputFault::Sql(fault),
+        }
+    }
+}
+
+impl From<DatabaseFault> for InputFault {
+    ghost from_gives = { λ found fault. fault ≡ spec.fault_of_database found };
+
+    fn from(fault: DatabaseFault) -> InputFault {
+        match fault {
+            DatabaseFault::Schema(TableFault::Memory) | DatabaseFault::Table(TableFault::Memory) =>
+                { InputFault::Memory }
+            _ => InputFault::Database(fault),
         }
     }
 }
@@ -181,10 +193,10 @@ impl InputFault {
             InputFault::Rows(fault) => writeln!(err, "{fault}"),
             InputFault::Json(fault) => writeln!(err, "{fault}"),
             InputFault::Sql(fault) => writeln!(err, "{fault}"),
-            InputFault::NoQuery => writeln!(
-                err,
-                "of a database --query says which rows, as --query 'select name from sqlite_schema'"
-            ),
+            InputFault::Database(fault) => match request.source.selection() {
+                Some(Selection::Table(name)) => writeln!(err, "{}: {fault}", Quoted(name.as_str())),
+                _ => writeln!(err, "{fault}"),
+            },
             InputFault::Log => writeln!(err, "{}", words_of(request.source.log())),
             InputFault::Stream(fault) => writeln!(err, "{fault}"),
             InputFault::Column(name) => {

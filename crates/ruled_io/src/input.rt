@@ -1,18 +1,18 @@
 //! The rows that an input holds, or that are asked of it.
 
-ghost use Rattle.std.specs.Prelude.{◌≡◌, None, map, true, IfErr, IfOk};
+ghost use Rattle.std.specs.Prelude.{◌≡◌, None, map, IfErr, IfOk};
 ghost use Rattle.csv.specs.Records.{fields_of};
 ghost use Rattle.ruled_io.specs.Faults.{Tells};
 ghost use Rattle.ruled_io.specs.Input.{format_fault, input_fault, rows_in, rows_of};
-ghost use Rattle.ruled_io.specs.Runs.{AreAsked, AreRows, LacksRows, LacksRowsAs};
+ghost use Rattle.ruled_io.specs.Runs.{AreRows, LacksRows};
 
+use crate::database::asked_rows;
 use crate::fault::InputFault;
 use crate::formats::{Format, Known, content_of, format_in};
 use crate::request::Source;
 use csv::StringRecord;
 use ruled_csv::{read_rows, without_mark};
 use ruled_json::read_line_rows;
-use ruled_sql::query_rows;
 use std::alloc::Global;
 
 // The rows that bytes of this format hold.
@@ -34,20 +34,6 @@ fn rows_in(alloc: Global, known: Known, bytes: &[u8]) -> Result<Vec<StringRecord
 {
     let format = format_in(alloc, known, bytes)?;
     rows_of(alloc, format, content_of(format, bytes))
-}
-
-// The rows that are asked of a database.
-fn asked_rows(alloc: Global, source: &Source, bytes: &[u8]) -> Result<Vec<StringRecord>, InputFault>
-    ensures rows { IfOk result (λ rows. AreAsked source.now bytes.now (map fields_of rows.items)) }
-    ensures cause { IfErr result (LacksRowsAs None true source.now bytes.now) }
-{
-    if source.log().hides_rows(bytes) {
-        return Err(InputFault::Log);
-    }
-    match source.query() {
-        Some(query) => Ok(query_rows(alloc, bytes, query)?),
-        None => Err(InputFault::NoQuery),
-    }
 }
 
 /// The rows of an input of these bytes, of which the first is row 0, or why there are none.

@@ -3,6 +3,7 @@
 #![tactic(auto)]
 
 mod at_once;
+mod database;
 mod fault;
 mod formats;
 mod heads;
@@ -21,5 +22,5 @@ pub use crate::formats::{Format, Kind};
 pub use crate::name::{OneLine, Quoted};
 pub use crate::output::Output;
 pub use crate::program::{Ending, run};
-pub use crate::request::{Log, Request, Rows, Source};
+pub use crate::request::{Log, Request, Rows, Selection, Source};
 pub use ruled_csv::Dialect;

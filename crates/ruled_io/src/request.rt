@@ -32,6 +32,17 @@ impl Log {
     }
 }
 
+/// Which rows of a database are shown.
+#[derive(Drop)]
+pub enum Selection {
+    /// Those that this SQL statement selects.
+    Query(String),
+    /// All rows of the table of this name, in any case.
+    Table(String),
+    /// A row for each table and each view, with its columns.
+    Tables,
+}
+
 /// What an input is.
 #[derive(Drop)]
 pub enum Source {
@@ -42,12 +53,11 @@ pub enum Source {
     Values { is_ragged: bool },
     /// Rows in the format that the first bytes show: `[` begins JSON; `{` begins JSON if all is one
     /// value, else lines of JSON; anything else is separated values, with the delimiter that the first
-    /// line sets or has most often. A database, which the first bytes show, too, is refused,
-    /// since no query says which of its rows are shown. Rows of separated values may be ragged or not.
+    /// line sets or has most often. Of a database, which the first bytes show, too, the tables are
+    /// listed. Rows of separated values may be ragged or not.
     Seen { log: Log, is_ragged: bool },
-    /// A database of SQLite, and the SQL statement that selects its rows. Without one it is
-    /// refused.
-    Database { query: Option<String>, log: Log },
+    /// A database of SQLite, and which of its rows are shown.
+    Database { selection: Selection, log: Log },
 }
 
 impl Source {
@@ -78,16 +88,13 @@ impl Source {
         }
     }
 
-    // The query of a database, if there is one.
-    pub(crate) fn query(&self) -> Option<&str>
-        ensures { option_map (λ query. query.now) result ≡ spec.query_of self.now }
+    // What is asked of a database, if anything is.
+    pub(crate) fn selection(&self) -> Option<&Selection>
+        ensures { option_map (λ it. it.now) result ≡ spec.selection_of self.now }
     {
         match self {
-            Source::Database {
-                query: Some(query),
-                ..
-            } => Some(query.as_str()),
-            _ => None,
+            Source::Database { selection, .. } => Some(selection),
+            Source::Rows(_) | Source::Values { .. } | Source::Seen { .. } => None,
         }
     }
 
