@@ -3,7 +3,6 @@
 ghost use Rattle.pg_laws.specs.Laws.{NothingToDraw, NothingCompactToDraw, LinesAreJoined, CompactLinesAreJoined, LinesAreCut, CompactLinesAreCut, LinesAreCounted, BlocksAreDrawn, BlocksFill, PiecesCloseColors, SeparatorsCloseColors, LinesCloseColors, PictureLinesCloseColors, PartsCloseColors, CompactLinesCloseColors, FullCellsIgnoreAlignment, SingleLinesIgnoreAlignment, ColumnsAreStraight, MissingGlyphFillsGaps, MarginsAreStraight, ShownCellsAreDrawn, RectanglesStandTogether, PlainRows, PlainSeparators, BodiesStandAlone, HintsAreIdle, MisfitsAreFirst, FittingTablesHaveNone};
 
 /// A table with no rows or no columns has the empty picture, whatever its settings.
-#[tactic(auto, using(crate::proofs::LinesOfPictures::nothing_to_draw, crate::proofs::LinesOfPictures::nothing_compact_to_draw))]
 pub fn no_rows_or_columns_draw_nothing()
     ensures table { NothingToDraw }
     ensures compact { NothingCompactToDraw }
@@ -21,7 +20,6 @@ pub fn lines_are_joined_by_one_feed()
 
 /// A picture has as many lines as its top margin, its body and its bottom margin together. The body
 /// has the heights of all rows, and one line for each row line that exists.
-#[tactic(auto, using(crate::proofs::LinesOfPictures::lines_are_counted))]
 pub fn lines_are_those_of_body_and_margins()
     ensures { LinesAreCounted }
 {}
@@ -29,7 +27,6 @@ pub fn lines_are_those_of_body_and_margins()
 /// The marks of a cell's rectangle draw the lines of its block, each once and in order. So a shown
 /// cell has as many lines as its rectangle is high. If it has room for its text and its fills take
 /// one column, the pieces of each line add up to the rectangle's width.
-#[tactic(auto, using(crate::proofs::BlocksOfRectangles::blocks_are_drawn, crate::proofs::BlocksOfRectangles::blocks_fill))]
 pub fn a_block_fills_its_rectangle()
     ensures drawn { BlocksAreDrawn }
     ensures filled { BlocksFill }
@@ -51,7 +48,6 @@ pub fn colors_are_closed_in_their_line()
 /// Vertical alignment changes nothing if each text has at least as many lines as its cell has below
 /// the top padding. Without row spans that is so if rows and texts have one line, and vertical trim
 /// removes no blank text.
-#[tactic(auto, using(crate::proofs::FullCells::full_cells_ignore_alignment, crate::proofs::FullCells::single_lines_ignore_alignment))]
 pub fn full_cells_ignore_vertical_alignment()
     ensures full { FullCellsIgnoreAlignment }
     ensures single_lines { SingleLinesIgnoreAlignment }
@@ -70,7 +66,6 @@ pub fn columns_are_straight()
 /// If spans fit, a shown cell is drawn in each line of its rectangle: the line has the block's line
 /// at the rectangle's first column, and nothing at its other columns, not even border glyphs. The
 /// lines of a rectangle follow one another in the body.
-#[tactic(auto, using(crate::proofs::DrawnCells::shown_cells_are_drawn, crate::proofs::DrawnCells::rectangles_stand_together))]
 pub fn shown_cells_are_drawn_in_their_rectangles()
     ensures drawn { ShownCellsAreDrawn }
     ensures together { RectanglesStandTogether }
@@ -79,7 +74,6 @@ pub fn shown_cells_are_drawn_in_their_rectangles()
 /// Without spans each cell is as wide as its column and as high as its row. A line of a row is a
 /// vertical and the cell's line for each column, and the last vertical; a separator is a crossing
 /// and a horizontal for each column, and the last crossing.
-#[tactic(auto, using(crate::proofs::TablesToldLittle::plain_rows, crate::proofs::TablesToldLittle::plain_separators))]
 pub fn tables_without_spans_are_drawn_cell_by_cell()
     ensures rows { PlainRows }
     ensures separators { PlainSeparators }
@@ -87,21 +81,18 @@ pub fn tables_without_spans_are_drawn_cell_by_cell()
 
 /// Margins of size 0 add nothing, whatever their fills, colours and offsets: the picture is the
 /// lines of its body alone.
-#[tactic(auto, using(crate::proofs::TablesToldLittle::bodies_stand_alone))]
 pub fn margins_of_size_0_add_nothing()
     ensures { BodiesStandAlone }
 {}
 
 /// Only side margins with an offset from the end depend on whether the number of lines is known
 /// when a line is drawn.
-#[tactic(auto, using(pg_picture::proofs::PlainPictures::hints_are_idle))]
 pub fn hints_matter_to_offsets_from_the_end_alone()
     ensures { HintsAreIdle }
 {}
 
 /// A misfit is the first that applies: spans before totals, totals before room, and of cells
 /// without room the first one, row by row. A table that fits has none.
-#[tactic(auto, using(pg_picture::proofs::Rooms::fitting_tables_have_none, crate::proofs::FirstMisfits::misfits_are_first))]
 pub fn a_misfit_is_the_first_that_applies()
     ensures first { MisfitsAreFirst }
     ensures none { FittingTablesHaveNone }

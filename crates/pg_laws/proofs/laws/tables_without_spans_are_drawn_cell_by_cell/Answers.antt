@@ -1,0 +1,5 @@
+use Rattle.pg_laws.proofs.TablesToldLittle.{plain_rows, plain_separators}
+use Rattle.pg_laws.proofs.laws.tables_without_spans_are_drawn_cell_by_cell.Goals as goal
+
+pub returns : goal.returns
+returns c = record { rows = plain_rows; separators = plain_separators }
