@@ -5,13 +5,16 @@
 //! Each program is a module. None of their functions needs a proof by hand.
 #![tactic(auto)]
 
+mod bill;
 mod compact_list;
 mod fault;
+mod files;
 mod foreign_rows;
 mod grid_calls;
 mod invoice;
 mod levels;
 mod live_log;
+mod menu;
 mod price_list;
 mod record_blocks;
 mod report;
@@ -60,6 +63,10 @@ fn show_texts(rt: &impl Print, alloc: Global) -> Result<(), Fault> {
     show(rt, "price_list", price_list::prices(alloc))?;
     show(rt, "invoice", invoice::invoice(alloc))?;
     show(rt, "titled", titled::stock(alloc))?;
+    show(rt, "lunch", menu::lunch(alloc))?;
+    show(rt, "dinner", menu::dinner(alloc))?;
+    show(rt, "bill", bill::bill(alloc))?;
+    show(rt, "files", files::files(alloc))?;
     show(rt, "record_blocks", record_blocks::blocks(alloc))?;
     show(rt, "levels", levels::log(alloc))?;
     show(rt, "timetable", timetable::week(alloc))?;
