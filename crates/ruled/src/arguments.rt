@@ -86,7 +86,7 @@ const CHOICES: [Choice; 20] = [
         name: "file",
         value: "FILE",
         takes: Takes::File,
-        help: "The file that is read; without one, or as -, standard input",
+        help: "The file to read; standard input if it is missing or -",
         ..FLAG
     },
     Choice {
@@ -94,7 +94,7 @@ const CHOICES: [Choice; 20] = [
         short: Some('f'),
         value: "FORMAT",
         takes: Takes::Format,
-        help: "How rows are written: separated by commas or tabs, as one value of JSON, as lines of JSON, or in a database of SQLite; else the ending of the file's name tells it, or else its first bytes",
+        help: "Read the input in this format; without it the file's extension counts, else the first bytes",
         ..FLAG
     },
     Choice {
@@ -102,14 +102,14 @@ const CHOICES: [Choice; 20] = [
         short: Some('q'),
         value: "SQL",
         takes: Takes::Text,
-        help: "The rows of a database of SQLite that are shown: a statement that changes nothing",
+        help: "Print the rows of this SQL statement, which must not change the database",
         ..FLAG
     },
     Choice {
         name: "table",
         value: "NAME",
         takes: Takes::Text,
-        help: "The table of a database of SQLite that is shown, with all its rows; without it and without --query its tables are listed",
+        help: "Print all rows of this table of an SQLite database; without it and --query, list the tables",
         ..FLAG
     },
     Choice {
@@ -117,19 +117,19 @@ const CHOICES: [Choice; 20] = [
         short: Some('d'),
         value: "C",
         takes: Takes::Text,
-        help: "What stands between two fields: a character, or the word tab",
+        help: "Separate fields by this character, or by tabs if it is the word tab; without it the first line sets or shows it",
         ..FLAG
     },
     Choice {
         name: "no-header",
-        help: "Row 0 is no header",
+        help: "Print row 0 as an ordinary row",
         ..FLAG
     },
     Choice {
         name: "ragged",
         value: "HOW",
         takes: Takes::Ragged,
-        help: "Rows may have more or fewer fields than row 0: missing fields are empty, and further ones get columns without a name (pad) or are left out (cut)",
+        help: "Accept rows with more or fewer fields than row 0; missing fields are empty, and further fields are columns without a name (pad) or left out (cut)",
         ..FLAG
     },
     Choice {
@@ -138,7 +138,7 @@ const CHOICES: [Choice; 20] = [
         value: "NAMES",
         takes: Takes::Text,
         is_list: true,
-        help: "The columns that are shown, in this order, by their names in row 0",
+        help: "Print only these columns, in this order, by their names in row 0",
         ..FLAG
     },
     Choice {
@@ -146,7 +146,7 @@ const CHOICES: [Choice; 20] = [
         short: Some('n'),
         value: "N",
         takes: Takes::Number,
-        help: "How many rows are shown at most, besides the header",
+        help: "Print only the first N rows below the header",
         ..FLAG
     },
     Choice {
@@ -154,7 +154,7 @@ const CHOICES: [Choice; 20] = [
         value: "N",
         takes: Takes::Number,
         conflicts: &["no-header"],
-        help: "How many rows below the header are shown at most, the last ones",
+        help: "Print only the last N rows below the header",
         ..FLAG
     },
     Choice {
@@ -162,7 +162,7 @@ const CHOICES: [Choice; 20] = [
         short: Some('l'),
         value: "LOOK",
         takes: Takes::Look,
-        help: "What the table looks like",
+        help: "Draw the table in this look",
         ..FLAG
     },
     Choice {
@@ -171,17 +171,17 @@ const CHOICES: [Choice; 20] = [
         value: "SIDES",
         takes: Takes::Side,
         is_list: true,
-        help: "The side of each column that is shown: left, right, centre, or auto, which is right where all texts below the header are numbers; one word alone is for all",
+        help: "Align columns left, right, centre or auto, which is right if all texts below the header are numbers; one word is for all columns",
         ..FLAG
     },
     Choice {
         name: "markdown",
-        help: "A table of Markdown, in which bars, backslashes and line feeds of fields are escaped",
+        help: "Print a Markdown table, with bars, backslashes and line feeds of fields escaped",
         ..FLAG
     },
     Choice {
         name: "raw",
-        help: "Control characters are sent as they are, and not made visible",
+        help: "Print control characters as they are, instead of making them visible",
         ..FLAG
     },
     Choice {
@@ -190,7 +190,7 @@ const CHOICES: [Choice; 20] = [
         value: "N",
         takes: Takes::Number,
         conflicts: &["markdown"],
-        help: "How many columns of the terminal a line takes at most; 0 is no limit. Without it the variable COLUMNS says it, where it is there",
+        help: "Limit lines to N terminal columns; 0 means no limit; without it the variable COLUMNS counts",
         ..FLAG
     },
     Choice {
@@ -200,23 +200,23 @@ const CHOICES: [Choice; 20] = [
         takes: Takes::Number,
         is_list: true,
         conflicts: &["markdown"],
-        help: "How many columns of the terminal the texts of each column take at most that is shown; one number alone is for all, and 0 is no limit",
+        help: "Limit the texts of each column to N terminal columns; one number is for all columns, and 0 means no limit",
     },
     Choice {
         name: "wrap",
-        help: "Texts that are too wide go on in further lines, as they do without a word",
+        help: "Wrap texts that are too wide, which is the default",
         ..FLAG
     },
     Choice {
         name: "cut",
         conflicts: &["wrap"],
-        help: "Texts that are too wide end with …",
+        help: "Cut texts that are too wide, and end them with …",
         ..FLAG
     },
     Choice {
         name: "vertical",
         conflicts: &["no-header", "markdown"],
-        help: "Each record is a block of its own, with a row for each field: its name and its text",
+        help: "Print each record as a block with one row for each field",
         ..FLAG
     },
     Choice {
@@ -224,7 +224,7 @@ const CHOICES: [Choice; 20] = [
         value: "ROWS",
         takes: Takes::Rows,
         conflicts: &["head", "tail", "vertical", "markdown"],
-        help: "Each row is shown when it comes, at the widths of the header and the first ROWS rows below it, or the first 1000",
+        help: "Print each row when it arrives, at the widths of the header and the first ROWS rows below it, or the first 1000",
         ..FLAG
     },
 ];
@@ -283,7 +283,7 @@ fn arguments<'a>(alloc: Global, looks: &'a [&'a str]) -> Result<Vec<Arg<'a>>, Al
 
 fn command<'a>(alloc: Global, looks: &'a [&'a str]) -> Result<Command<'a>, AllocError> {
     Command::new(alloc, "ruled")
-        .about("Shows rows of separated values, JSON or a database of SQLite as a table")
+        .about("Prints CSV, TSV, JSON, or rows of an SQLite database as a table")
         .version("0.1.0 (logic dac8208d650f15bf)")
         .args(arguments(alloc, looks)?)
 }
