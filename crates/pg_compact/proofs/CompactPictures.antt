@@ -1,5 +1,5 @@
--- The picture of a compact table in which everything fits.
-use Rattle.std.proofs.Common.{◌≡◌, ℕ, ◌-◌, ◌^◌, ◌<◌, ◌==◌, ◌&&◌, nat_lt, true, false, List, [], length, Option, Some, None, is_some, refl, sym, ap, ◌∙◌, arith, inl, inr}
+-- The picture of a compact table in which everything fits, or which shows each line.
+use Rattle.std.proofs.Common.{◌≡◌, ℕ, ◌-◌, ◌^◌, ◌<◌, ◌==◌, ◌&&◌, nat_lt, true, false, List, [], length, Option, Some, None, is_some, refl, sym, ap, ◌∙◌, arith, inl, inr, ◌||◌}
 use Rattle.std.proofs.lemmas.Bool.{cases_Bool, false≢true}
 use Rattle.std.proofs.lemmas.Bool.Decides.{nat_tests}
 use Rattle.pg_layout.specs.declared.position.Position.{Position}
@@ -15,7 +15,12 @@ use Rattle.pg_picture.specs.declared.fits.Misfit.{Misfit}
 use Rattle.pg_compact.specs.declared.printer.CompactPrinter.{CompactPrinter}
 use Rattle.pg_compact.specs.CompactGrids.{CompactFits, compact_misfit, has_no_cells}
 use Rattle.pg_compact.specs.Inside.PrintedTable.{printed_table}
-use Rattle.pg_picture.proofs.SumsOfSizes.{some_answer}
+use Rattle.pg_picture.proofs.Ranges.{some_answer}
+use Rattle.pg_picture.specs.Shown.{compact_unshown_of}
+use Rattle.pg_picture.proofs.FirstPlaces.{compact_misfit-sized}
+use Rattle.pg_picture.proofs.FittingTables.{compact_shown-fits}
+
+-- ---- the picture of a compact table in which everything fits
 
 -- a table without cells has no picture
 pub picture-empty : (t : CompactTable) → has_no_cells t ≡ true → compact_picture t ≡ []
@@ -88,3 +93,18 @@ module _ {D C : Type 0} (width : D → ℕ → ℕ) (color : C → Position → 
   -- what the call answers that adds up the widths
   pub width-answer : {answer : Option ℕ} → CompactTotals (printed_table width color p texts) → answer ≡ if_fits (compact_full_width (compact_sized (settings_of p.config.now) (width p.dimension) p.columns)) → answer ≡ Some (compact_full_width (printed_table width color p []))
   width-answer totals is = some_answer (compact_full_width (printed_table width color p [])) (omega (arith, any-texts, totals.width)) (is ∙ ap if_fits same-width)
+
+-- ---- a compact table that shows each line fits
+
+pub no_columns-fit : (t : CompactTable) → (t.columns == 0) ≡ true → compact_misfit_of (compact_sized t.config t.width t.columns) ≡ None
+unfolding compact_misfit_of
+no_columns-fit t none = rw none refl
+
+pub shown-fits : (t : CompactTable) → compact_unshown_of t ≡ None → CompactFits t
+shown-fits t e = λ rows.
+    elim (cases_Bool (t.columns == 0)) [
+      | inl none ↦ no_columns-fit t none
+      | inr columns ↦
+          let some : ((t.rows == 0) || (t.columns == 0)) ≡ false = grind (arith, nat_tests, rows, columns) in
+          sym (compact_misfit-sized t) ∙ compact_shown-fits t some e
+    ]

@@ -11,7 +11,7 @@ use Rattle.pg_config.specs.Config.{Config, get_vertical, get_vertical_color, get
 use Rattle.pg_config.specs.Cells.{style_at}
 use Rattle.pg_config.specs.Common.{has_one_style_but_across, inner_vertical}
 use Rattle.pg_config.proofs.EqualLines.{IsInner, nothing}
-use Rattle.pg_config.proofs.SettingsForAll.{for_all-base}
+use Rattle.pg_config.proofs.SettingsLaw.{for_all-base}
 
 same : {V : Type 0} (s : Settings V) → is_for_all s ≡ true → (p q : Position) → setting_of s p ≡ setting_of s q
 same s h p q = sym (for_all-base s p h) ∙ for_all-base s q h

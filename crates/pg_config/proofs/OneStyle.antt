@@ -5,7 +5,7 @@ use Rattle.pg_layout.specs.declared.position.Position.{Position}
 use Rattle.pg_config.specs.Settings.{Settings, is_for_all, setting_of}
 use Rattle.pg_config.specs.Config.{Config, has_one_style, get_padding, get_padding_color, get_alignment_horizontal, get_alignment_vertical, get_formatting, get_justification, get_justification_color}
 use Rattle.pg_config.specs.Cells.{style_at}
-use Rattle.pg_config.proofs.SettingsForAll.{for_all-base}
+use Rattle.pg_config.proofs.SettingsLaw.{for_all-base}
 
 same : {V : Type 0} (s : Settings V) → is_for_all s ≡ true → (p q : Position) → setting_of s p ≡ setting_of s q
 same s h p q = sym (for_all-base s p h) ∙ for_all-base s q h

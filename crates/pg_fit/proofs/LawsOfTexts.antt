@@ -1,24 +1,121 @@
--- The lines of wrapped texts.
-use Rattle.std.proofs.Common.{◌≡◌, ℕ, suc, ◌<◌, ◌≤◌, ◌==◌, true, false, cond, List, [], ◌∷◌, ◌++◌, map, length, get_or, append-nil, lit<, length-append, refl, sym, ap, subst, ◌∙◌, arith}
-use Rattle.std.specs.List.{All, concat, flat_map, slice_split, onto_first}
-use Rattle.std.specs.Str.{IsUtf8, encode_utf8_all}
-use Rattle.std.proofs.lemmas.Bool.{and_parts}
+-- The lines of wrapped texts: they fit, and nothing but spaces between words is left out.
+use Rattle.std.proofs.Common.{◌≡◌, ⊎_elim, ℕ, ◌≤◌, ◌==◌, true, false, cond, List, [], ◌∷◌, ◌++◌, length, map, append_assoc, append-nil, subst, refl, sym, ap, ◌∙◌, arith, suc, ◌<◌, get_or, lit<, length-append, not, Bool}
+use Rattle.std.specs.List.{concat, flat_map, join_with_byte, All, slice_split, onto_first, filter}
+use Rattle.std.proofs.lemmas.Bool.{or_cases, and_parts}
 use Rattle.std.proofs.lemmas.Bool.Decides.{nat_tests}
 use Rattle.std.proofs.lemmas.List.Concat.{flat_map-cons}
-use Rattle.std.proofs.lemmas.List.Elements.{All-nil, All-cons}
-use Rattle.std.proofs.lemmas.List.Splits.{slice_split_at, slice_split_none, length-slice_split}
-use Rattle.std.proofs.lemmas.Str.{IsUtf8-nil, IsUtf8-append, IsUtf8-encode, inside_one, encode_ascii, len_utf8_bounds, length-encode}
-use Rattle.std.proofs.Math.Utf8.{encode, scalars, scalar}
+use Rattle.std.proofs.lemmas.List.Splits.{join_with_byte-slice_split, slice_split_at, slice_split_none, length-slice_split}
 use Rattle.unicode_segmentation.specs.Grapheme.{graphemes, is_grapheme_break}
 use Rattle.unicode_segmentation.proofs.SegmentsLemmas.{concat-segments}
 use Rattle.pg_layout.specs.Text.{Text, lines_of, width_of, text_width_of, greatest}
 use Rattle.pg_fit.specs.declared.wrapping.Breaking.{Breaking}
 use Rattle.pg_fit.specs.declared.wrapping.Breaking.TheVariants.{Anywhere, BetweenWords}
-use Rattle.std.specs.List.{join_with_byte}
-use Rattle.pg_fit.specs.Wrapping.{Piece, fits, takes, filled, characters, before_words, words, indented, parted, pieces, wrapped_line, wrapped, least_line_width, least_width}
-use Rattle.pg_fit.specs.Laws.{EachFits, LinesStand, WrappedTextsFit}
-use Rattle.pg_fit.proofs.LawsOfLines.{lines_fit}
-use Rattle.pg_fit.proofs.WrappedLines.{wrapped_line-some}
+use Rattle.pg_fit.specs.Wrapping.{Piece, fits, takes, filled, characters, words, indented, parted, pieces, wrapped_line, wrapped, widest_character, least_line_width, before_words, least_width}
+use Rattle.pg_fit.specs.Laws.{EachFits, LinesFit, NothingIsLost, FittingTextsStay, LinesStand, WrappedTextsFit, OnlySpacesAreLost}
+use Rattle.pg_fit.proofs.PrintableBytes.{nothing_wide}
+use Rattle.pg_fit.proofs.FilledLines.{wrapped_line-fits, wrapped_line-some}
+use Rattle.std.specs.Str.{IsUtf8, encode_utf8_all}
+use Rattle.std.proofs.lemmas.List.Elements.{All-nil, All-cons}
+use Rattle.std.proofs.lemmas.Str.{IsUtf8-nil, IsUtf8-append, IsUtf8-encode, inside_one, encode_ascii, len_utf8_bounds, length-encode}
+use Rattle.std.proofs.Math.Utf8.{encode, scalars, scalar}
+use Rattle.std.proofs.lemmas.Grind.{flat_map-append}
+
+-- ---- lines that fit, from which nothing is lost
+
+-- ---- lines fit
+
+no_length : (bs : Text) → length bs ≡ 0 → bs ≡ []
+no_length [] h = refl
+no_length (b ∷ bs) h = absurd (omega arith)
+
+-- each piece fits
+abbrev PiecesFit : ℕ → List Piece → Type 0
+PiecesFit width [] = Unit {0}
+PiecesFit width (p ∷ ps) = (width_of p.text ≤ width) × PiecesFit width ps
+
+PiecesFit-append : (width : ℕ) (ps qs : List Piece) → PiecesFit width ps → PiecesFit width qs → PiecesFit width (ps ++ qs)
+PiecesFit-append width [] qs p q = q
+PiecesFit-append width (x ∷ ps) qs p q = (p.0, PiecesFit-append width ps qs p.1 q)
+
+-- a line stays within the width where it takes a piece that fits
+taken_fits : (width : ℕ) (line : Text) (p : Piece) → width_of p.text ≤ width → takes width line p ≡ true → width_of (line ++ (p.gap ++ p.text)) ≤ width
+taken_fits width line p low taken =
+    ⊎_elim
+    (λ (none : (length (line ++ p.gap) == 0) ≡ true).
+    let empty : line ++ p.gap ≡ [] = no_length (line ++ p.gap) (grind (arith, nat_tests)) in
+    let is : line ++ (p.gap ++ p.text) ≡ p.text = sym (append_assoc line p.gap p.text) ∙ ap (λ z. z ++ p.text) empty in
+    omega (arith, ap width_of is))
+    (λ (yes : fits width (line ++ (p.gap ++ p.text)) ≡ true). grind (arith, nat_tests))
+    (or_cases (length (line ++ p.gap) == 0) (fits width (line ++ (p.gap ++ p.text))) taken)
+
+filled_fits : (width : ℕ) (line : Text) (ps : List Piece) → width_of line ≤ width → PiecesFit width ps → EachFits width (filled width line ps)
+filled_fits width line [] low each = (low, tt)
+filled_fits width line (p ∷ ps) low each =
+    elim (takes width line p) as (λ v. takes width line p ≡ v → EachFits width (cond v (filled width (line ++ (p.gap ++ p.text)) ps) (line ∷ filled width p.text ps))) [
+      | true ↦ λ h. filled_fits width (line ++ (p.gap ++ p.text)) ps (taken_fits width line p each.0 h) each.1
+      | false ↦ λ h. (low, filled_fits width p.text ps each.0 each.1)
+    ] refl
+
+characters_fit : (width : ℕ) (gap : Text) (cs : List Text) → greatest (map width_of cs) ≤ width → PiecesFit width (characters gap cs)
+characters_fit width gap [] low = tt
+characters_fit width gap (c ∷ cs) low = (omega arith, characters_fit width [] cs (omega arith))
+
+parted_fits : (width : ℕ) (p : Piece) → widest_character p.text ≤ width → PiecesFit width (parted width p)
+parted_fits width p low =
+    elim (fits width p.text) as (λ v. fits width p.text ≡ v → PiecesFit width (cond v (p ∷ []) (characters p.gap (graphemes true p.text)))) [
+      | true ↦ λ h. (let is : width_of p.text ≤ width = grind (arith, nat_tests) in is, tt)
+      | false ↦ λ h. characters_fit width p.gap (graphemes true p.text) low
+    ] refl
+
+parted_fit : (width : ℕ) (ps : List Piece) → greatest (map (λ (p : Piece). widest_character p.text) ps) ≤ width → PiecesFit width (flat_map (parted width) ps)
+parted_fit width [] low = tt
+parted_fit width (p ∷ ps) low =
+    subst (PiecesFit width) (sym (flat_map-cons (parted width) p ps)) (PiecesFit-append width (parted width p) (flat_map (parted width) ps) (parted_fits width p (omega arith)) (parted_fit width ps (omega arith)))
+
+pieces_fit : (breaking : Breaking) (width : ℕ) (line : Text) → least_line_width breaking line ≤ width → PiecesFit width (pieces breaking width line)
+pieces_fit Anywhere width line low = characters_fit width [] (graphemes true line) low
+pieces_fit BetweenWords width line low = parted_fit width (indented (words line)) low
+
+pub lines_fit : LinesFit
+unfolding wrapped_line
+lines_fit breaking width line low =
+    elim (fits width line) as (λ v. fits width line ≡ v → EachFits width (cond v (line ∷ []) (filled width [] (pieces breaking width line)))) [
+      | true ↦ λ h. (let is : width_of line ≤ width = grind (arith, nat_tests) in is, tt)
+      | false ↦ λ h. filled_fits width [] (pieces breaking width line) (omega (arith, nothing_wide)) (pieces_fit breaking width line low)
+    ] refl
+
+-- ---- nothing is lost
+
+filled_whole : (width : ℕ) (line : Text) (cs : List Text) → concat (filled width line (characters [] cs)) ≡ line ++ concat cs
+filled_whole width line [] = refl
+filled_whole width line (c ∷ cs) =
+    elim (takes width line (record { gap = []; text = c })) as (λ v. concat (cond v (filled width (line ++ c) (characters [] cs)) (line ∷ filled width c (characters [] cs))) ≡ line ++ (c ++ concat cs)) [
+      | true ↦ filled_whole width (line ++ c) cs ∙ append_assoc line c (concat cs)
+      | false ↦ ap (λ z. line ++ z) (filled_whole width c cs)
+    ]
+
+pub nothing_is_lost : NothingIsLost
+unfolding wrapped_line
+nothing_is_lost width line utf8 =
+    elim (fits width line) as (λ v. concat (cond v (line ∷ []) (filled width [] (characters [] (graphemes true line)))) ≡ line) [
+      | true ↦ append-nil line
+      | false ↦ filled_whole width [] (graphemes true line) ∙ concat-segments (is_grapheme_break true) line utf8
+    ]
+
+-- ---- texts that fit stay
+
+wrapped_same : (breaking : Breaking) (width : ℕ) (lines : List Text) → greatest (map width_of lines) ≤ width → flat_map (wrapped_line breaking width) lines ≡ lines
+wrapped_same breaking width [] low = refl
+wrapped_same breaking width (line ∷ lines) low =
+    flat_map-cons (wrapped_line breaking width) line lines
+    ∙ ap (λ z. z ++ flat_map (wrapped_line breaking width) lines) (wrapped_line-fits breaking width line (omega arith))
+    ∙ ap (λ z. line ∷ z) (wrapped_same breaking width lines (omega arith))
+
+pub fitting_texts_stay : FittingTextsStay
+unfolding wrapped text_width_of lines_of
+fitting_texts_stay breaking width text low = ap (join_with_byte 10) (wrapped_same breaking width (lines_of text) low) ∙ join_with_byte-slice_split 10 text
+
+-- ---- the lines of wrapped texts
 
 -- ---- texts without line feeds
 
@@ -322,3 +419,144 @@ words-texts line utf8 = subst (λ (z : Text). EachTexts (words z)) utf8.1.1 (enc
 pub indented-texts : (ps : List Piece) → EachTexts ps → EachTexts (indented ps)
 indented-texts [] each = tt
 indented-texts (p ∷ ps) each = (IsUtf8-nil, IsUtf8-append p.gap p.text each.0 each.1, each.2)
+
+-- ---- between words nothing but spaces is left out
+
+-- a text without its spaces
+abbrev kept : Text → Text
+kept text = filter (λ b. not (b == 32)) text
+
+kept-append : (xs ys : Text) → kept (xs ++ ys) ≡ kept xs ++ kept ys
+kept-append [] ys = refl
+kept-append (x ∷ xs) ys =
+    elim (not (x == 32)) as (λ v. cond v (x ∷ kept (xs ++ ys)) (kept (xs ++ ys)) ≡ cond v (x ∷ kept xs) (kept xs) ++ kept ys) [
+      | true ↦ ap (λ z. x ∷ z) (kept-append xs ys)
+      | false ↦ kept-append xs ys
+    ]
+
+-- the texts of pieces without their spaces
+abbrev texts_kept : List Piece → Text
+texts_kept ps = flat_map (λ (p : Piece). kept p.text) ps
+
+-- gaps are of spaces
+abbrev EachSpaces : List Piece → Type 0
+EachSpaces [] = Unit {0}
+EachSpaces (p ∷ ps) = (kept p.gap ≡ []) × EachSpaces ps
+
+space : (b : ℕ) (bs : Text) → (b == 32) ≡ true → kept (b ∷ bs) ≡ kept bs
+space b bs h = ap (λ v. cond (not v) (b ∷ kept bs) (kept bs)) h
+
+other : (b : ℕ) (bs : Text) → (b == 32) ≡ false → kept (b ∷ bs) ≡ b ∷ kept bs
+other b bs h = ap (λ v. cond (not v) (b ∷ kept bs) (kept bs)) h
+
+-- ---- words
+
+before-kept : (b : ℕ) (ps : List Piece) (v : Bool) → (b == 32) ≡ v → texts_kept (before_words b ps) ≡ cond (not v) (b ∷ texts_kept ps) (texts_kept ps)
+before-kept b [] true h = ap (λ v. texts_kept (cond v [] (record { gap = []; text = b ∷ [] } ∷ []))) h
+before-kept b [] false h = ap (λ v. texts_kept (cond v [] (record { gap = []; text = b ∷ [] } ∷ []))) h ∙ ap (λ z. z ++ []) (other b [] h)
+before-kept b (p ∷ ps) true h = ap (λ v. texts_kept (cond v (record { gap = b ∷ p.gap; text = p.text } ∷ ps) (cond (length p.gap == 0) (record { gap = []; text = b ∷ p.text } ∷ ps) (record { gap = []; text = b ∷ [] } ∷ p ∷ ps)))) h
+before-kept b (p ∷ ps) false h =
+    ap (λ v. texts_kept (cond v (record { gap = b ∷ p.gap; text = p.text } ∷ ps) (cond (length p.gap == 0) (record { gap = []; text = b ∷ p.text } ∷ ps) (record { gap = []; text = b ∷ [] } ∷ p ∷ ps)))) h
+    ∙ elim (length p.gap == 0) as (λ w. texts_kept (cond w (record { gap = []; text = b ∷ p.text } ∷ ps) (record { gap = []; text = b ∷ [] } ∷ p ∷ ps)) ≡ b ∷ (kept p.text ++ texts_kept ps)) [
+      | true ↦ ap (λ z. z ++ texts_kept ps) (other b p.text h)
+      | false ↦ ap (λ z. z ++ (kept p.text ++ texts_kept ps)) (other b [] h)
+    ]
+
+words-kept : (bs : Text) → texts_kept (words bs) ≡ kept bs
+words-kept [] = refl
+words-kept (b ∷ bs) =
+    elim (b == 32) as (λ v. (b == 32) ≡ v → texts_kept (before_words b (words bs)) ≡ cond (not v) (b ∷ kept bs) (kept bs)) [
+      | true ↦ λ h. before-kept b (words bs) true h ∙ words-kept bs
+      | false ↦ λ h. before-kept b (words bs) false h ∙ ap (λ z. b ∷ z) (words-kept bs)
+    ] refl
+
+before-spaces : (b : ℕ) (ps : List Piece) (v : Bool) → (b == 32) ≡ v → EachSpaces ps → EachSpaces (before_words b ps)
+before-spaces b [] true h each = subst EachSpaces (sym (ap (λ v. cond v [] (record { gap = []; text = b ∷ [] } ∷ [])) h)) tt
+before-spaces b [] false h each = subst EachSpaces (sym (ap (λ v. cond v [] (record { gap = []; text = b ∷ [] } ∷ [])) h)) (refl, tt)
+before-spaces b (p ∷ ps) true h each =
+    subst EachSpaces (sym (ap (λ v. cond v (record { gap = b ∷ p.gap; text = p.text } ∷ ps) (cond (length p.gap == 0) (record { gap = []; text = b ∷ p.text } ∷ ps) (record { gap = []; text = b ∷ [] } ∷ p ∷ ps))) h)) (space b p.gap h ∙ each.0, each.1)
+before-spaces b (p ∷ ps) false h each =
+    subst EachSpaces (sym (ap (λ v. cond v (record { gap = b ∷ p.gap; text = p.text } ∷ ps) (cond (length p.gap == 0) (record { gap = []; text = b ∷ p.text } ∷ ps) (record { gap = []; text = b ∷ [] } ∷ p ∷ ps))) h))
+    (elim (length p.gap == 0) as (λ w. EachSpaces (cond w (record { gap = []; text = b ∷ p.text } ∷ ps) (record { gap = []; text = b ∷ [] } ∷ p ∷ ps))) [
+      | true ↦ (refl, each.1)
+      | false ↦ (refl, each)
+    ])
+
+words-spaces : (bs : Text) → EachSpaces (words bs)
+words-spaces [] = tt
+words-spaces (b ∷ bs) = before-spaces b (words bs) (b == 32) refl (words-spaces bs)
+
+indented-kept : (ps : List Piece) → EachSpaces ps → texts_kept (indented ps) ≡ texts_kept ps
+indented-kept [] each = refl
+indented-kept (p ∷ ps) each = ap (λ z. z ++ texts_kept ps) (kept-append p.gap p.text ∙ ap (λ z. z ++ kept p.text) each.0)
+
+indented-spaces : (ps : List Piece) → EachSpaces ps → EachSpaces (indented ps)
+indented-spaces [] each = tt
+indented-spaces (p ∷ ps) each = (refl, each.1)
+
+-- ---- pieces, of words that are UTF-8
+
+characters-kept : (gap : Text) (cs : List Text) → texts_kept (characters gap cs) ≡ kept (concat cs)
+characters-kept gap [] = refl
+characters-kept gap (c ∷ cs) = ap (λ z. kept c ++ z) (characters-kept [] cs) ∙ sym (kept-append c (concat cs))
+
+characters-spaces : (gap : Text) (cs : List Text) → kept gap ≡ [] → EachSpaces (characters gap cs)
+characters-spaces gap [] h = tt
+characters-spaces gap (c ∷ cs) h = (h, characters-spaces [] cs refl)
+
+EachSpaces-append : (ps qs : List Piece) → EachSpaces ps → EachSpaces qs → EachSpaces (ps ++ qs)
+EachSpaces-append [] qs p q = q
+EachSpaces-append (x ∷ ps) qs p q = (p.0, EachSpaces-append ps qs p.1 q)
+
+abbrev EachUtf8 : List Piece → Type 0
+EachUtf8 [] = Unit {0}
+EachUtf8 (p ∷ ps) = IsUtf8 p.text × EachUtf8 ps
+
+parted-one : (width : ℕ) (p : Piece) → IsUtf8 p.text → texts_kept (parted width p) ≡ kept p.text
+parted-one width p utf8 =
+    elim (fits width p.text) as (λ v. texts_kept (cond v (p ∷ []) (characters p.gap (graphemes true p.text))) ≡ kept p.text) [
+      | true ↦ append-nil (kept p.text)
+      | false ↦ characters-kept p.gap (graphemes true p.text) ∙ ap kept (concat-segments (is_grapheme_break true) p.text utf8)
+    ]
+
+parted-kept : (width : ℕ) (ps : List Piece) → EachUtf8 ps → texts_kept (flat_map (parted width) ps) ≡ texts_kept ps
+parted-kept width [] each = refl
+parted-kept width (p ∷ ps) each =
+    ap texts_kept (flat_map-cons (parted width) p ps) ∙ flat_map-append (λ (q : Piece). kept q.text) (parted width p) (flat_map (parted width) ps)
+    ∙ ap (λ z. z ++ texts_kept (flat_map (parted width) ps)) (parted-one width p each.0) ∙ ap (λ z. kept p.text ++ z) (parted-kept width ps each.1)
+
+parted-spaces : (width : ℕ) (ps : List Piece) → EachSpaces ps → EachSpaces (flat_map (parted width) ps)
+parted-spaces width [] each = tt
+parted-spaces width (p ∷ ps) each =
+    subst EachSpaces (sym (flat_map-cons (parted width) p ps))
+    (EachSpaces-append (parted width p) (flat_map (parted width) ps)
+    (elim (fits width p.text) as (λ v. EachSpaces (cond v (p ∷ []) (characters p.gap (graphemes true p.text)))) [
+      | true ↦ (each.0, tt)
+      | false ↦ characters-spaces p.gap (graphemes true p.text) each.0
+    ]) (parted-spaces width ps each.1))
+
+filled-kept : (width : ℕ) (line : Text) (ps : List Piece) → EachSpaces ps → kept (concat (filled width line ps)) ≡ kept line ++ texts_kept ps
+filled-kept width line [] each = ap kept (append-nil line) ∙ sym (append-nil (kept line))
+filled-kept width line (p ∷ ps) each =
+    elim (takes width line p) as (λ v. kept (concat (cond v (filled width (line ++ (p.gap ++ p.text)) ps) (line ∷ filled width p.text ps))) ≡ kept line ++ (kept p.text ++ texts_kept ps)) [
+      | true ↦ filled-kept width (line ++ (p.gap ++ p.text)) ps each.1
+          ∙ ap (λ z. z ++ texts_kept ps) (kept-append line (p.gap ++ p.text) ∙ ap (λ z. kept line ++ z) (kept-append p.gap p.text ∙ ap (λ z. z ++ kept p.text) each.0))
+          ∙ append_assoc (kept line) (kept p.text) (texts_kept ps)
+      | false ↦ kept-append line (concat (filled width p.text ps)) ∙ ap (λ z. kept line ++ z) (filled-kept width p.text ps each.1)
+    ]
+
+EachUtf8-words : (ps : List Piece) → EachTexts ps → EachUtf8 ps
+EachUtf8-words [] each = tt
+EachUtf8-words (p ∷ ps) each = (each.1, EachUtf8-words ps each.2)
+
+pub only_spaces_are_lost : OnlySpacesAreLost
+unfolding wrapped_line
+only_spaces_are_lost width line utf8 =
+    let texts = indented-texts (words line) (words-texts line utf8) in
+    elim (fits width line) as (λ v. kept (concat (cond v (line ∷ []) (filled width [] (pieces BetweenWords width line)))) ≡ kept line) [
+      | true ↦ ap kept (append-nil line)
+      | false ↦ filled-kept width [] (pieces BetweenWords width line) (parted-spaces width (indented (words line)) (indented-spaces (words line) (words-spaces line)))
+          ∙ parted-kept width (indented (words line)) (EachUtf8-words (indented (words line)) texts)
+          ∙ indented-kept (words line) (words-spaces line)
+          ∙ words-kept line
+    ]

@@ -1,26 +1,10 @@
 -- Lemmas of this crate.
-pub mod JoinedLines
 pub mod FilledLines
-pub mod CharactersOfParts
 pub mod WordsOfTexts
-pub mod WrappedLines
-pub mod LeastWidths
-pub mod LongerEnds
-pub mod LawsOfLines
-pub mod CutLines
+pub mod NarrowedWidths
 pub mod LawsOfCuts
 pub mod LawsOfTexts
-pub mod LawsOfSpaces
-pub mod LawsOfCutTexts
-pub mod LawsOfCutsAway
 pub mod LawsOfControls
-pub mod LawsOfEscapes
 pub mod PrintableBytes
-pub mod RowsByWidth
-pub mod CutRows
-pub mod Levels
-pub mod HandedOut
-pub mod NarrowedWidths
 pub mod OverlaidTexts
-pub mod AddedWidths
 pub mod PrintableLines

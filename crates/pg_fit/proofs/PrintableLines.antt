@@ -15,8 +15,7 @@ use Rattle.unicode_segmentation.specs.Grapheme.{graphemes, is_grapheme_break}
 use Rattle.unicode_segmentation.specs.Segments.{cut, prepend, segments}
 use Rattle.unicode_segmentation.proofs.GraphemeLemmas.{is_grapheme_break-others}
 use Rattle.pg_layout.specs.Text.{Text, width_of, greatest, is_plain_byte}
-use Rattle.pg_layout.proofs.TextLines.{lines_of-one}
-use Rattle.pg_layout.proofs.TextWidths.{width_of-plain, feed_place-plain}
+use Rattle.pg_layout.proofs.TextLines.{lines_of-one, width_of-plain, feed_place-plain}
 use Rattle.pg_fit.specs.declared.wrapping.Breaking.{Breaking}
 use Rattle.pg_fit.specs.declared.wrapping.Breaking.TheVariants.{Anywhere, BetweenWords}
 use Rattle.pg_fit.specs.Printable.{is_printable}

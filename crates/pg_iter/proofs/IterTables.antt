@@ -12,12 +12,11 @@ use Rattle.pg_picture.specs.Fitting.{TableFits}
 use Rattle.pg_picture.specs.Fits.{misfit_of}
 use Rattle.pg_picture.specs.Picture.{picture}
 use Rattle.pg_picture.specs.Table.{Table, is_empty}
-use Rattle.pg_picture.proofs.Rooms.{fits}
+use Rattle.pg_picture.proofs.FirstPlaces.{fits}
 use Rattle.pg_stream.specs.Conditions.{AreRowsFrom, PrinterFits, RowsFit}
 use Rattle.pg_stream.specs.Laws.{texts_of}
 use Rattle.pg_stream.specs.Printing.{Printing, hint_of, printer, rows_text}
-use Rattle.pg_stream.proofs.FittingRows.{may-be-printed}
-use Rattle.pg_stream.proofs.PicturesOfRows.{rows-make}
+use Rattle.pg_stream.proofs.PicturesOfRows.{may-be-printed, rows-make}
 use Rattle.pg_stream.proofs.RowsInTurn.{next-row}
 
 -- a list is what it has at its places

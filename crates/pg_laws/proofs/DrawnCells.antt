@@ -1,24 +1,39 @@
--- A shown cell is drawn in each line of its rectangle, and these lines stand together.
-use Rattle.std.proofs.Common.{◌≡◌, ℕ, suc, ◌+◌, ◌-◌, ◌<◌, ◌≤◌, Bool, true, false, ◌&&◌, nat_lt, List, [], ◌∷◌, ◌++◌, map, filter, refl, sym, ap, ◌∙◌, arith, append_assoc, subst, inl, inr}
-use Rattle.std.specs.List.{All, range_with_len}
-use Rattle.std.proofs.lemmas.List.Elements.{All-nil, All-cons, All-head, All-tail}
-use Rattle.std.proofs.lemmas.Bool.{cases_Bool}
+-- A shown cell is drawn once in each line of its rectangle.
+use Rattle.std.proofs.Common.{◌≡◌, ℕ, suc, ◌+◌, ◌-◌, ◌<◌, ◌≤◌, Bool, true, false, ◌&&◌, nat_lt, List, [], ◌∷◌, ◌++◌, map, filter, refl, sym, ap, ◌∙◌, arith, append_assoc, subst, inl, inr, zero, length, ap₂, append-nil, length-append, one-add, slice_index_or, min, cond, not, ◌||◌, ◌==◌, flat_map, Option, unwrap_or}
+use Rattle.std.specs.List.{All, range_with_len, enumerate_from, list_any}
+use Rattle.std.proofs.lemmas.List.Elements.{All-nil, All-cons, All-head, All-tail, All-map, All-same, filter-append, All-weaker}
+use Rattle.std.proofs.lemmas.Bool.{cases_Bool, and_parts, or_parts}
 use Rattle.std.proofs.lemmas.Bool.Decides.{nat_tests}
 use Rattle.pg_layout.specs.declared.position.Position.{Position}
-use Rattle.pg_layout.specs.Position.{is_at}
-use Rattle.pg_config.specs.Config.{Config, has_horizontal}
-use Rattle.pg_config.specs.Spans.{owner, rect_rows, rect_columns, is_left, same_owner, begins_above}
-use Rattle.pg_picture.specs.Marks.{Mark, sep, line, only_if, marks_of_row, marks_above, body, stands_within, marks_within}
-use Rattle.pg_picture.specs.Pieces.{block}
-use Rattle.pg_picture.specs.Table.{Table, rect_marks, block_at, is_inside, is_covered, vertical, crossing, column_items, separator_part, table_body}
-use Rattle.pg_picture.proofs.Owners.{HasOwners, apart_from, owners_of}
+use Rattle.pg_layout.specs.Position.{is_at, at}
+use Rattle.pg_config.specs.Config.{Config, has_horizontal, has_vertical, count_vertical, get_horizontal, get_vertical, get_intersection, get_horizontal_color, get_vertical_color, get_intersection_color, get_padding, get_padding_color, get_alignment_horizontal, get_alignment_vertical, get_formatting, get_justification, get_justification_color}
+use Rattle.pg_config.specs.Spans.{owner, rect_rows, rect_columns, is_left, same_owner, begins_above, Span, in_span, has_row_spans, size_of, span_size}
+use Rattle.pg_picture.specs.Marks.{Mark, sep, line, only_if, marks_of_row, marks_above, body, stands_within, marks_within, same_mark, place_of}
+use Rattle.pg_picture.specs.Pieces.{block, Piece, style_at, block_line, pieces_width, Style, written, separator_text, shown, lines_above, inner_width, left_share, text_line, text_height, text_top}
+use Rattle.pg_picture.specs.Table.{Table, rect_marks, block_at, is_inside, is_covered, vertical, crossing, column_items, separator_part, table_body, rect_height, rect_width, Hint, vertical_at, row_part, line_of_row, crossing_at, separator_items, total_width, full_width, side_margin, margin_lines, mark_text, body_line}
+use Rattle.pg_picture.proofs.Owners.{HasOwners, apart_from, owners_of, is_at-same}
 use Rattle.pg_picture.proofs.FittingTables.{RectInside, rect_inside}
-use Rattle.pg_picture.proofs.MarksOfBodies.{All-body}
-use Rattle.pg_picture.proofs.MarksOfRectangles.{rows_from, row_lines, run_of, marks_above-add, marks_within-run}
-use Rattle.pg_picture.proofs.PartsOfColumns.{row-begins, row-inside, no-crossing, column-inside, column-begins}
-use Rattle.pg_picture.proofs.ReachOfRectangles.{is_at-same}
+use Rattle.pg_picture.proofs.Pictures.{All-body, All-enumerate_from, body-same, map-same}
+use Rattle.pg_picture.proofs.MarksOfRectangles.{rows_from, row_lines, run_of, marks_above-add, marks_within-run, NonePasses, NonePasses-append, none_sep, sep_lines, line_not_above}
+use Rattle.pg_picture.proofs.WalksOfRows.{row-begins, row-inside, no-crossing, column-inside, column-begins}
 use Rattle.pg_picture.proofs.StraightColumns.{fits-columns}
-use Rattle.pg_laws.specs.Laws.{IsDrawn, ShownCellsAreDrawn, StandTogether, RectanglesStandTogether}
+use Rattle.pg_laws.specs.Laws.{IsDrawn, ShownCellsAreDrawn, StandTogether, RectanglesStandTogether, BlocksAreDrawn, BlocksFill, block_of, aligned_down, IsFull, FullCellsIgnoreAlignment, HasSingleLines, SingleLinesIgnoreAlignment}
+use Rattle.std.proofs.lemmas.List.{length-map}
+use Rattle.std.proofs.lemmas.Simd.{map-map}
+use Rattle.pg_picture.proofs.PlacesOfTexts.{block_line-width, length-shown, lines_above-none}
+use mathlib.Core.Path.{fun_ext}
+use Rattle.pg_layout.specs.declared.position.ColumnPlace.{ColumnPlace}
+use Rattle.pg_layout.specs.Keys.{by_columns, column_place}
+use Rattle.pg_layout.specs.declared.alignment.AlignmentVertical.{AlignmentVertical}
+use Rattle.pg_layout.specs.Places.{same, value_at}
+use Rattle.pg_layout.specs.Colors.{Color}
+use Rattle.pg_layout.specs.Text.{Text}
+use Rattle.pg_config.specs.Settings.{Settings}
+use Rattle.pg_picture.specs.Joined.{joined}
+use Rattle.pg_picture.specs.Picture.{top_lines, bottom_lines, body_lines, picture_lines, picture}
+use Rattle.pg_picture.proofs.PlainTables.{rect_height-one_row}
+
+-- ---- a shown cell is drawn in each line of its rectangle, and these lines stand together
 
 -- ---- the lines of a rectangle
 
@@ -146,3 +161,248 @@ unfolding rect_marks table_body
 rectangles_stand_together t p some inside =
     let e : suc (rect_rows t.config.spans p - 1) ≡ rect_rows t.config.spans p = omega (arith, some) in
     subst (λ n. StandTogether (marks_within t.config t.height t.rows p.row (p.row + n)) (body t.config t.height t.rows)) e (together t.config t.height p.row (rect_rows t.config.spans p - 1) t.rows (omega (arith, some, inside)))
+
+-- ---- the marks of a rectangle are all different, so they draw each line of its block once
+
+-- no mark of the list stands before it already, nor among those before the list
+AllNew : List Mark → List Mark → Type 0
+AllNew before [] = Unit {0}
+AllNew before (m ∷ ms) = NonePasses (same_mark m) before × AllNew (before ++ m ∷ []) ms
+
+AllNew-append : (before xs ys : List Mark) → AllNew before xs → AllNew (before ++ xs) ys → AllNew before (xs ++ ys)
+unfolding AllNew
+AllNew-append before [] ys h k = subst (λ l. AllNew l ys) (append-nil before) k
+AllNew-append before (x ∷ xs) ys h k = (h.0, AllNew-append (before ++ x ∷ []) xs ys h.1 (subst (λ l. AllNew l ys) (sym (append_assoc before (x ∷ []) xs)) k))
+
+NonePasses-filter : (e p : Mark → Bool) (xs : List Mark) → NonePasses e xs → NonePasses e (filter p xs)
+NonePasses-filter e p [] h = tt
+NonePasses-filter e p (x ∷ xs) h = elim (cases_Bool (p x)) [ inl y ↦ rw y (h.0, NonePasses-filter e p xs h.1) | inr n ↦ rw n (NonePasses-filter e p xs h.1) ]
+
+AllNew-filter : (p : Mark → Bool) (before xs : List Mark) → AllNew before xs → AllNew (filter p before) (filter p xs)
+unfolding AllNew
+AllNew-filter p before [] h = tt
+AllNew-filter p before (x ∷ xs) h =
+    let more = filter-append p before (x ∷ []) in
+    let rest = AllNew-filter p (before ++ x ∷ []) xs h.1 in
+    elim (cases_Bool (p x)) [
+      | inl y ↦ rw y (NonePasses-filter (same_mark x) p before h.0, subst (λ l. AllNew l (filter p xs)) (more ∙ ap (λ l. filter p before ++ l) (rw y refl)) rest)
+      | inr n ↦ rw n (subst (λ l. AllNew l (filter p xs)) (more ∙ ap (λ l. filter p before ++ l) (rw n refl) ∙ append-nil (filter p before)) rest)
+    ]
+
+-- the lines of a row from line a on, where none of them stands before
+lines-new : (before : List Mark) (r a k : ℕ) → ((i : ℕ) → a ≤ i → NonePasses (same_mark (line r i)) before) → AllNew before (map (line r) (range_with_len a k))
+unfolding AllNew
+lines-new before r a zero h = tt
+lines-new before r a (suc k) h = (
+  h a (omega arith),
+  lines-new (before ++ line r a ∷ []) r (a + 1) k (λ i l. NonePasses-append (same_mark (line r i)) before (line r a ∷ []) (h i (omega arith)) (grind (arith, nat_tests), tt)),
+)
+
+sep-new : (before : List Mark) (b : Bool) (r : ℕ) → NonePasses (same_mark (sep r)) before → AllNew before (only_if b (sep r))
+unfolding AllNew
+sep-new before true r h = (h, tt)
+sep-new before false r h = tt
+
+module _ (config : Config) (height : ℕ → ℕ) where
+  sep_not_above : (r s : ℕ) → s ≤ r → NonePasses (same_mark (sep r)) (marks_above config height s)
+  unfolding marks_above marks_of_row
+  sep_not_above r zero h = tt
+  sep_not_above r (suc s) h =
+      NonePasses-append (same_mark (sep r)) (marks_above config height s) (marks_of_row config height s) (sep_not_above r s (omega arith))
+      (NonePasses-append (same_mark (sep r)) (only_if (has_horizontal config s (s + 1)) (sep s)) (map (line s) (range_with_len 0 (height s)))
+      (none_sep (sep r) _ s (grind (arith, nat_tests))) (sep_lines r s 0 (height s)))
+
+  row-new : (r : ℕ) → AllNew (marks_above config height r) (marks_of_row config height r)
+  unfolding marks_of_row
+  row-new r =
+      let separator = only_if (has_horizontal config r (r + 1)) (sep r) in
+      AllNew-append (marks_above config height r) separator (map (line r) (range_with_len 0 (height r)))
+      (sep-new (marks_above config height r) (has_horizontal config r (r + 1)) r (sep_not_above r r (omega arith)))
+      (lines-new (marks_above config height r ++ separator) r 0 (height r)
+      (λ i l. NonePasses-append (same_mark (line r i)) (marks_above config height r) separator (line_not_above config height r i r (omega arith)) (none_sep (line r i) _ r refl)))
+
+  above-new : (r : ℕ) → AllNew [] (marks_above config height r)
+  unfolding marks_above AllNew
+  above-new zero = tt
+  above-new (suc r) = AllNew-append [] (marks_above config height r) (marks_of_row config height r) (above-new r) (row-new r)
+
+  -- no mark stands twice in a body
+  body-new : (rows : ℕ) → AllNew [] (body config height rows)
+  unfolding body
+  body-new rows =
+      AllNew-append [] (marks_above config height rows) (only_if (has_horizontal config rows rows) (sep rows)) (above-new rows)
+      (sep-new (marks_above config height rows) (has_horizontal config rows rows) rows (sep_not_above rows rows (omega arith)))
+
+same_mark-same : (m : Mark) → same_mark m m ≡ true
+same_mark-same (sep r) = grind (arith, nat_tests)
+same_mark-same (line r i) = grind (arith, nat_tests)
+
+-- a mark stands after those before it
+place_of-new : (m : Mark) (before after : List Mark) → NonePasses (same_mark m) before → place_of m (before ++ m ∷ after) ≡ length before
+unfolding place_of
+place_of-new m [] after h = rw (same_mark-same m) refl
+place_of-new m (x ∷ before) after h = rw h.0 (rw one-add (ap suc (place_of-new m before after h.1)))
+
+places-new : (before ms : List Mark) → AllNew before ms → map (λ m. place_of m (before ++ ms)) ms ≡ range_with_len (length before) (length ms)
+unfolding AllNew
+places-new before [] h = refl
+places-new before (m ∷ ms) h =
+    let all : (before ++ m ∷ []) ++ ms ≡ before ++ m ∷ ms = append_assoc before (m ∷ []) ms in
+    let more : length (before ++ m ∷ []) ≡ length before + 1 = length-append before (m ∷ []) in
+    ap₂ (λ (n : ℕ) (ns : List ℕ). n ∷ ns) (place_of-new m before ms h.0)
+    (ap (λ l. map (λ x. place_of x l) ms) (sym all) ∙ places-new (before ++ m ∷ []) ms h.1 ∙ ap (λ n. range_with_len n (length ms)) more)
+
+-- the places of a rectangle's marks are the numbers from 0 on
+places-rect : (t : Table) (p : Position) → map (λ m. place_of m (rect_marks t p)) (rect_marks t p) ≡ range_with_len 0 (rect_height t p)
+unfolding rect_height rect_marks marks_within
+places-rect t p =
+    places-new [] (filter (stands_within p.row (p.row + rect_rows t.config.spans p)) (body t.config t.height t.rows))
+    (AllNew-filter (stands_within p.row (p.row + rect_rows t.config.spans p)) [] (body t.config t.height t.rows) (body-new t.config t.height t.rows))
+
+pub blocks_are_drawn : BlocksAreDrawn
+unfolding block_at
+blocks_are_drawn t p =
+    let at_place : ℕ → List Piece = block_line (style_at t.config p) (t.color p) (t.text p) (rect_width t p) (rect_height t p) in
+    sym (map-map at_place (λ m. place_of m (rect_marks t p)) (rect_marks t p)) ∙ ap (λ l. map at_place l) (places-rect t p)
+
+pub blocks_fill : BlocksFill
+blocks_fill t p narrow fits =
+    let lines : ℕ → List Piece = block_line (style_at t.config p) (t.color p) (t.text p) (rect_width t p) (rect_height t p) in
+    let wide : List Piece → Type 0 = λ pieces. pieces_width pieces ≡ rect_width t p in
+    record {
+      high = unfold rect_height in length-map (rect_marks t p) (block_at t p);
+      wide = All-same wide (map (block_at t p) (rect_marks t p)) (block_of t p) (blocks_are_drawn t p)
+          (All-map wide lines (range_with_len 0 (rect_height t p)) (λ k d l. block_line-width (style_at t.config p) (t.color p) (rect_width t p) narrow (t.text p) (rect_height t p) (slice_index_or (range_with_len 0 (rect_height t p)) k d) fits));
+    }
+
+-- ---- where nothing is free below a text, its vertical alignment changes nothing
+
+-- ---- a cell
+
+-- nothing stands above a text that takes all lines
+above-full : (down : AlignmentVertical) (count free : ℕ) → free ≤ count → lines_above down free (min count free) ≡ 0
+above-full down count free full = let all : min count free ≡ free = omega arith in ap (lines_above down free) all ∙ lines_above-none down free
+
+block_line-full : (style : Style) (down : AlignmentVertical) (color : Option Color) (text : Text) (w h i : ℕ) → h - style.padding.top.size ≤ length (shown style.formatting text)
+    → block_line (record style { down = down }) color text w h i ≡ block_line style color text w h i
+unfolding block_line text_top text_height text_line left_share inner_width
+block_line-full style down color text w h i full =
+    rw (above-full down (length (shown style.formatting text)) (h - style.padding.top.size) full, above-full style.down (length (shown style.formatting text)) (h - style.padding.top.size) full) refl
+
+-- an owner stands at or before its places
+owner-before : (spans : List Span) (r c : ℕ) → ((owner spans r c).row ≤ r) × ((owner spans r c).col ≤ c)
+unfolding owner
+owner-before [] r c = (omega arith, omega arith)
+owner-before (s ∷ ss) r c = elim (cases_Bool (in_span r c s)) [ inl y ↦ rw y (grind (arith, nat_tests), grind (arith, nat_tests)) | inr n ↦ rw n (owner-before ss r c) ]
+
+if-same : {A : Type 0} (b : Bool) {x y : A} (z : A) → (b ≡ true → x ≡ y) → cond b x z ≡ cond b y z
+if-same true z same = same refl
+if-same false z same = refl
+
+-- ---- a table with other alignments
+
+module _ (down : Settings AlignmentVertical) (t : Table) where
+  style-aligned : (p : Position) → style_at (aligned_down down t).config p ≡ record (style_at t.config p) { down = get_alignment_vertical (aligned_down down t).config p }
+  unfolding style_at get_padding get_padding_color get_alignment_horizontal get_formatting get_justification get_justification_color
+  style-aligned p = refl
+
+  body-aligned : body (aligned_down down t).config t.height t.rows ≡ body t.config t.height t.rows
+  unfolding has_horizontal
+  body-aligned = body-same (aligned_down down t).config t.config t.height (λ r n. refl) t.rows
+
+  rect_marks-aligned : (p : Position) → rect_marks (aligned_down down t) p ≡ rect_marks t p
+  unfolding rect_marks marks_within
+  rect_marks-aligned p = ap (λ l. filter (stands_within p.row (p.row + rect_rows t.config.spans p)) l) body-aligned
+
+  rect_width-aligned : (p : Position) → rect_width (aligned_down down t) p ≡ rect_width t p
+  unfolding rect_width has_vertical
+  rect_width-aligned p = refl
+
+  block_at-aligned : (p : Position) (mark : Mark) → IsFull t p → block_at (aligned_down down t) p mark ≡ block_at t p mark
+  unfolding block_at rect_height style_at
+  block_at-aligned p mark full =
+      let moved : Style = record (style_at t.config p) { down = get_alignment_vertical (aligned_down down t).config p } in
+      let line_of : Style → ℕ → ℕ → ℕ → List Piece = λ style w h i. block_line style (t.color p) (t.text p) w h i in
+      ap (λ l. line_of (style_at (aligned_down down t).config p) (rect_width (aligned_down down t) p) (length l) (place_of mark l)) (rect_marks-aligned p)
+      ∙ ap₂ (λ style w. line_of style w (length (rect_marks t p)) (place_of mark (rect_marks t p))) (style-aligned p) (rect_width-aligned p)
+      ∙ block_line-full (style_at t.config p) (get_alignment_vertical (aligned_down down t).config p) (t.color p) (t.text p) (rect_width t p) (length (rect_marks t p)) (place_of mark (rect_marks t p)) full
+
+  module _ (full : (r c : ℕ) → r < t.rows → c < t.columns → IsFull t (at r c)) where
+    owner-full : (r c : ℕ) → r < t.rows → c < t.columns → IsFull t (owner t.config.spans r c)
+    owner-full r c h k = let before = owner-before t.config.spans r c in full (owner t.config.spans r c).row (owner t.config.spans r c).col (omega (arith, before.0)) (omega (arith, before.1))
+
+    row_part-aligned : (r i x : ℕ) → r < t.rows → row_part (aligned_down down t) r i x ≡ row_part t r i x
+    unfolding row_part is_inside vertical_at get_vertical get_vertical_color has_vertical
+    row_part-aligned r i x h =
+        let own : Position = owner t.config.spans r x in
+        ap (λ l. (cond (is_inside t r x) [] (vertical_at t.config t.columns (t.height r) (at r x) i)) ++ l)
+        (if-same (nat_lt x t.columns && is_left t.config.spans r x) [] (λ here. block_at-aligned own (line r i) (owner-full r x h (let inside = (and_parts (nat_lt x t.columns) (is_left t.config.spans r x) here).0 in grind (arith, nat_tests, inside)))))
+
+    column_items-aligned : (r x : ℕ) → column_items (aligned_down down t) r x ≡ column_items t r x
+    unfolding column_items is_covered get_horizontal get_horizontal_color has_horizontal
+    column_items-aligned r x =
+        let own : Position = owner t.config.spans r x in
+        if-same (is_covered t r x) _
+        (λ covered.
+        let inside = (and_parts (nat_lt r t.rows && nat_lt x t.columns) (begins_above t.config.spans r x) covered).0 in
+        ap (λ l. only_if (is_left t.config.spans r x) (block l)) (block_at-aligned own (sep r) (owner-full r x (grind (arith, nat_tests, inside)) (grind (arith, nat_tests, inside)))))
+
+    separator_part-aligned : (r x : ℕ) → separator_part (aligned_down down t) r x ≡ separator_part t r x
+    unfolding separator_part crossing crossing_at is_inside is_covered get_intersection get_intersection_color has_horizontal has_vertical
+    separator_part-aligned r x = ap (λ l. crossing t r x ++ l) (column_items-aligned r x)
+
+    mark_text-line : (r i : ℕ) → r < t.rows → mark_text (aligned_down down t) (line r i) ≡ mark_text t (line r i)
+    unfolding mark_text line_of_row
+    mark_text-line r i h = ap (λ part. written (flat_map part (range_with_len 0 (t.columns + 1)))) (fun_ext (λ x. row_part-aligned r i x h))
+
+    mark_text-sep : (r : ℕ) → mark_text (aligned_down down t) (sep r) ≡ mark_text t (sep r)
+    unfolding mark_text separator_items
+    mark_text-sep r = ap (λ part. separator_text (flat_map part (range_with_len 0 (t.columns + 1)))) (fun_ext (λ x. separator_part-aligned r x))
+
+    body_line-aligned : (hint : Hint) (h i : ℕ) (mark : Mark) → mark_text (aligned_down down t) mark ≡ mark_text t mark → body_line hint (aligned_down down t) h (i, mark) ≡ body_line hint t h (i, mark)
+    unfolding body_line
+    body_line-aligned hint h i mark same =
+        let c = t.config in
+        ap (λ (text : Text). written (side_margin hint c.margin.left c.margin_offset.left c.margin_color.left i h) ++ (text ++ written (side_margin hint c.margin.right c.margin_offset.right c.margin_color.right i h))) same
+
+    body_lines-aligned : (hint : Hint) → body_lines hint (aligned_down down t) 0 (table_body (aligned_down down t)) ≡ body_lines hint t 0 (table_body t)
+    unfolding body_lines table_body
+    body_lines-aligned hint =
+        let marks : List Mark = body t.config t.height t.rows in
+        let n : ℕ = length marks in
+        let Same : Mark → Type 0 = λ mark. mark_text (aligned_down down t) mark ≡ mark_text t mark in
+        ap (λ l. map (body_line hint (aligned_down down t) (length l)) (enumerate_from 0 l)) body-aligned
+        ∙ map-same (body_line hint (aligned_down down t) n) (body_line hint t n) (enumerate_from 0 marks)
+        (All-weaker (λ (e : ℕ × Mark). Same e.1) (λ e. body_line hint (aligned_down down t) n e ≡ body_line hint t n e) (λ e same. body_line-aligned hint n e.0 e.1 same) (enumerate_from 0 marks)
+        (All-enumerate_from Same 0 marks (All-body Same t.config t.height t.rows (λ r i h k. mark_text-line r i h) (λ r h there. mark_text-sep r))))
+
+    picture-aligned : (hint : Hint) → picture hint (aligned_down down t) ≡ picture hint t
+    unfolding picture picture_lines top_lines bottom_lines margin_lines full_width total_width count_vertical has_vertical
+    picture-aligned hint = ap (λ lines. cond ((t.rows == 0) || (t.columns == 0)) [] (joined (top_lines t ++ (lines ++ bottom_lines t)))) (body_lines-aligned hint)
+
+pub full_cells_ignore_alignment : FullCellsIgnoreAlignment
+full_cells_ignore_alignment hint t down full = picture-aligned down t full hint
+
+-- ---- rows of one line
+
+-- without row spans a rectangle has one row
+one_row : (spans : List Span) (k : ColumnPlace) → has_row_spans spans ≡ false → (unwrap_or (value_at by_columns k spans) (span_size 1 1)).rows ≡ 1
+unfolding has_row_spans
+one_row [] k none = refl
+one_row (s ∷ ss) k none =
+    let parts = or_parts (not (s.1.rows == 1)) (list_any (λ (u : Span). not (u.1.rows == 1)) ss) none in
+    elim (cases_Bool (same by_columns s.0 k)) [ inl y ↦ rw y (grind (arith, nat_tests, parts.0)) | inr n ↦ rw n (one_row ss k parts.1) ]
+
+single_lines-full : (t : Table) → HasSingleLines t → (r c : ℕ) → r < t.rows → c < t.columns → IsFull t (at r c)
+unfolding rect_rows size_of
+single_lines-full t single r c h k =
+    omega (
+      arith,
+      rect_height-one_row t (at r c) (one_row t.config.spans (column_place (at r c)) single.spans) h,
+      single.heights r h,
+      length-shown (get_formatting t.config (at r c)) (t.text (at r c)) (single.trims r c h k),
+      single.texts r c h k,
+    )
+
+pub single_lines_ignore_alignment : SingleLinesIgnoreAlignment
+single_lines_ignore_alignment hint t down single = picture-aligned down t (single_lines-full t single) hint

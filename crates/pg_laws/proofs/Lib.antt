@@ -1,31 +1,15 @@
 -- Lemmas of this crate.
-mod BorderLaw
-mod RowLineLaw
-mod OffsetLaw
+mod SettingLaws
 mod SpanLaw
-mod EverSetLaw
-mod SpansByPlaces
 mod LinesOfPictures
-mod TablesToldLittle
-mod BlocksOfRectangles
-mod ColorsOfLines
-mod CompactColors
-mod PictureColors
-mod FullCells
 mod DrawnCells
+mod ColorsOfLines
+mod PictureColors
 mod FirstMisfits
-mod GridTexts
 pub mod Computing
-mod RowsText
+mod RowsPieces
 mod RowsConfig
 mod RowsFits
-mod RowsPieces
-mod RowsPlain
-mod RowsSpans
-mod RowsCrossings
-mod RowsLineGlyphs
-mod RowsColors
-mod RowsMargins
-mod RowsCompact
+mod RowsPictures
 mod RowsPrinting
 mod RowsShown

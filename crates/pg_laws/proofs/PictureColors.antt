@@ -24,13 +24,11 @@ use Rattle.pg_picture.specs.Inside.Following.{items_after, last_color}
 use Rattle.pg_picture.specs.Table.{Table, Hint, rect_marks, rect_height, rect_width, block_at, is_inside, vertical_at, row_part, line_of_row, is_covered, crossing_item, crossing_at, crossing, border_items, column_items, separator_part, separator_items, total_width, full_width, margin_line, margin_lines, is_blank_at, side_margin, mark_text, body_line, table_body}
 use Rattle.pg_picture.specs.Picture.{top_lines, bottom_lines, body_lines, picture_lines}
 use Rattle.pg_picture.specs.Straight.{left_margin, right_margin}
-use Rattle.pg_picture.proofs.PiecesOfLines.{written-nil, written-append, written-cons, written-fill_plain}
-use Rattle.pg_picture.proofs.Repeated.{repeated-zero}
-use Rattle.pg_picture.proofs.CutsOfItems.{cut-same, items_after-append, last_color-append, items_after-one, last_color-one, with_cuts-close}
-use Rattle.pg_picture.proofs.MarksOfBodies.{body-same}
+use Rattle.pg_picture.proofs.PiecesOfLines.{written-nil, written-append, written-cons, written-fill_plain, repeated-zero}
+use Rattle.pg_picture.proofs.Separators.{cut-same, items_after-append, last_color-append, items_after-one, last_color-one, with_cuts-close}
+use Rattle.pg_picture.proofs.Pictures.{body-same}
 use Rattle.pg_laws.specs.Laws.{plain_piece, plain_item, colors_of_piece, ClosesColors, plain_mark, colors_of_mark, without_colors, margin_colors, picture_colors, PictureLinesCloseColors}
-use Rattle.pg_laws.proofs.ColorsOfLines.{Among, closes-same, more-colors, pieces_close_colors, lines_close_colors}
-use Rattle.pg_laws.proofs.CompactColors.{zip-append, zip-replicate}
+use Rattle.pg_laws.proofs.ColorsOfLines.{Among, closes-same, more-colors, pieces_close_colors, lines_close_colors, zip-append, zip-replicate}
 
 -- ---- pieces
 

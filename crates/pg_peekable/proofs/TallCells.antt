@@ -1,5 +1,5 @@
--- A line of a cell that has more: its text is placed, and read so far.
-use Rattle.std.proofs.Common.{◌≡◌, ℕ, ◌+◌, ◌<◌, ◌≤◌, length, Option, ap₂, ◌∙◌, arith}
+-- A line of a cell that has more, and lines that are read on from where the last one ended.
+use Rattle.std.proofs.Common.{◌≡◌, ℕ, ◌+◌, ◌<◌, ◌≤◌, length, Option, ap₂, ◌∙◌, arith, List, Some, None, refl}
 use Rattle.pg_layout.specs.Text.{Text, lines_of}
 use Rattle.pg_picture.specs.Inside.Cells.{HasRoomFor, facts_of, place_of, text_line_at, line_if, placed_line}
 use Rattle.pg_picture.specs.Pieces.{Style, style_at, block_line}
@@ -9,6 +9,10 @@ use Rattle.pg_peekable.specs.declared.kept.Reading.{Reading}
 use Rattle.pg_peekable.specs.declared.rectangle.Rectangle.{Rectangle}
 use Rattle.pg_peekable.specs.Inside.Kept.{IsReading}
 use Rattle.pg_peekable.specs.Inside.Lines.{IsCellLine}
+use Rattle.std.specs.Borrow.{Bor}
+use Rattle.std.specs.Option.{option_map, unwrap_or}
+
+-- ---- a line of a cell that has more: its text is placed, and read so far
 
 module _ (t : Table) (r : Rectangle) (i : ℕ) (is : IsCellLine t r i) (reading : Reading) (reads : IsReading t r reading) where
   abbrev own : Style
@@ -39,3 +43,10 @@ module _ (t : Table) (r : Rectangle) (i : ℕ) (is : IsCellLine t r i) (reading 
     -- and is that of the cell's block
     pub tall-line : placed_line own (t.color r.corner) reading.place r.width i line ≡ block_line own (t.color r.corner) text r.width r.height i
     tall-line = block_line-at own (t.color r.corner) text r.width r.height i reading.place line stands of_text
+
+-- ---- lines that are read on from where the last one ended
+
+-- a lent line, or another where there is none
+pub lent-or : (line : Option (Bor (List ℕ))) (other : Bor (List ℕ)) → (unwrap_or line other).now ≡ unwrap_or (option_map (λ x. x.now) line) other.now
+lent-or None other = refl
+lent-or (Some line) other = refl

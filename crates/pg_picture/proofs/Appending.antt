@@ -1,9 +1,13 @@
--- How appends add up, and how a text is cut where a loop stands.
-use Rattle.std.proofs.Common.{◌≡◌, ℕ, suc, ◌+◌, ◌-◌, ◌<◌, ◌≤◌, List, [], ◌∷◌, ◌++◌, length, length-take, take, drop, Result, Ok, Err, IsErr, string_bytes, string_capacity, String, append_assoc, append-nil, length-append, arith, sym, ◌∙◌, ap, subst, flat_map, replicate, get_or}
+-- How appends add up, how a text is cut inside a loop, and a separator that is kept.
+use Rattle.std.proofs.Common.{◌≡◌, ℕ, suc, ◌+◌, ◌-◌, ◌<◌, ◌≤◌, List, [], ◌∷◌, ◌++◌, length, length-take, take, drop, Result, Ok, Err, IsErr, string_bytes, string_capacity, String, append_assoc, append-nil, length-append, arith, sym, ◌∙◌, ap, subst, flat_map, replicate, get_or, Option, Some, None, IfSome}
 use Rattle.std.proofs.lemmas.List.{replicate-append-replicate, take-append-le, take-append-drop}
 use Rattle.std.proofs.lemmas.List.Concat.{flat_map-append}
-use Rattle.std.proofs.Math.Seq.{drop-cons, take-append-add}
+use Rattle.std.proofs.Math.Seq.{drop-cons, take-append-add, drop-append_seam}
 use Rattle.pg_picture.specs.Appending.{Appends, GainedBeginning}
+use Rattle.std.specs.Borrow.{Bor}
+use Rattle.std.specs.Option.{option_map}
+
+-- ---- how appends add up, and how a text is cut where a loop stands
 
 -- the buffer has gained the text, with no refusal so far
 pub record Gained {Z : Type 0} (old new : String Z) (text : List ℕ) : Type 0 where
@@ -119,3 +123,23 @@ run-cut f c k n here =
     ap (λ m. flat_map f (replicate m c)) all
     ∙ ap (λ l. flat_map f l) (sym (replicate-append-replicate k (suc (n - (k + 1))) c))
     ∙ flat_map-append f (replicate k c) (c ∷ replicate (n - (k + 1)) c)
+
+-- ---- a separator that is kept is what was appended, and what is appended again
+
+-- what a buffer has behind its old end is what was appended
+pub text-from : {Z U E : Type 0} {a b : String Z} {u : U} {text : List ℕ} (from : ℕ) → from ≡ length (string_bytes a) → Appends {U = U} {E = E} a b (Ok u) text → drop from (string_bytes b) ≡ text
+text-from {a = a} {b = b} {text = text} from is appended =
+    ap (λ (n : ℕ). drop n (string_bytes b)) is
+    ∙ ap (λ (bytes : List ℕ). drop (length (string_bytes a)) bytes) (Appends-gained appended).bytes
+    ∙ drop-append_seam (string_bytes a) text
+
+-- what is known of a kept text is known of the text that its keeper lends
+pub lent-text : (P : List ℕ → Type 0) (lent : Option (Bor (List ℕ))) (kept : Option (List ℕ)) (text : Bor (List ℕ)) → option_map (λ (b : Bor (List ℕ)). b.now) lent ≡ kept → lent ≡ Some text → IfSome kept P → P text.now
+lent-text P lent kept text same is known =
+    let some : kept ≡ Some text.now = sym same ∙ ap (λ (o : Option (Bor (List ℕ))). option_map (λ (b : Bor (List ℕ)). b.now) o) is in
+    subst (λ (o : Option (List ℕ)). IfSome o P) some known
+
+-- what is known of a text is known of what is kept of it
+pub kept-text : (P : List ℕ → Type 0) (kept : Option (List ℕ)) (text : List ℕ) → IfSome kept (λ (x : List ℕ). x ≡ text) → P text → IfSome kept P
+kept-text P None text same known = tt
+kept-text P (Some x) text same known = subst P (sym same) known

@@ -1,25 +1,88 @@
--- The first place that fails a test, place by place and row by row; and the first owner that does.
-use Rattle.std.proofs.Common.{◌≡◌, ℕ, zero, suc, ◌+◌, ◌-◌, ◌<◌, ◌≤◌, Bool, true, false, not, ◌==◌, ◌||◌, List, [], ◌∷◌, ◌++◌, map, flat_map, find, refl, sym, ap, ◌∙◌, arith, subst, Option, Some, None, is_some, Result, Ok, Err, inl, inr}
-use Rattle.std.specs.List.{range_with_len}
-use Rattle.std.proofs.lemmas.Bool.{cases_Bool, false≢true}
+-- The first place that fails a test, place by place, row by row and owner by owner.
+use Rattle.std.proofs.Common.{◌≡◌, ℕ, zero, suc, ◌+◌, ◌<◌, ◌≤◌, Bool, true, false, not, nat_lt, ◌==◌, List, refl, sym, ap, ◌∙◌, arith, subst, Option, Some, is_some, inl, inr, ◌-◌, ◌||◌, [], ◌∷◌, ◌++◌, map, flat_map, find, None, Result, Ok, Err, if◌then◌else◌}
+use Rattle.std.proofs.lemmas.Bool.{cases_Bool, cases_lt, false≢true}
 use Rattle.std.proofs.lemmas.Bool.Decides.{nat_tests}
-use Rattle.pg_layout.specs.declared.position.Position.{Position}
 use Rattle.pg_layout.specs.Position.{at, is_at}
-use Rattle.pg_config.specs.Spans.{owner, is_left, left_span}
+use Rattle.pg_layout.specs.declared.position.Position.{Position}
+use Rattle.pg_config.specs.Spans.{Span, corner, size_of, owner, is_left, left_span, if_above}
+use Rattle.pg_picture.specs.Inside.Rectangles.{columns_or_one}
+use Rattle.pg_picture.proofs.OwnersOfPlaces.{InOrder, option_cases, left_sound, owner_found, size_of_corner, owner_alone, step_positive, step_inside, next_left, inner}
+use Rattle.pg_picture.proofs.Owners.{is_at-same}
+use Rattle.std.specs.List.{range_with_len}
 use Rattle.pg_picture.specs.declared.fits.Misfit.{Misfit}
 use Rattle.pg_picture.specs.declared.shown.Unshown.{Unshown}
 use Rattle.pg_picture.specs.CompactLines.{CompactTable, compact_width, compact_full_width}
 use Rattle.pg_picture.specs.CompactSizes.{compact_sized}
-use Rattle.pg_picture.specs.Fits.{places, misfit_of, compact_misfit_of}
+use Rattle.pg_picture.specs.Fits.{places, misfit_of, compact_misfit_of, spans_fit, totals_fit, cell_fits, owner_fits}
 use Rattle.pg_picture.specs.Sizes.{unless_misfit}
 use Rattle.pg_picture.specs.Pieces.{Style, style_at}
 use Rattle.pg_picture.specs.Shown.{owner_shows_all, unshown_of, misfit_or_cell, is_one_line, compact_unshown_of}
 use Rattle.pg_picture.specs.Table.{Table, rect_width, rect_height}
-use Rattle.pg_picture.specs.Inside.Rectangles.{columns_or_one}
 use Rattle.pg_picture.specs.Inside.Walks.{first_failed, owner_passes, row_places, places_from}
-use Rattle.pg_picture.proofs.LeftColumns.{step-inside, step-other}
-use Rattle.pg_picture.proofs.OwnersOfPlaces.{InOrder}
 use Rattle.pg_layout.specs.Text.{Text}
+use Rattle.std.specs.Option.{option_map}
+use Rattle.pg_picture.specs.declared.fits.Misfit.TheVariants.{Spans, Totals, Room}
+use Rattle.pg_picture.specs.Fitting.{TableFits}
+use Rattle.pg_picture.proofs.PlainTables.{rect_width_plain, rect_height_plain}
+
+-- ---- a walk along a row from left column to left column meets each place that owns itself
+
+module _ (spans : List Span) (rows columns : ℕ) (order : InOrder spans rows columns) where
+  own_left : (r x : ℕ) → is_left spans r x ≡ true → is_at (owner spans r x) r x ≡ not (is_some (if_above r (left_span spans r x)))
+  own_left r x left =
+      elim (option_cases (left_span spans r x)) [
+        | inl none ↦ rw (none, owner_alone spans rows columns order r x left none) (grind (arith, nat_tests))
+        | inr some ↦
+            let f = left_sound spans rows columns order r x some.0 some.1 in
+            elim (cases_Bool (nat_lt some.0.0.row r)) [
+              | inl y ↦ rw (some.1, owner_found spans rows columns order r x some.0 some.1, y) (grind (arith, nat_tests, y))
+              | inr n ↦ rw (some.1, owner_found spans rows columns order r x some.0 some.1, n) (grind (arith, nat_tests, n, f.left, f.holds))
+            ]
+      ]
+
+  -- a left column owns itself, unless the rectangle that is found there begins above
+  pub own_unless : (r x : ℕ) (found : Option Span) (above b : Bool) → is_left spans r x ≡ true → found ≡ left_span spans r x → above ≡ is_some (if_above r found) → above ≡ b → is_at (owner spans r x) r x ≡ not b
+  own_unless r x found above b left is test here =
+      own_left r x left ∙ ap (λ (o : Option Span). not (is_some (if_above r o))) (sym is) ∙ ap not (sym test ∙ here)
+
+  -- a rectangle that is found at the place that owns it is as large as its span tells
+  pub own_size : (p : Position) (s : Span) → left_span spans p.row p.col ≡ Some s → is_at (owner spans p.row p.col) p.row p.col ≡ true → size_of spans p ≡ s.1
+  own_size p s found own =
+      let f = left_sound spans rows columns order p.row p.col s found in
+      let here : p ≡ corner s = sym (is_at-same (owner spans p.row p.col) p own) ∙ owner_found spans rows columns order p.row p.col s found in
+      ap (size_of spans) here ∙ size_of_corner spans rows columns order s f.among
+
+  -- ---- a step of the walk
+
+  module _ (r x w : ℕ) (is : w ≡ columns_or_one (left_span spans r x)) (left : is_left spans r x ≡ true) (here : x < columns) where
+    pub step-some : 0 < w
+    step-some = omega (arith, is, step_positive spans rows columns order r x)
+
+    pub step-inside : x + w ≤ columns
+    step-inside = omega (arith, is, step_inside spans rows columns order r x here)
+
+    pub step-left : is_left spans r (x + w) ≡ true
+    step-left = subst (λ (k : ℕ). is_left spans r (x + k) ≡ true) (sym is) (next_left spans rows columns order r x left)
+
+    -- the places that it passes don't own themselves
+    pub step-other : (y : ℕ) → x < y → y < x + w → is_at (owner spans r y) r y ≡ false
+    unfolding is_left
+    step-other y h k =
+        let other = (inner spans rows columns order r x y left h (omega (arith, k, is))).not_left in
+        grind (arith, nat_tests, other)
+
+    -- so where all owners before it have what they need, and it has, all owners before the next step have it
+    pub step-all : (P : ℕ → Type 0) → ((y : ℕ) → y < x → is_at (owner spans r y) r y ≡ true → P y) → (is_at (owner spans r x) r x ≡ true → P x) → (y : ℕ) → y < x + w → is_at (owner spans r y) r y ≡ true → P y
+    step-all P before now y h own =
+        elim (cases_lt y x) [
+          | inl l ↦ before y l own
+          | inr g ↦ elim (cases_lt x y) [
+            | inl l ↦ absurd (false≢true (sym (step-other y l h) ∙ own))
+            | inr k ↦ let same : x ≡ y = omega (arith, g, k) in subst P same (now (subst (λ (z : ℕ). is_at (owner spans r z) r z ≡ true) (sym same) own))
+          ]
+        ]
+
+-- ---- the first place that fails a test, place by place and row by row; and the first owner that does
 
 pub row_places-next : (columns r c : ℕ) → c < columns → row_places columns r c ≡ at r c ∷ row_places columns r (c + 1)
 row_places-next columns r c h = let e : columns - c ≡ suc (columns - (c + 1)) = omega arith in rw e refl
@@ -198,3 +261,74 @@ unfolding compact_unshown_of places
 compact_unshown_of-cell t size e =
     let z : t.rows - 0 ≡ t.rows = omega arith in
     rw (size, e, z) refl
+
+-- ---- what it means that no place is without room
+
+-- the misfit of a cell without room
+abbrev pub room_of : Position → Misfit
+room_of p = Room p.row p.col
+
+none_of_map : (o : Option Position) → option_map room_of o ≡ None → o ≡ None
+none_of_map None e = refl
+none_of_map (Some p) e = absurd (false≢true (sym (ap (λ (m : Option Misfit). is_some m) e)))
+
+-- all places are those from row 0 on
+all_places : (rows columns : ℕ) → places rows columns ≡ places_from rows columns 0
+unfolding places
+all_places rows columns = let z : rows - 0 ≡ rows = omega arith in rw z refl
+
+module _ (t : Table) where
+  -- ---- a table that fits
+
+  some_size : 0 < t.rows → 0 < t.columns → ((t.rows == 0) || (t.columns == 0)) ≡ false
+  some_size h k = grind (arith, nat_tests, h, k)
+
+  judged : Bool → Bool → Option Misfit
+  judged s u = if not s then Some Spans else if not u then Some Totals else option_map room_of (first_failed (owner_fits t) (places t.rows t.columns))
+
+  pub fits : misfit_of t ≡ None → 0 < t.rows → 0 < t.columns → TableFits t
+  unfolding misfit_of places judged
+  fits e h k =
+      let size = some_size h k in
+      let f : judged (spans_fit t.config.spans t.rows t.columns) (totals_fit t) ≡ None = (rw size at e) in
+      elim (cases_Bool (spans_fit t.config.spans t.rows t.columns)) [
+        | inr n ↦ absurd (false≢true (ap (λ (o : Option Misfit). is_some o) (sym (rw n at f))))
+        | inl y ↦ elim (cases_Bool (totals_fit t)) [
+          | inr n ↦ absurd (false≢true (ap (λ (o : Option Misfit). is_some o) (sym (rw (y, n) at f))))
+          | inl z ↦ record {
+            spans = y;
+            totals = z;
+            rooms = λ r c hr hc. passed_in_rows (owner_fits t) t.columns 0 t.rows r c (none_of_map _ (rw (y, z) at f)) (omega arith) (omega (arith, hr)) hc;
+          }
+        ]
+      ]
+
+  pub fitting_tables_have_none : TableFits t → misfit_of t ≡ None
+  unfolding misfit_of
+  fitting_tables_have_none fit =
+      elim (cases_Bool ((t.rows == 0) || (t.columns == 0))) [
+        | inl y ↦ rw y refl
+        | inr n ↦
+            let none : first_failed (owner_fits t) (places t.rows t.columns) ≡ None = ap (λ ps. first_failed (owner_fits t) ps) (all_places t.rows t.columns) ∙ none_failed (owner_fits t) t.rows t.columns fit.rooms in
+            rw (n, fit.spans, fit.totals) (ap (λ (o : Option Position). option_map room_of o) none)
+      ]
+
+  own_plain : (p : Position) → t.config.spans ≡ [] → is_at (owner t.config.spans p.row p.col) p.row p.col ≡ true
+  unfolding owner
+  own_plain p none = let own : is_at (at p.row p.col) p.row p.col ≡ true = grind (arith, nat_tests) in subst (λ spans. is_at (owner spans p.row p.col) p.row p.col ≡ true) (sym none) own
+
+  -- without spans each cell has room in its column and its row
+  pub cell_fits_plain : (p : Position) → t.config.spans ≡ [] → p.row < t.rows → owner_fits t p ≡ true → cell_fits (style_at t.config p) (t.text p) (t.width p.col) (t.height p.row) ≡ true
+  unfolding owner_fits
+  cell_fits_plain p none h e = rw (own_plain p none, rect_width_plain t none p, rect_height_plain t none p h) at e
+
+  pub misfit_of-totals : ((t.rows == 0) || (t.columns == 0)) ≡ false → spans_fit t.config.spans t.rows t.columns ≡ true → totals_fit t ≡ false → misfit_of t ≡ Some Totals
+  unfolding misfit_of
+  misfit_of-totals size spans totals = rw (size, spans, totals) refl
+
+  -- with spans and totals that fit, the first owner without room is left
+  pub misfit_of-rooms : ((t.rows == 0) || (t.columns == 0)) ≡ false → spans_fit t.config.spans t.rows t.columns ≡ true → totals_fit t ≡ true → misfit_of t ≡ option_map room_of (first_failed (owner_passes cell_fits t) (places_from t.rows t.columns 0))
+  unfolding misfit_of places owner_fits
+  misfit_of-rooms size spans totals =
+      let z : t.rows - 0 ≡ t.rows = omega arith in
+      rw (size, spans, totals, z) refl

@@ -1,23 +1,107 @@
--- What a table that fits gives to its callers.
-use Rattle.std.proofs.Common.{◌≡◌, ℕ, ◌+◌, ◌-◌, ◌^◌, ◌<◌, ◌≤◌, true, cond, nat_lt, List, [], ◌∷◌, sum_by, refl, sym, ap, ◌∙◌, arith, subst, Option, Some, None, unwrap_or, is_some, inl, inr, if◌then◌else◌}
+-- Tables that fit, tables that show each line, and cells that have room.
+use Rattle.std.proofs.Common.{rules, tests, ◌≡◌, true, List, ℕ, Option, None, Some, Ok, IsOk, refl, ap, ◌∙◌, false, not, ◌==◌, ◌||◌, find, inl, inr, ◌+◌, ◌-◌, ◌^◌, ◌<◌, ◌≤◌, cond, nat_lt, [], ◌∷◌, sum_by, sym, arith, subst, unwrap_or, is_some, if◌then◌else◌, nat_le, min, length, ◌&&◌}
+use Rattle.std.proofs.lemmas.Bool.{false≢true, cases_Bool, and_parts}
+use Rattle.std.specs.Borrow.{Bor}
+use Rattle.pg_layout.specs.declared.position.Position.{Position}
+use Rattle.pg_layout.specs.Colors.{Color}
+use Rattle.pg_layout.specs.Text.{Text, lines_of, without_blank_ends}
+use Rattle.pg_config.specs.Config.{Config, has_vertical, count_vertical}
+use Rattle.pg_picture.specs.Table.{Table, is_empty, full_width, total_width, rect_width, rect_height, rect_marks, table_body}
+use Rattle.pg_picture.specs.Sizes.{table_of, unless_misfit, height_of_rect, if_fits, sized}
+use Rattle.pg_picture.specs.declared.fits.Misfit.{Misfit}
+use Rattle.pg_picture.specs.Fits.{misfit_of, totals_fit, owner_fits, body_height, places, compact_misfit_of, span_fits, spans_fit, cell_fits}
+use Rattle.pg_picture.specs.Grids.{table_of_parts}
+use Rattle.pg_picture.specs.CompactLines.{CompactTable, compact_width, compact_full_width}
+use Rattle.pg_picture.specs.declared.shown.Unshown.{Unshown}
+use Rattle.pg_picture.specs.Shown.{owner_shows_all, unshown_of, compact_unshown_of, misfit_or_cell, unless_unshown, is_one_line, cell_shows_all}
 use Rattle.std.specs.List.{range_with_len, list_all}
-use Rattle.std.proofs.lemmas.Bool.{cases_Bool, false≢true, and_parts}
 use Rattle.std.proofs.lemmas.Bool.Decides.{nat_tests}
 use Rattle.pg_config.specs.declared.spans.SpanSize.{SpanSize}
 use Rattle.pg_layout.specs.declared.position.ColumnPlace.{ColumnPlace}
 use Rattle.pg_layout.specs.Keys.{by_columns, column_place}
-use Rattle.pg_layout.specs.declared.position.Position.{Position}
 use Rattle.pg_layout.specs.Places.{same, value_at}
 use Rattle.pg_layout.specs.Position.{is_at}
-use Rattle.pg_config.specs.Config.{has_vertical, count_vertical}
 use Rattle.pg_config.specs.Spans.{Span, size_of, rect_rows, rect_columns, owner, span_size}
-use Rattle.pg_picture.specs.Table.{Table, rect_width, rect_height, total_width, full_width}
-use Rattle.pg_picture.specs.Fits.{span_fits, spans_fit, body_height, totals_fit, cell_fits, owner_fits}
-use Rattle.pg_picture.specs.Pieces.{style_at}
-use Rattle.pg_picture.specs.Sizes.{height_of_rect, if_fits, sized}
-use Rattle.pg_picture.proofs.SumsOfSizes.{sum_by-part_le, if_fits-below}
-use Rattle.pg_picture.proofs.Ranges.{sum_by-range_le}
-use Rattle.pg_picture.proofs.HeightsOfRectangles.{rect_height-le, rect_height-of_rect}
+use Rattle.pg_picture.specs.Pieces.{style_at, Style, trimmed_if, kept_lines, shown, text_height, widest}
+use Rattle.pg_picture.proofs.Ranges.{sum_by-part_le, if_fits-below, sum_by-range_le}
+use Rattle.pg_picture.proofs.MarksOfRectangles.{rect_height-le, rect_height-of_rect}
+use Rattle.std.proofs.lemmas.List.{length-map}
+use Rattle.pg_layout.specs.declared.alignment.Formatting.{Formatting}
+
+-- ---- whether a table fits has nothing to do with its colours
+
+pub misfit-any_colors : (t : Table) (colors : Position → Option Color) → misfit_of (record t { color = colors }) ≡ misfit_of t
+unfolding misfit_of totals_fit owner_fits body_height full_width total_width rect_width rect_height rect_marks table_body
+misfit-any_colors t colors = refl
+
+-- a grid of these parts fits where the table of them does, whatever its colours are
+pub misfit-parts : {R D C : Type 0} (texts : R → List (List Text)) (columns : R → ℕ) (width height : D → ℕ → ℕ) (color : C → Position → Option Color)
+    {parts : R × Bor Config × D × C} {records : R} {config : Bor Config} {dimension : D} {colors : C}
+    → parts ≡ (records, config, dimension, colors)
+    → misfit_of (table_of config.now (width dimension) (height dimension) (texts records) (columns records)) ≡ None
+    → misfit_of (table_of_parts texts columns width height color parts.0 parts.1.now parts.2 parts.3) ≡ None
+misfit-parts {R} {D} {C} texts columns width height color {parts} {records} {config} {dimension} {colors} is fits =
+    ap (λ (p : R × Bor Config × D × C). misfit_of (record (table_of p.1.now (width p.2) (height p.2) (texts p.0) (columns p.0)) { color = color p.3 })) is
+    ∙ misfit-any_colors (table_of config.now (width dimension) (height dimension) (texts records) (columns records)) (color colors)
+    ∙ fits
+
+-- a table without cells has no misfit
+pub misfit-empty : (t : Table) → is_empty t ≡ true → misfit_of t ≡ None
+unfolding misfit_of
+misfit-empty t empty = rw empty refl
+
+-- what was found to fit has no misfit
+pub none-of-ok : (m : Option Misfit) {u : Unit {0}} → unless_misfit m ≡ Ok u → m ≡ None
+none-of-ok None is = refl
+none-of-ok (Some m) is = search (rules, tests)
+
+-- the same of a test that succeeded
+pub none-if-ok : (m : Option Misfit) → IsOk (unless_misfit m) → m ≡ None
+none-if-ok None ok = refl
+none-if-ok (Some m) ok = absurd (false≢true ok)
+
+-- ---- a grid whose table shows all fits; and whether a table shows all has nothing to do with its colours
+
+pub unshown-any_colors : (t : Table) (colors : Position → Option Color) → unshown_of (record t { color = colors }) ≡ unshown_of t
+unfolding unshown_of misfit_of totals_fit owner_fits owner_shows_all body_height full_width total_width rect_width rect_height rect_marks table_body
+unshown-any_colors t colors = refl
+
+pub compact_unshown-any_colors : (t : CompactTable) (colors : Position → Option Color) → compact_unshown_of (record t { color = colors }) ≡ compact_unshown_of t
+unfolding compact_unshown_of compact_misfit_of compact_full_width compact_width
+compact_unshown-any_colors t colors = refl
+
+-- a test that succeeded found nothing
+pub nothing-if-ok : (u : Option Unshown) → IsOk (unless_unshown u) → u ≡ None
+nothing-if-ok None ok = refl
+nothing-if-ok (Some u) ok = absurd (false≢true ok)
+
+none-before : (m : Option Misfit) (cell : Option Position) → misfit_or_cell m cell ≡ None → m ≡ None
+none-before None cell e = refl
+none-before (Some m) cell e = search (rules, tests)
+
+-- a table that shows all fits
+pub shown-fits : (t : Table) → unshown_of t ≡ None → misfit_of t ≡ None
+unfolding unshown_of
+shown-fits t e =
+    elim (cases_Bool ((t.rows == 0) || (t.columns == 0))) [
+      | inl y ↦ misfit-empty t y
+      | inr n ↦ none-before (misfit_of t) (find (λ p. not (owner_shows_all t p)) (places t.rows t.columns)) (rw n at e)
+    ]
+
+-- and one with no rows or no columns shows all
+pub unshown-empty : (t : Table) → is_empty t ≡ true → unshown_of t ≡ None
+unfolding unshown_of
+unshown-empty t empty = rw empty refl
+
+pub compact_shown-fits : (t : CompactTable) → ((t.rows == 0) || (t.columns == 0)) ≡ false → compact_unshown_of t ≡ None → compact_misfit_of t ≡ None
+unfolding compact_unshown_of
+compact_shown-fits t some e = none-before (compact_misfit_of t) (find (λ p. not (is_one_line (t.text p))) (places t.rows t.columns)) (rw some at e)
+
+pub compact_unshown-empty : (t : CompactTable) → ((t.rows == 0) || (t.columns == 0)) ≡ true → compact_unshown_of t ≡ None
+unfolding compact_unshown_of
+compact_unshown-empty t empty = rw empty refl
+
+-- ---- what a table that fits gives to its callers
 
 -- what the totals are
 pub record TotalsFit (t : Table) : Type 0 where
@@ -138,3 +222,31 @@ some_is m n e = ap (λ (o : Option ℕ). unwrap_or o 0) e
 
 pub none_is : (n : ℕ) → None ≡ Some n → ⊥
 none_is n e = false≢true (ap (λ (o : Option ℕ). is_some o) e)
+
+-- ---- a cell shows each line where it is high enough for as many below its top padding
+
+-- under vertical trim the lines without the blank ends are shown
+pub length-shown-trimmed : (f : Formatting) (text : Text) → f.vertical_trim ≡ true → length (without_blank_ends (lines_of text)) ≡ length (shown f text)
+unfolding shown kept_lines
+length-shown-trimmed f text on = rw on (sym (length-map (without_blank_ends (lines_of text)) (trimmed_if f.horizontal_trim)))
+
+min_is : (m n : ℕ) → nat_le m n ≡ (min m n == m)
+min_is m n = grind (arith, nat_tests)
+
+pub cell_shows_all-by_count : (style : Style) (text : Text) (h : ℕ) → nat_le (length (shown style.formatting text)) (h - style.padding.top.size) ≡ cell_shows_all style text h
+unfolding cell_shows_all text_height
+cell_shows_all-by_count style text h = min_is (length (shown style.formatting text)) (h - style.padding.top.size)
+
+-- ---- what it says that a cell has room
+
+-- a cell with lines has room for its side paddings and its widest line, and for its top padding
+pub cell_fits-room : (style : Style) (text : Text) (w h : ℕ) → cell_fits style text w h ≡ true → 0 < h
+    → ((style.padding.left.size + style.padding.right.size) + widest style.formatting text ≤ w) × (style.padding.top.size ≤ h)
+unfolding cell_fits
+cell_fits-room style text w h fits some =
+    let e : (h == 0) ≡ false = grind (arith, nat_tests) in
+    let wide = nat_le ((style.padding.left.size + style.padding.right.size) + widest style.formatting text) w in
+    let high = nat_le style.padding.top.size h in
+    let both : (wide && high) ≡ true = rw e at fits in
+    let parts = and_parts wide high both in
+    (grind (arith, nat_tests, parts.0), grind (arith, nat_tests, parts.1))

@@ -3,14 +3,13 @@ use Rattle.std.proofs.Common.{◌≡◌, ℕ, ◌+◌, ◌-◌, ◌<◌, ◌≤�
 use Rattle.std.specs.List.{list_all}
 use Rattle.std.proofs.lemmas.Bool.{cases_Bool, false≢true, and_parts}
 use Rattle.std.proofs.lemmas.Bool.Decides.{nat_tests}
-use Rattle.pg_layout.proofs.KeyOrders.{columns-laws}
+use Rattle.pg_layout.proofs.Places.{columns-laws, before-comes}
 use Rattle.pg_config.specs.declared.spans.SpanSize.{SpanSize}
 use Rattle.pg_layout.specs.declared.position.ColumnPlace.{ColumnPlace}
 use Rattle.pg_layout.specs.Keys.{by_columns, column_place}
 use Rattle.pg_layout.specs.declared.position.Position.{Position}
 use Rattle.pg_layout.specs.Position.{at}
 use Rattle.pg_layout.specs.Places.{same, before, comes, value_at, last_up_to, Each, IsAscending}
-use Rattle.pg_layout.proofs.PlacesOrder.{before-comes}
 use Rattle.pg_config.specs.Spans.{Span, corner, in_span, owner, is_left, begins_above, same_owner, left_span, size_of, span_size}
 use Rattle.pg_picture.specs.Inside.Rectangles.{columns_or_one}
 use Rattle.pg_picture.specs.Fits.{are_apart, all_apart, span_fits, spans_fit}

@@ -1,13 +1,82 @@
--- The text of pieces: of a fill, of no pieces, of some and of one more.
-use Rattle.std.proofs.Common.{◌≡◌, ℕ, zero, suc, ◌<◌, ◌==◌, ◌&&◌, Bool, true, List, [], ◌∷◌, ◌++◌, Option, Some, None, is_none, refl, sym, ap, ap₂, ◌∙◌, arith, append-nil, lit<, ◌+◌}
-use Rattle.std.proofs.lemmas.Bool.{and_parts, false≢true}
-use Rattle.std.proofs.lemmas.Bool.Decides.{nat_tests}
+-- The text of pieces: one character several times, fills, and the margins of a line.
+use Rattle.std.proofs.Common.{◌≡◌, ℕ, zero, suc, ◌+◌, ◌-◌, ◌*◌, ◌<◌, ◌≤◌, List, [], ◌++◌, length, take, flat_map, replicate, sym, ◌∙◌, ap, subst, append-nil, length-append, zero-mul, suc-mul, add_comm, arith, refl, encode_utf8, ◌==◌, ◌&&◌, Bool, true, ◌∷◌, Option, Some, None, is_none, ap₂, lit<, ◌||◌, false, inl, inr, nat_lt, min}
+use Rattle.std.specs.List.{slice_range}
+use Rattle.std.specs.Str.{IsUtf8, IsCharBoundary}
+use Rattle.std.specs.Char.{IsScalar}
+use Rattle.std.proofs.lemmas.List.{replicate-append-replicate}
 use Rattle.std.proofs.lemmas.List.Concat.{flat_map-append}
+use Rattle.std.proofs.lemmas.Str.{IsUtf8-nil, IsUtf8-encode, IsUtf8-append, IsCharBoundary-at_seam}
+use Rattle.std.proofs.Math.Seq.{take-append_seam}
+use Rattle.pg_picture.specs.Pieces.{repeated, Style, Piece, fill, glyph_piece, written, piece_text, in_color}
+use Rattle.pg_picture.proofs.Appending.{run-cut}
+use Rattle.std.proofs.lemmas.Bool.{and_parts, false≢true, cases_Bool}
+use Rattle.std.proofs.lemmas.Bool.Decides.{nat_tests}
 use Rattle.pg_layout.specs.Colors.{Color}
-use Rattle.pg_picture.specs.Pieces.{Style, Piece, fill, glyph_piece, written, piece_text, in_color, repeated}
 use Rattle.pg_picture.specs.CompactLines.{colored_glyph}
 use Rattle.pg_picture.specs.Inside.Cells.{has_plain_sides, line_parts}
-use Rattle.pg_picture.proofs.Repeated.{repeated-zero, repeated-add}
+use Rattle.pg_layout.specs.declared.sides.Indent.{Indent}
+use Rattle.pg_layout.specs.declared.sides.Offset.{Offset}
+use Rattle.pg_layout.specs.declared.sides.Offset.TheVariants.{Start, End}
+use Rattle.pg_picture.specs.Table.{Unknown, margin_line, is_blank_at, side_margin, side_margin_at}
+use Rattle.pg_picture.specs.Inside.Margins.{is_blank_in}
+
+-- ---- one character several times: its parts, its length, and where its text may be cut
+
+pub repeated-zero : (c : ℕ) → repeated c 0 ≡ []
+unfolding repeated
+repeated-zero c = refl
+
+pub repeated-one : (c : ℕ) → repeated c 1 ≡ encode_utf8 c
+unfolding repeated
+repeated-one c = append-nil (encode_utf8 c)
+
+pub repeated-suc : (c n : ℕ) → repeated c (suc n) ≡ encode_utf8 c ++ repeated c n
+unfolding repeated
+repeated-suc c n = refl
+
+-- in two parts
+pub repeated-add : (c : ℕ) {n : ℕ} (a b : ℕ) → n ≡ a + b → repeated c n ≡ repeated c a ++ repeated c b
+unfolding repeated
+repeated-add c a b all = ap (λ k. flat_map encode_utf8 (replicate k c)) all ∙ ap (λ x. flat_map encode_utf8 x) (sym (replicate-append-replicate a b c)) ∙ flat_map-append encode_utf8 (replicate a c) (replicate b c)
+
+-- one more
+pub repeated-more : (c n : ℕ) → repeated c (n + 1) ≡ repeated c n ++ encode_utf8 c
+repeated-more c n = repeated-add c n 1 refl ∙ ap (λ x. repeated c n ++ x) (repeated-one c)
+
+-- cut at one of the characters
+pub repeated-cut : (c k n : ℕ) → k < n → repeated c n ≡ repeated c k ++ (encode_utf8 c ++ repeated c (n - (k + 1)))
+unfolding repeated
+repeated-cut c k n here = run-cut encode_utf8 c k n here
+
+pub length-repeated : (c n : ℕ) → length (repeated c n) ≡ n * length (encode_utf8 c)
+length-repeated c zero = ap length (repeated-zero c) ∙ sym (zero-mul (length (encode_utf8 c)))
+length-repeated c (suc n) = ap length (repeated-suc c n) ∙ length-append (encode_utf8 c) (repeated c n) ∙ ap (λ k. length (encode_utf8 c) + k) (length-repeated c n) ∙ add_comm (length (encode_utf8 c)) (n * length (encode_utf8 c)) ∙ sym (suc-mul n (length (encode_utf8 c)))
+
+pub IsUtf8-repeated : (c n : ℕ) → IsScalar c → IsUtf8 (repeated c n)
+unfolding repeated
+IsUtf8-repeated c zero scalar = IsUtf8-nil
+IsUtf8-repeated c (suc n) scalar = IsUtf8-append (encode_utf8 c) (repeated c n) (IsUtf8-encode c scalar) (IsUtf8-repeated c n scalar)
+
+-- a block of one character may be cut after each of its characters
+pub repeated-boundary : (c n k : ℕ) (block : List ℕ) → IsScalar c → n ≤ k → block ≡ repeated c k → IsCharBoundary block (n * length (encode_utf8 c))
+repeated-boundary c n k block scalar few is =
+    let all : k ≡ n + (k - n) = omega arith in
+    let P : ℕ → Type 0 = λ i. IsCharBoundary block i in
+    subst P (length-repeated c n)
+    (IsCharBoundary-at_seam block (repeated c n) (repeated c (k - n)) (is ∙ repeated-add c n (k - n) all) (IsUtf8-repeated c (k - n) scalar))
+
+-- what stands in it before that place
+pub repeated-front : (c n k : ℕ) (block : List ℕ) → n ≤ k → block ≡ repeated c k → slice_range block 0 (n * length (encode_utf8 c)) ≡ repeated c n
+repeated-front c n k block few is =
+    let all : k ≡ n + (k - n) = omega arith in
+    let width : ℕ = n * length (encode_utf8 c) in
+    let whole : width - 0 ≡ width = omega arith in
+    ap (λ i. take i block) whole
+    ∙ ap (λ i. take i block) (sym (length-repeated c n))
+    ∙ ap (λ x. take (length (repeated c n)) x) (is ∙ repeated-add c n (k - n) all)
+    ∙ take-append_seam (repeated c n) (repeated c (k - n))
+
+-- ---- the text of pieces: of a fill, of no pieces, of some and of one more
 
 pub written-nil : written [] ≡ []
 unfolding written
@@ -81,3 +150,62 @@ written-glyph_piece None color = written-nil
 written-glyph_piece (Some g) color = written-fill g 1 color (lit< tt)
 
 pub ruleset fill_texts = (written-fill_none, written-fill)
+
+-- ---- the texts of margins: a line of a top or bottom one, and a side margin
+
+-- blanks, and then the fill
+pub written-margin_start : (indent : Indent) {offset : Offset} {s blank : ℕ} (color : Option Color) (w : ℕ) → offset ≡ Start s → blank ≡ min s w
+    → repeated 32 blank ++ written (fill indent.fill (w - blank) color) ≡ written (margin_line indent offset color w)
+unfolding margin_line
+written-margin_start indent {offset} {s} {blank} color w is few =
+    rw (is, few)
+    (ap (λ x. x ++ written (fill indent.fill (w - min s w) color)) (sym (written-fill_plain 32 (min s w)))
+    ∙ sym (written-append (fill 32 (min s w) None) (fill indent.fill (w - min s w) color)))
+
+-- the fill, and then blanks
+pub written-margin_end : (indent : Indent) {offset : Offset} {e blank : ℕ} (color : Option Color) (w : ℕ) → offset ≡ End e → blank ≡ min e w
+    → written (fill indent.fill (w - blank) color) ++ repeated 32 blank ≡ written (margin_line indent offset color w)
+unfolding margin_line
+written-margin_end indent {offset} {e} {blank} color w is few =
+    rw (is, few)
+    (ap (λ x. written (fill indent.fill (w - min e w) color) ++ x) (sym (written-fill_plain 32 (min e w)))
+    ∙ sym (written-append (fill indent.fill (w - min e w) color) (fill 32 (min e w) None)))
+
+-- a side margin where it is blank, and where it isn't
+pub written-side_blank : (height : Option ℕ) (indent : Indent) (offset : Offset) (color : Option Color) (i : ℕ) → is_blank_in height offset i ≡ true
+    → repeated 32 indent.size ≡ written (side_margin_at height indent offset color i)
+unfolding side_margin
+written-side_blank (Some h) indent offset color i blank = rw blank (sym (written-fill_plain 32 indent.size))
+written-side_blank None indent offset color i blank = rw blank (sym (written-fill_plain 32 indent.size))
+
+pub written-side_filled : (height : Option ℕ) (indent : Indent) (offset : Offset) (color : Option Color) (i : ℕ) → is_blank_in height offset i ≡ false
+    → written (fill indent.fill indent.size color) ≡ written (side_margin_at height indent offset color i)
+unfolding side_margin
+written-side_filled (Some h) indent offset color i blank = rw blank refl
+written-side_filled None indent offset color i blank = rw blank refl
+
+-- one without columns
+pub written-side_none : (height : Option ℕ) (indent : Indent) (offset : Offset) (color : Option Color) (i : ℕ) → indent.size ≡ 0
+    → [] ≡ written (side_margin_at height indent offset color i)
+unfolding repeated written fill
+written-side_none height indent offset color i none =
+    elim (cases_Bool (is_blank_in height offset i)) [
+      | inl blank ↦ ap (λ n. repeated 32 n) (sym none) ∙ written-side_blank height indent offset color i blank
+      | inr filled ↦ ap (λ n. written (fill indent.fill n color)) (sym none) ∙ written-side_filled height indent offset color i filled
+    ]
+
+-- neither side margin has columns
+pub no_sides : (left right : ℕ) → (nat_lt 0 left || nat_lt 0 right) ≡ false → (left ≡ 0) × (right ≡ 0)
+no_sides left right none =
+    let l : left ≡ 0 = grind (arith, nat_tests, none) in
+    let r : right ≡ 0 = grind (arith, nat_tests, none) in
+    (l, r)
+
+-- where the height isn't known, a side margin is the same for each height that has the line
+pub side_margin-unknown : (indent : Indent) (offset : Offset) (color : Option Color) (i h : ℕ) → i < h
+    → side_margin_at None indent offset color i ≡ side_margin Unknown indent offset color i h
+unfolding side_margin is_blank_at
+side_margin-unknown indent (Start s) color i h here =
+    let same : nat_lt i (min s (i + 1)) ≡ nat_lt i (min s h) = grind (arith, nat_tests) in
+    rw same refl
+side_margin-unknown indent (End e) color i h here = refl

@@ -1,24 +1,200 @@
--- The place of a text in its cell: shares that leave room, the lines that are shown, and the lines of the block.
-use Rattle.std.proofs.Common.{◌≡◌, ℕ, zero, suc, ◌+◌, ◌-◌, ◌<◌, ◌≤◌, ◌==◌, ◌&&◌, not, Bool, true, false, cond, nat_lt, List, [], ◌∷◌, ◌++◌, length, map, drop, get_or, slice_index_or, Option, Some, None, IfSome, unwrap_or, refl, sym, ap, ap₂, ◌∙◌, arith, zero-add, append_assoc, if◌then◌else◌}
-use Rattle.std.proofs.lemmas.Bool.{and_parts}
+-- The place of a text in its cell: its blank ends, its facts, its lines, and how wide its block is.
+use Rattle.std.proofs.Common.{◌≡◌, ℕ, suc, ◌+◌, ◌-◌, ◌<◌, ◌≤◌, ◌==◌, Bool, true, false, cond, List, [], ◌∷◌, length, one-add, drop, fold, reverse, refl, sym, ap, ◌∙◌, arith, length-drop, length-take, if◌then◌else◌, ◌&&◌, not, map, max, zero, nat_lt, ◌++◌, get_or, slice_index_or, Option, Some, None, IfSome, unwrap_or, ap₂, zero-add, append_assoc, subst, ◌*◌, mul-one}
+use Rattle.std.specs.List.{prefix_len, suffix_len, list_all}
 use Rattle.std.proofs.lemmas.Bool.Decides.{nat_tests}
-use Rattle.std.proofs.lemmas.List.{length-map, get_or-map, get_or-take, get_or-drop}
-use Rattle.std.proofs.lemmas.List.Sums.{prefix_len-le-length}
+use Rattle.std.proofs.lemmas.List.{length-reverse, reverse-append, length-map, get_or-map, get_or-take, get_or-drop}
+use Rattle.std.proofs.lemmas.List.Sums.{suffix_len-le-length, prefix_len-le-length, sum_by-append, sum_by-cons}
+use Rattle.std.proofs.lemmas.List.Folds.{prefix_len-append}
+use Rattle.pg_layout.specs.Text.{Text, is_blank, blank_top, blank_bottom, without_blank_ends, lines_of, width_of, greatest, text_width_of}
+use Rattle.pg_picture.specs.declared.facts.BlankEnds.{BlankEnds}
+use Rattle.pg_picture.specs.Inside.Cells.{with_line, empty_lines_of, facts_of, shared_left, place_of, place_in, text_line_at, share_of, line_if, shown_line, placed_line, line_parts, shows_texts_whole, has_plain_sides, is_simple}
+use Rattle.std.specs.Str.{trim}
+use Rattle.std.proofs.lemmas.Bool.{and_parts}
 use Rattle.pg_layout.specs.declared.alignment.Formatting.{Formatting}
+use Rattle.pg_layout.proofs.TextLines.{is_feed, feed_place, lines_of-one}
+use Rattle.pg_picture.specs.Pieces.{trimmed_if, kept_lines, shown, widest, Style, Piece, words, fill, written, in_color, shares, lines_above, inner_width, left_share, line_with, text_line, text_height, text_top, block_line, piece_width, pieces_width}
+use Rattle.pg_picture.specs.declared.facts.TextFacts.{TextFacts}
 use Rattle.pg_layout.specs.declared.alignment.AlignmentHorizontal.{AlignmentHorizontal}
 use Rattle.pg_layout.specs.declared.alignment.AlignmentHorizontal.TheVariants as across
 use Rattle.pg_layout.specs.declared.alignment.AlignmentVertical.{AlignmentVertical}
 use Rattle.pg_layout.specs.declared.alignment.AlignmentVertical.TheVariants as down
 use Rattle.pg_layout.specs.Colors.{Color}
-use Rattle.pg_layout.specs.Text.{Text, lines_of, width_of, greatest, is_blank, blank_top, blank_bottom, without_blank_ends}
-use Rattle.pg_picture.specs.Pieces.{Style, Piece, words, fill, written, in_color, shares, lines_above, inner_width, trimmed_if, kept_lines, shown, widest, left_share, line_with, text_line, text_height, text_top, block_line}
-use Rattle.pg_picture.specs.Inside.Cells.{facts_of, shared_left, place_of, place_in, text_line_at, share_of, line_if, shown_line, placed_line, line_parts, shows_texts_whole, has_plain_sides, is_simple}
 use Rattle.pg_picture.specs.Fits.{cell_fits}
-use Rattle.pg_picture.specs.declared.facts.TextFacts.{TextFacts}
 use Rattle.pg_picture.specs.declared.place.CellPlace.{CellPlace}
 use Rattle.pg_picture.proofs.PiecesOfLines.{written-append, written-cons}
-use Rattle.pg_picture.proofs.BlankEnds.{length-without_blank_ends}
-use Rattle.pg_picture.proofs.FactsOfTexts.{facts_of-single}
+use Rattle.pg_picture.specs.Inside.Styles.{DrawsAs}
+use Rattle.pg_picture.specs.Straight.{IsNarrow, HasNarrowFills}
+
+-- ---- the blank lines at both ends of a text, counted line by line
+
+-- how many at the end pass, with one element more at the front
+suffix_len-cons : {X : Type 0} (p : X → Bool) (x : X) (xs : List X) → suffix_len p (x ∷ xs) ≡ cond (suffix_len p xs == length xs) (length xs + cond (p x) 1 0) (suffix_len p xs)
+suffix_len-cons p x xs =
+    ap (prefix_len p) (reverse-append (x ∷ []) xs) ∙ prefix_len-append p (reverse xs) (x ∷ [])
+    ∙ ap (λ n. cond (suffix_len p xs == n) (n + cond (p x) 1 0) (suffix_len p xs)) (length-reverse xs)
+
+-- the lines counted so far
+abbrev pub total : BlankEnds → ℕ
+total e = (e.shown + e.top) + e.bottom
+
+one_at_top : (e : BlankEnds) → e.shown ≡ 0 → with_line e true ≡ record { shown = e.shown; top = e.top + 1; bottom = e.bottom }
+one_at_top e none = let first : (e.shown == 0) ≡ true = grind (arith, nat_tests) in rw first
+
+one_at_bottom : (e : BlankEnds) → 0 < e.shown → with_line e true ≡ record { shown = e.shown; top = e.top; bottom = e.bottom + 1 }
+one_at_bottom e some = let later : (e.shown == 0) ≡ false = grind (arith, nat_tests) in rw later
+
+total-with_line : (e : BlankEnds) (b : Bool) → total (with_line e b) ≡ total e + 1
+total-with_line e false = omega arith
+total-with_line e true = elim (e.shown == 0) as (λ v. total (if v then record { shown = e.shown; top = e.top + 1; bottom = e.bottom } else record { shown = e.shown; top = e.top; bottom = e.bottom + 1 }) ≡ total e + 1) [ true ↦ omega arith | false ↦ omega arith ]
+
+-- a blank line, or another one, after lines of which b at the end are blank
+bottom-blank : (b n t s r : ℕ) → b ≤ n → s ≡ cond (b == n) (n + 1) b → r ≡ cond (b == n) ((t + 1) + n) b → r ≡ cond (s == suc n) (t + suc n) s
+bottom-blank b n t s r within is given = grind (arith, nat_tests)
+
+bottom-other : (b n t s r : ℕ) → b ≤ n → s ≡ cond (b == n) (n + 0) b → r ≡ cond (b == n) (0 + n) b → r ≡ cond (s == suc n) (t + suc n) s
+bottom-other b n t s r within is given = grind (arith, nat_tests)
+
+bottom-first : (b n s r : ℕ) → b ≤ n → s ≡ cond (b == n) (n + 0) b → r ≡ cond (b == n) (0 + n) b → r ≡ s
+bottom-first b n s r within is given = grind (arith, nat_tests)
+
+module _ {X : Type 0} (p : X → Bool) where
+  -- what is counted after some lines
+  abbrev pub ends_after : BlankEnds → List X → BlankEnds
+  ends_after ends xs = fold (λ e x. with_line e (p x)) ends xs
+
+  pub total-ends_after : (e : BlankEnds) (xs : List X) → total (ends_after e xs) ≡ total e + length xs
+  total-ends_after e [] = omega arith
+  total-ends_after e (x ∷ xs) = omega (arith, total-ends_after (with_line e (p x)) xs, total-with_line e (p x))
+
+  top_after : (e : BlankEnds) (xs : List X) → 0 < e.shown → (ends_after e xs).top ≡ e.top
+  top_after e [] some = refl
+  top_after e (x ∷ xs) some = elim (p x) as (λ v. (ends_after (with_line e v) xs).top ≡ e.top) [
+    | true ↦ rw (one_at_bottom e some) (top_after (record { shown = e.shown; top = e.top; bottom = e.bottom + 1 }) xs some)
+    | false ↦ top_after (with_line e false) xs (omega arith)
+  ]
+
+  bottom_after : (e : BlankEnds) (xs : List X) → 0 < e.shown → (ends_after e xs).bottom ≡ cond (suffix_len p xs == length xs) (e.bottom + length xs) (suffix_len p xs)
+  bottom_after e [] some = omega arith
+  bottom_after e (x ∷ xs) some =
+      elim (p x) as (λ v. suffix_len p (x ∷ xs) ≡ cond (suffix_len p xs == length xs) (length xs + cond v 1 0) (suffix_len p xs) → (ends_after (with_line e v) xs).bottom ≡ cond (suffix_len p (x ∷ xs) == suc (length xs)) (e.bottom + suc (length xs)) (suffix_len p (x ∷ xs))) [
+        | true ↦ λ is. rw (one_at_bottom e some) (bottom-blank (suffix_len p xs) (length xs) e.bottom _ _ (suffix_len-le-length p xs) is (bottom_after (record { shown = e.shown; top = e.top; bottom = e.bottom + 1 }) xs some))
+        | false ↦ λ is. bottom-other (suffix_len p xs) (length xs) e.bottom _ _ (suffix_len-le-length p xs) is (bottom_after (with_line e false) xs (omega arith))
+      ] (suffix_len-cons p x xs)
+
+  -- from the front: the first ones that pass, and the last ones of the rest
+  pub ends_after-front : (n : ℕ) (xs : List X) → let e = ends_after (record { shown = 0; top = n; bottom = 0 }) xs in (e.top ≡ n + prefix_len p xs) × (e.bottom ≡ suffix_len p (drop (prefix_len p xs) xs))
+  ends_after-front n [] = (omega arith, refl)
+  ends_after-front n (x ∷ xs) =
+      elim (p x) as (λ v. suffix_len p (x ∷ xs) ≡ cond (suffix_len p xs == length xs) (length xs + cond v 1 0) (suffix_len p xs) → let e = ends_after (with_line (record { shown = 0; top = n; bottom = 0 }) v) xs in (e.top ≡ n + cond v (1 + prefix_len p xs) 0) × (e.bottom ≡ suffix_len p (drop (cond v (1 + prefix_len p xs) 0) (x ∷ xs)))) [
+        | true ↦ λ is. (omega (arith, (ends_after-front (n + 1) xs).0), rw one-add (ends_after-front (n + 1) xs).1)
+        | false ↦ λ is. (omega (arith, top_after (record { shown = 1; top = n; bottom = 0 }) xs (omega arith)), bottom-first (suffix_len p xs) (length xs) _ _ (suffix_len-le-length p xs) is (bottom_after (record { shown = 1; top = n; bottom = 0 }) xs (omega arith)))
+      ] (suffix_len-cons p x xs)
+
+  -- and the number of those between
+  pub ends_after-shown : (xs : List X) → (ends_after (record { shown = 0; top = 0; bottom = 0 }) xs).shown ≡ length xs - (prefix_len p xs + suffix_len p (drop (prefix_len p xs) xs))
+  ends_after-shown xs = omega (arith, total-ends_after (record { shown = 0; top = 0; bottom = 0 }) xs, (ends_after-front 0 xs).0, (ends_after-front 0 xs).1)
+
+pub length-without_blank_ends : (lines : List Text) → length (without_blank_ends lines) ≡ length lines - (blank_top lines + blank_bottom lines)
+unfolding without_blank_ends
+length-without_blank_ends lines = omega (arith, length-take (length lines - (blank_top lines + blank_bottom lines)) (drop (blank_top lines) lines), length-drop (blank_top lines) lines)
+
+-- the count of all lines is what is asked for
+pub counted-empty_lines : (lines : List Text) (e : BlankEnds) → ends_after is_blank (record { shown = 0; top = 0; bottom = 0 }) lines ≡ e → (e.shown, e.top, e.bottom) ≡ empty_lines_of lines
+unfolding blank_top blank_bottom
+counted-empty_lines lines e is =
+    let front = ends_after-front is_blank 0 lines in
+    let top : e.top ≡ prefix_len is_blank lines = omega (arith, front.0, ap (λ (x : BlankEnds). x.top) is) in
+    let bottom : e.bottom ≡ suffix_len is_blank (drop (prefix_len is_blank lines) lines) = sym (ap (λ (x : BlankEnds). x.bottom) is) ∙ front.1 in
+    let shown : e.shown ≡ length (without_blank_ends lines) = sym (ap (λ (x : BlankEnds). x.shown) is) ∙ ends_after-shown is_blank lines ∙ sym (length-without_blank_ends lines) in
+    λ i. (shown i, top i, bottom i)
+
+-- with no line left out, all are shown
+pub prefix_len-none : {X : Type 0} (xs : List X) → prefix_len (λ _. false) xs ≡ 0
+prefix_len-none [] = refl
+prefix_len-none (x ∷ xs) = refl
+
+-- ---- the facts of a text, from its lines in order
+
+-- a blank line, where blank lines at both ends are left out
+abbrev pub is_left_out : Formatting → Text → Bool
+is_left_out f line = f.vertical_trim && is_blank line
+
+-- the greatest width so far, and one line more
+abbrev pub wider : Bool → ℕ → Text → ℕ
+wider trim width line = max width (width_of (trimmed_if trim line))
+
+fold-wider : (trim : Bool) (lines : List Text) (width : ℕ) → fold (wider trim) width lines ≡ max width (greatest (map (λ line. width_of (trimmed_if trim line)) lines))
+fold-wider trim [] width = omega arith
+fold-wider trim (line ∷ lines) width = fold-wider trim lines (wider trim width line) ∙ omega arith
+
+-- the width of the widest line, line by line
+pub fold-widest : (trim : Bool) (text : Text) → fold (wider trim) 0 (lines_of text) ≡ greatest (map (λ line. width_of (trimmed_if trim line)) (lines_of text))
+fold-widest trim text = fold-wider trim (lines_of text) 0 ∙ omega arith
+
+-- without trim it is the text's width
+pub widest-untrimmed : (trim : Bool) (text : Text) → trim ≡ false → text_width_of text ≡ greatest (map (λ line. width_of (trimmed_if trim line)) (lines_of text))
+unfolding trimmed_if text_width_of
+widest-untrimmed true text untrimmed = cc
+widest-untrimmed false text untrimmed = refl
+
+-- with trim it is found line by line
+pub widest-trimmed : (b : Bool) (text : Text) → b ≡ true → fold (λ width line. max width (width_of (trim line))) 0 (lines_of text) ≡ greatest (map (λ line. width_of (trimmed_if b line)) (lines_of text))
+unfolding trimmed_if
+widest-trimmed true text trimmed = fold-widest true text
+widest-trimmed false text trimmed = cc
+
+shown-count : (f : Formatting) (text : Text) (e : BlankEnds) → ends_after (is_left_out f) (record { shown = 0; top = 0; bottom = 0 }) (lines_of text) ≡ e → e.shown ≡ length (shown f text)
+unfolding shown kept_lines blank_top blank_bottom
+shown-count f text e is =
+    sym (ap (λ (x : BlankEnds). x.shown) is) ∙ ends_after-shown (is_left_out f) (lines_of text)
+    ∙ elim f.vertical_trim as (λ v. length (lines_of text) - (prefix_len (λ line. v && is_blank line) (lines_of text) + suffix_len (λ line. v && is_blank line) (drop (prefix_len (λ line. v && is_blank line) (lines_of text)) (lines_of text))) ≡ length (map (trimmed_if f.horizontal_trim) (if v then without_blank_ends (lines_of text) else lines_of text))) [
+      | true ↦ sym (length-map (without_blank_ends (lines_of text)) (trimmed_if f.horizontal_trim) ∙ length-without_blank_ends (lines_of text))
+      | false ↦ omega (arith, prefix_len-none (lines_of text), prefix_len-none {X = Text}, length-map (lines_of text) (trimmed_if f.horizontal_trim))
+    ]
+
+skip-count : (f : Formatting) (text : Text) (e : BlankEnds) → ends_after (is_left_out f) (record { shown = 0; top = 0; bottom = 0 }) (lines_of text) ≡ e → e.top ≡ (if f.vertical_trim then blank_top (lines_of text) else 0)
+unfolding blank_top
+skip-count f text e is =
+    sym (ap (λ (x : BlankEnds). x.top) is) ∙ (ends_after-front (is_left_out f) 0 (lines_of text)).0
+    ∙ elim f.vertical_trim as (λ v. 0 + prefix_len (λ line. v && is_blank line) (lines_of text) ≡ (if v then prefix_len is_blank (lines_of text) else 0)) [
+      | true ↦ omega arith
+      | false ↦ omega (arith, prefix_len-none (lines_of text))
+    ]
+
+-- what is counted line by line are the facts
+pub facts_of-counted : (f : Formatting) (text : Text) (e : BlankEnds) (width : ℕ) → ends_after (is_left_out f) (record { shown = 0; top = 0; bottom = 0 }) (lines_of text) ≡ e → fold (wider f.horizontal_trim) 0 (lines_of text) ≡ width
+    → record { shown = e.shown; skip = e.top; widest = width } ≡ facts_of f text
+unfolding facts_of widest
+facts_of-counted f text e width counted widened =
+    let count = shown-count f text e counted in
+    let skip = skip-count f text e counted in
+    let wide = sym widened ∙ fold-widest f.horizontal_trim text in
+    λ i. record { shown = count i; skip = skip i; widest = wide i }
+
+-- a text of one line, as it is
+pub facts_of-single : (f : Formatting) (text : Text) (width : ℕ) → f.horizontal_trim ≡ false → f.vertical_trim ≡ false → lines_of text ≡ text ∷ [] → width ≡ width_of text → record { shown = 1; skip = 0; widest = width } ≡ facts_of f text
+unfolding facts_of widest shown kept_lines trimmed_if
+facts_of-single f text width h v one known =
+    let widest_of_one : ℕ → TextFacts = λ n. record { shown = 1; skip = 0; widest = n } in
+    let same : width ≡ max (width_of text) 0 = omega (arith, known) in
+    rw (h, v, one) (ap widest_of_one same)
+
+-- a text without a line feed is one line
+place-unfed : (text : Text) → list_all (λ b. not (is_feed b)) text ≡ true → feed_place text ≡ length text
+place-unfed [] unfed = refl
+place-unfed (b ∷ bs) unfed =
+    let parts = and_parts (not (is_feed b)) (list_all (λ x. not (is_feed x)) bs) unfed in
+    ap (λ v. cond v (1 + feed_place bs) 0) parts.0 ∙ omega (arith, place-unfed bs parts.1)
+
+pub lines_of-unfed : (text : Text) → list_all (λ b. not (is_feed b)) text ≡ true → lines_of text ≡ text ∷ []
+lines_of-unfed text unfed = lines_of-one text (place-unfed text unfed)
+
+-- without a vertical trim all lines of a text are shown
+pub length-shown : (f : Formatting) (text : Text) → f.vertical_trim ≡ false → length (shown f text) ≡ length (lines_of text)
+unfolding shown kept_lines
+length-shown f text off = rw off (length-map (lines_of text) (trimmed_if f.horizontal_trim))
+
+-- ---- the place of a text in its cell: shares that leave room, the lines that are shown, and the lines of the block
 
 -- ---- shares
 
@@ -293,3 +469,118 @@ cell_fits-width style text w h some fits = grind (arith, nat_tests)
 pub cell_fits-height : (style : Style) (text : Text) (w h : ℕ) → 0 < h → cell_fits style text w h ≡ true → style.padding.top.size ≤ h
 unfolding cell_fits
 cell_fits-height style text w h some fits = grind (arith, nat_tests)
+
+-- ---- a style draws the lines of a placed text as another one, where the two differ in their alignments alone and the place has a share for all
+-- lines
+
+module _ (s t : Style) where
+  pub draws-same : (left : Option ℕ) → s ≡ t → DrawsAs left s t
+  draws-same None e = e
+  draws-same (Some share) e = ap (λ (z : Style). record z { across = t.across; down = t.down }) e
+
+  -- where all lines have one left share, and the styles differ in their horizontal alignments
+  pub draws-across : (side : AlignmentHorizontal) (left : Option ℕ) (share : ℕ) → left ≡ Some share → record s { across = side } ≡ t → DrawsAs left s t
+  draws-across side left share is e = subst (λ l. DrawsAs l s t) (sym is) (subst (λ (z : Style). record s { across = z.across; down = z.down } ≡ z) e refl)
+
+  abbrev aligned : Style
+  aligned = record s { across = t.across; down = t.down }
+
+  drawn-at : (color : Option Color) (top shown skip share w i : ℕ) (line : Text)
+      → placed_line s color (record { top = top; shown = shown; skip = skip; left = Some share }) w i line ≡ placed_line aligned color (record { top = top; shown = shown; skip = skip; left = Some share }) w i line
+  unfolding placed_line shown_line inner_width
+  drawn-at color top shown skip share w i line = refl
+
+  -- they draw the same
+  pub draws : (left : Option ℕ) → DrawsAs left s t → (color : Option Color) (place : CellPlace) (w i : ℕ) (line : Text) → place.left ≡ left → placed_line s color place w i line ≡ placed_line t color place w i line
+  draws None e color place w i line is = ap (λ z. placed_line z color place w i line) e
+  draws (Some share) e color place w i line is =
+      let stands : place ≡ record { top = place.top; shown = place.shown; skip = place.skip; left = Some share } = ap (λ l. record { top = place.top; shown = place.shown; skip = place.skip; left = l }) is in
+      ap (λ p. placed_line s color p w i line) stands
+      ∙ drawn-at color place.top place.shown place.skip share w i line
+      ∙ sym (ap (λ p. placed_line aligned color p w i line) stands)
+      ∙ ap (λ z. placed_line z color place w i line) e
+
+  abbrev HasRoomIn : Option ℕ → ℕ → Text → Style → Type 0
+  HasRoomIn left w line z = ((z.padding.left.size + z.padding.right.size) + share_of z left w (width_of (trimmed_if z.formatting.horizontal_trim line))) + width_of (trimmed_if z.formatting.horizontal_trim line) ≤ w
+
+  -- and a line has room in both
+  pub room : (left : Option ℕ) → DrawsAs left s t → (w : ℕ) (line : Text) → HasRoomIn left w line t → HasRoomIn left w line s
+  room None e w line fits = subst (HasRoomIn None w line) (sym e) fits
+  room (Some share) e w line fits = subst (HasRoomIn (Some share) w line) (sym e) fits
+
+-- ---- where fills are one column wide, each line of a block is as wide as its cell, piece by piece
+
+pub pieces_width-append : (xs ys : List Piece) → pieces_width (xs ++ ys) ≡ pieces_width xs + pieces_width ys
+unfolding pieces_width
+pieces_width-append xs ys = sum_by-append piece_width xs ys
+
+pub pieces_width-cons : (x : Piece) (xs : List Piece) → pieces_width (x ∷ xs) ≡ piece_width x + pieces_width xs
+unfolding pieces_width
+pieces_width-cons x xs = sum_by-cons piece_width x xs
+
+pub pieces_width-fill : (c k : ℕ) (color : Option Color) → IsNarrow c → pieces_width (fill c k color) ≡ k
+unfolding pieces_width fill
+pieces_width-fill c zero color h = refl
+pieces_width-fill c (suc k) color h = rw h (zero-add (suc k * 1) ∙ mul-one (suc k))
+
+-- the left share and the line leave the rest to the right
+left_share-room : (style : Style) (text : Text) (w v : ℕ) → v ≤ widest style.formatting text → widest style.formatting text ≤ inner_width style w → left_share style text w v + v ≤ inner_width style w
+unfolding left_share
+left_share-room style text w v narrow room =
+    elim style.formatting.allow_lines_alignment as (λ b. (shares style.across (cond b v (widest style.formatting text)) (inner_width style w)).0 + v ≤ inner_width style w) [
+      | true ↦ omega (arith, left_share-le style.across v (inner_width style w))
+      | false ↦ omega (arith, left_share-le style.across (widest style.formatting text) (inner_width style w))
+    ]
+
+by_cases : {A : Type 0} (P : A → Type 0) (b c : Bool) {x y z : A} → P x → (b ≡ false → c ≡ true → P y) → P z → P (cond b x (cond c y z))
+by_cases P true c px py pz = px
+by_cases P false true px py pz = py refl refl
+by_cases P false false px py pz = pz
+
+-- no more lines are shown than there are, and none where there is no room below the top padding
+text_height-le : (style : Style) (text : Text) (h : ℕ) → (text_height style text h ≤ length (shown style.formatting text)) × (text_height style text h ≤ h)
+unfolding text_height
+text_height-le style text h = (omega arith, omega arith)
+
+module _ (style : Style) (color : Option Color) (w : ℕ) (narrow : HasNarrowFills style) where
+  line_with-width : (share : ℕ) (line : Text) → (style.padding.left.size + style.padding.right.size) ≤ w → share + width_of line ≤ inner_width style w → pieces_width (line_with style color w share line) ≡ w
+  unfolding inner_width
+  line_with-width share line pads room =
+      let left = fill style.padding.left.fill style.padding.left.size style.padding_color.left in
+      let before = fill style.justification share style.justification_color in
+      let after = fill style.justification (w - (style.padding.left.size + style.padding.right.size) - share - width_of line) style.justification_color in
+      let right = fill style.padding.right.fill style.padding.right.size style.padding_color.right in
+      let rest : List Piece = words line color ∷ (after ++ right) in
+      omega (
+        arith,
+        pieces_width-append left (before ++ rest),
+        pieces_width-append before rest,
+        pieces_width-cons (words line color) (after ++ right),
+        pieces_width-append after right,
+        pieces_width-fill style.padding.left.fill style.padding.left.size style.padding_color.left narrow.left,
+        pieces_width-fill style.justification share style.justification_color narrow.justification,
+        pieces_width-fill style.justification (w - (style.padding.left.size + style.padding.right.size) - share - width_of line) style.justification_color narrow.justification,
+        pieces_width-fill style.padding.right.fill style.padding.right.size style.padding_color.right narrow.right,
+        pads,
+        room,
+      )
+
+  module _ (text : Text) (room : (style.padding.left.size + style.padding.right.size) + widest style.formatting text ≤ w) where
+    text_line-width : (line : Text) → width_of line ≤ widest style.formatting text → pieces_width (text_line style color text w line) ≡ w
+    unfolding text_line inner_width
+    text_line-width line fits = line_with-width (left_share style text w (width_of line)) line (omega (arith, room)) (left_share-room style text w (width_of line) fits (omega (arith, room)))
+
+  -- a line of the block: where there is a text line, the cell has room
+  pub block_line-width : (text : Text) (h i : ℕ) → cell_fits style text w h ≡ true → pieces_width (block_line style color text w h i) ≡ w
+  unfolding block_line
+  block_line-width text h i fits =
+      let top : ℕ = text_top style text h in
+      let count : ℕ = text_height style text h in
+      let shown_lines : List Text = shown style.formatting text in
+      by_cases (λ pieces. pieces_width pieces ≡ w) (nat_lt i top) (nat_lt i (top + count))
+      (pieces_width-fill style.padding.top.fill w style.padding_color.top narrow.top)
+      (λ below above.
+      let inside : i - top < count = grind (arith, nat_tests, below, above) in
+      let few = text_height-le style text h in
+      text_line-width text (cell_fits-width style text w h (omega (arith, inside, few.1)) fits) (slice_index_or shown_lines (i - top) []) (shown-le-widest style.formatting text (i - top) (omega (arith, inside, few.0))))
+      (pieces_width-fill style.padding.bottom.fill w style.padding_color.bottom narrow.bottom)

@@ -1,16 +1,23 @@
--- Without spans each place is its own owner, and a line's place in its cell is its number.
-use Rattle.std.proofs.Common.{◌≡◌, ℕ, zero, suc, ◌+◌, ◌-◌, ◌<◌, true, false, ◌&&◌, ◌==◌, nat_lt, List, [], ◌++◌, map, length, refl, ap, ◌∙◌, arith, zero-add, append-nil, one-add}
+-- Tables without spans, and tables without row lines.
+use Rattle.std.proofs.Common.{◌≡◌, ℕ, zero, suc, ◌+◌, ◌-◌, ◌<◌, true, false, ◌&&◌, ◌==◌, nat_lt, List, [], ◌++◌, map, length, refl, ap, ◌∙◌, arith, zero-add, append-nil, one-add, Bool, not, ◌||◌, sym}
 use Rattle.std.specs.List.{range_with_len}
 use Rattle.std.proofs.lemmas.List.FromFn.{length-map-range_with_len}
 use Rattle.std.proofs.lemmas.Bool.Decides.{nat_tests}
 use Rattle.pg_layout.specs.declared.position.Position.{Position}
 use Rattle.pg_layout.specs.Position.{at}
-use Rattle.pg_config.specs.Config.{get_horizontal}
+use Rattle.pg_config.specs.Config.{get_horizontal, Config, has_equal_row_lines, has_horizontal}
 use Rattle.pg_config.specs.Spans.{size_of, rect_rows, rect_columns, owner, is_left, same_owner, begins_above}
 use Rattle.pg_picture.specs.Marks.{Mark, line, place_of}
 use Rattle.pg_picture.specs.Table.{Table, rect_marks, rect_height, rect_width, block_at, row_part, vertical, is_inside, is_covered, crossing, crossing_at, column_items, horizontal_items}
 use Rattle.pg_picture.specs.Plain.{cell_line}
 use Rattle.pg_picture.proofs.MarksOfRectangles.{marks_within-run, run_of, row_lines, rows_from}
+use Rattle.std.proofs.lemmas.Bool.{and_parts, false≢true, or_parts}
+use Rattle.pg_layout.specs.Borders.{has_top, has_bottom, has_inner_horizontal, has_side}
+use Rattle.pg_config.specs.Overrides.{sets_rows, overrides_row}
+use Rattle.pg_config.proofs.EqualLines.{nothing}
+use Rattle.pg_picture.specs.Inside.RowLines.{may_have_row_lines}
+
+-- ---- without spans each place is its own owner, and a line's place in its cell is its number
 
 -- the index of line i among the lines of its row
 place_in_lines : (r a n i : ℕ) → i < n → place_of (line r (a + i)) (map (line r) (range_with_len a n)) ≡ i
@@ -103,3 +110,32 @@ module _ (t : Table) (none : t.config.spans ≡ []) where
   pub column_items_plain_end : (r : ℕ) → column_items t r t.columns ≡ []
   unfolding column_items
   column_items_plain_end r = let e : nat_lt t.columns t.columns ≡ false = grind (arith, nat_tests) in rw (covered_plain r t.columns, e) refl
+
+-- ---- where no row line may be there, none is
+
+pub not-false : (b : Bool) → not b ≡ false → b ≡ true
+not-false true h = refl
+not-false false h = absurd (false≢true (sym h))
+
+module _ (config : Config) (none : may_have_row_lines config ≡ false) where
+  no-lines : (((has_top config.borders || has_bottom config.borders) || has_inner_horizontal config.borders) ≡ false) × (not (has_equal_row_lines config) ≡ false)
+  unfolding may_have_row_lines
+  no-lines = or_parts ((has_top config.borders || has_bottom config.borders) || has_inner_horizontal config.borders) (not (has_equal_row_lines config)) none
+
+  no-sides : (has_top config.borders ≡ false) × (has_bottom config.borders ≡ false) × (has_inner_horizontal config.borders ≡ false)
+  no-sides =
+      let inner = or_parts (has_top config.borders || has_bottom config.borders) (has_inner_horizontal config.borders) no-lines.0 in
+      let outer = or_parts (has_top config.borders) (has_bottom config.borders) inner.0 in
+      (outer.0, outer.1, inner.1)
+
+  no-sets : not (sets_rows config.overrides) ≡ true
+  unfolding has_equal_row_lines
+  no-sets = (and_parts _ _ (and_parts _ _ (not-false (has_equal_row_lines config) no-lines.1)).0).0
+
+  -- no place of a row line was overridden
+  no-overrides : (config.overrides.horizontals ≡ []) × (config.overrides.crossings ≡ [])
+  no-overrides = nothing config.overrides.horizontals config.overrides.crossings no-sets
+
+  pub no_row_line : (r rows : ℕ) → has_horizontal config r rows ≡ false
+  unfolding has_horizontal has_side overrides_row
+  no_row_line r rows = rw (no-sides.0, no-sides.1, no-sides.2, no-overrides.0, no-overrides.1) (grind (arith, nat_tests))

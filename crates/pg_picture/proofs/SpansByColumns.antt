@@ -5,13 +5,12 @@ use Rattle.std.specs.List.{list_all}
 use Rattle.std.specs.Option.{IfSome}
 use Rattle.std.proofs.lemmas.Bool.{cases_Bool, cases_lt, and_parts, and_from, false≢true}
 use Rattle.std.proofs.lemmas.Bool.Decides.{nat_tests}
-use Rattle.pg_layout.proofs.KeyOrders.{columns-laws}
+use Rattle.pg_layout.proofs.Places.{columns-laws, each-both, each-all, last-is, behind-stay, none-before}
 use Rattle.pg_layout.specs.declared.position.ColumnPlace.{ColumnPlace}
 use Rattle.pg_layout.specs.Keys.{by_columns, column_place}
 use Rattle.pg_layout.specs.Places.{before, Each, IsAscending, last_before, next_from}
 use Rattle.pg_layout.specs.declared.position.Position.{Position}
 use Rattle.pg_layout.specs.Position.{at}
-use Rattle.pg_layout.proofs.PlacesSearches.{each-both, each-all, last-is, behind-stay, none-before}
 use Rattle.pg_config.specs.Spans.{Span}
 use Rattle.pg_picture.specs.Fits.{are_apart, all_apart, span_fits, span_fits_columns}
 use Rattle.pg_picture.specs.Inside.SpansByColumns.{HasEnd, is_past, columns_apart, rows_apart, apart_right, ends_above, apart_at}

@@ -23,16 +23,14 @@ use Rattle.pg_picture.specs.Pieces.{Item, spaces, block, fill, style_at, pieces_
 use Rattle.pg_picture.specs.Table.{Table, Hint, rect_width, rect_height, block_at, is_inside, is_covered, vertical, vertical_at, row_part, line_of_row, crossing_at, crossing_item, crossing, border_items, horizontal_items, column_items, separator_part, separator_items, total_width, full_width, table_body, rect_marks, is_blank_at, side_margin, margin_line}
 use Rattle.pg_picture.specs.Fits.{all_apart, span_fits_columns, span_fits, spans_fit, spans_fit_columns, cell_fits, misfit_of}
 use Rattle.pg_picture.specs.Straight.{IsNarrow, CellsFit, HasNarrowGlyphs, HasNoGaps, HasNarrowMargins, HasStraightLines, HasStraightMargins, item_width, mark_width, body_line_width, IsStraight}
-use Rattle.pg_picture.proofs.Rooms.{fits}
-use Rattle.pg_picture.proofs.SumsOfSizes.{sum_by-from_more}
-use Rattle.pg_picture.proofs.Owners.{HasOwners, apart_from, owners_of, owner-own}
-use Rattle.pg_picture.proofs.MarksOfBodies.{All-body, All-enumerate_from}
-use Rattle.pg_picture.proofs.WidthsOfBlocks.{pieces_width-append, pieces_width-fill, block_line-width}
-use Rattle.pg_picture.proofs.WalksOfRows.{row_part_end, separator_part_end}
+use Rattle.pg_picture.proofs.FirstPlaces.{fits}
+use Rattle.pg_picture.proofs.Ranges.{sum_by-from_more}
+use Rattle.pg_picture.proofs.Owners.{HasOwners, apart_from, owners_of, owner-own, sum_by-flat_map, all_reached, total_width-columns, there, column_at, end_of, ahead, hanging, inside-facts, begins, ahead-begins, ahead-end, step-begins, step-inside, hanging-inside, hanging-begins, hanging-step, step-open, hanging-end}
+use Rattle.pg_picture.proofs.Pictures.{All-body, All-enumerate_from}
+use Rattle.pg_picture.proofs.PlacesOfTexts.{pieces_width-append, pieces_width-fill, block_line-width}
+use Rattle.pg_picture.proofs.WalksOfRows.{row_part_end, separator_part_end, left-there, row-begins, row-inside, covered-row, no-crossing, crossing-begins, crossing-open, column-inside, column-begins, column-open}
 use Rattle.pg_picture.proofs.FittingTables.{rect_inside, owner_fits-own}
 use Rattle.pg_picture.proofs.GlyphsOfLines.{get_vertical-none}
-use Rattle.pg_picture.proofs.PartsOfColumns.{left-there, row-begins, row-inside, covered-row, no-crossing, crossing-begins, crossing-open, column-inside, column-begins, column-open}
-use Rattle.pg_picture.proofs.ReachOfRectangles.{sum_by-flat_map, all_reached, total_width-columns, there, column_at, end_of, ahead, hanging, inside-facts, begins, ahead-begins, ahead-end, step-begins, step-inside, hanging-inside, hanging-begins, hanging-step, step-open, hanging-end}
 
 -- ---- glyphs
 

@@ -1,7 +1,5 @@
 -- Lemmas of this crate.
-pub mod BytesRead
+pub mod ScriptTables
 pub mod Computing
 pub mod NaturalTables
-pub mod PrintedGrids
 pub mod RightAnswers
-pub mod ScriptTables

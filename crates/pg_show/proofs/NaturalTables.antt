@@ -17,7 +17,7 @@ use Rattle.pg_table.specs.declared.fault.TableFault.TheVariants.{Totals}
 use Rattle.pg_table.proofs.NaturalRoom.{natural_tables_have_room}
 use Rattle.pg_show.specs.Show.{natural_config, natural_table_of_told, fault_of_table, Shows}
 use Rattle.pg_script.specs.Told.{Told}
-use Rattle.pg_show.proofs.PrintedGrids.{some≢none}
+use Rattle.pg_show.proofs.ScriptTables.{some≢none}
 use Rattle.pg_show.specs.declared.mode.Mode.TheVariants as mode
 
 -- what is printed of a table is printed of each that is the same

@@ -34,12 +34,12 @@ use Rattle.pg_stream.specs.declared.fault.StreamFault.{StreamFault}
 use Rattle.pg_stream.specs.declared.printer.frame.Frame.{Frame}
 use Rattle.pg_stream.specs.declared.printer.progress.Progress.{Progress}
 use Rattle.pg_stream.proofs.DrawnLines.{length_of_row}
-use Rattle.pg_stream.proofs.LiveRows.{live-make}
+use Rattle.pg_stream.proofs.PicturesOfRows.{live-make}
 use Rattle.pg_stream.proofs.draw.OpenLists.{all-open}
 use Rattle.pg_stream.proofs.stream.OwnRows.{owner-row, none-between, height-one_row, sep-resized, row-resized, lines-same}
 use Rattle.pg_stream.proofs.printer.RowsOfTables.{row_inside_body, AllSame}
 use Rattle.pg_stream.proofs.printer.RowsPrinted.{apart, owner-above}
-use Rattle.pg_stream.proofs.printer.Starting.{none-at}
+use Rattle.pg_stream.proofs.printer.Ending.{none-at}
 use Rattle.pg_picture.proofs.Owners.{Apart}
 
 -- ---- one row by one or the other heights

@@ -1,22 +1,8 @@
 -- Lemmas on open cells, and on the lines and separators that are drawn of them.
 pub mod Steps
-pub mod TextsOfRows
-pub mod PlacesInRows
 pub mod LinesOfSlots
-pub mod SeparatorsOfSlots
-pub mod CellLines
-pub mod CellsBegun
 pub mod OpenLists
 pub mod PartsOfLines
-pub mod PartsOfSeparators
-pub mod PartsOfLists
-pub mod Closing
-pub mod Reaches
-pub mod Beginning
-pub mod SeparatorsOfRows
 pub mod OwnersOfCells
-pub mod LinesOfCells
-pub mod SlotsOfCells
+pub mod Beginning
 pub mod SingleLines
-pub mod SingleCells
-pub mod EqualRowLines

@@ -1,15 +1,8 @@
 -- Lemmas on a printer of rows: before its first row, in a row, behind the last one, and on the rows that fit.
 pub mod RowsOfTables
 pub mod WholePictures
-pub mod PlainRooms
-pub mod Printers
-pub mod RowTexts
 pub mod RowsPrinted
 pub mod RowsAppended
-pub mod Starting
 pub mod Ending
 pub mod SingleRowsPrinted
-pub mod FittingCells
 pub mod MakingPrinters
-pub mod TableEnds
-pub mod ShownCells

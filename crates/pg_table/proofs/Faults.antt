@@ -1,7 +1,7 @@
--- What the fault of a table at its natural sizes tells.
-use Rattle.std.proofs.Common.{◌≡◌, ℕ, ◌==◌, ◌&&◌, ◌||◌, Bool, true, false, not, List, [], ◌∷◌, length, unwrap_or, refl, sym, ap, ◌∙◌, arith, Option, is_some, Some, None, Result, Ok, Err, inl, inr, String}
+-- The fault of a table at its natural sizes.
+use Rattle.std.proofs.Common.{◌≡◌, ℕ, ◌==◌, ◌&&◌, ◌||◌, Bool, true, false, not, List, [], ◌∷◌, length, unwrap_or, refl, sym, ap, ◌∙◌, arith, Option, is_some, Some, None, Result, Ok, Err, inl, inr, String, ◌<◌}
 use Rattle.std.specs.Result.{result_err}
-use Rattle.std.proofs.lemmas.Bool.{cases_Bool, false≢true}
+use Rattle.std.proofs.lemmas.Bool.{cases_Bool, false≢true, and_from}
 use Rattle.std.proofs.lemmas.Bool.Decides.{nat_tests}
 use Rattle.pg_layout.specs.Records.{text_at}
 use Rattle.pg_layout.specs.Text.{Text}
@@ -12,11 +12,16 @@ use Rattle.pg_picture.specs.Picture.{picture}
 use Rattle.pg_picture.specs.Table.{Table, Known, is_empty}
 use Rattle.pg_picture.proofs.Appending.{Appends-text, Gained-all, Gained-none}
 use Rattle.pg_picture.proofs.Pictures.{picture-none}
-use Rattle.pg_table.specs.Natural.{natural_sizes, all_fit, cells_fit}
+use Rattle.pg_table.specs.Natural.{natural_sizes, all_fit, cells_fit, natural_size}
 use Rattle.pg_table.specs.Printing.{fault_of, sizes_fault, is_spanned, CanFail, Prints}
 use Rattle.pg_table.specs.declared.fault.TableFault.{TableFault}
 use Rattle.pg_table.specs.declared.fault.TableFault.TheVariants.{Spans, Totals}
 use Rattle.pg_table.specs.declared.sizes.Axis.TheVariants.{Columns, Rows}
+use Rattle.pg_picture.proofs.OwnersOfPlaces.{InOrder}
+use Rattle.pg_table.proofs.ListedSizes.{all_fit-each}
+use Rattle.pg_table.proofs.ShownCells.{natural-at-most}
+
+-- ---- what the fault of a table at its natural sizes tells
 
 -- a table without cells has none
 pub fault-empty : (t : Table) → is_empty t ≡ true → fault_of t ≡ None
@@ -96,3 +101,17 @@ can-fail t r told fault is e known = inl (known ∙ ap (λ (f : TableFault). Som
 -- where nothing is appended to it, a buffer has gained the picture of a table without cells
 pub prints-nothing : {Z : Type 0} (t : Table) (buf : String Z) → is_empty t ≡ true → Prints (is_spanned t) (fault_of t) buf buf (Ok (tt {0})) (picture Known t)
 prints-nothing t buf empty = rw (fault-empty t empty) (inl (Appends-text (sym (picture-none Known t empty)) (Gained-all (Gained-none buf))), λ fault e. cc)
+
+-- ---- natural sizes of a table with cells whose spans fit are told where all shown cells fit
+
+module _ (config : Config) (texts : List (List Text)) (columns : ℕ) where
+  pub cells-no_fault : ((length texts == 0) || (columns == 0)) ≡ false → InOrder config.spans (length texts) columns → cells_fit config (text_at texts) (length texts) columns ≡ true → sizes_fault config texts columns ≡ None
+  unfolding natural_sizes
+  cells-no_fault some order all =
+      let rows : 0 < length texts = grind (arith, nat_tests, some) in
+      let cols : 0 < columns = grind (arith, nat_tests, some) in
+      let wide : all_fit (natural_sizes Columns config texts columns) ≡ true = all_fit-each (natural_size Columns config (text_at texts) (length texts) columns) columns (λ k h. natural-at-most config (text_at texts) (length texts) columns Columns k order all rows h) in
+      let high : all_fit (natural_sizes Rows config texts columns) ≡ true = all_fit-each (natural_size Rows config (text_at texts) (length texts) columns) (length texts) (λ k h. natural-at-most config (text_at texts) (length texts) columns Rows k order all cols h) in
+      sizes-numbers config texts columns (fit-passes _ _ order.fit)
+      (and_from (all_fit (natural_sizes Columns config texts columns) && all_fit (natural_sizes Rows config texts columns)) (cells_fit config (text_at texts) (length texts) columns)
+      (and_from (all_fit (natural_sizes Columns config texts columns)) (all_fit (natural_sizes Rows config texts columns)) wide high) all)

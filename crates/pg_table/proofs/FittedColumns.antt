@@ -25,8 +25,7 @@ use Rattle.pg_table.specs.Inside.Sizes.{plain_size}
 use Rattle.pg_table.specs.Fitted.{overflowed, fitted_text, least_text_width, least_column_width, beside_columns, limit_of, column_range, column_ranges, column_widths, fitted_at, column_texts}
 use Rattle.pg_table.proofs.ListedSizes.{size-at}
 use Rattle.pg_table.proofs.NaturalRoom.{full_width-is}
-use Rattle.pg_table.proofs.PlainCells.{cell-below}
-use Rattle.pg_table.proofs.PlainWidths.{plain-naturals}
+use Rattle.pg_table.proofs.PlainCells.{cell-below, plain-naturals}
 
 -- ---- numbers over a range
 

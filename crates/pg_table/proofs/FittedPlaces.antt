@@ -9,8 +9,7 @@ use Rattle.pg_layout.specs.Records.{text_at}
 use Rattle.pg_layout.specs.Text.{Text}
 use Rattle.pg_layout.specs.Keys.{by_place}
 use Rattle.pg_layout.specs.Places.{same, value_at, with_place}
-use Rattle.pg_layout.proofs.KeyOrders.{place-laws}
-use Rattle.pg_layout.proofs.PlacesLookups.{value_at-with_place}
+use Rattle.pg_layout.proofs.Places.{place-laws, value_at-with_place}
 use Rattle.pg_config.specs.Config.{Config, get_formatting}
 use Rattle.pg_fit.specs.Overlaid.{Overlay, text_or, other_text, row_from, overlaid}
 use Rattle.pg_layout.specs.Colors.{Color}
@@ -21,7 +20,7 @@ use Rattle.pg_table.specs.declared.sizes.Axis.TheVariants.{Columns}
 use Rattle.pg_table.specs.Natural.{paddings, natural_sizes, natural_table}
 use Rattle.pg_table.specs.Fitted.{limit_of, least_text_width, least_column_width, column_widths, text_room, fitted_at, column_texts, HasPlainTail}
 use Rattle.pg_table.specs.Inside.Fitting.{HasPlainWidths, plain_full_width, fitted_to, HasRoomAt, FitsColumn, AreFittedBelow}
-use Rattle.pg_table.proofs.LeastColumns.{cell-least}
+use Rattle.pg_table.proofs.ListedSizes.{cell-least}
 use Rattle.pg_table.proofs.FittedColumns.{least-narrowed, fitted_text-stays, cell-wide, same-listed, lines-narrow, columns-narrow}
 use Rattle.pg_table.proofs.NaturalRoom.{width-at}
 

@@ -20,8 +20,7 @@ use Rattle.pg_table.specs.Overflowing.{beside_columns, limit_of, HasPlainTail}
 use Rattle.pg_table.specs.Spanning.{keeps_spans, least_cell_width, widths_from, table_from, spanned_text, spanned_texts, spanned_widths}
 use Rattle.pg_table.proofs.FittedColumns.{same-listed, length-fitted}
 use Rattle.pg_table.proofs.FittedPlaces.{texts-are, table-is, table-narrow, columns-limited}
-use Rattle.pg_table.proofs.SpannedTexts.{width-is, full-is}
-use Rattle.pg_table.proofs.SpannedWidths.{rooms, sum-widths, width-limited, least-kept, full-kept}
+use Rattle.pg_table.proofs.SpannedWidths.{width-is, full-is, rooms, sum-widths, width-limited, least-kept, full-kept}
 use Rattle.pg_table.proofs.Sums.{sum-same}
 use Rattle.pg_table.proofs.ToldRooms.{HaveRoom}
 

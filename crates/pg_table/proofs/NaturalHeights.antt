@@ -15,19 +15,16 @@ use Rattle.pg_picture.specs.Pieces.{Style, style_at, shown}
 use Rattle.pg_picture.specs.Shown.{cell_shows_all, owner_shows_all, misfit_or_cell}
 use Rattle.pg_picture.specs.Table.{Table, is_empty, rect_height, rect_marks}
 use Rattle.pg_picture.specs.declared.fits.Misfit.{Misfit}
-use Rattle.pg_picture.proofs.FirstPlaces.{none_failed, unshown_of-misfit, unshown_of-cell}
-use Rattle.pg_picture.proofs.FittingGrids.{misfit-empty}
+use Rattle.pg_picture.proofs.FirstPlaces.{none_failed, unshown_of-misfit, unshown_of-cell, fits}
+use Rattle.pg_picture.proofs.FittingTables.{misfit-empty, unshown-empty, cell_shows_all-by_count}
 use Rattle.pg_picture.proofs.OwnersOfPlaces.{Among, find_cases}
 use Rattle.pg_picture.proofs.PlainTables.{rect_height-one_row}
-use Rattle.pg_picture.proofs.ReachOfRectangles.{is_at-same}
-use Rattle.pg_picture.proofs.Rooms.{fits}
-use Rattle.pg_picture.proofs.ShownGrids.{unshown-empty}
-use Rattle.pg_picture.proofs.ShownLines.{cell_shows_all-by_count}
+use Rattle.pg_picture.proofs.Owners.{is_at-same}
 use Rattle.pg_table.specs.Natural.{is_single, natural_table}
 use Rattle.pg_table.specs.ShownLaws.{NaturalHeightsShowAll, table_of_widths}
 use Rattle.pg_table.specs.declared.sizes.Axis.TheVariants.{Rows}
 use Rattle.pg_table.proofs.NaturalRoom.{all_fits, height-at, single_below, high_span}
-use Rattle.pg_table.proofs.Places.{size-single, size-corner}
+use Rattle.pg_table.proofs.ShownCells.{size-single, size-corner}
 
 -- a cell at least as high as its top padding and its lines
 high_enough : (style : Style) (text : Text) (h : ℕ) → style.padding.top.size + length (shown style.formatting text) ≤ h → cell_shows_all style text h ≡ true

@@ -1,5 +1,5 @@
--- A table at its natural sizes has room for each of its shown cells.
-use Rattle.std.proofs.Common.{◌≡◌, ℕ, ◌+◌, ◌-◌, ◌<◌, ◌≤◌, ◌&&◌, ◌==◌, true, false, not, nat_le, cond, List, [], map, length, find, sum_by, count_by, All, refl, sym, ap, ◌∙◌, subst, arith, Option, Some, None, inl, inr}
+-- A table at its natural sizes has room for its cells.
+use Rattle.std.proofs.Common.{◌≡◌, ℕ, ◌+◌, ◌-◌, ◌<◌, ◌≤◌, ◌&&◌, ◌==◌, true, false, not, nat_le, cond, List, [], map, length, find, sum_by, count_by, All, refl, sym, ap, ◌∙◌, subst, arith, Option, Some, None, inl, inr, slice_index}
 use Rattle.std.specs.List.{range_with_len, list_all}
 use Rattle.std.proofs.lemmas.Bool.{cases_Bool, and_from, and_parts, or_right}
 use Rattle.std.proofs.lemmas.Bool.Decides.{nat_tests}
@@ -11,31 +11,32 @@ use Rattle.pg_layout.specs.Text.{Text}
 use Rattle.pg_config.specs.Config.{Config, has_vertical, has_horizontal, count_vertical, count_horizontal}
 use Rattle.pg_config.specs.Spans.{Span, corner, in_span, owner, size_of, span_size, rect_rows, rect_columns}
 use Rattle.pg_config.specs.declared.spans.SpanSize.{SpanSize}
-use Rattle.pg_config.proofs.LinesLaw.{rows_stay}
+use Rattle.pg_config.proofs.EqualLines.{rows_stay}
 use Rattle.pg_picture.specs.Fitting.{TableFits}
 use Rattle.pg_picture.specs.Fits.{span_fits, all_apart, spans_fit, totals_fit, cell_fits, owner_fits, misfit_of, body_height}
 use Rattle.pg_picture.specs.Pieces.{Style, style_at, widest}
 use Rattle.pg_picture.specs.Table.{Table, is_empty, rect_width, rect_height, full_width, total_width}
 use Rattle.pg_picture.specs.declared.fits.Misfit.TheVariants.{Spans}
-use Rattle.pg_picture.proofs.FittingTables.{widths_fit, heights_fit}
-use Rattle.pg_picture.proofs.HeightsOfRectangles.{height_of_rect-sum, rect_height-of_rect}
+use Rattle.pg_picture.proofs.FittingTables.{widths_fit, heights_fit, misfit-empty}
+use Rattle.pg_picture.proofs.MarksOfRectangles.{height_of_rect-sum, rect_height-of_rect}
 use Rattle.pg_picture.proofs.OwnersOfPlaces.{Among, find_cases}
 use Rattle.pg_picture.proofs.PlainTables.{rect_height-one_row}
-use Rattle.pg_picture.proofs.ReachOfRectangles.{is_at-same}
-use Rattle.pg_picture.proofs.Rooms.{misfit_of-totals, fitting_tables_have_none}
-use Rattle.pg_picture.proofs.FittingGrids.{misfit-empty}
+use Rattle.pg_picture.proofs.Owners.{is_at-same}
+use Rattle.pg_picture.proofs.FirstPlaces.{misfit_of-totals, fitting_tables_have_none}
 use Rattle.pg_table.specs.Laws.{NaturalTablesHaveRoom, PlainSizes}
 use Rattle.pg_table.specs.Natural.{cell_size, cell_at, count, count_cells, is_single, size_of_singles, need_of, natural_size, natural_sizes, natural_table, all_fit}
 use Rattle.pg_table.specs.Widening.{widened}
 use Rattle.pg_table.specs.declared.needs.Need.{Need}
 use Rattle.pg_table.specs.declared.sizes.Axis.{Axis}
 use Rattle.pg_table.specs.declared.sizes.Axis.TheVariants.{Columns, Rows}
-use Rattle.pg_table.proofs.CellsBelow.{cell-below, natural-with_cells}
-use Rattle.pg_table.proofs.Exact.{cells_have_room, no_column_shrinks}
-use Rattle.pg_table.proofs.ListedSizes.{size-at, all_fit-each, sum-listed}
-use Rattle.pg_table.proofs.Places.{fits-among, all-among, among-all, size-single, size-corner}
+use Rattle.pg_table.proofs.ListedSizes.{cell-below, natural-with_cells, size-at, all_fit-each, sum-listed}
+use Rattle.pg_table.proofs.Widenings.{cells_have_room, no_column_shrinks, widened-stays, widened-base}
+use Rattle.pg_table.proofs.ShownCells.{fits-among, all-among, among-all, size-single, size-corner}
 use Rattle.pg_table.proofs.Sums.{sum-same}
-use Rattle.pg_table.proofs.Widenings.{widened-stays}
+use Rattle.std.proofs.lemmas.List.FromFn.{length-map-range_with_len, get_or-map-range_with_len, fill_by_all}
+use Rattle.pg_table.specs.Inside.Measuring.{with_room}
+
+-- ---- a table at its natural sizes has room for each of its shown cells
 
 -- a cell at least as wide as its paddings and its text, and at least as high as its top padding
 pub has_room : (style : Style) (text : Text) (w h : ℕ) → (style.padding.left.size + style.padding.right.size) + widest style.formatting text ≤ w → style.padding.top.size ≤ h → cell_fits style text w h ≡ true
@@ -241,3 +242,32 @@ unfolding size_of_singles
 plain_tables_are_as_they_were axis config text rows columns k none some =
     natural-with_cells axis config text rows columns k some
     ∙ rw none (widened-stays (size_of_singles axis (record config { spans = [] }) text (count_cells axis rows columns)) [] (λ i d h. absurd (omega (arith, h))) (count axis rows columns) k)
+
+-- ---- the sizes by single cells, widened, are the natural sizes
+
+pub map-below : (f g : ℕ → ℕ) (n : ℕ) → ((k : ℕ) → k < n → f k ≡ g k) → map f (range_with_len 0 n) ≡ map g (range_with_len 0 n)
+map-below f g n same = fill_by_all g (map f (range_with_len 0 n)) n 0 (length-map-range_with_len f 0 n) (λ k h. get_or-map-range_with_len f 0 n k k 0 h (omega arith) ∙ same k h)
+
+pub widened_sizes : (axis : Axis) (config : Config) (texts : List (List Text)) (columns : ℕ) → spans_fit config.spans (length texts) columns ≡ true → 0 < count_cells axis (length texts) columns → (s : List ℕ)
+    → s ≡ map (size_of_singles axis config (text_at texts) (count_cells axis (length texts) columns)) (range_with_len 0 (count axis (length texts) columns))
+    → with_room axis config texts columns s ≡ natural_sizes axis config texts columns
+unfolding natural_sizes with_room
+widened_sizes axis config texts columns fit some s is =
+    let n : ℕ = count axis (length texts) columns in
+    let base : ℕ → ℕ = size_of_singles axis config (text_at texts) (count_cells axis (length texts) columns) in
+    let ns : List Need = map (need_of axis config (text_at texts) (count axis (length texts) columns)) config.spans in
+    map-below (widened (slice_index s) ns n) (λ k. natural_size axis config (text_at texts) (length texts) columns k) n (λ k h.
+    widened-base (slice_index s) base ns n (needs_inside config texts columns (λ p. None) fit axis) (λ j l. ap (λ xs. slice_index xs j) is ∙ size-at base n j l) n k h
+    ∙ sym (natural-with_cells axis config (text_at texts) (length texts) columns k some))
+
+-- and where no cell has a span they are the natural sizes
+pub plain_sizes : (axis : Axis) (config : Config) (texts : List (List Text)) (columns : ℕ) → config.spans ≡ [] → 0 < count_cells axis (length texts) columns
+    → map (size_of_singles axis config (text_at texts) (count_cells axis (length texts) columns)) (range_with_len 0 (count axis (length texts) columns)) ≡ natural_sizes axis config texts columns
+unfolding natural_sizes
+plain_sizes axis config texts columns none some =
+    let n : ℕ = count axis (length texts) columns in
+    let base : ℕ → ℕ = size_of_singles axis config (text_at texts) (count_cells axis (length texts) columns) in
+    map-below (λ k. size_of_singles axis config (text_at texts) (count_cells axis (length texts) columns) k) (λ k. natural_size axis config (text_at texts) (length texts) columns k) n (λ k h.
+    sym (natural-with_cells axis config (text_at texts) (length texts) columns k some
+    ∙ ap (λ spans. widened base (map (need_of axis config (text_at texts) n) spans) n k) none
+    ∙ widened-stays base [] (λ i d l. absurd (omega (arith, l))) n k))

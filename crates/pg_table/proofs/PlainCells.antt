@@ -1,5 +1,5 @@
--- The size of a column or a row without spans is no less than its paddings and each of its cells.
-use Rattle.std.proofs.Common.{◌≡◌, ℕ, ◌==◌, ◌||◌, ◌<◌, ◌≤◌, true, List, [], map, length, sym, ap, ◌∙◌, None, arith}
+-- The size of a column or a row without spans.
+use Rattle.std.proofs.Common.{◌≡◌, ℕ, ◌==◌, ◌||◌, ◌<◌, ◌≤◌, true, List, [], map, length, sym, ap, ◌∙◌, None, arith, ◌∷◌, refl, inl, inr}
 use Rattle.std.specs.List.{range_with_len}
 use Rattle.std.proofs.lemmas.Bool.Decides.{nat_tests}
 use Rattle.pg_layout.specs.declared.position.Position.{Position}
@@ -8,16 +8,19 @@ use Rattle.pg_layout.specs.Text.{Text}
 use Rattle.pg_layout.proofs.Greatest.{greatest-reaches}
 use Rattle.pg_config.specs.Config.{Config}
 use Rattle.pg_picture.specs.Sizes.{if_fits}
-use Rattle.pg_picture.proofs.SumsOfSizes.{if_fits-past}
+use Rattle.pg_picture.proofs.Ranges.{if_fits-past}
 use Rattle.pg_table.specs.Natural.{paddings, cell_size, cell_at, count, count_cells, natural_size, natural_sizes, cells_fit}
 use Rattle.pg_table.specs.Inside.Sizes.{plain_size}
 use Rattle.pg_table.specs.declared.sizes.Axis.{Axis}
 use Rattle.pg_table.specs.declared.sizes.Axis.TheVariants.{Columns, Rows}
-use Rattle.pg_table.proofs.CellsBelow.{natural-without_cells}
-use Rattle.pg_table.proofs.ListedSizes.{none-past}
-use Rattle.pg_table.proofs.NaturalRoom.{plain_tables_are_as_they_were}
-use Rattle.pg_table.proofs.RoomOfNeeds.{map-below}
+use Rattle.pg_table.proofs.ListedSizes.{natural-without_cells, none-past}
+use Rattle.pg_table.proofs.NaturalRoom.{plain_tables_are_as_they_were, map-below}
 use Rattle.pg_table.proofs.ShownCells.{cells-from}
+use Rattle.std.proofs.lemmas.Bool.{cases_lt}
+use Rattle.pg_config.specs.Spans.{Span}
+use Rattle.pg_table.specs.Inside.Fitting.{HasPlainWidths}
+
+-- ---- the size of a column or a row without spans is no less than its paddings and each of its cells
 
 module _ (axis : Axis) (config : Config) (text : Position → Text) (cells k : ℕ) where
   pub cell-below : (j : ℕ) → j < cells → cell_size axis config text (cell_at axis k j) ≤ plain_size axis config text cells k
@@ -63,3 +66,27 @@ module _ (config : Config) (texts : List (List Text)) (columns : ℕ) (none : ((
     where
       no_cells : (r c : ℕ) → r < length texts → c < columns → ⊥
       no_cells r c h l = grind (arith, nat_tests, none, h, l)
+
+-- ---- natural widths without spans
+
+pub no-spans : (spans : List Span) → (length spans == 0) ≡ true → spans ≡ []
+no-spans [] h = refl
+no-spans (s ∷ spans) h = let none : length (s ∷ spans) ≡ 0 = grind (arith, nat_tests) in absurd (omega (arith, none))
+
+-- where no span is kept they are the natural ones, and so they are where there are no cells
+module _ (config : Config) (rows columns : ℕ) where
+  pub plain-widths : config.spans ≡ [] → HasPlainWidths config rows columns
+  plain-widths none text k h =
+      elim (cases_lt 0 rows) [
+        | inl some ↦ plain-natural Columns config text rows columns k none some
+        | inr past ↦ empty-natural Columns config text rows columns k (omega (arith, past))
+      ]
+
+  pub empty-widths : ((rows == 0) || (columns == 0)) ≡ true → HasPlainWidths config rows columns
+  empty-widths empty text k h = empty-natural Columns config text rows columns k (let none : rows ≡ 0 = grind (arith, nat_tests, empty, h) in none)
+
+-- so are their lists
+pub plain-naturals : (config : Config) (texts : List (List Text)) (columns : ℕ) → HasPlainWidths config (length texts) columns → map (plain_size Columns config (text_at texts) (length texts)) (range_with_len 0 columns) ≡ natural_sizes Columns config texts columns
+unfolding natural_sizes
+plain-naturals config texts columns plain =
+    map-below (plain_size Columns config (text_at texts) (length texts)) (natural_size Columns config (text_at texts) (length texts) columns) columns (λ k h. plain (text_at texts) k h)

@@ -13,8 +13,7 @@ use Rattle.pg_table.specs.Widening.{widened}
 use Rattle.pg_table.specs.declared.needs.Need.{Need}
 use Rattle.pg_table.specs.declared.sizes.Axis.TheVariants.{Columns}
 use Rattle.pg_table.proofs.ListedSizes.{size-at}
-use Rattle.pg_table.proofs.NaturalRoom.{needs_inside}
-use Rattle.pg_table.proofs.RoomOfNeeds.{map-below}
+use Rattle.pg_table.proofs.NaturalRoom.{needs_inside, map-below}
 use Rattle.pg_table.proofs.ToldTables.{listed}
 use Rattle.pg_table.proofs.Widenings.{widened-base}
 

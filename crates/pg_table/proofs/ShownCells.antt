@@ -1,27 +1,155 @@
--- The shown cells are those without a span and the corners of spans; and when all their sizes are numbers.
-use Rattle.std.proofs.Common.{◌≡◌, ℕ, zero, suc, ◌+◌, ◌-◌, ◌^◌, ◌<◌, ◌≤◌, zero-add, Bool, true, false, not, ◌&&◌, ◌||◌, ◌==◌, nat_lt, List, [], ◌∷◌, map, find, refl, sym, ap, ◌∙◌, arith, subst, Some, ◌⊎◌, inl, inr}
-use Rattle.std.specs.List.{range_with_len, list_all, list_any}
-use Rattle.std.proofs.lemmas.Bool.{cases_Bool, false≢true, and_from, and_parts}
+-- The shown cells: those without a span and the corners of spans, met in a walk along a row.
+use Rattle.std.proofs.Common.{◌≡◌, ℕ, true, List, [], ◌∷◌, map, find, All, refl, sym, ap, ◌∙◌, arith, subst, Option, Some, None, is_some, unwrap_or, inl, inr, ◌+◌, ◌<◌, ◌≤◌, Bool, false, is_none, zero, suc, ◌-◌, ◌^◌, zero-add, not, ◌&&◌, ◌||◌, ◌==◌, nat_lt, ◌⊎◌}
+use Rattle.std.specs.List.{list_all, range_with_len, list_any}
+use Rattle.std.proofs.lemmas.Bool.{cases_Bool, and_parts, false≢true, and_from}
 use Rattle.std.proofs.lemmas.Bool.Decides.{nat_tests}
-use Rattle.std.proofs.lemmas.List.FromFn.{length-range_with_len, get_or-range_with_len}
+use Rattle.std.proofs.lemmas.List.Elements.{All-nil, All-cons, All-head, All-tail}
 use Rattle.pg_layout.specs.declared.position.Position.{Position}
+use Rattle.pg_layout.specs.Keys.{by_columns, column_place}
+use Rattle.pg_layout.specs.Places.{same, value_at}
 use Rattle.pg_layout.specs.Position.{at}
+use Rattle.pg_config.specs.Spans.{Span, corner, in_span, size_of, span_size, owner, is_left, left_span, is_visible, is_covered_by_column, is_covered_by_row, is_covered_by_both}
+use Rattle.pg_picture.specs.Fits.{span_fits}
+use Rattle.pg_picture.proofs.OwnersOfPlaces.{Among, InOrder, option_cases, find_cases, left_found, left_sound, owner_alone, owner_is, room_among}
+use Rattle.pg_picture.specs.Inside.Rectangles.{columns_or_one}
+use Rattle.pg_table.specs.Natural.{is_single, cell_size, cell_at, count, count_cells, single_size, size_of_singles, need_of, natural_size, is_sized, all_fit, cells_fit}
+use Rattle.std.proofs.lemmas.List.FromFn.{length-range_with_len, get_or-range_with_len}
 use Rattle.pg_layout.specs.Text.{Text}
 use Rattle.pg_config.specs.Config.{Config}
-use Rattle.pg_config.specs.Spans.{Span, corner, in_span, is_visible, is_covered_by_column, is_covered_by_row, is_covered_by_both}
-use Rattle.pg_picture.proofs.OwnersOfPlaces.{Among, InOrder, find_cases, owner_is, room_among}
-use Rattle.pg_table.specs.Natural.{cell_size, cell_at, count, count_cells, is_single, single_size, size_of_singles, need_of, natural_size, is_sized, all_fit, cells_fit}
 use Rattle.pg_table.specs.Inside.Measuring.{IsHuge, HasHuge}
 use Rattle.pg_table.specs.Widening.{takes}
 use Rattle.pg_table.specs.declared.needs.Need.{Need}
 use Rattle.pg_table.specs.declared.sizes.Axis.{Axis}
 use Rattle.pg_table.specs.declared.sizes.Axis.TheVariants.{Columns, Rows}
-use Rattle.pg_table.proofs.CellsBelow.{cell-below, natural-with_cells}
-use Rattle.pg_table.proofs.Exact.{no_column_passes_its_cells}
-use Rattle.pg_table.proofs.ListedSizes.{each-fits}
-use Rattle.pg_table.proofs.Places.{all-among}
-use Rattle.pg_table.proofs.Walks.{found_some}
-use Rattle.pg_table.proofs.Widenings.{greatest-least}
+use Rattle.pg_table.proofs.ListedSizes.{cell-below, natural-with_cells, each-fits}
+use Rattle.pg_table.proofs.Widenings.{no_column_passes_its_cells, greatest-least}
+
+-- ---- what spans that fit tell of a place: which rectangle holds it, and which size is kept for it
+
+pub None≢Some : (u : Span) → Some u ≡ None → ⊥
+None≢Some u e = false≢true (sym (ap (λ (o : Option Span). is_some o) e))
+
+-- ---- each of some spans
+
+pub fits-among : (rows columns : ℕ) (spans : List Span) → list_all (span_fits rows columns) spans ≡ true → (s : Span) → Among spans s → span_fits rows columns s ≡ true
+fits-among rows columns [] all s m = absurd m
+fits-among rows columns (t ∷ ts) all s m =
+    let parts = and_parts (span_fits rows columns t) (list_all (span_fits rows columns) ts) all in
+    elim m [ inl e ↦ subst (λ x. span_fits rows columns x ≡ true) e parts.0 | inr n ↦ fits-among rows columns ts parts.1 s n ]
+
+pub all-among : {N : Type 0} (P : N → Type 0) (f : Span → N) (spans : List Span) → ((s : Span) → Among spans s → P (f s)) → All P (map f spans)
+all-among P f [] h = All-nil P
+all-among P f (t ∷ ts) h = All-cons P (f t) (map f ts) (h t (inl refl)) (all-among P f ts (λ s m. h s (inr m)))
+
+pub among-all : {N : Type 0} (P : N → Type 0) (f : Span → N) (spans : List Span) → All P (map f spans) → (s : Span) → Among spans s → P (f s)
+among-all P f [] all s m = absurd m
+among-all P f (t ∷ ts) all s m =
+    elim m [ inl e ↦ subst (λ x. P (f x)) e (All-head P (f t) (map f ts) all) | inr n ↦ among-all P f ts (All-tail P (f t) (map f ts) all) s n ]
+
+-- ---- the size that is kept for a place
+
+module _ (rows columns : ℕ) where
+  key_holds : (s : Span) (r c : ℕ) → span_fits rows columns s ≡ true → same by_columns s.0 (column_place (at r c)) ≡ true → in_span r c s ≡ true
+  key_holds s r c fits key = grind (arith, nat_tests, fits, key)
+
+  pub none-kept : (spans : List Span) (r c : ℕ) → list_all (span_fits rows columns) spans ≡ true → find (in_span r c) spans ≡ None → value_at by_columns (column_place (at r c)) spans ≡ None
+  none-kept [] r c all none = refl
+  none-kept (s ∷ ss) r c all none =
+      let parts = and_parts (span_fits rows columns s) (list_all (span_fits rows columns) ss) all in
+      elim (cases_Bool (in_span r c s)) [
+        | inl holds ↦ absurd (None≢Some s (rw holds at none))
+        | inr out ↦ elim (cases_Bool (same by_columns s.0 (column_place (at r c)))) [
+          | inl key ↦ absurd (false≢true (sym out ∙ key_holds s r c parts.0 key))
+          | inr other ↦ rw other (none-kept ss r c parts.1 (rw out at none))
+        ]
+      ]
+
+  corner_key : (s t : Span) (r c : ℕ) → s ≡ t → corner t ≡ at r c → same by_columns s.0 (column_place (at r c)) ≡ true
+  corner_key s t r c e corners =
+      let row : s.0.row ≡ r = ap (λ (x : Span). x.0.row) e ∙ ap (λ (p : Position). p.row) corners in
+      let col : s.0.col ≡ c = ap (λ (x : Span). x.0.col) e ∙ ap (λ (p : Position). p.col) corners in
+      grind (arith, nat_tests, row, col)
+
+  pub corner-kept : (spans : List Span) (t : Span) (r c : ℕ) → list_all (span_fits rows columns) spans ≡ true → find (in_span r c) spans ≡ Some t → corner t ≡ at r c → value_at by_columns (column_place (at r c)) spans ≡ Some t.1
+  corner-kept [] t r c all found corners = absurd (None≢Some t (sym found))
+  corner-kept (s ∷ ss) t r c all found corners =
+      let parts = and_parts (span_fits rows columns s) (list_all (span_fits rows columns) ss) all in
+      elim (cases_Bool (in_span r c s)) [
+        | inl holds ↦
+            let e : s ≡ t = ap (λ (o : Option Span). unwrap_or o s) (rw holds at found) in
+            rw (corner_key s t r c e corners) (ap (λ (x : Span). Some x.1) e)
+        | inr out ↦ elim (cases_Bool (same by_columns s.0 (column_place (at r c)))) [
+          | inl key ↦ absurd (false≢true (sym out ∙ key_holds s r c parts.0 key))
+          | inr other ↦ rw other (corner-kept ss t r c parts.1 (rw out at found) corners)
+        ]
+      ]
+
+  pub size-single : (spans : List Span) (r c : ℕ) → list_all (span_fits rows columns) spans ≡ true → find (in_span r c) spans ≡ None → size_of spans (at r c) ≡ span_size 1 1
+  unfolding size_of
+  size-single spans r c all none = rw (none-kept spans r c all none) refl
+
+  pub size-corner : (spans : List Span) (t : Span) (r c : ℕ) → list_all (span_fits rows columns) spans ≡ true → find (in_span r c) spans ≡ Some t → corner t ≡ at r c → size_of spans (at r c) ≡ t.1
+  unfolding size_of
+  size-corner spans t r c all found corners = rw (corner-kept spans t r c all found corners) refl
+
+-- ---- a walk along a row meets each cell without a span
+
+pub found_some : (test : Span → Bool) (spans : List Span) (s : Span) → Among spans s → test s ≡ true → is_none (find test spans) ≡ false
+found_some test [] s m h = absurd m
+found_some test (t ∷ ts) s m h =
+    elim (cases_Bool (test t)) [
+      | inl here ↦ rw here refl
+      | inr there ↦ elim m [
+        | inl e ↦ absurd (false≢true (sym there ∙ subst (λ x. test x ≡ true) (sym e) h))
+        | inr n ↦ rw there (found_some test ts s n h)
+      ]
+    ]
+
+module _ (spans : List Span) (rows columns : ℕ) (order : InOrder spans rows columns) where
+  -- a left column where the search finds nothing has a cell without a span
+  single_where_none : (r x : ℕ) → is_left spans r x ≡ true → left_span spans r x ≡ None → is_single spans (at r x) ≡ true
+  unfolding owner
+  single_where_none r x left none =
+      elim (find_cases (in_span r x) spans) [
+        | inl nothing ↦ rw nothing refl
+        | inr f ↦
+            let own : owner spans r x ≡ corner f.0 = rw f.1 refl in
+            let same : corner f.0 ≡ at r x = sym own ∙ owner_alone spans rows columns order r x left none in
+            let col : f.0.0.col ≡ x = ap (λ (p : Position). p.col) same in
+            absurd (None≢Some f.0 (sym (left_found spans rows columns order r x f.0 f.3 f.2 col) ∙ none))
+      ]
+
+  -- the places of a rectangle from its left column on have none
+  taken_where_some : (r x y : ℕ) (s : Span) → left_span spans r x ≡ Some s → x ≤ y → y < x + s.1.columns → is_single spans (at r y) ≡ false
+  taken_where_some r x y s found h l =
+      let f = left_sound spans rows columns order r x s found in
+      let holds : in_span r x s ≡ true = f.holds in
+      let left : s.0.col ≡ x = f.left in
+      let there : in_span r y s ≡ true = grind (arith, nat_tests, holds, left, h, l) in
+      found_some (in_span r y) spans s f.among there
+
+  -- so the search tells whether the place of a left column has one
+  pub told : (r x : ℕ) (found : Option Span) → is_left spans r x ≡ true → found ≡ left_span spans r x → is_none found ≡ is_single spans (at r x)
+  told r x found left is =
+      elim (option_cases found) [
+        | inl none ↦ ap (λ (o : Option Span). is_none o) none ∙ sym (single_where_none r x left (sym is ∙ none))
+        | inr some ↦
+            let here : left_span spans r x ≡ Some some.0 = sym is ∙ some.1 in
+            let holds : in_span r x some.0 ≡ true = (left_sound spans rows columns order r x some.0 here).holds in
+            let left_is : some.0.0.col ≡ x = (left_sound spans rows columns order r x some.0 here).left in
+            let some_columns : x < x + some.0.1.columns = grind (arith, nat_tests, holds, left_is) in
+            ap (λ (o : Option Span). is_none o) some.1 ∙ sym (taken_where_some r x x some.0 here (omega arith) some_columns)
+      ]
+
+  -- and those that a step passes have none
+  pub passed : (r x y w : ℕ) → w ≡ columns_or_one (left_span spans r x) → x < y → y < x + w → is_single spans (at r y) ≡ false
+  passed r x y w is h l =
+      elim (option_cases (left_span spans r x)) [
+        | inl none ↦ absurd (omega (arith, is, ap columns_or_one none, h, l))
+        | inr some ↦ taken_where_some r x y some.0 some.1 (omega (arith, h)) (omega (arith, l, is, ap columns_or_one some.1))
+      ]
+
+-- ---- the shown cells are those without a span and the corners of spans; and when all their sizes are numbers
 
 -- ---- which cells are shown
 
@@ -258,3 +386,41 @@ module _ (config : Config) (text : Position → Text) (rows columns : ℕ) where
         no_column_passes_its_cells base needs n k (2 ^ 64 - 1) (base-at-most axis k all h)
             (all-among (λ (need : Need). takes k need ≡ true → need.size ≤ 2 ^ 64 - 1) (need_of axis config text n) config.spans (λ s m. λ t. need-at-most axis s n (2 ^ 64 - 1) (corner-at-most axis s order all m))),
       )
+
+-- ---- a shown place where a search from its column on finds no rectangle has a cell without a span
+
+pub hidden-single : (spans : List Span) (p : Position) → is_visible spans p ≡ false → is_single spans p ≡ false
+hidden-single spans p hidden =
+    elim (cases_Bool (is_single spans p)) [
+      | inl single ↦ absurd (false≢true (sym hidden ∙ single-shown spans p single))
+      | inr none ↦ none
+    ]
+
+module _ (spans : List Span) (rows columns : ℕ) (order : InOrder spans rows columns) (p : Position) where
+  single-finds : is_single spans p ≡ true → is_none (left_span spans p.row p.col) ≡ true
+  single-finds single =
+      elim (option_cases (left_span spans p.row p.col)) [
+        | inl none ↦ ap (λ (o : Option Span). is_none o) none
+        | inr some ↦
+            let f = left_sound spans rows columns order p.row p.col some.0 some.1 in
+            absurd (false≢true (sym (found_some (in_span p.row p.col) spans some.0 f.among f.holds) ∙ single))
+      ]
+
+  corner-finds : (f : IsCorner spans p) → is_none (left_span spans p.row p.col) ≡ false
+  corner-finds f =
+      let s : Span = f.span in
+      let room = room_among spans rows columns order f.span f.among in
+      let row : f.span.0.row ≡ p.row = ap (λ (q : Position). q.row) f.is in
+      let col : f.span.0.col ≡ p.col = ap (λ (q : Position). q.col) f.is in
+      let holds : in_span p.row p.col f.span ≡ true = grind (arith, nat_tests, row, col, room.some_rows, room.some_columns) in
+      ap (λ (o : Option Span). is_none o) (left_found spans rows columns order p.row p.col f.span f.among holds col)
+
+  corner-not_single : IsCorner spans p → is_single spans p ≡ false
+  corner-not_single f = ap (λ (o : Option Span). is_none o) f.found
+
+  pub shown-single : is_visible spans p ≡ true → is_none (left_span spans p.row p.col) ≡ is_single spans p
+  shown-single shown =
+      elim (shown-cases spans p shown) [
+        | inl single ↦ single-finds single ∙ sym single
+        | inr f ↦ corner-finds f ∙ sym (corner-not_single f)
+      ]

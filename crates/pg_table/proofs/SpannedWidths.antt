@@ -1,7 +1,7 @@
--- The widths of the columns of a table that keeps spans, within a total.
-use Rattle.std.proofs.Common.{Bool, ◌≡◌, ℕ, zero, suc, ◌+◌, ◌-◌, ◌<◌, ◌≤◌, true, false, nat_le, max, List, map, length, get_or, slice_index, sum, sum_by, refl, sym, ap, ◌∙◌, arith, inl, inr, None}
+-- The widths of columns and the texts of a table that keeps spans, within a total.
+use Rattle.std.proofs.Common.{Bool, ◌≡◌, ℕ, zero, suc, ◌+◌, ◌-◌, ◌<◌, ◌≤◌, true, false, nat_le, max, List, map, length, get_or, slice_index, sum, sum_by, refl, sym, ap, ◌∙◌, arith, inl, inr, None, ◌⊎◌, ◌==◌, ◌||◌, not, find, ◌&&◌, [], subst, Option}
 use Rattle.std.specs.List.{range_with_len, list_all}
-use Rattle.std.proofs.lemmas.Bool.{cases_Bool, and_parts, false≢true}
+use Rattle.std.proofs.lemmas.Bool.{cases_Bool, and_parts, false≢true, cases_lt}
 use Rattle.std.proofs.lemmas.Bool.Decides.{nat_tests}
 use Rattle.std.proofs.lemmas.List.FromFn.{length-map-range_with_len, get_or-map-range_with_len}
 use Rattle.std.proofs.lemmas.List.Sums.{sum_by-cons}
@@ -9,25 +9,36 @@ use Rattle.pg_layout.specs.declared.position.Position.{Position}
 use Rattle.pg_layout.specs.Position.{at}
 use Rattle.pg_layout.specs.Records.{text_at}
 use Rattle.pg_layout.specs.Text.{Text}
-use Rattle.pg_config.specs.Config.{Config}
-use Rattle.pg_config.specs.Spans.{corner}
+use Rattle.pg_config.specs.Config.{Config, get_formatting}
+use Rattle.pg_config.specs.Spans.{corner, Span, in_span, size_of, span_size, rect_columns}
 use Rattle.pg_fit.specs.declared.narrowing.ColumnRange.{ColumnRange}
 use Rattle.pg_fit.specs.Narrowing.{limited, narrowed, least_total, none}
 use Rattle.pg_fit.proofs.NarrowedWidths.{fills, within_ranges, limits_hold}
 use Rattle.pg_picture.specs.Fits.{spans_fit}
 use Rattle.pg_table.specs.Fitted.{least_width_at, least_full_width}
-use Rattle.pg_table.specs.Natural.{cell_size, natural_size, natural_sizes}
-use Rattle.pg_table.specs.Overflowing.{beside_columns, limit_of}
-use Rattle.pg_table.specs.Spanning.{keeps_spans, least_cell_width, spanned_least_width, are_within, spanned_range, spanned_widths}
+use Rattle.pg_table.specs.Natural.{cell_size, natural_size, natural_sizes, is_single}
+use Rattle.pg_table.specs.Overflowing.{beside_columns, limit_of, HasPlainTail}
+use Rattle.pg_table.specs.Spanning.{keeps_spans, least_cell_width, spanned_least_width, are_within, spanned_range, spanned_widths, width_for, table_from, cell_room, spanned_text, spanned_texts}
 use Rattle.pg_table.specs.declared.overflow.Overflow.{Overflow}
 use Rattle.pg_table.specs.declared.sizes.Axis.TheVariants.{Columns}
 use Rattle.pg_table.proofs.FittedColumns.{sum-places, same-listed}
 use Rattle.pg_table.proofs.ListedSizes.{size-at}
 use Rattle.pg_table.proofs.NaturalRoom.{single_below, span_room}
-use Rattle.pg_table.proofs.ShownCells.{one_fails}
+use Rattle.pg_table.proofs.ShownCells.{one_fails, size-single, single-shown, corner-shown}
 use Rattle.pg_table.proofs.Sums.{sum-le, sum-same}
-use Rattle.pg_table.proofs.ToldRooms.{HaveRoom}
-use Rattle.pg_table.proofs.WidthsFor.{inside, single-below, corner-below, lines_in}
+use Rattle.pg_table.proofs.ToldRooms.{HaveRoom, inside, single-below, corner-below, lines_in, stays, all-fit}
+use Rattle.pg_layout.specs.Colors.{Color}
+use Rattle.pg_layout.specs.Keys.{by_place}
+use Rattle.pg_layout.specs.Places.{same}
+use Rattle.pg_config.specs.declared.spans.SpanSize.{SpanSize}
+use Rattle.pg_picture.specs.Pieces.{widest}
+use Rattle.pg_picture.specs.Sizes.{sized}
+use Rattle.pg_picture.specs.Table.{Table, full_width, total_width, rect_width}
+use Rattle.pg_picture.proofs.OwnersOfPlaces.{Among, InOrder, find_cases, size_of_corner}
+use Rattle.pg_table.specs.Inside.Fitting.{IsBefore, HasRoomTogether, AreFittedTo}
+use Rattle.pg_table.proofs.ToldTables.{width-at}
+
+-- ---- the widths of the columns of a table that keeps spans, within a total
 
 -- a test of all numbers below another one is one of each
 pub each-passes : (test : ℕ → Bool) (n k : ℕ) → list_all test (range_with_len 0 n) ≡ true → k < n → test k ≡ true
@@ -189,3 +200,164 @@ module _ (how : Overflow) (total : ℕ) (limits : List ℕ) (config : Config) (t
     pub full-kept : least_full_width how config texts columns ≡ sum_by least (range_with_len 0 columns) + beside_columns config columns
     unfolding least_full_width
     full-kept = ap (λ n. n + beside_columns config columns) (sum-same (least_width_at how config texts columns) least 0 columns (λ k _ _. least-kept k))
+
+-- ---- texts that are fitted to all columns of their cells, and the columns of their table
+
+-- ---- texts, place by place
+
+module _ (how : Overflow) (ws : List ℕ) (config : Config) (texts : List (List Text)) (columns : ℕ) where
+  abbrev pub To : ℕ → ℕ → (Position → Text) → Type 0
+  To row col now = AreFittedTo how ws config texts columns row col now
+
+  pub none-before : (now : Position → Text) → ((p : Position) → now p ≡ text_at texts p) → To 0 0 now
+  none-before now own = record {
+    fitted = λ p h k before. absurd (not_before p before);
+    others = λ p _. own p;
+    room = λ p h k before. absurd (not_before p before);
+  }
+    where
+      not_before : (p : Position) → IsBefore 0 0 p → ⊥
+      not_before p (inl low) = omega (arith, low)
+      not_before p (inr here) = omega (arith, here.1)
+
+  -- a row more
+  pub row-done : (row col : ℕ) (now : Position → Text) → col ≡ columns → To row col now → To (row + 1) 0 now
+  row-done row col now all so_far = record {
+    fitted = λ p h k before. so_far.fitted p h k (earlier p k before);
+    others = λ p after. so_far.others p (λ before. after (inl (later p before)));
+    room = λ p h k before. so_far.room p h k (earlier p k before);
+  }
+    where
+      earlier : (p : Position) → p.col < columns → IsBefore (row + 1) 0 p → IsBefore row col p
+      earlier p k (inl low) = elim (cases_lt p.row row) [ inl below ↦ inl below | inr past ↦ inr (omega (arith, low, past), omega (arith, k, all)) ]
+      earlier p k (inr here) = absurd (omega (arith, here.1))
+
+      later : (p : Position) → IsBefore row col p → p.row < row + 1
+      later p (inl low) = omega (arith, low)
+      later p (inr here) = omega (arith, here.0)
+
+  away : (p q : Position) → (q.row ≡ p.row → q.col ≡ p.col → ⊥) → same by_place p q ≡ false
+  away p q other =
+      elim (same by_place p q) as (λ v. same by_place p q ≡ v → v ≡ false) [
+        | true ↦ λ y. let row : q.row ≡ p.row = grind (arith, nat_tests) in let col : q.col ≡ p.col = grind (arith, nat_tests) in absurd (other row col)
+        | false ↦ λ n. refl
+      ] refl
+
+  -- a place more
+  pub place-more : (row col : ℕ) (old new : Position → Text) → To row col old
+      → new (at row col) ≡ spanned_text how ws config texts columns (at row col)
+      → ((q : Position) → same by_place (at row col) q ≡ false → new q ≡ old q)
+      → HasRoomTogether how ws config texts columns (at row col)
+      → To row (col + 1) new
+  place-more row col old new so_far here kept room = record {
+    fitted = λ p h k before.
+        elim (last p before) [
+          | inl earlier ↦ kept p (away (at row col) p (λ r c. not_here p earlier r c)) ∙ so_far.fitted p h k earlier
+          | inr is ↦ subst (λ (q : Position). new q ≡ spanned_text how ws config texts columns q) is here
+        ];
+    others = λ p after. kept p (away (at row col) p (λ r c. after (inr (r, omega (arith, c))))) ∙ so_far.others p (λ before. after (more p before));
+    room = λ p h k before.
+        elim (last p before) [
+          | inl earlier ↦ so_far.room p h k earlier
+          | inr is ↦ subst (λ (q : Position). HasRoomTogether how ws config texts columns q) is room
+        ];
+  }
+    where
+      more : (p : Position) → IsBefore row col p → IsBefore row (col + 1) p
+      more p (inl low) = inl low
+      more p (inr at_row) = inr (at_row.0, omega (arith, at_row.1))
+
+      place_is : (p : Position) → p.row ≡ row → p.col ≡ col → at row col ≡ p
+      place_is p r c = rw (sym r, sym c) refl
+
+      last : (p : Position) → IsBefore row (col + 1) p → IsBefore row col p ⊎ (at row col ≡ p)
+      last p (inl low) = inl (inl low)
+      last p (inr at_row) = elim (cases_lt p.col col) [ inl below ↦ inl (inr (at_row.0, below)) | inr past ↦ inr (place_is p at_row.0 (omega (arith, at_row.1, past))) ]
+
+      not_here : (p : Position) → IsBefore row col p → p.row ≡ row → p.col ≡ col → ⊥
+      not_here p (inl low) r c = omega (arith, low, r)
+      not_here p (inr at_row) r c = omega (arith, at_row.1, c)
+
+  -- ---- all texts
+
+  abbrev pub fitted : List (List Text)
+  fitted = spanned_texts how ws config texts columns
+
+  pub length-fitted : length fitted ≡ length texts
+  unfolding spanned_texts
+  length-fitted = length-map-range_with_len (λ r. map (λ c. spanned_text how ws config texts columns (at r c)) (range_with_len 0 columns)) 0 (length texts)
+
+  fitted-at : (r c : ℕ) → r < length texts → c < columns → text_at fitted (at r c) ≡ spanned_text how ws config texts columns (at r c)
+  unfolding spanned_texts
+  fitted-at r c h k =
+      ap (λ row. get_or row c []) (get_or-map-range_with_len (λ i. map (λ j. spanned_text how ws config texts columns (at i j)) (range_with_len 0 columns)) 0 (length texts) r r [] h (omega arith))
+      ∙ get_or-map-range_with_len (λ j. spanned_text how ws config texts columns (at r j)) 0 columns c c [] k (omega arith)
+
+  -- the room of a cell
+  room-is : (p : Position) → rect_width (sized config (slice_index ws) (λ r. 0) (length texts) columns) p ≡ cell_room ws config (length texts) columns p
+  unfolding cell_room
+  room-is p = refl
+
+  room-single : (r c : ℕ) → size_of config.spans (at r c) ≡ span_size 1 1 → cell_room ws config (length texts) columns (at r c) ≡ slice_index ws c
+  unfolding cell_room rect_width rect_columns
+  room-single r c one = let taken : (size_of config.spans (at r c)).columns ≡ 1 = ap (λ (z : SpanSize). z.columns) one in rw taken (omega arith)
+
+  room-corner : (s : Span) → size_of config.spans (corner s) ≡ s.1 → cell_room ws config (length texts) columns (corner s) ≡ sum_by (slice_index ws) (range_with_len s.0.col s.1.columns) + lines_in config columns s
+  unfolding cell_room rect_width rect_columns
+  room-corner s one = let taken : (size_of config.spans (corner s)).columns ≡ s.1.columns = ap (λ (z : SpanSize). z.columns) one in rw taken refl
+
+  -- ---- columns that have room for the least widths have room for the fitted texts
+
+  single-none : (r c : ℕ) → is_single config.spans (at r c) ≡ true → find (in_span r c) config.spans ≡ None
+  single-none r c single =
+      elim (find_cases (in_span r c) config.spans) [
+        | inl none ↦ none
+        | inr f ↦ absurd (false≢true (rw f.1 at single))
+      ]
+
+  module _ (order : InOrder config.spans (length texts) columns) (have : HaveRoom config (length texts) columns (least_cell_width how config (text_at texts)) (slice_index ws))
+      (plain : HasPlainTail how) (rooms_of : (p : Position) → p.row < length texts → p.col < columns → HasRoomTogether how ws config texts columns p) where
+    abbrev fit : spans_fit config.spans (length texts) columns ≡ true
+    fit = order.fit
+
+    fitted-single : (r c : ℕ) → r < length texts → c < columns → is_single config.spans (at r c) ≡ true → cell_size Columns config (text_at fitted) (at r c) ≤ slice_index ws c
+    fitted-single r c h l single =
+        let room = room-single r c (size-single (length texts) columns config.spans r c (all-fit config (length texts) columns (least_cell_width how config (text_at texts)) (λ k. 0) fit) (single-none r c single)) in
+        omega (
+          arith,
+          rooms_of (at r c) h l plain (single-shown config.spans (at r c) single) (omega (arith, room, have.singles r c h l single)),
+          room,
+          ap (widest (get_formatting config (at r c))) (fitted-at r c h l),
+        )
+
+    fitted-corner : (s : Span) → Among config.spans s → cell_size Columns config (text_at fitted) (corner s) ≤ sum_by (slice_index ws) (range_with_len s.0.col s.1.columns) + lines_in config columns s
+    fitted-corner s m =
+        let ends = inside config (length texts) columns (least_cell_width how config (text_at texts)) (λ k. 0) fit s m in
+        let row : s.0.row < length texts = omega (arith, ends.rows_end, ends.some_rows) in
+        let column : s.0.col < columns = omega (arith, ends.columns_end, ends.some_columns) in
+        let room = room-corner s (size_of_corner config.spans (length texts) columns order s m) in
+        omega (
+          arith,
+          rooms_of (corner s) row column plain (corner-shown config.spans (length texts) columns order s m) (omega (arith, room, have.corners s m)),
+          room,
+          ap (widest (get_formatting config (corner s))) (fitted-at s.0.row s.0.col row column),
+        )
+
+    pub widths-stay : (k : ℕ) → k < columns → width_for config (length fitted) columns (cell_size Columns config (text_at fitted)) (slice_index ws) k ≡ slice_index ws k
+    widths-stay k h =
+        ap (λ n. width_for config n columns (cell_size Columns config (text_at fitted)) (slice_index ws) k) length-fitted
+        ∙ stays config (length texts) columns (cell_size Columns config (text_at fitted)) (slice_index ws) fit fitted-single fitted-corner k h
+
+    module _ (color : Position → Option Color) (kept : keeps_spans config texts columns ≡ true) where
+      abbrev table : Table
+      table = table_from ws config fitted columns color
+
+      kept-fitted : keeps_spans config fitted columns ≡ true
+      kept-fitted = ap (λ n. not ((n == 0) || (columns == 0)) && not (length config.spans == 0)) length-fitted ∙ kept
+
+      pub width-is : (k : ℕ) → k < columns → table.width k ≡ slice_index ws k
+      width-is k h = width-at ws config fitted columns color kept-fitted k h ∙ widths-stay k h
+
+      pub full-is : full_width table ≡ sum_by (slice_index ws) (range_with_len 0 columns) + beside_columns config columns
+      unfolding full_width total_width
+      full-is = omega (arith, sum-same table.width (slice_index ws) 0 columns (λ k _ h. width-is k (omega (arith, h))))

@@ -1,15 +1,15 @@
--- Tables at their natural sizes are straight.
-use Rattle.std.proofs.Common.{◌≡◌, ℕ, ◌<◌, ◌==◌, true, false, List, length, Bool, refl, arith, Option, Some, None, IfSome, inl, inr}
+-- Straight tables: at natural sizes, in narrow looks, and with titles that change nothing.
+use Rattle.std.proofs.Common.{◌≡◌, ℕ, ◌<◌, ◌==◌, true, false, List, length, Bool, refl, arith, Option, Some, None, IfSome, inl, inr, [], ◌∷◌, map, sym, ◌∙◌, zero, suc, ◌+◌, ◌≤◌, ◌&&◌, nat_lt, if◌then◌else◌, encode_utf8, subst}
 use Rattle.std.specs.Option.{option_or}
-use Rattle.std.specs.Prelude.{String, string_bytes, Result, Ok, Err, IfOk, IsOk}
-use Rattle.std.proofs.lemmas.Bool.{cases_Bool}
+use Rattle.std.specs.Prelude.{String, string_bytes, Result, Ok, Err, IfOk, IsOk, OnErr, OnOk}
+use Rattle.std.proofs.lemmas.Bool.{cases_Bool, false≢true, and_parts}
 use Rattle.std.proofs.lemmas.Bool.Decides.{nat_tests}
 use Rattle.pg_layout.specs.declared.position.Position.{Position}
-use Rattle.pg_layout.specs.Borders.{ends}
+use Rattle.pg_layout.specs.Borders.{ends, horizontal_glyph, vertical_glyph, crossing_glyph}
 use Rattle.pg_layout.specs.Colors.{Color}
 use Rattle.pg_layout.specs.Position.{at}
-use Rattle.pg_layout.specs.Text.{Text}
-use Rattle.pg_config.specs.Config.{Config, missing_if, get_horizontal, get_vertical, get_intersection}
+use Rattle.pg_layout.specs.Text.{Text, width_of}
+use Rattle.pg_config.specs.Config.{Config, missing_if, get_horizontal, get_vertical, get_intersection, has_horizontal, default_config, get_padding, get_justification}
 use Rattle.pg_config.specs.Offsets.{Offsets, no_offsets, lookup_offset}
 use Rattle.pg_picture.specs.Straight.{IsNarrow, HasNarrowFills, HasNarrowMargins, HasNarrowGlyphs, CellsFit, IsStraight}
 use Rattle.pg_picture.specs.Picture.{picture}
@@ -18,11 +18,36 @@ use Rattle.pg_picture.specs.Table.{Table, Known}
 use Rattle.pg_picture.specs.Fits.{spans_fit, totals_fit}
 use Rattle.pg_picture.proofs.StraightColumns.{columns_are_straight, margins_are_straight}
 use Rattle.pg_picture.proofs.GlyphsOfLines.{missing_glyph_fills_gaps}
-use Rattle.pg_table.specs.Even.{HasNarrowLines, HasEvenLines, IsEven, IsEvenText}
+use Rattle.pg_table.specs.Even.{HasNarrowLines, HasEvenLines, IsEven, IsEvenText, HasNarrowSides, IsNarrowLook, is_line_glyph, is_line_glyph_if, are_line_glyphs, is_of_line_glyphs, are_line_fills}
 use Rattle.pg_table.specs.Natural.{natural_table}
-use Rattle.pg_table.specs.Printing.{fault_of}
+use Rattle.pg_table.specs.Printing.{fault_of, Parts, ascii_config, with_header_line}
 use Rattle.pg_table.proofs.NaturalRoom.{fits}
 use Rattle.pg_table.proofs.Faults.{fault-none}
+use Rattle.std.proofs.lemmas.List.{length-map}
+use Rattle.std.proofs.lemmas.Str.{chars-nil}
+use Rattle.pg_layout.specs.declared.alignment.AlignmentHorizontal.{AlignmentHorizontal}
+use Rattle.pg_config.specs.LineGlyphs.{with_line_glyphs}
+use Rattle.pg_table.specs.OwnRows.{titled}
+use Rattle.pg_table.specs.Titles.{with_title}
+use Rattle.std.specs.List.{list_all, range_with_len}
+use Rattle.unicode_width.proofs.Computing.{unicode_width}
+use Rattle.pg_layout.specs.declared.borders.Borders.{Borders}
+use Rattle.pg_layout.specs.declared.borders.HorizontalLine.{HorizontalLine}
+use Rattle.pg_layout.specs.declared.position.Entity.TheVariants.{Global}
+use Rattle.pg_layout.specs.declared.sides.Indent.{Indent}
+use Rattle.pg_layout.specs.declared.sides.Sides.{Sides}
+use Rattle.pg_layout.specs.Keys.{by_place}
+use Rattle.pg_layout.specs.Looks.{ascii}
+use Rattle.pg_layout.specs.Places.{same, value_at}
+use Rattle.pg_layout.proofs.Places.{place-laws}
+use Rattle.pg_config.specs.Overrides.{Overrides, with_row, with_row_line, line_crossing, horizontal_override, vertical_override, crossing_override}
+use Rattle.pg_config.specs.Settings.{Settings, setting_of, with_setting}
+use Rattle.pg_config.specs.Spans.{Span}
+use Rattle.pg_config.proofs.Lookups.{value_at-with_some}
+use Rattle.pg_table.specs.Laws.{LooksAreNarrow}
+use Rattle.pg_table.specs.Panels.{with_inner_line}
+
+-- ---- tables at their natural sizes are straight
 
 -- what is found first is narrow where both are
 pub first_narrow : (a b : Option ℕ) → IfSome a IsNarrow → IfSome b IsNarrow → IfSome (option_or a b) IsNarrow
@@ -107,3 +132,285 @@ ends_narrow a b c i n first middle last =
       | inl y ↦ rw y first
       | inr x ↦ elim (cases_Bool (i == n)) [ inl y ↦ rw (x, y) last | inr y ↦ rw (x, y) middle ]
     ]
+
+-- ---- titles that change nothing: an empty one, and one over a line that isn't there
+
+pub no_text : (text : Text) → (length text == 0) ≡ true → text ≡ []
+no_text [] none = refl
+no_text (c ∷ cs) none = let some : (length (c ∷ cs) == 0) ≡ false = grind (arith, nat_tests) in absurd (false≢true (sym some ∙ none))
+
+module _ {T : Type 0} (text : T → Text) (r : ℕ) (side : AlignmentHorizontal) (t : Parts T) where
+  pub untitled-absent : (title : Text) → has_horizontal t.config r (length t.rows) ≡ false → titled r side title text t ≡ t
+  unfolding with_title with_line_glyphs
+  untitled-absent title absent = rw (length-map t.rows (λ row. map text row), absent) refl
+
+  pub untitled-empty : (title : Text) → title ≡ [] → titled r side title text t ≡ t
+  unfolding with_title with_line_glyphs
+  untitled-empty title empty =
+      elim (cases_Bool (has_horizontal t.config r (length t.rows))) [
+        | inl there ↦ rw (empty, chars-nil, length-map t.rows (λ row. map text row), there) refl
+        | inr absent ↦ untitled-absent title absent
+      ]
+
+-- ---- looks, lines below a header and paddings that take one column a glyph
+
+-- ---- glyphs
+
+-- a character takes one column
+is_one : ℕ → Bool
+is_one c = width_of (encode_utf8 c) == 1
+
+equal : (n k : ℕ) → (n == k) ≡ true → n ≡ k
+equal n k h = grind (arith, nat_tests, h)
+
+one : (c : ℕ) → is_one c ≡ true → IsNarrow c
+unfolding is_one
+one c h = equal (width_of (encode_utf8 c)) 1 h
+
+ascii-ones : list_all is_one (range_with_len 32 95) ≡ true
+unfolding unicode_width width_of is_one
+ascii-ones = refl
+
+box-ones : list_all is_one (range_with_len 9472 128) ≡ true
+unfolding unicode_width width_of is_one
+box-ones = refl
+
+in_range : (p : ℕ → Bool) (a n c : ℕ) → list_all p (range_with_len a n) ≡ true → a ≤ c → c < a + n → p c ≡ true
+in_range p a zero c all low high = absurd (omega arith)
+in_range p a (suc n) c all low high =
+    let parts = and_parts (p a) (list_all p (range_with_len (a + 1) n)) all in
+    elim (cases_Bool (a == c)) [
+      | inl y ↦ let is : a ≡ c = grind (arith, nat_tests, y) in subst (λ (k : ℕ). p k ≡ true) is parts.0
+      | inr x ↦ let other : ¬ (a ≡ c) = grind (arith, nat_tests, x) in in_range p (a + 1) n c parts.1 (omega (arith, other)) (omega arith)
+    ]
+
+-- printable ASCII and box drawings do
+narrow : (c : ℕ) → is_line_glyph c ≡ true → IsNarrow c
+narrow c h =
+    elim (cases_Bool (nat_lt 9471 c)) [
+      | inl y ↦
+          let low : 9472 ≤ c = grind (arith, nat_tests, y) in
+          let high : c < 9472 + 128 = grind (arith, nat_tests, h, y) in
+          one c (in_range is_one 9472 128 c box-ones low high)
+      | inr x ↦
+          let low : 32 ≤ c = grind (arith, nat_tests, h, x) in
+          let high : c < 32 + 95 = grind (arith, nat_tests, h, x) in
+          one c (in_range is_one 32 95 c ascii-ones low high)
+    ]
+
+narrow_if : (o : Option ℕ) → is_line_glyph_if o ≡ true → IfSome o IsNarrow
+narrow_if None h = tt
+narrow_if (Some c) h = narrow c h
+
+-- one of three at a place of a line
+three : (a b c : Option ℕ) (i n : ℕ) → list_all is_line_glyph_if (a ∷ b ∷ c ∷ []) ≡ true → IfSome (ends a b c i n) IsNarrow
+three a b c i n h =
+    let first = and_parts (is_line_glyph_if a) (is_line_glyph_if b && (is_line_glyph_if c && true)) h in
+    let next = and_parts (is_line_glyph_if b) (is_line_glyph_if c && true) first.1 in
+    let last = and_parts (is_line_glyph_if c) true next.1 in
+    ends_narrow a b c i n (narrow_if a first.0) (narrow_if b next.0) (narrow_if c last.0)
+
+-- ---- borders
+
+module _ (config : Config) (look : IsNarrowLook config) where
+  -- fills stay where borders change
+  fills-borders : (b : Borders ℕ) (p : Position) → HasNarrowFills (style_at (record config { borders = b }) p)
+  unfolding style_at get_padding get_justification
+  fills-borders b p = record { left = (look.fills p).left; right = (look.fills p).right; top = (look.fills p).top; bottom = (look.fills p).bottom; justification = (look.fills p).justification }
+
+  pub told-borders : (b : Borders ℕ) → are_line_glyphs b ≡ true → IsNarrowLook (record config { borders = b })
+  unfolding horizontal_glyph vertical_glyph crossing_glyph
+  told-borders b h =
+      let parts = and_parts (list_all is_line_glyph_if (b.top ∷ b.horizontal ∷ b.bottom ∷ []) && list_all is_line_glyph_if (b.left ∷ b.vertical ∷ b.right ∷ [])) (list_all is_line_glyph_if (b.top_left ∷ b.top_intersection ∷ b.top_right ∷ []) && (list_all is_line_glyph_if (b.left_intersection ∷ b.intersection ∷ b.right_intersection ∷ []) && list_all is_line_glyph_if (b.bottom_left ∷ b.bottom_intersection ∷ b.bottom_right ∷ []))) h in
+      let lines = and_parts (list_all is_line_glyph_if (b.top ∷ b.horizontal ∷ b.bottom ∷ [])) (list_all is_line_glyph_if (b.left ∷ b.vertical ∷ b.right ∷ [])) parts.0 in
+      let tops = and_parts (list_all is_line_glyph_if (b.top_left ∷ b.top_intersection ∷ b.top_right ∷ [])) (list_all is_line_glyph_if (b.left_intersection ∷ b.intersection ∷ b.right_intersection ∷ []) && list_all is_line_glyph_if (b.bottom_left ∷ b.bottom_intersection ∷ b.bottom_right ∷ [])) parts.1 in
+      let others = and_parts (list_all is_line_glyph_if (b.left_intersection ∷ b.intersection ∷ b.right_intersection ∷ [])) (list_all is_line_glyph_if (b.bottom_left ∷ b.bottom_intersection ∷ b.bottom_right ∷ [])) tops.1 in
+      record {
+        lines = record {
+          horizontals = λ r rows. three b.top b.horizontal b.bottom r rows lines.0;
+          verticals = λ c columns. three b.left b.vertical b.right c columns lines.1;
+          crossings = λ r c rows columns. ends_narrow _ _ _ r rows (three b.top_left b.top_intersection b.top_right c columns tops.0) (three b.left_intersection b.intersection b.right_intersection c columns others.0) (three b.bottom_left b.bottom_intersection b.bottom_right c columns others.1);
+          set_horizontals = look.lines.set_horizontals;
+          set_verticals = look.lines.set_verticals;
+          set_crossings = look.lines.set_crossings;
+          missing = look.lines.missing;
+          has_missing = look.lines.has_missing;
+          horizontal_parts = look.lines.horizontal_parts;
+          vertical_parts = look.lines.vertical_parts;
+        };
+        fills = fills-borders b;
+        margins = look.margins;
+      }
+
+-- ---- lines below a header
+
+if_narrow : (b : Bool) (x y : Option ℕ) → IfSome x IsNarrow → IfSome y IsNarrow → IfSome (if b then x else y) IsNarrow
+if_narrow true x y h k = h
+if_narrow false x y h k = k
+
+-- a row of places that get narrow glyphs
+row_narrow : (r n : ℕ) (values : ℕ → Option ℕ) (es : List (Position × ℕ)) (p : Position) → ((c : ℕ) → IfSome (values c) IsNarrow) → IfSome (value_at by_place p es) IsNarrow → IfSome (value_at by_place p (with_row r n values es)) IsNarrow
+row_narrow r zero values es p all was = was
+row_narrow r (suc c) values es p all was =
+    let before = row_narrow r c values es p all was in
+    rw (value_at-with_some place-laws p (at r c) (values c) (with_row r c values es)) (if_narrow (same by_place (at r c) p) _ _ (first_narrow (values c) _ (all c) before) before)
+
+module _ (config : Config) (look : IsNarrowLook config) where
+  fills-overrides : (o : Overrides ℕ) (p : Position) → HasNarrowFills (style_at (record config { overrides = o }) p)
+  unfolding style_at get_padding get_justification
+  fills-overrides o p = record { left = (look.fills p).left; right = (look.fills p).right; top = (look.fills p).top; bottom = (look.fills p).bottom; justification = (look.fills p).justification }
+
+  row-line : (r columns : ℕ) (line : HorizontalLine ℕ) → is_of_line_glyphs line ≡ true → IsNarrowLook (record config { overrides = record config.overrides { horizontals = with_row r columns (λ c. line.main) config.overrides.horizontals; crossings = with_row r (columns + 1) (λ c. line_crossing line columns c) config.overrides.crossings } })
+  unfolding horizontal_override vertical_override crossing_override
+  row-line r columns line h =
+      let parts = and_parts (is_line_glyph_if line.main) (list_all is_line_glyph_if (line.left ∷ line.intersection ∷ line.right ∷ [])) h in
+      record {
+        lines = record {
+          horizontals = look.lines.horizontals;
+          verticals = look.lines.verticals;
+          crossings = look.lines.crossings;
+          set_horizontals = λ p. row_narrow r columns (λ c. line.main) config.overrides.horizontals p (λ c. narrow_if line.main parts.0) (look.lines.set_horizontals p);
+          set_verticals = look.lines.set_verticals;
+          set_crossings = λ p. row_narrow r (columns + 1) (λ c. line_crossing line columns c) config.overrides.crossings p (λ c. three line.left line.intersection line.right c columns parts.1) (look.lines.set_crossings p);
+          missing = look.lines.missing;
+          has_missing = look.lines.has_missing;
+          horizontal_parts = look.lines.horizontal_parts;
+          vertical_parts = look.lines.vertical_parts;
+        };
+        fills = fills-overrides _;
+        margins = look.margins;
+      }
+
+  pub told-line : (r : ℕ) (line : HorizontalLine ℕ) (columns : ℕ) → is_of_line_glyphs line ≡ true → IsNarrowLook (record config { overrides = with_row_line r columns line config.overrides })
+  unfolding with_row_line
+  told-line r line columns h =
+      elim (cases_Bool (columns == 0)) [
+        | inl none ↦ rw none look
+        | inr wide ↦ rw wide (row-line r columns line h)
+      ]
+
+  pub told-inner : (r : ℕ) (line : HorizontalLine ℕ) (rows columns : ℕ) → is_of_line_glyphs line ≡ true → IsNarrowLook (with_inner_line r line rows columns config)
+  told-inner r line rows columns h =
+      elim (cases_Bool (nat_lt 0 r && nat_lt r rows)) [
+        | inr outside ↦ rw outside look
+        | inl inside ↦ rw inside (told-line r line columns h)
+      ]
+
+  pub told-header : (line : HorizontalLine ℕ) (rows columns : ℕ) → is_of_line_glyphs line ≡ true → IsNarrowLook (with_header_line line rows columns config)
+  told-header line rows columns h =
+      elim (cases_Bool (nat_lt 1 rows)) [
+        | inr few ↦ rw few look
+        | inl some ↦ rw some (told-line 1 line columns h)
+      ]
+
+-- ---- paddings and sides of texts
+
+sides : (s : Sides Indent) → are_line_fills s ≡ true → HasNarrowSides s
+sides s h =
+    let left = and_parts (is_line_glyph s.left.fill) (list_all is_line_glyph (s.right.fill ∷ s.top.fill ∷ s.bottom.fill ∷ [])) h in
+    let right = and_parts (is_line_glyph s.right.fill) (list_all is_line_glyph (s.top.fill ∷ s.bottom.fill ∷ [])) left.1 in
+    let top = and_parts (is_line_glyph s.top.fill) (list_all is_line_glyph (s.bottom.fill ∷ [])) right.1 in
+    let bottom = and_parts (is_line_glyph s.bottom.fill) true top.1 in
+    record { left = narrow _ left.0; right = narrow _ right.0; top = narrow _ top.0; bottom = narrow _ bottom.0 }
+
+-- the lines aren't changed by them
+lines-beside : (config : Config) → HasNarrowLines config → (padding : Settings (Sides Indent)) (across : Settings AlignmentHorizontal) → HasNarrowLines (record config { padding = padding; alignment_horizontal = across })
+lines-beside config lines padding across = record {
+  horizontals = lines.horizontals;
+  verticals = lines.verticals;
+  crossings = lines.crossings;
+  set_horizontals = lines.set_horizontals;
+  set_verticals = lines.set_verticals;
+  set_crossings = lines.set_crossings;
+  missing = lines.missing;
+  has_missing = lines.has_missing;
+  horizontal_parts = lines.horizontal_parts;
+  vertical_parts = lines.vertical_parts;
+}
+
+module _ (config : Config) (look : IsNarrowLook config) where
+  fills-padding : (s : Sides Indent) → HasNarrowSides s → (p : Position) → HasNarrowFills (style_at (record config { padding = with_setting Global s config.padding }) p)
+  unfolding style_at get_padding get_justification with_setting setting_of
+  fills-padding s fills p = record { left = fills.left; right = fills.right; top = fills.top; bottom = fills.bottom; justification = (look.fills p).justification }
+
+  pub told-padding : (s : Sides Indent) → are_line_fills s ≡ true → IsNarrowLook (record config { padding = with_setting Global s config.padding })
+  told-padding s h = record { lines = lines-beside config look.lines (with_setting Global s config.padding) config.alignment_horizontal; fills = fills-padding s (sides s h); margins = look.margins }
+
+  fills-alignment : (across : Settings AlignmentHorizontal) (p : Position) → HasNarrowFills (style_at (record config { alignment_horizontal = across }) p)
+  unfolding style_at get_padding get_justification
+  fills-alignment across p = record { left = (look.fills p).left; right = (look.fills p).right; top = (look.fills p).top; bottom = (look.fills p).bottom; justification = (look.fills p).justification }
+
+  pub told-alignment : (across : Settings AlignmentHorizontal) → IsNarrowLook (record config { alignment_horizontal = across })
+  told-alignment across = record { lines = lines-beside config look.lines config.padding across; fills = fills-alignment across; margins = look.margins }
+
+-- ---- spans
+
+module _ (config : Config) (look : IsNarrowLook config) where
+  fills-spans : (spans : List Span) (p : Position) → HasNarrowFills (style_at (record config { spans = spans }) p)
+  unfolding style_at get_padding get_justification
+  fills-spans spans p = record { left = (look.fills p).left; right = (look.fills p).right; top = (look.fills p).top; bottom = (look.fills p).bottom; justification = (look.fills p).justification }
+
+  pub told-spans : (spans : List Span) → IsNarrowLook (record config { spans = spans })
+  told-spans spans = record {
+    lines = record {
+      horizontals = look.lines.horizontals;
+      verticals = look.lines.verticals;
+      crossings = look.lines.crossings;
+      set_horizontals = look.lines.set_horizontals;
+      set_verticals = look.lines.set_verticals;
+      set_crossings = look.lines.set_crossings;
+      missing = look.lines.missing;
+      has_missing = look.lines.has_missing;
+      horizontal_parts = look.lines.horizontal_parts;
+      vertical_parts = look.lines.vertical_parts;
+    };
+    fills = fills-spans spans;
+    margins = look.margins;
+  }
+
+-- what a setting does where memory isn't refused
+pub where-ok : {V E P : Type 0} (r : Result V E) → IsOk r → OnOk r P → P
+where-ok (Ok value) ok is = is
+where-ok (Err error) ok is = absurd (false≢true ok)
+
+-- a configuration that is told, or stays where memory is refused
+pub told-or-same : {V E : Type 0} (r : Result V E) (new told old : Config) → OnOk r (new ≡ told) → OnErr r (new ≡ old) → IsNarrowLook told → IsNarrowLook old → IsNarrowLook new
+told-or-same (Ok value) new told old is same told-narrow was = rw is told-narrow
+told-or-same (Err error) new told old is same told-narrow was = rw same was
+
+-- ---- a configuration that was told ASCII borders alone
+
+space : IsNarrow 32
+space = narrow 32 refl
+
+nothing : IsNarrowLook default_config
+unfolding default_config horizontal_glyph vertical_glyph crossing_glyph horizontal_override vertical_override crossing_override style_at get_padding get_justification setting_of
+nothing = record {
+  lines = record {
+    horizontals = λ r rows. three None None None r rows refl;
+    verticals = λ c columns. three None None None c columns refl;
+    crossings = λ r c rows columns. ends_narrow _ _ _ r rows (three None None None c columns refl) (three None None None c columns refl) (three None None None c columns refl);
+    set_horizontals = λ p. tt;
+    set_verticals = λ p. tt;
+    set_crossings = λ p. tt;
+    missing = space;
+    has_missing = search;
+    horizontal_parts = refl;
+    vertical_parts = refl;
+  };
+  fills = λ p. record { left = space; right = space; top = space; bottom = space; justification = space };
+  margins = record { left = space; right = space; top = space; bottom = space };
+}
+
+pub told-nothing : IsNarrowLook ascii_config
+told-nothing = told-borders default_config nothing ascii refl
+
+pub looks-are-narrow : LooksAreNarrow
+looks-are-narrow = record {
+  first = told-nothing;
+  borders = λ config b h look. told-borders config look b h;
+  header = λ config line rows columns h look. told-header config look line rows columns h;
+  padding = λ config s h look. told-padding config look s h;
+  looks = refl;
+  lines = refl;
+}

@@ -1,9 +1,13 @@
--- Sums over numbers that follow each other.
-use Rattle.std.proofs.Common.{◌≡◌, ℕ, zero, suc, ◌+◌, ◌<◌, ◌≤◌, sum_by, refl, ap, arith, inl, inr}
+-- Sums over numbers that follow each other, and shares that make up a number.
+use Rattle.std.proofs.Common.{◌≡◌, ℕ, zero, suc, ◌+◌, ◌<◌, ◌≤◌, sum_by, refl, ap, arith, inl, inr, ◌-◌, ◌*◌, ◌/◌, ◌%◌, min, true, false, nat_lt, suc-mul, subst}
 use Rattle.std.specs.List.{range_with_len}
-use Rattle.std.proofs.lemmas.Bool.{cases_order}
+use Rattle.std.proofs.lemmas.Bool.{cases_order, cases_lt}
 use Rattle.std.proofs.lemmas.List.Sums.{sum_by-cons}
 pub use Rattle.pg_config.proofs.Ranges.{sum_by-from_more}
+use Rattle.std.proofs.lemmas.Bool.Decides.{nat_tests}
+use Rattle.pg_table.specs.Widening.{share}
+
+-- ---- sums over numbers that follow each other
 
 -- one that is no less at each number has no less a sum
 pub sum-le : (f g : ℕ → ℕ) (a n : ℕ) → ((k : ℕ) → a ≤ k → k < a + n → f k ≤ g k) → sum_by f (range_with_len a n) ≤ sum_by g (range_with_len a n)
@@ -37,3 +41,36 @@ sum-part f a (suc n) k h l =
         | inr above ↦ omega (arith, sum_by-cons f a (range_with_len (a + 1) n), sum-part f (a + 1) n k (omega (arith, above)) (omega (arith, l)))
       ]
     ]
+
+-- ---- the shares of a number make it up
+
+-- what a share is
+one_more : (x n j : ℕ) → j < x % n → share x n j ≡ x / n + 1
+one_more x n j h = let e : nat_lt j (x % n) ≡ true = grind (arith, nat_tests, h) in rw e refl
+
+no_more : (x n j : ℕ) → x % n ≤ j → share x n j ≡ x / n
+no_more x n j h = let e : nat_lt j (x % n) ≡ false = grind (arith, nat_tests, h) in rw e (omega arith)
+
+-- the first m shares, which begin at a number a
+first_shares : (x n a m : ℕ) → sum_by (λ k. share x n (k - a)) (range_with_len a m) ≡ m * (x / n) + min m (x % n)
+first_shares x n a zero = omega arith
+first_shares x n a (suc m) =
+    let q : m + 1 ≡ suc m = omega arith in
+    let place : (a + m) - a ≡ m = omega arith in
+    let more = subst (λ i. sum_by (λ k. share x n (k - a)) (range_with_len a i) ≡ sum_by (λ k. share x n (k - a)) (range_with_len a m) + share x n ((a + m) - a)) q (sum_by-from_more (λ k. share x n (k - a)) a m) in
+    let last : share x n ((a + m) - a) ≡ share x n m = ap (λ j. share x n j) place in
+    let before = first_shares x n a m in
+    elim (cases_lt m (x % n)) [
+      | inl h ↦ let here = one_more x n m h in omega (arith, more, last, before, here, suc-mul m (x / n))
+      | inr h ↦ let here = no_more x n m h in omega (arith, more, last, before, here, suc-mul m (x / n))
+    ]
+
+-- all of them
+pub sum-shares : (x n a : ℕ) → 0 < n → sum_by (λ k. share x n (k - a)) (range_with_len a n) ≡ x
+sum-shares x n a h = omega (arith, first_shares x n a n)
+
+-- one of them is no more than the number
+pub share-le : (x n j : ℕ) → j < n → share x n j ≤ x
+share-le x n j h =
+    let same : share x n (j - 0) ≡ share x n j = ap (λ i. share x n i) (omega arith) in
+    omega (arith, sum-part (λ k. share x n (k - 0)) 0 n j (omega arith) (omega (arith, h)), sum-shares x n 0 (omega (arith, h)), same)

@@ -24,8 +24,7 @@ use Rattle.pg_table.proofs.ListedSizes.{size-at}
 use Rattle.pg_table.proofs.StraightTables.{straight-of, even-of}
 use Rattle.pg_table.proofs.Sums.{sum-same}
 use Rattle.pg_table.proofs.ToldRooms as told_rooms
-use Rattle.pg_table.proofs.ToldRooms.{HaveRoom}
-use Rattle.pg_table.proofs.WidthsFor.{inside, single-below, corner-below}
+use Rattle.pg_table.proofs.ToldRooms.{HaveRoom, inside, single-below, corner-below}
 
 module _ (told : List ℕ) (config : Config) (texts : List (List Text)) (columns : ℕ) (color : Position → Option Color) where
   abbrev table : Table

@@ -15,8 +15,7 @@ use Rattle.pg_picture.proofs.FittingTables.{widths_fit, heights_fit, rect_inside
 use Rattle.pg_table.specs.Natural.{is_single, is_sized, natural_sizes, natural_table, cells_fit}
 use Rattle.pg_table.specs.declared.sizes.Axis.TheVariants.{Columns, Rows}
 use Rattle.pg_table.proofs.NaturalRoom.{width-at, height-at, single_below, all_fits, wide_span, high_span}
-use Rattle.pg_table.proofs.Places.{size-corner}
-use Rattle.pg_table.proofs.ShownCells.{IsCorner, shown-cases, sized-from, cells-from}
+use Rattle.pg_table.proofs.ShownCells.{size-corner, IsCorner, shown-cases, sized-from, cells-from}
 
 module _ (config : Config) (texts : List (List Text)) (columns : ℕ) (color : Position → Option Color) where
   abbrev table : Table

@@ -1,5 +1,5 @@
--- A trimmed line is no wider than the line.
-use Rattle.std.proofs.Common.{◌≡◌, ℕ, zero, suc, ◌+◌, ◌<◌, ◌≤◌, Bool, true, false, cond, ◌==◌, ◌&&◌, nat_le, not, List, [], ◌∷◌, ◌++◌, length, replicate, chars, Option, Some, None, encode_utf8_all, refl, sym, ap, subst, ◌∙◌, arith, lit<}
+-- A trimmed line is no wider than the line, and a text that is wrapped or cut is shown within its width.
+use Rattle.std.proofs.Common.{◌≡◌, ℕ, zero, suc, ◌+◌, ◌<◌, ◌≤◌, Bool, true, false, cond, ◌==◌, ◌&&◌, nat_le, not, List, [], ◌∷◌, ◌++◌, length, replicate, chars, Option, Some, None, encode_utf8_all, refl, sym, ap, subst, ◌∙◌, arith, lit<, map}
 use Rattle.std.specs.Char.{is_whitespace}
 use Rattle.std.specs.List.{list_all, range_with_len}
 use Rattle.std.specs.Str.{IsUtf8, skip_leading_whitespace, drop_trailing_whitespace, trim, trim_start, trim_end}
@@ -15,8 +15,12 @@ use Rattle.unicode_width.specs.declared.state.State.{State}
 use Rattle.unicode_width.specs.Width.{before, is_emoji_variation_base, is_joined_emoji, if_kept, plain, alone, joined_or, joins, before_alef, is_lam, is_tifinagh, is_indicator, is_plain, skips_marks, past_selectors, in_context, past_emoji, step, read_before, str_width}
 use Rattle.unicode_width.proofs.Computing.{unicode_width}
 use Rattle.unicode_width.proofs.Rules.{is_simple, str_width-append_simple}
-use Rattle.pg_layout.specs.Text.{Text, width_of}
-use Rattle.pg_fit.proofs.LawsOfTexts.{NoFeeds, NoFeeds-rest}
+use Rattle.pg_layout.specs.Text.{Text, width_of, lines_of, text_width_of, greatest}
+use Rattle.pg_fit.proofs.LawsOfTexts.{NoFeeds, NoFeeds-rest, IsLine, EachLine, lines_of-lines}
+use Rattle.pg_layout.specs.declared.alignment.Formatting.{Formatting}
+use Rattle.pg_picture.specs.Pieces.{trimmed_if, widest}
+
+-- ---- a trimmed line is no wider than the line
 
 -- ---- a white character at the front takes nothing away
 
@@ -284,3 +288,19 @@ trim-narrower line utf8 none =
     let rest = dropped skipped in
     let lacks : NoFeeds (front ++ rest.0) = subst NoFeeds rest.1 (NoFeeds-skip cs (NoFeeds-chars cs (subst NoFeeds (sym (encodes-chars line utf8)) none))) in
     omega (arith, is, white-tail front rest.0 rest.2 (NoFeeds-rest front rest.0 lacks), ap (str_width false) rest.1, skip-narrower cs)
+
+-- ---- texts that are wrapped or cut to a width are shown within it
+
+trimmed-narrower : (b : Bool) (line : Text) → IsLine line → width_of (trimmed_if b line) ≤ width_of line
+unfolding trimmed_if
+trimmed-narrower true line is = trim-narrower line is.0 is.1
+trimmed-narrower false line is = omega arith
+
+lines-narrower : (b : Bool) (lines : List Text) → EachLine lines → greatest (map (λ line. width_of (trimmed_if b line)) lines) ≤ greatest (map width_of lines)
+lines-narrower b [] each = omega arith
+lines-narrower b (line ∷ lines) each = omega (arith, trimmed-narrower b line each.0, lines-narrower b lines each.1)
+
+-- what is shown of a text is no wider than the text
+pub widest-narrower : (f : Formatting) (text : Text) → IsUtf8 text → widest f text ≤ text_width_of text
+unfolding widest text_width_of
+widest-narrower f text utf8 = lines-narrower f.horizontal_trim (lines_of text) (lines_of-lines text utf8)

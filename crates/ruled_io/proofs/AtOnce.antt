@@ -26,7 +26,7 @@ use Rattle.ruled_io.specs.Steps.{Draws, DrawsInMemory, EndsBelow, FailsIn, Grows
 use Rattle.ruled_io.specs.Writing.{Begins}
 use Rattle.ruled_io.specs.declared.fault.RunFault.{RunFault}
 use Rattle.ruled_io.specs.declared.fault.RunFault.TheVariants.{Input, Read, Closed, Write}
-use Rattle.ruled_table.proofs.WholeTables.{chosen-named as tables-named}
+use Rattle.ruled_table.proofs.Tables.{chosen-named as tables-named}
 use Rattle.ruled_io.proofs.Drawn.{begun-none, begun-whole}
 use Rattle.ruled_io.proofs.Growing.{begins-behind, begins-longer, begins-none, grows-more, nears-more, nears-on}
 use Rattle.ruled_io.proofs.Written.{Goes, goes-end, goes-on}

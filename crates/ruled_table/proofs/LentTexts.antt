@@ -1,19 +1,26 @@
--- Rows whose texts are fields of records.
-use Rattle.std.proofs.Common.{◌≡◌, ◌<◌, ◌∙◌, ◌∷◌, ℕ, zero, suc, Bool, true, false, List, [], map, length, slice_index_or, All, encode_utf8_all, flat_map, refl, sym, ap, arith}
+-- Rows whose texts are fields of records, with names, sizes and escapes.
+use Rattle.std.proofs.Common.{◌≡◌, ◌<◌, ◌∙◌, ◌∷◌, ℕ, zero, suc, Bool, true, false, List, [], map, length, slice_index_or, All, encode_utf8_all, flat_map, refl, sym, ap, arith, ap₂, Some, None, ◌==◌, ◌||◌, ◌++◌, not, chars, encode_utf8, IsUtf8}
 use Rattle.std.proofs.lemmas.List.{length-map}
 use Rattle.std.proofs.lemmas.List.Elements.{All-map}
 use Rattle.std.proofs.lemmas.Simd.{map-map}
-use Rattle.std.proofs.lemmas.Str.{chars-nil}
+use Rattle.std.proofs.lemmas.Str.{chars-nil, encodes-chars}
 use Rattle.std.specs.Prelude.{if◌then◌else◌}
-use Rattle.csv.specs.Records.{Row, fields_of}
+use Rattle.csv.specs.Records.{Row, fields_of, field_at}
 use Rattle.pg_layout.specs.Records.{columns_of}
 use Rattle.pg_layout.specs.Text.{Text}
 use Rattle.pg_fit.specs.Controls.{sign_of, visible_text}
-use Rattle.ruled_table.specs.Blocks.{pair_at}
-use Rattle.ruled_table.specs.Escapes.{escape_of, escaped_text}
+use Rattle.ruled_table.specs.Blocks.{pair_at, block_fault, block_of, names_in, places_in, record_block, record_fault}
+use Rattle.ruled_table.specs.Escapes.{escape_of, escaped_text, is_plain}
 use Rattle.ruled_table.specs.LentRows.{fields_at}
-use Rattle.ruled_table.specs.Shown.{seen_text, shown_row, shown_text}
+use Rattle.ruled_table.specs.Shown.{seen_text, shown_row, shown_text, look_config}
 use Rattle.ruled_table.specs.declared.options.Options.{Options}
+use Rattle.ruled_table.specs.Named.{HasNames}
+use Rattle.ruled_table.specs.declared.blocks.Blocks.{Blocks}
+use Rattle.std.proofs.lemmas.Option.{same_Some, none-some}
+use Rattle.std.specs.List.{list_all}
+use Rattle.std.proofs.lemmas.Bool.{and_parts, true≢false}
+
+-- ---- rows whose texts are fields of records
 
 -- ---- rows of one length
 
@@ -71,3 +78,62 @@ rows-shown options places [] = refl
 rows-shown options places (row ∷ rows) =
     ap (λ (ts : List Text). ts ∷ map (fields_at places) (map (map (shown_text options)) rows)) (row-shown options row places)
     ∙ ap (λ (xs : List (List Text)). shown_row options places row ∷ xs) (rows-shown options places rows)
+
+-- ---- the blocks of records whose fields have names
+
+module _ (options : Options) (rows : List (List Text)) (blocks : Blocks) (has : HasNames options rows blocks) (places : List ℕ) (at : places ≡ blocks.places.items) (fields row : List Text) (shown : fields ≡ map (shown_text options) row) where
+  names-same : fields_at places (fields_of blocks.names) ≡ names_in options rows
+  names-same =
+      ap (fields_at places) has.named
+      ∙ row-shown options (slice_index_or rows 0 []) places
+      ∙ ap (λ (ps : List ℕ). shown_row options ps (slice_index_or rows 0 [])) (at ∙ has.at)
+
+  texts-same : fields_at places fields ≡ shown_row options (places_in options rows) row
+  texts-same = ap (fields_at places) shown ∙ row-shown options row places ∙ ap (λ (ps : List ℕ). shown_row options ps row) (at ∙ has.at)
+
+  pub block-same : block_of blocks.options.now.bounds (look_config blocks.options.now.look) (fields_at places (fields_of blocks.names)) (fields_at places fields) ≡ record_block options rows row
+  block-same =
+      ap (λ (o : Options). block_of o.bounds (look_config o.look) (fields_at places (fields_of blocks.names)) (fields_at places fields)) has.asked
+      ∙ ap₂ (block_of options.bounds (look_config options.look)) names-same texts-same
+
+  pub fault-same : block_fault blocks.options.now.bounds (look_config blocks.options.now.look) (fields_at places (fields_of blocks.names)) (fields_at places fields) ≡ record_fault options rows row
+  fault-same =
+      ap (λ (o : Options). block_fault o.bounds (look_config o.look) (fields_at places (fields_of blocks.names)) (fields_at places fields)) has.asked
+      ∙ ap₂ (block_fault options.bounds (look_config options.look)) names-same texts-same
+
+-- ---- a field by its place
+
+pub field_there : (fields : List (List ℕ)) (i : ℕ) (field : List ℕ) → Some field ≡ field_at fields i → field ≡ slice_index_or fields i []
+unfolding field_at
+field_there [] i field e = absurd (none-some _ (sym e))
+field_there (x ∷ xs) zero field e = same_Some _ _ e
+field_there (x ∷ xs) (suc i) field e = field_there xs i field e
+
+pub field_missing : (fields : List (List ℕ)) (i : ℕ) → None ≡ field_at fields i → [] ≡ slice_index_or fields i []
+unfolding field_at
+field_missing [] zero e = refl
+field_missing [] (suc i) e = refl
+field_missing (x ∷ xs) zero e = absurd (none-some _ e)
+field_missing (x ∷ xs) (suc i) e = field_missing xs i e
+
+-- ---- a text for whose characters no others stand is its own escape
+
+-- it isn't a bar, a backslash or a line feed
+none-of-three : {X : Type 0} (a b d : Bool) (x y z w : X) → not (a || (b || d)) ≡ true → (if a then x else if b then y else if d then z else w) ≡ w
+none-of-three true b d x y z w h = absurd (true≢false (sym h))
+none-of-three false true d x y z w h = absurd (true≢false (sym h))
+none-of-three false false true x y z w h = absurd (true≢false (sym h))
+none-of-three false false false x y z w h = refl
+
+escape-plain : (c : ℕ) → is_plain c ≡ true → escape_of c ≡ encode_utf8 c
+escape-plain c h = none-of-three (c == 124) (c == 92) (c == 10) _ _ _ (encode_utf8 c) h
+
+escapes-plain : (cs : List ℕ) → list_all is_plain cs ≡ true → flat_map escape_of cs ≡ encode_utf8_all cs
+escapes-plain [] h = refl
+escapes-plain (c ∷ cs) h =
+    let parts = and_parts (is_plain c) (list_all is_plain cs) h in
+    ap (λ (bytes : List ℕ). bytes ++ flat_map escape_of cs) (escape-plain c parts.0) ∙ ap (λ (bytes : List ℕ). encode_utf8 c ++ bytes) (escapes-plain cs parts.1)
+
+pub plain_texts_stay : (text : Text) → IsUtf8 text → list_all is_plain (chars text) ≡ true → escaped_text text ≡ text
+unfolding escaped_text
+plain_texts_stay text utf8 h = escapes-plain (chars text) h ∙ encodes-chars text utf8

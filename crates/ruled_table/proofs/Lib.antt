@@ -1,18 +1,5 @@
-mod Fields
-pub mod LentTexts
-mod Looks
-mod MeasuredRows
-mod MoreColumns
-mod NamedBlocks
-mod PlainTexts
-mod RowFaults
-pub mod RowPictures
-pub mod RowsInParts
-mod RowsPushed
-pub mod RowsWithin
-pub mod Shown
-mod Sizes
-pub mod StartedTables
+mod LentTexts
 mod Tables
-mod Views
-pub mod WholeTables
+mod RowsInParts
+mod Shown
+pub mod RowPictures

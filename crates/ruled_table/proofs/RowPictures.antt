@@ -21,7 +21,7 @@ use Rattle.pg_stream.specs.LiveStreams.{Living, MayEnd, live_text}
 use Rattle.pg_stream.specs.Printing.{Printing, after_row, finish_lines, finish_text, lines_printed, printer, row_lines, row_text}
 use Rattle.pg_stream.specs.SizedStreams.{CountsLines}
 use Rattle.pg_stream.proofs.DrawnLines.{length_of_row}
-use Rattle.pg_stream.proofs.LiveRows.{live-make}
+use Rattle.pg_stream.proofs.PicturesOfRows.{live-make}
 use Rattle.pg_table.specs.declared.overflow.Overflow.{Overflow}
 use Rattle.ruled_table.specs.LentRows.{fields_at, texts_at}
 use Rattle.ruled_table.specs.Layouts.{cells_of, cells_within, heights_of, start_of, table_of, whole_of, whole_text}

@@ -1,9 +1,9 @@
--- Rows that are drawn one after another, in parts, and whatever heights are said of the rows behind them.
-use Rattle.std.proofs.Common.{◌≡◌, ◌+◌, ℕ, true, false, List, [], ◌∷◌, ◌++◌, length, map, slice_index_or, None, refl, sym, ap, ap₂, ◌∙◌, subst, append-nil, append_assoc, length-append, add-zero, zero-add, arith}
+-- Rows that are drawn one after another, in parts, and why one isn't.
+use Rattle.std.proofs.Common.{◌≡◌, ◌+◌, ℕ, true, false, List, [], ◌∷◌, ◌++◌, length, map, slice_index_or, None, refl, sym, ap, ap₂, ◌∙◌, subst, append-nil, append_assoc, length-append, add-zero, zero-add, arith, ◌<◌, get_or, take, ◌≤◌, drop, length-drop, Result, Ok, Err, ◌-◌, suc}
 use Rattle.std.specs.Prelude.{nat_lt}
 use Rattle.std.proofs.lemmas.Bool.Decides.{nat_tests}
 use Rattle.std.proofs.Math.Seq.{get_or-append_seam}
-use Rattle.std.proofs.lemmas.List.{map-append}
+use Rattle.std.proofs.lemmas.List.{map-append, take_more, at_drop_more, length-map, length_push, nil_from_length, take-map}
 use Rattle.pg_layout.specs.Text.{Text}
 use Rattle.pg_config.specs.Spans.{has_row_spans}
 use Rattle.pg_fit.specs.Rows.{row_height}
@@ -14,12 +14,28 @@ use Rattle.pg_stream.specs.LiveStreams.{Living}
 use Rattle.pg_stream.specs.Printing.{Printing, after_row, printer, row_text}
 use Rattle.pg_stream.specs.SizedStreams.{CountsLines, IsNextHeight}
 use Rattle.pg_stream.proofs.SizedRows.{after_row-by, count-lines, row_text-by}
-use Rattle.ruled_table.specs.Layouts.{cells_of, heights_of, start_of}
-use Rattle.ruled_table.specs.Plans.{Plan}
-use Rattle.ruled_table.specs.RowLines.{AreHeights, HasPrinted, after_rows, begun_of, begun_text, ended_by, lines_of, next_lines}
-use Rattle.ruled_table.specs.Shown.{shown_row}
-use Rattle.ruled_table.specs.Widths.{row_within}
+use Rattle.ruled_table.specs.Layouts.{cells_of, heights_of, start_of, cells_within, but_last, config_in, layout_by, layout_of, measured_in, places_in, ruler_of, sizes_fault_by, texts_in}
+use Rattle.ruled_table.specs.Plans.{Plan, plan_of}
+use Rattle.ruled_table.specs.RowLines.{AreHeights, HasPrinted, after_rows, begun_of, begun_text, ended_by, lines_of, next_lines, GrowsTo, TellsRoom}
+use Rattle.ruled_table.specs.Shown.{shown_row, shown_text}
+use Rattle.ruled_table.specs.Widths.{row_within, room_of, text_within, texts_within, first_config, widths_fault, widths_of}
 use Rattle.ruled_table.specs.declared.options.Options.{Options}
+use Rattle.csv.specs.Records.{Row, fields_of}
+use Rattle.pg_table.specs.declared.overflow.Overflow.{Overflow}
+use Rattle.ruled_table.specs.LentRows.{fields_at, texts_at}
+use Rattle.std.specs.Result.{IsErrAnd}
+use Rattle.std.proofs.lemmas.Bool.{true≢false}
+use Rattle.pg_stream.specs.Streams.{OnlyMemory, TellsRow}
+use Rattle.pg_stream.specs.declared.fault.StreamFault.{StreamFault}
+use Rattle.pg_stream.specs.declared.fault.StreamFault.TheVariants as stream
+use Rattle.ruled_table.specs.Faults.{fault_of_stream, is_memory, totals_of}
+use Rattle.ruled_table.specs.declared.fault.ViewFault.{ViewFault}
+use Rattle.ruled_table.specs.declared.fault.ViewFault.TheVariants.{Memory, Totals}
+use Rattle.std.proofs.lemmas.Simd.{map-map}
+use Rattle.pg_config.specs.Config.{Config}
+use Rattle.ruled_table.proofs.LentTexts.{rows-shown}
+
+-- ---- rows that are drawn one after another, in parts, and whatever heights are said of the rows behind them
 
 -- ---- rows in two parts
 
@@ -250,3 +266,179 @@ some-rows above cells =
     let many : length (above ++ cells ∷ []) ≡ length above + 1 = length-append above (cells ∷ []) in
     let some : nat_lt 0 (length (above ++ cells ∷ [])) ≡ true = grind (arith, nat_tests, many) in
     sym some
+
+-- ---- rows whose lines are appended, one after another
+
+-- the cells of one row more
+pub pushed-cells : (overflow : Overflow) (plan : Plan) (records : List Row) (i : ℕ) (fields : Row) (cells : List Text) → i < length records → fields ≡ get_or records i fields → cells ≡ row_within overflow plan.width (fields_at plan.places (fields_of fields))
+    → cells_within overflow plan (texts_at plan.places (take i records)) ++ cells ∷ [] ≡ cells_within overflow plan (texts_at plan.places (take (i + 1) records))
+pushed-cells overflow plan records i fields cells within is made =
+    let texts : Row → List Text = λ row. fields_at plan.places (fields_of row) in
+    let above : List (List Text) = texts_at plan.places (take i records) in
+    ap (λ (row : List Text). map (row_within overflow plan.width) above ++ row ∷ []) (made ∙ ap (λ (row : Row). row_within overflow plan.width (texts row)) is)
+    ∙ sym (map-append (row_within overflow plan.width) above (texts (get_or records i fields) ∷ []))
+    ∙ ap (map (row_within overflow plan.width)) (sym (map-append texts (take i records) (get_or records i fields ∷ [])))
+    ∙ ap (λ (rows : List Row). cells_within overflow plan (texts_at plan.places rows)) (sym (take_more records i fields within))
+
+-- of no rows
+pub begun-none : (plan : Plan) → [] ≡ begun_of plan []
+unfolding lines_of
+begun-none plan = refl
+
+-- a text that is what is begun, is the whole behind what makes it that
+pub grown : (begun whole old new : Text) → GrowsTo begun whole old new → old ≡ begun → new ≡ whole
+grown begun whole old new grows is = grows.bytes ∙ ap (λ (t : Text). t ++ grows.more) is ∙ grows.makes
+
+-- ---- the texts of a row within their columns, one after another
+
+-- one text more is made of the fields at these places
+module _ {X : Type 0} (view : X → Text) (overflow : Overflow) (width : ℕ → ℕ) (f : ℕ → Text) (places : List ℕ) where
+  pub within-next : (made next : List X) (i : ℕ) → i < length places
+      → map view next ≡ map view made ++ text_within overflow (room_of width (length made)) (f (slice_index_or places i 0)) ∷ []
+      → map view made ++ texts_within (length made) overflow width (map f (drop i places)) ≡ row_within overflow width (map f places)
+      → map view next ++ texts_within (length next) overflow width (map f (drop (i + 1) places)) ≡ row_within overflow width (map f places)
+  within-next made next i within is before =
+      let cells : List Text = map view made in
+      let cell : Text = text_within overflow (room_of width (length made)) (f (slice_index_or places i 0)) in
+      let many : length next ≡ length made + 1 =
+      sym (length-map next view) ∙ ap (λ (ts : List Text). length ts) is ∙ length_push cells cell ∙ ap (λ (n : ℕ). n + 1) (length-map made view)
+      in
+      let steps = at_drop_more (λ (ps : List ℕ). texts_within (length made) overflow width (map f ps)) places i 0 within in
+      ap (λ (n : ℕ). map view next ++ texts_within n overflow width (map f (drop (i + 1) places))) many
+      ∙ ap (λ (ts : List Text). ts ++ texts_within (length made + 1) overflow width (map f (drop (i + 1) places))) is
+      ∙ append_assoc cells (cell ∷ []) (texts_within (length made + 1) overflow width (map f (drop (i + 1) places)))
+      ∙ ap (λ (ts : List Text). cells ++ ts) (sym steps)
+      ∙ before
+
+  pub within-all : (made : List X) (i : ℕ) → length places ≤ i
+      → map view made ++ texts_within (length made) overflow width (map f (drop i places)) ≡ row_within overflow width (map f places) → map view made ≡ row_within overflow width (map f places)
+  within-all made i past before =
+      let none : drop i places ≡ [] = nil_from_length (drop i places) (omega (arith, length-drop i places)) in
+      sym (append-nil (map view made)) ∙ (rw none at before)
+
+-- ---- what a printer of rows tells of a row or an end that it doesn't print, as a fault of rows
+
+row-told : (U : Type 0) (found : StreamFault) (Fits : Type 0) (row : ℕ) → TellsRow {U = U} Fits row (Err found) → is_memory (fault_of_stream found) ≡ false → (fault_of_stream found ≡ Totals) × (¬ Fits)
+row-told U (stream.Misfit misfit) Fits row told soft = absurd told
+row-told U (stream.Row n) Fits row told soft = (refl, told.1)
+row-told U stream.Open Fits row told soft = absurd told
+row-told U stream.Memory Fits row told soft = absurd (true≢false soft)
+
+-- a row that isn't printed has no room, or memory was refused
+pub row-stops : {X : Type 0} (U : Type 0) (Fits : Type 0) (row : ℕ) (found : StreamFault) (r : Result X ViewFault) → TellsRow {U = U} Fits row (Err found) → IsErrAnd r (λ fault. fault ≡ fault_of_stream found) → TellsRoom (¬ Fits) r
+row-stops U Fits row found (Ok x) told is = absurd is
+row-stops U Fits row found (Err fault) told is = λ soft. let (total, none) = row-told U found Fits row told (sym (ap is_memory is) ∙ soft) in (is ∙ total, none)
+
+-- the same of a row that is lent, for which it must have room and more
+pub lent-stops : {X : Type 0} (U : Type 0) (Fits Lent : Type 0) (row : ℕ) (found : StreamFault) (r : Result X ViewFault) → (Fits → Lent) → TellsRow {U = U} Lent row (Err found) → IsErrAnd r (λ fault. fault ≡ fault_of_stream found) → TellsRoom (¬ Fits) r
+lent-stops U Fits Lent row found (Ok x) lent told is = absurd is
+lent-stops U Fits Lent row found (Err fault) lent told is = λ soft. let (total, none) = row-told U found Lent row told (sym (ap is_memory is) ∙ soft) in (is ∙ total, λ fits. none (lent fits))
+
+memory-alone : (U : Type 0) (found : StreamFault) → OnlyMemory {U = U} (Err found) → fault_of_stream found ≡ Memory
+memory-alone U (stream.Misfit misfit) only = absurd only
+memory-alone U (stream.Row n) only = absurd only
+memory-alone U stream.Open only = absurd only
+memory-alone U stream.Memory only = refl
+
+-- an end that isn't printed wants memory
+pub end-stops : {X : Type 0} (U : Type 0) (found : StreamFault) (r : Result X ViewFault) → OnlyMemory {U = U} (Err found) → IsErrAnd r (λ fault. fault ≡ fault_of_stream found) → (fault : ViewFault) → r ≡ Err fault → fault ≡ Memory
+end-stops U found (Ok x) only is fault same = absurd is
+end-stops U found (Err told) only is fault same = let e : told ≡ fault = cc in sym e ∙ is ∙ memory-alone U found only
+
+-- a row that one more call doesn't draw, by what is told of it
+pub room-on : {X : Type 0} (Out Room : Type 0) (found : ViewFault) (r : Result X ViewFault) → (Out → Room) → (is_memory found ≡ false → (found ≡ Totals) × Out) → IsErrAnd r (λ fault. fault ≡ found) → TellsRoom Room r
+room-on Out Room found (Ok x) out told is = absurd is
+room-on Out Room found (Err fault) out told is = λ soft. let (total, none) = told (sym (ap is_memory is) ∙ soft) in (is ∙ total, out none)
+
+-- a fault that is handed on
+pub handed-on : {X : Type 0} (found : ViewFault) (r : Result X ViewFault) → IsErrAnd r (λ fault. fault ≡ found) → found ≡ Memory → (fault : ViewFault) → r ≡ Err fault → fault ≡ Memory
+handed-on found (Ok x) is memory fault same = absurd is
+handed-on found (Err told) is memory fault same = let e : told ≡ fault = cc in sym e ∙ is ∙ memory
+
+-- ---- rows with a ruler below them
+
+-- the others of a list and its last
+pub all-but-last : {X : Type 0} (xs : List X) (x : X) → but_last (xs ++ x ∷ []) ≡ xs
+all-but-last [] x = refl
+all-but-last {X} (y ∷ ys) x =
+    let e : length ((y ∷ ys) ++ x ∷ []) - 1 ≡ suc (length ys) = omega (arith, length-append ys (x ∷ [])) in
+    ap (λ (n : ℕ). take n ((y ∷ ys) ++ x ∷ [])) e ∙ ap (λ (zs : List X). y ∷ zs) (firsts ys x)
+  where
+    firsts : {X : Type 0} (zs : List X) (x : X) → take (length zs) (zs ++ x ∷ []) ≡ zs
+    firsts [] x = refl
+    firsts {X} (z ∷ zs) x = ap (λ (ws : List X). z ∷ ws) (firsts zs x)
+
+-- the ruler of a row is as long as the row, whatever is shown of it
+ruler-shown : (f : Text → Text) (rows : List (List Text)) → ruler_of (slice_index_or (map (map f) rows) 0 []) ≡ ruler_of (slice_index_or rows 0 [])
+ruler-shown f [] = refl
+ruler-shown f (row ∷ rows) = map-map (λ (field : Text). 48 ∷ []) f row
+
+-- the texts of rows that are shown, and of the ruler below them
+pub measured-texts : (options : Options) (places : List ℕ) (rows : List (List Text)) (measured : List Row)
+    → map fields_of measured ≡ map (map (shown_text options)) rows ++ ruler_of (slice_index_or (map (map (shown_text options)) rows) 0 []) ∷ []
+    → texts_at places measured ≡ map (shown_row options places) rows ++ fields_at places (ruler_of (slice_index_or rows 0 [])) ∷ []
+measured-texts options places rows measured are =
+    let shown : List (List Text) = map (map (shown_text options)) rows in
+    sym (map-map (fields_at places) fields_of measured)
+    ∙ ap (map (fields_at places)) are
+    ∙ map-append (fields_at places) shown (ruler_of (slice_index_or shown 0 []) ∷ [])
+    ∙ ap₂ (λ (xs : List (List Text)) (row : List Text). xs ++ fields_at places row ∷ []) (rows-shown options places rows) (ruler-shown (shown_text options) rows)
+
+module _ (options : Options) (first : List (List Text)) where
+  -- their layout
+  pub layout-measured : layout_by options (places_in options first) (measured_in options first) ≡ layout_of options first
+  layout-measured =
+      let plan : List (List Text) → Plan = λ texts. record { places = places_in options first; config = first_config options texts; width = widths_of options.bounds (first_config options texts) (measured_in options first) } in
+      ap plan (all-but-last (texts_in options first) (fields_at (places_in options first) (ruler_of (slice_index_or first 0 []))))
+
+  -- and what is wrong with their sizes
+  pub sizes-measured : sizes_fault_by options (measured_in options first) ≡ totals_of (widths_fault options.bounds (config_in options first) (measured_in options first))
+  sizes-measured =
+      ap (λ (texts : List (List Text)). totals_of (widths_fault options.bounds (first_config options texts) (measured_in options first)))
+      (all-but-last (texts_in options first) (fields_at (places_in options first) (ruler_of (slice_index_or first 0 []))))
+
+-- ---- rows and the ruler below them, as they are lent
+
+-- of rows whose texts are shown as they stand
+pub ruled : (options : Options) (rows : List Row) (ruler : Row) (measured : List Row) → map (map (shown_text options)) (map fields_of rows) ≡ map fields_of rows → fields_of ruler ≡ ruler_of (slice_index_or (map fields_of rows) 0 [])
+    → measured ≡ rows ++ ruler ∷ [] → map fields_of measured ≡ map (map (shown_text options)) (map fields_of rows) ++ ruler_of (slice_index_or (map (map (shown_text options)) (map fields_of rows)) 0 []) ∷ []
+ruled options rows ruler measured stand is are =
+    ap (map fields_of) are
+    ∙ map-append fields_of rows (ruler ∷ [])
+    ∙ ap (λ (row : List Text). map fields_of rows ++ row ∷ []) is
+    ∙ sym (ap (λ (xs : List (List Text)). xs ++ ruler_of (slice_index_or xs 0 []) ∷ []) stand)
+
+pub but-last-map : {X Y : Type 0} (f : X → Y) (xs : List X) → map f (but_last xs) ≡ but_last (map f xs)
+but-last-map f xs = sym (take-map f (length xs - 1) xs) ∙ ap (λ (n : ℕ). take (n - 1) (map f xs)) (sym (length-map xs f))
+
+-- the layout that is made of its parts
+pub layout-made : (options : Options) (places : List ℕ) (measured rows : List (List Text)) (config : Config) (width : ℕ → ℕ) → rows ≡ but_last measured → config ≡ first_config options rows → width ≡ widths_of options.bounds config measured
+    → plan_of places config width ≡ layout_by options places measured
+layout-made options places measured rows config width above looks wide =
+    let config-is : config ≡ first_config options (but_last measured) = looks ∙ ap (first_config options) above in
+    ap₂ (plan_of places) config-is (wide ∙ ap (λ (c : Config). widths_of options.bounds c measured) config-is)
+
+module _ (options : Options) (rows : List (List Text)) (places : List ℕ) (measured : List Row) (at : places ≡ places_in options rows)
+    (are : map fields_of measured ≡ map (map (shown_text options)) rows ++ ruler_of (slice_index_or (map (map (shown_text options)) rows) 0 []) ∷ []) where
+  -- the texts of both
+  pub lent-measured : texts_at places measured ≡ measured_in options rows
+  lent-measured =
+      measured-texts options places rows measured are
+      ∙ ap (λ (ps : List ℕ). map (shown_row options ps) rows ++ fields_at ps (ruler_of (slice_index_or rows 0 [])) ∷ []) at
+
+  -- of the rows alone
+  pub lent-above : texts_at places (but_last measured) ≡ texts_in options rows
+  lent-above =
+      but-last-map (λ fields. fields_at places (fields_of fields)) measured
+      ∙ ap but_last lent-measured
+      ∙ all-but-last (texts_in options rows) (fields_at (places_in options rows) (ruler_of (slice_index_or rows 0 [])))
+
+  pub layout-lent : layout_by options places (texts_at places measured) ≡ layout_of options rows
+  layout-lent =
+      ap (layout_by options places) lent-measured
+      ∙ ap (λ (ps : List ℕ). layout_by options ps (measured_in options rows)) at
+      ∙ layout-measured options rows
+
+  pub sizes-lent : sizes_fault_by options (texts_at places measured) ≡ totals_of (widths_fault options.bounds (config_in options rows) (measured_in options rows))
+  sizes-lent = ap (sizes_fault_by options) lent-measured ∙ sizes-measured options rows
+  -- the text of the table of this layout

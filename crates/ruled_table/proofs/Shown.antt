@@ -1,9 +1,15 @@
 -- Texts and rows that are shown, one after another.
 use Rattle.std.proofs.Common.{◌≡◌, ◌<◌, ◌∙◌, ◌∷◌, ◌++◌, ◌+◌, ◌-◌, ℕ, max, List, [], Some, map, take, drop, length, get_or, slice_index_or, append_assoc, refl, sym, ap, arith}
-use Rattle.std.specs.List.{range_with_len}
+use Rattle.std.specs.List.{range_with_len, fold}
 use Rattle.std.proofs.lemmas.List.{drop-map, drop_more, length-map, map-append, take-map, take_more}
 use Rattle.std.proofs.lemmas.List.FromFn.{map-range_with_len_more}
 use Rattle.ruled_table.specs.Arranged.{last_of}
+use Rattle.std.proofs.lemmas.List.Sums.{fold-append}
+use Rattle.pg_layout.specs.declared.alignment.AlignmentHorizontal.{AlignmentHorizontal}
+use Rattle.pg_config.specs.Settings.{Settings}
+use Rattle.ruled_table.specs.Sides.{with_side, with_sides}
+
+-- ---- texts and rows that are shown, one after another
 
 -- one element more of what is made of the first numbers
 pub made_next : {X Z : Type 0} (view : X → Z) (f : ℕ → Z) (made : List X) (x : X) (n : ℕ) → view x ≡ f n
@@ -60,3 +66,18 @@ last-kept {X} {Y} f xs count end is some =
     ∙ ap (λ (ys : List Y). ys ++ map f (drop end xs)) (sym (take-map f 1 xs))
     ∙ ap (λ (ys : List Y). take 1 (map f xs) ++ ys) (sym (drop-map f end xs))
     ∙ ap (λ (n : ℕ). take 1 (map f xs) ++ drop n (map f xs)) same
+
+-- ---- the sides of one column more
+
+range_more : (n : ℕ) → range_with_len 0 (n + 1) ≡ range_with_len 0 n ++ n ∷ []
+range_more n =
+    let same : ℕ → ℕ = λ n. n in
+    sym (same_numbers (range_with_len 0 (n + 1)))
+    ∙ map-range_with_len_more same 0 n n (omega arith)
+    ∙ ap (λ (ns : List ℕ). ns ++ n ∷ []) (same_numbers (range_with_len 0 n))
+
+pub sides_more : (side : ℕ → AlignmentHorizontal) (n : ℕ) (settings : Settings AlignmentHorizontal)
+    → with_sides side (n + 1) settings ≡ with_side n (side n) (with_sides side n settings)
+sides_more side n settings =
+    let step : Settings AlignmentHorizontal → ℕ → Settings AlignmentHorizontal = λ settings column. with_side column (side column) settings in
+    ap (λ (ns : List ℕ). fold step settings ns) (range_more n) ∙ fold-append step settings (range_with_len 0 n) (n ∷ [])

@@ -1,16 +1,53 @@
--- The text of a table of rows, by whether there are any.
-use Rattle.std.proofs.Common.{◌≡◌, ◌∷◌, ◌++◌, ℕ, List, [], length, true, false, refl}
-use Rattle.std.specs.Prelude.{◌==◌, None, Some, Option, is_none, if◌then◌else◌}
+-- Tables of rows: their looks and sizes, before the first row and after the last.
+use Rattle.std.proofs.Common.{◌≡◌, ◌∷◌, ◌++◌, ℕ, List, [], length, true, false, refl, None, Some, Option, Result, Ok, Err, sym, ap, ◌∙◌, ◌-◌, zero, suc, max, String, ◌≢◌, ◌⊎◌, slice_index_or, IfOk, inl, inr, subst, ◌<◌, arith}
+use Rattle.std.specs.Prelude.{◌==◌, is_none, if◌then◌else◌, ⊤, ◌↔◌, nat_lt}
 use Rattle.pg_layout.specs.Text.{Text}
-use Rattle.pg_layout.specs.Records.{columns_of}
+use Rattle.pg_layout.specs.Records.{columns_of, text_at}
 use Rattle.pg_layout.specs.declared.borders.HorizontalLine.{HorizontalLine}
-use Rattle.pg_config.specs.Config.{Config}
+use Rattle.pg_config.specs.Config.{Config, default_config}
 use Rattle.pg_picture.specs.Picture.{picture}
-use Rattle.pg_picture.specs.Table.{Known}
+use Rattle.pg_picture.specs.Table.{Known, Table, full_width, total_width}
 use Rattle.ruled_table.specs.Bounds.{bounded_fault, bounded_table}
 use Rattle.ruled_table.specs.Tables.{fault_with, text_with, with_line}
 use Rattle.ruled_table.specs.declared.bounds.Bounds.{Bounds}
-use Rattle.ruled_table.specs.declared.fault.ViewFault.TheVariants.{Totals}
+use Rattle.ruled_table.specs.declared.fault.ViewFault.TheVariants.{Totals, Memory}
+use Rattle.std.specs.Option.{option_or}
+use Rattle.std.specs.Result.{IsErrAnd, MatchResult}
+use Rattle.ruled_table.specs.Faults.{Tells, is_memory, fault_of_stream}
+use Rattle.ruled_table.specs.declared.fault.ViewFault.{ViewFault}
+use Rattle.std.proofs.Math.Seq.{drop-nil}
+use Rattle.ruled_table.specs.Arranged.{arranged, chosen_rows, last_of}
+use Rattle.ruled_table.specs.Columns.{column_fault}
+use Rattle.ruled_table.specs.Shown.{heads, limit_of, up_to, line_in, sided_config}
+use Rattle.ruled_table.specs.declared.options.Options.{Options}
+use Rattle.std.proofs.lemmas.Bool.{true≢false, cases_Bool}
+use Rattle.pg_layout.specs.Colors.{Color}
+use Rattle.pg_layout.specs.declared.dimension.ConstantDimension.{ConstantDimension}
+use Rattle.pg_layout.specs.declared.position.Position.{Position}
+use Rattle.pg_table.specs.Natural.{natural_sizes}
+use Rattle.pg_table.specs.Printing.{sizes_fault}
+use Rattle.pg_table.specs.Spanning.{table_from}
+use Rattle.pg_table.specs.declared.fault.TableFault.{TableFault}
+use Rattle.pg_table.specs.declared.fault.TableFault.TheVariants as table
+use Rattle.ruled_table.specs.Widths.{TellsTable, first_config}
+use Rattle.std.proofs.lemmas.Option.{none-some}
+use Rattle.pg_config.specs.Spans.{has_row_spans}
+use Rattle.pg_picture.specs.declared.fits.Misfit.{Misfit}
+use Rattle.pg_picture.specs.declared.fits.Misfit.TheVariants.{Spans, Totals as Many}
+use Rattle.pg_stream.specs.Conditions.{printer_misfit}
+use Rattle.pg_stream.specs.LiveStreams.{Living}
+use Rattle.pg_stream.specs.Printing.{printer}
+use Rattle.pg_stream.specs.SizedStreams.{sized_misfit}
+use Rattle.pg_stream.specs.declared.fault.StreamFault.{StreamFault}
+use Rattle.pg_stream.specs.declared.fault.StreamFault.TheVariants as stream
+use Rattle.ruled_table.specs.Layouts.{start_fault, start_of}
+use Rattle.ruled_table.specs.Plans.{Plan}
+use Rattle.ruled_table.specs.RowLines.{HasPrinted, after_rows}
+use Rattle.ruled_table.specs.Look.{first_named, name_of}
+use Rattle.ruled_table.specs.declared.look.Look.{Look}
+use Rattle.ruled_table.specs.declared.look.Look.TheVariants.{Sharp, Rounded, Modern, Extended, Ascii, Dots, Psql, Markdown, Blank}
+
+-- ---- the text of a table of rows, by whether there are any
 
 module _ (bounds : Bounds) (config : Config) (line : Option (HorizontalLine ℕ)) (rows : List (List Text)) where
   pub text_none : (length rows == 0) ≡ true → [] ≡ text_with bounds config line rows
@@ -25,3 +62,181 @@ module _ (bounds : Bounds) (config : Config) (line : Option (HorizontalLine ℕ)
   pub fault_drawn : (length rows == 0) ≡ false
       → (if is_none (bounded_fault bounds (with_line line (length rows) (columns_of rows) config) rows) then None else Some Totals) ≡ fault_with bounds config line rows
   fault_drawn e = rw e refl
+
+-- ---- what is told where rows have no table: of the columns, or of the sizes
+
+-- a fault that is handed on tells what it told
+pub told_on : {X : Type 0} (found : ViewFault) (right : Option ViewFault) (result : Result X ViewFault) → (is_memory found ≡ false → right ≡ Some found)
+    → IsErrAnd result (λ fault. fault ≡ found) → Tells right result
+told_on found right (Ok x) is told = absurd told
+told_on found right (Err fault) is told = λ counts. rw (is (sym (ap is_memory told) ∙ counts), told) refl
+
+-- what is told first, is told
+pub first_told : {X : Type 0} (found : ViewFault) (right later : Option ViewFault) (result : Result X ViewFault) → (is_memory found ≡ false → right ≡ Some found)
+    → IsErrAnd result (λ fault. fault ≡ found) → Tells (option_or right later) result
+first_told found right later (Ok x) is told = absurd told
+first_told found right later (Err fault) is told = λ counts. rw (is (sym (ap is_memory told) ∙ counts), told) refl
+
+-- and where the first is nothing, what comes then
+pub then_told : {X : Type 0} (first later : Option ViewFault) (result : Result X ViewFault) → first ≡ None → Tells later result → Tells (option_or first later) result
+then_told first later result none told = rw none told
+
+-- ---- rows that are shown have the names of all
+
+pub heads-named : {A : Type 0} (limit : Option ℕ) (names : List (String A)) (rows : List (List Text)) → column_fault names rows ≡ None → column_fault names (up_to limit rows) ≡ None
+heads-named None names rows none = none
+heads-named (Some zero) names [] none = refl
+heads-named (Some (suc limit)) names [] none = refl
+heads-named (Some zero) names (row ∷ rows) none = refl
+heads-named (Some (suc limit)) names (row ∷ rows) none = none
+
+pub tails-named : {A : Type 0} (count : Option ℕ) (names : List (String A)) (rows : List (List Text)) → column_fault names rows ≡ None → column_fault names (last_of count rows) ≡ None
+tails-named None names rows none = none
+tails-named (Some count) names [] none = ap (column_fault names) (drop-nil (max 1 (0 - count)))
+tails-named (Some count) names (row ∷ rows) none = none
+
+pub chosen-named : (options : Options) (all : List (List Text)) → column_fault options.columns.items (arranged options all) ≡ None → column_fault options.columns.items (chosen_rows options all) ≡ None
+chosen-named options all none =
+    let names = options.columns.items in
+    tails-named options.tail names (heads options (arranged options all)) (heads-named (limit_of options) names (arranged options all) none)
+
+-- ---- the widths of a table's columns, as they are answered
+
+-- widths that are those of a list
+pub widths-are : {A E : Type 0} (r : Result (ConstantDimension A) E) (ns : List ℕ) (width : ℕ → ℕ) → IfOk r (λ d. d.0.items ≡ ns) → (λ (column : ℕ). slice_index_or ns column 0) ≡ width → IfOk r (λ d. (λ column. slice_index_or d.0.items column 0) ≡ width)
+widths-are (Ok d) ns width is same = ap (λ (xs : List ℕ). λ (column : ℕ). slice_index_or xs column 0) is ∙ same
+widths-are (Err fault) ns width is same = tt
+
+-- what holds of an answer holds where only its fault is told otherwise
+pub ok-kept : {X E F : Type 0} (found : Result X E) (r : Result X F) (P : X → Type 0) (Tells : E → F → Type 0) → MatchResult found (λ x. r ≡ Ok x) (λ e. IsErrAnd r (Tells e)) → IfOk found P → IfOk r P
+ok-kept {X = X} {F = F} (Ok x) r P Tells is holds = subst (λ (s : Result X F). IfOk s P) (sym is) holds
+ok-kept (Err e) (Ok x) P Tells is holds = absurd is
+ok-kept (Err e) (Err f) P Tells is holds = tt
+
+-- ---- why they aren't told
+
+-- a call that answers the fault of a table, and else nothing but want of memory
+pub table-told : {X : Type 0} (right given : Option TableFault) (r : Result X TableFault) → given ≡ right → ((fault : TableFault) → given ≡ Some fault → r ≡ Err fault) → ((fault : TableFault) → given ≡ None → r ≡ Err fault → fault ≡ table.Memory) → TellsTable right r
+table-told right None (Ok x) same tells memory = sym same
+table-told right (Some fault) (Ok x) same tells memory = let e = tells fault refl in cc
+table-told right None (Err fault) same tells memory = λ other. absurd (other (memory fault refl refl))
+table-told right (Some found) (Err fault) same tells memory = λ other. let e = tells found refl in cc
+
+-- the fault of the first call, or of the second one
+pub first-table-told : {X : Type 0} (Y : Type 0) (first later : Option TableFault) (found : TableFault) (r : Result X TableFault) → TellsTable {X = Y} first (Err found) → IsErrAnd r (λ fault. fault ≡ found) → TellsTable (option_or first later) r
+first-table-told Y first later found (Ok x) told is = absurd is
+first-table-told Y first later found (Err fault) told is = λ other. rw (told (λ memory. other (is ∙ memory)), is) refl
+
+pub later-table-told : {X : Type 0} (first later : Option TableFault) (r : Result X TableFault) → first ≡ None → TellsTable later r → TellsTable (option_or first later) r
+later-table-told first later r none told = rw none told
+
+-- texts that stand at the same places have one fault
+pub same-sizes-fault : (config : Config) (xs ys : List (List Text)) (columns : ℕ) → length xs ≡ length ys → text_at xs ≡ text_at ys → sizes_fault config xs columns ≡ sizes_fault config ys columns
+unfolding sizes_fault natural_sizes
+same-sizes-fault config xs ys columns long same = rw (long, same) refl
+
+-- as the fault of rows, of which want of memory is one, and all others are one
+pub sizes-told : (right : Option TableFault) (found : TableFault) (fault : ViewFault) → (found ≢ table.Memory → right ≡ Some found) → (fault ≡ Memory) ⊎ (fault ≡ Totals) → (found ≡ table.Memory → fault ≡ Memory)
+    → is_memory fault ≡ false → (if is_none right then None else Some Totals) ≡ Some fault
+sizes-told right found fault told two memory soft =
+    elim two [
+      | inl is ↦ absurd (true≢false (sym (ap is_memory is) ∙ soft))
+      | inr total ↦ rw (told (λ is. absurd (true≢false (sym (ap is_memory (memory is)) ∙ soft))), total) refl
+    ]
+
+-- as a call that hands a table's fault on answers it
+pub tells-kept : {X : Type 0} (right : Option TableFault) (found : Result X TableFault) (r : Result X ViewFault) (Post : TableFault → ViewFault → Type 0) → TellsTable right found → MatchResult found (λ x. r ≡ Ok x) (λ e. IsErrAnd r (Post e))
+    → ((e : TableFault) (f : ViewFault) → Post e f → ((f ≡ Memory) ⊎ (f ≡ Totals)) × (e ≡ table.Memory → f ≡ Memory)) → Tells (if is_none right then None else Some Totals) r
+tells-kept {X = X} right (Ok x) r Post told is post = subst (λ (s : Result X ViewFault). Tells (if is_none right then None else Some Totals) s) (sym is) (rw told refl)
+tells-kept right (Err e) (Ok x) Post told is post = absurd is
+tells-kept right (Err e) (Err f) Post told is post = λ soft. let (two, memory) = post e f is in sizes-told right e f told two memory soft
+
+-- one table has one fault
+pub drawn-sizes-fault : (told others : List ℕ) (config same : Config) (xs ys : List (List Text)) (columns many : ℕ) (color hue : Position → Option Color) → table_from told config xs columns color ≡ table_from others same ys many hue → sizes_fault config xs columns ≡ sizes_fault same ys many
+drawn-sizes-fault told others config same xs ys columns many color hue is =
+    ap (λ (c : Config). sizes_fault c xs columns) (ap (λ (t : Table). t.config) is)
+    ∙ ap (sizes_fault same xs) (ap (λ (t : Table). t.columns) is)
+    ∙ same-sizes-fault same xs ys many (ap (λ (t : Table). t.rows) is) (ap (λ (t : Table). t.text) is)
+
+-- ---- a table before its first row
+
+-- ---- it has columns
+
+positive : (n : ℕ) → (n ≡ 0 → ⊥) → 0 < n
+positive zero some = absurd (some refl)
+positive (suc n) some = omega arith
+
+no-columns : (plan : Plan) (heights : ℕ → ℕ) → length plan.places ≡ 0 → (misfit : Misfit) × (sized_misfit (start_of plan heights) ≡ Some misfit)
+unfolding sized_misfit printer_misfit printer
+no-columns plan heights none = elim (cases_Bool (has_row_spans plan.config.spans)) [
+  | inl spans ↦ (Spans, rw spans refl)
+  | inr plain ↦ (Many, rw (plain, none) refl)
+]
+
+-- no heights matter
+misfit-by : (plan : Plan) (heights others : ℕ → ℕ) → sized_misfit (start_of plan heights) ≡ sized_misfit (start_of plan others)
+unfolding sized_misfit printer_misfit printer full_width total_width
+misfit-by plan heights others = refl
+
+module _ (plan : Plan) (heights : ℕ → ℕ) where
+  pub some-columns : sized_misfit (start_of plan heights) ≡ None → 0 < length plan.places
+  some-columns fits = positive (length plan.places) (λ none. let (misfit, is) = no-columns plan heights none in none-some _ (sym fits ∙ is))
+
+  -- where it has none, or is too wide
+  fits-told : (o : Option Misfit) → (if is_none o then None else Some Totals) ≡ None → o ≡ None
+  fits-told None is = refl
+  fits-told (Some misfit) is = absurd (none-some _ (sym is))
+
+  pub fits-all : sized_misfit (start_of plan heights) ≡ None → start_fault plan ≡ None
+  fits-all fits = ap (λ (o : Option Misfit). if is_none o then None else Some Totals) (misfit-by plan (λ row. 0) heights ∙ fits)
+
+  misfits-told : {X : Type 0} (o : Option Misfit) (found : StreamFault) (r : Result X ViewFault) → (o ≡ None → found ≡ stream.Memory) → IsErrAnd r (λ fault. fault ≡ fault_of_stream found) → Tells (if is_none o then None else Some Totals) r
+  misfits-told o found (Ok x) none is = absurd is
+  misfits-told None found (Err fault) none is = λ soft. absurd (true≢false (sym (ap is_memory (is ∙ ap fault_of_stream (none refl))) ∙ soft))
+  misfits-told (Some misfit) (stream.Misfit m) (Err fault) none is = λ soft. ap Some (sym is)
+  misfits-told (Some misfit) (stream.Row row) (Err fault) none is = λ soft. ap Some (sym is)
+  misfits-told (Some misfit) stream.Open (Err fault) none is = λ soft. ap Some (sym is)
+  misfits-told (Some misfit) stream.Memory (Err fault) none is = λ soft. absurd (true≢false (sym (ap is_memory is) ∙ soft))
+
+  pub none-started : {X : Type 0} (found : StreamFault) (r : Result X ViewFault) → (sized_misfit (start_of plan heights) ≡ None → found ≡ stream.Memory) → IsErrAnd r (λ fault. fault ≡ fault_of_stream found) → Tells (start_fault plan) r
+  none-started found r none is = misfits-told (sized_misfit (start_of plan (λ row. 0))) found r (λ fits. none (misfit-by plan heights (λ row. 0) ∙ fits)) is
+
+-- one that is made fits
+abbrev IsFine : {X F : Type 0} → Result X F → Type 0
+IsFine (Ok x) = ⊤
+IsFine (Err fault) = ⊥
+
+pub fits-made : {X : Type 0} (misfit : Option Misfit) (r : Result X StreamFault) → IsFine r → ((found : Misfit) → (r ≡ Err (stream.Misfit found)) ↔ (misfit ≡ Some found)) → misfit ≡ None
+fits-made None r fine tells = refl
+fits-made (Some found) r fine tells = absurd (subst IsFine ((tells found).1 refl) fine)
+
+-- its printer
+pub started : (plan : Plan) (state : (ℕ → ℕ) → Living) → ((heights : ℕ → ℕ) → state heights ≡ record { printed = start_of plan heights; is_lost = false }) → HasPrinted plan [] state
+unfolding after_rows
+started plan state made = λ heights are. made heights
+
+-- ---- it has no spans
+
+line-spans : (line : Option (HorizontalLine ℕ)) (rows columns : ℕ) (config : Config) → (with_line line rows columns config).spans ≡ config.spans
+line-spans None rows columns config = refl
+line-spans (Some line) rows columns config = elim (cases_Bool (nat_lt 1 rows)) [
+  | inl many ↦ rw many refl
+  | inr few ↦ rw few refl
+]
+
+pub plain-config : (options : Options) (rows : List (List Text)) → (first_config options rows).spans ≡ []
+unfolding default_config
+plain-config options rows = line-spans (line_in options) (length rows) (columns_of rows) (sided_config options rows)
+
+-- ---- each look is found by its name
+
+pub first_of_name : (look : Look) → first_named (name_of look) ≡ Some look
+first_of_name Sharp = refl
+first_of_name Rounded = refl
+first_of_name Modern = refl
+first_of_name Extended = refl
+first_of_name Ascii = refl
+first_of_name Dots = refl
+first_of_name Psql = refl
+first_of_name Markdown = refl
+first_of_name Blank = refl

@@ -1,29 +1,106 @@
--- A row of one line in a table without spans: its line is that of its cells, and none of them goes on below it.
-use Rattle.std.proofs.Common.{◌≡◌, ℕ, zero, suc, ◌+◌, ◌<◌, false, nat_lt, List, [], ◌∷◌, ◌++◌, map, length, replicate, get_or, slice_index_or, Option, Some, None, refl, sym, ap, ap₂, ◌∙◌, arith, add-zero, zero-add}
+-- Rows of one line in a table without spans.
+use Rattle.std.proofs.Common.{◌≡◌, ℕ, ◌+◌, ◌^◌, ◌<◌, true, [], ◌∙◌, refl, sym, subst, arith, inl, inr, ◌-◌, List, ◌++◌, flat_map, slice_index_or, Option, ap, append_assoc, zero, suc, false, nat_lt, ◌∷◌, map, length, replicate, get_or, Some, None, ap₂, add-zero, zero-add}
+use Rattle.std.proofs.lemmas.Bool.{cases_lt}
 use Rattle.std.proofs.lemmas.Bool.Decides.{nat_tests}
-use Rattle.std.proofs.lemmas.List.{length-map}
 use Rattle.pg_layout.specs.declared.position.Position.{Position}
-use Rattle.pg_layout.specs.Position.{at}
+use Rattle.pg_layout.specs.Position.{at, is_at}
 use Rattle.pg_layout.specs.Text.{Text}
-use Rattle.pg_config.specs.Spans.{rect_rows}
-use Rattle.pg_picture.specs.Pieces.{style_at, block_line, written}
+use Rattle.pg_config.specs.Spans.{owner, rect_rows}
+use Rattle.pg_picture.specs.Fits.{cell_fits}
+use Rattle.pg_picture.specs.Pieces.{style_at, Piece, Style, block_line, written}
 use Rattle.pg_picture.specs.Sizes.{height_of_rect}
 use Rattle.pg_picture.specs.Table.{Table, vertical}
-use Rattle.pg_picture.proofs.PlainTables.{owner_plain, rect_rows_plain, rect_width_plain}
+use Rattle.pg_picture.proofs.MarksOfRectangles.{rect_height-of_rect}
+use Rattle.pg_picture.proofs.PlainTables.{owner_plain, rect_rows_plain, rect_width_plain, rect_height_plain}
+use Rattle.pg_stream.specs.Conditions.{HasRoom}
+use Rattle.std.specs.List.{range_with_len}
+use Rattle.pg_layout.specs.Colors.{Color}
+use Rattle.pg_picture.proofs.PiecesOfLines.{written-append}
+use Rattle.pg_stream.specs.Inside.SingleRows.{single_part, single_line}
+use Rattle.pg_stream.proofs.draw.PartsOfLines.{written-columns_cut, drawn-none, lines-none, lines-more, line-now}
+use Rattle.std.proofs.lemmas.List.{length-map}
 use Rattle.pg_stream.specs.Inside.StreamedTable.{open_part, open_line, line_at, open_lines, open_line_at}
 use Rattle.pg_stream.specs.Open.{Slot, open_at_row, open_before}
 use Rattle.pg_stream.specs.Placed.{Placed, slot_of, slots_of}
 use Rattle.pg_stream.specs.Inside.OpenCells.{draw_cell}
-use Rattle.pg_stream.specs.Inside.SingleRows.{single_part, single_line}
 use Rattle.pg_stream.specs.Inside.Slots.{slot_block}
 use Rattle.pg_stream.specs.Inside.Turns.{new_cell, begin_cell, close_cell, mapped, cells_begun, cells_closed}
-use Rattle.pg_stream.proofs.printer.PlainRooms.{height-plain, own-plain}
-use Rattle.pg_stream.proofs.draw.OpenLists.{drawn-at}
+use Rattle.pg_stream.proofs.draw.OpenLists.{drawn-at, partly-all, partly-below}
 use Rattle.pg_stream.proofs.draw.OwnersOfCells.{columns-same}
-use Rattle.pg_stream.proofs.draw.PartsOfLines.{drawn-none, lines-none, lines-more, line-now}
-use Rattle.pg_stream.proofs.draw.PartsOfLists.{partly-all, partly-below}
 use Rattle.pg_stream.proofs.draw.Steps.{open_none}
 use Rattle.pg_stream.proofs.printer.WholePictures.{map_range-same, no_slots}
+
+-- ---- without spans each cell is as wide as its column and as high as its row
+
+module _ (t : Table) (none : t.config.spans ≡ []) (k : ℕ) where
+  pub own-plain : (x : ℕ) → is_at (owner t.config.spans k x) k x ≡ true
+  own-plain x = rw (owner_plain t none k x) (grind (arith, nat_tests))
+
+  pub height-plain : (x : ℕ) → height_of_rect t.config t.height (at k x) ≡ t.height k
+  height-plain x =
+      let T : Table = record t { rows = k + 1 } in
+      let rows : rect_rows t.config.spans (at k x) ≡ 1 = rect_rows_plain t none (at k x) in
+      sym (rect_height-of_rect T (at k x) (omega (arith, rows)) (omega (arith, rows))) ∙ rect_height_plain T none (at k x) (omega arith)
+
+  -- so a text has room there if it fits a cell of these sizes
+  pub plain-room-from : (x : ℕ) (text : Text) → k + 1 < 2 ^ 64 → t.width x < 2 ^ 64 → t.height k < 2 ^ 64 → cell_fits (style_at t.config (at k x)) text (t.width x) (t.height k) ≡ true → HasRoom t (at k x) text
+  plain-room-from x text row wide high fits =
+      record {
+        end = rw (rect_rows_plain t none (at k x)) row;
+        width = rw (rect_width_plain t none (at k x)) wide;
+        height = rw (height-plain x) high;
+        room = rw (rect_width_plain t none (at k x), height-plain x) fits;
+      }
+
+  pub plain-room-fits : (x : ℕ) (text : Text) → HasRoom t (at k x) text → cell_fits (style_at t.config (at k x)) text (t.width x) (t.height k) ≡ true
+  plain-room-fits x text room = rw (rect_width_plain t none (at k x), height-plain x) at room.room
+
+-- a test by the sizes that were asked is one by the table's
+pub fits-in : (t : Table) (k x : ℕ) (text : Text) (p : Position) → p ≡ at k x → (w : ℕ) → w ≡ t.width x → (h : ℕ) → h ≡ t.height k → cell_fits (style_at t.config p) text w h ≡ cell_fits (style_at t.config (at k x)) text (t.width x) (t.height k)
+fits-in t k x text p place w wide h high = rw (place, wide, high) refl
+
+-- what holds before n and at n holds up to n
+pub up-to : (P : ℕ → Type 0) (n : ℕ) → ((x : ℕ) → x < n → P x) → P n → (x : ℕ) → x < n + 1 → P x
+up-to P n before here x h =
+    elim (cases_lt x n) [
+      | inl less ↦ before x less
+      | inr more ↦ let same : n ≡ x = omega (arith, h, more) in subst P same here
+    ]
+
+-- ---- the text of a row of one line in a table without spans: of no cell, of some and of one more; and the room of its cells
+
+module _ (t : Table) (k : ℕ) where
+  -- a cell's vertical and its line
+  pub part-text : (x : ℕ) (p : Position) (style : Style) (color : Option Color) (width : ℕ) (text : Text) → p ≡ at k x → style ≡ style_at t.config p → color ≡ t.color p → width ≡ t.width x
+      → written (vertical t p.row 0 p.col) ++ written (block_line style color text width 1 0) ≡ written (single_part t k text x)
+  unfolding single_part
+  part-text x p style color width text here is-style is-color is-width =
+      rw (is-style, is-color, is-width, here) (sym (written-append (vertical t k 0 x) (block_line (style_at t.config (at k x)) (t.color (at k x)) text (t.width x) 1 0)))
+
+  -- it has room in one line
+  pub part-room : t.config.spans ≡ [] → t.height k ≡ 1 → (x : ℕ) (p : Position) (width : ℕ) (text : Text) → p ≡ at k x → width ≡ t.width x → HasRoom t (at k x) text → cell_fits (style_at t.config p) text width 1 ≡ true
+  part-room none one x p width text here is-width room =
+      rw (here, is-width) (subst (λ h. cell_fits (style_at t.config (at k x)) text (t.width x) h ≡ true) one (plain-room-fits t none k x text room))
+
+  module _ (texts : List Text) where
+    abbrev part : ℕ → List Piece
+    part x = single_part t k (slice_index_or texts x []) x
+
+    pub single-cut : (i : ℕ) → i < t.columns
+        → written (single_line t k texts) ≡ written (flat_map part (range_with_len 0 i)) ++ (written (part i) ++ (written (flat_map part (range_with_len (0 + i + 1) (t.columns - (i + 1)))) ++ written (vertical t k 0 t.columns)))
+    unfolding single_line
+    single-cut i here =
+        written-append (flat_map part (range_with_len 0 t.columns)) (vertical t k 0 t.columns)
+        ∙ ap (λ x. x ++ written (vertical t k 0 t.columns)) (written-columns_cut part i t.columns here)
+        ∙ append_assoc (written (flat_map part (range_with_len 0 i))) (written (part i) ++ written (flat_map part (range_with_len (0 + i + 1) (t.columns - (i + 1))))) (written (vertical t k 0 t.columns))
+        ∙ ap (λ x. written (flat_map part (range_with_len 0 i)) ++ x) (append_assoc (written (part i)) (written (flat_map part (range_with_len (0 + i + 1) (t.columns - (i + 1))))) (written (vertical t k 0 t.columns)))
+
+    pub single-end : (n : ℕ) → n ≡ t.columns → written (flat_map part (range_with_len 0 n)) ++ written (vertical t k 0 t.columns) ≡ written (single_line t k texts)
+    unfolding single_line
+    single-end n all =
+        ap (λ m. written (flat_map part (range_with_len 0 m)) ++ written (vertical t k 0 t.columns)) all ∙ sym (written-append (flat_map part (range_with_len 0 t.columns)) (vertical t k 0 t.columns))
+
+-- ---- a row of one line in a table without spans: its line is that of its cells, and none of them goes on below it
 
 module _ {A : Type 0} (f : ℕ → A → A) where
   mapped-at : (xs : List A) (i : ℕ) (d : A) → i < length xs → get_or (mapped f 0 xs) i d ≡ f i (get_or xs i d)

@@ -1,34 +1,134 @@
--- A printer after its last row: no cell is open, and the last separator and the bottom margin are left.
-use Rattle.std.proofs.Common.{◌≡◌, ℕ, ◌+◌, ◌<◌, ◌≤◌, Bool, true, false, not, ◌&&◌, ◌==◌, nat_lt, List, [], ◌++◌, flat_map, get_or, length, length-append, replicate, Option, Some, None, IfSome, option_map, refl, sym, ap, ap₂, ◌∙◌, arith, append-nil, zero-add, subst, ◌⊎◌, inl, inr}
-use Rattle.std.specs.List.{range_with_len}
-use Rattle.std.proofs.lemmas.Bool.{cases_Bool, ltb-true}
-use Rattle.std.proofs.lemmas.Bool.Decides.{nat_tests}
+-- A printer before its first row and after its last one.
+use Rattle.std.proofs.Common.{◌≡◌, ℕ, zero, suc, ◌-◌, ◌^◌, ◌<◌, ◌≤◌, true, false, List, [], ◌∷◌, length, replicate, slice_index_or, Option, Some, None, IfSome, option_map, refl, sym, ap, ◌∙◌, arith, ◌+◌, Bool, not, ◌&&◌, ◌==◌, nat_lt, ◌++◌, flat_map, get_or, length-append, ap₂, append-nil, zero-add, subst, ◌⊎◌, inl, inr}
+use Rattle.std.proofs.lemmas.Bool.{false≢true, cases_Bool, ltb-true}
+use Rattle.std.proofs.lemmas.List.{length-replicate}
 use Rattle.pg_layout.specs.declared.position.Position.{Position}
+use Rattle.pg_layout.specs.Colors.{Color}
+use Rattle.pg_config.specs.Config.{Config, has_horizontal, has_equal_row_lines}
+use Rattle.pg_picture.specs.Fits.{body_height, totals_fit, spans_fit}
+use Rattle.pg_picture.specs.Marks.{marks_above, Mark, sep, only_if, body}
+use Rattle.pg_picture.specs.Sizes.{if_fits, sized}
+use Rattle.pg_picture.specs.Table.{Table, full_width, total_width, table_body, margin_lines, margin_line, mark_text, is_inside, is_covered, crossing, crossing_at, column_items, separator_part, separator_items}
+use Rattle.pg_picture.proofs.FittingTables.{totals_facts}
+use Rattle.pg_picture.proofs.MarksOfRectangles.{length-table_body}
+use Rattle.pg_picture.proofs.Ranges.{if_fits-below, range-more}
+use Rattle.pg_stream.specs.Conditions.{PrinterFits}
+use Rattle.pg_stream.specs.Open.{open_at_row, open_before}
+use Rattle.pg_stream.specs.Placed.{Placed, slots_of, AllOpen, IsPlaced}
+use Rattle.pg_stream.specs.Printers.{IsSound}
+use Rattle.pg_stream.specs.Printing.{Printing, table_known, printer, hint_of, text_known, lines_below, lines_printed, finish_lines, finish_text}
+use Rattle.pg_stream.proofs.draw.Steps.{open_none}
+use Rattle.pg_stream.proofs.printer.WholePictures.{map_range-same, no_slots}
+use Rattle.std.specs.List.{range_with_len}
+use Rattle.std.proofs.lemmas.Bool.Decides.{nat_tests}
 use Rattle.pg_layout.specs.Position.{at}
 use Rattle.pg_layout.specs.Text.{Text}
-use Rattle.pg_config.specs.Config.{has_horizontal}
 use Rattle.pg_config.specs.Spans.{Span, rect_rows, owner}
 use Rattle.pg_picture.specs.Joined.{continued}
 use Rattle.pg_picture.specs.Inside.Following.{lines_before}
-use Rattle.pg_picture.specs.Marks.{Mark, sep, only_if, marks_above, body}
-use Rattle.pg_picture.specs.Pieces.{written, separator_text}
+use Rattle.pg_picture.specs.Pieces.{written, separator_text, Item}
 use Rattle.pg_picture.specs.Picture.{bottom_lines, body_lines}
-use Rattle.pg_picture.specs.Table.{Table, margin_lines, margin_line, full_width, total_width, mark_text, table_body, is_inside, is_covered, crossing, crossing_at, column_items, separator_part, separator_items}
-use Rattle.pg_picture.proofs.BodyLines.{length-body_lines}
-use Rattle.pg_picture.proofs.JoinedLines.{continued-nil, continued-append}
+use Rattle.pg_picture.proofs.Pictures.{length-body_lines, continued-nil, continued-append, continued-any, none-of-two, flat_map-same}
 use Rattle.pg_picture.proofs.Owners.{owner-own, owner-ends}
-use Rattle.pg_picture.proofs.Pictures.{continued-any, none-of-two}
-use Rattle.pg_picture.proofs.Ranges.{range-more}
-use Rattle.pg_stream.specs.Inside.StreamedTable.{reach, open_separator_part, open_separator, below_text}
-use Rattle.pg_stream.specs.Placed.{Placed, slots_of, AllOpen}
-use Rattle.pg_stream.specs.Printers.{IsSound}
-use Rattle.pg_stream.specs.Printing.{Printing, hint_of, text_known, table_known, lines_below, lines_printed, finish_lines, finish_text}
+use Rattle.pg_stream.specs.Inside.StreamedTable.{reach, open_separator_part, open_separator, below_text, IsSeparator}
 use Rattle.pg_stream.proofs.draw.OpenLists.{all-open}
-use Rattle.pg_stream.proofs.draw.OwnersOfCells.{columns-same}
-use Rattle.pg_stream.proofs.draw.Reaches.{reaching}
-use Rattle.pg_stream.proofs.printer.RowTexts.{KnowsHeight, below-mark}
-use Rattle.pg_stream.proofs.printer.RowsOfTables.{other}
+use Rattle.pg_stream.proofs.draw.OwnersOfCells.{columns-same, reaching}
+use Rattle.pg_stream.proofs.printer.RowsOfTables.{KnowsHeight, below-mark, other}
 use Rattle.pg_stream.proofs.printer.RowsPrinted.{apart, owners, owner-above}
+use Rattle.std.specs.Prelude.{String, Result, Ok, Err}
+use Rattle.pg_picture.specs.Appending.{Appends}
+use Rattle.pg_picture.proofs.Appending.{Appends-text, Gained-none, Gained-all}
+use Rattle.pg_stream.specs.LiveStreams.{MayEnd, AppendsEnd}
+use Rattle.pg_stream.specs.Streams.{OnlyMemory}
+use Rattle.pg_stream.specs.declared.fault.StreamFault.{StreamFault}
+use Rattle.pg_stream.specs.declared.fault.StreamFault.TheVariants.{Misfit, Row, Open, Memory}
+use Rattle.pg_config.proofs.EqualLines.{SameLines, inner_lines}
+use Rattle.pg_picture.proofs.Separators.{crossing_at-same, horizontal-same, equal_when}
+
+-- ---- a printer before its first row
+
+-- no cell is open above row 0
+none-open : (t : Table) → open_before t 0 ≡ replicate t.columns None
+unfolding open_before
+none-open t = map_range-same (open_at_row t 0) (λ c. None) 0 t.columns (λ c a b. open_none t 0 c (λ h l. omega (arith, h))) ∙ no_slots 0 t.columns
+
+pub slots-none : (n : ℕ) → slots_of (replicate n None) ≡ replicate n None
+slots-none zero = refl
+slots-none (suc n) = ap (λ l. None ∷ l) (slots-none n)
+
+pub none-at : (n x : ℕ) → slice_index_or (replicate {A = Option Placed} n None) x None ≡ None
+none-at zero x = refl
+none-at (suc n) zero = refl
+none-at (suc n) (suc x) = none-at n x
+
+all-none : (P : ℕ → Placed → Type 0) (n : ℕ) → AllOpen P (replicate n None)
+all-none P n x = rw (none-at n x) tt
+
+-- the numbers that are asked fit
+pub width-some : (s : Printing) (o : Option ℕ) → full_width s.table < 2 ^ 64 → o ≡ if_fits (full_width (sized s.table.config s.table.width s.table.height 0 s.table.columns)) → o ≡ Some (full_width s.table)
+unfolding full_width total_width
+width-some s o few is = is ∙ if_fits-below (full_width s.table) few
+
+heights : (s : Printing) (o : Option ℕ) (Q : ℕ → Type 0) → IfSome o (λ rows. Q rows × (totals_fit (record s.table { rows = rows }) ≡ true)) → IfSome o (λ m. (m < 2 ^ 64 - 1) × (body_height (sized s.table.config s.table.width s.table.height m 0) < 2 ^ 64))
+unfolding body_height
+heights s None Q h = tt
+heights s (Some m) Q h = let f = totals_facts (record s.table { rows = m }) h.1 in (f.rows, f.height)
+
+pub heights-fit : (s : Printing) → PrinterFits s → IfSome s.hint (λ m. (m < 2 ^ 64 - 1) × (body_height (sized s.table.config s.table.width s.table.height m 0) < 2 ^ 64))
+heights-fit s fits = heights s s.hint (λ rows. _) fits.hint
+
+high-is : (s : Printing) (o : Option ℕ) → option_map (λ m. body_height (sized s.table.config s.table.width s.table.height m 0)) o ≡ option_map (λ rows. length (table_body (record s.table { rows = rows }))) o
+unfolding body_height table_body
+high-is s None = refl
+high-is s (Some m) = ap (λ n. Some n) (sym (length-table_body (record s.table { rows = m })))
+
+-- what is true of the printer
+module _ (config : Config) (columns : ℕ) (width height : ℕ → ℕ) (color : Position → Option Color) (hint : Option ℕ) (cells : List (Option Placed)) (fits : PrinterFits (printer config columns width height color hint)) (empty : cells ≡ replicate columns None) where
+  abbrev pub first : Printing
+  first = record {
+    table = record { config = config; rows = 0; columns = columns; width = width; height = height; text = λ p. []; color = color };
+    hint = hint;
+    rows = 0;
+    lines = 0;
+    is_ended = false;
+    slots = slots_of cells;
+  }
+
+  pub first-is : first ≡ printer config columns width height color hint
+  unfolding printer
+  first-is = let e : slots_of cells ≡ replicate columns None = ap (λ l. slots_of l) empty ∙ slots-none columns in rw e refl
+
+  pub first-fits : PrinterFits first
+  unfolding printer
+  first-fits = record { some = fits.some; few = fits.few; spans = fits.spans; width = fits.width; hint = fits.hint }
+
+  open-first : slots_of cells ≡ open_before (table_known first 0 []) 0
+  unfolding table_known
+  open-first = ap (λ l. slots_of l) empty ∙ slots-none columns ∙ sym (none-open (table_known first 0 []))
+
+  lines-first : 0 ≡ length (marks_above config height 0)
+  unfolding marks_above
+  lines-first = refl
+
+  hinted-first : (o : Option ℕ) → IfSome o (λ rows. (0 ≤ rows) × (false ≡ true → 0 ≡ rows))
+  hinted-first None = tt
+  hinted-first (Some m) = (omega arith, λ e. absurd (false≢true e))
+
+  pub sound-first : (w : ℕ) (h : Option ℕ) → w ≡ full_width first.table → h ≡ option_map (λ m. body_height (sized config width height m 0)) hint → IsSound first first.table w h cells
+  sound-first w h wide high = record {
+    fits = first-fits;
+    full = wide;
+    high = high ∙ high-is first hint;
+    whole = sym (ap length empty ∙ length-replicate columns None);
+    slots = open-first;
+    lines = lines-first;
+    placed = rw empty (all-none (IsPlaced first.table) columns);
+    few = omega arith;
+    hinted = hinted-first hint;
+    ended = λ e. absurd (false≢true e);
+  }
+
+-- ---- a printer after its last row: no cell is open, and the last separator and the bottom margin are left
 
 -- nothing was printed where no row was
 pub finish-none : (s : Printing) → s.rows ≡ 0 → [] ≡ finish_text s
@@ -181,3 +281,79 @@ module _ (s : Printing) (w : ℕ) (height : Option ℕ) (cells : List (Option Pl
       (ap (λ n. continued ((top + s.lines) + n) (bottom_lines T)) count
       ∙ continued-any ((top + s.lines) + length xs) ((is_first && (s.lines == 0)) && not there) (bottom_lines T) (bare-is is_first there first is)
       ∙ ap (λ l. continued (lines_before ((is_first && (s.lines == 0)) && not there)) l) bottom-is))
+
+-- ---- a printer that is ended behind rows of which none was told to be the last
+
+-- the end below the rows doesn't ask whether the last of them was told to be that
+pub finish-any : (s : Printing) (b : Bool) → finish_text (record s { is_ended = b }) ≡ finish_text s
+unfolding finish_text finish_lines lines_printed table_known
+finish-any s b = refl
+
+hinted : (o : Option ℕ) (k : ℕ) (b : Bool) → IfSome o (λ rows. (k ≤ rows) × (b ≡ true → k ≡ rows)) → IfSome o (λ rows. k ≡ rows) → IfSome o (λ rows. (k ≤ rows) × (true ≡ true → k ≡ rows))
+hinted None k b h all = tt
+hinted (Some n) k b h all = (h.0, λ _. all)
+
+-- a printer stays sound, where its last row may be the table's
+pub sound-ended : (s : Printing) (t : Table) (w : ℕ) (height : Option ℕ) (cells : List (Option Placed)) → IsSound s t w height cells
+    → IfSome s.hint (λ rows. s.rows ≡ rows) × (spans_fit s.table.config.spans s.rows s.table.columns ≡ true) → IsSound (record s { is_ended = true }) t w height cells
+unfolding table_known
+sound-ended s t w height cells sound may = record {
+  fits = record { some = sound.fits.some; few = sound.fits.few; spans = sound.fits.spans; width = sound.fits.width; hint = sound.fits.hint };
+  full = sound.full;
+  high = sound.high;
+  whole = sound.whole;
+  slots = sound.slots;
+  lines = sound.lines;
+  placed = sound.placed;
+  few = sound.few;
+  hinted = hinted s.hint s.rows s.is_ended sound.hinted may.0;
+  ended = λ _. may.1;
+}
+
+module _ {Z U : Type 0} {s : Printing} {old : String Z} where
+  -- where no row was printed, nothing is appended
+  pub none-ends : (value : U) → s.rows ≡ 0 → AppendsEnd s old old (Ok value)
+  none-ends value none = record { whole = λ _. (Appends-text (finish-none s none) (Gained-all (Gained-none old)), tt); misfit = λ no. absurd (no (inl none)); tells = inl none }
+
+  pub stays-open : ¬ (MayEnd s) → AppendsEnd {U = U} s old old (Err Open)
+  stays-open open_still = record { whole = λ may. absurd (open_still may); misfit = λ _. (refl, refl); tells = open_still }
+
+  pub ends : {new : String Z} (r : Result U StreamFault) → MayEnd s → Appends old new r (finish_text s) → OnlyMemory r → AppendsEnd s old new r
+  ends (Ok value) may a memory = record { whole = λ _. (a, tt); misfit = λ no. absurd (no may); tells = may }
+  ends (Err (Misfit m)) may a memory = absurd memory
+  ends (Err (Row n)) may a memory = absurd memory
+  ends (Err Open) may a memory = absurd memory
+  ends (Err Memory) may a memory = record { whole = λ _. (a, tt); misfit = λ no. absurd (no may); tells = may }
+
+-- ---- where nothing was set by its place for row lines, and no cell is open, the separators above all rows but the first are equal
+
+module _ (t : Table) (equal : has_equal_row_lines t.config ≡ true) (r s : ℕ) (some_r : 0 < r) (some_s : 0 < s) where
+  abbrev nothing : List (Option Placed)
+  nothing = replicate t.columns None
+
+  lines : (x : ℕ) → SameLines t.config (at r x) (r + 1) (at s x) (s + 1) t.columns
+  lines x = inner_lines t.config equal r (r + 1) s (s + 1) (record { some = some_r; less = omega arith }) (record { some = some_s; less = omega arith }) x t.columns
+
+  part-same : (x : ℕ) → open_separator_part t (r + 1) nothing r x ≡ open_separator_part t (s + 1) nothing s x
+  unfolding open_separator_part
+  part-same x =
+      rw (reach-empty t.config.spans nothing (none-at t.columns) x, none-at t.columns x)
+      (ap₂ (λ (a b : List Item). a ++ b) (crossing_at-same t.config r (r + 1) s (s + 1) x t.columns (lines x)) (horizontal-same t.config r (r + 1) s (s + 1) x t.columns (lines x) (t.width x)))
+
+  pub equal_separators : open_separator t (r + 1) nothing r ≡ open_separator t (s + 1) nothing s
+  unfolding open_separator
+  equal_separators =
+      ap₂ (λ (a b : List Item). a ++ b)
+      (flat_map-same (open_separator_part t (r + 1) nothing r) (open_separator_part t (s + 1) nothing s) 0 t.columns (λ x from to. part-same x))
+      (crossing_at-same t.config r (r + 1) s (s + 1) t.columns t.columns (lines t.columns))
+
+module _ (t : Table) (cells : List (Option Placed)) (row : ℕ) (some : 0 < row) (alone : t.config.spans ≡ [] → cells ≡ replicate t.columns None) (text : Text) where
+  -- what is kept is the separator above the row
+  pub kept-is : IsSeparator t text → text ≡ separator_text (open_separator t (row + 1) cells row)
+  kept-is kept = kept.1 row some ∙ ap (λ l. separator_text (open_separator t (row + 1) l row)) (sym (alone kept.0))
+
+  -- and this may be kept where all of them are equal
+  pub keeps : (b : Bool) → b ≡ ((length t.config.spans == 0) && has_equal_row_lines t.config) → b ≡ true → text ≡ separator_text (open_separator t (row + 1) cells row) → IsSeparator t text
+  keeps b is e here =
+      let equal = equal_when t.config is e in
+      (equal.0, λ r more. here ∙ ap (λ l. separator_text (open_separator t (row + 1) l row)) (alone equal.0) ∙ ap separator_text (equal_separators t equal.1 row r some more))

@@ -15,10 +15,8 @@ use Rattle.pg_picture.specs.Marks.{Mark, sep, line, only_if, marks_of_row, marks
 use Rattle.pg_picture.specs.Pieces.{written, separator_text}
 use Rattle.pg_picture.specs.Picture.{top_lines, body_lines}
 use Rattle.pg_picture.specs.Table.{Table, Hint, mark_text, table_body}
-use Rattle.pg_picture.proofs.BodyLines.{body_lines-append, length-body_lines}
-use Rattle.pg_picture.proofs.JoinedLines.{continued-append}
+use Rattle.pg_picture.proofs.Pictures.{body_lines-append, length-body_lines, continued-append, length-top}
 use Rattle.pg_picture.proofs.Owners.{Apart, owner-ends}
-use Rattle.pg_picture.proofs.Pictures.{length-top}
 use Rattle.pg_stream.specs.Conditions.{HaveRoom}
 use Rattle.pg_stream.specs.Inside.StreamedTable.{open_lines, open_line, open_separator, above_text, top_text}
 use Rattle.pg_stream.specs.Open.{Slot, open_before}
@@ -28,18 +26,13 @@ use Rattle.pg_stream.specs.Printers.{IsSound}
 use Rattle.pg_stream.specs.Printing.{Printing, hint_of, rows_known, rows_reached, text_known, table_known, lines_at, lines_printed, row_lines, row_text, after_row}
 use Rattle.pg_stream.specs.Inside.Slots.{separator_height, slot_line, slot_separator}
 use Rattle.pg_stream.specs.Inside.Turns.{close_cell, cells_closed}
-use Rattle.pg_stream.proofs.draw.Closing.{closed-is}
-use Rattle.pg_stream.proofs.draw.OpenLists.{drawn-all, all-open, one-open}
-use Rattle.pg_stream.proofs.draw.PartsOfLists.{partly-all, partly-length, partly-below}
+use Rattle.pg_stream.proofs.draw.OpenLists.{closed-is, drawn-all, all-open, one-open, partly-all, partly-length, partly-below}
 use Rattle.pg_stream.proofs.DrawnLines.{length_of_row}
-use Rattle.pg_stream.proofs.draw.LinesOfCells.{open_line-slots, open_separator-slots}
-use Rattle.pg_stream.proofs.draw.LinesOfSlots.{line_of_row-slots}
-use Rattle.pg_stream.proofs.printer.Printers.{Stands, Stands-after}
-use Rattle.pg_stream.proofs.printer.RowTexts.{KnowsHeight, lines-text, above-mark, top-margin}
-use Rattle.pg_stream.proofs.printer.RowsOfTables.{other, owner-reached, row_inside_body}
-use Rattle.pg_stream.proofs.printer.RowsPrinted.{length-separator, slots-are, stands, apart, owners, owner-above, owner-drawn-now, cells_now, whole-now, placed-now}
-use Rattle.pg_stream.proofs.draw.SeparatorsOfSlots.{separator-slots}
-use Rattle.pg_stream.proofs.draw.SlotsOfCells.{slots-of-row, slots-after}
+use Rattle.pg_stream.proofs.draw.OwnersOfCells.{open_line-slots, open_separator-slots}
+use Rattle.pg_stream.proofs.draw.LinesOfSlots.{line_of_row-slots, separator-slots}
+use Rattle.pg_stream.proofs.printer.RowsPrinted.{Stands, Stands-after, length-separator, slots-are, stands, apart, owners, owner-above, owner-drawn-now, cells_now, whole-now, placed-now}
+use Rattle.pg_stream.proofs.printer.RowsOfTables.{KnowsHeight, lines-text, above-mark, top-margin, other, owner-reached, row_inside_body}
+use Rattle.pg_stream.proofs.draw.Beginning.{slots-of-row, slots-after}
 
 -- ---- the cells that are left
 

@@ -1,27 +1,102 @@
--- A row above the last one, and the separator above it, don't depend on the number of rows.
-use Rattle.std.proofs.Common.{◌≡◌, ℕ, suc, ◌+◌, ◌-◌, ◌<◌, ◌≤◌, Bool, true, false, ◌&&◌, ◌==◌, nat_lt, nat_le, List, [], ◌∷◌, ◌++◌, map, flat_map, length, length-append, refl, ap, ap₂, ◌∙◌, arith, Option, Some, None, inl, inr, subst, if◌then◌else◌}
+-- The rows of a table and their texts: which texts a row needs, and that it doesn't depend on the rows below.
+use Rattle.std.proofs.Common.{◌≡◌, ℕ, ◌+◌, ◌<◌, true, false, ◌&&◌, nat_lt, List, [], ◌++◌, flat_map, refl, ap, arith, inl, inr, if◌then◌else◌, suc, ◌-◌, ◌≤◌, Bool, ◌==◌, nat_le, ◌∷◌, map, length, length-append, ap₂, ◌∙◌, Option, Some, None, subst, zero, replicate, sym, add-zero, add_assoc, append_assoc, eqb-true}
 use mathlib.Core.Path.{fun_ext}
 use Rattle.std.specs.List.{range_with_len, enumerate_from}
-use Rattle.std.proofs.lemmas.Bool.{cases_Bool, ltb-true}
+use Rattle.std.proofs.lemmas.Bool.{cases_Bool, ltb-true, and_parts}
 use Rattle.std.proofs.lemmas.Bool.Decides.{nat_tests}
 use Rattle.pg_layout.specs.declared.position.Position.{Position}
-use Rattle.pg_layout.specs.declared.sides.Offset.{Offset}
-use Rattle.pg_layout.specs.declared.sides.Offset.TheVariants.{Start, End}
 use Rattle.pg_layout.specs.Position.{at}
 use Rattle.pg_layout.specs.Text.{Text, greatest}
-use Rattle.pg_config.specs.Config.{Config, has_horizontal, get_horizontal}
-use Rattle.pg_config.specs.Inside.Lines.{SameForRows}
-use Rattle.pg_config.specs.Spans.{Span, rect_rows, owner, is_left}
-use Rattle.pg_config.proofs.LinesLaw.{rows_stay}
+use Rattle.pg_config.specs.Config.{get_horizontal, Config, has_horizontal}
+use Rattle.pg_config.specs.Spans.{owner, is_left, Span, rect_rows}
 use Rattle.pg_picture.specs.Marks.{Mark, sep, line, only_if, marks_of_row, marks_above, body}
-use Rattle.pg_picture.specs.Pieces.{Item, written, separator_text}
-use Rattle.pg_picture.specs.Table.{Table, Hint, Known, Unknown, rect_marks, rect_height, rect_width, block_at, row_part, line_of_row, is_inside, vertical, separator_part, separator_items, column_items, crossing_at, crossing, is_covered, border_glyph, horizontal_items, is_blank_at, side_margin, mark_text, body_line, table_body, margin_lines, full_width, total_width}
+use Rattle.pg_picture.specs.Pieces.{Item, block, written, separator_text}
+use Rattle.pg_picture.specs.Table.{Table, rect_marks, rect_height, rect_width, block_at, row_part, line_of_row, is_inside, vertical, separator_part, separator_items, column_items, crossing, is_covered, horizontal_items, Hint, Known, Unknown, crossing_at, border_glyph, is_blank_at, side_margin, mark_text, body_line, table_body, margin_lines, full_width, total_width, side_margin_at, margin_line}
+use Rattle.pg_layout.specs.declared.sides.Offset.{Offset}
+use Rattle.pg_layout.specs.declared.sides.Offset.TheVariants.{Start, End}
+use Rattle.pg_config.specs.Inside.Lines.{SameForRows}
+use Rattle.pg_config.proofs.EqualLines.{rows_stay}
 use Rattle.pg_picture.specs.Picture.{top_lines, body_lines}
 use Rattle.pg_picture.proofs.MarksOfRectangles.{rows_from, marks_above-add, marks_within-rows}
 use Rattle.pg_picture.proofs.OwnersOfPlaces.{Among}
 use Rattle.pg_picture.proofs.Owners.{Apart, owner_cases}
 use Rattle.pg_stream.specs.Printing.{row_end, rows_reached, lines_at}
-use Rattle.pg_stream.proofs.draw.TextsOfRows.{SameTexts, line_of_row-told, separator_items-told}
+use Rattle.pg_layout.specs.declared.sides.Indent.{Indent}
+use Rattle.pg_layout.specs.Colors.{Color}
+use Rattle.pg_picture.specs.Joined.{continued}
+use Rattle.pg_picture.specs.Inside.Following.{feed_before}
+use Rattle.pg_picture.proofs.Pictures.{body_lines-nil, continued-nil, continued-append, continued-line, none-of-two}
+use Rattle.pg_stream.specs.Inside.StreamedTable.{open_line, line_at, open_line_at, open_lines, above_text, below_text, top_text, open_separator}
+use Rattle.pg_stream.specs.Placed.{Placed}
+use Rattle.pg_stream.specs.Inside.OpenCells.{draw_cell}
+use Rattle.pg_stream.proofs.draw.PartsOfLines.{above-absent, above-there, below-absent, below-there}
+
+-- ---- a row, and the separator above it, ask only the texts of their owners
+
+-- the texts of the cells that row r draws agree
+unfoldable pub SameTexts : Table → (Position → Text) → ℕ → Type 0
+SameTexts t f r = (x : ℕ) → x < t.columns → is_left t.config.spans r x ≡ true → t.text (owner t.config.spans r x) ≡ f (owner t.config.spans r x)
+
+module _ (t : Table) (f : Position → Text) where
+  abbrev retold : Table
+  retold = record t { text = f }
+
+  block_told : (p : Position) (mark : Mark) → t.text p ≡ f p → block_at t p mark ≡ block_at retold p mark
+  unfolding block_at rect_width rect_height rect_marks
+  block_told p mark h = rw h refl
+
+  cell_told : (r x : ℕ) (mark : Mark) → SameTexts t f r
+      → (if nat_lt x t.columns && is_left t.config.spans r x then block_at t (owner t.config.spans r x) mark else []) ≡ (if nat_lt x t.columns && is_left t.config.spans r x then block_at retold (owner t.config.spans r x) mark else [])
+  unfolding SameTexts
+  cell_told r x mark h =
+      elim (cases_Bool (nat_lt x t.columns && is_left t.config.spans r x)) [
+        | inl e ↦
+            let k = and_parts (nat_lt x t.columns) (is_left t.config.spans r x) e in
+            rw (e, block_told (owner t.config.spans r x) mark (h x (ltb-true x t.columns k.0) k.1)) refl
+        | inr e ↦ rw e refl
+      ]
+
+  pub line_of_row-told : (r i : ℕ) → SameTexts t f r → line_of_row t r i ≡ line_of_row retold r i
+  unfolding line_of_row row_part is_inside
+  line_of_row-told r i h =
+      ap (λ g. flat_map g (range_with_len 0 (t.columns + 1))) (fun_ext (λ x. ap (λ l. (if is_inside t r x then [] else vertical t r i x) ++ l) (cell_told r x (line r i) h)))
+
+  own_told : (r x : ℕ) → SameTexts t f r → x < t.columns
+      → only_if (is_left t.config.spans r x) (block (block_at t (owner t.config.spans r x) (sep r))) ≡ only_if (is_left t.config.spans r x) (block (block_at retold (owner t.config.spans r x) (sep r)))
+  unfolding SameTexts
+  own_told r x h inside =
+      elim (cases_Bool (is_left t.config.spans r x)) [
+        | inl e ↦ rw (e, block_told (owner t.config.spans r x) (sep r) (h x inside e)) refl
+        | inr e ↦ rw e refl
+      ]
+
+  column_told : (r x : ℕ) → SameTexts t f r → column_items t r x ≡ column_items retold r x
+  unfolding column_items is_covered
+  column_told r x h =
+      elim (cases_Bool (nat_lt x t.columns)) [
+        | inl e ↦
+            ap (λ (l : List Item). if is_covered t r x then l else if nat_lt x t.columns then horizontal_items t r x (get_horizontal t.config (at r x) t.rows) else []) (own_told r x h (ltb-true x t.columns e))
+        | inr e ↦ uncovered e
+      ]
+    where
+      uncovered : nat_lt x t.columns ≡ false → column_items t r x ≡ column_items retold r x
+      uncovered e = elim (cases_Bool (nat_lt r t.rows)) [ inl g ↦ rw (g, e) refl | inr g ↦ rw (g, e) refl ]
+
+  pub separator_items-told : (r : ℕ) → SameTexts t f r → separator_items t r ≡ separator_items retold r
+  unfolding separator_items separator_part crossing is_covered is_inside
+  separator_items-told r h =
+      ap (λ g. flat_map g (range_with_len 0 (t.columns + 1))) (fun_ext (λ x. ap (λ l. crossing t r x ++ l) (column_told r x h)))
+
+  -- no cell is drawn below the last row
+  column_below : (x : ℕ) → column_items t t.rows x ≡ column_items retold t.rows x
+  unfolding column_items is_covered
+  column_below x = let e : nat_lt t.rows t.rows ≡ false = grind (arith, nat_tests) in rw e refl
+
+  pub separator_items-below : separator_items t t.rows ≡ separator_items retold t.rows
+  unfolding separator_items separator_part crossing is_covered is_inside
+  separator_items-below = ap (λ g. flat_map g (range_with_len 0 (t.columns + 1))) (fun_ext (λ x. ap (λ l. crossing t t.rows x ++ l) (column_below x)))
+
+-- ---- a row above the last one, and the separator above it, don't depend on the number of rows
 
 -- ---- where rectangles end
 
@@ -205,3 +280,105 @@ module _ (t : Table) (m : ℕ) (f : Position → Text) (k : ℕ) (below : k < t.
       ap₂ (λ (x y : List Text). x ++ y) (ap (λ (l : List Text). if k == 0 then l else []) top_same)
       (lines_same hint t m f (length (table_body t)) (length (table_body (other t m f))) same (length (marks_above t.config t.height k)) (marks_of_row t.config t.height k)
       (row_inside_body t.config t.height k t.rows below) (row_inside_body t.config t.height k m under) marks_same)
+
+-- ---- the text of a row: the top margin above row 0, the separator above the row, and its lines
+
+-- ---- a line of the body
+
+-- what is known of the number h of the body's lines
+unfoldable pub KnowsHeight : Hint → ℕ → Option ℕ → Type 0
+KnowsHeight Known h height = height ≡ Some h
+KnowsHeight Unknown h height = height ≡ None
+
+unknown_margin : (indent : Indent) (offset : Offset) (color : Option Color) (i h : ℕ) → i < h → side_margin Unknown indent offset color i h ≡ side_margin Unknown indent offset color i (i + 1)
+unfolding side_margin SameHeight
+unknown_margin indent offset color i h l = rw (blank_same Unknown offset i h (i + 1) l (omega arith) tt) refl
+
+margin-now : (hint : Hint) (indent : Indent) (offset : Offset) (color : Option Color) (i h : ℕ) (height : Option ℕ) → i < h → KnowsHeight hint h height → side_margin hint indent offset color i h ≡ side_margin_at height indent offset color i
+unfolding KnowsHeight
+margin-now Known indent offset color i h height l e = rw e refl
+margin-now Unknown indent offset color i h height l e = rw e (unknown_margin indent offset color i h l)
+
+line-now : (hint : Hint) (t : Table) (h : ℕ) (height : Option ℕ) (i : ℕ) (mark : Mark) → i < h → KnowsHeight hint h height
+    → feed_before ((t.config.margin.top.size + i) == 0) ++ body_line hint t h (i, mark) ≡ line_at t.config height i (mark_text t mark)
+unfolding body_line line_at
+line-now hint t h height i mark l knows =
+    let left = margin-now hint t.config.margin.left t.config.margin_offset.left t.config.margin_color.left i h height l knows in
+    let right = margin-now hint t.config.margin.right t.config.margin_offset.right t.config.margin_color.right i h height l knows in
+    let feed = sym (none-of-two t.config.margin.top.size i) in
+    rw (feed, left, right) (sym (append_assoc (feed_before ((t.config.margin.top.size == 0) && (i == 0))) (written (side_margin_at height t.config.margin.left t.config.margin_offset.left t.config.margin_color.left i)) (mark_text t mark ++ written (side_margin_at height t.config.margin.right t.config.margin_offset.right t.config.margin_color.right i))))
+
+-- one line, and those after it
+continued-cons : (n : ℕ) (x : Text) (xs : List Text) → continued n (x ∷ xs) ≡ (feed_before (n == 0) ++ x) ++ continued (n + 1) xs
+continued-cons n x xs = continued-append n (x ∷ []) xs ∙ ap (λ t. t ++ continued (n + 1) xs) (continued-line n x)
+
+module _ (hint : Hint) (t : Table) (m : ℕ) (f : Position → Text) (k index : ℕ) (height : Option ℕ) (h : ℕ) (knows : KnowsHeight hint h height) (cells : List (Option Placed)) where
+  abbrev top : ℕ
+  top = t.config.margin.top.size
+
+  -- ---- the lines of row k
+
+  one_line : (a : ℕ) → mark_text (other t m f) (line k a) ≡ written (open_line t (map (draw_cell a) cells) k a) → line_at t.config height (index + a) (mark_text (other t m f) (line k a)) ≡ open_line_at t height cells k index a
+  unfolding open_line_at
+  one_line a same = ap (λ x. line_at t.config height (index + a) x) same
+
+  lines-from : (a n : ℕ) → a + n ≤ t.height k → index + t.height k ≤ h → ((i : ℕ) → i < t.height k → mark_text (other t m f) (line k i) ≡ written (open_line t (map (draw_cell i) cells) k i))
+      → continued (top + (index + a)) (map (body_line hint (other t m f) h) (enumerate_from (index + a) (map (line k) (range_with_len a n)))) ≡ flat_map (open_line_at t height cells k index) (range_with_len a n)
+  lines-from a zero l inside same = continued-nil (top + (index + a))
+  lines-from a (suc n) l inside same =
+      continued-cons (top + (index + a)) (body_line hint (other t m f) h (index + a, line k a)) (map (body_line hint (other t m f) h) (enumerate_from ((index + a) + 1) (map (line k) (range_with_len (a + 1) n))))
+      ∙ ap₂ (λ (x y : Text). x ++ y)
+      (line-now hint (other t m f) h height (index + a) (line k a) (omega arith) knows ∙ one_line a (same a (omega arith)))
+      (ap₂ (λ (p q : ℕ). continued p (map (body_line hint (other t m f) h) (enumerate_from q (map (line k) (range_with_len (a + 1) n)))))
+      (let e : (top + (index + a)) + 1 ≡ top + (index + (a + 1)) = omega arith in e) (add_assoc index a 1)
+      ∙ lines-from (a + 1) n (omega arith) inside same)
+
+  pub lines-text : index + t.height k ≤ h → h ≡ length (table_body (other t m f)) → ((i : ℕ) → i < t.height k → mark_text (other t m f) (line k i) ≡ written (open_line t (map (draw_cell i) cells) k i))
+      → continued (top + index) (body_lines hint (other t m f) index (map (line k) (range_with_len 0 (t.height k)))) ≡ open_lines t height cells k index (t.height k)
+  unfolding body_lines open_lines
+  lines-text inside all same =
+      let a = lines-from 0 (t.height k) (omega arith) inside same in
+      let b : continued (top + index) (map (body_line hint (other t m f) h) (enumerate_from index (map (line k) (range_with_len 0 (t.height k))))) ≡ flat_map (open_line_at t height cells k index) (range_with_len 0 (t.height k)) = (rw add-zero at a) in
+      ap (λ n. continued (top + index) (map (body_line hint (other t m f) n) (enumerate_from index (map (line k) (range_with_len 0 (t.height k)))))) (sym all) ∙ b
+
+  -- ---- the separator above it
+
+  one_separator : h ≡ length (table_body (other t m f)) → continued (top + index) (body_lines hint (other t m f) index (sep k ∷ [])) ≡ feed_before ((top + index) == 0) ++ body_line hint (other t m f) h (index, sep k)
+  unfolding body_lines
+  one_separator all = continued-line (top + index) (body_line hint (other t m f) (length (table_body (other t m f))) (index, sep k)) ∙ ap (λ n. feed_before ((top + index) == 0) ++ body_line hint (other t m f) n (index, sep k)) (sym all)
+
+  pub above-mark : (b : Bool) → b ≡ has_horizontal t.config k (k + 1) → index + length (only_if b (sep k)) ≤ h → h ≡ length (table_body (other t m f)) → (has_horizontal t.config k (k + 1) ≡ true → mark_text (other t m f) (sep k) ≡ separator_text (open_separator t (k + 1) cells k))
+      → continued (top + index) (body_lines hint (other t m f) index (only_if b (sep k))) ≡ above_text t height cells k index
+  above-mark false is inside all same = ap (λ l. continued (top + index) l) (body_lines-nil hint (other t m f) index) ∙ continued-nil (top + index) ∙ above-absent t height cells k index is refl
+  above-mark true is inside all same =
+      one_separator all ∙ line-now hint (other t m f) h height index (sep k) (omega arith) knows
+      ∙ ap (λ x. line_at t.config height index x) (same (sym is))
+      ∙ above-there t height cells k index is refl
+
+  -- ---- the separator below the last row
+
+  below-line : h ≡ length (table_body (other t m f)) → continued (top + index) (body_lines hint (other t m f) index (sep m ∷ [])) ≡ feed_before ((top + index) == 0) ++ body_line hint (other t m f) h (index, sep m)
+  unfolding body_lines
+  below-line all = continued-line (top + index) (body_line hint (other t m f) (length (table_body (other t m f))) (index, sep m)) ∙ ap (λ n. feed_before ((top + index) == 0) ++ body_line hint (other t m f) n (index, sep m)) (sym all)
+
+  pub below-mark : (b : Bool) → b ≡ has_horizontal t.config m m → index + length (only_if b (sep m)) ≤ h → h ≡ length (table_body (other t m f)) → mark_text (other t m f) (sep m) ≡ separator_text (open_separator t m cells m)
+      → continued (top + index) (body_lines hint (other t m f) index (only_if b (sep m))) ≡ below_text t height cells m index
+  below-mark false is inside all same = ap (λ l. continued (top + index) l) (body_lines-nil hint (other t m f) index) ∙ continued-nil (top + index) ∙ below-absent t height cells m index is refl
+  below-mark true is inside all same =
+      below-line all ∙ line-now hint (other t m f) h height index (sep m) (omega arith) knows
+      ∙ ap (λ x. line_at t.config height index x) same
+      ∙ below-there t height cells m index is refl
+
+-- ---- the top margin
+
+top-lines : (t : Table) (m : ℕ) (f : Position → Text) (w : ℕ) → w ≡ full_width t → top_lines (other t m f) ≡ replicate t.config.margin.top.size (written (margin_line t.config.margin.top t.config.margin_offset.top t.config.margin_color.top w))
+unfolding top_lines margin_lines full_width total_width
+top-lines t m f w wide = rw wide refl
+
+pub top-margin : (t : Table) (m : ℕ) (f : Position → Text) (w k n : ℕ) → w ≡ full_width t → (k ≡ 0 → n ≡ 0) → continued n (if k == 0 then top_lines (other t m f) else []) ≡ top_text t.config w k
+unfolding top_text
+top-margin t m f w k n wide start =
+    elim (cases_Bool (k == 0)) [
+      | inl e ↦ let none = start (eqb-true k 0 e) in rw (e, none) (ap (λ l. continued 0 l) (top-lines t m f w wide))
+      | inr e ↦ rw e (continued-nil n)
+    ]

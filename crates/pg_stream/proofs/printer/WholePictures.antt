@@ -14,13 +14,12 @@ use Rattle.pg_picture.specs.Marks.{Mark, sep, only_if, marks_of_row, marks_above
 use Rattle.pg_picture.specs.Pieces.{separator_text}
 use Rattle.pg_picture.specs.Table.{Table, Hint, Known, Unknown, mark_text, table_body, margin_lines, full_width, total_width}
 use Rattle.pg_picture.specs.Picture.{top_lines, bottom_lines, body_lines, picture_lines}
-use Rattle.pg_picture.proofs.BodyLines.{body_lines-append}
+use Rattle.pg_picture.proofs.Pictures.{body_lines-append}
 use Rattle.pg_picture.proofs.Owners.{Apart, HasOwners, owners_of, owner-ends}
 use Rattle.pg_stream.specs.Open.{Slot, slot_text, open_at_row, open_before}
 use Rattle.pg_stream.specs.Printing.{Printing, hint_of, rows_reached, rows_known, text_known, table_known, lines_at, lines_below, row_lines, finish_lines, printer, after_row, lines_of_rows}
 use Rattle.pg_stream.proofs.draw.Steps.{open_value, open_none, at_own, held}
-use Rattle.pg_stream.proofs.draw.TextsOfRows.{SameTexts, separator_items-below}
-use Rattle.pg_stream.proofs.printer.RowsOfTables.{Ends, owner-reached, SameHeight, AllSame, other, lines_same, lines_at-same}
+use Rattle.pg_stream.proofs.printer.RowsOfTables.{SameTexts, separator_items-below, Ends, owner-reached, SameHeight, AllSame, other, lines_same, lines_at-same}
 
 -- ---- a printer in a table
 

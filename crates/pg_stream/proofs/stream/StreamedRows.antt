@@ -1,6 +1,6 @@
 -- What a stream of rows appends: the row that it holds, and all rows behind it.
-use Rattle.std.proofs.Common.{◌≡◌, ◌⊎◌, ℕ, ◌+◌, ◌<◌, ◌≤◌, Bool, true, false, nat_lt, List, [], ◌∷◌, ◌++◌, Option, Some, None, refl, sym, ap, ap₂, ◌∙◌, subst, append_assoc, append-nil, arith, inl, inr, if◌then◌else◌}
-use Rattle.std.specs.Prelude.{String, string_bytes, Result, Ok, Err, OnOk}
+use Rattle.std.proofs.Common.{◌≡◌, ◌⊎◌, ℕ, ◌+◌, ◌<◌, ◌≤◌, Bool, true, false, nat_lt, List, [], ◌∷◌, ◌++◌, Option, Some, None, refl, sym, ap, ap₂, ◌∙◌, subst, append_assoc, append-nil, arith, inl, inr, if◌then◌else◌, Result, Ok, Err, map, IfOk}
+use Rattle.std.specs.Prelude.{String, string_bytes, OnOk, option_map}
 use Rattle.std.proofs.lemmas.Bool.Decides.{nat_tests}
 use Rattle.pg_layout.specs.Records.{AlwaysGives}
 use Rattle.pg_layout.specs.Text.{Text}
@@ -11,6 +11,11 @@ use Rattle.pg_stream.specs.Printing.{Printing, row_text, finish_text, after_row,
 use Rattle.pg_stream.specs.Streams.{Streaming, held_text, HeldFits, after_push, rows_left, IsMisfit, text_above, OnlyMemory, TellsRow, AppendsIf, AppendsRows, PrintsRows, IsMisfitButLatest, text_but_latest, PrintsButLatest}
 use Rattle.pg_stream.specs.declared.fault.StreamFault.{StreamFault}
 use Rattle.pg_stream.specs.declared.fault.StreamFault.TheVariants.{Misfit, Row, Open, Memory}
+use Rattle.std.proofs.lemmas.List.{map-append}
+use Rattle.std.specs.Iterator.{AlwaysYields}
+use Rattle.std.proofs.lemmas.Iterator.{YieldsList}
+
+-- ---- what a stream of rows appends: the row that it holds, and all rows behind it
 
 -- ---- the stream after a push
 
@@ -327,3 +332,75 @@ module _ {I A Z : Type 0} (U : Type 0) (view : A → List Text) (steps : I → O
   pub pushed-ends : {old now new : String Z} {rows later : I} (s began : Streaming) (all : List (List Text)) (r : Result U StreamFault) → Pushed old now rows s began all
       → steps rows None later → PrintsRows s.before (rows_left s []) now new r → PrintsRows began.before (rows_left began all) old new r
   pushed-ends s began all r p step done = ends-pushed s began all r p.texts p.left p.rest step done
+
+-- ---- a stream that no row comes to, and that holds none, leaves its buffer as it is
+
+-- what holds no texts holds no row
+pub none-held : {A B : Type 0} (f : A → B) (held : Option A) → option_map f held ≡ None → held ≡ None
+none-held f None is = refl
+none-held f (Some row) is = cc
+
+module _ {I A H Z : Type 0} (steps : I → Option A → I → Type 0) where
+  -- where no row was held, and the iterator gives none, nothing is held and nothing was appended
+  pub record IsUntouched (began held : Option H) (rows left : I) (old now : String Z) : Type 0 where
+    pub so : began ≡ None → ((x : A) (j : I) → ¬ (steps rows (Some x) j)) → (held ≡ None) × (left ≡ rows) × (now ≡ old)
+
+  pub untouched : (held : Option H) (rows : I) (buf : String Z) → IsUntouched held held rows rows buf buf
+  untouched held rows buf = record { so = λ none never. (none, refl, refl) }
+
+  -- an iterator that gives a row isn't such a one
+  pub some-row : {later : I} {began held : Option H} {rows left : I} {old now : String Z} (x : A) → IsUntouched began held rows left old now → steps left (Some x) later → began ≡ None → ¬ ((x : A) (j : I) → ¬ (steps rows (Some x) j))
+  some-row {later} x is step none never =
+      let so = is.so none never in
+      never x later (subst (λ (i : I). steps i (Some x) later) so.1 step)
+
+  pub touched : {began held next : Option H} {rows left later : I} {old now new : String Z} (x : A) → IsUntouched began held rows left old now → steps left (Some x) later → IsUntouched began next rows later old new
+  touched x is step = record { so = λ none never. absurd (some-row x is step none never) }
+
+-- ---- rows of cells in vectors
+
+-- the last row is the last
+pub ended-of : {P E : Type 0} (view : P → Printing) (s : Printing) (texts : List Text) (last : Bool) (r : Result P E) → IfOk r (λ p. view p ≡ after_row s texts last) → IfOk r (λ p. (view p).is_ended ≡ last)
+unfolding after_row
+ended-of view s texts last (Ok p) is = ap (λ (q : Printing). q.is_ended) is
+ended-of view s texts last (Err e) is = tt
+
+-- cells that an iterator gives, one by one
+module _ {I A : Type 0} (view : A → Text) (steps : I → Option A → I → Type 0) where
+  -- these are taken, and the others are left
+  pub record Collected (items : List A) (cells : I) (texts : List Text) : Type 0 where
+    pub others : List Text
+    pub left : AlwaysGives (λ x y. view x ≡ y) steps cells others
+    pub is : texts ≡ map view items ++ others
+
+  next-collected : {cells later : I} (items : List A) (texts : List Text) (x : A) (others : List Text) → AlwaysGives (λ x y. view x ≡ y) steps cells others → texts ≡ map view items ++ others → steps cells (Some x) later
+      → Collected (items ++ x ∷ []) later texts
+  next-collected items texts x [] left is step = absurd (left x _ step)
+  next-collected items texts x (y ∷ ys) (some, more) is step =
+      let (same, others) = more x _ step in
+      record {
+        others = ys;
+        left = others;
+        is = is ∙ ap (λ z. map view items ++ z ∷ ys) (sym same) ∙ sym (append_assoc (map view items) (view x ∷ []) ys) ∙ ap (λ l. l ++ ys) (sym (map-append view items (x ∷ [])));
+      }
+
+  pub collected-next : {cells later : I} (items : List A) (texts : List Text) (x : A) → Collected items cells texts → steps cells (Some x) later → Collected (items ++ x ∷ []) later texts
+  collected-next items texts x p step = next-collected items texts x p.others p.left p.is step
+
+  all-collected : {cells later : I} (items : List A) (texts others : List Text) → AlwaysGives (λ x y. view x ≡ y) steps cells others → texts ≡ map view items ++ others → steps cells None later → map view items ≡ texts
+  all-collected items texts [] left is step = sym (is ∙ append-nil (map view items))
+  all-collected items texts (y ∷ ys) left is step = absurd (left.0 _ step)
+
+  pub collected-all : {cells later : I} (items : List A) (texts : List Text) → Collected items cells texts → steps cells None later → map view items ≡ texts
+  collected-all items texts p step = all-collected items texts p.others p.left p.is step
+
+-- ---- the cells of a row that are lent: what an iterator over them gives
+
+module _ {S A B C : Type 0} (steps : S → Option A → S → Type 0) (lent : A → B) (text : B → C) where
+  -- what stands behind each item that is lent
+  shown : (s : S) (ys : List B) → AlwaysYields steps lent s ys → AlwaysGives (λ x z. text (lent x) ≡ z) steps s (map text ys)
+  shown s [] none = none
+  shown s (y ∷ ys) (some, more) = (some, λ x t step. let (is, others) = more x t step in (ap text is, shown t ys others))
+
+  pub given-lent : {s : S} {ys : List B} → YieldsList steps lent s ys → AlwaysGives (λ x z. text (lent x) ≡ z) steps s (map text ys)
+  given-lent {s} {ys} chain = shown s ys chain.runs

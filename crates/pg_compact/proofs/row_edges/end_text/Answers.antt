@@ -1,7 +1,7 @@
 use Rattle.std.proofs.Common.{◌≡◌, Option, unwrap_or, sym, ap, ◌∙◌}
 use Rattle.pg_layout.specs.Text.{Text}
 use Rattle.pg_config.specs.CompactConfig.{settings_of, border_colors, side_colors}
-use Rattle.pg_compact.proofs.EdgesOfRows.{end-text}
+use Rattle.pg_compact.proofs.CompactRows.{end-text}
 use Rattle.pg_compact.proofs.row_edges.end_text.Goals as goal
 
 pub returns : goal.returns

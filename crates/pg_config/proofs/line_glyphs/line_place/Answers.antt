@@ -1,6 +1,6 @@
 use Rattle.std.proofs.Common.{ap, ◌∙◌, arith}
 use Rattle.std.specs.Int.{from_bool}
-use Rattle.pg_config.proofs.LinePlaces.{at_crossing, at_glyph, step, behind_all}
+use Rattle.pg_config.proofs.EqualLines.{at_crossing, at_glyph, step, behind_all}
 use Rattle.pg_config.proofs.line_glyphs.line_place.Goals as goal
 
 pub returns-then-rest-line : goal.returns-then-rest-line

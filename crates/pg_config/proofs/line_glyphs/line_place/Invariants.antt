@@ -1,4 +1,4 @@
-use Rattle.pg_config.proofs.LinePlaces.{Stands}
+use Rattle.pg_config.proofs.EqualLines.{Stands}
 use Rattle.pg_config.proofs.line_glyphs.line_place.Given as goal
 
 -- no column that was passed ends behind k

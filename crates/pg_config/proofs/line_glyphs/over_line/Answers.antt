@@ -1,7 +1,7 @@
 use Rattle.std.proofs.Common.{rules, ◌+◌, ◌++◌, drop, sym, ap, ◌∙◌, append-nil}
 use Rattle.std.proofs.lemmas.List.{at_drop_all}
 use Rattle.pg_config.specs.LineGlyphs.{line_place, over_line}
-use Rattle.pg_config.proofs.LinePlaces.{over-more}
+use Rattle.pg_config.proofs.EqualLines.{over-more}
 use Rattle.pg_config.proofs.line_glyphs.over_line.Goals as goal
 
 pub loop-glyph-preserved : goal.loop-glyph-preserved

@@ -3,7 +3,7 @@ use Rattle.std.proofs.lemmas.Result.{on_ok_weaker}
 use Rattle.pg_layout.specs.Keys.{by_number}
 use Rattle.pg_layout.specs.Places.{value_at}
 use Rattle.pg_config.specs.Overrides.{has_crossing}
-use Rattle.pg_config.proofs.OverrideColumns.{HasColumns-with_place}
+use Rattle.pg_config.proofs.Lookups.{HasColumns-with_place}
 use Rattle.pg_config.proofs.lines.put_crossing.Goals as goal
 
 pub returns-clause-has_columns : goal.returns-clause-has_columns

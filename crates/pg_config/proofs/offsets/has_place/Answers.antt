@@ -1,7 +1,7 @@
 use Rattle.std.proofs.Common.{sym, ap, ◌∙◌}
 use Rattle.pg_config.specs.Offsets.{of_place}
-use Rattle.pg_layout.proofs.PlacesSearches.{passes}
-use Rattle.pg_config.proofs.FirstKeys.{first-of_place}
+use Rattle.pg_layout.proofs.Places.{passes}
+use Rattle.pg_config.proofs.Lookups.{first-of_place}
 use Rattle.pg_config.proofs.offsets.has_place.Goals as goal
 
 pub returns-in-Some : goal.returns-in-Some

@@ -6,11 +6,9 @@ use Rattle.unicode_segmentation.specs.Iter.{graphemes_left}
 use Rattle.unicode_segmentation.proofs.TextLemmas.{slice_range_split}
 use Rattle.pg_layout.specs.Text.{width_of}
 use Rattle.pg_fit.specs.Cutting.{held}
-use Rattle.pg_fit.proofs.AddedWidths.{nothing_wide}
-use Rattle.pg_fit.proofs.CharactersOfParts.{StandFrom, characters-stand}
-use Rattle.pg_fit.proofs.CutLines.{held-more, held-end}
-use Rattle.pg_fit.proofs.FilledLines.{slice_range-none}
-use Rattle.pg_fit.proofs.WrappedLines.{slice_range-all}
+use Rattle.pg_fit.proofs.PrintableBytes.{nothing_wide}
+use Rattle.pg_fit.proofs.FilledLines.{StandFrom, characters-stand, slice_range-none, slice_range-all}
+use Rattle.pg_fit.proofs.LawsOfCuts.{held-more, held-end}
 use Rattle.pg_fit.proofs.cutting.begin_of.Goals as goal
 
 pub loop-character-init : goal.loop-character-init

@@ -5,7 +5,7 @@ use Rattle.unicode_segmentation.specs.Grapheme.{graphemes}
 use Rattle.unicode_segmentation.specs.Iter.{graphemes_left}
 use Rattle.pg_layout.specs.Text.{width_of}
 use Rattle.pg_fit.specs.Cutting.{held}
-use Rattle.pg_fit.proofs.CharactersOfParts.{StandFrom}
+use Rattle.pg_fit.proofs.FilledLines.{StandFrom}
 use Rattle.pg_fit.proofs.cutting.begin_of.Given as goal
 
 abbrev pub invariant-loop-character : goal.invariant-loop-character

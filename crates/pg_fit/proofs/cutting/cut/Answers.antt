@@ -2,7 +2,7 @@ use Rattle.std.proofs.Common.{◌++◌, ◌∷◌, [], lit<, map, append_assoc, 
 use Rattle.std.specs.String.{string_bytes}
 use Rattle.std.proofs.lemmas.Str.{encode_ascii}
 use Rattle.std.specs.List.{join_with_byte}
-use Rattle.pg_fit.proofs.JoinedLines.{fed, join-fed}
+use Rattle.pg_fit.proofs.FilledLines.{fed, join-fed}
 use Rattle.pg_fit.specs.Cutting.{cut_line, cut_text}
 use Rattle.pg_fit.proofs.cutting.cut.Goals as goal
 use Rattle.pg_fit.proofs.cutting.cut.Goals.{in-Some+in_ok-push_cut, in_default}

@@ -2,7 +2,7 @@ use Rattle.std.proofs.Common.{◌≡◌, ◌++◌, map}
 use Rattle.std.specs.String.{string_bytes}
 use Rattle.pg_layout.specs.Text.{lines_of}
 use Rattle.std.specs.List.{join_with_byte}
-use Rattle.pg_fit.proofs.JoinedLines.{fed}
+use Rattle.pg_fit.proofs.FilledLines.{fed}
 use Rattle.pg_fit.specs.Cutting.{cut_line}
 use Rattle.pg_fit.proofs.cutting.cut.Given as goal
 

@@ -2,7 +2,7 @@ use Rattle.std.proofs.Common.{◌-◌, ◌<◌, ◌≤◌, ◌++◌, append_asso
 use Rattle.std.specs.String.{string_bytes}
 use Rattle.pg_layout.specs.Text.{width_of}
 use Rattle.pg_fit.specs.Cutting.{beginning}
-use Rattle.pg_fit.proofs.CutLines.{cut_line-fits, cut_line-tailed, cut_line-tail}
+use Rattle.pg_fit.proofs.LawsOfCuts.{cut_line-fits, cut_line-tailed, cut_line-tail}
 use Rattle.pg_fit.proofs.cutting.push_cut.Goals as goal
 
 pub returns-then-get_line_width-width : goal.returns-then-get_line_width-width

@@ -10,9 +10,8 @@ use Rattle.unicode_segmentation.specs.Iter.{graphemes_left}
 use Rattle.pg_layout.specs.Text.{width_of}
 use Rattle.pg_fit.specs.CuttingAway.{held_before}
 use Rattle.pg_fit.specs.Inside.{adds_up}
-use Rattle.pg_fit.proofs.CharactersOfParts.{StandFrom, characters-stand}
-use Rattle.pg_fit.proofs.LongerEnds.{stand-last, held_before-more, held_before-end}
-use Rattle.pg_fit.proofs.WrappedLines.{slice_range-all}
+use Rattle.pg_fit.proofs.FilledLines.{StandFrom, characters-stand, slice_range-all}
+use Rattle.pg_fit.proofs.LawsOfCuts.{stand-last, held_before-more, held_before-end}
 use Rattle.pg_fit.proofs.cutting_away.begin_of_end.Goals as goal
 
 pub loop-character-init : goal.loop-character-init

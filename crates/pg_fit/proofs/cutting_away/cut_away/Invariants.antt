@@ -3,7 +3,7 @@ use Rattle.std.specs.String.{string_bytes}
 use Rattle.std.specs.List.{join_with_byte}
 use Rattle.pg_layout.specs.Text.{lines_of}
 use Rattle.pg_fit.specs.CuttingAway.{cut_away_line}
-use Rattle.pg_fit.proofs.JoinedLines.{fed}
+use Rattle.pg_fit.proofs.FilledLines.{fed}
 use Rattle.pg_fit.proofs.cutting_away.cut_away.Given as goal
 
 abbrev pub invariant-loop-line : goal.invariant-loop-line

@@ -2,7 +2,7 @@ use Rattle.std.proofs.Common.{◌≡◌, ◌<◌, ◌≤◌, ◌++◌, length, d
 use Rattle.std.specs.String.{string_bytes}
 use Rattle.pg_layout.specs.Text.{width_of}
 use Rattle.pg_fit.specs.CuttingAway.{ending, cut_behind}
-use Rattle.pg_fit.proofs.LongerEnds.{away-fits, away-tailed, away-tail}
+use Rattle.pg_fit.proofs.LawsOfCuts.{away-fits, away-tailed, away-tail}
 use Rattle.pg_fit.proofs.cutting_away.cut_line.Goals as goal
 
 pub returns-then-get_line_width-width : goal.returns-then-get_line_width-width

@@ -1,7 +1,7 @@
 use Rattle.std.proofs.Common.{length, sym, subst}
 use Rattle.std.specs.Str.{IsCharBoundary}
 use Rattle.std.proofs.lemmas.Str.{IsCharBoundary-start}
-use Rattle.pg_fit.proofs.LongerEnds.{beginning-boundary}
+use Rattle.pg_fit.proofs.LawsOfCuts.{beginning-boundary}
 use Rattle.pg_fit.proofs.cutting_away.front_of.Goals as goal
 
 pub returns-in-End-clause-end : goal.returns-in-End-clause-end

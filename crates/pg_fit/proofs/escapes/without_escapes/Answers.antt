@@ -5,7 +5,7 @@ use Rattle.std.proofs.lemmas.Iterator.Consumers.{YieldsList-end}
 use Rattle.std.proofs.Math.Utf8.{encode}
 use Rattle.pg_fit.specs.Escapes.{shown_from, without_escapes}
 use Rattle.pg_fit.specs.declared.escapes.Reading.TheVariants.{Shown}
-use Rattle.pg_fit.proofs.LawsOfEscapes.{shown-more, shown-less}
+use Rattle.pg_fit.proofs.LawsOfControls.{shown-more, shown-less}
 use Rattle.pg_fit.proofs.escapes.without_escapes.Goals as goal
 use Rattle.pg_fit.proofs.escapes.without_escapes.Goals.{then-is_shown+in_ok-push, else-is_shown}
 

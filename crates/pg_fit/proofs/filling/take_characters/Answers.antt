@@ -5,8 +5,7 @@ use Rattle.unicode_segmentation.specs.Grapheme.{graphemes}
 use Rattle.unicode_segmentation.specs.Iter.{graphemes_left}
 use Rattle.std.specs.List.{join_with_byte}
 use Rattle.pg_fit.specs.Wrapping.{filled, characters}
-use Rattle.pg_fit.proofs.CharactersOfParts.{characters-stand}
-use Rattle.pg_fit.proofs.FilledLines.{slice_range-none}
+use Rattle.pg_fit.proofs.FilledLines.{characters-stand, slice_range-none}
 use Rattle.pg_fit.proofs.filling.take_characters.Goals as goal
 
 pub loop-character-init : goal.loop-character-init

@@ -7,7 +7,7 @@ use Rattle.unicode_segmentation.specs.Iter.{graphemes_left}
 use Rattle.std.specs.List.{join_with_byte}
 use Rattle.pg_layout.specs.Text.{width_of}
 use Rattle.pg_fit.specs.Wrapping.{Piece, filled, characters}
-use Rattle.pg_fit.proofs.CharactersOfParts.{StandFrom}
+use Rattle.pg_fit.proofs.FilledLines.{StandFrom}
 use Rattle.pg_fit.proofs.filling.take_characters.Given as goal
 
 abbrev pub invariant-loop-character : goal.invariant-loop-character

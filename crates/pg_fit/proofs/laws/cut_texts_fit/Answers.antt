@@ -1,5 +1,4 @@
-use Rattle.pg_fit.proofs.LawsOfCuts.{cut_lines_fit}
-use Rattle.pg_fit.proofs.LawsOfCutTexts.{cut_texts_stay, cut_lines_stand, cut_texts_fit}
+use Rattle.pg_fit.proofs.LawsOfCuts.{cut_lines_fit, cut_texts_stay, cut_lines_stand, cut_texts_fit}
 use Rattle.pg_fit.proofs.laws.cut_texts_fit.Goals as goal
 
 pub returns-clause-line : goal.returns-clause-line

@@ -1,4 +1,4 @@
-use Rattle.pg_fit.proofs.LawsOfEscapes.{no_escapes_are_left, texts_without_escapes_stay, line_feeds_stay}
+use Rattle.pg_fit.proofs.LawsOfControls.{no_escapes_are_left, texts_without_escapes_stay, line_feeds_stay}
 use Rattle.pg_fit.proofs.laws.escapes_are_left_out.Goals as goal
 
 pub returns-clause-none : goal.returns-clause-none

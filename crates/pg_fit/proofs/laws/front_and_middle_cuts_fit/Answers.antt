@@ -1,4 +1,4 @@
-use Rattle.pg_fit.proofs.LawsOfCutsAway.{front_cuts_fit, cut_away_lines_fit, cut_away_texts_stay, cut_away_lines_stand, cut_away_texts_fit}
+use Rattle.pg_fit.proofs.LawsOfCuts.{front_cuts_fit, cut_away_lines_fit, cut_away_texts_stay, cut_away_lines_stand, cut_away_texts_fit}
 use Rattle.pg_fit.proofs.laws.front_and_middle_cuts_fit.Goals as goal
 
 pub returns-clause-front : goal.returns-clause-front

@@ -5,7 +5,7 @@ use Rattle.pg_fit.specs.Wrapping.{least_line_width}
 use Rattle.std.specs.List.{list_all}
 use Rattle.pg_fit.specs.Printable.{is_printable}
 use Rattle.pg_fit.proofs.PrintableLines.{least-one_line}
-use Rattle.pg_fit.proofs.LeastWidths.{least_width-fold}
+use Rattle.pg_fit.proofs.NarrowedWidths.{least_width-fold}
 use Rattle.pg_fit.proofs.least.least_width.Goals as goal
 
 pub returns-then-is_printable : goal.returns-then-is_printable

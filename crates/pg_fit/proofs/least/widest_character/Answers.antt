@@ -6,8 +6,7 @@ use Rattle.pg_layout.specs.Text.{greatest, width_of}
 use Rattle.std.specs.List.{list_all}
 use Rattle.pg_fit.specs.Printable.{is_printable}
 use Rattle.pg_fit.proofs.PrintableLines.{widest-printable}
-use Rattle.pg_fit.proofs.CharactersOfParts.{StandFrom, characters-stand}
-use Rattle.pg_fit.proofs.WrappedLines.{slice_range-all}
+use Rattle.pg_fit.proofs.FilledLines.{StandFrom, characters-stand, slice_range-all}
 use Rattle.pg_fit.proofs.least.widest_character.Goals as goal
 
 pub returns-then-is_printable : goal.returns-then-is_printable

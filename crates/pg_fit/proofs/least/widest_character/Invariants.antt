@@ -3,7 +3,7 @@ use Rattle.std.specs.Str.{IsCharBoundary}
 use Rattle.unicode_segmentation.specs.Iter.{graphemes_left}
 use Rattle.pg_layout.specs.Text.{greatest, width_of}
 use Rattle.pg_fit.specs.Wrapping.{widest_character}
-use Rattle.pg_fit.proofs.CharactersOfParts.{StandFrom}
+use Rattle.pg_fit.proofs.FilledLines.{StandFrom}
 use Rattle.pg_fit.proofs.least.widest_character.Given as goal
 
 abbrev pub invariant-loop-character : goal.invariant-loop-character

@@ -2,7 +2,7 @@ use Rattle.std.proofs.Common.{◌≡◌, ◌-◌, max, length}
 use Rattle.std.specs.Str.{IsCharBoundary}
 use Rattle.pg_fit.specs.Inside.{words_from}
 use Rattle.pg_fit.specs.Wrapping.{words, indented}
-use Rattle.pg_fit.proofs.LeastWidths.{widest_in}
+use Rattle.pg_fit.proofs.NarrowedWidths.{widest_in}
 use Rattle.pg_fit.proofs.least.widest_in_words.Given as goal
 
 abbrev pub invariant-words : goal.invariant-words

@@ -1,5 +1,5 @@
 use Rattle.std.proofs.Common.{◌≡◌, sym, arith}
-use Rattle.pg_fit.proofs.Levels.{level-is}
+use Rattle.pg_fit.proofs.NarrowedWidths.{level-is}
 use Rattle.pg_fit.proofs.narrowing.find_level.Goals as goal
 
 pub returns : goal.returns

@@ -1,7 +1,7 @@
 use Rattle.std.proofs.Common.{◌+◌, ◌-◌, ◌++◌, [], ◌∷◌, get_or, drop, sym, ap, ◌∙◌, append-nil}
 use Rattle.std.proofs.lemmas.List.{at_drop_all}
 use Rattle.pg_fit.specs.Narrowing.{share, total, handed_out, narrowed}
-use Rattle.pg_fit.proofs.HandedOut.{handed_out-more}
+use Rattle.pg_fit.proofs.NarrowedWidths.{handed_out-more}
 use Rattle.pg_fit.proofs.narrowing.narrow.Goals as goal
 
 pub loop-column-preserved : goal.loop-column-preserved

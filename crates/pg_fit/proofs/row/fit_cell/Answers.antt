@@ -1,6 +1,6 @@
 use Rattle.std.proofs.Common.{sym, ap, ◌∙◌}
 use Rattle.pg_fit.specs.Rows.{is_fitting}
-use Rattle.pg_fit.proofs.CutRows.{cut_cell-fits}
+use Rattle.pg_fit.proofs.LawsOfCuts.{cut_cell-fits}
 use Rattle.pg_fit.proofs.row.fit_cell.Goals as goal
 
 pub returns-then-is_fitting-clause-text : goal.returns-then-is_fitting-clause-text

@@ -2,7 +2,7 @@ use Rattle.std.proofs.Common.{map, slice_index_or, sym, ap, ◌∙◌, arith}
 use Rattle.std.specs.Vec.Iter.{into_iter_items}
 use Rattle.std.proofs.lemmas.List.{nil_from_length}
 use Rattle.pg_fit.specs.Rows.{fitted_text, is_kept, is_fitting, cut_cell}
-use Rattle.pg_fit.proofs.RowsByWidth.{IsMade-first, IsMade-next, IsMade-all, IsMade-none}
+use Rattle.pg_fit.proofs.NarrowedWidths.{IsMade-first, IsMade-next, IsMade-all, IsMade-none}
 use Rattle.pg_fit.proofs.row.fit_row.Goals as goal
 
 pub loop-cell-init : goal.loop-cell-init

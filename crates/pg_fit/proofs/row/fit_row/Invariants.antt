@@ -1,7 +1,7 @@
 use Rattle.std.proofs.Common.{map}
 use Rattle.std.specs.Vec.Iter.{into_iter_items}
 use Rattle.pg_fit.specs.Rows.{fitted_text, is_kept, is_fitting, cut_cell}
-use Rattle.pg_fit.proofs.RowsByWidth.{IsMade}
+use Rattle.pg_fit.proofs.NarrowedWidths.{IsMade}
 use Rattle.pg_fit.proofs.row.fit_row.Given as goal
 
 abbrev pub invariant-loop-cell : goal.invariant-loop-cell

@@ -1,8 +1,7 @@
 use Rattle.std.proofs.Common.{length, sym, ap, ◌∙◌}
 use Rattle.std.specs.List.{list_all}
 use Rattle.pg_layout.specs.Text.{is_plain_byte}
-use Rattle.pg_layout.proofs.TextLines.{lines_of-one}
-use Rattle.pg_layout.proofs.TextWidths.{feed_place-plain}
+use Rattle.pg_layout.proofs.TextLines.{lines_of-one, feed_place-plain}
 use Rattle.pg_fit.proofs.wrapped_row.lines_in.Goals as goal
 
 pub returns-then-is_plain : goal.returns-then-is_plain

@@ -1,6 +1,6 @@
 use Rattle.std.proofs.Common.{◌≤◌, sym, ap, ◌∙◌, arith}
 use Rattle.pg_layout.specs.Text.{text_width_of}
-use Rattle.pg_fit.proofs.LawsOfLines.{fitting_texts_stay}
+use Rattle.pg_fit.proofs.LawsOfTexts.{fitting_texts_stay}
 use Rattle.pg_fit.proofs.wrapped_row.wrap_cell.Goals as goal
 
 pub returns-then-get_text_width-width-clause-text : goal.returns-then-get_text_width-width-clause-text

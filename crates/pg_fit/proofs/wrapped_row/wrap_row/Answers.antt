@@ -3,7 +3,7 @@ use Rattle.std.specs.Vec.Iter.{into_iter_items}
 use Rattle.std.proofs.lemmas.List.{nil_from_length}
 use Rattle.pg_fit.specs.Rows.{fitted_text, is_kept, is_narrow}
 use Rattle.pg_fit.specs.Wrapping.{wrapped}
-use Rattle.pg_fit.proofs.RowsByWidth.{IsMade-first, IsMade-next, IsMade-all, IsMade-none}
+use Rattle.pg_fit.proofs.NarrowedWidths.{IsMade-first, IsMade-next, IsMade-all, IsMade-none}
 use Rattle.pg_fit.proofs.wrapped_row.wrap_row.Goals as goal
 
 pub loop-cell-init : goal.loop-cell-init

@@ -2,7 +2,7 @@ use Rattle.std.proofs.Common.{◌<◌, ◌≤◌, ◌++◌, sym, ap, ◌∙◌, 
 use Rattle.std.specs.String.{string_bytes}
 use Rattle.pg_layout.specs.Text.{width_of}
 use Rattle.std.specs.List.{join_with_byte}
-use Rattle.pg_fit.proofs.WrappedLines.{wrapped_line-fits, wrapped_line-broken}
+use Rattle.pg_fit.proofs.FilledLines.{wrapped_line-fits, wrapped_line-broken}
 use Rattle.pg_fit.proofs.wrapping.push_line.Goals as goal
 
 pub returns-then-get_line_width-width : goal.returns-then-get_line_width-width

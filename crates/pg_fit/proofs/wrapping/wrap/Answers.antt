@@ -3,9 +3,8 @@ use Rattle.std.specs.List.{flat_map}
 use Rattle.std.specs.String.{string_bytes}
 use Rattle.std.proofs.lemmas.Str.{encode_ascii}
 use Rattle.std.specs.List.{join_with_byte}
-use Rattle.pg_fit.proofs.JoinedLines.{fed}
+use Rattle.pg_fit.proofs.FilledLines.{fed, joined-first, fed-next}
 use Rattle.pg_fit.specs.Wrapping.{wrapped_line, wrapped}
-use Rattle.pg_fit.proofs.WrappedLines.{joined-first, fed-next}
 use Rattle.pg_fit.proofs.wrapping.wrap.Goals as goal
 use Rattle.pg_fit.proofs.wrapping.wrap.Goals.{in-Some+in_ok-push_line, in_default}
 

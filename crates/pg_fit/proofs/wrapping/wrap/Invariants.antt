@@ -3,7 +3,7 @@ use Rattle.std.specs.List.{flat_map}
 use Rattle.std.specs.String.{string_bytes}
 use Rattle.pg_layout.specs.Text.{lines_of}
 use Rattle.std.specs.List.{join_with_byte}
-use Rattle.pg_fit.proofs.JoinedLines.{fed}
+use Rattle.pg_fit.proofs.FilledLines.{fed}
 use Rattle.pg_fit.specs.Wrapping.{wrapped_line}
 use Rattle.pg_fit.proofs.wrapping.wrap.Given as goal
 

@@ -1,4 +1,4 @@
-use Rattle.pg_picture.proofs.Rooms.{fits}
+use Rattle.pg_picture.proofs.FirstPlaces.{fits}
 use Rattle.pg_laws.proofs.FirstMisfits.{misfit_of-colors}
 use Rattle.pg_laws.proofs.fits.no_misfit_means_fits.Goals as goal
 

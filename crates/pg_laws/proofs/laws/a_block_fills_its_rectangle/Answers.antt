@@ -1,4 +1,4 @@
-use Rattle.pg_laws.proofs.BlocksOfRectangles.{blocks_are_drawn, blocks_fill}
+use Rattle.pg_laws.proofs.DrawnCells.{blocks_are_drawn, blocks_fill}
 use Rattle.pg_laws.proofs.laws.a_block_fills_its_rectangle.Goals as goal
 
 pub returns : goal.returns

@@ -1,4 +1,4 @@
-use Rattle.pg_picture.proofs.Rooms.{fitting_tables_have_none}
+use Rattle.pg_picture.proofs.FirstPlaces.{fitting_tables_have_none}
 use Rattle.pg_laws.proofs.FirstMisfits.{misfits_are_first}
 use Rattle.pg_laws.proofs.laws.a_misfit_is_the_first_that_applies.Goals as goal
 

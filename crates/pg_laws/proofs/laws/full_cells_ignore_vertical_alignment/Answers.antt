@@ -1,4 +1,4 @@
-use Rattle.pg_laws.proofs.FullCells.{full_cells_ignore_alignment, single_lines_ignore_alignment}
+use Rattle.pg_laws.proofs.DrawnCells.{full_cells_ignore_alignment, single_lines_ignore_alignment}
 use Rattle.pg_laws.proofs.laws.full_cells_ignore_vertical_alignment.Goals as goal
 
 pub returns : goal.returns

@@ -1,4 +1,4 @@
-use Rattle.pg_laws.proofs.TablesToldLittle.{plain_rows, plain_separators}
+use Rattle.pg_laws.proofs.LinesOfPictures.{plain_rows, plain_separators}
 use Rattle.pg_laws.proofs.laws.tables_without_spans_are_drawn_cell_by_cell.Goals as goal
 
 pub returns : goal.returns

@@ -1,4 +1,4 @@
-use Rattle.pg_laws.proofs.BorderLaw.{border_overrides, border_parts}
+use Rattle.pg_laws.proofs.SettingLaws.{border_overrides, border_parts}
 use Rattle.pg_laws.proofs.settings.a_border_overrides_its_places.Goals as goal
 
 pub returns : goal.returns

@@ -1,4 +1,4 @@
-use Rattle.pg_laws.proofs.RowLineLaw.{row_line_horizontals, row_line_crossings, row_line_verticals}
+use Rattle.pg_laws.proofs.SettingLaws.{row_line_horizontals, row_line_crossings, row_line_verticals}
 use Rattle.pg_laws.proofs.settings.a_row_line_overrides_its_places.Goals as goal
 
 pub returns : goal.returns

@@ -1,4 +1,4 @@
-use Rattle.pg_config.proofs.LinesLaw.{rows_stay, columns_stay}
+use Rattle.pg_config.proofs.EqualLines.{rows_stay, columns_stay}
 use Rattle.pg_laws.proofs.settings.lines_before_the_last_stay.Goals as goal
 
 pub returns : goal.returns

@@ -1,4 +1,4 @@
-use Rattle.pg_laws.proofs.EverSetLaw.{ever_set, nothing_at_first}
+use Rattle.pg_laws.proofs.SettingLaws.{ever_set, nothing_at_first}
 use Rattle.pg_laws.proofs.settings.what_was_set_is_told.Goals as goal
 
 pub returns : goal.returns

@@ -1,7 +1,7 @@
 use Rattle.std.proofs.Common.{sym, ap, ◌∙◌}
 use Rattle.std.specs.List.{list_all}
 use Rattle.pg_layout.specs.Text.{is_plain_byte, width_of}
-use Rattle.pg_layout.proofs.TextWidths.{width_of-plain}
+use Rattle.pg_layout.proofs.TextLines.{width_of-plain}
 use Rattle.pg_layout.proofs.text.get_line_width.Goals as goal
 
 pub returns-then-is_plain : goal.returns-then-is_plain

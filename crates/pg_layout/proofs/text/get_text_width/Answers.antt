@@ -2,7 +2,7 @@ use Rattle.std.proofs.Common.{max, sym, ap, ◌∙◌, rules, tests}
 use Rattle.std.specs.List.{list_all}
 use Rattle.std.proofs.lemmas.Iterator.Consumers.{YieldsList-from_first, fold_from_yields_List}
 use Rattle.pg_layout.specs.Text.{is_plain_byte, width_of, lines_of}
-use Rattle.pg_layout.proofs.TextWidths.{text_width_of-plain, text_width_of-fold}
+use Rattle.pg_layout.proofs.TextLines.{text_width_of-plain, text_width_of-fold}
 use Rattle.pg_layout.proofs.text.get_text_width.Goals as goal
 
 pub returns-then-is_plain : goal.returns-then-is_plain

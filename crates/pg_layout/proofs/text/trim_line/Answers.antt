@@ -1,5 +1,5 @@
 use Rattle.std.proofs.Common.{sym, ap, ◌∙◌}
-use Rattle.pg_layout.proofs.TrimmedLines.{has_seen_ends, trim-seen_ends}
+use Rattle.pg_layout.proofs.TextLines.{has_seen_ends, trim-seen_ends}
 use Rattle.pg_layout.proofs.text.trim_line.Goals as goal
 
 pub returns-then-has_seen_ends : goal.returns-then-has_seen_ends

@@ -5,7 +5,7 @@ use Rattle.pg_picture.specs.Pieces.{Item, glyph}
 use Rattle.pg_picture.specs.Inside.Following.{items_after, last_color}
 use Rattle.pg_picture.specs.Table.{border_glyph}
 use Rattle.pg_picture.proofs.Appending.{Gained-none, Gained-more, Gained-text, refused}
-use Rattle.pg_picture.proofs.Horizontals.{items_after-more, last_color-more, items_after-cut}
+use Rattle.pg_picture.proofs.Separators.{items_after-more, last_color-more, items_after-cut}
 use Rattle.pg_picture.proofs.border.push_single_glyphs.Goals as goal
 
 pub loop-i-init : goal.loop-i-init

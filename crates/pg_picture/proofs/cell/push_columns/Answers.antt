@@ -1,7 +1,7 @@
 use Rattle.std.proofs.Common.{sym, ap, ◌∙◌}
 use Rattle.pg_picture.specs.Pieces.{repeated}
 use Rattle.pg_picture.proofs.Appending.{Appends-text, Gained-none, Gained-all}
-use Rattle.pg_picture.proofs.Repeated.{repeated-zero}
+use Rattle.pg_picture.proofs.PiecesOfLines.{repeated-zero}
 use Rattle.pg_picture.proofs.cell.push_columns.Goals as goal
 
 pub returns-then-size-eq0 : goal.returns-then-size-eq0

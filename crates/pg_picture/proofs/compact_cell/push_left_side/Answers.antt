@@ -1,7 +1,7 @@
 use Rattle.std.proofs.Common.{◌++◌, refl, sym, ap, ◌∙◌}
 use Rattle.pg_picture.specs.Pieces.{repeated}
 use Rattle.pg_picture.proofs.Appending.{Appends-text}
-use Rattle.pg_picture.proofs.Repeated.{repeated-add}
+use Rattle.pg_picture.proofs.PiecesOfLines.{repeated-add}
 use Rattle.pg_picture.proofs.compact_cell.push_left_side.Goals as goal
 
 pub returns-in-Some : goal.returns-in-Some

@@ -1,8 +1,7 @@
 use Rattle.std.proofs.Common.{◌≡◌, ap, sym, ◌∙◌, true}
 use Rattle.std.specs.List.{list_all}
 use Rattle.pg_layout.specs.Text.{is_plain_byte}
-use Rattle.pg_layout.proofs.TextLines.{lines_of-one, first_line_of-one}
-use Rattle.pg_layout.proofs.TextWidths.{width_of-plain, feed_place-plain}
+use Rattle.pg_layout.proofs.TextLines.{lines_of-one, first_line_of-one, width_of-plain, feed_place-plain}
 use Rattle.pg_picture.proofs.compact_cell.shown_line.Goals as goal
 
 pub returns-then-is_plain : goal.returns-then-is_plain

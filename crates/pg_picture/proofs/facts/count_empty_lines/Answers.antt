@@ -2,7 +2,7 @@ use Rattle.std.proofs.Common.{ap, sym, ◌∙◌, length, arith}
 use Rattle.std.proofs.lemmas.List.Sums.{count_by-le-length}
 use Rattle.pg_layout.specs.Text.{lines_of, is_blank}
 use Rattle.pg_layout.proofs.TextLines.{is_feed, length-lines_of}
-use Rattle.pg_picture.proofs.BlankEnds.{ends_after, counted-empty_lines}
+use Rattle.pg_picture.proofs.PlacesOfTexts.{ends_after, counted-empty_lines}
 use Rattle.pg_picture.proofs.facts.count_empty_lines.Goals as goal
 
 pub with_line-ends-requires : goal.with_line-ends-requires

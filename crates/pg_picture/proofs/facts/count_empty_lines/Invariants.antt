@@ -1,6 +1,6 @@
 use Rattle.std.proofs.Common.{◌≡◌, ◌+◌, length}
 use Rattle.pg_layout.specs.Text.{lines_of, is_blank}
-use Rattle.pg_picture.proofs.BlankEnds.{ends_after, total}
+use Rattle.pg_picture.proofs.PlacesOfTexts.{ends_after, total}
 use Rattle.pg_picture.proofs.facts.count_empty_lines.Given as goal
 
 abbrev pub invariant-loop-line : goal.invariant-loop-line

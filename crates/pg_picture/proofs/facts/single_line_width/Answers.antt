@@ -1,8 +1,7 @@
 use Rattle.std.proofs.Common.{◌≡◌, sym, ◌∙◌, true}
 use Rattle.std.specs.List.{list_all}
 use Rattle.pg_layout.specs.Text.{is_plain_byte}
-use Rattle.pg_layout.proofs.TextLines.{lines_of-one}
-use Rattle.pg_layout.proofs.TextWidths.{width_of-plain, feed_place-plain}
+use Rattle.pg_layout.proofs.TextLines.{lines_of-one, width_of-plain, feed_place-plain}
 use Rattle.pg_picture.proofs.facts.single_line_width.Goals as goal
 
 pub returns-then-is_plain_text : goal.returns-then-is_plain_text

@@ -2,7 +2,7 @@ use Rattle.std.proofs.Common.{◌∙◌, max, rules, tests}
 use Rattle.std.proofs.lemmas.Iterator.Consumers.{YieldsList-from_first, fold_from_yields_List}
 use Rattle.std.specs.Str.{trim}
 use Rattle.pg_layout.specs.Text.{lines_of, width_of}
-use Rattle.pg_picture.proofs.FactsOfTexts.{widest-trimmed, widest-untrimmed}
+use Rattle.pg_picture.proofs.PlacesOfTexts.{widest-trimmed, widest-untrimmed}
 use Rattle.pg_picture.proofs.facts.text_width.Goals as goal
 
 pub returns-then-not-trim : goal.returns-then-not-trim

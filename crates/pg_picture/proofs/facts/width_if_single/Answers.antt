@@ -2,7 +2,7 @@ use Rattle.std.proofs.Common.{◌≡◌, ap, sym, ◌∙◌, not, true}
 use Rattle.std.specs.List.{list_all}
 use Rattle.pg_layout.specs.Text.{width_of}
 use Rattle.pg_layout.proofs.TextLines.{is_feed}
-use Rattle.pg_picture.proofs.FactsOfTexts.{lines_of-unfed}
+use Rattle.pg_picture.proofs.PlacesOfTexts.{lines_of-unfed}
 use Rattle.pg_picture.proofs.facts.width_if_single.Goals as goal
 
 pub returns-then-has_no_feed : goal.returns-then-has_no_feed

@@ -1,7 +1,7 @@
 use Rattle.std.proofs.Common.{ℕ, sym, ◌*◌, ap, subst, ◌∙◌}
 use Rattle.std.specs.Str.{IsCharBoundary}
 use Rattle.std.specs.List.{slice_range}
-use Rattle.pg_picture.proofs.Repeated.{repeated-boundary, repeated-front}
+use Rattle.pg_picture.proofs.PiecesOfLines.{repeated-boundary, repeated-front}
 use Rattle.pg_picture.proofs.fill.front_of.Goals as goal
 
 pub range-requires-clause-end_boundary : goal.range-requires-clause-end_boundary

@@ -2,7 +2,7 @@ use Rattle.std.proofs.Common.{ℕ, ◌*◌, ◌+◌, ◌-◌, ◌%◌, ◌≡◌
 use Rattle.std.proofs.lemmas.Nat.{div-add-mod'}
 use Rattle.pg_picture.specs.Pieces.{repeated}
 use Rattle.pg_picture.proofs.Appending.{refused, Appends-text, Gained-none, Gained-more, Gained-text, gained-then}
-use Rattle.pg_picture.proofs.Repeated.{repeated-add, repeated-zero}
+use Rattle.pg_picture.proofs.PiecesOfLines.{repeated-add, repeated-zero}
 use Rattle.pg_picture.proofs.fill.push_blocks.Goals as goal
 
 pub loop-init : goal.loop-init

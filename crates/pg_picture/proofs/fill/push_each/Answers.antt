@@ -1,6 +1,6 @@
 use Rattle.std.proofs.Common.{arith, sym}
 use Rattle.pg_picture.proofs.Appending.{refused, Gained-none, Gained-more, Gained-text}
-use Rattle.pg_picture.proofs.Repeated.{repeated-cut, repeated-more, repeated-zero}
+use Rattle.pg_picture.proofs.PiecesOfLines.{repeated-cut, repeated-more, repeated-zero}
 use Rattle.pg_picture.proofs.fill.push_each.Goals as goal
 
 pub loop-init : goal.loop-init

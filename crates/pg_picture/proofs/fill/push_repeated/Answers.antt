@@ -1,7 +1,7 @@
 use Rattle.std.proofs.Common.{refl, sym, ◌∙◌, ap}
 use Rattle.pg_picture.specs.Pieces.{repeated}
 use Rattle.pg_picture.proofs.Appending.{Appends-text}
-use Rattle.pg_picture.proofs.Repeated.{repeated-one}
+use Rattle.pg_picture.proofs.PiecesOfLines.{repeated-one}
 use Rattle.pg_picture.proofs.fill.push_repeated.Goals as goal
 
 pub returns-then-count-eq1 : goal.returns-then-count-eq1

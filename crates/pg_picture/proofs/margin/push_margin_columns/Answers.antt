@@ -1,6 +1,6 @@
 use Rattle.std.proofs.Common.{sym, ◌∙◌}
 use Rattle.pg_picture.proofs.Appending.{Appends-text}
-use Rattle.pg_picture.proofs.Margins.{written-side_blank, written-side_filled}
+use Rattle.pg_picture.proofs.PiecesOfLines.{written-side_blank, written-side_filled}
 use Rattle.pg_picture.proofs.margin.push_margin_columns.Goals as goal
 
 pub returns-then-is_blank : goal.returns-then-is_blank

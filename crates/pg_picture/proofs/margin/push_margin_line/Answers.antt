@@ -1,5 +1,5 @@
 use Rattle.pg_picture.proofs.Appending.{Appends-text, ◌then◌, stopped}
-use Rattle.pg_picture.proofs.Margins.{written-margin_start, written-margin_end}
+use Rattle.pg_picture.proofs.PiecesOfLines.{written-margin_start, written-margin_end}
 use Rattle.pg_picture.proofs.margin.push_margin_line.Goals as goal
 
 pub returns-in_err-push_repeated-in-Start : goal.returns-in_err-push_repeated-in-Start

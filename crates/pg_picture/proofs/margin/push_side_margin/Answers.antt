@@ -1,5 +1,5 @@
 use Rattle.pg_picture.proofs.Appending.{Appends-text, Gained-none, Gained-all}
-use Rattle.pg_picture.proofs.Margins.{written-side_none}
+use Rattle.pg_picture.proofs.PiecesOfLines.{written-side_none}
 use Rattle.pg_picture.proofs.margin.push_side_margin.Goals as goal
 
 pub returns-then-indent-eq0 : goal.returns-then-indent-eq0

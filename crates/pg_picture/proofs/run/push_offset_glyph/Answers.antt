@@ -1,6 +1,6 @@
 use Rattle.pg_layout.specs.Colors.{lent_color}
 use Rattle.pg_picture.proofs.Appending.{Appends-text, ◌then◌, stopped}
-use Rattle.pg_picture.proofs.CutsOfItems.{item_text-offset}
+use Rattle.pg_picture.proofs.Separators.{item_text-offset}
 use Rattle.pg_picture.proofs.run.push_offset_glyph.Goals as goal
 
 pub returns-in_err-push_fill : goal.returns-in_err-push_fill

@@ -1,7 +1,7 @@
 use Rattle.std.proofs.Common.{◌≡◌, ◌∙◌, arith, length, ap, sym, Err, None}
 use Rattle.pg_script.specs.Script.{read_lines}
 use Rattle.pg_script.specs.declared.script.ScriptFault.TheVariants.{Bad}
-use Rattle.pg_script.proofs.ScriptLines.{length-lines}
+use Rattle.pg_script.proofs.LineWords.{length-lines}
 use Rattle.pg_script.proofs.reading.parse_script.Goals as goal
 
 pub read_size-requires : goal.read_size-requires

@@ -1,5 +1,5 @@
 use Rattle.std.proofs.lemmas.Str.{is_utf8-from_IsUtf8}
-use Rattle.pg_script.proofs.LinesRead.{is_utf8-false}
+use Rattle.pg_script.proofs.LineWords.{is_utf8-false}
 use Rattle.pg_script.proofs.reading.text_of_line.Goals as goal
 
 pub returns-in-Ok : goal.returns-in-Ok

@@ -1,6 +1,6 @@
 use Rattle.std.proofs.Common.{◌≡◌, ◌∙◌, ◌-◌, ◌+◌, ℕ, List, Option, option_map, sym, ap, arith}
 use Rattle.pg_script.specs.Words.{Word, words_of, first_numbers, read_on, end_of}
-use Rattle.pg_script.proofs.NumbersOfWords.{onto_numbers, first_numbers-bad, first_numbers-step, first_numbers-all}
+use Rattle.pg_script.proofs.LineWords.{onto_numbers, first_numbers-bad, first_numbers-step, first_numbers-all}
 use Rattle.pg_script.proofs.statement.numbers.Goals as goal
 
 -- the numbers, if no word is left behind them

@@ -1,6 +1,6 @@
 use Rattle.std.proofs.Common.{◌≡◌, ◌-◌, length}
 use Rattle.pg_script.specs.Words.{words_of, first_numbers}
-use Rattle.pg_script.proofs.NumbersOfWords.{onto_numbers}
+use Rattle.pg_script.proofs.LineWords.{onto_numbers}
 use Rattle.pg_script.proofs.statement.numbers.Given as goal
 
 -- the numbers so far, and those that are left to read, are all numbers

@@ -1,6 +1,6 @@
 use Rattle.std.proofs.Common.{◌∙◌, sym, ap}
 use Rattle.pg_script.specs.Words.{char_of}
-use Rattle.pg_script.proofs.WordsOfCharacters.{char_of-backslash, char_of-read}
+use Rattle.pg_script.proofs.LineWords.{char_of-backslash, char_of-read}
 use Rattle.pg_script.proofs.words.char_of.Goals as goal
 
 pub returns-in-text-3 : goal.returns-in-text-3

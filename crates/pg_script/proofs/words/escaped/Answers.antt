@@ -1,5 +1,5 @@
 use Rattle.std.proofs.Common.{◌∙◌, sym}
-use Rattle.pg_script.proofs.WrittenTexts.{escaped_of-none}
+use Rattle.pg_script.proofs.LineWords.{escaped_of-none}
 use Rattle.pg_script.proofs.words.escaped.Goals as goal
 
 pub returns-in_err-meant-clause-read : goal.returns-in_err-meant-clause-read

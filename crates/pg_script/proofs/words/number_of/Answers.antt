@@ -1,7 +1,7 @@
 use Rattle.std.proofs.Common.{◌<◌, ◌≤◌, ◌^◌, length, rules}
 use Rattle.std.specs.Option.{SomeIff}
 use Rattle.std.specs.Str.Parse.{IsNumeral, digits_value}
-use Rattle.pg_script.proofs.WordsOfNumbers.{number_of-read}
+use Rattle.pg_script.proofs.LineWords.{number_of-read}
 use Rattle.pg_script.proofs.words.number_of.Goals as goal
 
 pub returns : goal.returns

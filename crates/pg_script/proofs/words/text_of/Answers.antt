@@ -1,7 +1,7 @@
 use Rattle.std.proofs.Common.{◌≡◌, ◌∙◌, ◌++◌, [], ◌∷◌, Some, string_bytes, option_map, rules, ap, lit<}
 use Rattle.std.specs.Char.{encode_utf8}
 use Rattle.pg_script.specs.Words.{text_of}
-use Rattle.pg_script.proofs.WrittenTexts.{option_map-nothing, text_of-bad, text_of-step, text_of-plain}
+use Rattle.pg_script.proofs.LineWords.{option_map-nothing, text_of-bad, text_of-step, text_of-plain}
 use Rattle.pg_script.proofs.words.text_of.Goals as goal
 
 pub loop-before-init : goal.loop-before-init

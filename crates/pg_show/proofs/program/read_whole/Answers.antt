@@ -1,6 +1,6 @@
 use Rattle.std.proofs.Common.{◌≡◌, [], ◌<◌, ◌++◌, ◌∙◌, length, length-append, take, arith, sym, ap, append-nil}
 use Rattle.std.proofs.KnownBytes.{Consumes-trans, Consumes-whole}
-use Rattle.pg_show.proofs.BytesRead.{Consumes-length}
+use Rattle.pg_show.proofs.ScriptTables.{Consumes-length}
 use Rattle.pg_show.proofs.program.read_whole.Goals as goal
 
 pub returns-in-Ok-eq0-clause-whole : goal.returns-in-Ok-eq0-clause-whole

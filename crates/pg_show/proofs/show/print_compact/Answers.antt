@@ -6,8 +6,7 @@ use Rattle.pg_picture.specs.Picture.{compact_picture}
 use Rattle.pg_script.specs.Script.{told_of_script}
 use Rattle.pg_show.specs.Show.{compact_table_with}
 use Rattle.pg_show.specs.declared.mode.Mode.TheVariants as mode
-use Rattle.pg_show.proofs.PrintedGrids.{Shows-checked}
-use Rattle.pg_show.proofs.ScriptTables.{compact_misfit-told, compact_table-script}
+use Rattle.pg_show.proofs.ScriptTables.{Shows-checked, compact_misfit-told, compact_table-script}
 use Rattle.pg_show.proofs.show.print_compact.Goals as goal
 
 pub returns-clause-shows : goal.returns-clause-shows

@@ -4,8 +4,7 @@ use Rattle.pg_picture.specs.Table.{is_empty}
 use Rattle.pg_script.specs.Script.{told_of_script}
 use Rattle.pg_show.specs.Show.{table_with}
 use Rattle.pg_show.specs.declared.mode.Mode.TheVariants as mode
-use Rattle.pg_show.proofs.PrintedGrids.{Shows-checked}
-use Rattle.pg_show.proofs.ScriptTables.{table-script}
+use Rattle.pg_show.proofs.ScriptTables.{Shows-checked, table-script}
 use Rattle.pg_show.proofs.show.print_streamed.Goals as goal
 
 pub returns-clause-shows : goal.returns-clause-shows

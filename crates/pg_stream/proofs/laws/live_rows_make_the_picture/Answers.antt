@@ -1,4 +1,4 @@
-use Rattle.pg_stream.proofs.LiveRows.{live-make}
+use Rattle.pg_stream.proofs.PicturesOfRows.{live-make}
 use Rattle.pg_stream.proofs.laws.live_rows_make_the_picture.Goals as goal
 
 pub returns : goal.returns

@@ -1,8 +1,8 @@
 use Rattle.std.proofs.Common.{arith, ap, string_bytes}
 use Rattle.std.proofs.lemmas.Str.{IsUtf8-string_bytes}
 use Rattle.pg_layout.specs.Text.{text_width_of}
-use Rattle.pg_fit.proofs.LawsOfCutTexts.{cut_texts_fit}
-use Rattle.pg_table.proofs.FittedTexts.{widest-narrower}
+use Rattle.pg_fit.proofs.LawsOfCuts.{cut_texts_fit}
+use Rattle.pg_table.proofs.TrimmedWidths.{widest-narrower}
 use Rattle.pg_table.proofs.overflow.cut_to.Goals as goal
 
 pub returns-clause-room : goal.returns-clause-room

@@ -9,7 +9,7 @@ use Rattle.ruled_table.specs.LentRows.{fields_at}
 use Rattle.ruled_table.specs.Tables.{fault_with, text_with}
 use Rattle.ruled_table.specs.Shown.{look_config}
 use Rattle.ruled_table.proofs.LentTexts.{pairs-lent}
-use Rattle.ruled_table.proofs.Views.{told_on}
+use Rattle.ruled_table.proofs.Tables.{told_on}
 use Rattle.ruled_table.proofs.blocks.block_of.Goals as goal
 
 pub returns-in_err-text-clause-fault : goal.returns-in_err-text-clause-fault

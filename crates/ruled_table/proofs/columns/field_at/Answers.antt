@@ -1,5 +1,5 @@
 use Rattle.csv.specs.Records.{fields_of}
-use Rattle.ruled_table.proofs.Fields.{field_missing, field_there}
+use Rattle.ruled_table.proofs.LentTexts.{field_missing, field_there}
 use Rattle.ruled_table.proofs.columns.field_at.Goals as goal
 
 pub returns-in-Some : goal.returns-in-Some

@@ -1,5 +1,5 @@
 use Rattle.std.proofs.Common.{◌∙◌, sym}
-use Rattle.ruled_table.proofs.PlainTexts.{plain_texts_stay}
+use Rattle.ruled_table.proofs.LentTexts.{plain_texts_stay}
 use Rattle.ruled_table.proofs.escapes.is_plain_text.Goals as goal
 
 pub returns : goal.returns

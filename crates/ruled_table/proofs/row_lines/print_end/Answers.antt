@@ -1,5 +1,5 @@
 use Rattle.std.specs.Prelude.{⊤}
-use Rattle.ruled_table.proofs.RowFaults.{end-stops}
+use Rattle.ruled_table.proofs.RowsInParts.{end-stops}
 use Rattle.ruled_table.proofs.row_lines.print_end.Goals as goal
 
 pub returns-in_err-finish-clause-fault : goal.returns-in_err-finish-clause-fault

@@ -6,7 +6,7 @@ use Rattle.pg_stream.specs.Conditions.{RowFits}
 use Rattle.pg_stream.specs.LiveStreams.{LentFits}
 use Rattle.pg_stream.specs.Printing.{Printing}
 use Rattle.ruled_table.specs.RowLines.{state_of}
-use Rattle.ruled_table.proofs.RowFaults.{lent-stops}
+use Rattle.ruled_table.proofs.RowsInParts.{lent-stops}
 use Rattle.ruled_table.proofs.row_lines.print_lent.Goals as goal
 
 pub returns-in_err-push_lent-clause-room : goal.returns-in_err-push_lent-clause-room

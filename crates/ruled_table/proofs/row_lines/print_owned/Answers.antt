@@ -4,7 +4,7 @@ use Rattle.pg_layout.specs.Text.{Text}
 use Rattle.pg_stream.specs.Conditions.{RowFits}
 use Rattle.pg_stream.specs.Printing.{Printing}
 use Rattle.ruled_table.specs.RowLines.{state_of}
-use Rattle.ruled_table.proofs.RowFaults.{row-stops}
+use Rattle.ruled_table.proofs.RowsInParts.{row-stops}
 use Rattle.ruled_table.proofs.row_lines.print_owned.Goals as goal
 
 pub returns-in_err-push-clause-room : goal.returns-in_err-push-clause-room

@@ -4,7 +4,7 @@ use Rattle.csv.specs.Records.{fields_of}
 use Rattle.pg_layout.specs.Text.{Text}
 use Rattle.ruled_table.specs.Shown.{shown_text}
 use Rattle.ruled_table.specs.Widths.{room_of, text_within, widths_in}
-use Rattle.ruled_table.proofs.RowsWithin.{within-all, within-next}
+use Rattle.ruled_table.proofs.RowsInParts.{within-all, within-next}
 use Rattle.ruled_table.proofs.table_rows.cells_shown.Goals as goal
 
 pub loop-place-preserved : goal.loop-place-preserved

@@ -10,7 +10,7 @@ use Rattle.pg_table.specs.declared.fault.TableFault.{TableFault}
 use Rattle.ruled_table.specs.Bounds.{limits_of, width_of}
 use Rattle.ruled_table.specs.LentRows.{texts_of}
 use Rattle.ruled_table.specs.declared.lent_rows.LentRows.{LentRows}
-use Rattle.ruled_table.proofs.Sizes.{drawn-sizes-fault, later-table-told, table-told, widths-are}
+use Rattle.ruled_table.proofs.Tables.{drawn-sizes-fault, later-table-told, table-told, widths-are}
 use Rattle.ruled_table.proofs.widths.fitted_sizes.Goals as goal
 
 abbrev columns_in : LentRows → ℕ

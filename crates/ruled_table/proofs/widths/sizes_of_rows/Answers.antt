@@ -1,7 +1,7 @@
 use Rattle.std.proofs.Common.{◌≡◌, slice_index_or}
 use Rattle.ruled_table.specs.LentRows.{texts_of}
 use Rattle.ruled_table.specs.Widths.{widths_fault, widths_of}
-use Rattle.ruled_table.proofs.Sizes.{ok-kept, tells-kept}
+use Rattle.ruled_table.proofs.Tables.{ok-kept, tells-kept}
 use Rattle.ruled_table.proofs.widths.sizes_of_rows.Goals as goal
 
 pub returns-clause-widths : goal.returns-clause-widths

@@ -4,7 +4,7 @@ use Rattle.pg_picture.specs.CompactSizes.{compact_sized}
 use Rattle.pg_picture.specs.Fits.{compact_misfit_of}
 use Rattle.pg_picture.specs.Sizes.{unless_misfit}
 use Rattle.pg_compact.specs.CompactGrids.{compact_table}
-use Rattle.pg_compact.proofs.ShownTexts.{no_columns-fit}
+use Rattle.pg_compact.proofs.CompactPictures.{no_columns-fit}
 use Rattle.pg_compact.proofs.grid.CompactGrid+R+D+ref+CompactConfig+C.fits.Goals as goal
 
 -- where there are rows, an empty table has no columns

@@ -1,7 +1,7 @@
 use Rattle.std.proofs.Common.{◌≡◌, Bool, ◌&&◌, not, true, false, [], ◌==◌, ap, sym, ◌∙◌, arith}
 use Rattle.std.proofs.lemmas.Bool.Decides.{nat_tests}
 use Rattle.pg_layout.specs.Borders.{has_top}
-use Rattle.pg_compact.proofs.CompactBodies.{no_head}
+use Rattle.pg_compact.proofs.CompactRows.{no_head}
 use Rattle.pg_compact.proofs.printer.CompactPrinter.has_no_head.Goals as goal
 
 pub returns-then-get_margin-eq0 : goal.returns-then-get_margin-eq0

@@ -6,7 +6,7 @@ use Rattle.pg_picture.specs.Joined.{continued}
 use Rattle.pg_picture.specs.Inside.Following.{lines_before}
 use Rattle.pg_picture.proofs.Appending.{Appends-text, ◌then◌, stopped}
 use Rattle.pg_compact.specs.Inside.PrintedTable.{line_colors}
-use Rattle.pg_compact.proofs.CompactBodies.{foot-text}
+use Rattle.pg_compact.proofs.CompactRows.{foot-text}
 use Rattle.pg_compact.proofs.printer.CompactPrinter.push_foot.Goals as goal
 
 pub returns-in_err-push_separator_if : goal.returns-in_err-push_separator_if

@@ -6,7 +6,7 @@ use Rattle.pg_picture.specs.Joined.{continued}
 use Rattle.pg_picture.specs.Inside.Following.{lines_before}
 use Rattle.pg_picture.proofs.Appending.{Appends-text, ◌then◌, stopped}
 use Rattle.pg_compact.specs.Inside.PrintedTable.{printed_table, line_colors}
-use Rattle.pg_compact.proofs.CompactBodies.{head-text}
+use Rattle.pg_compact.proofs.CompactRows.{head-text}
 use Rattle.pg_compact.proofs.printer.CompactPrinter.push_head.Goals as goal
 
 pub returns-in_err-push_compact_margin : goal.returns-in_err-push_compact_margin

@@ -5,7 +5,7 @@ use Rattle.pg_picture.specs.CompactLines.{part_if}
 use Rattle.pg_picture.specs.Inside.Following.{open_parts, open_color}
 use Rattle.pg_picture.proofs.Appending.{Appends-text, ◌then◌, stopped}
 use Rattle.pg_compact.specs.Inside.PrintedTable.{printed_table, line_colors, column_parts}
-use Rattle.pg_compact.proofs.CompactSeparators.{parts-text}
+use Rattle.pg_compact.proofs.CompactRows.{parts-text}
 use Rattle.pg_compact.proofs.printer.CompactPrinter.push_parts.Goals as goal
 
 pub returns-in_err-run : goal.returns-in_err-run

@@ -4,9 +4,9 @@ use Rattle.pg_picture.specs.CompactLines.{padding_row, text_row}
 use Rattle.pg_picture.specs.Joined.{continued}
 use Rattle.pg_picture.specs.Inside.Following.{feed_before, lines_before}
 use Rattle.pg_picture.proofs.Appending.{Appends-text, ◌then◌, stopped}
-use Rattle.pg_picture.proofs.JoinedLines.{first-of}
+use Rattle.pg_picture.proofs.Pictures.{first-of}
 use Rattle.pg_compact.specs.Inside.PrintedTable.{printed_table}
-use Rattle.pg_compact.proofs.CompactBodies.{row-text}
+use Rattle.pg_compact.proofs.CompactRows.{row-text}
 use Rattle.pg_compact.proofs.printer.CompactPrinter.push_row.Goals as goal
 use Rattle.pg_compact.proofs.printer.CompactPrinter.push_row.Goals.{then-is_first, else-is_first}
 

@@ -6,10 +6,9 @@ use Rattle.pg_picture.specs.Inside.Following.{lines_before}
 use Rattle.pg_picture.proofs.Appending.{Appends-text, Gained-none, Gained-all, ◌then◌, stopped}
 use Rattle.pg_picture.proofs.FittingTables.{some_is}
 use Rattle.pg_compact.specs.Inside.PrintedTable.{printed_table, lines_of_row, foot_lines}
-use Rattle.pg_picture.proofs.SumsOfSizes.{is_some_answer}
-use Rattle.pg_compact.proofs.CompactBodies.{table-text}
+use Rattle.pg_picture.proofs.Ranges.{is_some_answer}
+use Rattle.pg_compact.proofs.CompactRows.{table-text, row-taken, rows-ended}
 use Rattle.pg_compact.proofs.CompactPictures.{no_columns-text, no_rows-text, some-cells, totals-fit, width-answer}
-use Rattle.pg_compact.proofs.CompactRows.{row-taken, rows-ended}
 use Rattle.pg_compact.proofs.printer.CompactPrinter.push_table.Goals as goal
 
 pub returns-then-self-eq0-clause-appends : goal.returns-then-self-eq0-clause-appends

@@ -1,7 +1,7 @@
 use Rattle.std.proofs.Common.{◌++◌, sym, ap, ap₂, ◌∙◌, append_assoc, append-nil, encode_utf8}
 use Rattle.pg_layout.specs.Text.{Text}
 use Rattle.pg_picture.specs.Pieces.{repeated}
-use Rattle.pg_picture.proofs.Repeated.{repeated-zero, repeated-more}
+use Rattle.pg_picture.proofs.PiecesOfLines.{repeated-zero, repeated-more}
 use Rattle.pg_compact.proofs.short_text.ShortText.push_repeated.Goals as goal
 
 pub loop-init : goal.loop-init

@@ -1,8 +1,8 @@
 use Rattle.std.proofs.Common.{None, ap, ◌∙◌, subst, IsOk, is_ok}
 use Rattle.pg_picture.specs.Shown.{unless_unshown}
-use Rattle.pg_picture.proofs.ShownGrids.{compact_unshown-any_colors, compact_unshown-empty, nothing-if-ok}
+use Rattle.pg_picture.proofs.FittingTables.{compact_unshown-any_colors, compact_unshown-empty, nothing-if-ok}
 use Rattle.pg_compact.specs.CompactGrids.{compact_table}
-use Rattle.pg_compact.proofs.ShownTexts.{shown-fits}
+use Rattle.pg_compact.proofs.CompactPictures.{shown-fits}
 use Rattle.pg_compact.proofs.whole.CompactGrid+R+D+ref+CompactConfig+C.shows_all.Goals as goal
 
 pub returns-clause-exact : goal.returns-clause-exact

@@ -1,5 +1,5 @@
 use Rattle.std.proofs.Common.{arith}
-use Rattle.pg_config.proofs.SettingsForAll.{unset-none}
+use Rattle.pg_config.proofs.SettingsLaw.{unset-none}
 use Rattle.pg_config.proofs.entity_colors.EntityColorsColors.is_empty.Goals as goal
 
 pub returns-clause-nowhere : goal.returns-clause-nowhere

@@ -4,7 +4,7 @@ use Rattle.std.specs.declared.result.Result.{Result}
 use Rattle.std.specs.declared.result.Result.TheVariants.{Ok, Err}
 use Rattle.std.proofs.lemmas.Bool.{false≢true}
 use Rattle.pg_config.specs.Inside.NotedPlaces.{taken_back, CanTakeBack}
-use Rattle.pg_config.proofs.TakenBack.{taken_back-rest, CanTakeBack-rest}
+use Rattle.pg_config.proofs.Lookups.{taken_back-rest, CanTakeBack-rest}
 use Rattle.pg_config.proofs.noted_places.NotedPlaces.take_back.Goals as goal
 
 -- what succeeds with and without a value succeeds

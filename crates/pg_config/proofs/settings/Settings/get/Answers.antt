@@ -1,6 +1,6 @@
 use Rattle.std.proofs.Common.{sym, ap, ◌∙◌}
 use Rattle.pg_config.specs.Settings.{Settings}
-use Rattle.pg_config.proofs.SettingsForAll.{for_all-base}
+use Rattle.pg_config.proofs.SettingsLaw.{for_all-base}
 use Rattle.pg_config.proofs.settings.Settings.get.Goals as goal
 
 pub returns-then-is_for_all : goal.returns-then-is_for_all

@@ -2,7 +2,7 @@ use Rattle.std.proofs.Common.{sym, subst, ◌∙◌}
 use Rattle.pg_layout.specs.Places.{Each}
 use Rattle.pg_config.specs.Inside.Extents.{HasCell}
 use Rattle.pg_config.specs.Settings.{Settings}
-use Rattle.pg_config.proofs.Extents.{no-cell-outside}
+use Rattle.pg_config.proofs.CoveredPlaces.{no-cell-outside}
 use Rattle.pg_config.proofs.settings.Settings.of_cell.Goals as goal
 
 pub returns : goal.returns

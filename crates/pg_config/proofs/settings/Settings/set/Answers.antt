@@ -2,7 +2,7 @@ use Rattle.std.proofs.Common.{max, arith}
 use Rattle.pg_layout.specs.Keys.{by_number, by_place}
 use Rattle.pg_layout.specs.Position.{at}
 use Rattle.pg_config.specs.Settings.{number_above}
-use Rattle.pg_config.proofs.Extents.{cells-with_place}
+use Rattle.pg_config.proofs.CoveredPlaces.{cells-with_place}
 use Rattle.pg_config.proofs.SettingsLaw.{number_kept}
 use Rattle.pg_config.proofs.settings.Settings.set.Goals as goal
 

@@ -2,7 +2,7 @@ use Rattle.std.proofs.Common.{◌∙◌}
 use Rattle.pg_layout.specs.Keys.{by_columns, column_place}
 use Rattle.pg_layout.specs.Places.{value_at}
 use Rattle.pg_config.specs.Spans.{size_of}
-use Rattle.pg_config.proofs.KeptSpans.{kept-or-one, one-column}
+use Rattle.pg_config.proofs.CoveredPlaces.{kept-or-one, one-column}
 use Rattle.pg_config.proofs.spans.Spans.set_columns.Goals as goal
 
 pub returns-clause-one : goal.returns-clause-one

@@ -1,7 +1,7 @@
 use Rattle.std.proofs.Common.{None, ap, ◌∙◌, subst, IsOk, is_ok}
 use Rattle.pg_picture.specs.Sizes.{unless_misfit}
 use Rattle.pg_iter.specs.IterGrids.{streamed}
-use Rattle.pg_picture.proofs.FittingGrids.{misfit-any_colors, misfit-empty, none-if-ok}
+use Rattle.pg_picture.proofs.FittingTables.{misfit-any_colors, misfit-empty, none-if-ok}
 use Rattle.pg_iter.proofs.grid.IterGrid+R+D+ref+SpannedConfig+B+C.fits.Goals as goal
 
 pub returns-clause-exact : goal.returns-clause-exact

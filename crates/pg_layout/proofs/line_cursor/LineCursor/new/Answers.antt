@@ -1,4 +1,4 @@
-use Rattle.pg_layout.proofs.LineNumbers.{StandsIn-start, line_number-start}
+use Rattle.pg_layout.proofs.TextLines.{StandsIn-start, line_number-start}
 use Rattle.pg_layout.proofs.line_cursor.LineCursor.new.Goals as goal
 
 pub returns-clause-stands : goal.returns-clause-stands

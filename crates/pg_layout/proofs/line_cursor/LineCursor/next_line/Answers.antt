@@ -1,7 +1,6 @@
 use Rattle.std.proofs.Common.{◌≡◌, ◌+◌, ℕ, take, drop, arith, sym, ap, ◌∙◌, subst, Some}
 use Rattle.pg_layout.specs.LineCursor.{StandsIn, line_number}
-use Rattle.pg_layout.proofs.TextLines.{feed_place, feed_place-le-length, slice_range-front, IsCharBoundary-feed_place}
-use Rattle.pg_layout.proofs.LineNumbers.{IsCharBoundary-place, slice_get-line_number, StandsIn-next, line_number-next, line_number-end, slice_get-end}
+use Rattle.pg_layout.proofs.TextLines.{feed_place, feed_place-le-length, slice_range-front, IsCharBoundary-feed_place, IsCharBoundary-place, slice_get-line_number, StandsIn-next, line_number-next, line_number-end, slice_get-end}
 use Rattle.pg_layout.proofs.line_cursor.LineCursor.next_line.Goals as goal
 
 pub returns-then-self-text-clause-line : goal.returns-then-self-text-clause-line

@@ -1,6 +1,6 @@
 use Rattle.std.proofs.Common.{◌-◌, ◌==◌, get_or, ap, sym, ◌∙◌}
 use Rattle.pg_layout.specs.LineCursor.{stands_in}
-use Rattle.pg_layout.proofs.LineNumbers.{stands_in-start, stands_in-within, stands_in-end}
+use Rattle.pg_layout.proofs.TextLines.{stands_in-start, stands_in-within, stands_in-end}
 use Rattle.pg_layout.proofs.line_cursor.LineCursor.stands_in.Goals as goal
 
 pub returns-then-self-eq0 : goal.returns-then-self-eq0

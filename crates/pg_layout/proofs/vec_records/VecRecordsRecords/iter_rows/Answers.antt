@@ -4,8 +4,7 @@ use Rattle.std.specs.Vec.Iter.{into_iter_items, into_iter_len, into_iter_steps}
 use Rattle.pg_layout.specs.Records.{Gives}
 use Rattle.pg_layout.specs.declared.vec_records.OwnedColumns.{OwnedColumns}
 use Rattle.pg_layout.specs.declared.vec_records.OwnedRows.{OwnedRows}
-use Rattle.pg_layout.proofs.Given.{made-of-items}
-use Rattle.pg_layout.proofs.GivenVectors.{vectors-given}
+use Rattle.pg_layout.proofs.Given.{made-of-items, vectors-given}
 use Rattle.pg_layout.proofs.vec_records.VecRecordsRecords.iter_rows.Goals as goal
 
 pub returns : goal.returns

@@ -1,7 +1,7 @@
 use Rattle.std.proofs.Common.{None, ap, ◌∙◌, subst, IsOk, is_ok}
 use Rattle.pg_picture.specs.Sizes.{unless_misfit}
 use Rattle.pg_peekable.specs.Grids.{printed_table}
-use Rattle.pg_picture.proofs.FittingGrids.{misfit-any_colors, misfit-empty, none-if-ok}
+use Rattle.pg_picture.proofs.FittingTables.{misfit-any_colors, misfit-empty, none-if-ok}
 use Rattle.pg_peekable.proofs.grid.PeekableGrid+R+ref+SpannedConfig+B+D+C.fits.Goals as goal
 
 pub returns-clause-exact : goal.returns-clause-exact

@@ -10,9 +10,9 @@ use Rattle.pg_picture.specs.Table.{Known, margin_line, table_body, full_width}
 use Rattle.pg_picture.specs.Fits.{body_height}
 use Rattle.pg_picture.proofs.Appending.{Appends-text, ◌then◌, stopped}
 use Rattle.pg_picture.proofs.FittingTables.{some_is, totals_facts}
-use Rattle.pg_picture.proofs.HeightsOfRectangles.{length-table_body}
+use Rattle.pg_picture.proofs.MarksOfRectangles.{length-table_body}
 use Rattle.pg_peekable.specs.Grids.{printed_table}
-use Rattle.pg_picture.proofs.SumsOfSizes.{is_some_answer}
+use Rattle.pg_picture.proofs.Ranges.{is_some_answer}
 use Rattle.pg_peekable.proofs.CanDraw.{can_draw, width-answer, height-answer}
 use Rattle.pg_picture.proofs.Pictures.{picture-parts}
 use Rattle.pg_peekable.proofs.grid.PeekableGrid+R+ref+SpannedConfig+B+D+C.push_picture.Goals as goal

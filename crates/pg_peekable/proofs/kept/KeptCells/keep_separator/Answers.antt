@@ -1,5 +1,5 @@
 use Rattle.std.proofs.Common.{drop, string_bytes}
-use Rattle.pg_picture.proofs.KeptTexts.{kept-text}
+use Rattle.pg_picture.proofs.Appending.{kept-text}
 use Rattle.pg_peekable.specs.Inside.Kept.{IsSeparator}
 use Rattle.pg_peekable.proofs.kept.KeptCells.keep_separator.Goals as goal
 

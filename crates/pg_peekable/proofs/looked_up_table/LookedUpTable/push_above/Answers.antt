@@ -1,6 +1,6 @@
 use Rattle.std.proofs.Common.{refl}
 use Rattle.pg_picture.proofs.Appending.{Gained-none, Gained-all, Appends-text}
-use Rattle.pg_picture.proofs.BodyLines.{absent-text}
+use Rattle.pg_picture.proofs.Pictures.{absent-text}
 use Rattle.pg_peekable.proofs.looked_up_table.LookedUpTable.push_above.Goals as goal
 
 pub returns-then-not-has_separator-clause-lines : goal.returns-then-not-has_separator-clause-lines

@@ -8,9 +8,8 @@ use Rattle.pg_picture.specs.Inside.Following.{items_after, last_color}
 use Rattle.pg_picture.specs.Table.{crossing_at, block_at}
 use Rattle.pg_picture.proofs.Appending.{Appends-text, ◌then◌, stopped, refused-as, appended-as}
 use Rattle.pg_picture.proofs.WalksOfRows.{span_above-below}
-use Rattle.pg_peekable.proofs.CanDraw.{in_order}
-use Rattle.pg_peekable.proofs.RectangleParts.{above-row, found_owns, found_some, found_sep_inside, found_sep}
-use Rattle.pg_peekable.proofs.SeparatorParts.{block-text, block-color, found-above}
+use Rattle.pg_peekable.proofs.CanDraw.{in_order, above-row, found_owns, found_some, found_sep_inside, found_sep}
+use Rattle.pg_peekable.proofs.RowParts.{block-text, block-color, found-above}
 use Rattle.pg_peekable.proofs.looked_up_table.LookedUpTable.push_block.Goals as goal
 
 pub returns-in_err-run-clause-appends : goal.returns-in_err-run-clause-appends

@@ -1,7 +1,7 @@
 use Rattle.std.proofs.Common.{◌≡◌, ◌<◌, ◌∙◌, length, refl, arith}
 use Rattle.pg_picture.specs.Table.{table_body}
 use Rattle.pg_picture.proofs.Appending.{Gained-none, Gained-text, Gained-more, gained-then, refused, Appends-text}
-use Rattle.pg_picture.proofs.BodyLines.{above-none, above-none-text, above-length, above-text, row-room, body-text-cut, last-room, last-text}
+use Rattle.pg_picture.proofs.Pictures.{above-none, above-none-text, above-length, above-text, row-room, body-text-cut, last-room, last-text}
 use Rattle.pg_peekable.proofs.looked_up_table.LookedUpTable.push_body.Goals as goal
 
 pub loop-row-init : goal.loop-row-init

@@ -1,9 +1,8 @@
 use Rattle.std.proofs.Common.{List, ℕ, Option, IfSome, subst, ap, ◌∙◌}
 use Rattle.std.specs.Borrow.{Bor}
 use Rattle.pg_picture.specs.Pieces.{separator_text}
-use Rattle.pg_picture.proofs.EqualSeparators.{equal_separators, equal_when}
-use Rattle.pg_picture.proofs.Appending.{Appends-text}
-use Rattle.pg_picture.proofs.KeptTexts.{text-from}
+use Rattle.pg_picture.proofs.Separators.{equal_separators, equal_when}
+use Rattle.pg_picture.proofs.Appending.{Appends-text, text-from}
 use Rattle.pg_peekable.specs.Inside.Kept.{IsSeparator}
 use Rattle.pg_peekable.proofs.looked_up_table.LookedUpTable.push_inner_separator.Goals as goal
 

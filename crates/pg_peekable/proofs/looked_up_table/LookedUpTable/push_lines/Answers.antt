@@ -1,7 +1,7 @@
 use Rattle.std.proofs.Common.{◌<◌, sym, arith}
 use Rattle.pg_picture.specs.Table.{Known}
 use Rattle.pg_picture.proofs.Appending.{Gained-none, Gained-text, Gained-more, refused}
-use Rattle.pg_picture.proofs.BodyLines.{body_text-nil, row-more, row-cut}
+use Rattle.pg_picture.proofs.Pictures.{body_text-nil, row-more, row-cut}
 use Rattle.pg_peekable.proofs.looked_up_table.LookedUpTable.push_lines.Goals as goal
 
 pub loop-number-init : goal.loop-number-init

@@ -2,7 +2,7 @@ use Rattle.std.proofs.Common.{◌++◌, ap, ◌∙◌, arith}
 use Rattle.pg_picture.specs.Pieces.{written}
 use Rattle.pg_picture.specs.Table.{vertical}
 use Rattle.pg_picture.proofs.Appending.{Appends-text, ◌then◌}
-use Rattle.pg_peekable.proofs.RectangleParts.{found_owns, found_fits, found_inside, found_line, above-row}
+use Rattle.pg_peekable.proofs.CanDraw.{found_owns, found_fits, found_inside, found_line, above-row}
 use Rattle.pg_peekable.proofs.looked_up_table.LookedUpTable.push_rectangle_part.Goals as goal
 
 pub rectangle_at-rectangle-requires : goal.rectangle_at-rectangle-requires

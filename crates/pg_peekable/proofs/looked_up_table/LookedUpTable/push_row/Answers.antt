@@ -2,7 +2,7 @@ use Rattle.std.proofs.Common.{◌+◌, length, refl}
 use Rattle.pg_picture.specs.Inside.Following.{body_text}
 use Rattle.pg_picture.specs.Table.{Known, table_body}
 use Rattle.pg_picture.proofs.Appending.{Appends-text, ◌then◌, stopped}
-use Rattle.pg_picture.proofs.BodyLines.{IfOk-at, lines_of, separator_of, separator-room, lines-room, row-end, row-text}
+use Rattle.pg_picture.proofs.Pictures.{IfOk-at, lines_of, separator_of, separator-room, lines-room, row-end, row-text}
 use Rattle.pg_peekable.proofs.looked_up_table.LookedUpTable.push_row.Goals as goal
 
 pub push_above-requires : goal.push_above-requires

@@ -3,7 +3,7 @@ use Rattle.pg_picture.specs.Inside.Margins.{line_end}
 use Rattle.pg_picture.specs.Marks.{sep}
 use Rattle.pg_picture.specs.Table.{mark_text}
 use Rattle.pg_picture.proofs.Appending.{Appends-text, ◌then◌, stopped}
-use Rattle.pg_picture.proofs.FirstLines.{line-text}
+use Rattle.pg_picture.proofs.Pictures.{line-text}
 use Rattle.pg_peekable.proofs.looked_up_table.LookedUpTable.push_separator_line.Goals as goal
 
 pub returns-in_err-push_line_start : goal.returns-in_err-push_line_start

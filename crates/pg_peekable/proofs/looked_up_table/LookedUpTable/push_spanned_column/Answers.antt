@@ -7,7 +7,7 @@ use Rattle.pg_picture.specs.Table.{crossing_at, border_items}
 use Rattle.pg_picture.proofs.Appending.{Appends-text}
 use Rattle.pg_picture.proofs.Separators.{IfOk-same}
 use Rattle.pg_peekable.proofs.CanDraw.{in_order}
-use Rattle.pg_peekable.proofs.SeparatorParts.{border-items, block-items}
+use Rattle.pg_peekable.proofs.RowParts.{border-items, block-items}
 use Rattle.pg_peekable.proofs.looked_up_table.LookedUpTable.push_spanned_column.Goals as goal
 
 pub returns-in-None-clause-appends : goal.returns-in-None-clause-appends

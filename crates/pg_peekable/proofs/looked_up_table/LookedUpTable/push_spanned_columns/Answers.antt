@@ -10,7 +10,7 @@ use Rattle.pg_picture.proofs.FittingTables.{totals_facts}
 use Rattle.pg_picture.proofs.Separators.{items_after-two, last_color-two, items_after-columns_cut}
 use Rattle.pg_picture.proofs.WalksOfRows.{first_start}
 use Rattle.pg_peekable.proofs.CanDraw.{in_order}
-use Rattle.pg_peekable.proofs.SeparatorParts.{above-some, above-inside, above-start, above-parts}
+use Rattle.pg_peekable.proofs.RowParts.{above-some, above-inside, above-start, above-parts}
 use Rattle.pg_peekable.proofs.looked_up_table.LookedUpTable.push_spanned_columns.Goals as goal
 
 pub loop-column-init : goal.loop-column-init

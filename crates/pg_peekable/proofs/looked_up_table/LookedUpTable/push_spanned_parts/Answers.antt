@@ -7,7 +7,7 @@ use Rattle.pg_picture.specs.Table.{row_part}
 use Rattle.pg_picture.specs.Inside.Rectangles.{columns_or_one}
 use Rattle.pg_picture.proofs.Appending.{Appends-text, Gained-none, Gained-text, Gained-more, Gained-all, refused}
 use Rattle.pg_picture.proofs.PiecesOfLines.{written-nil}
-use Rattle.pg_picture.proofs.LeftColumns.{step-some, step-inside, step-left}
+use Rattle.pg_picture.proofs.FirstPlaces.{step-some, step-inside, step-left}
 use Rattle.pg_picture.proofs.OwnersOfPlaces.{first_left}
 use Rattle.pg_picture.proofs.FittingTables.{totals_facts}
 use Rattle.pg_peekable.proofs.CanDraw.{in_order}

@@ -4,8 +4,8 @@ use Rattle.pg_config.specs.Spans.{rect_rows, rect_columns}
 use Rattle.pg_picture.specs.Rectangles.{IsOwner}
 use Rattle.pg_picture.specs.Table.{Table, rect_width, rect_height}
 use Rattle.pg_picture.proofs.FittingTables.{some_is}
-use Rattle.pg_picture.proofs.SumsOfSizes.{is_some_answer}
-use Rattle.pg_peekable.proofs.RectangleParts.{owner_inside, width-answer, height-answer, lines-none}
+use Rattle.pg_picture.proofs.Ranges.{is_some_answer}
+use Rattle.pg_peekable.proofs.CanDraw.{owner_inside, width-answer, height-answer, lines-none}
 use Rattle.pg_peekable.proofs.looked_up_table.LookedUpTable.rectangle_of.Goals as goal
 
 pub width_of_columns-requires-clause-count : goal.width_of_columns-requires-clause-count

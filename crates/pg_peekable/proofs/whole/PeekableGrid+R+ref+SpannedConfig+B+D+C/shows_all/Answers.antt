@@ -1,7 +1,7 @@
 use Rattle.std.proofs.Common.{None, ap, ◌∙◌, subst, IsOk, is_ok}
 use Rattle.pg_picture.specs.Shown.{unless_unshown}
 use Rattle.pg_peekable.specs.Grids.{printed_table}
-use Rattle.pg_picture.proofs.ShownGrids.{unshown-any_colors, unshown-empty, nothing-if-ok, shown-fits}
+use Rattle.pg_picture.proofs.FittingTables.{unshown-any_colors, unshown-empty, nothing-if-ok, shown-fits}
 use Rattle.pg_peekable.proofs.whole.PeekableGrid+R+ref+SpannedConfig+B+D+C.shows_all.Goals as goal
 
 pub returns-clause-exact : goal.returns-clause-exact

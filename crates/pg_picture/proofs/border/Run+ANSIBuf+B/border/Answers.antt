@@ -2,7 +2,7 @@ use Rattle.std.proofs.Common.{◌≡◌, Option, None, IfOk, subst}
 use Rattle.pg_layout.specs.Colors.{Color}
 use Rattle.pg_config.specs.Config.{get_horizontal}
 use Rattle.pg_picture.proofs.Appending.{Appends-text}
-use Rattle.pg_picture.proofs.Horizontals.{items_after-no_border, last_color-no_border}
+use Rattle.pg_picture.proofs.Separators.{items_after-no_border, last_color-no_border}
 use Rattle.pg_picture.proofs.border.Run+ANSIBuf+B.border.Goals as goal
 
 pub returns-in-None-clause-appends : goal.returns-in-None-clause-appends

@@ -1,8 +1,7 @@
 use Rattle.std.proofs.Common.{ap, sym, ◌∙◌, fold, length, arith}
 use Rattle.std.proofs.lemmas.List.Sums.{count_by-le-length}
 use Rattle.pg_layout.proofs.TextLines.{is_feed, length-lines_of}
-use Rattle.pg_picture.proofs.BlankEnds.{ends_after}
-use Rattle.pg_picture.proofs.FactsOfTexts.{is_left_out, wider, facts_of-counted}
+use Rattle.pg_picture.proofs.PlacesOfTexts.{ends_after, is_left_out, wider, facts_of-counted}
 use Rattle.pg_picture.proofs.facts.TextFacts.of_lines.Goals as goal
 
 pub with_line-ends-requires : goal.with_line-ends-requires

@@ -1,7 +1,6 @@
 use Rattle.std.proofs.Common.{◌≡◌, ◌+◌, length, fold}
 use Rattle.pg_layout.specs.Text.{lines_of}
-use Rattle.pg_picture.proofs.BlankEnds.{ends_after, total}
-use Rattle.pg_picture.proofs.FactsOfTexts.{is_left_out, wider}
+use Rattle.pg_picture.proofs.PlacesOfTexts.{ends_after, total, is_left_out, wider}
 use Rattle.pg_picture.proofs.facts.TextFacts.of_lines.Given as goal
 
 abbrev pub invariant-loop-line : goal.invariant-loop-line

@@ -1,4 +1,4 @@
-use Rattle.pg_picture.proofs.FactsOfTexts.{facts_of-single}
+use Rattle.pg_picture.proofs.PlacesOfTexts.{facts_of-single}
 use Rattle.pg_picture.proofs.facts.TextFacts.of_text.Goals as goal
 
 pub returns-in-Some : goal.returns-in-Some

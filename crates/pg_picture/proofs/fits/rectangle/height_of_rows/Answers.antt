@@ -5,8 +5,8 @@ use Rattle.pg_config.specs.Config.{has_horizontal}
 use Rattle.pg_config.specs.Spans.{rect_rows}
 use Rattle.pg_picture.specs.Sizes.{if_fits}
 use Rattle.pg_picture.specs.Sizes.{height_of_rect}
-use Rattle.pg_picture.proofs.HeightsOfRectangles.{height_of_rect-sum}
-use Rattle.pg_picture.proofs.SumsOfSizes.{if_fits-below}
+use Rattle.pg_picture.proofs.MarksOfRectangles.{height_of_rect-sum}
+use Rattle.pg_picture.proofs.Ranges.{if_fits-below}
 use Rattle.pg_picture.proofs.fits.rectangle.height_of_rows.Goals as goal
 
 pub returns : goal.returns

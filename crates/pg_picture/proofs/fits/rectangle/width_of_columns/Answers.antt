@@ -3,7 +3,7 @@ use Rattle.std.specs.List.{range_with_len}
 use Rattle.pg_picture.specs.Table.{rect_width}
 use Rattle.pg_config.specs.Spans.{rect_columns}
 use Rattle.pg_picture.specs.Sizes.{if_fits, sized}
-use Rattle.pg_picture.proofs.SumsOfSizes.{if_fits-below}
+use Rattle.pg_picture.proofs.Ranges.{if_fits-below}
 use Rattle.pg_picture.proofs.fits.rectangle.width_of_columns.Goals as goal
 
 pub returns : goal.returns

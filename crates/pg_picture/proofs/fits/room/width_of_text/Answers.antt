@@ -1,6 +1,6 @@
 use Rattle.std.proofs.Common.{sym, ◌∙◌}
-use Rattle.pg_layout.proofs.TextWidths.{text_width_of-plain}
-use Rattle.pg_picture.proofs.FactsOfTexts.{widest-untrimmed}
+use Rattle.pg_layout.proofs.TextLines.{text_width_of-plain}
+use Rattle.pg_picture.proofs.PlacesOfTexts.{widest-untrimmed}
 use Rattle.pg_picture.proofs.fits.room.width_of_text.Goals as goal
 
 pub returns-in-Plain : goal.returns-in-Plain

@@ -5,7 +5,7 @@ use Rattle.std.proofs.lemmas.Bool.Decides.{nat_tests}
 use Rattle.pg_picture.specs.Fits.{spans_fit, totals_fit}
 use Rattle.pg_picture.specs.Sizes.{table_of, sized, unless_misfit}
 use Rattle.pg_picture.proofs.FittingTables.{totals_fit-sized}
-use Rattle.pg_picture.proofs.Rooms.{room_of, misfit_of-totals, misfit_of-rooms}
+use Rattle.pg_picture.proofs.FirstPlaces.{room_of, misfit_of-totals, misfit_of-rooms}
 use Rattle.pg_picture.proofs.fits.table.table_fits.Goals as goal
 
 pub returns-then-not-totals_fit : goal.returns-then-not-totals_fit

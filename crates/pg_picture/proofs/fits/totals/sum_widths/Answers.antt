@@ -1,7 +1,7 @@
 use Rattle.std.proofs.Common.{◌≡◌, ◌+◌, ℕ, sum_by, sym, ap, ◌∙◌, arith}
 use Rattle.std.specs.List.{range_with_len}
 use Rattle.pg_picture.specs.Sizes.{if_fits}
-use Rattle.pg_picture.proofs.SumsOfSizes.{if_fits-above, if_fits-below, sum_by-from_more, sum_by-from_le}
+use Rattle.pg_picture.proofs.Ranges.{if_fits-above, if_fits-below, sum_by-from_more, sum_by-from_le}
 use Rattle.pg_picture.proofs.fits.totals.sum_widths.Goals as goal
 
 pub returns-in_err-sum : goal.returns-in_err-sum

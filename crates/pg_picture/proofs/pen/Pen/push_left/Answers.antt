@@ -1,6 +1,6 @@
 use Rattle.std.proofs.Common.{sym, ◌∙◌}
 use Rattle.pg_picture.proofs.Appending.{Appends-text, Gained-none, Gained-all}
-use Rattle.pg_picture.proofs.Margins.{written-side_none, no_sides}
+use Rattle.pg_picture.proofs.PiecesOfLines.{written-side_none, no_sides}
 use Rattle.pg_picture.proofs.pen.Pen.push_left.Goals as goal
 
 -- without side margins there is nothing to append

@@ -1,7 +1,7 @@
 use Rattle.pg_config.specs.Config.{get_alignment_horizontal}
 use Rattle.pg_picture.specs.Pieces.{style_at}
 use Rattle.pg_picture.specs.Inside.Cells.{style_of}
-use Rattle.pg_picture.proofs.LineStyles.{draws-across}
+use Rattle.pg_picture.proofs.PlacesOfTexts.{draws-across}
 use Rattle.pg_picture.proofs.pen.Pen.push_placed_line.Goals as goal
 
 -- where all lines have one left share, no alignment is asked for

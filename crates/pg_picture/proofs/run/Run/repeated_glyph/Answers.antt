@@ -1,7 +1,7 @@
 use Rattle.std.proofs.Common.{◌<◌, sym, arith}
 use Rattle.pg_layout.specs.Colors.{lent_color}
 use Rattle.pg_picture.proofs.Appending.{Appends-text, Gained-none, Gained-all, appended-as, refused-as}
-use Rattle.pg_picture.proofs.CutsOfItems.{items_after-none, items_after-replicate, last_color-none, last_color-replicate}
+use Rattle.pg_picture.proofs.Separators.{items_after-none, items_after-replicate, last_color-none, last_color-replicate}
 use Rattle.pg_picture.proofs.run.Run.repeated_glyph.Goals as goal
 
 pub returns-then-count-eq0-clause-appends : goal.returns-then-count-eq0-clause-appends

@@ -1,6 +1,6 @@
 use Rattle.std.proofs.Common.{sym}
 use Rattle.pg_picture.proofs.Appending.{Appends-text, appended-as, refused-as}
-use Rattle.pg_picture.proofs.CutsOfItems.{item_after-spaces}
+use Rattle.pg_picture.proofs.Separators.{item_after-spaces}
 use Rattle.pg_picture.proofs.run.Run.spaces.Goals as goal
 
 pub returns-in_err-push_repeated-clause-appends : goal.returns-in_err-push_repeated-clause-appends

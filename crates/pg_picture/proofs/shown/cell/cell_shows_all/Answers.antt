@@ -3,7 +3,7 @@ use Rattle.pg_layout.specs.declared.alignment.Formatting.{Formatting}
 use Rattle.pg_layout.specs.declared.sides.Indent.{Indent}
 use Rattle.pg_layout.specs.declared.sides.Sides.{Sides}
 use Rattle.pg_picture.specs.Pieces.{style_at, shown}
-use Rattle.pg_picture.proofs.ShownLines.{cell_shows_all-by_count}
+use Rattle.pg_picture.proofs.FittingTables.{cell_shows_all-by_count}
 use Rattle.pg_picture.proofs.shown.cell.cell_shows_all.Goals as goal
 
 pub returns : goal.returns

@@ -1,6 +1,6 @@
 use Rattle.std.proofs.Common.{ℕ, ap, ◌∙◌, sym}
-use Rattle.pg_picture.proofs.FactsOfTexts.{length-shown}
-use Rattle.pg_picture.proofs.ShownLines.{length-shown-trimmed}
+use Rattle.pg_picture.proofs.PlacesOfTexts.{length-shown}
+use Rattle.pg_picture.proofs.FittingTables.{length-shown-trimmed}
 use Rattle.pg_picture.proofs.shown.cell.count_shown_lines.Goals as goal
 
 pub returns-then-formatting : goal.returns-then-formatting

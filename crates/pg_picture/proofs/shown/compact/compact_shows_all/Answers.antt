@@ -3,7 +3,7 @@ use Rattle.std.proofs.lemmas.Bool.Decides.{nat_tests}
 use Rattle.pg_config.specs.CompactConfig.{settings_of}
 use Rattle.pg_picture.specs.Fits.{compact_misfit_of}
 use Rattle.pg_picture.specs.Shown.{compact_table_of, unless_unshown, misfit_or_cell}
-use Rattle.pg_picture.proofs.FittingGrids.{none-of-ok}
+use Rattle.pg_picture.proofs.FittingTables.{none-of-ok}
 use Rattle.pg_picture.proofs.FirstPlaces.{misfit_told, compact_misfit-texts, compact_unshown_of-misfit, compact_unshown_of-cell}
 use Rattle.pg_picture.proofs.shown.compact.compact_shows_all.Goals as goal
 

@@ -3,9 +3,8 @@ use Rattle.std.proofs.lemmas.Bool.Decides.{nat_tests}
 use Rattle.pg_picture.specs.Fits.{misfit_of}
 use Rattle.pg_picture.specs.Shown.{owner_shows_all, unless_unshown, misfit_or_cell}
 use Rattle.pg_picture.specs.Sizes.{table_of}
-use Rattle.pg_picture.proofs.FittingGrids.{none-of-ok}
-use Rattle.pg_picture.proofs.Rooms.{fits}
-use Rattle.pg_picture.proofs.FirstPlaces.{misfit_told, unshown_of-misfit, unshown_of-cell}
+use Rattle.pg_picture.proofs.FittingTables.{none-of-ok}
+use Rattle.pg_picture.proofs.FirstPlaces.{fits, misfit_told, unshown_of-misfit, unshown_of-cell}
 use Rattle.pg_picture.proofs.shown.table.table_shows_all.Goals as goal
 
 pub returns-in-Some : goal.returns-in-Some

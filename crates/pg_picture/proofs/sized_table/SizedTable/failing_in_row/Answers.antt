@@ -6,9 +6,8 @@ use Rattle.pg_picture.specs.Sizes.{table_of}
 use Rattle.pg_picture.specs.Inside.Walks.{first_failed, owner_passes}
 use Rattle.pg_picture.specs.Inside.Rectangles.{columns_or_one}
 use Rattle.pg_picture.proofs.FittingTables.{totals_facts}
-use Rattle.pg_picture.proofs.LeftColumns.{step-some, step-inside, step-left}
+use Rattle.pg_picture.proofs.FirstPlaces.{step-some, step-inside, step-left, failed_place, next_left_column, row_places-end}
 use Rattle.pg_picture.proofs.OwnersOfPlaces.{InOrder, first_left}
-use Rattle.pg_picture.proofs.FirstPlaces.{failed_place, next_left_column, row_places-end}
 use Rattle.pg_picture.proofs.sized_table.SizedTable.failing_in_row.Goals as goal
 
 pub loop-column-init : goal.loop-column-init

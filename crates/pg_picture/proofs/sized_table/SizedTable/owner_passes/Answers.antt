@@ -4,8 +4,7 @@ use Rattle.pg_picture.specs.Sizes.{table_of}
 use Rattle.pg_picture.specs.Pieces.{style_at}
 use Rattle.pg_picture.specs.Table.{rect_width, rect_height}
 use Rattle.pg_picture.proofs.DrawnRectangles.{single_width, single_height}
-use Rattle.pg_picture.proofs.FirstPlaces.{owner_passes-own, owner_passes-other}
-use Rattle.pg_picture.proofs.LeftColumns.{own_unless, own_size}
+use Rattle.pg_picture.proofs.FirstPlaces.{owner_passes-own, owner_passes-other, own_unless, own_size}
 use Rattle.pg_picture.proofs.OwnersOfPlaces.{InOrder, size_alone}
 use Rattle.pg_picture.proofs.sized_table.SizedTable.owner_passes.Goals as goal
 

@@ -1,6 +1,6 @@
 use Rattle.std.proofs.Common.{arith, ◌<◌, length, sym, ap}
 use Rattle.std.proofs.lemmas.Bool.Decides.{nat_tests}
-use Rattle.pg_script.proofs.ScriptLines.{lines-read, lines-not_found}
+use Rattle.pg_script.proofs.LineWords.{lines-read, lines-not_found}
 use Rattle.pg_script.proofs.lines.LinesIterator.next.Goals as goal
 
 pub returns-in-Some-clause-steps : goal.returns-in-Some-clause-steps

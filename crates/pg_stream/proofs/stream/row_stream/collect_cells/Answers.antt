@@ -1,5 +1,5 @@
 use Rattle.std.proofs.Common.{refl}
-use Rattle.pg_stream.proofs.stream.RowsOfCells.{collected-next, collected-all}
+use Rattle.pg_stream.proofs.stream.StreamedRows.{collected-next, collected-all}
 use Rattle.pg_stream.proofs.stream.row_stream.collect_cells.Goals as goal
 
 pub loop-cell-init : goal.loop-cell-init

@@ -1,7 +1,7 @@
 use Rattle.std.proofs.Common.{◌≡◌, List}
 use Rattle.pg_layout.specs.Records.{AlwaysGives, Becomes}
 use Rattle.pg_layout.specs.Text.{Text}
-use Rattle.pg_stream.proofs.stream.RowsOfCells.{Collected}
+use Rattle.pg_stream.proofs.stream.StreamedRows.{Collected}
 use Rattle.pg_stream.proofs.stream.row_stream.collect_cells.Given as goal
 
 -- the cells that were taken, and those that are left

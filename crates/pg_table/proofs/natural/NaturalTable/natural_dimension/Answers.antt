@@ -5,8 +5,7 @@ use Rattle.pg_table.specs.Natural.{all_fit, natural_sizes}
 use Rattle.pg_table.specs.Printing.{sizes_fault}
 use Rattle.pg_table.specs.declared.fault.TableFault.TheVariants.{Spans, Totals}
 use Rattle.pg_table.specs.declared.sizes.Axis.TheVariants.{Columns, Rows}
-use Rattle.pg_table.proofs.CellsAndSizes.{cells-no_fault}
-use Rattle.pg_table.proofs.Faults.{fit-passes, sizes-spans, sizes-past, one_fault, no_fault}
+use Rattle.pg_table.proofs.Faults.{cells-no_fault, fit-passes, sizes-spans, sizes-past, one_fault, no_fault}
 use Rattle.pg_table.proofs.natural.NaturalTable.natural_dimension.Goals as goal
 
 pub returns-then-not-spans_fit-clause-fault : goal.returns-then-not-spans_fit-clause-fault

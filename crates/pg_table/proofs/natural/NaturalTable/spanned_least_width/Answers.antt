@@ -8,8 +8,7 @@ use Rattle.pg_table.specs.Inside.Fitting.{HasHugeLeast}
 use Rattle.pg_table.specs.declared.fault.TableFault.TheVariants.{Memory}
 use Rattle.pg_table.proofs.Faults.{fault-is}
 use Rattle.pg_table.proofs.FitFaults.{handed-on}
-use Rattle.pg_table.proofs.LeastFaults.{kept-misfit, fit-passes, least-no_spans, least-spans, least-uncounted, least-huge, told-width, told-ok, told-fault, full-listed}
-use Rattle.pg_table.proofs.LeastWidths.{huge-past}
+use Rattle.pg_table.proofs.LeastWidths.{kept-misfit, fit-passes, least-no_spans, least-spans, least-uncounted, least-huge, told-width, told-ok, told-fault, full-listed, huge-past}
 use Rattle.pg_table.proofs.SpannedWidths.{full-kept}
 use Rattle.pg_table.proofs.natural.NaturalTable.spanned_least_width.Goals as goal
 

@@ -2,7 +2,7 @@ use Rattle.std.proofs.Common.{arith, ap, string_bytes}
 use Rattle.std.proofs.lemmas.Str.{IsUtf8-string_bytes}
 use Rattle.pg_layout.specs.Text.{text_width_of}
 use Rattle.pg_fit.proofs.LawsOfTexts.{wrapped_texts_fit}
-use Rattle.pg_table.proofs.FittedTexts.{widest-narrower}
+use Rattle.pg_table.proofs.TrimmedWidths.{widest-narrower}
 use Rattle.pg_table.proofs.overflow.Overflow.fit.Goals as goal
 
 pub returns-in_ok-made-in-Wrap-clause-room : goal.returns-in_ok-made-in-Wrap-clause-room

@@ -5,7 +5,7 @@ use Rattle.pg_config.specs.Config.{Config}
 use Rattle.pg_picture.specs.Sizes.{if_fits, sized}
 use Rattle.pg_picture.specs.Table.{rect_width}
 use Rattle.pg_picture.proofs.FittingTables.{rect_inside}
-use Rattle.pg_picture.proofs.SumsOfSizes.{if_fits-below, if_fits-past}
+use Rattle.pg_picture.proofs.Ranges.{if_fits-below, if_fits-past}
 use Rattle.pg_table.specs.Spanning.{cell_room}
 use Rattle.pg_table.proofs.sizes.NaturalSizes.cell_room.Goals as goal
 

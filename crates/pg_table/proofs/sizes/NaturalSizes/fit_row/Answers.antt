@@ -1,6 +1,6 @@
 use Rattle.std.proofs.Common.{◌≡◌, ℕ, ◌∙◌, arith}
 use Rattle.pg_fit.specs.Overlaid.{other_text}
-use Rattle.pg_table.proofs.SpannedTexts.{place-more, row-done}
+use Rattle.pg_table.proofs.SpannedWidths.{place-more, row-done}
 use Rattle.pg_table.proofs.sizes.NaturalSizes.fit_row.Goals as goal
 
 pub fit_shown-requires-clause-own : goal.fit_shown-requires-clause-own

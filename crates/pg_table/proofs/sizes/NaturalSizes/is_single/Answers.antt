@@ -1,7 +1,7 @@
 use Rattle.std.proofs.Common.{Bool, ◌≡◌, true, false, not, refl, is_some, Some, None, length, sym, ap, ◌∙◌, is_none, Option}
 use Rattle.pg_config.specs.Spans.{Span}
 use Rattle.pg_picture.proofs.OwnersOfPlaces.{InOrder}
-use Rattle.pg_table.proofs.SingleCells.{hidden-single, shown-single}
+use Rattle.pg_table.proofs.ShownCells.{hidden-single, shown-single}
 use Rattle.pg_table.proofs.sizes.NaturalSizes.is_single.Goals as goal
 
 pub returns-then-not-is_cell_visible : goal.returns-then-not-is_cell_visible

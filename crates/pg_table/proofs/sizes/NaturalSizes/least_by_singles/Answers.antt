@@ -4,7 +4,7 @@ use Rattle.pg_layout.specs.Position.{at}
 use Rattle.pg_layout.specs.Text.{greatest}
 use Rattle.pg_layout.proofs.Greatest.{greatest-more}
 use Rattle.pg_table.specs.Spanning.{singles_width}
-use Rattle.pg_table.proofs.SpannedCells.{least_single}
+use Rattle.pg_table.proofs.ListedSizes.{least_single}
 use Rattle.pg_table.proofs.sizes.NaturalSizes.least_by_singles.Goals as goal
 
 pub loop-row-preserved : goal.loop-row-preserved

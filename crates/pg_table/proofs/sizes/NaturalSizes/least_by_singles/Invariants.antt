@@ -1,7 +1,7 @@
 use Rattle.std.proofs.Common.{◌≡◌, map}
 use Rattle.std.specs.List.{range_with_len}
 use Rattle.pg_layout.specs.Text.{greatest}
-use Rattle.pg_table.proofs.SpannedCells.{least_single}
+use Rattle.pg_table.proofs.ListedSizes.{least_single}
 use Rattle.pg_table.proofs.sizes.NaturalSizes.least_by_singles.Given as goal
 
 -- the greatest of the cells so far

@@ -1,9 +1,8 @@
 use Rattle.std.proofs.Common.{refl, sym, ◌∙◌}
 use Rattle.pg_layout.specs.Records.{text_at}
 use Rattle.pg_table.specs.Spanning.{least_cell_width}
-use Rattle.pg_table.proofs.ListedSizes.{none-past}
+use Rattle.pg_table.proofs.ListedSizes.{none-past, told-size}
 use Rattle.pg_table.proofs.ShownCells.{single-shown}
-use Rattle.pg_table.proofs.SpannedCells.{told-size}
 use Rattle.pg_table.proofs.sizes.NaturalSizes.least_single.Goals as goal
 
 pub returns-then-not-is_single-clause-width : goal.returns-then-not-is_single-clause-width

@@ -1,6 +1,6 @@
 use Rattle.std.proofs.Common.{◌+◌, ℕ, sum_by, sym, ◌∙◌, arith}
 use Rattle.std.specs.List.{range_with_len}
-use Rattle.pg_picture.proofs.SumsOfSizes.{if_fits-above, if_fits-past}
+use Rattle.pg_picture.proofs.Ranges.{if_fits-above, if_fits-past}
 use Rattle.pg_table.specs.Inside.Fitting.{least_of}
 use Rattle.pg_table.proofs.ListedSizes.{none-past, some-below, sum-more, sum-below}
 use Rattle.pg_table.proofs.sizes.NaturalSizes.least_total.Goals as goal

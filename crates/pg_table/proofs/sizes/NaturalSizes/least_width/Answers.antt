@@ -5,12 +5,11 @@ use Rattle.pg_layout.specs.Records.{text_at}
 use Rattle.pg_layout.specs.Text.{greatest}
 use Rattle.pg_layout.proofs.Greatest.{greatest-more}
 use Rattle.pg_picture.specs.Sizes.{if_fits}
-use Rattle.pg_picture.proofs.SumsOfSizes.{if_fits-below}
+use Rattle.pg_picture.proofs.Ranges.{if_fits-below}
 use Rattle.pg_table.specs.Natural.{paddings}
 use Rattle.pg_table.specs.Fitted.{least_column_width}
 use Rattle.pg_table.specs.declared.sizes.Axis.TheVariants.{Columns}
-use Rattle.pg_table.proofs.LeastColumns.{cell, past-paddings, past-cell}
-use Rattle.pg_table.proofs.ListedSizes.{some-below}
+use Rattle.pg_table.proofs.ListedSizes.{cell, past-paddings, past-cell, some-below}
 use Rattle.pg_table.proofs.sizes.NaturalSizes.least_width.Goals as goal
 
 pub returns-in_err-width : goal.returns-in_err-width

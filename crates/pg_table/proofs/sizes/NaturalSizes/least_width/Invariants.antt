@@ -5,7 +5,7 @@ use Rattle.pg_layout.specs.Records.{text_at}
 use Rattle.pg_layout.specs.Text.{greatest}
 use Rattle.pg_table.specs.Natural.{paddings}
 use Rattle.pg_table.specs.declared.sizes.Axis.TheVariants.{Columns}
-use Rattle.pg_table.proofs.LeastColumns.{cell}
+use Rattle.pg_table.proofs.ListedSizes.{cell}
 use Rattle.pg_table.proofs.sizes.NaturalSizes.least_width.Given as goal
 
 -- the greatest of the cells so far

@@ -6,7 +6,7 @@ use Rattle.pg_table.specs.Spanning.{least_cell_width}
 use Rattle.pg_table.specs.Widening.{widened}
 use Rattle.pg_table.specs.declared.needs.Need.{Need}
 use Rattle.pg_table.proofs.LeastWidths.{widened-least, length-singles, corner-huge}
-use Rattle.pg_table.proofs.WidthsFor.{all-fit, needs-some, needs-inside}
+use Rattle.pg_table.proofs.ToldRooms.{all-fit, needs-some, needs-inside}
 use Rattle.pg_table.proofs.sizes.NaturalSizes.least_widths.Goals as goal
 
 never-some : {X : Type 0} (o : Option X) → ((x : X) → o ≡ Some x → ⊥) → o ≡ None

@@ -1,7 +1,7 @@
 use Rattle.std.proofs.Common.{◌≡◌, ◌<◌, ◌^◌, ◌++◌, ◌∷◌, [], ℕ, Option, map, unwrap_or, sym, ap, ◌∙◌, arith}
 use Rattle.std.specs.List.{range_with_len}
 use Rattle.std.proofs.lemmas.List.FromFn.{map-range_with_len_more}
-use Rattle.pg_picture.proofs.SumsOfSizes.{if_fits-below}
+use Rattle.pg_picture.proofs.Ranges.{if_fits-below}
 use Rattle.pg_table.specs.Inside.Sizes.{size_of, count_of}
 use Rattle.pg_table.proofs.ListedSizes.{each-fits}
 use Rattle.pg_table.proofs.sizes.NaturalSizes.list.Goals as goal

@@ -7,7 +7,7 @@ use Rattle.pg_picture.proofs.OwnersOfPlaces.{InOrder}
 use Rattle.pg_table.specs.Natural.{is_sized, all_fit, size_of_singles}
 use Rattle.pg_table.specs.declared.sizes.Axis.TheVariants.{Columns, Rows}
 use Rattle.pg_table.proofs.Faults.{no_spans}
-use Rattle.pg_table.proofs.RoomOfNeeds.{plain_sizes, widened_sizes}
+use Rattle.pg_table.proofs.NaturalRoom.{plain_sizes, widened_sizes}
 use Rattle.pg_table.proofs.ShownCells.{cells-sized, corners-decide, huge-past, singles-sized}
 use Rattle.pg_table.proofs.sizes.NaturalSizes.measured.Goals as goal
 

@@ -9,7 +9,7 @@ use Rattle.pg_table.specs.declared.sizes.Axis.TheVariants.{Columns, Rows}
 use Rattle.pg_table.proofs.FitFaults.{kept-parts}
 use Rattle.pg_table.proofs.ListedSizes.{seam}
 use Rattle.pg_table.proofs.RaisedWidths.{raised-widths}
-use Rattle.pg_table.proofs.RoomOfNeeds.{widened_sizes}
+use Rattle.pg_table.proofs.NaturalRoom.{widened_sizes}
 use Rattle.pg_table.proofs.ShownCells.{corners-decide, huge-past, singles-sized}
 use Rattle.pg_table.proofs.sizes.NaturalSizes.measured_from.Goals as goal
 

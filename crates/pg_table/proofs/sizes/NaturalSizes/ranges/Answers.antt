@@ -2,14 +2,14 @@ use Rattle.std.proofs.Common.{◌≡◌, ℕ, ◌<◌, ◌^◌, ◌++◌, ◌∷
 use Rattle.std.specs.List.{range_with_len}
 use Rattle.std.proofs.lemmas.List.FromFn.{map-range_with_len_more}
 use Rattle.pg_fit.specs.Narrowing.{limited}
-use Rattle.pg_picture.proofs.SumsOfSizes.{if_fits-below}
+use Rattle.pg_picture.proofs.Ranges.{if_fits-below}
 use Rattle.pg_layout.specs.Records.{text_at}
 use Rattle.pg_table.specs.Natural.{natural_size, natural_sizes}
 use Rattle.pg_table.specs.Fitted.{column_range}
 use Rattle.pg_table.specs.declared.sizes.Axis.TheVariants.{Columns}
 use Rattle.pg_table.proofs.ListedSizes.{each-fits}
 use Rattle.pg_table.proofs.FittedColumns.{least, least-below, length-naturals}
-use Rattle.pg_table.proofs.PlainWidths.{plain-widths}
+use Rattle.pg_table.proofs.PlainCells.{plain-widths}
 use Rattle.pg_table.proofs.sizes.NaturalSizes.ranges.Goals as goal
 
 pub least_width-requires : goal.least_width-requires

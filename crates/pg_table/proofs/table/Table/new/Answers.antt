@@ -1,4 +1,4 @@
-use Rattle.pg_table.proofs.NarrowLooks.{told-nothing}
+use Rattle.pg_table.proofs.StraightTables.{told-nothing}
 use Rattle.pg_table.proofs.table.Table.new.Goals as goal
 
 pub returns-in-Ok-clause-narrow : goal.returns-in-Ok-clause-narrow

@@ -1,4 +1,4 @@
-use Rattle.pg_table.proofs.NarrowLooks.{told-borders}
+use Rattle.pg_table.proofs.StraightTables.{told-borders}
 use Rattle.pg_table.proofs.table.Table.set_borders.Goals as goal
 
 pub returns-clause-narrow : goal.returns-clause-narrow

@@ -1,4 +1,4 @@
-use Rattle.pg_table.proofs.NarrowLooks.{told-alignment, told-or-same}
+use Rattle.pg_table.proofs.StraightTables.{told-alignment, told-or-same}
 use Rattle.pg_table.proofs.table.Table.set_column_alignment.Goals as goal
 
 pub returns-clause-narrow : goal.returns-clause-narrow

@@ -1,4 +1,4 @@
-use Rattle.pg_table.proofs.NarrowLooks.{told-or-same, told-spans}
+use Rattle.pg_table.proofs.StraightTables.{told-or-same, told-spans}
 use Rattle.pg_table.proofs.table.Table.set_panel.Goals as goal
 
 pub returns-clause-narrow : goal.returns-clause-narrow

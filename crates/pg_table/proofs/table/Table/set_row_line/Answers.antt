@@ -1,4 +1,4 @@
-use Rattle.pg_table.proofs.NarrowLooks.{told-line, told-or-same}
+use Rattle.pg_table.proofs.StraightTables.{told-line, told-or-same}
 use Rattle.pg_table.proofs.table.Table.set_row_line.Goals as goal
 
 pub returns-clause-narrow : goal.returns-clause-narrow

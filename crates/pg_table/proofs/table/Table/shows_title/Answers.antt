@@ -1,6 +1,6 @@
 use Rattle.std.proofs.Common.{◌≡◌, false, length, sym, ◌∙◌}
 use Rattle.pg_config.specs.Config.{has_horizontal}
-use Rattle.pg_table.proofs.UntitledTables.{no_text, untitled-absent, untitled-empty}
+use Rattle.pg_table.proofs.StraightTables.{no_text, untitled-absent, untitled-empty}
 use Rattle.pg_table.proofs.table.Table.shows_title.Goals as goal
 
 pub returns-then-is_empty-clause-same : goal.returns-then-is_empty-clause-same

@@ -1,7 +1,7 @@
 use Rattle.std.proofs.Common.{◌≡◌, refl}
 use Rattle.pg_layout.specs.declared.position.Entity.TheVariants.{Global}
 use Rattle.pg_config.specs.Settings.{with_setting}
-use Rattle.pg_table.proofs.NarrowLooks.{told-alignment, where-ok}
+use Rattle.pg_table.proofs.StraightTables.{told-alignment, where-ok}
 use Rattle.pg_table.proofs.table.Table.with_alignment.Goals as goal
 
 pub returns-clause-narrow : goal.returns-clause-narrow

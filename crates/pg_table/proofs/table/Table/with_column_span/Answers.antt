@@ -1,4 +1,4 @@
-use Rattle.pg_table.proofs.NarrowLooks.{told-spans}
+use Rattle.pg_table.proofs.StraightTables.{told-spans}
 use Rattle.pg_table.proofs.table.Table.with_column_span.Goals as goal
 
 pub returns-in-Ok-clause-narrow : goal.returns-in-Ok-clause-narrow

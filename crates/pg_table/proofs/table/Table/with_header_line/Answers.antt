@@ -1,4 +1,4 @@
-use Rattle.pg_table.proofs.NarrowLooks.{told-header}
+use Rattle.pg_table.proofs.StraightTables.{told-header}
 use Rattle.pg_table.proofs.table.Table.with_header_line.Goals as goal
 
 pub returns-in-Ok-clause-narrow : goal.returns-in-Ok-clause-narrow

@@ -1,6 +1,6 @@
 use Rattle.std.proofs.Common.{nat_lt, length, inl, inr}
 use Rattle.std.proofs.lemmas.Bool.{cases_Bool}
-use Rattle.pg_table.proofs.NarrowLooks.{told-spans}
+use Rattle.pg_table.proofs.StraightTables.{told-spans}
 use Rattle.pg_table.proofs.table.Table.with_panel.Goals as goal
 
 pub returns-in-Ok-clause-narrow : goal.returns-in-Ok-clause-narrow

@@ -6,7 +6,7 @@ use Rattle.ruled_table.specs.Faults.{Tells}
 use Rattle.ruled_table.specs.Shown.{shown_text}
 use Rattle.ruled_table.specs.declared.fault.ViewFault.{ViewFault}
 use Rattle.ruled_table.specs.declared.options.Options.{Options}
-use Rattle.ruled_table.proofs.NamedBlocks.{block-same, fault-same}
+use Rattle.ruled_table.proofs.LentTexts.{block-same, fault-same}
 use Rattle.ruled_table.proofs.blocks.Blocks.block.Goals as goal
 
 pub returns-then-all_stand-clause-text : goal.returns-then-all_stand-clause-text

@@ -9,8 +9,8 @@ use Rattle.ruled_table.specs.Plans.{Plan, plan_in}
 use Rattle.ruled_table.specs.Shown.{shown_text}
 use Rattle.ruled_table.specs.Widths.{widths_fault}
 use Rattle.ruled_table.specs.declared.fault.ViewFault.{ViewFault}
-use Rattle.ruled_table.proofs.MeasuredRows.{layout-lent, sizes-lent}
-use Rattle.ruled_table.proofs.Views.{then_told}
+use Rattle.ruled_table.proofs.RowsInParts.{layout-lent, sizes-lent}
+use Rattle.ruled_table.proofs.Tables.{then_told}
 use Rattle.ruled_table.proofs.layout.Layout.of_copies.Goals as goal
 
 pub returns-clause-layout : goal.returns-clause-layout

@@ -6,9 +6,8 @@ use Rattle.ruled_table.specs.Layouts.{but_last, sizes_fault_by}
 use Rattle.ruled_table.specs.LentRows.{fields_at, texts_at}
 use Rattle.ruled_table.specs.Widths.{first_config, widths_fault, widths_in, widths_of}
 use Rattle.ruled_table.specs.declared.fault.ViewFault.{ViewFault}
-use Rattle.ruled_table.proofs.MeasuredRows.{but-last-map, layout-made}
-use Rattle.ruled_table.proofs.StartedTables.{plain-config}
-use Rattle.ruled_table.proofs.Views.{told_on}
+use Rattle.ruled_table.proofs.RowsInParts.{but-last-map, layout-made}
+use Rattle.ruled_table.proofs.Tables.{plain-config, told_on}
 use Rattle.ruled_table.proofs.layout.Layout.of_measured.Goals as goal
 
 pub returns-clause-layout : goal.returns-clause-layout

@@ -7,8 +7,8 @@ use Rattle.ruled_table.specs.Faults.{totals_of}
 use Rattle.ruled_table.specs.Layouts.{config_in, layout_fault, measured_in, places_in, ruler_of}
 use Rattle.ruled_table.specs.Widths.{widths_fault}
 use Rattle.ruled_table.specs.declared.fault.ViewFault.{ViewFault}
-use Rattle.ruled_table.proofs.MeasuredRows.{layout-lent, ruled, sizes-lent}
-use Rattle.ruled_table.proofs.Views.{told_on}
+use Rattle.ruled_table.proofs.RowsInParts.{layout-lent, ruled, sizes-lent}
+use Rattle.ruled_table.proofs.Tables.{told_on}
 use Rattle.ruled_table.proofs.layout.Layout.of_standing.Goals as goal
 
 pub returns-clause-layout : goal.returns-clause-layout

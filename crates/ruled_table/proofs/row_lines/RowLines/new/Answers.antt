@@ -4,7 +4,7 @@ use Rattle.ruled_table.specs.Faults.{Tells}
 use Rattle.ruled_table.specs.Layouts.{start_fault, start_of}
 use Rattle.ruled_table.specs.Plans.{Measures, Plan, plan_in}
 use Rattle.ruled_table.specs.RowLines.{state_of}
-use Rattle.ruled_table.proofs.StartedTables.{fits-all, fits-made, none-started, some-columns, started}
+use Rattle.ruled_table.proofs.Tables.{fits-all, fits-made, none-started, some-columns, started}
 use Rattle.ruled_table.proofs.row_lines.RowLines.new.Goals as goal
 
 pub returns-in_err-sheet-clause-fault : goal.returns-in_err-sheet-clause-fault

@@ -4,8 +4,7 @@ use Rattle.pg_layout.specs.Text.{Text}
 use Rattle.pg_stream.specs.Conditions.{RowFits}
 use Rattle.pg_stream.specs.LiveStreams.{Living}
 use Rattle.ruled_table.specs.RowLines.{HasNoRoomBelow, ended_by, state_of}
-use Rattle.ruled_table.proofs.RowFaults.{room-on}
-use Rattle.ruled_table.proofs.RowsInParts.{alive-next, begun-next, next-height, own-heights, plain-next, printed-next, refused-next, some-rows}
+use Rattle.ruled_table.proofs.RowsInParts.{room-on, alive-next, begun-next, next-height, own-heights, plain-next, printed-next, refused-next, some-rows}
 use Rattle.ruled_table.proofs.row_lines.RowLines.push.Goals as goal
 
 pub returns-clause-lines : goal.returns-clause-lines

@@ -9,8 +9,7 @@ use Rattle.ruled_table.specs.RowLines.{GrowsTo, HasNoRoom, HasNoRoomBelow, begun
 use Rattle.ruled_table.specs.Shown.{shown_row}
 use Rattle.ruled_table.specs.Widths.{row_within}
 use Rattle.ruled_table.specs.declared.options.Options.{Options}
-use Rattle.ruled_table.proofs.RowFaults.{room-on}
-use Rattle.ruled_table.proofs.RowsInParts.{cells-next}
+use Rattle.ruled_table.proofs.RowsInParts.{room-on, cells-next}
 use Rattle.ruled_table.proofs.table_rows.TableRows.push.Goals as goal
 
 pub returns-clause-lines : goal.returns-clause-lines

@@ -1,5 +1,5 @@
 use Rattle.pg_picture.proofs.Appending.{Gained-none, Gained-all, ◌then◌, stopped, Appends-text}
-use Rattle.pg_stream.proofs.draw.SeparatorsOfRows.{below-absent, below-parts}
+use Rattle.pg_stream.proofs.draw.PartsOfLines.{below-absent, below-parts}
 use Rattle.pg_stream.proofs.draw.open_line.OpenLine.push_below.Goals as goal
 
 pub returns-then-not-has_horizontal : goal.returns-then-not-has_horizontal

@@ -4,7 +4,7 @@ use Rattle.pg_picture.specs.Pieces.{written}
 use Rattle.pg_picture.proofs.Appending.{Appends-text}
 use Rattle.pg_stream.specs.Inside.OpenCells.{IsTall}
 use Rattle.pg_stream.specs.Placed.{IsPlaced}
-use Rattle.pg_stream.proofs.draw.CellLines.{next-room, next-line}
+use Rattle.pg_stream.proofs.draw.OpenLists.{next-room, next-line}
 use Rattle.pg_stream.proofs.draw.open_line.OpenLine.push_cell_line.Goals as goal
 
 pub invariant_of-line : goal.invariant_of-line

@@ -3,7 +3,7 @@ use Rattle.pg_picture.specs.Inside.Following.{last_color}
 use Rattle.pg_picture.proofs.Appending.{◌then◌, stopped, appended-as, refused-as, Appends-text}
 use Rattle.pg_stream.specs.Placed.{slot_of}
 use Rattle.pg_stream.specs.Inside.Slots.{slot_block}
-use Rattle.pg_stream.proofs.draw.PartsOfSeparators.{items_after-block}
+use Rattle.pg_stream.proofs.draw.PartsOfLines.{items_after-block}
 use Rattle.pg_stream.proofs.draw.open_line.OpenLine.push_item.Goals as goal
 
 pub returns-in_err-run-clause-appends : goal.returns-in_err-run-clause-appends

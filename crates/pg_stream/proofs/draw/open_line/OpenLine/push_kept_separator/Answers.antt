@@ -1,8 +1,7 @@
 use Rattle.std.proofs.Common.{◌∙◌, arith}
-use Rattle.pg_picture.proofs.Appending.{Appends-text}
-use Rattle.pg_picture.proofs.KeptTexts.{text-from, lent-text, kept-text}
+use Rattle.pg_picture.proofs.Appending.{Appends-text, text-from, lent-text, kept-text}
 use Rattle.pg_stream.specs.Inside.StreamedTable.{IsSeparator}
-use Rattle.pg_stream.proofs.draw.EqualRowLines.{kept-is, keeps}
+use Rattle.pg_stream.proofs.printer.Ending.{kept-is, keeps}
 use Rattle.pg_stream.proofs.draw.open_line.OpenLine.push_kept_separator.Goals as goal
 
 pub returns-in-Some-clause-appends : goal.returns-in-Some-clause-appends

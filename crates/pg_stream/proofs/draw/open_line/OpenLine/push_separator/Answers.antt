@@ -6,7 +6,7 @@ use Rattle.pg_picture.specs.Table.{crossing_at}
 use Rattle.pg_picture.proofs.Appending.{Appends-text, ◌then◌, stopped}
 use Rattle.pg_stream.specs.Inside.StreamedTable.{open_separator_part}
 use Rattle.pg_layout.specs.Position.{at}
-use Rattle.pg_stream.proofs.draw.PartsOfSeparators.{separator-text}
+use Rattle.pg_stream.proofs.draw.PartsOfLines.{separator-text}
 use Rattle.pg_stream.proofs.draw.open_line.OpenLine.push_separator.Goals as goal
 
 pub returns-in_err-run : goal.returns-in_err-run

@@ -5,8 +5,8 @@ use Rattle.pg_picture.proofs.Owners.{apart_from, owners_of, owner-columns}
 use Rattle.pg_stream.specs.Conditions.{HasRoom}
 use Rattle.pg_stream.specs.Inside.StreamedTable.{column_end, reach}
 use Rattle.pg_stream.specs.Inside.Turns.{begin_cell}
-use Rattle.pg_stream.proofs.draw.PartsOfLists.{partly-none, partly-all, partly-length}
-use Rattle.pg_stream.proofs.draw.PartsOfSeparators.{reach-none, reach-more}
+use Rattle.pg_stream.proofs.draw.OpenLists.{partly-none, partly-all, partly-length}
+use Rattle.pg_stream.proofs.draw.PartsOfLines.{reach-none, reach-more}
 use Rattle.pg_stream.proofs.draw.Beginning.{own_at, own-now, owner-now, own-rows, own-columns, inside-columns, reach-set, read-more, read-none, begun-more, begun-is}
 use Rattle.pg_stream.proofs.draw.streamed_table.StreamedTable.begin.Goals as goal
 

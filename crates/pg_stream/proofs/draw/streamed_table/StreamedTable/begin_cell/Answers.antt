@@ -7,7 +7,7 @@ use Rattle.pg_picture.specs.Table.{rect_width}
 use Rattle.pg_picture.specs.declared.place.CellPlace.{CellPlace}
 use Rattle.pg_picture.proofs.FittingTables.{some_is}
 use Rattle.pg_picture.specs.Inside.Sheets.{sheet_table}
-use Rattle.pg_stream.proofs.draw.CellsBegun.{width-some, height-some}
+use Rattle.pg_stream.proofs.draw.OpenLists.{width-some, height-some}
 use Rattle.pg_stream.proofs.draw.streamed_table.StreamedTable.begin_cell.Goals as goal
 
 pub unwrap-width-requires : goal.unwrap-width-requires

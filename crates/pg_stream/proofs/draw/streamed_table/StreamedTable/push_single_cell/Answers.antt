@@ -1,7 +1,7 @@
 use Rattle.std.proofs.Common.{refl}
 use Rattle.pg_picture.specs.Pieces.{block_line, style_at, written}
 use Rattle.pg_picture.proofs.Appending.{◌then◌, stopped, Appends-text}
-use Rattle.pg_stream.proofs.draw.SingleCells.{part-room, part-text}
+use Rattle.pg_stream.proofs.draw.SingleLines.{part-room, part-text}
 use Rattle.pg_stream.proofs.draw.streamed_table.StreamedTable.push_single_cell.Goals as goal
 
 pub returns-in_err-push_vertical : goal.returns-in_err-push_vertical

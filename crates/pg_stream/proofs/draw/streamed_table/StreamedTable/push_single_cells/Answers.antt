@@ -11,8 +11,7 @@ use Rattle.pg_stream.specs.Conditions.{HasRoom}
 use Rattle.pg_stream.specs.Inside.SingleRows.{IsSingle, single_part}
 use Rattle.pg_stream.proofs.draw.Beginning.{read-more, read-none}
 use Rattle.pg_stream.proofs.draw.PartsOfLines.{written-columns}
-use Rattle.pg_stream.proofs.draw.SingleCells.{single-cut, single-end}
-use Rattle.pg_stream.proofs.printer.PlainRooms.{own-plain}
+use Rattle.pg_stream.proofs.draw.SingleLines.{single-cut, single-end, own-plain}
 use Rattle.pg_stream.proofs.draw.streamed_table.StreamedTable.push_single_cells.Goals as goal
 
 pub loop-column-init : goal.loop-column-init

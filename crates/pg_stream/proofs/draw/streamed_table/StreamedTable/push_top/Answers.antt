@@ -1,6 +1,6 @@
 use Rattle.std.proofs.Common.{arith}
 use Rattle.pg_picture.proofs.Appending.{Gained-none, Gained-all, Appends-text}
-use Rattle.pg_stream.proofs.draw.SeparatorsOfRows.{top-none, top-some}
+use Rattle.pg_stream.proofs.draw.PartsOfLines.{top-none, top-some}
 use Rattle.pg_stream.proofs.draw.streamed_table.StreamedTable.push_top.Goals as goal
 
 pub returns-then-rows-gt0 : goal.returns-then-rows-gt0

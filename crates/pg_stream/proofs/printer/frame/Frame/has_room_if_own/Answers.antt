@@ -3,8 +3,8 @@ use Rattle.std.proofs.lemmas.Bool.{false≢true}
 use Rattle.pg_config.specs.Spans.{rect_columns}
 use Rattle.pg_picture.proofs.Owners.{apart_from, owners_of, owner-columns}
 use Rattle.pg_stream.proofs.draw.Beginning.{own_at, own-rows, own-columns}
-use Rattle.pg_picture.proofs.LeftColumns.{own_unless}
-use Rattle.pg_stream.proofs.printer.FittingCells.{last_end, in_order}
+use Rattle.pg_picture.proofs.FirstPlaces.{own_unless}
+use Rattle.pg_stream.proofs.printer.MakingPrinters.{last_end, in_order}
 use Rattle.pg_stream.proofs.printer.frame.Frame.has_room_if_own.Goals as goal
 
 pub has_room-requires-clause-rows : goal.has_room-requires-clause-rows

@@ -6,9 +6,9 @@ use Rattle.pg_config.specs.Spans.{is_left, left_span, owner}
 use Rattle.pg_picture.specs.Inside.Rectangles.{columns_or_one}
 use Rattle.pg_stream.specs.Conditions.{HasRoom}
 use Rattle.pg_picture.specs.Inside.Sheets.{bare_table}
-use Rattle.pg_picture.proofs.LeftColumns.{step-some, step-inside, step-left, step-all}
+use Rattle.pg_picture.proofs.FirstPlaces.{step-some, step-inside, step-left, step-all}
 use Rattle.pg_picture.proofs.OwnersOfPlaces.{first_left}
-use Rattle.pg_stream.proofs.printer.FittingCells.{last_end, in_order}
+use Rattle.pg_stream.proofs.printer.MakingPrinters.{last_end, in_order}
 use Rattle.pg_stream.proofs.printer.frame.Frame.have_room.Goals as goal
 
 pub loop-column-init : goal.loop-column-init

@@ -1,8 +1,8 @@
 use Rattle.std.proofs.Common.{true, false}
 use Rattle.pg_picture.proofs.Owners.{apart_from, owners_of}
-use Rattle.pg_picture.proofs.LeftColumns.{own_unless}
+use Rattle.pg_picture.proofs.FirstPlaces.{own_unless}
 use Rattle.pg_stream.proofs.draw.Beginning.{own-rows}
-use Rattle.pg_stream.proofs.printer.FittingCells.{last_end, in_order}
+use Rattle.pg_stream.proofs.printer.MakingPrinters.{last_end, in_order}
 use Rattle.pg_stream.proofs.printer.frame.Frame.shows_all_if_own.Goals as goal
 
 pub shows_all-requires-clause-some : goal.shows_all-requires-clause-some

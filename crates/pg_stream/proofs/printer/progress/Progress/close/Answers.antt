@@ -5,7 +5,7 @@ use Rattle.pg_picture.specs.Table.{Table}
 use Rattle.pg_picture.proofs.Appending.{refused-as, appended-as, Appends-text}
 use Rattle.pg_stream.specs.Printers.{now_of}
 use Rattle.pg_stream.specs.declared.fault.StreamFault.{StreamFault}
-use Rattle.pg_stream.proofs.printer.TableEnds.{finish-any, sound-ended, none-ends, ends}
+use Rattle.pg_stream.proofs.printer.Ending.{finish-any, sound-ended, none-ends, ends}
 use Rattle.pg_stream.proofs.printer.progress.Progress.close.Goals as goal
 
 pub returns-then-self-eq0-clause-ends : goal.returns-then-self-eq0-clause-ends

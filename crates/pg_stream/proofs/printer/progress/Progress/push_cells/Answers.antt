@@ -3,7 +3,7 @@ use Rattle.std.specs.Vec.Iter.{into_iter_len}
 use Rattle.std.proofs.lemmas.Iterator.{YieldsList-from_slice}
 use Rattle.std.proofs.lemmas.Iterator.Adapters.{YieldsList-from_vec}
 use Rattle.pg_layout.proofs.Given.{given-items}
-use Rattle.pg_stream.proofs.stream.LentRows.{given-lent}
+use Rattle.pg_stream.proofs.stream.StreamedRows.{given-lent}
 use Rattle.pg_picture.specs.Table.{Table}
 use Rattle.pg_stream.specs.Inside.SingleRows.{IsSingle}
 use Rattle.pg_stream.proofs.printer.progress.Progress.push_cells.Goals as goal

@@ -2,7 +2,7 @@ use Rattle.std.proofs.Common.{◌∙◌, sym, subst, refl, arith, IsSome}
 use Rattle.pg_picture.specs.Table.{full_width}
 use Rattle.pg_picture.proofs.FittingTables.{some_is}
 use Rattle.pg_stream.specs.Printing.{Printing, printer}
-use Rattle.pg_stream.proofs.printer.Starting.{width-some, heights-fit, first-is, sound-first}
+use Rattle.pg_stream.proofs.printer.Ending.{width-some, heights-fit, first-is, sound-first}
 use Rattle.pg_stream.proofs.printer.row_printer.RowPrinter.new.Goals as goal
 
 pub full_width-requires : goal.full_width-requires

@@ -3,7 +3,7 @@ use Rattle.std.specs.Vec.Iter.{into_iter_len}
 use Rattle.std.proofs.lemmas.Iterator.Adapters.{YieldsList-from_vec}
 use Rattle.pg_layout.proofs.Given.{given-items}
 use Rattle.pg_stream.specs.Printers.{printing}
-use Rattle.pg_stream.proofs.stream.RowsOfCells.{ended-of}
+use Rattle.pg_stream.proofs.stream.StreamedRows.{ended-of}
 use Rattle.pg_stream.proofs.printer.row_printer.RowPrinter.row_of.Goals as goal
 
 pub row-requires-clause-fits : goal.row-requires-clause-fits

@@ -2,9 +2,8 @@ use Rattle.std.proofs.Common.{map, ◌∙◌}
 use Rattle.std.proofs.lemmas.Result.{err_from_is_err_and}
 use Rattle.pg_stream.specs.Inside.Held.{streamed}
 use Rattle.pg_stream.specs.Streams.{Streaming}
-use Rattle.pg_stream.proofs.stream.StreamedRows.{none-pushed, pushed-next, pushed-stops, pushed-ends}
-use Rattle.pg_stream.proofs.stream.StreamedRuns.{none-behind, run-goes, run-stops, run-ends}
-use Rattle.pg_stream.proofs.stream.NoRows.{untouched, touched, some-row}
+use Rattle.pg_stream.proofs.stream.StreamedRows.{none-pushed, pushed-next, pushed-stops, pushed-ends, untouched, touched, some-row}
+use Rattle.pg_stream.proofs.stream.StreamedResults.{none-behind, run-goes, run-stops, run-ends}
 use Rattle.pg_stream.proofs.stream.held_rows.HeldRows.push_all.Goals as goal
 
 pub loop-row-init : goal.loop-row-init

@@ -3,9 +3,8 @@ use Rattle.pg_layout.specs.Records.{AlwaysGives}
 use Rattle.pg_layout.specs.Text.{Text}
 use Rattle.pg_stream.specs.Inside.Held.{streamed, AreSoundAt}
 use Rattle.pg_stream.specs.Streams.{Streaming}
-use Rattle.pg_stream.proofs.stream.StreamedRows.{Pushed}
-use Rattle.pg_stream.proofs.stream.StreamedRuns.{AllBehind}
-use Rattle.pg_stream.proofs.stream.NoRows.{IsUntouched}
+use Rattle.pg_stream.proofs.stream.StreamedRows.{Pushed, IsUntouched}
+use Rattle.pg_stream.proofs.stream.StreamedResults.{AllBehind}
 use Rattle.pg_stream.proofs.stream.held_rows.HeldRows.push_all.Given as goal
 
 -- what the rows that are left append is what all append

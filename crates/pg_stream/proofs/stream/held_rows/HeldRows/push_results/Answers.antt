@@ -6,9 +6,8 @@ use Rattle.pg_layout.specs.Text.{Text}
 use Rattle.pg_stream.specs.Inside.Held.{streamed}
 use Rattle.pg_stream.specs.Streams.{Streaming}
 use Rattle.pg_stream.specs.declared.fault.RowsFault.{RowsFault}
-use Rattle.pg_stream.proofs.stream.StreamedResults.{none-streamed, item-taken, streamed-next, streamed-stops, streamed-fails, streamed-ends}
-use Rattle.pg_stream.proofs.stream.StreamedRuns.{none-ran, results-go-on, results-stop, results-fail, results-end-ok, results-end-err}
-use Rattle.pg_stream.proofs.stream.NoRows.{untouched, touched, some-row}
+use Rattle.pg_stream.proofs.stream.StreamedResults.{none-streamed, item-taken, streamed-next, streamed-stops, streamed-fails, streamed-ends, none-ran, results-go-on, results-stop, results-fail, results-end-ok, results-end-err}
+use Rattle.pg_stream.proofs.stream.StreamedRows.{untouched, touched, some-row}
 use Rattle.pg_stream.proofs.stream.held_rows.HeldRows.push_results.Goals as goal
 
 pub loop-row-init : goal.loop-row-init

@@ -5,9 +5,8 @@ use Rattle.pg_layout.specs.Records.{AlwaysGives}
 use Rattle.pg_layout.specs.Text.{Text}
 use Rattle.pg_stream.specs.Inside.Held.{streamed, AreSoundAt}
 use Rattle.pg_stream.specs.Streams.{Streaming}
-use Rattle.pg_stream.proofs.stream.StreamedResults.{Streamed}
-use Rattle.pg_stream.proofs.stream.StreamedRuns.{Ran}
-use Rattle.pg_stream.proofs.stream.NoRows.{IsUntouched}
+use Rattle.pg_stream.proofs.stream.StreamedResults.{Streamed, Ran}
+use Rattle.pg_stream.proofs.stream.StreamedRows.{IsUntouched}
 use Rattle.pg_stream.proofs.stream.held_rows.HeldRows.push_results.Given as goal
 
 -- what the rows that are left append is what all append

@@ -5,8 +5,7 @@ use Rattle.pg_picture.specs.Inside.Sheets.{bare_table}
 use Rattle.pg_stream.specs.LiveStreams.{Living, LentFits}
 use Rattle.pg_stream.specs.Printers.{now_of}
 use Rattle.pg_stream.specs.Printing.{Printing}
-use Rattle.pg_stream.proofs.stream.LentRows.{given-lent}
-use Rattle.pg_stream.proofs.stream.StreamedRows.{row-refused, row-printed}
+use Rattle.pg_stream.proofs.stream.StreamedRows.{given-lent, row-refused, row-printed}
 use Rattle.pg_stream.proofs.stream.live_stream.LiveStream.push_lent.Goals as goal
 
 pub push_single-requires-clause-single : goal.push_single-requires-clause-single

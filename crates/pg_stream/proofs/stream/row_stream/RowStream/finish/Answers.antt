@@ -1,6 +1,5 @@
 use Rattle.std.proofs.Common.{map}
-use Rattle.pg_stream.proofs.stream.NoRows.{none-held}
-use Rattle.pg_stream.proofs.stream.StreamedRows.{rows-ok}
+use Rattle.pg_stream.proofs.stream.StreamedRows.{none-held, rows-ok}
 use Rattle.pg_stream.proofs.stream.row_stream.RowStream.finish.Goals as goal
 
 pub returns-clause-prints : goal.returns-clause-prints

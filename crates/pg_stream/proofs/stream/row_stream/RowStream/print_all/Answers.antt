@@ -1,5 +1,5 @@
 use Rattle.std.proofs.Common.{map}
-use Rattle.pg_stream.proofs.stream.NoRows.{none-held}
+use Rattle.pg_stream.proofs.stream.StreamedRows.{none-held}
 use Rattle.pg_stream.proofs.stream.row_stream.RowStream.print_all.Goals as goal
 
 pub returns-clause-prints : goal.returns-clause-prints

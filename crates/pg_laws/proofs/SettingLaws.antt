@@ -1,21 +1,33 @@
--- What places are overridden with, and what they answer, after the border of a cell is set.
-use Rattle.std.proofs.Common.{◌≡◌, ℕ, ◌+◌, ◌-◌, ◌^◌, nat_lt, Bool, true, false, ◌&&◌, ◌||◌, ◌==◌, List, refl, sym, ap, ◌∙◌, arith, Option, Some, None, if◌then◌else◌, inl, inr}
+-- What getters return after a border, a row line or the glyphs of a line are set.
+use Rattle.std.proofs.Common.{◌≡◌, ℕ, ◌+◌, ◌-◌, ◌^◌, nat_lt, Bool, true, false, ◌&&◌, ◌||◌, ◌==◌, List, refl, sym, ap, ◌∙◌, arith, Option, Some, None, if◌then◌else◌, inl, inr, zero, suc, ◌<◌, [], ◌∷◌}
 use Rattle.std.specs.Prelude.{is_some}
 use Rattle.std.specs.Option.{option_or}
 use Rattle.std.proofs.lemmas.Bool.{cases_Bool, and_parts}
 use Rattle.std.proofs.lemmas.Bool.Decides.{nat_tests}
-use Rattle.pg_layout.proofs.KeyOrders.{columns-laws, place-laws, IsOrder}
+use Rattle.pg_layout.proofs.Places.{columns-laws, place-laws, IsOrder, same-is_at, value_at-with_place}
 use Rattle.pg_layout.specs.declared.position.ColumnPlace.{ColumnPlace}
 use Rattle.pg_layout.specs.declared.borders.Border.{Border}
 use Rattle.pg_layout.specs.declared.position.Position.{Position}
 use Rattle.pg_layout.specs.Borders.{horizontal_glyph, vertical_glyph, crossing_glyph}
-use Rattle.pg_layout.specs.Keys.{Order, by_columns, by_place, column_place, in_row, in_column}
-use Rattle.pg_layout.specs.Places.{same, value_at, with_some, has_key}
+use Rattle.pg_layout.specs.Keys.{Order, by_columns, by_place, column_place, in_row, in_column, by_number}
+use Rattle.pg_layout.specs.Places.{same, value_at, with_some, has_key, with_place, before}
 use Rattle.pg_layout.specs.Position.{is_at, at}
-use Rattle.pg_config.specs.Overrides.{Overrides, on_lines, with_round, with_border, has_crossing, horizontal_override, vertical_override, crossing_override, overrides_row, overrides_column}
-use Rattle.pg_config.specs.Config.{Config, missing_if, has_horizontal, has_vertical, get_horizontal, get_vertical, get_intersection, get_horizontal_color, get_vertical_color, get_intersection_color}
-use Rattle.pg_config.proofs.Lookups.{or_swap, value_at-with_some, any-with_some}
-use Rattle.pg_laws.specs.SettingLaws.{border_horizontal, border_vertical, border_crossing, border_row, border_column, ABorderHasItsParts, ABorderOverridesItsPlaces, ABorderIsAnswered, ABorderOfColorsIsAnswered}
+use Rattle.pg_config.specs.Overrides.{Overrides, on_lines, with_round, with_border, has_crossing, horizontal_override, vertical_override, crossing_override, overrides_row, overrides_column, with_row, line_crossing, with_row_line}
+use Rattle.pg_config.specs.Config.{Config, missing_if, has_horizontal, has_vertical, get_horizontal, get_vertical, get_intersection, get_horizontal_color, get_vertical_color, get_intersection_color, default_config, has_padding_color, has_justification, has_offset_chars}
+use Rattle.pg_config.proofs.Lookups.{or_swap, value_at-with_some, any-with_some, glyph-laws, only_if_is, any-with_place}
+use Rattle.pg_laws.specs.SettingLaws.{border_horizontal, border_vertical, border_crossing, border_row, border_column, ABorderHasItsParts, ABorderOverridesItsPlaces, ABorderIsAnswered, ABorderOfColorsIsAnswered, RowLineHorizontals, RowLineCrossings, RowLineVerticals, AStartIsAnswered, AnEndIsAnswered, AnOffsetMarksItsPlace, sets_padding_color, sets_justification, sets_offset, sets_border_color, WhatWasSetIsTold, NothingWasSetAtFirst}
+use Rattle.std.proofs.Math.Bool.{or_assoc, or-true}
+use Rattle.pg_config.specs.declared.offsets.GlyphPlace.{GlyphPlace}
+use Rattle.pg_layout.specs.declared.sides.Offset.TheVariants.{Start, End}
+use Rattle.pg_config.specs.Offsets.{by_glyph, glyph_at, of_place, with_offset, lookup_offset, is_offset_at, Offsets, has_offsets}
+use Rattle.std.specs.List.{fold, list_any}
+use Rattle.pg_layout.specs.declared.position.Entity.{Entity}
+use Rattle.pg_layout.specs.declared.position.Entity.TheVariants.{Global, Row, Column, Cell}
+use Rattle.pg_layout.specs.declared.sides.Offset.{Offset}
+use Rattle.pg_config.specs.Settings.{Settings, has_some, next_number, with_setting, is_set}
+use Rattle.pg_laws.specs.Setters.{Setter, set_padding_color, set_justification, set_justification_color, set_borders_color, set_border_color, set_horizontal_char, set_horizontal_color, set_vertical_char, set_vertical_color, after}
+
+-- ---- what places are overridden with, and what they answer, after the border of a cell is set
 
 -- ---- overrides
 
@@ -216,3 +228,173 @@ border_parts p b row col =
     let below : nat_lt p.row (2 ^ 64 - 1) ≡ true = grind (arith, nat_tests, row) in
     let right : nat_lt p.col (2 ^ 64 - 1) ≡ true = grind (arith, nat_tests, col) in
     rw (below, right) refl
+
+-- ---- what places are overridden with after a row line is set
+
+module _ {V : Type 0} where
+  -- a place of the row that is among its first ones holds its new value if there is one
+  value_at-with_row : (r n a b : ℕ) (values : ℕ → Option V) (es : List (Position × V)) → value_at by_place (at a b) (with_row r n values es) ≡ (if (a == r) && nat_lt b n then option_or (values b) (value_at by_place (at a b) es) else value_at by_place (at a b) es)
+  value_at-with_row r zero a b values es =
+      let outside : ((a == r) && nat_lt b 0) ≡ false = grind (arith, nat_tests) in
+      rw outside refl
+  value_at-with_row r (suc c) a b values es =
+      let more = value_at-with_row r c a b values es in
+      value_at-with_some place-laws (at a b) (at r c) (values c) (with_row r c values es)
+      ∙ elim (cases_Bool (same by_place (at r c) (at a b))) [
+        | inl y ↦
+            let here : c ≡ b = grind (arith, nat_tests, y) in
+            let old : ((a == r) && nat_lt b c) ≡ false = grind (arith, nat_tests, y) in
+            let new : ((a == r) && nat_lt b (suc c)) ≡ true = grind (arith, nat_tests, y) in
+            rw (y, new) (ap (λ x. option_or (values c) x) (more ∙ rw old refl) ∙ ap (λ x. option_or (values x) (value_at by_place (at a b) es)) here)
+        | inr n ↦
+            let still : ((a == r) && nat_lt b (suc c)) ≡ ((a == r) && nat_lt b c) = grind (arith, nat_tests, n) in
+            rw (n, still) more
+      ]
+
+pub row_line_horizontals : {G : Type 0} → RowLineHorizontals G
+unfolding horizontal_override with_row_line
+row_line_horizontals row columns line o p =
+    elim (cases_Bool (columns == 0)) [
+      | inl y ↦
+          let outside : ((p.row == row) && nat_lt p.col columns) ≡ false = grind (arith, nat_tests, y) in
+          rw (y, outside) refl
+      | inr n ↦ rw n (value_at-with_row row columns p.row p.col (λ c. line.main) o.horizontals)
+    ]
+
+pub row_line_crossings : {G : Type 0} → RowLineCrossings G
+unfolding crossing_override with_row_line
+row_line_crossings row columns line o p =
+    elim (cases_Bool (columns == 0)) [
+      | inl y ↦
+          let outside : ((p.row == row) && (nat_lt 0 columns && nat_lt p.col (columns + 1))) ≡ false = grind (arith, nat_tests, y) in
+          rw (y, outside) refl
+      | inr n ↦
+          let some : nat_lt 0 columns ≡ true = grind (arith, nat_tests, n) in
+          rw (n, some) (value_at-with_row row (columns + 1) p.row p.col (λ c. line_crossing line columns c) o.crossings)
+    ]
+
+pub row_line_verticals : {G : Type 0} → RowLineVerticals G
+unfolding vertical_override with_row_line
+row_line_verticals row columns line o p = elim (cases_Bool (columns == 0)) [ inl y ↦ rw y refl | inr n ↦ rw n refl ]
+
+-- ---- what is answered for the glyphs of a line after one of them is set
+
+module _ {V : Type 0} where
+  -- what a glyph answers after one is set, as far as it is there
+  from_start : (p : Position) (k : ℕ) (v : V) (q : Position) (i : ℕ) (es : List (GlyphPlace × V)) (rest : Option V) → option_or (value_at by_glyph (glyph_at q i) (with_place by_glyph (glyph_at p k) v es)) rest ≡ (if is_at q p.row p.col && (i == k) then Some v else option_or (value_at by_glyph (glyph_at q i) es) rest)
+  from_start p k v q i es rest =
+      rw (value_at-with_place glyph-laws (glyph_at q i) (glyph_at p k) v es)
+      (elim (cases_Bool (is_at q p.row p.col && (i == k))) [
+        | inl y ↦ let here : same by_glyph (glyph_at p k) (glyph_at q i) ≡ true = grind (arith, nat_tests, y) in rw (here, y) refl
+        | inr n ↦ let away : same by_glyph (glyph_at p k) (glyph_at q i) ≡ false = grind (arith, nat_tests, n) in rw (away, n) refl
+      ])
+
+  from_end : (p : Position) (k : ℕ) (v : V) (q : Position) (i w : ℕ) (es : List (GlyphPlace × V)) (first : Option V) → i < w → option_or first (value_at by_glyph (glyph_at q (w - i - 1)) (with_place by_glyph (glyph_at p k) v es)) ≡ (if is_at q p.row p.col && (i + 1 + k == w) then option_or first (Some v) else option_or first (value_at by_glyph (glyph_at q (w - i - 1)) es))
+  from_end p k v q i w es first less =
+      rw (value_at-with_place glyph-laws (glyph_at q (w - i - 1)) (glyph_at p k) v es)
+      (elim (cases_Bool (is_at q p.row p.col && (i + 1 + k == w))) [
+        | inl y ↦ let here : same by_glyph (glyph_at p k) (glyph_at q (w - i - 1)) ≡ true = grind (arith, nat_tests, y, less) in rw (here, y) refl
+        | inr n ↦ let away : same by_glyph (glyph_at p k) (glyph_at q (w - i - 1)) ≡ false = grind (arith, nat_tests, n, less) in rw (away, n) refl
+      ])
+
+pub start_answers : {V : Type 0} → AStartIsAnswered V
+unfolding lookup_offset with_offset
+start_answers p k v old q i w =
+    let rest = value_at by_glyph (glyph_at q (w - i - 1)) old.from_end in
+    elim (cases_Bool (nat_lt i w)) [
+      | inl y ↦ rw y (only_if_is true _ ∙ from_start p k v q i old.from_start rest ∙ ap (λ o. if is_at q p.row p.col && (i == k) then Some v else o) (sym (only_if_is true _)))
+      | inr n ↦ rw n (only_if_is false _ ∙ sym (only_if_is false _))
+    ]
+
+pub end_answers : {V : Type 0} → AnEndIsAnswered V
+unfolding lookup_offset with_offset
+end_answers p k v old q i w =
+    let first = value_at by_glyph (glyph_at q i) old.from_start in
+    elim (cases_Bool (nat_lt i w)) [
+      | inl y ↦
+          let less : i < w = grind (arith, nat_tests, y) in
+          rw y (only_if_is true _ ∙ from_end p k v q i w old.from_end first less ∙ ap (λ o. if is_at q p.row p.col && (i + 1 + k == w) then option_or first (Some v) else o) (sym (only_if_is true _)))
+      | inr n ↦
+          let none : (is_at q p.row p.col && (i + 1 + k == w)) ≡ false = grind (arith, nat_tests, n) in
+          rw (n, none) (only_if_is false _ ∙ sym (only_if_is false _))
+    ]
+
+pub place_answers : {V : Type 0} → AnOffsetMarksItsPlace V
+unfolding is_offset_at with_offset
+place_answers p (Start i) v old q =
+    rw (any-with_place glyph-laws (of_place q) (glyph_at p i) v old.from_start, same-is_at p q)
+    (or_assoc (is_at q p.row p.col) (has_key (of_place q) old.from_start) (has_key (of_place q) old.from_end))
+place_answers p (End i) v old q =
+    rw (any-with_place glyph-laws (of_place q) (glyph_at p i) v old.from_end, same-is_at p q)
+    (or_swap (has_key (of_place q) old.from_start) (is_at q p.row p.col) (has_key (of_place q) old.from_end))
+
+-- ---- what was ever set is told from then on
+
+some-with_place : {K V : Type 0} (order : Order K) (k : K) (v : V) (es : List (K × V)) → has_some (with_place order k v es) ≡ true
+some-with_place order k v [] = refl
+some-with_place order k v (e ∷ es) =
+    elim (cases_Bool (before order e.0 k)) [
+      | inl y ↦ rw y refl
+      | inr n ↦ elim (cases_Bool (same order e.0 k)) [ inl s ↦ rw (n, s) refl | inr o ↦ rw (n, o) refl ]
+    ]
+
+module _ {V : Type 0} where
+  set-is : (entity : Entity) (v : V) (s : Settings V) → is_set (with_setting entity v s) ≡ true
+  unfolding is_set with_setting
+  set-is Global v s = refl
+  set-is (Row r) v s = let some = some-with_place by_number r (next_number s, v) s.rows in rw some (or-true (is_some s.base || has_some s.cells))
+  set-is (Column c) v s = let some = some-with_place by_number c (next_number s, v) s.columns in rw (some, or-true (has_some s.rows)) (or-true (is_some s.base || has_some s.cells))
+  set-is (Cell r c) v s = let some = some-with_place by_place (at r c) (next_number s, v) s.cells in rw (some, or-true (is_some s.base)) refl
+
+  offset-is : (p : Position) (offset : Offset) (v : V) (o : Offsets V) → has_offsets (with_offset p offset v o) ≡ true
+  unfolding has_offsets with_offset
+  offset-is p (Start i) v o = rw (some-with_place by_glyph (glyph_at p i) v o.from_start) refl
+  offset-is p (End i) v o = rw (some-with_place by_glyph (glyph_at p i) v o.from_end) (or-true (has_some o.from_start))
+
+-- ---- one setter
+
+padding_color-step : (c : Config) (s : Setter) → has_padding_color (after c s) ≡ (sets_padding_color s || has_padding_color c)
+unfolding has_padding_color
+padding_color-step c (set_padding_color entity v) = set-is entity v c.padding_color
+padding_color-step c s = refl
+
+justification-step : (c : Config) (s : Setter) → has_justification (after c s) ≡ (sets_justification s || has_justification c)
+unfolding has_justification
+justification-step c (set_justification entity v) = rw (set-is entity v c.justification) refl
+justification-step c (set_justification_color entity v) = rw (set-is entity v c.justification_color) (or-true _)
+justification-step c s = refl
+
+offset_chars-step : (c : Config) (s : Setter) → has_offset_chars (after c s) ≡ (sets_offset s || has_offset_chars c)
+unfolding has_offset_chars
+offset_chars-step c (set_horizontal_char p offset v) = rw (offset-is p offset v c.horizontal_chars) refl
+offset_chars-step c (set_vertical_char p offset v) = rw (offset-is p offset v c.vertical_chars, or-true (has_offsets c.horizontal_chars)) refl
+offset_chars-step c (set_horizontal_color p offset v) = rw (offset-is p offset v c.horizontal_colors) (or-true _)
+offset_chars-step c (set_vertical_color p offset v) = rw (offset-is p offset v c.vertical_colors, or-true (has_offsets c.horizontal_colors)) (or-true _)
+offset_chars-step c s = refl
+
+border_colors-step : (c : Config) (s : Setter) → (after c s).border_colored ≡ (sets_border_color s || c.border_colored)
+border_colors-step c (set_borders_color v) = refl
+border_colors-step c (set_border_color p v) = refl
+border_colors-step c s = refl
+
+-- ---- all setters
+
+all-steps : (test : Config → Bool) (sets : Setter → Bool) → ((c : Config) (s : Setter) → test (after c s) ≡ (sets s || test c)) → (c : Config) (ss : List Setter) → test (fold after c ss) ≡ (list_any sets ss || test c)
+all-steps test sets step c [] = refl
+all-steps test sets step c (s ∷ ss) =
+    all-steps test sets step (after c s) ss
+    ∙ ap (λ b. list_any sets ss || b) (step c s)
+    ∙ or_swap (list_any sets ss) (sets s) (test c)
+    ∙ sym (or_assoc (sets s) (list_any sets ss) (test c))
+
+pub ever_set : WhatWasSetIsTold
+ever_set config setters = record {
+  padding_color = all-steps has_padding_color sets_padding_color padding_color-step config setters;
+  justification = all-steps has_justification sets_justification justification-step config setters;
+  offset_chars = all-steps has_offset_chars sets_offset offset_chars-step config setters;
+  border_colors = all-steps (λ c. c.border_colored) sets_border_color border_colors-step config setters;
+}
+
+pub nothing_at_first : NothingWasSetAtFirst
+unfolding default_config has_padding_color has_justification has_offset_chars is_set has_offsets
+nothing_at_first = record { padding_color = refl; justification = refl; offset_chars = refl; border_colors = refl }
