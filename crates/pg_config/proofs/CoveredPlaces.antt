@@ -9,7 +9,7 @@ use Rattle.pg_layout.specs.declared.position.Position.{Position}
 use Rattle.pg_layout.specs.Keys.{by_columns, column_place, Order, by_place}
 use Rattle.pg_layout.specs.Places.{before, last_before, between, Each, IsAscending, same, comes, value_at, with_place, without_place, last_up_to}
 use Rattle.pg_layout.specs.Position.{at}
-use Rattle.pg_layout.proofs.Places.{columns-laws, last-is, none-before}
+use Rattle.pg_layout.proofs.KeyedPlaces.{columns-laws, last-is, none-before}
 use Rattle.pg_config.specs.Spans.{Span, in_span, if_left, left_span, span_size}
 use Rattle.pg_config.specs.Inside.Covered.{begins_within, is_covered_from, is_covered_from_left}
 use Rattle.pg_config.specs.declared.extent.Extent.{Extent}

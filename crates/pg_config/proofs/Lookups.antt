@@ -4,7 +4,7 @@ use Rattle.std.specs.Prelude.{is_some, option_map, IsSome}
 use Rattle.std.specs.Option.{option_or}
 use Rattle.std.proofs.lemmas.Bool.{cases_Bool}
 use Rattle.pg_layout.specs.Keys.{Order, by_place, by_columns, column_place, in_row, in_column, by_number}
-use Rattle.pg_layout.proofs.Places.{IsOrder, value_at-with_place, order-laws, place-total, place-laws, columns-laws, has_key-first, passes, number-laws}
+use Rattle.pg_layout.proofs.KeyedPlaces.{IsOrder, value_at-with_place, order-laws, place-total, place-laws, columns-laws, has_key-first, passes, number-laws}
 use Rattle.pg_layout.specs.Places.{same, before, value_at, with_place, with_some, has_key, next_from, IsAscending, exchanged}
 use Rattle.std.specs.Cmp.{nat_cmp_total, on_total, then_total}
 use Rattle.pg_config.specs.declared.offsets.GlyphPlace.{GlyphPlace}

@@ -6,7 +6,7 @@ use Rattle.pg_layout.specs.declared.position.Position.{Position}
 use Rattle.pg_layout.specs.Keys.{Order, by_number, by_place}
 use Rattle.pg_layout.specs.Places.{value_at, same, before, with_place}
 use Rattle.pg_config.specs.Settings.{Settings, has_some, is_for_all, is_set, setting_of, number_above, next_number, latest, with_setting}
-use Rattle.pg_layout.proofs.Places.{number-laws, place-laws, value_at-with_place}
+use Rattle.pg_layout.proofs.KeyedPlaces.{number-laws, place-laws, value_at-with_place}
 use Rattle.pg_layout.specs.declared.position.Entity.{Entity}
 use Rattle.pg_layout.specs.declared.position.Entity.TheVariants.{Global, Row, Column, Cell}
 use Rattle.pg_layout.specs.Position.{at, holds}

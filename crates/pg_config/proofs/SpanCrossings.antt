@@ -10,7 +10,7 @@ use Rattle.pg_layout.specs.declared.sides.Sides.{Sides}
 use Rattle.pg_layout.specs.Keys.{Order, by_place}
 use Rattle.pg_layout.specs.Places.{value_at, with_place, with_some, same, before, IsAscending}
 use Rattle.pg_layout.specs.Position.{at}
-use Rattle.pg_layout.proofs.Places.{IsOrder, place-laws, value_at-with_place, none_after, same-turned, before-not_back, IsAscending-with_place}
+use Rattle.pg_layout.proofs.KeyedPlaces.{IsOrder, place-laws, value_at-with_place, none_after, same-turned, before-not_back, IsAscending-with_place}
 use Rattle.pg_config.specs.declared.crossings.Side.{Side}
 use Rattle.pg_config.specs.declared.crossings.Side.TheVariants.{Top, Bottom, Left, Right}
 use Rattle.pg_config.specs.Config.{Config}

@@ -74,7 +74,7 @@ impl<G: Drop, A: Allocator + Clone> Lines<G, A> {
     /// memory is refused.
     ///
     /// Each column of a crossing is listed, as in all `Overrides`.
-    #[tactic(auto, unfolding(crate::specs::Overrides::with_border), using(crate::proofs::BorderLines::lines_behind))]
+    #[tactic(auto, unfolding(crate::specs::Overrides::with_border), using(crate::proofs::EqualLines::lines_behind))]
     pub fn put_border(&mut self, pos: Position, border: Border<G>) -> Result<(), AllocError>
         requires has_columns { HasColumns self.old.now.columns self.old.now.overrides.crossings }
         ensures ok { OnOk result (self.new.now.overrides ≡ with_border pos border self.old.now.overrides) }

@@ -84,7 +84,7 @@ impl<V: Drop, A: Allocator + Copy> Offsets<V, A> {
 impl<V, A: Allocator> Offsets<V, A> {
     /// The value of glyph `i` of `w`: counted from the start, else from the end. None if there is
     /// no such glyph.
-    #[tactic(auto, unfolding(crate::specs::Offsets::lookup_offset), using(crate::proofs::GlyphLaws::only_if_is))]
+    #[tactic(auto, unfolding(crate::specs::Offsets::lookup_offset), using(crate::proofs::Lookups::only_if_is))]
     #[inline(always)]
     pub fn lookup(&self, pos: Position, i: usize, w: usize) -> Option<&V>
         ensures { option_map (λ x. x.now) result ≡ lookup_offset self.now pos i w }

@@ -172,7 +172,7 @@ impl<A: Allocator + Clone> Overrides<char, A> {
     /// changes.
     ///
     /// If memory is refused, nothing changes. Nothing is allocated if no glyph has a place.
-    #[tactic(auto, unfolding(crate::specs::Overrides::with_row_line), using(crate::proofs::RowLines::without_glyphs))]
+    #[tactic(auto, unfolding(crate::specs::Overrides::with_row_line), using(crate::proofs::EqualLines::without_glyphs))]
     pub fn set_row_line(
         &mut self,
         row: usize,

@@ -4,7 +4,7 @@ use Rattle.std.specs.Prelude.{is_some}
 use Rattle.std.specs.Option.{option_or}
 use Rattle.std.proofs.lemmas.Bool.{cases_Bool, and_parts}
 use Rattle.std.proofs.lemmas.Bool.Decides.{nat_tests}
-use Rattle.pg_layout.proofs.Places.{columns-laws, place-laws, IsOrder, same-is_at, value_at-with_place}
+use Rattle.pg_layout.proofs.KeyedPlaces.{columns-laws, place-laws, IsOrder, same-is_at, value_at-with_place}
 use Rattle.pg_layout.specs.declared.position.ColumnPlace.{ColumnPlace}
 use Rattle.pg_layout.specs.declared.borders.Border.{Border}
 use Rattle.pg_layout.specs.declared.position.Position.{Position}

@@ -4,7 +4,7 @@ use Rattle.std.specs.Prelude.{not, find}
 use Rattle.std.specs.List.{list_any, list_all, AllPairs}
 use Rattle.std.proofs.lemmas.Bool.{cases_Bool, and_parts, or_parts, and_from}
 use Rattle.std.proofs.lemmas.Bool.Decides.{nat_tests}
-use Rattle.pg_layout.proofs.Places.{columns-laws, value_at-with_place, value_at-without_place}
+use Rattle.pg_layout.proofs.KeyedPlaces.{columns-laws, value_at-with_place, value_at-without_place}
 use Rattle.pg_config.specs.declared.spans.SpanSize.{SpanSize}
 use Rattle.pg_layout.specs.declared.position.ColumnPlace.{ColumnPlace}
 use Rattle.pg_layout.specs.Keys.{by_columns, column_place}

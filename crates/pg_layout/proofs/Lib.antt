@@ -1,5 +1,5 @@
 -- Lemmas of this crate.
-pub mod Places
+pub mod KeyedPlaces
 mod PlacesInTrees
 pub mod TextLines
 pub mod PlainBytes

@@ -10,7 +10,7 @@ use Rattle.std.specs.declared.ops.Bound.TheVariants.{Included, Excluded, Unbound
 use Rattle.std.proofs.lemmas.Bool.{cases_Bool}
 use Rattle.pg_layout.specs.Keys.{Order, IsOrderOf}
 use Rattle.pg_layout.specs.Places.{same, before, comes, value_at, with_place, without_place, last_up_to, last_before, next_from, between, Each, IsAscending}
-use Rattle.pg_layout.proofs.Places.{IsOrder, order-laws, before-not_back, before-not_same_back, same-turned, before-comes, all-behind, all-stay}
+use Rattle.pg_layout.proofs.KeyedPlaces.{IsOrder, order-laws, before-not_back, before-not_same_back, same-turned, before-comes, all-behind, all-stay}
 
 module _ {K V : Type 0} where
   abbrev pub last_of : List (K × V) → Option (K × V)

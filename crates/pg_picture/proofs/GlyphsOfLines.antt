@@ -8,7 +8,7 @@ use Rattle.pg_layout.specs.declared.borders.Borders.{Borders}
 use Rattle.pg_layout.specs.Borders.{any_of, has_left, has_right, has_inner_vertical, has_side, vertical_glyph, crossing_glyph}
 use Rattle.pg_layout.specs.Keys.{column_place, in_column}
 use Rattle.pg_layout.specs.Places.{has_key}
-use Rattle.pg_layout.proofs.Places.{columns-laws, value_at-no_key}
+use Rattle.pg_layout.proofs.KeyedPlaces.{columns-laws, value_at-no_key}
 use Rattle.pg_layout.specs.Position.{at}
 use Rattle.pg_config.specs.Overrides.{vertical_override, crossing_override, overrides_column, has_crossing}
 use Rattle.pg_config.specs.Config.{Config, missing_if, has_horizontal, has_vertical, get_vertical, get_intersection, has_column_lines, has_offset_chars, get_vertical_color}

@@ -13,7 +13,7 @@ use Rattle.std.proofs.lemmas.Bool.{or_parts, and_parts, false≢true}
 use Rattle.pg_layout.specs.declared.position.Position.{Position}
 use Rattle.pg_layout.specs.Places.{has_key}
 use Rattle.pg_layout.specs.Position.{is_at, at}
-use Rattle.pg_layout.proofs.Places.{value_at-no_key}
+use Rattle.pg_layout.proofs.KeyedPlaces.{value_at-no_key}
 use Rattle.pg_config.proofs.Lookups.{glyph-laws}
 use Rattle.pg_config.specs.Config.{Config, is_overridden_horizontal, get_horizontal, has_equal_row_lines, get_horizontal_color}
 use Rattle.pg_config.specs.Offsets.{Offsets, glyph_at, of_place, is_offset_at, lookup_offset}

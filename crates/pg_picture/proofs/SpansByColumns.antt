@@ -5,7 +5,7 @@ use Rattle.std.specs.List.{list_all}
 use Rattle.std.specs.Option.{IfSome}
 use Rattle.std.proofs.lemmas.Bool.{cases_Bool, cases_lt, and_parts, and_from, false≢true}
 use Rattle.std.proofs.lemmas.Bool.Decides.{nat_tests}
-use Rattle.pg_layout.proofs.Places.{columns-laws, each-both, each-all, last-is, behind-stay, none-before}
+use Rattle.pg_layout.proofs.KeyedPlaces.{columns-laws, each-both, each-all, last-is, behind-stay, none-before}
 use Rattle.pg_layout.specs.declared.position.ColumnPlace.{ColumnPlace}
 use Rattle.pg_layout.specs.Keys.{by_columns, column_place}
 use Rattle.pg_layout.specs.Places.{before, Each, IsAscending, last_before, next_from}

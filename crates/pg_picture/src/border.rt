@@ -16,7 +16,7 @@ use std::alloc::{AllocError, Allocator};
 impl<'a, B: Allocator> Run<'a, ANSIBuf<B>> {
     /// Appends the crossing of a place in a table of `size` rows and columns; nothing if its column
     /// line doesn't exist or it has no glyph.
-    #[tactic(auto, unfolding(crate::specs::Table::crossing_at), using(crate::proofs::CutsOfItems::one_item))]
+    #[tactic(auto, unfolding(crate::specs::Table::crossing_at), using(crate::proofs::Separators::one_item))]
     #[inline(always)]
     pub fn crossing<A: Allocator>(
         self,

@@ -9,7 +9,7 @@ use Rattle.pg_layout.specs.Records.{text_at}
 use Rattle.pg_layout.specs.Text.{Text}
 use Rattle.pg_layout.specs.Keys.{by_place}
 use Rattle.pg_layout.specs.Places.{same, value_at, with_place}
-use Rattle.pg_layout.proofs.Places.{place-laws, value_at-with_place}
+use Rattle.pg_layout.proofs.KeyedPlaces.{place-laws, value_at-with_place}
 use Rattle.pg_config.specs.Config.{Config, get_formatting}
 use Rattle.pg_fit.specs.Overlaid.{Overlay, text_or, other_text, row_from, overlaid}
 use Rattle.pg_layout.specs.Colors.{Color}

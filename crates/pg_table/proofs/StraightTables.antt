@@ -39,7 +39,7 @@ use Rattle.pg_layout.specs.declared.sides.Sides.{Sides}
 use Rattle.pg_layout.specs.Keys.{by_place}
 use Rattle.pg_layout.specs.Looks.{ascii}
 use Rattle.pg_layout.specs.Places.{same, value_at}
-use Rattle.pg_layout.proofs.Places.{place-laws}
+use Rattle.pg_layout.proofs.KeyedPlaces.{place-laws}
 use Rattle.pg_config.specs.Overrides.{Overrides, with_row, with_row_line, line_crossing, horizontal_override, vertical_override, crossing_override}
 use Rattle.pg_config.specs.Settings.{Settings, setting_of, with_setting}
 use Rattle.pg_config.specs.Spans.{Span}

@@ -1,6 +1,6 @@
 use Rattle.std.proofs.Common.{sym, ap, ◌∙◌}
 use Rattle.pg_config.specs.Offsets.{of_place}
-use Rattle.pg_layout.proofs.Places.{passes}
+use Rattle.pg_layout.proofs.KeyedPlaces.{passes}
 use Rattle.pg_config.proofs.Lookups.{first-of_place}
 use Rattle.pg_config.proofs.offsets.has_place.Goals as goal
 

@@ -1,6 +1,6 @@
 use Rattle.std.proofs.Common.{sym, ap, ◌∙◌}
 use Rattle.pg_layout.specs.Keys.{in_row}
-use Rattle.pg_layout.proofs.Places.{passes}
+use Rattle.pg_layout.proofs.KeyedPlaces.{passes}
 use Rattle.pg_config.proofs.Lookups.{first-of_row}
 use Rattle.pg_config.proofs.overrides.has_row.Goals as goal
 

@@ -1,5 +1,3 @@
-use Rattle.std.proofs.Common.{◌≡◌}
-use Rattle.pg_layout.specs.Borders.{top_line, cell_line, inner_line, bottom_line, of_lines}
 use Rattle.pg_layout.proofs.borders.BordersClone.clone.Goals as goal
 
 -- line by line; the line through the cells has no glyph of its own

@@ -3,7 +3,7 @@ use Rattle.std.proofs.lemmas.Result.{on_ok_weaker}
 use Rattle.pg_layout.specs.Keys.{by_place}
 use Rattle.pg_layout.specs.Places.{with_place}
 use Rattle.pg_layout.specs.ColorsMap.{IsColored}
-use Rattle.pg_layout.proofs.Places.{IsColored-with_place}
+use Rattle.pg_layout.proofs.KeyedPlaces.{IsColored-with_place}
 use Rattle.pg_layout.proofs.colors_map.ColorsMap.set.Goals as goal
 
 pub returns-clause-latest : goal.returns-clause-latest

@@ -1,7 +1,7 @@
 use Rattle.std.proofs.Common.{◌≡◌, Some, None, is_some, sym, ap, subst, ◌∙◌}
 use Rattle.std.proofs.lemmas.Bool.{false≢true}
 use Rattle.pg_layout.specs.Places.{IsAscending, value_at, with_place}
-use Rattle.pg_layout.proofs.Places.{order-laws, IsAscending-with_place, exchanged-back}
+use Rattle.pg_layout.proofs.KeyedPlaces.{order-laws, IsAscending-with_place, exchanged-back}
 use Rattle.pg_layout.proofs.PlacesInTrees.{insert-key, lookup-key}
 use Rattle.pg_layout.proofs.places.Places.put.Goals as goal
 

@@ -1,6 +1,6 @@
 use Rattle.std.proofs.Common.{None, sym, ap, subst, ◌∙◌}
 use Rattle.pg_layout.specs.Places.{IsAscending, value_at, without_place}
-use Rattle.pg_layout.proofs.Places.{order-laws, IsAscending-filter, exchanged-back}
+use Rattle.pg_layout.proofs.KeyedPlaces.{order-laws, IsAscending-filter, exchanged-back}
 use Rattle.pg_layout.proofs.PlacesInTrees.{remove-key, lookup-key}
 use Rattle.pg_layout.proofs.places.Places.take.Goals as goal
 
