@@ -42,7 +42,8 @@ fn append_rows<D: Dimension, C: Colors>(
     rows: Vec<Vec<&str>>,
     buf: &mut String,
 ) -> Result<(), StreamFault>
-    ensures { OnOk result (string_bytes buf.new ≡ string_bytes buf.old ++ rows_text (printer config.now COLUMNS (D.width dimension.now) (D.height dimension.now) (C.color colors.now) None) (map (λ row. map (λ cell. cell.now) row.items) rows.entry.items)) }
+    ensures { OnOk result (string_bytes buf.new ≡ string_bytes buf.old
+        ++ rows_text (printer config.now COLUMNS (D.width dimension.now) (D.height dimension.now) (C.color colors.now) None) (map (λ row. map (λ cell. cell.now) row.items) rows.entry.items)) }
 {
     let stream = RowStream::new(alloc, config, dimension, colors, COLUMNS, None)?;
     stream.print_vec(rows, buf)

@@ -33,9 +33,15 @@ impl<D: Dimension, C: Colors> CompactPrinter<'_, D, C> {
         Cells: Iterator<Item = T>,
         Rows: Iterator<Item = Cells>,
         A: Allocator,
-        requires { (texts : List (List (List ℕ))) × AreRows (Gives (λ x y. T.text x ≡ y) Cells.can_next Cells.next_gives Cells.remaining) Rows.can_next Rows.next_gives Rows.remaining self.now.columns 0 texts rows × CompactFits (printed_table D.width C.color self.now texts) }
-        ensures appends { (texts : List (List (List ℕ))) → AreRows (Gives (λ x y. T.text x ≡ y) Cells.can_next Cells.next_gives Cells.remaining) Rows.can_next Rows.next_gives Rows.remaining self.now.columns 0 texts rows → Appends buf.old buf.new result (compact_picture (printed_table D.width C.color self.now texts)) }
-        ensures empty { (texts : List (List (List ℕ))) → AreRows (Gives (λ x y. T.text x ≡ y) Cells.can_next Cells.next_gives Cells.remaining) Rows.can_next Rows.next_gives Rows.remaining self.now.columns 0 texts rows → has_no_cells (printed_table D.width C.color self.now texts) ≡ true → IsOk result × (buf.new ≡ buf.old) }
+        requires { (texts : List (List (List ℕ)))
+            × AreRows (Gives (λ x y. T.text x ≡ y) Cells.can_next Cells.next_gives Cells.remaining) Rows.can_next Rows.next_gives Rows.remaining self.now.columns 0 texts rows
+            × CompactFits (printed_table D.width C.color self.now texts) }
+        ensures appends { (texts : List (List (List ℕ)))
+            → AreRows (Gives (λ x y. T.text x ≡ y) Cells.can_next Cells.next_gives Cells.remaining) Rows.can_next Rows.next_gives Rows.remaining self.now.columns 0 texts rows
+            → Appends buf.old buf.new result (compact_picture (printed_table D.width C.color self.now texts)) }
+        ensures empty { (texts : List (List (List ℕ)))
+            → AreRows (Gives (λ x y. T.text x ≡ y) Cells.can_next Cells.next_gives Cells.remaining) Rows.can_next Rows.next_gives Rows.remaining self.now.columns 0 texts rows
+            → has_no_cells (printed_table D.width C.color self.now texts) ≡ true → IsOk result × (buf.new ≡ buf.old) }
     {
         if self.columns == 0 {
             return Ok(());
@@ -103,8 +109,11 @@ impl<D: Dimension, C: Colors> CompactPrinter<'_, D, C> {
         Cells: Iterator<Item = T>,
         Rows: Iterator<Item = Cells>,
         A: Allocator,
-        requires rows { (texts : List (List (List ℕ))) × AreRows (Gives (λ x y. T.text x ≡ y) Cells.can_next Cells.next_gives Cells.remaining) Rows.can_next Rows.next_gives Rows.remaining self.now.columns 1 texts rows }
-        ensures { (texts : List (List (List ℕ))) → AreRows (Gives (λ x y. T.text x ≡ y) Cells.can_next Cells.next_gives Cells.remaining) Rows.can_next Rows.next_gives Rows.remaining self.now.columns 1 texts rows → Appends buf.old buf.new result (fed (flat_map (row_lines (printed_table D.width C.color self.now texts)) (range_with_len 1 (length texts - 1)))) }
+        requires rows { (texts : List (List (List ℕ)))
+            × AreRows (Gives (λ x y. T.text x ≡ y) Cells.can_next Cells.next_gives Cells.remaining) Rows.can_next Rows.next_gives Rows.remaining self.now.columns 1 texts rows }
+        ensures { (texts : List (List (List ℕ)))
+            → AreRows (Gives (λ x y. T.text x ≡ y) Cells.can_next Cells.next_gives Cells.remaining) Rows.can_next Rows.next_gives Rows.remaining self.now.columns 1 texts rows
+            → Appends buf.old buf.new result (fed (flat_map (row_lines (printed_table D.width C.color self.now texts)) (range_with_len 1 (length texts - 1)))) }
     {
         let mut room = [0; SEPARATOR_ROOM];
         let mut kept = SeparatorKeeper::new(&mut room);
@@ -130,7 +139,8 @@ impl<D: Dimension, C: Colors> CompactPrinter<'_, D, C> {
         Cells: Iterator<Item = T>,
         A: Allocator,
         requires cells { Cells.can_next cells × IsFinite (Cells.remaining cells) }
-        ensures { (texts : List (List (List ℕ))) → IsRow T.text Cells.next_gives self.now.columns texts row cells → Appends buf.old buf.new result (continued (lines_before is_first) (lines_of_row (printed_table D.width C.color self.now texts) row)) }
+        ensures { (texts : List (List (List ℕ))) → IsRow T.text Cells.next_gives self.now.columns texts row cells
+            → Appends buf.old buf.new result (continued (lines_before is_first) (lines_of_row (printed_table D.width C.color self.now texts) row)) }
     {
         let (padding, colors) = (self.config.get_padding(), self.config.get_padding_color());
         self.push_padding_rows(buf, padding.top.size, colors.top, is_first)?;
@@ -151,7 +161,8 @@ impl<D: Dimension, C: Colors> CompactPrinter<'_, D, C> {
         Cells: Iterator<Item = T>,
         A: Allocator,
         requires cells { Cells.can_next cells × IsFinite (Cells.remaining cells) }
-        ensures { (texts : List (List (List ℕ))) → IsRow T.text Cells.next_gives self.now.columns texts row cells → Appends buf.old buf.new result (feed_before is_first ++ text_row (printed_table D.width C.color self.now texts) row) }
+        ensures { (texts : List (List (List ℕ))) → IsRow T.text Cells.next_gives self.now.columns texts row cells
+            → Appends buf.old buf.new result (feed_before is_first ++ text_row (printed_table D.width C.color self.now texts) row) }
     {
         push_feed(buf, is_first)?;
         self.push_text_row(buf, row, cells)

@@ -25,7 +25,8 @@ impl<D: Dimension, C: Colors> CompactPrinter<'_, D, C> {
         cells: I,
     ) -> Result<(), AllocError>
         requires cells { I.can_next cells × IsFinite (I.remaining cells) }
-        ensures { (texts : List (List (List ℕ))) → IsRow T.text I.next_gives self.now.columns texts row cells → Appends buf.old buf.new result (text_row (printed_table D.width C.color self.now texts) row) }
+        ensures { (texts : List (List (List ℕ))) → IsRow T.text I.next_gives self.now.columns texts row cells
+            → Appends buf.old buf.new result (text_row (printed_table D.width C.color self.now texts) row) }
     {
         self.push_row_start(buf)?;
         self.push_cells(buf, row, cells)?;
@@ -87,7 +88,8 @@ impl<D: Dimension, C: Colors> CompactPrinter<'_, D, C> {
         mut cells: I,
     ) -> Result<(), AllocError>
         requires cells { I.can_next cells × IsFinite (I.remaining cells) }
-        ensures { (texts : List (List (List ℕ))) → IsRow T.text I.next_gives self.now.columns texts row cells → Appends buf.old buf.new result (flat_map (text_column (printed_table D.width C.color self.now texts) row) (range_with_len 0 self.now.columns)) }
+        ensures { (texts : List (List (List ℕ))) → IsRow T.text I.next_gives self.now.columns texts row cells
+            → Appends buf.old buf.new result (flat_map (text_column (printed_table D.width C.color self.now texts) row) (range_with_len 0 self.now.columns)) }
     {
         for column in 0..self.columns {
             let Some(cell) = cells.next() else {
@@ -105,7 +107,8 @@ impl<D: Dimension, C: Colors> CompactPrinter<'_, D, C> {
         pos: Position,
         text: &str,
     ) -> Result<(), AllocError>
-        ensures { Appends buf.old buf.new result (inner_glyph (printed_table D.width C.color self.now []) pos.col ++ compact_cell_of (printed_table D.width C.color self.now []).config (D.width self.now.dimension pos.col) (C.color self.now.colors pos) text.now) }
+        ensures { Appends buf.old buf.new result (inner_glyph (printed_table D.width C.color self.now []) pos.col
+            ++ compact_cell_of (printed_table D.width C.color self.now []).config (D.width self.now.dimension pos.col) (C.color self.now.colors pos) text.now) }
     {
         self.push_inner_glyph(buf, pos.col)?;
         let width = self.dimension.get_width(pos.col);

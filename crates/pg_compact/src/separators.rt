@@ -111,8 +111,10 @@ impl<D: Dimension, C: Colors> CompactPrinter<'_, D, C> {
         glyphs: HorizontalLine<char>,
         colors: HorizontalLine<ANSIStr<'static>>,
     ) -> Result<CompactRun<'static>, AllocError>
-        ensures appends { Appends buf.old buf.new result (open_parts run.entry (flat_map (column_parts (printed_table D.width C.color self.now []) glyphs (line_colors colors.entry)) (range_with_len 0 self.now.columns))) }
-        ensures color { IfOk result (λ after. after ≡ open_color run.entry (flat_map (column_parts (printed_table D.width C.color self.now []) glyphs (line_colors colors.entry)) (range_with_len 0 self.now.columns))) }
+        ensures appends { Appends buf.old buf.new result
+            (open_parts run.entry (flat_map (column_parts (printed_table D.width C.color self.now []) glyphs (line_colors colors.entry)) (range_with_len 0 self.now.columns))) }
+        ensures color { IfOk result (λ after. after
+            ≡ open_color run.entry (flat_map (column_parts (printed_table D.width C.color self.now []) glyphs (line_colors colors.entry)) (range_with_len 0 self.now.columns))) }
     {
         for column in 0..self.columns {
             run = self.push_column(run, buf, glyphs, colors, column)?;

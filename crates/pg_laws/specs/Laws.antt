@@ -17,7 +17,8 @@ use Rattle.pg_config.specs.Offsets.{no_offsets}
 use Rattle.pg_config.specs.Spans.{rect_rows, rect_columns, has_row_spans}
 use Rattle.pg_picture.specs.Marks.{Mark, sep, line}
 use Rattle.pg_picture.specs.Pieces.{Piece, run, words, in_color, repeated, written, pieces_width, style_at, shown, block_line, Item, glyph, spaces, block, separator_text}
-use Rattle.pg_picture.specs.Table.{Table, Hint, Known, Unknown, rect_marks, rect_width, rect_height, block_at, vertical, row_part, line_of_row, crossing_at, horizontal_items, column_items, separator_part, separator_items, mark_text, body_line, table_body}
+use Rattle.pg_picture.specs.Table.{Table, Hint, Known, Unknown, rect_marks, rect_width, rect_height, block_at, vertical, row_part, line_of_row, crossing_at, horizontal_items}
+use Rattle.pg_picture.specs.Table.{column_items, separator_part, separator_items, mark_text, body_line, table_body}
 use Rattle.pg_picture.specs.Rectangles.{IsOwner}
 use Rattle.pg_picture.specs.CompactLines.{CompactTable, Part, parts_after, compact_lines}
 use Rattle.pg_picture.specs.Fits.{body_height, spans_fit, totals_fit, cell_fits, owner_fits, misfit_of}
@@ -78,7 +79,9 @@ pub record Fills (w h : ℕ) (lines : List (List Piece)) : Type 0 where
 -- Where a cell has room and its fills are narrow, its block is as wide and as high as its rectangle. A line that is wider
 -- than its room is written whole, and a fill has so many characters as it is to have columns.
 abbrev pub BlocksFill : Type 0
-BlocksFill = (t : Table) (p : Position) → HasNarrowFills (style_at t.config p) → cell_fits (style_at t.config p) (t.text p) (rect_width t p) (rect_height t p) ≡ true → Fills (rect_width t p) (rect_height t p) (map (block_at t p) (rect_marks t p))
+BlocksFill = (t : Table) (p : Position) → HasNarrowFills (style_at t.config p)
+    → cell_fits (style_at t.config p) (t.text p) (rect_width t p) (rect_height t p) ≡ true
+    → Fills (rect_width t p) (rect_height t p) (map (block_at t p) (rect_marks t p))
 
 -- ---- colours
 

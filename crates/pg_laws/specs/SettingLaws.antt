@@ -17,29 +17,35 @@ use Rattle.pg_config.specs.Settings.{Settings, setting_of, with_setting}
 use Rattle.pg_config.specs.Overrides.{Overrides, on_lines, with_border, with_row_line, horizontal_override, vertical_override, crossing_override}
 use Rattle.pg_config.specs.Offsets.{Offsets, offset_at, with_offset, lookup_offset, is_offset_at}
 use Rattle.pg_config.specs.Spans.{Span, span_size, rect_rows, rect_columns, with_column_span, with_row_span, unless_one, get_column_span, get_row_span, in_span, owner, is_visible}
-use Rattle.pg_config.specs.Config.{Config, missing_if, has_horizontal, has_vertical, get_horizontal, get_vertical, get_intersection, get_horizontal_color, get_vertical_color, get_intersection_color, has_padding_color, has_justification, has_offset_chars, default_config}
+use Rattle.pg_config.specs.Config.{Config, missing_if, has_horizontal, has_vertical, get_horizontal, get_vertical, get_intersection, get_horizontal_color, get_vertical_color}
+use Rattle.pg_config.specs.Config.{get_intersection_color, has_padding_color, has_justification, has_offset_chars, default_config}
 use Rattle.pg_config.specs.Inside.Lines.{SameForRows, SameForColumns}
-use Rattle.pg_laws.specs.Setters.{Setter, set_padding_color, set_justification, set_justification_color, set_borders_color, set_border_color, set_horizontal_char, set_horizontal_color, set_vertical_char, set_vertical_color, after}
+use Rattle.pg_laws.specs.Setters.{Setter, set_padding_color, set_justification, set_justification_color, set_borders_color, set_border_color, set_horizontal_char}
+use Rattle.pg_laws.specs.Setters.{set_horizontal_color, set_vertical_char, set_vertical_color, after}
 
 -- ---- settings by entity
 
 -- After a setter, the places that its entity holds have the new value, and all others what they had.
 abbrev pub TheLatestCounts : Type 0 → Type 0
-TheLatestCounts V = (entity : Entity) (value : V) (settings : Settings V) (p : Position) → setting_of (with_setting entity value settings) p ≡ (if holds entity p then Some value else setting_of settings p)
+TheLatestCounts V = (entity : Entity) (value : V) (settings : Settings V) (p : Position)
+    → setting_of (with_setting entity value settings) p ≡ (if holds entity p then Some value else setting_of settings p)
 
 -- ---- border lines
 
 -- After a row line is set across so many columns, its horizontals have the line's glyph if it has one. All others have what they had.
 abbrev pub RowLineHorizontals : Type 0 → Type 0
-RowLineHorizontals G = (row columns : ℕ) (line : HorizontalLine G) (overrides : Overrides G) (p : Position) → horizontal_override (with_row_line row columns line overrides) p ≡ (if (p.row == row) && nat_lt p.col columns then option_or line.main (horizontal_override overrides p) else horizontal_override overrides p)
+RowLineHorizontals G = (row columns : ℕ) (line : HorizontalLine G) (overrides : Overrides G) (p : Position)
+    → horizontal_override (with_row_line row columns line overrides) p ≡ (if (p.row == row) && nat_lt p.col columns then option_or line.main (horizontal_override overrides p) else horizontal_override overrides p)
 
 -- Its crossings, which are one more than the columns if there are any, have the line's glyph for an end or for between two columns if it has one.
 abbrev pub RowLineCrossings : Type 0 → Type 0
-RowLineCrossings G = (row columns : ℕ) (line : HorizontalLine G) (overrides : Overrides G) (p : Position) → crossing_override (with_row_line row columns line overrides) p ≡ (if (p.row == row) && (nat_lt 0 columns && nat_lt p.col (columns + 1)) then option_or (ends line.left line.intersection line.right p.col columns) (crossing_override overrides p) else crossing_override overrides p)
+RowLineCrossings G = (row columns : ℕ) (line : HorizontalLine G) (overrides : Overrides G) (p : Position)
+    → crossing_override (with_row_line row columns line overrides) p ≡ (if (p.row == row) && (nat_lt 0 columns && nat_lt p.col (columns + 1)) then option_or (ends line.left line.intersection line.right p.col columns) (crossing_override overrides p) else crossing_override overrides p)
 
 -- Verticals have what they had.
 abbrev pub RowLineVerticals : Type 0 → Type 0
-RowLineVerticals G = (row columns : ℕ) (line : HorizontalLine G) (overrides : Overrides G) (p : Position) → vertical_override (with_row_line row columns line overrides) p ≡ vertical_override overrides p
+RowLineVerticals G = (row columns : ℕ) (line : HorizontalLine G) (overrides : Overrides G) (p : Position)
+    → vertical_override (with_row_line row columns line overrides) p ≡ vertical_override overrides p
 
 -- what the border of the cell at p has for the eight places round the cell
 module _ {G : Type 0} (p : Position) (b : Border G) where
@@ -84,10 +90,12 @@ pub record BorderGlyphs (p : Position) (b : Border ℕ) (old new : Config) (q : 
   pub column_line : has_vertical new q.col columns ≡ (border_column p (on_lines p b) q.col || has_vertical old q.col columns)
   pub horizontal : get_horizontal new q rows ≡ option_or (border_horizontal p (on_lines p b) q) (option_or (get_horizontal old q rows) (missing_if old (has_horizontal new q.row rows)))
   pub vertical : get_vertical new q columns ≡ option_or (border_vertical p (on_lines p b) q) (option_or (get_vertical old q columns) (missing_if old (has_vertical new q.col columns)))
-  pub crossing : get_intersection new q rows columns ≡ option_or (border_crossing p (on_lines p b) q) (option_or (get_intersection old q rows columns) (missing_if old (has_horizontal new q.row rows && has_vertical new q.col columns)))
+  pub crossing : get_intersection new q rows columns
+      ≡ option_or (border_crossing p (on_lines p b) q) (option_or (get_intersection old q rows columns) (missing_if old (has_horizontal new q.row rows && has_vertical new q.col columns)))
 
 abbrev pub ABorderIsAnswered : Type 0
-ABorderIsAnswered = (p : Position) (b : Border ℕ) (config : Config) (q : Position) (rows columns : ℕ) → BorderGlyphs p b config (record config { overrides = with_border p b config.overrides }) q rows columns
+ABorderIsAnswered = (p : Position) (b : Border ℕ) (config : Config) (q : Position) (rows columns : ℕ)
+    → BorderGlyphs p b config (record config { overrides = with_border p b config.overrides }) q rows columns
 
 -- The colour of a place is what the border of colours has for it, else what it was.
 pub record BorderColors (p : Position) (b : Border Color) (old new : Config) (q : Position) (rows columns : ℕ) : Type 0 where
@@ -96,7 +104,8 @@ pub record BorderColors (p : Position) (b : Border Color) (old new : Config) (q 
   pub crossing : get_intersection_color new q rows columns ≡ option_or (border_crossing p (on_lines p b) q) (get_intersection_color old q rows columns)
 
 abbrev pub ABorderOfColorsIsAnswered : Type 0
-ABorderOfColorsIsAnswered = (p : Position) (b : Border Color) (config : Config) (q : Position) (rows columns : ℕ) → BorderColors p b config (record config { color_overrides = with_border p b config.color_overrides; border_colored = true }) q rows columns
+ABorderOfColorsIsAnswered = (p : Position) (b : Border Color) (config : Config) (q : Position) (rows columns : ℕ)
+    → BorderColors p b config (record config { color_overrides = with_border p b config.color_overrides; border_colored = true }) q rows columns
 
 -- A row line before the last one doesn't depend on the number of rows.
 abbrev pub RowLinesStay : Type 0
@@ -110,11 +119,13 @@ ColumnLinesStay = (config : Config) (p : Position) (rows m n : ℕ) → p.col < 
 
 -- A value set at `Start k` is that of glyph k, if there is one. All other glyphs have what they had.
 abbrev pub AStartIsAnswered : Type 0 → Type 0
-AStartIsAnswered V = (p : Position) (k : ℕ) (v : V) (old : Offsets V) (q : Position) (i w : ℕ) → lookup_offset (with_offset p (Start k) v old) q i w ≡ (if nat_lt i w && (is_at q p.row p.col && (i == k)) then Some v else lookup_offset old q i w)
+AStartIsAnswered V = (p : Position) (k : ℕ) (v : V) (old : Offsets V) (q : Position) (i w : ℕ)
+    → lookup_offset (with_offset p (Start k) v old) q i w ≡ (if nat_lt i w && (is_at q p.row p.col && (i == k)) then Some v else lookup_offset old q i w)
 
 -- A value set at `End k` is that of the glyph with k behind it, unless one was set for it from the start. All other glyphs have what they had.
 abbrev pub AnEndIsAnswered : Type 0 → Type 0
-AnEndIsAnswered V = (p : Position) (k : ℕ) (v : V) (old : Offsets V) (q : Position) (i w : ℕ) → lookup_offset (with_offset p (End k) v old) q i w ≡ (if is_at q p.row p.col && (i + 1 + k == w) then option_or (offset_at q (Start i) old) (Some v) else lookup_offset old q i w)
+AnEndIsAnswered V = (p : Position) (k : ℕ) (v : V) (old : Offsets V) (q : Position) (i w : ℕ)
+    → lookup_offset (with_offset p (End k) v old) q i w ≡ (if is_at q p.row p.col && (i + 1 + k == w) then option_or (offset_at q (Start i) old) (Some v) else lookup_offset old q i w)
 
 -- Its place is one with an offset from then on. All other places are what they were.
 abbrev pub AnOffsetMarksItsPlace : Type 0 → Type 0

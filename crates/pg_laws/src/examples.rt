@@ -72,7 +72,12 @@ pub fn a_text_on_a_separator()
 /// ```
 #[tactic(auto, unfolding(crate::proofs::Computing::sample_words))]
 pub fn a_table_with_spans_and_paddings()
-    ensures { let config : Config = record bordered { spans = with_column_span (at 1 1) 3 (with_row_span (at 0 0) 2 []); alignment_vertical = for_all down.Center; padding = for_cell 0 0 (spaced 4 4 1 1) } in
+    ensures { let config : Config = record bordered {
+      spans = with_column_span (at 1 1) 3
+          (with_row_span (at 0 0) 2 []);
+      alignment_vertical = for_all down.Center;
+      padding = for_cell 0 0 (spaced 4 4 1 1);
+    } in
         let texts : List (List Text) = (codes "Papergrid" ∷ codes "is a library" ∷ codes "for print tables" ∷ codes "!" ∷ []) ∷ ([] ∷ codes "Just like this" ∷ [] ∷ [] ∷ []) ∷ [] in
         picture Known (table config 2 4 (17 ∷ 12 ∷ 16 ∷ 1 ∷ []) (1 ∷ 1 ∷ []) texts)
         ≡ joined (codes "+-----------------+------------+----------------+-+" ∷ codes "|                 |is a library|for print tables|!|" ∷ codes "+    Papergrid    +------------+----------------+-+" ∷ codes "|                 |Just like this                 |" ∷ codes "+-----------------+------------+----------------+-+" ∷ []) }
@@ -95,9 +100,16 @@ pub fn a_table_with_spans_and_paddings()
 /// ```
 #[tactic(auto, unfolding(crate::proofs::Computing::sample_words))]
 pub fn a_rectangle_inside_a_table()
-    ensures { let config : Config = record bordered { spans = with_row_span (at 1 1) 2 (with_column_span (at 1 1) 2 []); alignment_vertical = for_cell 1 1 down.Center; alignment_horizontal = for_cell 1 1 across.Center } in
+    ensures { let config : Config = record bordered {
+      spans = with_row_span (at 1 1) 2
+          (with_column_span (at 1 1) 2 []);
+      alignment_vertical = for_cell 1 1 down.Center;
+      alignment_horizontal = for_cell 1 1 across.Center;
+    } in
         let text : Text = codes "123" ++ 10 ∷ codes "345" ++ 10 ∷ codes "555" ++ 10 ∷ codes "333" in
-        let texts : List (List Text) = (codes "0-0" ∷ codes "0-1" ∷ codes "0-2" ∷ codes "0-3" ∷ []) ∷ (codes "1-0" ∷ text ∷ codes "1-2" ∷ codes "1-3" ∷ []) ∷ (codes "2-0" ∷ codes "2-1" ∷ codes "2-2" ∷ codes "2-3" ∷ []) ∷ (codes "3-0" ∷ codes "3-1" ∷ codes "3-2" ∷ codes "3-3" ∷ []) ∷ [] in
+        let texts : List (List Text) = (codes "0-0" ∷ codes "0-1" ∷ codes "0-2" ∷ codes "0-3" ∷ [])
+        ∷ (codes "1-0" ∷ text ∷ codes "1-2" ∷ codes "1-3" ∷ []) ∷ (codes "2-0" ∷ codes "2-1" ∷ codes "2-2" ∷ codes "2-3" ∷ [])
+        ∷ (codes "3-0" ∷ codes "3-1" ∷ codes "3-2" ∷ codes "3-3" ∷ []) ∷ [] in
         picture Known (table config 4 4 (3 ∷ 3 ∷ 3 ∷ 3 ∷ []) (1 ∷ 2 ∷ 1 ∷ 1 ∷ []) texts)
         ≡ joined (codes "+---+---+---+---+" ∷ codes "|0-0|0-1|0-2|0-3|" ∷ codes "+---+---+---+---+" ∷ codes "|1-0|  123  |1-3|" ∷ codes "|   |  345  |   |" ∷ codes "+---+  555  +---+" ∷ codes "|2-0|  333  |2-3|" ∷ codes "+---+---+---+---+" ∷ codes "|3-0|3-1|3-2|3-3|" ∷ codes "+---+---+---+---+" ∷ []) }
 {}
@@ -147,7 +159,8 @@ pub fn a_column_span_under_whole_separators()
 /// ```
 #[tactic(auto, unfolding(crate::proofs::Computing::sample_words))]
 pub fn a_border_round_one_cell()
-    ensures { let overrides = with_border (at 0 1) (record { top = Some 42; bottom = Some 94; left = Some 64; right = Some 35; top_left = Some 126; top_right = Some 33; bottom_left = Some 37; bottom_right = Some 38 }) no_overrides in
+    ensures { let overrides = with_border (at 0 1)
+        (record { top = Some 42; bottom = Some 94; left = Some 64; right = Some 35; top_left = Some 126; top_right = Some 33; bottom_left = Some 37; bottom_right = Some 38 }) no_overrides in
         picture Known (table (record bordered { overrides = overrides }) 2 2 (3 ∷ 3 ∷ []) (1 ∷ 1 ∷ []) grid22)
         ≡ joined (codes "+---~***!" ∷ codes "|0-0@0-1#" ∷ codes "+---%^^^&" ∷ codes "|1-0|1-1|" ∷ codes "+---+---+" ∷ []) }
 {}
@@ -274,7 +287,13 @@ pub fn a_colour_and_no_glyph_beside_it()
 #[tactic(auto, unfolding(crate::proofs::Computing::sample_words))]
 pub fn an_offset_glyph_in_its_colour()
     ensures { let colors : Borders Color = record no_borders { top = Some color_r; top_left = Some color_r; top_right = Some color_r; top_intersection = Some color_r } in
-        let config : Config = record bordered { border_colors = colors; border_colored = true; horizontal_chars = with_offset (at 0 0) (Start 1) 42 no_offsets; horizontal_colors = with_offset (at 0 0) (Start 1) color_b no_offsets } in
+        let config : Config = record bordered {
+          border_colors = colors;
+          border_colored = true;
+          horizontal_chars = with_offset (at 0 0)
+              (Start 1) 42 no_offsets;
+          horizontal_colors = with_offset (at 0 0) (Start 1) color_b no_offsets;
+        } in
         picture Known (table config 1 1 (3 ∷ []) (1 ∷ []) (one (codes "abc")))
         ≡ joined (codes "<r>+-</r><b>*</b><r>-+</r>" ∷ codes "|abc|" ∷ codes "+---+" ∷ []) }
 {}

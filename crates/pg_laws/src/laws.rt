@@ -1,6 +1,9 @@
 //! Laws of the picture. The functions do nothing: their contracts are the laws.
 
-ghost use Rattle.pg_laws.specs.Laws.{NothingToDraw, NothingCompactToDraw, LinesAreJoined, CompactLinesAreJoined, LinesAreCut, CompactLinesAreCut, LinesAreCounted, BlocksAreDrawn, BlocksFill, PiecesCloseColors, SeparatorsCloseColors, LinesCloseColors, PictureLinesCloseColors, PartsCloseColors, CompactLinesCloseColors, FullCellsIgnoreAlignment, SingleLinesIgnoreAlignment, ColumnsAreStraight, MissingGlyphFillsGaps, MarginsAreStraight, ShownCellsAreDrawn, RectanglesStandTogether, PlainRows, PlainSeparators, BodiesStandAlone, HintsAreIdle, MisfitsAreFirst, FittingTablesHaveNone};
+ghost use Rattle.pg_laws.specs.Laws.{NothingToDraw, NothingCompactToDraw, LinesAreJoined, CompactLinesAreJoined, LinesAreCut, CompactLinesAreCut, LinesAreCounted, BlocksAreDrawn};
+ghost use Rattle.pg_laws.specs.Laws.{BlocksFill, PiecesCloseColors, SeparatorsCloseColors, LinesCloseColors, PictureLinesCloseColors, PartsCloseColors, CompactLinesCloseColors};
+ghost use Rattle.pg_laws.specs.Laws.{FullCellsIgnoreAlignment, SingleLinesIgnoreAlignment, ColumnsAreStraight, MissingGlyphFillsGaps, MarginsAreStraight, ShownCellsAreDrawn};
+ghost use Rattle.pg_laws.specs.Laws.{RectanglesStandTogether, PlainRows, PlainSeparators, BodiesStandAlone, HintsAreIdle, MisfitsAreFirst, FittingTablesHaveNone};
 
 /// A table with no rows or no columns has the empty picture, whatever its settings.
 pub fn no_rows_or_columns_draw_nothing()

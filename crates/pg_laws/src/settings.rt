@@ -1,7 +1,9 @@
 //! Laws of what the getters of a configuration return. The functions do nothing: their contracts
 //! are the laws.
 
-ghost use Rattle.pg_laws.specs.SettingLaws.{TheLatestCounts, ABorderHasItsParts, ABorderOverridesItsPlaces, ABorderIsAnswered, ABorderOfColorsIsAnswered, RowLineHorizontals, RowLineCrossings, RowLineVerticals, RowLinesStay, ColumnLinesStay, AStartIsAnswered, AnEndIsAnswered, AnOffsetMarksItsPlace, AColumnSpanIsAnswered, ARowSpanIsAnswered, WhatWasSetIsTold, NothingWasSetAtFirst};
+ghost use Rattle.pg_laws.specs.SettingLaws.{TheLatestCounts, ABorderHasItsParts, ABorderOverridesItsPlaces, ABorderIsAnswered, ABorderOfColorsIsAnswered, RowLineHorizontals};
+ghost use Rattle.pg_laws.specs.SettingLaws.{RowLineCrossings, RowLineVerticals, RowLinesStay, ColumnLinesStay, AStartIsAnswered, AnEndIsAnswered, AnOffsetMarksItsPlace};
+ghost use Rattle.pg_laws.specs.SettingLaws.{AColumnSpanIsAnswered, ARowSpanIsAnswered, WhatWasSetIsTold, NothingWasSetAtFirst};
 
 /// After a setter, the places that its entity holds have the new value, and all others keep theirs.
 pub fn the_latest_setting_counts<V>()

@@ -100,8 +100,10 @@ where
         buf: &mut String<A>,
         pos: Position,
     ) -> Result<Run<'s, ANSIBuf<B>>, AllocError>
-        ensures appends { Appends buf.old buf.new result (items_after run.entry (crossing_at T.table.config T.table.rows T.table.columns pos ++ border_items T.table.config pos T.table.rows (T.table.width pos.col) (get_horizontal T.table.config pos T.table.rows))) }
-        ensures color { IfOk result (λ after. after ≡ last_color run.entry (crossing_at T.table.config T.table.rows T.table.columns pos ++ border_items T.table.config pos T.table.rows (T.table.width pos.col) (get_horizontal T.table.config pos T.table.rows))) }
+        ensures appends { Appends buf.old buf.new result (items_after run.entry (crossing_at T.table.config T.table.rows T.table.columns pos
+            ++ border_items T.table.config pos T.table.rows (T.table.width pos.col) (get_horizontal T.table.config pos T.table.rows))) }
+        ensures color { IfOk result (λ after. after
+            ≡ last_color run.entry (crossing_at T.table.config T.table.rows T.table.columns pos ++ border_items T.table.config pos T.table.rows (T.table.width pos.col) (get_horizontal T.table.config pos T.table.rows))) }
     {
         let run = self.push_crossing(run, buf, pos)?;
         self.pen().push_border(run, buf, pos, self.rows)

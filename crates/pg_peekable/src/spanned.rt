@@ -130,8 +130,10 @@ where
         span: Span,
     ) -> Result<Run<'s, ANSIBuf<B>>, AllocError>
         requires span { span_above T.table.config.spans separator.now.row column ≡ Some span }
-        ensures appends { Appends buf.old buf.new result (items_after run.entry (crossing_at T.table.config T.table.rows T.table.columns (at separator.now.row column) ++ block (block_at T.table (corner span) (sep separator.now.row)) ∷ [])) }
-        ensures color { IfOk result (λ after. after ≡ last_color run.entry (crossing_at T.table.config T.table.rows T.table.columns (at separator.now.row column) ++ block (block_at T.table (corner span) (sep separator.now.row)) ∷ [])) }
+        ensures appends { Appends buf.old buf.new result (items_after run.entry (crossing_at T.table.config T.table.rows T.table.columns (at separator.now.row column)
+            ++ block (block_at T.table (corner span) (sep separator.now.row)) ∷ [])) }
+        ensures color { IfOk result (λ after. after
+            ≡ last_color run.entry (crossing_at T.table.config T.table.rows T.table.columns (at separator.now.row column) ++ block (block_at T.table (corner span) (sep separator.now.row)) ∷ [])) }
     {
         let pos = Position::new(separator.row, column);
         let run = self.push_crossing(run, buf, pos)?;

@@ -129,7 +129,8 @@ fn show<A: Allocator + Copy, R: Read, W: Write>(
     out: &mut W,
 ) -> Result<(), Fault>
     ensures wrong_arguments { mode_of (map string_bytes words.now) ≡ None → (result ≡ Err Fault.Usage) × Keeps (R.remaining input.old) (R.remaining input.new) }
-    ensures shown { OnOk result (IfSome (R.remaining input.old) (λ script. (text : Text) × (answer_to (map string_bytes words.now) script ≡ Ok text) × Appends (W.contents out.old) (W.contents out.new) text)) }
+    ensures shown { OnOk result (IfSome (R.remaining input.old) (λ script. (text : Text) × (answer_to (map string_bytes words.now) script ≡ Ok text)
+        × Appends (W.contents out.old) (W.contents out.new) text)) }
     ensures refused { (fault : _) → result ≡ Err fault → is_failure fault ≡ false → IfSome (R.remaining input.old) (λ script. answer_to (map string_bytes words.now) script ≡ Err fault) }
     ensures failed_write { result ≡ Err Fault.Write → IfSome (R.remaining input.old) (λ script. IsOk (answer_to (map string_bytes words.now) script)) }
     ensures unwritten { (fault : _) → result ≡ Err fault → fault ≢ Fault.Write → Keeps (W.contents out.old) (W.contents out.new) }
@@ -155,8 +156,10 @@ pub fn run<A: Allocator + Copy, R: Read, W1: Write, W2: Write>(
     err: &mut W2,
 ) -> Ending
     ensures wrong_arguments { mode_of (map string_bytes words.now) ≡ None → (result.fault ≡ Some Fault.Usage) × Keeps (R.remaining input.old) (R.remaining input.new) }
-    ensures answered { tells_failure (status_after result.fault) ≡ false → IfSome (R.remaining input.old) (λ script. status_after result.fault ≡ status_of_answer (answer_to (map string_bytes words.now) script)) }
-    ensures shown { result.fault ≡ None → IfSome (R.remaining input.old) (λ script. (text : Text) × (answer_to (map string_bytes words.now) script ≡ Ok text) × Appends (W1.contents out.old) (W1.contents out.new) text) }
+    ensures answered { tells_failure (status_after result.fault) ≡ false
+        → IfSome (R.remaining input.old) (λ script. status_after result.fault ≡ status_of_answer (answer_to (map string_bytes words.now) script)) }
+    ensures shown { result.fault ≡ None
+        → IfSome (R.remaining input.old) (λ script. (text : Text) × (answer_to (map string_bytes words.now) script ≡ Ok text) × Appends (W1.contents out.old) (W1.contents out.new) text) }
     ensures refused { (fault : _) → result.fault ≡ Some fault → is_failure fault ≡ false → IfSome (R.remaining input.old) (λ script. answer_to (map string_bytes words.now) script ≡ Err fault) }
     ensures failed_write { result.fault ≡ Some Fault.Write → IfSome (R.remaining input.old) (λ script. IsOk (answer_to (map string_bytes words.now) script)) }
     ensures unwritten { (fault : _) → result.fault ≡ Some fault → fault ≢ Fault.Write → Keeps (W1.contents out.old) (W1.contents out.new) }

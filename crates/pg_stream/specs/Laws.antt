@@ -20,11 +20,13 @@ texts_of t = map (λ r. map (λ c. t.text (at r c)) (range_with_len 0 t.columns)
 
 -- All rows of a table whose spans fit it, printed one after another and ended, are its picture.
 abbrev pub RowsMakeThePicture : Type 0
-RowsMakeThePicture = (t : Table) (hint : Option ℕ) → IfSome hint (λ rows. rows ≡ t.rows) → spans_fit t.config.spans t.rows t.columns ≡ true → 0 < t.rows → 0 < t.columns → rows_text (printer t.config t.columns t.width t.height t.color hint) (texts_of t) ≡ picture (hint_of hint) t
+RowsMakeThePicture = (t : Table) (hint : Option ℕ) → IfSome hint (λ rows. rows ≡ t.rows) → spans_fit t.config.spans t.rows t.columns ≡ true
+    → 0 < t.rows → 0 < t.columns → rows_text (printer t.config t.columns t.width t.height t.color hint) (texts_of t) ≡ picture (hint_of hint) t
 
 -- The same where no row is told to be the last; margins that end before the last lines are whole then.
 abbrev pub LiveRowsMakeThePicture : Type 0
-LiveRowsMakeThePicture = (t : Table) → spans_fit t.config.spans t.rows t.columns ≡ true → 0 < t.rows → 0 < t.columns → live_text (printer t.config t.columns t.width t.height t.color None) (texts_of t) ≡ picture Unknown t
+LiveRowsMakeThePicture = (t : Table) → spans_fit t.config.spans t.rows t.columns ≡ true → 0 < t.rows → 0 < t.columns
+    → live_text (printer t.config t.columns t.width t.height t.color None) (texts_of t) ≡ picture Unknown t
 
 -- By the heights of its rows, a printer's lines are those of the rows so far: before its first row, and behind each row. So rows
 -- that bring the heights of a table are printed as those of that table.

@@ -1,5 +1,6 @@
 -- A stream of rows: it holds the latest row until the next one is there, and appends the others.
-use Rattle.std.specs.Prelude.{◌≡◌, ℕ, ◌++◌, true, false, nat_lt, List, [], ◌∷◌, Option, Some, None, option_map, unwrap_or, IfSome, Result, Ok, Err, IsErr, Bool, String, string_bytes, ⊤, ◌⊎◌, if◌then◌else◌}
+use Rattle.std.specs.Prelude.{◌≡◌, ℕ, ◌++◌, true, false, nat_lt, List, [], ◌∷◌, Option, Some, None, option_map, unwrap_or, IfSome, Result, Ok, Err, IsErr, Bool, String}
+use Rattle.std.specs.Prelude.{string_bytes, ⊤, ◌⊎◌, if◌then◌else◌}
 use Rattle.std.specs.Iterator.{Yields, YieldsThen}
 use Rattle.pg_layout.specs.declared.position.Position.{Position}
 use Rattle.pg_layout.specs.Colors.{Color}

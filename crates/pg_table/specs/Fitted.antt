@@ -74,7 +74,9 @@ least_full_width how config texts columns = sum_by (least_width_at how config te
 module _ (how : Overflow) (total : ℕ) (limits : List ℕ) (config : Config) (texts : List (List Text)) (columns : ℕ) where
   -- the texts, fitted to all columns of their cells where a span is kept, and else to their column
   unfoldable pub fitted_texts : List (List Text)
-  fitted_texts = if keeps_spans config texts columns then spanned_texts how (spanned_widths how total limits config texts columns) config texts columns else column_texts how total limits config texts columns
+  fitted_texts = if keeps_spans config texts columns
+      then spanned_texts how (spanned_widths how total limits config texts columns) config texts columns
+      else column_texts how total limits config texts columns
 
   -- the table, at the natural sizes of these texts; where a span is kept its columns are as wide as they were narrowed to
   abbrev pub fitted_table : (Position → Option Color) → PrintedTable

@@ -49,7 +49,8 @@ Prints spanned None old new result text = AppendsOrNothing old new result text �
 unfoldable pub sizes_fault : Config → List (List Text) → ℕ → Option TableFault
 sizes_fault config texts columns =
     if not ((length texts == 0) || (columns == 0)) && not (spans_fit config.spans (length texts) columns) then Some Spans
-    else if not ((all_fit (natural_sizes Columns config texts columns) && all_fit (natural_sizes Rows config texts columns)) && cells_fit config (text_at texts) (length texts) columns) then Some Totals
+    else if not ((all_fit (natural_sizes Columns config texts columns) && all_fit (natural_sizes Rows config texts columns)) && cells_fit config (text_at texts) (length texts) columns)
+    then Some Totals
     else None
 
 -- ---- tables

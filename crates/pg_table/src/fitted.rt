@@ -78,7 +78,8 @@ where
     // The width of a line of a table without spans if each column is as narrow as it can be, or
     // `None` if it exceeds `usize::MAX` or there are too many columns to count.
     fn plain_least_width(&self, how: Overflow) -> Option<usize>
-        ensures { result ≡ (if nat_lt (R.columns self.now.records) (2 ^ 64 - 1) then if_fits (plain_full_width how.entry self.now.config.now (R.texts self.now.records) (R.columns self.now.records)) else None) }
+        ensures { result
+            ≡ (if nat_lt (R.columns self.now.records) (2 ^ 64 - 1) then if_fits (plain_full_width how.entry self.now.config.now (R.texts self.now.records) (R.columns self.now.records)) else None) }
     {
         let columns = self.records.count_columns();
         if columns == usize::MAX {
@@ -104,11 +105,13 @@ where
         how: Overflow,
     ) -> Result<FittedTable<'a, R, C, B, A>, TableFault>
         ensures table { IfOk result (λ fitted. printed_fitted_table R.texts R.columns C.color fitted ≡ fitted_of how.entry width [] R.texts R.columns C.color (natural_parts self.now)) }
-        ensures bound { HasPlainTail how.entry → IfOk result (λ fitted. full_width (printed_fitted_table R.texts R.columns C.color fitted) ≤ max width (least_width_of how.entry R.texts R.columns (natural_parts self.now))) }
+        ensures bound { HasPlainTail how.entry
+            → IfOk result (λ fitted. full_width (printed_fitted_table R.texts R.columns C.color fitted) ≤ max width (least_width_of how.entry R.texts R.columns (natural_parts self.now))) }
         ensures fault { (fault : TableFault) → fit_fault_of R.texts R.columns (natural_parts self.now) ≡ Some fault → result ≡ Err fault }
         ensures memory { (fault : TableFault) → fit_fault_of R.texts R.columns (natural_parts self.now) ≡ None → result ≡ Err fault → fault ≡ TableFault.Memory }
         ensures empty { is_empty (printed_table_of R.texts R.columns C.color (natural_parts self.now)) ≡ true → IsOk result }
-        ensures narrow { fit_fault_of R.texts R.columns (natural_parts self.now) ≡ None → self.now.config.now.spans ≡ [] → IsNarrowOf width [] R.texts R.columns (natural_parts self.now) → IsOk result }
+        ensures narrow { fit_fault_of R.texts R.columns (natural_parts self.now) ≡ None → self.now.config.now.spans ≡ []
+            → IsNarrowOf width [] R.texts R.columns (natural_parts self.now) → IsOk result }
     {
         self.within_limits(alloc, width, &[], how)
     }
@@ -132,12 +135,15 @@ where
         how: Overflow,
     ) -> Result<FittedTable<'a, R, C, B, A>, TableFault>
         ensures table { IfOk result (λ fitted. printed_fitted_table R.texts R.columns C.color fitted ≡ fitted_of how.entry width limits.now R.texts R.columns C.color (natural_parts self.now)) }
-        ensures bound { HasPlainTail how.entry → IfOk result (λ fitted. full_width (printed_fitted_table R.texts R.columns C.color fitted) ≤ max width (least_width_of how.entry R.texts R.columns (natural_parts self.now))) }
-        ensures limits { HasPlainTail how.entry → IfOk result (λ fitted. (k : ℕ) → k < R.columns self.now.records → (printed_fitted_table R.texts R.columns C.color fitted).width k ≤ max (least_at how.entry R.texts R.columns (natural_parts self.now) k) (limit_of limits.now k)) }
+        ensures bound { HasPlainTail how.entry
+            → IfOk result (λ fitted. full_width (printed_fitted_table R.texts R.columns C.color fitted) ≤ max width (least_width_of how.entry R.texts R.columns (natural_parts self.now))) }
+        ensures limits { HasPlainTail how.entry
+            → IfOk result (λ fitted. (k : ℕ) → k < R.columns self.now.records → (printed_fitted_table R.texts R.columns C.color fitted).width k ≤ max (least_at how.entry R.texts R.columns (natural_parts self.now) k) (limit_of limits.now k)) }
         ensures fault { (fault : TableFault) → fit_fault_of R.texts R.columns (natural_parts self.now) ≡ Some fault → result ≡ Err fault }
         ensures memory { (fault : TableFault) → fit_fault_of R.texts R.columns (natural_parts self.now) ≡ None → result ≡ Err fault → fault ≡ TableFault.Memory }
         ensures empty { is_empty (printed_table_of R.texts R.columns C.color (natural_parts self.now)) ≡ true → IsOk result }
-        ensures narrow { fit_fault_of R.texts R.columns (natural_parts self.now) ≡ None → self.now.config.now.spans ≡ [] → IsNarrowOf width limits.now R.texts R.columns (natural_parts self.now) → IsOk result }
+        ensures narrow { fit_fault_of R.texts R.columns (natural_parts self.now) ≡ None → self.now.config.now.spans ≡ []
+            → IsNarrowOf width limits.now R.texts R.columns (natural_parts self.now) → IsOk result }
     {
         let mut records = OverlaidRecords::new(alloc, self.records);
         let within = Within {
@@ -166,9 +172,11 @@ where
         ensures fault { (fault : TableFault) → fit_fault_of R.texts R.columns (natural_parts self.now) ≡ Some fault → result ≡ Err fault }
         ensures memory { (fault : TableFault) → fit_fault_of R.texts R.columns (natural_parts self.now) ≡ None → result ≡ Err fault → fault ≡ TableFault.Memory }
         ensures empty { is_empty (printed_table_of R.texts R.columns C.color (natural_parts self.now)) ≡ true → IsOk result }
-        ensures narrow { fit_fault_of R.texts R.columns (natural_parts self.now) ≡ None → self.now.config.now.spans ≡ [] → IsNarrowOf within.now.total within.now.limits.now R.texts R.columns (natural_parts self.now) → IsOk result }
+        ensures narrow { fit_fault_of R.texts R.columns (natural_parts self.now) ≡ None → self.now.config.now.spans ≡ []
+            → IsNarrowOf within.now.total within.now.limits.now R.texts R.columns (natural_parts self.now) → IsOk result }
         ensures records { records.new.records ≡ records.old.records }
-        ensures fits { IfOk result (λ widths. IsFitted within.now.how within.now.total within.now.limits.now self.now.config.now (R.texts self.now.records) (R.columns self.now.records) widths.items (other_text records.new.others (R.texts self.now.records))) }
+        ensures fits { IfOk result
+            (λ widths. IsFitted within.now.how within.now.total within.now.limits.now self.now.config.now (R.texts self.now.records) (R.columns self.now.records) widths.items (other_text records.new.others (R.texts self.now.records))) }
     {
         if self.keeps_spans() {
             return self.fit_spanned(alloc, within, records);
@@ -193,7 +201,8 @@ where
         ensures narrow { fit_fault_of R.texts R.columns (natural_parts self.now) ≡ None → IsNarrowOf within.now.total within.now.limits.now R.texts R.columns (natural_parts self.now) → IsOk result }
         ensures records { records.new.records ≡ records.old.records }
         ensures plain { OnOk result (HasPlainWidths self.now.config.now (length (R.texts self.now.records)) (R.columns self.now.records)) }
-        ensures fits { OnOk result (AreFittedBelow within.now.how within.now.total within.now.limits.now self.now.config.now (R.texts self.now.records) (R.columns self.now.records) (R.columns self.now.records) (other_text records.new.others (R.texts self.now.records))) }
+        ensures fits { OnOk result
+            (AreFittedBelow within.now.how within.now.total within.now.limits.now self.now.config.now (R.texts self.now.records) (R.columns self.now.records) (R.columns self.now.records) (other_text records.new.others (R.texts self.now.records))) }
     {
         if self.is_empty() {
             return Ok(());
@@ -284,7 +293,9 @@ where
         alloc: D,
         buf: &mut String<W>,
     ) -> Result<(), TableFault>
-        ensures prints { Prints (is_spanned (printed_fitted_table R.texts R.columns C.color self.now)) (fault_of (printed_fitted_table R.texts R.columns C.color self.now)) buf.old buf.new result (picture Known (printed_fitted_table R.texts R.columns C.color self.now)) }
+        ensures prints { Prints (is_spanned (printed_fitted_table R.texts R.columns C.color self.now))
+            (fault_of (printed_fitted_table R.texts R.columns C.color self.now)) buf.old buf.new result
+            (picture Known (printed_fitted_table R.texts R.columns C.color self.now)) }
         ensures printed { OnOk result (string_bytes buf.new ≡ string_bytes buf.old ++ picture Known (printed_fitted_table R.texts R.columns C.color self.now)) }
         ensures empty { is_empty (printed_fitted_table R.texts R.columns C.color self.now) ≡ true → IsOk result × (buf.new ≡ buf.old) }
         ensures straight { IsOk result → IsStraight (printed_fitted_table R.texts R.columns C.color self.now) }

@@ -111,7 +111,8 @@ impl<'a, R: PeekableRecords + ExactRecords, B: Allocator> NaturalSizes<'a, R, B>
         requires same { length widths.old ≡ R.columns self.now.records }
         ensures same { length widths.new ≡ length widths.old }
         ensures height { IfSome result (λ height. height ≡ most (high self.now.config.now (text_at (R.texts self.now.records)) row) (R.columns self.now.records)) }
-        ensures widths { IfSome result (λ height. (k : ℕ) → k < R.columns self.now.records → slice_index widths.new k ≡ max (slice_index widths.old k) (wide self.now.config.now (text_at (R.texts self.now.records)) row k)) }
+        ensures widths { IfSome result (λ height. (k : ℕ) → k < R.columns self.now.records
+            → slice_index widths.new k ≡ max (slice_index widths.old k) (wide self.now.config.now (text_at (R.texts self.now.records)) row k)) }
         ensures huge { result ≡ None → HasHugeIn self.now.config.now (text_at (R.texts self.now.records)) (R.columns self.now.records) row }
     {
         // Shows that the spans are in order.
@@ -140,8 +141,10 @@ impl<'a, R: PeekableRecords + ExactRecords, B: Allocator> NaturalSizes<'a, R, B>
         requires same { length widths.old ≡ R.columns self.now.records }
         requires zeros { (k : ℕ) → slice_index widths.old k ≡ 0 }
         ensures same { length widths.new ≡ length widths.old }
-        ensures heights { IfOk result (λ o. IfSome o (λ v. v.items ≡ map (λ r. most (high self.now.config.now (text_at (R.texts self.now.records)) r) (R.columns self.now.records)) (range_with_len 0 (length (R.texts self.now.records))))) }
-        ensures widths { IfOk result (λ o. IfSome o (λ v. widths.new ≡ map (λ c. most (λ r. wide self.now.config.now (text_at (R.texts self.now.records)) r c) (length (R.texts self.now.records))) (range_with_len 0 (R.columns self.now.records)))) }
+        ensures heights { IfOk result (λ o. IfSome o (λ v. v.items
+            ≡ map (λ r. most (high self.now.config.now (text_at (R.texts self.now.records)) r) (R.columns self.now.records)) (range_with_len 0 (length (R.texts self.now.records))))) }
+        ensures widths { IfOk result (λ o. IfSome o (λ v. widths.new
+            ≡ map (λ c. most (λ r. wide self.now.config.now (text_at (R.texts self.now.records)) r c) (length (R.texts self.now.records))) (range_with_len 0 (R.columns self.now.records)))) }
         ensures huge { IfOk result (λ o. o ≡ None → HasHuge self.now.config.now (text_at (R.texts self.now.records)) (length (R.texts self.now.records)) (R.columns self.now.records)) }
     {
         let mut heights = Vec::with_capacity(alloc, self.records.count_rows())?;
@@ -160,8 +163,10 @@ impl<'a, R: PeekableRecords + ExactRecords, B: Allocator> NaturalSizes<'a, R, B>
         alloc: A,
     ) -> Result<Option<ConstantDimension<A>>, AllocError>
         requires { spans_fit self.now.config.now.spans (length (R.texts self.now.records)) (R.columns self.now.records) ≡ true }
-        ensures widths { IfOk result (λ o. IfSome o (λ d. d.0.items ≡ map (size_of_singles Columns self.now.config.now (text_at (R.texts self.now.records)) (length (R.texts self.now.records))) (range_with_len 0 (R.columns self.now.records)))) }
-        ensures heights { IfOk result (λ o. IfSome o (λ d. d.1.items ≡ map (size_of_singles Rows self.now.config.now (text_at (R.texts self.now.records)) (R.columns self.now.records)) (range_with_len 0 (length (R.texts self.now.records))))) }
+        ensures widths { IfOk result (λ o. IfSome o (λ d. d.0.items
+            ≡ map (size_of_singles Columns self.now.config.now (text_at (R.texts self.now.records)) (length (R.texts self.now.records))) (range_with_len 0 (R.columns self.now.records)))) }
+        ensures heights { IfOk result (λ o. IfSome o (λ d. d.1.items
+            ≡ map (size_of_singles Rows self.now.config.now (text_at (R.texts self.now.records)) (R.columns self.now.records)) (range_with_len 0 (length (R.texts self.now.records))))) }
         ensures huge { IfOk result (λ o. o ≡ None → HasHuge self.now.config.now (text_at (R.texts self.now.records)) (length (R.texts self.now.records)) (R.columns self.now.records)) }
     {
         let mut widths = vec![in alloc; 0; self.records.count_columns()]?;
@@ -209,8 +214,10 @@ impl<'a, R: PeekableRecords + ExactRecords, B: Allocator> NaturalSizes<'a, R, B>
         alloc: A,
     ) -> Result<Option<(Vec<Need, A>, Vec<Need, A>)>, AllocError>
         requires { list_all (span_fits (length (R.texts self.now.records)) (R.columns self.now.records)) self.now.config.now.spans ≡ true }
-        ensures columns { IfOk result (λ o. IfSome o (λ v. v.0.items ≡ map (need_of Columns self.now.config.now (text_at (R.texts self.now.records)) (R.columns self.now.records)) self.now.config.now.spans)) }
-        ensures rows { IfOk result (λ o. IfSome o (λ v. v.1.items ≡ map (need_of Rows self.now.config.now (text_at (R.texts self.now.records)) (length (R.texts self.now.records))) self.now.config.now.spans)) }
+        ensures columns { IfOk result (λ o. IfSome o (λ v. v.0.items
+            ≡ map (need_of Columns self.now.config.now (text_at (R.texts self.now.records)) (R.columns self.now.records)) self.now.config.now.spans)) }
+        ensures rows { IfOk result (λ o. IfSome o (λ v. v.1.items
+            ≡ map (need_of Rows self.now.config.now (text_at (R.texts self.now.records)) (length (R.texts self.now.records))) self.now.config.now.spans)) }
         ensures sized { IfOk result (λ o. is_some o ≡ list_all (λ s. is_sized self.now.config.now (text_at (R.texts self.now.records)) (corner s)) self.now.config.now.spans) }
     {
         let mut across = Vec::new(alloc);
@@ -334,7 +341,8 @@ impl<'a, R: PeekableRecords + ExactRecords, B: Allocator> NaturalSizes<'a, R, B>
     // Whether the width and the height of each shown cell in a row are at most `usize::MAX`.
     fn row_fits(&self, row: usize) -> bool
         requires { row < length (R.texts self.now.records) }
-        ensures { result ≡ list_all (λ c. not (is_visible self.now.config.now.spans (at row c)) || is_sized self.now.config.now (text_at (R.texts self.now.records)) (at row c)) (range_with_len 0 (R.columns self.now.records)) }
+        ensures { result
+            ≡ list_all (λ c. not (is_visible self.now.config.now.spans (at row c)) || is_sized self.now.config.now (text_at (R.texts self.now.records)) (at row c)) (range_with_len 0 (R.columns self.now.records)) }
     {
         for col in 0..self.records.count_columns() {
             if !self.place_fits(Position::new(row, col)) {

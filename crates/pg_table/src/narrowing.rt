@@ -110,7 +110,8 @@ impl<'a, R: PeekableRecords + ExactRecords, B: Allocator> NaturalSizes<'a, R, B>
         requires plain { self.now.config.now.spans ≡ [] }
         requires fit { all_fit (naturals_of R.texts R.columns self.now) ≡ true }
         requires naturals { naturals.now ≡ naturals_of R.texts R.columns self.now }
-        ensures { IfOk result (λ ranges. ranges.items ≡ column_ranges within.now.how within.now.total within.now.limits.now self.now.config.now (R.texts self.now.records) (R.columns self.now.records)) }
+        ensures { IfOk result (λ ranges. ranges.items
+            ≡ column_ranges within.now.how within.now.total within.now.limits.now self.now.config.now (R.texts self.now.records) (R.columns self.now.records)) }
     {
         let mut ranges = Vec::with_capacity(alloc, naturals.len())?;
         for (column, natural) in naturals.iter().enumerate() {
@@ -156,7 +157,8 @@ impl<'a, R: PeekableRecords + ExactRecords, B: Allocator> NaturalSizes<'a, R, B>
         requires own { other_text fitted.old.others (R.texts self.now.records) pos ≡ text_of R.texts R.columns self.now pos }
         ensures records { fitted.new.records ≡ fitted.old.records }
         ensures here { OnOk result (other_text fitted.new.others (R.texts self.now.records) pos ≡ fitted_to how.entry self.now.config.now (text_of R.texts R.columns self.now) width pos) }
-        ensures others { OnOk result ((q : Position) → same by_place pos q ≡ false → other_text fitted.new.others (R.texts self.now.records) q ≡ other_text fitted.old.others (R.texts self.now.records) q) }
+        ensures others { OnOk result ((q : Position) → same by_place pos q ≡ false
+            → other_text fitted.new.others (R.texts self.now.records) q ≡ other_text fitted.old.others (R.texts self.now.records) q) }
         ensures room { OnOk result (HasRoomAt how.entry self.now.config.now (text_of R.texts R.columns self.now) width pos) }
     {
         let padding = self.padding(pos);
@@ -182,7 +184,8 @@ impl<'a, R: PeekableRecords + ExactRecords, B: Allocator> NaturalSizes<'a, R, B>
         requires column { column < R.columns self.now.records }
         requires own { (r : ℕ) → other_text fitted.old.others (R.texts self.now.records) (at r column) ≡ text_of R.texts R.columns self.now (at r column) }
         ensures records { fitted.new.records ≡ fitted.old.records }
-        ensures fits { OnOk result (FitsColumn how.entry self.now.config.now (text_of R.texts R.columns self.now) (rows_of R.texts R.columns self.now) column width (other_text fitted.old.others (R.texts self.now.records)) (other_text fitted.new.others (R.texts self.now.records))) }
+        ensures fits { OnOk result
+            (FitsColumn how.entry self.now.config.now (text_of R.texts R.columns self.now) (rows_of R.texts R.columns self.now) column width (other_text fitted.old.others (R.texts self.now.records)) (other_text fitted.new.others (R.texts self.now.records))) }
     {
         for row in 0..self.count_cells(Axis::Columns) {
             self.fit_cell(alloc, how, width, Position::new(row, column), fitted)?;
@@ -202,7 +205,8 @@ impl<'a, R: PeekableRecords + ExactRecords, B: Allocator> NaturalSizes<'a, R, B>
         requires fit { all_fit (naturals_of R.texts R.columns self.now) ≡ true }
         requires own { fitted.old.others ≡ [] }
         ensures records { fitted.new.records ≡ fitted.old.records }
-        ensures fits { OnOk result (AreFittedBelow within.now.how within.now.total within.now.limits.now self.now.config.now (R.texts self.now.records) (R.columns self.now.records) (R.columns self.now.records) (other_text fitted.new.others (R.texts self.now.records))) }
+        ensures fits { OnOk result
+            (AreFittedBelow within.now.how within.now.total within.now.limits.now self.now.config.now (R.texts self.now.records) (R.columns self.now.records) (R.columns self.now.records) (other_text fitted.new.others (R.texts self.now.records))) }
     {
         let naturals = self.list(alloc, Axis::Columns)?;
         let widths = self.widths(alloc, within, &naturals)?;
@@ -229,10 +233,14 @@ impl<'a, R: PeekableRecords + ExactRecords, B: Allocator> NaturalSizes<'a, R, B>
         requires plain { self.now.config.now.spans ≡ [] }
         requires own { fitted.old.others ≡ [] }
         ensures totals { (nat_lt (R.columns self.now.records) (2 ^ 64 - 1) && all_fit (naturals_of R.texts R.columns self.now)) ≡ false → result ≡ Err TableFault.Totals }
-        ensures memory { (nat_lt (R.columns self.now.records) (2 ^ 64 - 1) && all_fit (naturals_of R.texts R.columns self.now)) ≡ true → (fault : TableFault) → result ≡ Err fault → fault ≡ TableFault.Memory }
-        ensures narrow { (nat_lt (R.columns self.now.records) (2 ^ 64 - 1) && all_fit (naturals_of R.texts R.columns self.now)) ≡ true → IsNarrow within.now.total within.now.limits.now self.now.config.now (R.texts self.now.records) (R.columns self.now.records) → IsOk result }
+        ensures memory { (nat_lt (R.columns self.now.records) (2 ^ 64 - 1) && all_fit (naturals_of R.texts R.columns self.now)) ≡ true
+            → (fault : TableFault) → result ≡ Err fault → fault ≡ TableFault.Memory }
+        ensures narrow { (nat_lt (R.columns self.now.records) (2 ^ 64 - 1) && all_fit (naturals_of R.texts R.columns self.now)) ≡ true
+            → IsNarrow within.now.total within.now.limits.now self.now.config.now (R.texts self.now.records) (R.columns self.now.records)
+            → IsOk result }
         ensures records { fitted.new.records ≡ fitted.old.records }
-        ensures fits { OnOk result (AreFittedBelow within.now.how within.now.total within.now.limits.now self.now.config.now (R.texts self.now.records) (R.columns self.now.records) (R.columns self.now.records) (other_text fitted.new.others (R.texts self.now.records))) }
+        ensures fits { OnOk result
+            (AreFittedBelow within.now.how within.now.total within.now.limits.now self.now.config.now (R.texts self.now.records) (R.columns self.now.records) (R.columns self.now.records) (other_text fitted.new.others (R.texts self.now.records))) }
     {
         if self.count(Axis::Columns) == usize::MAX {
             return Err(TableFault::Totals);

@@ -159,7 +159,9 @@ where
         alloc: A,
         buf: &mut String<W>,
     ) -> Result<(), TableFault>
-        ensures prints { Prints (is_spanned (printed_table_of R.texts R.columns C.color (natural_parts self.now))) (fault_of (printed_table_of R.texts R.columns C.color (natural_parts self.now))) buf.old buf.new result (picture Known (printed_table_of R.texts R.columns C.color (natural_parts self.now))) }
+        ensures prints { Prints (is_spanned (printed_table_of R.texts R.columns C.color (natural_parts self.now)))
+            (fault_of (printed_table_of R.texts R.columns C.color (natural_parts self.now))) buf.old buf.new result
+            (picture Known (printed_table_of R.texts R.columns C.color (natural_parts self.now))) }
         ensures printed { OnOk result (string_bytes buf.new ≡ string_bytes buf.old ++ picture Known (printed_table_of R.texts R.columns C.color (natural_parts self.now))) }
         ensures empty { is_empty (printed_table_of R.texts R.columns C.color (natural_parts self.now)) ≡ true → IsOk result × (buf.new ≡ buf.old) }
         ensures straight { IsOk result → IsStraight (printed_table_of R.texts R.columns C.color (natural_parts self.now)) }

@@ -53,7 +53,8 @@ fn ranges_of<A: Allocator>(
     limits: &[usize],
 ) -> Result<Vec<ColumnRange, A>, AllocError>
     requires { length least.now ≡ length naturals.now }
-    ensures { IfOk result (λ ranges. ranges.items ≡ map (λ k. limited (limit_of limits.now k) (record { least = slice_index least.now k; natural = slice_index naturals.now k })) (range_with_len 0 (length naturals.now))) }
+    ensures { IfOk result (λ ranges. ranges.items
+        ≡ map (λ k. limited (limit_of limits.now k) (record { least = slice_index least.now k; natural = slice_index naturals.now k })) (range_with_len 0 (length naturals.now))) }
 {
     let mut ranges = Vec::with_capacity(alloc, naturals.len())?;
     for (column, natural) in naturals.iter().enumerate() {
@@ -85,7 +86,8 @@ impl<'a, R: PeekableRecords + ExactRecords, B: Allocator> NaturalSizes<'a, R, B>
         requires fit { spans_fit self.now.config.now.spans (length (R.texts self.now.records)) (R.columns self.now.records) ≡ true }
         requires row { pos.row < length (R.texts self.now.records) }
         requires column { pos.col < R.columns self.now.records }
-        ensures width { IfSome result (λ width. width ≡ (if is_single self.now.config.now.spans pos then least_cell_width how.entry self.now.config.now (text_at (R.texts self.now.records)) pos else 0)) }
+        ensures width { IfSome result (λ width. width
+            ≡ (if is_single self.now.config.now.spans pos then least_cell_width how.entry self.now.config.now (text_at (R.texts self.now.records)) pos else 0)) }
         ensures huge { result ≡ None → IsHugeLeast how.entry self.now.config.now (R.texts self.now.records) (R.columns self.now.records) pos }
     {
         if !self.is_single(pos) {
@@ -99,7 +101,8 @@ impl<'a, R: PeekableRecords + ExactRecords, B: Allocator> NaturalSizes<'a, R, B>
     fn least_by_singles(&self, how: Overflow, column: usize) -> Option<usize>
         requires fit { spans_fit self.now.config.now.spans (length (R.texts self.now.records)) (R.columns self.now.records) ≡ true }
         requires column { column < R.columns self.now.records }
-        ensures width { IfSome result (λ width. width ≡ singles_width self.now.config.now (length (R.texts self.now.records)) (R.columns self.now.records) (least_cell_width how.entry self.now.config.now (text_at (R.texts self.now.records))) column) }
+        ensures width { IfSome result (λ width. width
+            ≡ singles_width self.now.config.now (length (R.texts self.now.records)) (R.columns self.now.records) (least_cell_width how.entry self.now.config.now (text_at (R.texts self.now.records))) column) }
         ensures huge { result ≡ None → HasHugeLeast how.entry self.now.config.now (R.texts self.now.records) (R.columns self.now.records) }
     {
         let mut width: usize = 0;
@@ -117,7 +120,8 @@ impl<'a, R: PeekableRecords + ExactRecords, B: Allocator> NaturalSizes<'a, R, B>
         how: Overflow,
     ) -> Result<Option<Vec<usize, A>>, AllocError>
         requires { spans_fit self.now.config.now.spans (length (R.texts self.now.records)) (R.columns self.now.records) ≡ true }
-        ensures widths { IfOk result (λ o. IfSome o (λ v. v.items ≡ map (singles_width self.now.config.now (length (R.texts self.now.records)) (R.columns self.now.records) (least_cell_width how.entry self.now.config.now (text_at (R.texts self.now.records)))) (range_with_len 0 (R.columns self.now.records)))) }
+        ensures widths { IfOk result (λ o. IfSome o (λ v. v.items
+            ≡ map (singles_width self.now.config.now (length (R.texts self.now.records)) (R.columns self.now.records) (least_cell_width how.entry self.now.config.now (text_at (R.texts self.now.records)))) (range_with_len 0 (R.columns self.now.records)))) }
         ensures huge { IfOk result (λ o. o ≡ None → HasHugeLeast how.entry self.now.config.now (R.texts self.now.records) (R.columns self.now.records)) }
     {
         let mut widths = Vec::with_capacity(alloc, self.count(Axis::Columns))?;
@@ -134,7 +138,8 @@ impl<'a, R: PeekableRecords + ExactRecords, B: Allocator> NaturalSizes<'a, R, B>
     // `usize::MAX`.
     fn least_need(&self, how: Overflow, span: Span) -> Option<Need>
         requires { span_fits (length (R.texts self.now.records)) (R.columns self.now.records) span ≡ true }
-        ensures need { IfSome result (λ need. need ≡ room_needed self.now.config.now (length (R.texts self.now.records)) (R.columns self.now.records) (least_cell_width how.entry self.now.config.now (text_at (R.texts self.now.records))) span) }
+        ensures need { IfSome result (λ need. need
+            ≡ room_needed self.now.config.now (length (R.texts self.now.records)) (R.columns self.now.records) (least_cell_width how.entry self.now.config.now (text_at (R.texts self.now.records))) span) }
         ensures sized { is_some result ≡ nat_lt (least_cell_width how.entry self.now.config.now (text_at (R.texts self.now.records)) (corner span)) (2 ^ 64) }
     {
         let (place, size) = span;
@@ -158,8 +163,10 @@ impl<'a, R: PeekableRecords + ExactRecords, B: Allocator> NaturalSizes<'a, R, B>
         how: Overflow,
     ) -> Result<Option<Vec<Need, A>>, AllocError>
         requires { list_all (span_fits (length (R.texts self.now.records)) (R.columns self.now.records)) self.now.config.now.spans ≡ true }
-        ensures needs { IfOk result (λ o. IfSome o (λ v. v.items ≡ map (room_needed self.now.config.now (length (R.texts self.now.records)) (R.columns self.now.records) (least_cell_width how.entry self.now.config.now (text_at (R.texts self.now.records)))) self.now.config.now.spans)) }
-        ensures sized { IfOk result (λ o. is_some o ≡ list_all (λ s. nat_lt (least_cell_width how.entry self.now.config.now (text_at (R.texts self.now.records)) (corner s)) (2 ^ 64)) self.now.config.now.spans) }
+        ensures needs { IfOk result (λ o. IfSome o (λ v. v.items
+            ≡ map (room_needed self.now.config.now (length (R.texts self.now.records)) (R.columns self.now.records) (least_cell_width how.entry self.now.config.now (text_at (R.texts self.now.records)))) self.now.config.now.spans)) }
+        ensures sized { IfOk result (λ o. is_some o
+            ≡ list_all (λ s. nat_lt (least_cell_width how.entry self.now.config.now (text_at (R.texts self.now.records)) (corner s)) (2 ^ 64)) self.now.config.now.spans) }
     {
         let mut needs = Vec::new(alloc);
         for (place, size) in self.config.spans().iter() {
@@ -179,7 +186,8 @@ impl<'a, R: PeekableRecords + ExactRecords, B: Allocator> NaturalSizes<'a, R, B>
         how: Overflow,
     ) -> Result<Option<Vec<usize, A>>, AllocError>
         requires { spans_fit self.now.config.now.spans (length (R.texts self.now.records)) (R.columns self.now.records) ≡ true }
-        ensures widths { IfOk result (λ o. IfSome o (λ v. v.items ≡ map (spanned_least_width how.entry self.now.config.now (R.texts self.now.records) (R.columns self.now.records)) (range_with_len 0 (R.columns self.now.records)))) }
+        ensures widths { IfOk result (λ o. IfSome o (λ v. v.items
+            ≡ map (spanned_least_width how.entry self.now.config.now (R.texts self.now.records) (R.columns self.now.records)) (range_with_len 0 (R.columns self.now.records)))) }
         ensures huge { IfOk result (λ o. o ≡ None → HasHugeLeast how.entry self.now.config.now (R.texts self.now.records) (R.columns self.now.records)) }
     {
         // Shows that the spans are in order.
@@ -203,7 +211,8 @@ impl<'a, R: PeekableRecords + ExactRecords, B: Allocator> NaturalSizes<'a, R, B>
         requires fit { spans_fit self.now.config.now.spans (length (R.texts self.now.records)) (R.columns self.now.records) ≡ true }
         requires sized { cells_fit self.now.config.now (text_at (R.texts self.now.records)) (length (R.texts self.now.records)) (R.columns self.now.records) ≡ true }
         requires naturals { naturals.now ≡ natural_sizes Columns self.now.config.now (R.texts self.now.records) (R.columns self.now.records) }
-        ensures { IfOk result (λ widths. widths.items ≡ spanned_widths within.now.how within.now.total within.now.limits.now self.now.config.now (R.texts self.now.records) (R.columns self.now.records)) }
+        ensures { IfOk result (λ widths. widths.items
+            ≡ spanned_widths within.now.how within.now.total within.now.limits.now self.now.config.now (R.texts self.now.records) (R.columns self.now.records)) }
     {
         if are_within(self.config, within.total, within.limits, naturals) {
             return Vec::from_slice(alloc, naturals);
@@ -246,8 +255,10 @@ impl<'a, R: PeekableRecords + ExactRecords, B: Allocator> NaturalSizes<'a, R, B>
         requires column { pos.col < R.columns self.now.records }
         requires own { other_text fitted.old.others (R.texts self.now.records) pos ≡ text_at (R.texts self.now.records) pos }
         ensures records { fitted.new.records ≡ fitted.old.records }
-        ensures here { OnOk result (other_text fitted.new.others (R.texts self.now.records) pos ≡ spanned_text how.entry widths.now.0.items self.now.config.now (R.texts self.now.records) (R.columns self.now.records) pos) }
-        ensures others { OnOk result ((q : Position) → same by_place pos q ≡ false → other_text fitted.new.others (R.texts self.now.records) q ≡ other_text fitted.old.others (R.texts self.now.records) q) }
+        ensures here { OnOk result (other_text fitted.new.others (R.texts self.now.records) pos
+            ≡ spanned_text how.entry widths.now.0.items self.now.config.now (R.texts self.now.records) (R.columns self.now.records) pos) }
+        ensures others { OnOk result ((q : Position) → same by_place pos q ≡ false
+            → other_text fitted.new.others (R.texts self.now.records) q ≡ other_text fitted.old.others (R.texts self.now.records) q) }
         ensures room { OnOk result (HasRoomTogether how.entry widths.now.0.items self.now.config.now (R.texts self.now.records) (R.columns self.now.records) pos) }
     {
         if !self.config.is_cell_visible(pos) {
@@ -269,9 +280,11 @@ impl<'a, R: PeekableRecords + ExactRecords, B: Allocator> NaturalSizes<'a, R, B>
         requires fit { spans_fit self.now.config.now.spans (length (R.texts self.now.records)) (R.columns self.now.records) ≡ true }
         requires sized { cells_fit self.now.config.now (text_at (R.texts self.now.records)) (length (R.texts self.now.records)) (R.columns self.now.records) ≡ true }
         requires row { row < length (R.texts self.now.records) }
-        requires before { AreFittedTo how widths.now.0.items self.now.config.now (R.texts self.now.records) (R.columns self.now.records) row 0 (other_text fitted.old.others (R.texts self.now.records)) }
+        requires before { AreFittedTo how widths.now.0.items self.now.config.now (R.texts self.now.records) (R.columns self.now.records) row 0
+            (other_text fitted.old.others (R.texts self.now.records)) }
         ensures records { fitted.new.records ≡ fitted.old.records }
-        ensures fits { OnOk result (AreFittedTo how.entry widths.now.0.items self.now.config.now (R.texts self.now.records) (R.columns self.now.records) (row + 1) 0 (other_text fitted.new.others (R.texts self.now.records))) }
+        ensures fits { OnOk result
+            (AreFittedTo how.entry widths.now.0.items self.now.config.now (R.texts self.now.records) (R.columns self.now.records) (row + 1) 0 (other_text fitted.new.others (R.texts self.now.records))) }
     {
         for col in 0..self.count(Axis::Columns) {
             self.fit_shown(alloc, how, widths, Position::new(row, col), fitted)?;
@@ -291,7 +304,8 @@ impl<'a, R: PeekableRecords + ExactRecords, B: Allocator> NaturalSizes<'a, R, B>
         requires sized { cells_fit self.now.config.now (text_at (R.texts self.now.records)) (length (R.texts self.now.records)) (R.columns self.now.records) ≡ true }
         requires own { fitted.old.others ≡ [] }
         ensures records { fitted.new.records ≡ fitted.old.records }
-        ensures fits { OnOk result (AreFittedTo how.entry widths.now.0.items self.now.config.now (R.texts self.now.records) (R.columns self.now.records) (length (R.texts self.now.records)) 0 (other_text fitted.new.others (R.texts self.now.records))) }
+        ensures fits { OnOk result
+            (AreFittedTo how.entry widths.now.0.items self.now.config.now (R.texts self.now.records) (R.columns self.now.records) (length (R.texts self.now.records)) 0 (other_text fitted.new.others (R.texts self.now.records))) }
     {
         for row in 0..self.count(Axis::Rows) {
             self.fit_row(alloc, how, widths, row, fitted)?;

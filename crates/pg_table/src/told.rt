@@ -73,7 +73,8 @@ where
         ensures fault { (fault : TableFault) → fit_fault_of R.texts R.columns (natural_parts self.now) ≡ Some fault → result ≡ Err fault }
         ensures memory { (fault : TableFault) → fit_fault_of R.texts R.columns (natural_parts self.now) ≡ None → result ≡ Err fault → fault ≡ TableFault.Memory }
         ensures records { records.new.records ≡ records.old.records }
-        ensures fits { IfOk result (λ widths. AreFittedTogether within.now.how within.now.total within.now.limits.now self.now.config.now (R.texts self.now.records) (R.columns self.now.records) widths.items (other_text records.new.others (R.texts self.now.records))) }
+        ensures fits { IfOk result
+            (λ widths. AreFittedTogether within.now.how within.now.total within.now.limits.now self.now.config.now (R.texts self.now.records) (R.columns self.now.records) widths.items (other_text records.new.others (R.texts self.now.records))) }
     {
         // Shows that the spans are in order.
         let _spans = self.config.spans();
@@ -170,7 +171,9 @@ where
         buf: &mut String<W>,
     ) -> Result<(), TableFault>
         requires { keeps_spans self.now.table.config.now (R.texts self.now.table.records) (R.columns self.now.table.records) ≡ true }
-        ensures prints { Prints (is_spanned (told_of R.texts R.columns C.color self.now.widths.now (natural_parts self.now.table))) (fault_of (told_of R.texts R.columns C.color self.now.widths.now (natural_parts self.now.table))) buf.old buf.new result (picture Known (told_of R.texts R.columns C.color self.now.widths.now (natural_parts self.now.table))) }
+        ensures prints { Prints (is_spanned (told_of R.texts R.columns C.color self.now.widths.now (natural_parts self.now.table)))
+            (fault_of (told_of R.texts R.columns C.color self.now.widths.now (natural_parts self.now.table))) buf.old buf.new result
+            (picture Known (told_of R.texts R.columns C.color self.now.widths.now (natural_parts self.now.table))) }
         ensures printed { OnOk result (string_bytes buf.new ≡ string_bytes buf.old ++ picture Known (told_of R.texts R.columns C.color self.now.widths.now (natural_parts self.now.table))) }
         ensures straight { IsOk result → IsStraight (told_of R.texts R.columns C.color self.now.widths.now (natural_parts self.now.table)) }
         ensures even { IsOk result → IsEven (told_of R.texts R.columns C.color self.now.widths.now (natural_parts self.now.table)) }

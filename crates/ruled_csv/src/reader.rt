@@ -134,7 +134,8 @@ impl RowReader {
     fn scan(&mut self, byte: u8, rows: &mut Vec<StringRecord>) -> Result<(), RowsFault>
         ensures front { self.new.front ≡ self.old.front }
         ensures read { (dialect : Dialect) (scan : Scan) → Holds dialect scan self.old → OnOk result (Holds dialect (scan_after dialect scan byte) self.new) }
-        ensures rows { (dialect : Dialect) (scan : Scan) → Holds dialect scan self.old → OnOk result (map fields_of rows.new.items ≡ with_row (map fields_of rows.old.items) (row_ended dialect scan.hand byte)) }
+        ensures rows { (dialect : Dialect) (scan : Scan) → Holds dialect scan self.old
+            → OnOk result (map fields_of rows.new.items ≡ with_row (map fields_of rows.old.items) (row_ended dialect scan.hand byte)) }
         ensures kept { OnErr result (rows.new.items ≡ rows.old.items) }
         ensures fault { (dialect : Dialect) (scan : Scan) → Holds dialect scan self.old → Foretells (scan_after dialect scan byte).fault result }
     {
@@ -147,7 +148,8 @@ impl RowReader {
     // Reads a byte.
     fn read_byte(&mut self, byte: u8, rows: &mut Vec<StringRecord>) -> Result<(), RowsFault>
         ensures read { (dialect : Dialect) (before : List ℕ) → HasRead dialect before self.old → OnOk result (HasRead dialect (before ++ byte ∷ []) self.new) }
-        ensures rows { (dialect : Dialect) (before : List ℕ) → HasRead dialect before self.old → OnOk result (AppendsRest (ended_rows dialect before) (ended_rows dialect (before ++ byte ∷ [])) (map fields_of rows.old.items) (map fields_of rows.new.items)) }
+        ensures rows { (dialect : Dialect) (before : List ℕ) → HasRead dialect before self.old
+            → OnOk result (AppendsRest (ended_rows dialect before) (ended_rows dialect (before ++ byte ∷ [])) (map fields_of rows.old.items) (map fields_of rows.new.items)) }
         ensures fault { (dialect : Dialect) (before behind : List ℕ) → HasRead dialect before self.old → Foretells (rows_fault dialect ((before ++ byte ∷ []) ++ behind)) result }
         ensures sound { (dialect : Dialect) (before behind : List ℕ) → HasRead dialect before self.old → OnFault result
             (sound_rows dialect ((before ++ byte ∷ []) ++ behind) ≡ ended_rows dialect before) }
@@ -167,7 +169,8 @@ impl RowReader {
     fn read_run(&mut self, bytes: &[u8]) -> Result<usize, AllocError>
         ensures within { IfOk result (λ count. count ≤ length bytes.now) }
         ensures read { (dialect : Dialect) (before : List ℕ) → HasRead dialect before self.old → IfOk result (λ count. HasRead dialect (before ++ take count bytes.now) self.new) }
-        ensures rows { (dialect : Dialect) (before : List ℕ) → HasRead dialect before self.old → IfOk result (λ count. ended_rows dialect (before ++ take count bytes.now) ≡ ended_rows dialect before) }
+        ensures rows { (dialect : Dialect) (before : List ℕ) → HasRead dialect before self.old
+            → IfOk result (λ count. ended_rows dialect (before ++ take count bytes.now) ≡ ended_rows dialect before) }
     {
         match self.front {
             Front::Text => self.scanner.read_run(bytes),
@@ -179,7 +182,8 @@ impl RowReader {
     /// the first bad row.
     pub fn read(self, bytes: &[u8], rows: &mut Vec<StringRecord>) -> Result<RowReader, RowsFault>
         ensures read { (dialect : Dialect) (before : List ℕ) → HasRead dialect before self → IfOk result (λ reader. HasRead dialect (before ++ bytes.now) reader) }
-        ensures rows { (dialect : Dialect) (before : List ℕ) → HasRead dialect before self → OnOk result (AppendsRest (ended_rows dialect before) (ended_rows dialect (before ++ bytes.now)) (map fields_of rows.old.items) (map fields_of rows.new.items)) }
+        ensures rows { (dialect : Dialect) (before : List ℕ) → HasRead dialect before self
+            → OnOk result (AppendsRest (ended_rows dialect before) (ended_rows dialect (before ++ bytes.now)) (map fields_of rows.old.items) (map fields_of rows.new.items)) }
         ensures fault { (dialect : Dialect) (before behind : List ℕ) → HasRead dialect before self → Foretells (rows_fault dialect ((before ++ bytes.now) ++ behind)) result }
         ensures sound { (dialect : Dialect) (before behind : List ℕ) → HasRead dialect before self → OnFault result
             (AppendsRest (ended_rows dialect before) (sound_rows dialect ((before ++ bytes.now) ++ behind))
@@ -202,7 +206,8 @@ impl RowReader {
     /// Ends the reading when no byte is left, and appends the row that ends with the input, unless
     /// it is bad.
     pub fn finish(self, rows: &mut Vec<StringRecord>) -> Result<(), RowsFault>
-        ensures rows { (dialect : Dialect) (bytes : List ℕ) → HasRead dialect bytes self → OnOk result (AppendsRest (ended_rows dialect bytes) (rows_of dialect bytes) (map fields_of rows.old.items) (map fields_of rows.new.items)) }
+        ensures rows { (dialect : Dialect) (bytes : List ℕ) → HasRead dialect bytes self
+            → OnOk result (AppendsRest (ended_rows dialect bytes) (rows_of dialect bytes) (map fields_of rows.old.items) (map fields_of rows.new.items)) }
         ensures fault { (dialect : Dialect) (bytes : List ℕ) → HasRead dialect bytes self → Tells (rows_fault dialect bytes) result }
         ensures sound { (dialect : Dialect) (bytes : List ℕ) → HasRead dialect bytes self → OnFault result
             (AppendsRest (ended_rows dialect bytes) (sound_rows dialect bytes)

@@ -81,10 +81,13 @@ impl LineReader {
         rows: &mut Vec<StringRecord>,
     ) -> Result<(), JsonFault>
         ensures kept { (self.new.line ≡ self.old.line) × (self.new.is_front ≡ false) }
-        ensures read { (records : ℕ) (above : List (List ℕ)) → HasLines records above self.old.table → OnOk result (HasLines records (above ++ without_front self.old.is_front line.now ∷ []) self.new.table) }
-        ensures rows { (records : ℕ) (above : List (List ℕ)) → HasLines records above self.old.table → OnOk result (AppendsRest (ended_table records (records_on above)) (ended_table records (records_on (above ++ without_front self.old.is_front line.now ∷ []))) (map fields_of rows.old.items) (map fields_of rows.new.items)) }
+        ensures read { (records : ℕ) (above : List (List ℕ)) → HasLines records above self.old.table
+            → OnOk result (HasLines records (above ++ without_front self.old.is_front line.now ∷ []) self.new.table) }
+        ensures rows { (records : ℕ) (above : List (List ℕ)) → HasLines records above self.old.table
+            → OnOk result (AppendsRest (ended_table records (records_on above)) (ended_table records (records_on (above ++ without_front self.old.is_front line.now ∷ []))) (map fields_of rows.old.items) (map fields_of rows.new.items)) }
         ensures fault { (records : ℕ) (above : List (List ℕ)) → HasLines records above self.old.table → Tells (fault_behind records above (without_front self.old.is_front line.now)) result }
-        ensures sound { (records : ℕ) (above : List (List ℕ)) → HasLines records above self.old.table → OnFault result (AppendsRest (ended_table records (records_on above)) (streamed_table records (records_on above)) (map fields_of rows.old.items) (map fields_of rows.new.items)) }
+        ensures sound { (records : ℕ) (above : List (List ℕ)) → HasLines records above self.old.table
+            → OnFault result (AppendsRest (ended_table records (records_on above)) (streamed_table records (records_on above)) (map fields_of rows.old.items) (map fields_of rows.new.items)) }
     {
         let text = line_text(self.is_front, line);
         self.is_front = false;
@@ -100,9 +103,11 @@ impl LineReader {
     ) -> Result<(), JsonFault>
         requires within { NoFeed bytes.now }
         ensures read { (records : ℕ) (before : List ℕ) → HasRead records before self.old → OnOk result (HasRead records (before ++ (bytes.now ++ 10 ∷ [])) self.new) }
-        ensures rows { (records : ℕ) (before : List ℕ) → HasRead records before self.old → OnOk result (AppendsRest (ended_line_rows records before) (ended_line_rows records (before ++ (bytes.now ++ 10 ∷ []))) (map fields_of rows.old.items) (map fields_of rows.new.items)) }
+        ensures rows { (records : ℕ) (before : List ℕ) → HasRead records before self.old
+            → OnOk result (AppendsRest (ended_line_rows records before) (ended_line_rows records (before ++ (bytes.now ++ 10 ∷ []))) (map fields_of rows.old.items) (map fields_of rows.new.items)) }
         ensures fault { (records : ℕ) (before behind : List ℕ) → HasRead records before self.old → Foretells (streamed_line_fault records (before ++ (bytes.now ++ 10 ∷ behind))) result }
-        ensures sound { (records : ℕ) (before behind : List ℕ) → HasRead records before self.old → OnFault result (AppendsRest (ended_line_rows records before) (sound_line_rows records (before ++ (bytes.now ++ 10 ∷ behind))) (map fields_of rows.old.items) (map fields_of rows.new.items)) }
+        ensures sound { (records : ℕ) (before behind : List ℕ) → HasRead records before self.old
+            → OnFault result (AppendsRest (ended_line_rows records before) (sound_line_rows records (before ++ (bytes.now ++ 10 ∷ behind))) (map fields_of rows.old.items) (map fields_of rows.new.items)) }
     {
         let mut line = mem::replace(&mut self.line, Vec::new(self.alloc));
         if line.is_empty() {
@@ -115,9 +120,11 @@ impl LineReader {
     /// Reads the next bytes, and appends the rows that are complete with them.
     pub fn read(self, bytes: &[u8], rows: &mut Vec<StringRecord>) -> Result<LineReader, JsonFault>
         ensures read { (records : ℕ) (before : List ℕ) → HasRead records before self → IfOk result (λ reader. HasRead records (before ++ bytes.now) reader) }
-        ensures rows { (records : ℕ) (before : List ℕ) → HasRead records before self → OnOk result (AppendsRest (ended_line_rows records before) (ended_line_rows records (before ++ bytes.now)) (map fields_of rows.old.items) (map fields_of rows.new.items)) }
+        ensures rows { (records : ℕ) (before : List ℕ) → HasRead records before self
+            → OnOk result (AppendsRest (ended_line_rows records before) (ended_line_rows records (before ++ bytes.now)) (map fields_of rows.old.items) (map fields_of rows.new.items)) }
         ensures fault { (records : ℕ) (before behind : List ℕ) → HasRead records before self → Foretells (streamed_line_fault records ((before ++ bytes.now) ++ behind)) result }
-        ensures sound { (records : ℕ) (before behind : List ℕ) → HasRead records before self → OnFault result (AppendsRest (ended_line_rows records before) (sound_line_rows records ((before ++ bytes.now) ++ behind)) (map fields_of rows.old.items) (map fields_of rows.new.items)) }
+        ensures sound { (records : ℕ) (before behind : List ℕ) → HasRead records before self
+            → OnFault result (AppendsRest (ended_line_rows records before) (sound_line_rows records ((before ++ bytes.now) ++ behind)) (map fields_of rows.old.items) (map fields_of rows.new.items)) }
     {
         let mut reader = self;
         let mut scratch = Scratch::new(reader.alloc);
@@ -132,9 +139,11 @@ impl LineReader {
 
     /// Ends the reading when no byte is left, and appends the remaining rows.
     pub fn finish(self, rows: &mut Vec<StringRecord>) -> Result<(), JsonFault>
-        ensures rows { (records : ℕ) (bytes : List ℕ) → HasRead records bytes self → OnOk result (AppendsRest (ended_line_rows records bytes) (sound_line_rows records bytes) (map fields_of rows.old.items) (map fields_of rows.new.items)) }
+        ensures rows { (records : ℕ) (bytes : List ℕ) → HasRead records bytes self
+            → OnOk result (AppendsRest (ended_line_rows records bytes) (sound_line_rows records bytes) (map fields_of rows.old.items) (map fields_of rows.new.items)) }
         ensures fault { (records : ℕ) (bytes : List ℕ) → HasRead records bytes self → Tells (streamed_line_fault records bytes) result }
-        ensures sound { (records : ℕ) (bytes : List ℕ) → HasRead records bytes self → OnFault result (AppendsRest (ended_line_rows records bytes) (sound_line_rows records bytes) (map fields_of rows.old.items) (map fields_of rows.new.items)) }
+        ensures sound { (records : ℕ) (bytes : List ℕ) → HasRead records bytes self
+            → OnFault result (AppendsRest (ended_line_rows records bytes) (sound_line_rows records bytes) (map fields_of rows.old.items) (map fields_of rows.new.items)) }
     {
         let mut reader = self;
         let mut scratch = Scratch::new(reader.alloc);

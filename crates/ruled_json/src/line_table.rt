@@ -53,7 +53,9 @@ impl LineTable {
     // Appends the header and the held rows.
     fn push_held(&mut self, rows: &mut Vec<StringRecord>) -> Result<(), AllocError>
         ensures kept { (self.new.names ≡ self.old.names) × (self.new.left ≡ self.old.left) × (self.new.number ≡ self.old.number) }
-        ensures rows { (records : List Json) → map (padded (length (columns_in self.old))) (map fields_of self.old.held.items) ≡ map (row_of (columns_in self.old)) records → OnOk result (map fields_of rows.new.items ≡ map fields_of rows.old.items ++ table_in (columns_in self.old) records) }
+        ensures rows { (records : List Json)
+            → map (padded (length (columns_in self.old))) (map fields_of self.old.held.items) ≡ map (row_of (columns_in self.old)) records
+            → OnOk result (map fields_of rows.new.items ≡ map fields_of rows.old.items ++ table_in (columns_in self.old) records) }
     {
         if self.names.is_empty() {
             return Ok(());
@@ -90,7 +92,8 @@ impl LineTable {
     ) -> Result<(), JsonFault>
         requires numbers { HasNumbers (value_view value.now) }
         ensures fault { Tells (if has_all (columns_in self.now) (value_view value.now) then None else Some (NoColumn (Line number))) result }
-        ensures rows { (above : List Json) → OnOk result (AppendsRest (table_in (columns_in self.now) above) (table_in (columns_in self.now) (above ++ value_view value.now ∷ [])) (map fields_of rows.old.items) (map fields_of rows.new.items)) }
+        ensures rows { (above : List Json)
+            → OnOk result (AppendsRest (table_in (columns_in self.now) above) (table_in (columns_in self.now) (above ++ value_view value.now ∷ [])) (map fields_of rows.old.items) (map fields_of rows.new.items)) }
         ensures sound { OnFault result (map fields_of rows.new.items ≡ map fields_of rows.old.items) }
     {
         if !self.names.has_all(value) {
@@ -113,9 +116,11 @@ impl LineTable {
         requires numbers { HasNumbers (value_view value.now) }
         ensures number { self.new.number ≡ self.old.number }
         ensures read { (records : ℕ) (above : List Json) → HasRecords records above self.old → OnOk result (HasRecords records (above ++ value_view value.now ∷ []) self.new) }
-        ensures rows { (records : ℕ) (above : List Json) → HasRecords records above self.old → OnOk result (AppendsRest (ended_table records above) (ended_table records (above ++ value_view value.now ∷ [])) (map fields_of rows.old.items) (map fields_of rows.new.items)) }
+        ensures rows { (records : ℕ) (above : List Json) → HasRecords records above self.old
+            → OnOk result (AppendsRest (ended_table records above) (ended_table records (above ++ value_view value.now ∷ [])) (map fields_of rows.old.items) (map fields_of rows.new.items)) }
         ensures fault { (records : ℕ) (above : List Json) → HasRecords records above self.old → Tells (late_fault records above number (value_view value.now)) result }
-        ensures sound { (records : ℕ) (above : List Json) → HasRecords records above self.old → OnFault result (AppendsRest (ended_table records above) (streamed_table records above) (map fields_of rows.old.items) (map fields_of rows.new.items)) }
+        ensures sound { (records : ℕ) (above : List Json) → HasRecords records above self.old
+            → OnFault result (AppendsRest (ended_table records above) (streamed_table records above) (map fields_of rows.old.items) (map fields_of rows.new.items)) }
     {
         if self.left == 0 {
             return self.push_late(number, value, rows);
@@ -137,9 +142,11 @@ impl LineTable {
         rows: &mut Vec<StringRecord>,
     ) -> Result<(), JsonFault>
         ensures read { (records : ℕ) (above : List (List ℕ)) → HasLines records above self.old → OnOk result (HasLines records (above ++ line.now ∷ []) self.new) }
-        ensures rows { (records : ℕ) (above : List (List ℕ)) → HasLines records above self.old → OnOk result (AppendsRest (ended_table records (records_on above)) (ended_table records (records_on (above ++ line.now ∷ []))) (map fields_of rows.old.items) (map fields_of rows.new.items)) }
+        ensures rows { (records : ℕ) (above : List (List ℕ)) → HasLines records above self.old
+            → OnOk result (AppendsRest (ended_table records (records_on above)) (ended_table records (records_on (above ++ line.now ∷ []))) (map fields_of rows.old.items) (map fields_of rows.new.items)) }
         ensures fault { (records : ℕ) (above : List (List ℕ)) → HasLines records above self.old → Tells (fault_behind records above line.now) result }
-        ensures sound { (records : ℕ) (above : List (List ℕ)) → HasLines records above self.old → OnFault result (AppendsRest (ended_table records (records_on above)) (streamed_table records (records_on above)) (map fields_of rows.old.items) (map fields_of rows.new.items)) }
+        ensures sound { (records : ℕ) (above : List (List ℕ)) → HasLines records above self.old
+            → OnFault result (AppendsRest (ended_table records (records_on above)) (streamed_table records (records_on above)) (map fields_of rows.old.items) (map fields_of rows.new.items)) }
     {
         let number = self.number;
         self.number = line_after(number, line);
@@ -155,7 +162,8 @@ impl LineTable {
 
     /// Appends the held rows when no line is left.
     pub(crate) fn finish(&mut self, rows: &mut Vec<StringRecord>) -> Result<(), AllocError>
-        ensures rest { (records : ℕ) (above : List Json) → HasRecords records above self.old → OnOk result (AppendsRest (ended_table records above) (streamed_table records above) (map fields_of rows.old.items) (map fields_of rows.new.items)) }
+        ensures rest { (records : ℕ) (above : List Json) → HasRecords records above self.old
+            → OnOk result (AppendsRest (ended_table records above) (streamed_table records above) (map fields_of rows.old.items) (map fields_of rows.new.items)) }
     {
         if self.left == 0 {
             return Ok(());

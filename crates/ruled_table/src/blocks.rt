@@ -116,7 +116,8 @@ impl<'a> Blocks<'a> {
 
     /// The block of a record, and an empty line.
     pub fn block(&self, fields: &StringRecord) -> Result<String, ViewFault>
-        ensures text { (options : Options) (rows : List (List Text)) → HasNames options rows self.now → IfOk result (λ text. string_bytes text ≡ spec.record_block options rows (fields_of fields.now)) }
+        ensures text { (options : Options) (rows : List (List Text)) → HasNames options rows self.now
+            → IfOk result (λ text. string_bytes text ≡ spec.record_block options rows (fields_of fields.now)) }
         ensures fault { (options : Options) (rows : List (List Text)) → HasNames options rows self.now → Tells (spec.record_fault options rows (fields_of fields.now)) result }
     {
         let Options { bounds, look, .. } = self.options;

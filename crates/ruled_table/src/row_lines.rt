@@ -59,9 +59,13 @@ fn print_lent(
     cells: &[CowStr<'_>],
     lines: &mut String,
 ) -> Result<(), ViewFault>
-    ensures lines { (heights : ℕ → ℕ) → IsNextHeight (state_of heights sheet.old).printed 1 → OnOk result (string_bytes lines.new ≡ string_bytes lines.old ++ row_text (state_of heights sheet.old).printed (map cow_str_bytes cells.now) false) }
-    ensures after { (heights : ℕ → ℕ) → IsNextHeight (state_of heights sheet.old).printed 1 → OnOk result (state_of heights sheet.new ≡ record { printed = after_row (state_of heights sheet.old).printed (map cow_str_bytes cells.now) false; is_lost = false }) }
-    ensures room { (heights : ℕ → ℕ) → IsNextHeight (state_of heights sheet.old).printed 1 → (state_of heights sheet.old).is_lost ≡ false → (state_of heights sheet.old).printed.table.config.spans ≡ [] → TellsRoom (¬ (RowFits (state_of heights sheet.old).printed (map cow_str_bytes cells.now) false)) result }
+    ensures lines { (heights : ℕ → ℕ) → IsNextHeight (state_of heights sheet.old).printed 1
+        → OnOk result (string_bytes lines.new ≡ string_bytes lines.old ++ row_text (state_of heights sheet.old).printed (map cow_str_bytes cells.now) false) }
+    ensures after { (heights : ℕ → ℕ) → IsNextHeight (state_of heights sheet.old).printed 1
+        → OnOk result (state_of heights sheet.new ≡ record { printed = after_row (state_of heights sheet.old).printed (map cow_str_bytes cells.now) false; is_lost = false }) }
+    ensures room { (heights : ℕ → ℕ) → IsNextHeight (state_of heights sheet.old).printed 1 → (state_of heights sheet.old).is_lost ≡ false
+        → (state_of heights sheet.old).printed.table.config.spans ≡ []
+        → TellsRoom (¬ (RowFits (state_of heights sheet.old).printed (map cow_str_bytes cells.now) false)) result }
 {
     sheet.push_lent(cells, lines)?;
     Ok(())
@@ -74,9 +78,12 @@ fn print_owned(
     cells: Vec<String>,
     lines: &mut String,
 ) -> Result<(), ViewFault>
-    ensures lines { (heights : ℕ → ℕ) → IsNextHeight (state_of heights sheet.old).printed height → OnOk result (string_bytes lines.new ≡ string_bytes lines.old ++ row_text (state_of heights sheet.old).printed (map string_bytes cells.items) false) }
-    ensures after { (heights : ℕ → ℕ) → IsNextHeight (state_of heights sheet.old).printed height → OnOk result (state_of heights sheet.new ≡ record { printed = after_row (state_of heights sheet.old).printed (map string_bytes cells.items) false; is_lost = false }) }
-    ensures room { (heights : ℕ → ℕ) → IsNextHeight (state_of heights sheet.old).printed height → (state_of heights sheet.old).is_lost ≡ false → TellsRoom (¬ (RowFits (state_of heights sheet.old).printed (map string_bytes cells.items) false)) result }
+    ensures lines { (heights : ℕ → ℕ) → IsNextHeight (state_of heights sheet.old).printed height
+        → OnOk result (string_bytes lines.new ≡ string_bytes lines.old ++ row_text (state_of heights sheet.old).printed (map string_bytes cells.items) false) }
+    ensures after { (heights : ℕ → ℕ) → IsNextHeight (state_of heights sheet.old).printed height
+        → OnOk result (state_of heights sheet.new ≡ record { printed = after_row (state_of heights sheet.old).printed (map string_bytes cells.items) false; is_lost = false }) }
+    ensures room { (heights : ℕ → ℕ) → IsNextHeight (state_of heights sheet.old).printed height → (state_of heights sheet.old).is_lost ≡ false
+        → TellsRoom (¬ (RowFits (state_of heights sheet.old).printed (map string_bytes cells.items) false)) result }
 {
     sheet.push(height, cells, lines)?;
     Ok(())
@@ -89,9 +96,13 @@ fn print_row(
     cells: Vec<CowStr<'_>>,
     lines: &mut String,
 ) -> Result<(), ViewFault>
-    ensures lines { (heights : ℕ → ℕ) → IsNextHeight (state_of heights sheet.old).printed (row_height (map cow_str_bytes cells.entry.items)) → OnOk result (string_bytes lines.new ≡ row_text (state_of heights sheet.old).printed (map cow_str_bytes cells.entry.items) false) }
-    ensures after { (heights : ℕ → ℕ) → IsNextHeight (state_of heights sheet.old).printed (row_height (map cow_str_bytes cells.entry.items)) → OnOk result (state_of heights sheet.new ≡ record { printed = after_row (state_of heights sheet.old).printed (map cow_str_bytes cells.entry.items) false; is_lost = false }) }
-    ensures room { (heights : ℕ → ℕ) → IsNextHeight (state_of heights sheet.old).printed (row_height (map cow_str_bytes cells.entry.items)) → (state_of heights sheet.old).is_lost ≡ false → (state_of heights sheet.old).printed.table.config.spans ≡ [] → TellsRoom (¬ (RowFits (state_of heights sheet.old).printed (map cow_str_bytes cells.entry.items) false)) result }
+    ensures lines { (heights : ℕ → ℕ) → IsNextHeight (state_of heights sheet.old).printed (row_height (map cow_str_bytes cells.entry.items))
+        → OnOk result (string_bytes lines.new ≡ row_text (state_of heights sheet.old).printed (map cow_str_bytes cells.entry.items) false) }
+    ensures after { (heights : ℕ → ℕ) → IsNextHeight (state_of heights sheet.old).printed (row_height (map cow_str_bytes cells.entry.items))
+        → OnOk result (state_of heights sheet.new ≡ record { printed = after_row (state_of heights sheet.old).printed (map cow_str_bytes cells.entry.items) false; is_lost = false }) }
+    ensures room { (heights : ℕ → ℕ) → IsNextHeight (state_of heights sheet.old).printed (row_height (map cow_str_bytes cells.entry.items))
+        → (state_of heights sheet.old).is_lost ≡ false → (state_of heights sheet.old).printed.table.config.spans ≡ []
+        → TellsRoom (¬ (RowFits (state_of heights sheet.old).printed (map cow_str_bytes cells.entry.items) false)) result }
 {
     lines.clear();
     let height = row_height(&cells);
@@ -104,8 +115,10 @@ fn print_row(
 
 // Prints the end into a buffer of its own.
 fn print_end(sheet: Sheet<'_>, lines: &mut String) -> Result<(), ViewFault>
-    ensures lines { (heights : ℕ → ℕ) → CountsLines (state_of heights sheet.entry).printed → (state_of heights sheet.entry).is_lost ≡ false → MayEnd (state_of heights sheet.entry).printed → OnOk result (string_bytes lines.new ≡ finish_text (state_of heights sheet.entry).printed) }
-    ensures fault { (heights : ℕ → ℕ) → CountsLines (state_of heights sheet.entry).printed → (state_of heights sheet.entry).is_lost ≡ false → MayEnd (state_of heights sheet.entry).printed → (fault : ViewFault) → result ≡ Err fault → fault ≡ Memory }
+    ensures lines { (heights : ℕ → ℕ) → CountsLines (state_of heights sheet.entry).printed → (state_of heights sheet.entry).is_lost ≡ false
+        → MayEnd (state_of heights sheet.entry).printed → OnOk result (string_bytes lines.new ≡ finish_text (state_of heights sheet.entry).printed) }
+    ensures fault { (heights : ℕ → ℕ) → CountsLines (state_of heights sheet.entry).printed → (state_of heights sheet.entry).is_lost ≡ false
+        → MayEnd (state_of heights sheet.entry).printed → (fault : ViewFault) → result ≡ Err fault → fault ≡ Memory }
 {
     lines.clear();
     sheet.finish(lines)?;
@@ -160,7 +173,8 @@ impl<'a> RowLines<'a> {
 
     /// Appends the lines of a row of these cells, each with a line feed after it.
     pub(crate) fn push(&mut self, cells: Vec<CowStr<'_>>, buf: &mut String) -> Result<(), ViewFault>
-        ensures lines { (plan : Plan) (above : List (List Text)) → HasDrawn plan above self.old → OnOk result (GrowsTo (begun_of plan above) (begun_of plan (above ++ map cow_str_bytes cells.entry.items ∷ [])) (string_bytes buf.old) (string_bytes buf.new)) }
+        ensures lines { (plan : Plan) (above : List (List Text)) → HasDrawn plan above self.old
+            → OnOk result (GrowsTo (begun_of plan above) (begun_of plan (above ++ map cow_str_bytes cells.entry.items ∷ [])) (string_bytes buf.old) (string_bytes buf.new)) }
         ensures after { (plan : Plan) (above : List (List Text)) → HasDrawn plan above self.old → OnOk result (HasDrawn plan (above ++ map cow_str_bytes cells.entry.items ∷ []) self.new) }
         ensures room { (plan : Plan) (above : List (List Text)) → HasDrawn plan above self.old → TellsRoom (HasNoRoomBelow plan above (map cow_str_bytes cells.entry.items)) result }
         ensures failed { OnErr result (string_bytes buf.new ≡ string_bytes buf.old) }
@@ -173,7 +187,8 @@ impl<'a> RowLines<'a> {
 
     /// Appends the end of the table; without rows nothing.
     pub(crate) fn finish(self, buf: &mut String) -> Result<(), ViewFault>
-        ensures end { (plan : Plan) (cells : List (List Text)) → HasDrawn plan cells self.entry → AreEven plan cells → OnOk result (GrowsTo (begun_of plan cells) (whole_of plan cells) (string_bytes buf.old) (string_bytes buf.new)) }
+        ensures end { (plan : Plan) (cells : List (List Text)) → HasDrawn plan cells self.entry → AreEven plan cells
+            → OnOk result (GrowsTo (begun_of plan cells) (whole_of plan cells) (string_bytes buf.old) (string_bytes buf.new)) }
         ensures fault { (plan : Plan) (cells : List (List Text)) → HasDrawn plan cells self.entry → (fault : ViewFault) → result ≡ Err fault → fault ≡ Memory }
         ensures failed { OnErr result (string_bytes buf.new ≡ string_bytes buf.old) }
     {

@@ -49,7 +49,8 @@ fn push_within<'a>(
     text: CowStr<'a>,
     cells: &mut Vec<CowStr<'a>>,
 ) -> Result<(), AllocError>
-    ensures { OnOk result (map cow_str_bytes cells.new.items ≡ map cow_str_bytes cells.old.items ++ spec.text_within overflow.entry (spec.room_of (spec.widths_in widths.now) (length cells.old.items)) (cow_str_bytes text.entry) ∷ []) }
+    ensures { OnOk result (map cow_str_bytes cells.new.items ≡ map cow_str_bytes cells.old.items
+        ++ spec.text_within overflow.entry (spec.room_of (spec.widths_in widths.now) (length cells.old.items)) (cow_str_bytes text.entry) ∷ []) }
 {
     let room = room_of(widths, cells.len());
     let cell = lent_within(alloc, overflow, room, text)?;
@@ -100,8 +101,10 @@ impl<'a> TableRows<'a> {
     ///
     /// `ViewFault::Totals` means that its lines can't be counted below those above it.
     pub fn push(&mut self, fields: &StringRecord, buf: &mut String) -> Result<(), ViewFault>
-        ensures lines { (options : Options) (plan : Plan) (rows : List (List Text)) → HasAppended options plan rows self.old → OnOk result (GrowsTo (begun_text options plan rows) (begun_text options plan (rows ++ fields_of fields.now ∷ [])) (string_bytes buf.old) (string_bytes buf.new)) }
-        ensures after { (options : Options) (plan : Plan) (rows : List (List Text)) → HasAppended options plan rows self.old → OnOk result (HasAppended options plan (rows ++ fields_of fields.now ∷ []) self.new) }
+        ensures lines { (options : Options) (plan : Plan) (rows : List (List Text)) → HasAppended options plan rows self.old
+            → OnOk result (GrowsTo (begun_text options plan rows) (begun_text options plan (rows ++ fields_of fields.now ∷ [])) (string_bytes buf.old) (string_bytes buf.new)) }
+        ensures after { (options : Options) (plan : Plan) (rows : List (List Text)) → HasAppended options plan rows self.old
+            → OnOk result (HasAppended options plan (rows ++ fields_of fields.now ∷ []) self.new) }
         ensures room { (options : Options) (plan : Plan) (rows : List (List Text)) → HasAppended options plan rows self.old → TellsRoom (HasNoRoom options plan rows (fields_of fields.now)) result }
         ensures failed { OnErr result (string_bytes buf.new ≡ string_bytes buf.old) }
         ensures over { OnErr result (IsOver self.new) }
@@ -121,7 +124,8 @@ impl<'a> TableRows<'a> {
 
     /// Appends the end of the table; without rows nothing.
     pub fn finish(self, buf: &mut String) -> Result<(), ViewFault>
-        ensures end { (options : Options) (plan : Plan) (rows : List (List Text)) → HasAppended options plan rows self.entry → OnOk result (GrowsTo (begun_text options plan rows) (whole_text options plan rows) (string_bytes buf.old) (string_bytes buf.new)) }
+        ensures end { (options : Options) (plan : Plan) (rows : List (List Text)) → HasAppended options plan rows self.entry
+            → OnOk result (GrowsTo (begun_text options plan rows) (whole_text options plan rows) (string_bytes buf.old) (string_bytes buf.new)) }
         ensures fault { (options : Options) (plan : Plan) (rows : List (List Text)) → HasAppended options plan rows self.entry → (fault : ViewFault) → result ≡ Err fault → fault ≡ Memory }
         ensures failed { OnErr result (string_bytes buf.new ≡ string_bytes buf.old) }
     {

@@ -10,7 +10,8 @@ use Rattle.pg_layout.specs.Borders.{has_top, has_bottom, has_inner_horizontal}
 use Rattle.pg_layout.specs.Records.{text_at, AlwaysGives, Gives}
 use Rattle.pg_layout.specs.Text.{Text}
 use Rattle.pg_config.specs.CompactConfig.{settings_of}
-use Rattle.pg_picture.specs.CompactLines.{CompactTable, compact_indent, compact_cell, Part, part_if, main_part, padding_row, text_row, compact_margin, line_if, separator_row, top_line, bottom_line, inner_line}
+use Rattle.pg_picture.specs.CompactLines.{CompactTable, compact_indent, compact_cell, Part, part_if, main_part, padding_row, text_row, compact_margin, line_if, separator_row}
+use Rattle.pg_picture.specs.CompactLines.{top_line, bottom_line, inner_line}
 use Rattle.pg_picture.specs.Inside.KeptSeparators.{IsSeparatorOf}
 use Rattle.pg_compact.specs.Inside.RowEdges.{between_cells}
 use Rattle.pg_compact.specs.declared.printer.CompactPrinter.{CompactPrinter}
@@ -32,7 +33,8 @@ pub record IsRow {S A : Type 0} (text : A → Text) (steps : S → Option A → 
   pub even : length (slice_index_or texts r []) ≡ columns
 
 -- an iterator may be run to its end, and gives the rows of these texts from a first one on; each has a cell for each column, and all can be counted
-pub record AreRows {S A : Type 0} (is_row : A → List Text → Type 0) (can : S → Type 0) (steps : S → Option A → S → Type 0) (left : S → Count) (columns : ℕ) (first : ℕ) (texts : List (List Text)) (rows : S) : Type 0 where
+pub record AreRows {S A : Type 0} (is_row : A → List Text → Type 0) (can : S → Type 0) (steps : S → Option A → S → Type 0) (left : S
+    → Count) (columns : ℕ) (first : ℕ) (texts : List (List Text)) (rows : S) : Type 0 where
   pub given : Gives is_row can steps left rows (drop first texts)
   pub even : All (λ row. length row ≡ columns) texts
   pub begun : first ≤ length texts

@@ -35,7 +35,8 @@ where
         kind: TextKind,
     ) -> Result<(), AllocError>
         requires single { (texts : List Text) × Gives (λ x y. S.text x ≡ y) I.can_next I.next_gives I.remaining cells texts × IsSingleRow T.table row kind texts }
-        ensures { (texts : List Text) → AlwaysGives (λ x y. S.text x ≡ y) I.next_gives cells texts → Appends buf.old buf.new result (line_at T.table.config self.entry.pen.sheet.now.height index (written (single_line T.table row texts))) }
+        ensures { (texts : List Text) → AlwaysGives (λ x y. S.text x ≡ y) I.next_gives cells texts
+            → Appends buf.old buf.new result (line_at T.table.config self.entry.pen.sheet.now.height index (written (single_line T.table row texts))) }
     {
         self.pen.push_line_start(buf, index)?;
         self.push_single_cells(buf, row, cells, kind)?;

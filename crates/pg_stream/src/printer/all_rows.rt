@@ -41,8 +41,12 @@ impl<'a, S: AsStr + Drop, D: Dimension, C: Colors, B: Allocator, A: Allocator> R
         buf: &mut String<W>,
     ) -> Result<(), AllocError>
         requires rows { Rows.can_next rows × IsFinite (Rows.remaining rows) }
-        requires given { (cells : List Text) × (texts : List (List Text)) × AreRowsFrom (Gives (λ x y. S.text x ≡ y) Cells.can_next Cells.next_gives Cells.remaining) Rows.next_gives first rows cells texts × RowsFit (printing D.width D.height C.color self) (cells ∷ texts) }
-        ensures { (cells : List Text) (texts : List (List Text)) → AreRowsFrom (Gives (λ x y. S.text x ≡ y) Cells.can_next Cells.next_gives Cells.remaining) Rows.next_gives first rows cells texts → Appends buf.old buf.new result (rows_text (printing D.width D.height C.color self.entry) (cells ∷ texts)) }
+        requires given { (cells : List Text) × (texts : List (List Text))
+            × AreRowsFrom (Gives (λ x y. S.text x ≡ y) Cells.can_next Cells.next_gives Cells.remaining) Rows.next_gives first rows cells texts
+            × RowsFit (printing D.width D.height C.color self) (cells ∷ texts) }
+        ensures { (cells : List Text) (texts : List (List Text))
+            → AreRowsFrom (Gives (λ x y. S.text x ≡ y) Cells.can_next Cells.next_gives Cells.remaining) Rows.next_gives first rows cells texts
+            → Appends buf.old buf.new result (rows_text (printing D.width D.height C.color self.entry) (cells ∷ texts)) }
     {
         let (frame, progress) = self.into_parts();
         progress.push_rows::<Brand, D, C, B, Cells, Rows, W>(&frame, first, rows, buf)

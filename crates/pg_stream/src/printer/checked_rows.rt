@@ -39,8 +39,10 @@ impl<'a, S: AsStr + Drop, D: Dimension, C: Colors, B: Allocator, A: Allocator> R
     ) -> Result<RowPrinter<'a, S, D, C, B, A>, StreamFault>
         ensures made { IfOk result (λ p. printing D.width D.height C.color p ≡ printer config.now columns (D.width dimension.now) (D.height dimension.now) (C.color colors.now) hint) }
         ensures empty { IfOk result (λ p. (printing D.width D.height C.color p).rows ≡ 0) }
-        ensures whole { PrinterFits (printer config.now columns (D.width dimension.now) (D.height dimension.now) (C.color colors.now) hint) → (fault : StreamFault) → result ≡ Err fault → fault ≡ StreamFault.Memory }
-        ensures misfit { (misfit : Misfit) → (result ≡ Err (StreamFault.Misfit misfit)) ↔ (printer_misfit (printer config.now columns (D.width dimension.now) (D.height dimension.now) (C.color colors.now) hint) ≡ Some misfit) }
+        ensures whole { PrinterFits (printer config.now columns (D.width dimension.now) (D.height dimension.now) (C.color colors.now) hint)
+            → (fault : StreamFault) → result ≡ Err fault → fault ≡ StreamFault.Memory }
+        ensures misfit { (misfit : Misfit)
+            → (result ≡ Err (StreamFault.Misfit misfit)) ↔ (printer_misfit (printer config.now columns (D.width dimension.now) (D.height dimension.now) (C.color colors.now) hint) ≡ Some misfit) }
     {
         printer_fits(config, dimension, colors, columns, hint)?;
         Ok(RowPrinter::new(alloc, config, dimension, colors, columns, hint)?)
@@ -84,9 +86,12 @@ impl<'a, S: AsStr + Drop, D: Dimension, C: Colors, B: Allocator, A: Allocator> R
         ensures appends { IfOk result (λ p. string_bytes buf.new ≡ string_bytes buf.old ++ row_text (printing D.width D.height C.color self.entry) (map S.text cells.items) is_last) }
         ensures after { IfOk result (λ p. printing D.width D.height C.color p ≡ after_row (printing D.width D.height C.color self.entry) (map S.text cells.items) is_last) }
         ensures ended { IfOk result (λ p. (printing D.width D.height C.color p).is_ended ≡ is_last) }
-        ensures misfit { (p : _) → result ≡ Err (RowFault.Misfit p) → (p ≡ self.entry) × (buf.new ≡ buf.old) × ¬ (RowFits (printing D.width D.height C.color self.entry) (map S.text cells.items) is_last) }
-        ensures memory { result ≡ Err RowFault.Memory → RowFits (printing D.width D.height C.color self.entry) (map S.text cells.items) is_last × GainedBeginning buf.old buf.new (row_text (printing D.width D.height C.color self.entry) (map S.text cells.items) is_last) }
-        ensures whole { RowFits (printing D.width D.height C.color self.entry) (map S.text cells.items) is_last → Appends buf.old buf.new result (row_text (printing D.width D.height C.color self.entry) (map S.text cells.items) is_last) × ((p : _) → result ≢ Err (RowFault.Misfit p)) }
+        ensures misfit { (p : _) → result ≡ Err (RowFault.Misfit p)
+            → (p ≡ self.entry) × (buf.new ≡ buf.old) × ¬ (RowFits (printing D.width D.height C.color self.entry) (map S.text cells.items) is_last) }
+        ensures memory { result ≡ Err RowFault.Memory
+            → RowFits (printing D.width D.height C.color self.entry) (map S.text cells.items) is_last × GainedBeginning buf.old buf.new (row_text (printing D.width D.height C.color self.entry) (map S.text cells.items) is_last) }
+        ensures whole { RowFits (printing D.width D.height C.color self.entry) (map S.text cells.items) is_last
+            → Appends buf.old buf.new result (row_text (printing D.width D.height C.color self.entry) (map S.text cells.items) is_last) × ((p : _) → result ≢ Err (RowFault.Misfit p)) }
         ensures refused { ¬ (RowFits (printing D.width D.height C.color self.entry) (map S.text cells.items) is_last) → (result ≡ Err (RowFault.Misfit self.entry)) × (buf.new ≡ buf.old) }
     {
         if !self.fits(&cells, is_last) {

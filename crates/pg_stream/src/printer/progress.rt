@@ -56,10 +56,13 @@ impl<S: AsStr + Drop, A: Allocator> Progress<'_, S, A> {
         requires is { bare_table D.width D.height C.color frame.now.sheet ≡ T.table }
         requires can { I.can_next cells × IsFinite (I.remaining cells) }
         requires sound { IsSoundAt T.table frame.now self.old }
-        requires fits { (texts : List Text) × AlwaysGives (λ x y. S.text x ≡ y) I.next_gives cells texts × RowFits (now_of T.table frame.now.hint self.old) texts is_last × AreOfKind kind T.table.columns texts }
+        requires fits { (texts : List Text) × AlwaysGives (λ x y. S.text x ≡ y) I.next_gives cells texts
+            × RowFits (now_of T.table frame.now.hint self.old) texts is_last × AreOfKind kind T.table.columns texts }
         ensures sound { OnOk result (IsSoundAt T.table frame.now self.new) }
-        ensures appends { (texts : List Text) → AlwaysGives (λ x y. S.text x ≡ y) I.next_gives cells texts → Appends buf.old buf.new result (row_text (now_of T.table frame.now.hint self.old) texts is_last) }
-        ensures after { (texts : List Text) → AlwaysGives (λ x y. S.text x ≡ y) I.next_gives cells texts → OnOk result (now_of T.table frame.now.hint self.new ≡ after_row (now_of T.table frame.now.hint self.old) texts is_last) }
+        ensures appends { (texts : List Text) → AlwaysGives (λ x y. S.text x ≡ y) I.next_gives cells texts
+            → Appends buf.old buf.new result (row_text (now_of T.table frame.now.hint self.old) texts is_last) }
+        ensures after { (texts : List Text) → AlwaysGives (λ x y. S.text x ≡ y) I.next_gives cells texts
+            → OnOk result (now_of T.table frame.now.hint self.new ≡ after_row (now_of T.table frame.now.hint self.old) texts is_last) }
     {
         if frame.is_single(self.rows) {
             return self.push_single::<T, D, C, B, S, I, W>(frame, cells, kind, is_last, buf);
@@ -100,7 +103,8 @@ impl<S: AsStr + Drop, A: Allocator> Progress<'_, S, A> {
         requires is { bare_table D.width D.height C.color frame.now.sheet ≡ T.table }
         requires sound { IsSoundAt T.table frame.now self.old }
         ensures sound { OnOk result (IsSoundAt T.table frame.now self.new) }
-        ensures prints { AppendsIf (RowFits (now_of T.table frame.now.hint self.old) (map S.text cells.items) is_last) self.old.rows (row_text (now_of T.table frame.now.hint self.old) (map S.text cells.items) is_last) buf.old buf.new result }
+        ensures prints { AppendsIf (RowFits (now_of T.table frame.now.hint self.old) (map S.text cells.items) is_last) self.old.rows
+            (row_text (now_of T.table frame.now.hint self.old) (map S.text cells.items) is_last) buf.old buf.new result }
         ensures after { OnOk result (now_of T.table frame.now.hint self.new ≡ after_row (now_of T.table frame.now.hint self.old) (map S.text cells.items) is_last) }
     {
         let Some(kind) = self.kind_if_fits(frame, &cells, is_last) else {
@@ -235,8 +239,12 @@ impl<S: AsStr + Drop, A: Allocator> Progress<'_, S, A> {
         requires is { bare_table D.width D.height C.color frame.now.sheet ≡ T.table }
         requires rows { Rows.can_next rows × IsFinite (Rows.remaining rows) }
         requires sound { IsSoundAt T.table frame.now self }
-        requires given { (cells : List Text) × (texts : List (List Text)) × AreRowsFrom (Gives (λ x y. S.text x ≡ y) Cells.can_next Cells.next_gives Cells.remaining) Rows.next_gives first rows cells texts × RowsFit (now_of T.table frame.now.hint self) (cells ∷ texts) }
-        ensures { (cells : List Text) (texts : List (List Text)) → AreRowsFrom (Gives (λ x y. S.text x ≡ y) Cells.can_next Cells.next_gives Cells.remaining) Rows.next_gives first rows cells texts → Appends buf.old buf.new result (rows_text (now_of T.table frame.now.hint self.entry) (cells ∷ texts)) }
+        requires given { (cells : List Text) × (texts : List (List Text))
+            × AreRowsFrom (Gives (λ x y. S.text x ≡ y) Cells.can_next Cells.next_gives Cells.remaining) Rows.next_gives first rows cells texts
+            × RowsFit (now_of T.table frame.now.hint self) (cells ∷ texts) }
+        ensures { (cells : List Text) (texts : List (List Text))
+            → AreRowsFrom (Gives (λ x y. S.text x ≡ y) Cells.can_next Cells.next_gives Cells.remaining) Rows.next_gives first rows cells texts
+            → Appends buf.old buf.new result (rows_text (now_of T.table frame.now.hint self.entry) (cells ∷ texts)) }
     {
         let mut room = [0; SEPARATOR_ROOM];
         let mut progress = self.with_room(&mut room);

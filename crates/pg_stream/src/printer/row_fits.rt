@@ -80,7 +80,8 @@ impl<S: AsStr, A: Allocator> Progress<'_, S, A> {
         cells: usize,
         is_last: bool,
     ) -> bool
-        ensures { IsTrue result ↔ (cells ≡ frame.now.sheet.columns) × (self.now.is_ended ≡ false) × (self.now.rows < 2 ^ 64 - 2) × IfSome frame.now.hint (λ rows. (self.now.rows < rows) × (is_last ≡ ((self.now.rows + 1) == rows))) }
+        ensures { IsTrue result ↔ (cells ≡ frame.now.sheet.columns) × (self.now.is_ended ≡ false) × (self.now.rows < 2 ^ 64 - 2)
+            × IfSome frame.now.hint (λ rows. (self.now.rows < rows) × (is_last ≡ ((self.now.rows + 1) == rows))) }
     {
         cells == frame.sheet.columns
             && !self.is_ended

@@ -182,8 +182,10 @@ impl<'a, S: AsStr + Drop, D: Dimension, C: Colors, B: Allocator, A: Allocator> R
     ) -> Result<RowPrinter<'a, S, D, C, B, A>, AllocError>
         requires can { I.can_next cells × IsFinite (I.remaining cells) }
         requires fits { (texts : List Text) × AlwaysGives (λ x y. S.text x ≡ y) I.next_gives cells texts × RowFits (printing D.width D.height C.color self) texts is_last }
-        ensures appends { (texts : List Text) → AlwaysGives (λ x y. S.text x ≡ y) I.next_gives cells texts → Appends buf.old buf.new result (row_text (printing D.width D.height C.color self.entry) texts is_last) }
-        ensures after { (texts : List Text) → AlwaysGives (λ x y. S.text x ≡ y) I.next_gives cells texts → IfOk result (λ p. printing D.width D.height C.color p ≡ after_row (printing D.width D.height C.color self.entry) texts is_last) }
+        ensures appends { (texts : List Text) → AlwaysGives (λ x y. S.text x ≡ y) I.next_gives cells texts
+            → Appends buf.old buf.new result (row_text (printing D.width D.height C.color self.entry) texts is_last) }
+        ensures after { (texts : List Text) → AlwaysGives (λ x y. S.text x ≡ y) I.next_gives cells texts
+            → IfOk result (λ p. printing D.width D.height C.color p ≡ after_row (printing D.width D.height C.color self.entry) texts is_last) }
         ensures ended { IfOk result (λ p. (printing D.width D.height C.color p).is_ended ≡ is_last) }
     {
         let RowPrinter {

@@ -42,7 +42,8 @@ impl<'a, S: AsStr, D: Dimension, C: Colors, B: Allocator, A: Allocator> RowPrint
     /// its lines there. Allocates nothing.
     pub fn shows_all(&self, cells: &[S], is_last: bool) -> Result<(), RowUnshown>
         ensures misfit { (result ≡ Err RowUnshown.Misfit) ↔ ¬ (RowFits (printing D.width D.height C.color self.now) (map S.text cells.now) is_last) }
-        ensures exact { RowFits (printing D.width D.height C.color self.now) (map S.text cells.now) is_last → result ≡ unless_in_row (unshown_in_row (printing D.width D.height C.color self.now).table (printing D.width D.height C.color self.now).rows (map S.text cells.now)) }
+        ensures exact { RowFits (printing D.width D.height C.color self.now) (map S.text cells.now) is_last
+            → result ≡ unless_in_row (unshown_in_row (printing D.width D.height C.color self.now).table (printing D.width D.height C.color self.now).rows (map S.text cells.now)) }
     {
         if !self.fits(cells, is_last) {
             return Err(RowUnshown::Misfit);
@@ -83,7 +84,8 @@ impl<'a, D: Dimension, C: Colors, B: Allocator> Frame<'a, D, C, B> {
         requires left { is_left self.now.sheet.config.now.spans pos.row pos.col ≡ true }
         requires span { span ≡ left_span self.now.sheet.config.now.spans pos.row pos.col }
         requires room { is_at (owner self.now.sheet.config.now.spans pos.row pos.col) pos.row pos.col ≡ true → HasRoom (bare_table D.width D.height C.color self.now.sheet) pos text.now }
-        ensures { result ≡ (not (is_at (owner self.now.sheet.config.now.spans pos.row pos.col) pos.row pos.col) || cell_shows_all (style_at self.now.sheet.config.now pos) text.now (height_of_rect self.now.sheet.config.now (D.height self.now.sheet.dimension.now) pos)) }
+        ensures { result
+            ≡ (not (is_at (owner self.now.sheet.config.now.spans pos.row pos.col) pos.row pos.col) || cell_shows_all (style_at self.now.sheet.config.now pos) text.now (height_of_rect self.now.sheet.config.now (D.height self.now.sheet.dimension.now) pos)) }
     {
         // Shows that the spans are in order.
         let _spans = self.sheet.config.spans();

@@ -42,7 +42,9 @@ impl<S: AsStr + Drop, A: Allocator, V: Allocator> HeldRows<'_, S, A, V> {
         requires is { bare_table D.width D.height C.color frame.now.sheet ≡ T.table }
         requires sound { AreSoundAt T.table frame.now self.old }
         ensures sound { OnOk result (AreSoundAt T.table frame.now self.new) }
-        ensures prints { AppendsIf (HeldFits (streamed S.text T.table frame.now.hint self.old)) (streamed S.text T.table frame.now.hint self.old).before.rows (held_text (streamed S.text T.table frame.now.hint self.old)) buf.old buf.new result }
+        ensures prints { AppendsIf (HeldFits (streamed S.text T.table frame.now.hint self.old))
+            (streamed S.text T.table frame.now.hint self.old).before.rows
+            (held_text (streamed S.text T.table frame.now.hint self.old)) buf.old buf.new result }
         ensures after { OnOk result (streamed S.text T.table frame.now.hint self.new ≡ after_push (streamed S.text T.table frame.now.hint self.old) (map S.text cells.items)) }
         ensures first { self.old.held ≡ None → IsOk result × (buf.new ≡ buf.old) }
     {
@@ -103,8 +105,10 @@ impl<S: AsStr + Drop, A: Allocator, V: Allocator> HeldRows<'_, S, A, V> {
         requires sound { AreSoundAt T.table frame.now self }
         requires can { I.can_next rows }
         requires ends { IsFinite (I.remaining rows) }
-        ensures prints { (texts : List (List Text)) → AlwaysGives (λ x y. map S.text x.items ≡ y) I.next_gives rows texts → PrintsRows (streamed S.text T.table frame.now.hint self.entry).before (rows_left (streamed S.text T.table frame.now.hint self.entry) texts) buf.old buf.new result }
-        ensures runs { SomeRun I.next_gives rows (λ run. PrintsRun run.whole (streamed S.text T.table frame.now.hint self.entry).before (rows_left (streamed S.text T.table frame.now.hint self.entry) (map (λ row. map S.text row.items) run.items)) buf.old buf.new result) }
+        ensures prints { (texts : List (List Text)) → AlwaysGives (λ x y. map S.text x.items ≡ y) I.next_gives rows texts
+            → PrintsRows (streamed S.text T.table frame.now.hint self.entry).before (rows_left (streamed S.text T.table frame.now.hint self.entry) texts) buf.old buf.new result }
+        ensures runs { SomeRun I.next_gives rows
+            (λ run. PrintsRun run.whole (streamed S.text T.table frame.now.hint self.entry).before (rows_left (streamed S.text T.table frame.now.hint self.entry) (map (λ row. map S.text row.items) run.items)) buf.old buf.new result) }
         ensures empty { self.entry.held ≡ None → AlwaysGives (λ x y. map S.text x.items ≡ y) I.next_gives rows [] → IsOk result × (buf.new ≡ buf.old) }
     {
         let mut room = [0; SEPARATOR_ROOM];
@@ -133,9 +137,15 @@ impl<S: AsStr + Drop, A: Allocator, V: Allocator> HeldRows<'_, S, A, V> {
         requires sound { AreSoundAt T.table frame.now self }
         requires can { I.can_next rows.old }
         requires ends { IsFinite (I.remaining rows.old) }
-        ensures prints { (items : List (Result (List Text) E)) → AlwaysGives (λ x y. result_map_both (λ row. map S.text row.items) (λ error. error) x ≡ y) I.next_gives rows.old items → PrintsResults (streamed S.text T.table frame.now.hint self.entry) items buf.old buf.new result }
-        ensures runs { SomeRun I.next_gives rows.old (λ run. PrintsResultsRun run.whole (streamed S.text T.table frame.now.hint self.entry) (map (λ item. result_map_both (λ row. map S.text row.items) (λ error. error) item) run.items) buf.old buf.new result × IsLeftAt I.next_gives rows.old run.items run.whole rows.new) }
-        ensures empty { self.entry.held ≡ None → AlwaysGives (λ x y. result_map_both (λ row. map S.text row.items) (λ error. error) x ≡ y) I.next_gives rows.old [] → IsOk result × (buf.new ≡ buf.old) }
+        ensures prints { (items : List (Result (List Text) E))
+            → AlwaysGives (λ x y. result_map_both (λ row. map S.text row.items) (λ error. error) x ≡ y) I.next_gives rows.old items
+            → PrintsResults (streamed S.text T.table frame.now.hint self.entry) items buf.old buf.new result }
+        ensures runs { SomeRun I.next_gives rows.old
+            (λ run. PrintsResultsRun run.whole (streamed S.text T.table frame.now.hint self.entry) (map (λ item. result_map_both (λ row. map S.text row.items) (λ error. error) item) run.items) buf.old buf.new result
+            × IsLeftAt I.next_gives rows.old run.items run.whole rows.new) }
+        ensures empty { self.entry.held ≡ None
+            → AlwaysGives (λ x y. result_map_both (λ row. map S.text row.items) (λ error. error) x ≡ y) I.next_gives rows.old []
+            → IsOk result × (buf.new ≡ buf.old) }
     {
         let mut room = [0; SEPARATOR_ROOM];
         let mut pushed = self.with_room(&mut room);

@@ -48,8 +48,10 @@ impl<'a, S: AsStr + Drop, D: Dimension, C: Colors, B: Allocator, A: Allocator> L
         buf: &mut String<W>,
     ) -> Result<(), StreamFault>
         ensures appends { OnOk result (string_bytes buf.new ≡ string_bytes buf.old ++ row_text (living D.width D.height C.color self.old).printed (map X.text cells.now) false) }
-        ensures after { OnOk result (living D.width D.height C.color self.new ≡ record { printed = after_row (living D.width D.height C.color self.old).printed (map X.text cells.now) false; is_lost = false }) }
-        ensures prints { (living D.width D.height C.color self.old).is_lost ≡ false → AppendsIf (LentFits (living D.width D.height C.color self.old).printed (map X.text cells.now)) (living D.width D.height C.color self.old).printed.rows (row_text (living D.width D.height C.color self.old).printed (map X.text cells.now) false) buf.old buf.new result }
+        ensures after { OnOk result (living D.width D.height C.color self.new
+            ≡ record { printed = after_row (living D.width D.height C.color self.old).printed (map X.text cells.now) false; is_lost = false }) }
+        ensures prints { (living D.width D.height C.color self.old).is_lost ≡ false
+            → AppendsIf (LentFits (living D.width D.height C.color self.old).printed (map X.text cells.now)) (living D.width D.height C.color self.old).printed.rows (row_text (living D.width D.height C.color self.old).printed (map X.text cells.now) false) buf.old buf.new result }
         ensures misfit { (row : ℕ) → result ≡ Err (StreamFault.Row row) → self.new ≡ self.old }
         ensures memory { result ≡ Err StreamFault.Memory → (living D.width D.height C.color self.new).is_lost ≡ true }
         ensures lost { (living D.width D.height C.color self.old).is_lost ≡ true → (result ≡ Err StreamFault.Memory) × (buf.new ≡ buf.old) }
@@ -97,10 +99,13 @@ impl<S: AsStr + Drop, A: Allocator> Progress<'_, S, A> {
         requires single { IsSingle T.table self.old.rows }
         requires can { I.can_next cells × IsFinite (I.remaining cells) }
         requires sound { IsSoundAt T.table frame.now self.old }
-        requires fits { (texts : List Text) × AlwaysGives (λ x y. X.text x ≡ y) I.next_gives cells texts × RowFits (now_of T.table frame.now.hint self.old) texts is_last × AreOfKind kind T.table.columns texts }
+        requires fits { (texts : List Text) × AlwaysGives (λ x y. X.text x ≡ y) I.next_gives cells texts
+            × RowFits (now_of T.table frame.now.hint self.old) texts is_last × AreOfKind kind T.table.columns texts }
         ensures sound { OnOk result (IsSoundAt T.table frame.now self.new) }
-        ensures appends { (texts : List Text) → AlwaysGives (λ x y. X.text x ≡ y) I.next_gives cells texts → Appends buf.old buf.new result (row_text (now_of T.table frame.now.hint self.old) texts is_last) }
-        ensures after { (texts : List Text) → AlwaysGives (λ x y. X.text x ≡ y) I.next_gives cells texts → OnOk result (now_of T.table frame.now.hint self.new ≡ after_row (now_of T.table frame.now.hint self.old) texts is_last) }
+        ensures appends { (texts : List Text) → AlwaysGives (λ x y. X.text x ≡ y) I.next_gives cells texts
+            → Appends buf.old buf.new result (row_text (now_of T.table frame.now.hint self.old) texts is_last) }
+        ensures after { (texts : List Text) → AlwaysGives (λ x y. X.text x ≡ y) I.next_gives cells texts
+            → OnOk result (now_of T.table frame.now.hint self.new ≡ after_row (now_of T.table frame.now.hint self.old) texts is_last) }
     {
         let table: StreamedTable<'_, T, D, C, B> = StreamedTable {
             pen: Pen {

@@ -100,8 +100,10 @@ impl<'a, S: AsStr + Drop, D: Dimension, C: Colors, B: Allocator, A: Allocator> L
     ) -> Result<LiveStream<'a, S, D, C, B, A>, StreamFault>
         ensures made { IfOk result (λ s. (living D.width D.height C.color s).printed ≡ printer config.now columns (D.width dimension.now) (D.height dimension.now) (C.color colors.now) None) }
         ensures lives { IfOk result (λ s. (living D.width D.height C.color s).is_lost ≡ false) }
-        ensures whole { PrinterFits (printer config.now columns (D.width dimension.now) (D.height dimension.now) (C.color colors.now) None) → (fault : StreamFault) → result ≡ Err fault → fault ≡ StreamFault.Memory }
-        ensures misfit { (misfit : Misfit) → (result ≡ Err (StreamFault.Misfit misfit)) ↔ (printer_misfit (printer config.now columns (D.width dimension.now) (D.height dimension.now) (C.color colors.now) None) ≡ Some misfit) }
+        ensures whole { PrinterFits (printer config.now columns (D.width dimension.now) (D.height dimension.now) (C.color colors.now) None)
+            → (fault : StreamFault) → result ≡ Err fault → fault ≡ StreamFault.Memory }
+        ensures misfit { (misfit : Misfit)
+            → (result ≡ Err (StreamFault.Misfit misfit)) ↔ (printer_misfit (printer config.now columns (D.width dimension.now) (D.height dimension.now) (C.color colors.now) None) ≡ Some misfit) }
     {
         match RowPrinter::try_new(alloc, config, dimension, colors, columns, None) {
             Ok(printer) => {
@@ -127,8 +129,10 @@ impl<'a, S: AsStr + Drop, D: Dimension, C: Colors, B: Allocator, A: Allocator> L
         buf: &mut String<W>,
     ) -> Result<(), StreamFault>
         ensures appends { OnOk result (string_bytes buf.new ≡ string_bytes buf.old ++ row_text (living D.width D.height C.color self.old).printed (map S.text cells.items) false) }
-        ensures after { OnOk result (living D.width D.height C.color self.new ≡ record { printed = after_row (living D.width D.height C.color self.old).printed (map S.text cells.items) false; is_lost = false }) }
-        ensures prints { (living D.width D.height C.color self.old).is_lost ≡ false → AppendsIf (RowFits (living D.width D.height C.color self.old).printed (map S.text cells.items) false) (living D.width D.height C.color self.old).printed.rows (row_text (living D.width D.height C.color self.old).printed (map S.text cells.items) false) buf.old buf.new result }
+        ensures after { OnOk result (living D.width D.height C.color self.new
+            ≡ record { printed = after_row (living D.width D.height C.color self.old).printed (map S.text cells.items) false; is_lost = false }) }
+        ensures prints { (living D.width D.height C.color self.old).is_lost ≡ false
+            → AppendsIf (RowFits (living D.width D.height C.color self.old).printed (map S.text cells.items) false) (living D.width D.height C.color self.old).printed.rows (row_text (living D.width D.height C.color self.old).printed (map S.text cells.items) false) buf.old buf.new result }
         ensures misfit { (row : ℕ) → result ≡ Err (StreamFault.Row row) → self.new ≡ self.old }
         ensures memory { result ≡ Err StreamFault.Memory → (living D.width D.height C.color self.new).is_lost ≡ true }
         ensures lost { (living D.width D.height C.color self.old).is_lost ≡ true → (result ≡ Err StreamFault.Memory) × (buf.new ≡ buf.old) }

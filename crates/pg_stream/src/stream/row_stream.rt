@@ -118,8 +118,10 @@ impl<
     ) -> Result<RowStream<'a, S, D, C, B, A, V>, StreamFault>
         ensures made { IfOk result (λ s. (streaming D.width D.height C.color s).before ≡ printer config.now columns (D.width dimension.now) (D.height dimension.now) (C.color colors.now) hint) }
         ensures empty { IfOk result (λ s. (streaming D.width D.height C.color s).held ≡ None) }
-        ensures whole { PrinterFits (printer config.now columns (D.width dimension.now) (D.height dimension.now) (C.color colors.now) hint) → (fault : StreamFault) → result ≡ Err fault → fault ≡ StreamFault.Memory }
-        ensures misfit { (misfit : Misfit) → (result ≡ Err (StreamFault.Misfit misfit)) ↔ (printer_misfit (printer config.now columns (D.width dimension.now) (D.height dimension.now) (C.color colors.now) hint) ≡ Some misfit) }
+        ensures whole { PrinterFits (printer config.now columns (D.width dimension.now) (D.height dimension.now) (C.color colors.now) hint)
+            → (fault : StreamFault) → result ≡ Err fault → fault ≡ StreamFault.Memory }
+        ensures misfit { (misfit : Misfit)
+            → (result ≡ Err (StreamFault.Misfit misfit)) ↔ (printer_misfit (printer config.now columns (D.width dimension.now) (D.height dimension.now) (C.color colors.now) hint) ≡ Some misfit) }
     {
         match RowPrinter::try_new(alloc, config, dimension, colors, columns, hint) {
             Ok(printer) => {
@@ -149,7 +151,9 @@ impl<
     ) -> Result<RowStream<'a, S, D, C, B, A, V>, StreamFault>
         ensures appends { OnOk result (string_bytes buf.new ≡ string_bytes buf.old ++ held_text (streaming D.width D.height C.color self.entry)) }
         ensures after { IfOk result (λ s. streaming D.width D.height C.color s ≡ after_push (streaming D.width D.height C.color self.entry) (map S.text cells.items)) }
-        ensures prints { AppendsIf (HeldFits (streaming D.width D.height C.color self.entry)) (streaming D.width D.height C.color self.entry).before.rows (held_text (streaming D.width D.height C.color self.entry)) buf.old buf.new result }
+        ensures prints { AppendsIf (HeldFits (streaming D.width D.height C.color self.entry))
+            (streaming D.width D.height C.color self.entry).before.rows
+            (held_text (streaming D.width D.height C.color self.entry)) buf.old buf.new result }
         ensures first { (streaming D.width D.height C.color self.entry).held ≡ None → IsOk result × (buf.new ≡ buf.old) }
     {
         let RowStream { frame, mut rows } = self;
@@ -180,8 +184,10 @@ impl<
         requires may { (cells : _) → R.into_iter_gives row cells → R.IntoIter.can_next cells × IsFinite (R.IntoIter.remaining cells) }
         ensures fits { OnOk result (HeldFits (streaming D.width D.height C.color self.entry)) }
         ensures appends { OnOk result (string_bytes buf.new ≡ string_bytes buf.old ++ held_text (streaming D.width D.height C.color self.entry)) }
-        ensures after { (texts : List Text) → Becomes R.into_iter_gives (AlwaysGives (λ x y. S.text x ≡ y) R.IntoIter.next_gives) row texts → IfOk result (λ s. streaming D.width D.height C.color s ≡ after_push (streaming D.width D.height C.color self.entry) texts) }
-        ensures misfit { (row : ℕ) → result ≡ Err (StreamFault.Row row) → (row ≡ (streaming D.width D.height C.color self.entry).before.rows) × (buf.new ≡ buf.old) × ¬ (HeldFits (streaming D.width D.height C.color self.entry)) }
+        ensures after { (texts : List Text) → Becomes R.into_iter_gives (AlwaysGives (λ x y. S.text x ≡ y) R.IntoIter.next_gives) row texts
+            → IfOk result (λ s. streaming D.width D.height C.color s ≡ after_push (streaming D.width D.height C.color self.entry) texts) }
+        ensures misfit { (row : ℕ) → result ≡ Err (StreamFault.Row row)
+            → (row ≡ (streaming D.width D.height C.color self.entry).before.rows) × (buf.new ≡ buf.old) × ¬ (HeldFits (streaming D.width D.height C.color self.entry)) }
         ensures memory { result ≡ Err StreamFault.Memory → AppendsOrNothing buf.old buf.new result (held_text (streaming D.width D.height C.color self.entry)) }
         ensures untouched { ¬ (HeldFits (streaming D.width D.height C.color self.entry)) → buf.new ≡ buf.old }
         ensures first { (streaming D.width D.height C.color self.entry).held ≡ None → buf.new ≡ buf.old }
@@ -197,7 +203,8 @@ impl<
     /// `StreamFault::Row` names the held row, if it doesn't fit as the last one; then nothing is
     /// appended. If memory is refused, a beginning of its text and the table's end is appended.
     pub fn finish<W: Allocator>(self, buf: &mut String<W>) -> Result<(), StreamFault>
-        ensures appends { OnOk result (string_bytes buf.new ≡ string_bytes buf.old ++ rows_text (streaming D.width D.height C.color self.entry).before (rows_left (streaming D.width D.height C.color self.entry) [])) }
+        ensures appends { OnOk result (string_bytes buf.new ≡ string_bytes buf.old
+            ++ rows_text (streaming D.width D.height C.color self.entry).before (rows_left (streaming D.width D.height C.color self.entry) [])) }
         ensures prints { PrintsRows (streaming D.width D.height C.color self.entry).before (rows_left (streaming D.width D.height C.color self.entry) []) buf.old buf.new result }
         ensures empty { (streaming D.width D.height C.color self.entry).held ≡ None → IsOk result × (buf.new ≡ buf.old) }
     {
@@ -225,8 +232,10 @@ impl<
     ) -> Result<(), StreamFault>
         requires can { I.can_next rows }
         requires ends { IsFinite (I.remaining rows) }
-        ensures prints { (texts : List (List Text)) → AlwaysGives (λ x y. map S.text x.items ≡ y) I.next_gives rows texts → PrintsRows (streaming D.width D.height C.color self.entry).before (rows_left (streaming D.width D.height C.color self.entry) texts) buf.old buf.new result }
-        ensures runs { SomeRun I.next_gives rows (λ run. PrintsRun run.whole (streaming D.width D.height C.color self.entry).before (rows_left (streaming D.width D.height C.color self.entry) (map (λ row. map S.text row.items) run.items)) buf.old buf.new result) }
+        ensures prints { (texts : List (List Text)) → AlwaysGives (λ x y. map S.text x.items ≡ y) I.next_gives rows texts
+            → PrintsRows (streaming D.width D.height C.color self.entry).before (rows_left (streaming D.width D.height C.color self.entry) texts) buf.old buf.new result }
+        ensures runs { SomeRun I.next_gives rows
+            (λ run. PrintsRun run.whole (streaming D.width D.height C.color self.entry).before (rows_left (streaming D.width D.height C.color self.entry) (map (λ row. map S.text row.items) run.items)) buf.old buf.new result) }
         ensures empty { (streaming D.width D.height C.color self.entry).held ≡ None → AlwaysGives (λ x y. map S.text x.items ≡ y) I.next_gives rows [] → IsOk result × (buf.new ≡ buf.old) }
     {
         let RowStream {
@@ -242,8 +251,10 @@ impl<
         rows: Vec<Vec<S, V>, U>,
         buf: &mut String<W>,
     ) -> Result<(), StreamFault>
-        ensures appends { OnOk result (string_bytes buf.new ≡ string_bytes buf.old ++ rows_text (streaming D.width D.height C.color self.entry).before (rows_left (streaming D.width D.height C.color self.entry) (map (λ row. map S.text row.items) rows.items))) }
-        ensures prints { PrintsRows (streaming D.width D.height C.color self.entry).before (rows_left (streaming D.width D.height C.color self.entry) (map (λ row. map S.text row.items) rows.items)) buf.old buf.new result }
+        ensures appends { OnOk result (string_bytes buf.new ≡ string_bytes buf.old
+            ++ rows_text (streaming D.width D.height C.color self.entry).before (rows_left (streaming D.width D.height C.color self.entry) (map (λ row. map S.text row.items) rows.items))) }
+        ensures prints { PrintsRows (streaming D.width D.height C.color self.entry).before
+            (rows_left (streaming D.width D.height C.color self.entry) (map (λ row. map S.text row.items) rows.items)) buf.old buf.new result }
         ensures empty { (streaming D.width D.height C.color self.entry).held ≡ None → rows.items ≡ [] → IsOk result × (buf.new ≡ buf.old) }
     {
         self.print_all(rows.into_iter(), buf)
@@ -272,9 +283,15 @@ impl<
     ) -> Result<(), RowsFault<E>>
         requires can { I.can_next rows.old }
         requires ends { IsFinite (I.remaining rows.old) }
-        ensures prints { (items : List (Result (List Text) E)) → AlwaysGives (λ x y. result_map_both (λ row. map S.text row.items) (λ error. error) x ≡ y) I.next_gives rows.old items → PrintsResults (streaming D.width D.height C.color self.entry) items buf.old buf.new result }
-        ensures runs { SomeRun I.next_gives rows.old (λ run. PrintsResultsRun run.whole (streaming D.width D.height C.color self.entry) (map (λ item. result_map_both (λ row. map S.text row.items) (λ error. error) item) run.items) buf.old buf.new result × IsLeftAt I.next_gives rows.old run.items run.whole rows.new) }
-        ensures empty { (streaming D.width D.height C.color self.entry).held ≡ None → AlwaysGives (λ x y. result_map_both (λ row. map S.text row.items) (λ error. error) x ≡ y) I.next_gives rows.old [] → IsOk result × (buf.new ≡ buf.old) }
+        ensures prints { (items : List (Result (List Text) E))
+            → AlwaysGives (λ x y. result_map_both (λ row. map S.text row.items) (λ error. error) x ≡ y) I.next_gives rows.old items
+            → PrintsResults (streaming D.width D.height C.color self.entry) items buf.old buf.new result }
+        ensures runs { SomeRun I.next_gives rows.old
+            (λ run. PrintsResultsRun run.whole (streaming D.width D.height C.color self.entry) (map (λ item. result_map_both (λ row. map S.text row.items) (λ error. error) item) run.items) buf.old buf.new result
+            × IsLeftAt I.next_gives rows.old run.items run.whole rows.new) }
+        ensures empty { (streaming D.width D.height C.color self.entry).held ≡ None
+            → AlwaysGives (λ x y. result_map_both (λ row. map S.text row.items) (λ error. error) x ≡ y) I.next_gives rows.old []
+            → IsOk result × (buf.new ≡ buf.old) }
     {
         let RowStream {
             frame,

@@ -106,9 +106,12 @@ impl<'a, S: AsStr + Drop, D: Dimension, C: Colors, B: Allocator, A: Allocator> S
         colors: &'a C,
         columns: usize,
     ) -> Result<SizedStream<'a, S, D, C, B, A>, StreamFault>
-        ensures made { IfOk result (λ s. (heights : ℕ → ℕ) → living D.width (λ _. heights) C.color s ≡ record { printed = printer config.now columns (D.width widths.now) heights (C.color colors.now) None; is_lost = false }) }
-        ensures whole { sized_misfit (printer config.now columns (D.width widths.now) (D.height widths.now) (C.color colors.now) None) ≡ None → (fault : StreamFault) → result ≡ Err fault → fault ≡ StreamFault.Memory }
-        ensures misfit { (misfit : Misfit) → (result ≡ Err (StreamFault.Misfit misfit)) ↔ (sized_misfit (printer config.now columns (D.width widths.now) (D.height widths.now) (C.color colors.now) None) ≡ Some misfit) }
+        ensures made { IfOk result (λ s. (heights : ℕ → ℕ)
+            → living D.width (λ _. heights) C.color s ≡ record { printed = printer config.now columns (D.width widths.now) heights (C.color colors.now) None; is_lost = false }) }
+        ensures whole { sized_misfit (printer config.now columns (D.width widths.now) (D.height widths.now) (C.color colors.now) None) ≡ None
+            → (fault : StreamFault) → result ≡ Err fault → fault ≡ StreamFault.Memory }
+        ensures misfit { (misfit : Misfit)
+            → (result ≡ Err (StreamFault.Misfit misfit)) ↔ (sized_misfit (printer config.now columns (D.width widths.now) (D.height widths.now) (C.color colors.now) None) ≡ Some misfit) }
     {
         if config.has_row_spans() {
             return Err(StreamFault::Misfit(Misfit::Spans));
@@ -138,9 +141,13 @@ impl<'a, S: AsStr + Drop, D: Dimension, C: Colors, B: Allocator, A: Allocator> S
         cells: Vec<S, V>,
         buf: &mut String<W>,
     ) -> Result<(), StreamFault>
-        ensures appends { (heights : ℕ → ℕ) → IsNextHeight (living D.width (λ _. heights) C.color self.old).printed height → OnOk result (string_bytes buf.new ≡ string_bytes buf.old ++ row_text (living D.width (λ _. heights) C.color self.old).printed (map S.text cells.items) false) }
-        ensures after { (heights : ℕ → ℕ) → IsNextHeight (living D.width (λ _. heights) C.color self.old).printed height → OnOk result (living D.width (λ _. heights) C.color self.new ≡ record { printed = after_row (living D.width (λ _. heights) C.color self.old).printed (map S.text cells.items) false; is_lost = false }) }
-        ensures prints { (heights : ℕ → ℕ) → IsNextHeight (living D.width (λ _. heights) C.color self.old).printed height → (living D.width (λ _. heights) C.color self.old).is_lost ≡ false → AppendsIf (RowFits (living D.width (λ _. heights) C.color self.old).printed (map S.text cells.items) false) (living D.width (λ _. heights) C.color self.old).printed.rows (row_text (living D.width (λ _. heights) C.color self.old).printed (map S.text cells.items) false) buf.old buf.new result }
+        ensures appends { (heights : ℕ → ℕ) → IsNextHeight (living D.width (λ _. heights) C.color self.old).printed height
+            → OnOk result (string_bytes buf.new ≡ string_bytes buf.old ++ row_text (living D.width (λ _. heights) C.color self.old).printed (map S.text cells.items) false) }
+        ensures after { (heights : ℕ → ℕ) → IsNextHeight (living D.width (λ _. heights) C.color self.old).printed height
+            → OnOk result (living D.width (λ _. heights) C.color self.new ≡ record { printed = after_row (living D.width (λ _. heights) C.color self.old).printed (map S.text cells.items) false; is_lost = false }) }
+        ensures prints { (heights : ℕ → ℕ) → IsNextHeight (living D.width (λ _. heights) C.color self.old).printed height
+            → (living D.width (λ _. heights) C.color self.old).is_lost ≡ false
+            → AppendsIf (RowFits (living D.width (λ _. heights) C.color self.old).printed (map S.text cells.items) false) (living D.width (λ _. heights) C.color self.old).printed.rows (row_text (living D.width (λ _. heights) C.color self.old).printed (map S.text cells.items) false) buf.old buf.new result }
         ensures misfit { (row : ℕ) → result ≡ Err (StreamFault.Row row) → self.new ≡ self.old }
         ensures memory { result ≡ Err StreamFault.Memory → (living D.width D.height C.color self.new).is_lost ≡ true }
         ensures lost { (living D.width D.height C.color self.old).is_lost ≡ true → (result ≡ Err StreamFault.Memory) × (buf.new ≡ buf.old) }
@@ -178,9 +185,13 @@ impl<'a, S: AsStr + Drop, D: Dimension, C: Colors, B: Allocator, A: Allocator> S
         cells: &[X],
         buf: &mut String<W>,
     ) -> Result<(), StreamFault>
-        ensures appends { (heights : ℕ → ℕ) → IsNextHeight (living D.width (λ _. heights) C.color self.old).printed 1 → OnOk result (string_bytes buf.new ≡ string_bytes buf.old ++ row_text (living D.width (λ _. heights) C.color self.old).printed (map X.text cells.now) false) }
-        ensures after { (heights : ℕ → ℕ) → IsNextHeight (living D.width (λ _. heights) C.color self.old).printed 1 → OnOk result (living D.width (λ _. heights) C.color self.new ≡ record { printed = after_row (living D.width (λ _. heights) C.color self.old).printed (map X.text cells.now) false; is_lost = false }) }
-        ensures prints { (heights : ℕ → ℕ) → IsNextHeight (living D.width (λ _. heights) C.color self.old).printed 1 → (living D.width (λ _. heights) C.color self.old).is_lost ≡ false → AppendsIf (LentFits (living D.width (λ _. heights) C.color self.old).printed (map X.text cells.now)) (living D.width (λ _. heights) C.color self.old).printed.rows (row_text (living D.width (λ _. heights) C.color self.old).printed (map X.text cells.now) false) buf.old buf.new result }
+        ensures appends { (heights : ℕ → ℕ) → IsNextHeight (living D.width (λ _. heights) C.color self.old).printed 1
+            → OnOk result (string_bytes buf.new ≡ string_bytes buf.old ++ row_text (living D.width (λ _. heights) C.color self.old).printed (map X.text cells.now) false) }
+        ensures after { (heights : ℕ → ℕ) → IsNextHeight (living D.width (λ _. heights) C.color self.old).printed 1
+            → OnOk result (living D.width (λ _. heights) C.color self.new ≡ record { printed = after_row (living D.width (λ _. heights) C.color self.old).printed (map X.text cells.now) false; is_lost = false }) }
+        ensures prints { (heights : ℕ → ℕ) → IsNextHeight (living D.width (λ _. heights) C.color self.old).printed 1
+            → (living D.width (λ _. heights) C.color self.old).is_lost ≡ false
+            → AppendsIf (LentFits (living D.width (λ _. heights) C.color self.old).printed (map X.text cells.now)) (living D.width (λ _. heights) C.color self.old).printed.rows (row_text (living D.width (λ _. heights) C.color self.old).printed (map X.text cells.now) false) buf.old buf.new result }
         ensures misfit { (row : ℕ) → result ≡ Err (StreamFault.Row row) → self.new ≡ self.old }
         ensures memory { result ≡ Err StreamFault.Memory → (living D.width D.height C.color self.new).is_lost ≡ true }
         ensures lost { (living D.width D.height C.color self.old).is_lost ≡ true → (result ≡ Err StreamFault.Memory) × (buf.new ≡ buf.old) }
@@ -221,7 +232,9 @@ impl<'a, S: AsStr + Drop, D: Dimension, C: Colors, B: Allocator, A: Allocator> S
     ///
     /// [`LiveStream::finish`]: crate::LiveStream::finish
     pub fn finish<W: Allocator>(self, buf: &mut String<W>) -> Result<(), StreamFault>
-        ensures ends { (heights : ℕ → ℕ) → CountsLines (living D.width (λ _. heights) C.color self.entry).printed → (living D.width (λ _. heights) C.color self.entry).is_lost ≡ false → AppendsEnd (living D.width (λ _. heights) C.color self.entry).printed buf.old buf.new result }
+        ensures ends { (heights : ℕ → ℕ) → CountsLines (living D.width (λ _. heights) C.color self.entry).printed
+            → (living D.width (λ _. heights) C.color self.entry).is_lost ≡ false
+            → AppendsEnd (living D.width (λ _. heights) C.color self.entry).printed buf.old buf.new result }
         ensures lost { (living D.width D.height C.color self.entry).is_lost ≡ true → (result ≡ Err StreamFault.Memory) × (buf.new ≡ buf.old) }
         ensures empty { (living D.width D.height C.color self.entry).is_lost ≡ false → (living D.width D.height C.color self.entry).printed.rows ≡ 0 → IsOk result × (buf.new ≡ buf.old) }
     {

@@ -37,4 +37,6 @@ HasHuge config text rows columns = (r : ℕ) × (r < rows) × HasHugeIn config t
 -- sizes of columns, or of rows, widened for the cells with a span
 unfoldable pub with_room : Axis → Config → List (List Text) → ℕ → List ℕ → List ℕ
 with_room axis config texts columns sizes =
-    map (widened (slice_index sizes) (map (need_of axis config (text_at texts) (count axis (length texts) columns)) config.spans) (count axis (length texts) columns)) (range_with_len 0 (count axis (length texts) columns))
+    map
+    (widened (slice_index sizes) (map (need_of axis config (text_at texts) (count axis (length texts) columns)) config.spans) (count axis (length texts) columns))
+    (range_with_len 0 (count axis (length texts) columns))

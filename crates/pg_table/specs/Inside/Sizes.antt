@@ -20,7 +20,8 @@ size_of texts columns s axis k = plain_size axis s.config.now (text_at (texts s.
 
 abbrev pub sizes_of : {R B : Type 0} → (R → List (List Text)) → (R → ℕ) → NaturalSizes R B → Axis → List ℕ
 sizes_of texts columns s axis =
-    map (plain_size axis s.config.now (text_at (texts s.records)) (count_cells axis (length (texts s.records)) (columns s.records))) (range_with_len 0 (count axis (length (texts s.records)) (columns s.records)))
+    map (plain_size axis s.config.now (text_at (texts s.records)) (count_cells axis (length (texts s.records)) (columns s.records)))
+    (range_with_len 0 (count axis (length (texts s.records)) (columns s.records)))
 
 abbrev pub count_of : {R B : Type 0} → (R → List (List Text)) → (R → ℕ) → NaturalSizes R B → Axis → ℕ
 count_of texts columns s axis = count axis (length (texts s.records)) (columns s.records)
