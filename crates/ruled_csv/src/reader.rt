@@ -1,6 +1,6 @@
 //! Rows whose bytes come in pieces.
 
-ghost use Rattle.std.specs.Prelude.{◌≡◌, ◌≤◌, ◌++◌, ◌∷◌, [], ℕ, List, length, map, take, Some, IfOk, OnErr, OnOk};
+ghost use Rattle.std.specs.Prelude.{◌≡◌, ◌≤◌, ◌++◌, ◌∷◌, [], ℕ, List, length, map, take, Some, IfOk, IsOk, OnErr, OnOk};
 ghost use Rattle.csv.specs.Records.{fields_of};
 ghost use Rattle.ruled_csv.specs.declared.dialect.Dialect.{Dialect};
 ghost use Rattle.ruled_csv.specs.Faults.{Tells, has_length, number_of, row_fault, rows_fault, sound_rows};
@@ -191,6 +191,7 @@ impl RowReader {
         ensures cut { (dialect : Dialect) (before behind : List ℕ) → HasRead dialect before self → OnErr result
             (AppendsSome (ended_rows dialect before) (sound_rows dialect ((before ++ bytes.now) ++ behind))
             (map fields_of rows.old.items) (map fields_of rows.new.items)) }
+        ensures nothing { bytes.now ≡ [] → IsOk result }
     {
         let mut reader = self;
         let mut at = 0;
@@ -213,6 +214,7 @@ impl RowReader {
             (AppendsRest (ended_rows dialect bytes) (sound_rows dialect bytes)
             (map fields_of rows.old.items) (map fields_of rows.new.items)) }
         ensures kept { OnErr result (rows.new.items ≡ rows.old.items) }
+        ensures nothing { (dialect : Dialect) → HasRead dialect [] self → IsOk result }
     {
         let mut reader = self;
         match reader.scanner.end()? {

@@ -1,6 +1,6 @@
 //! Rows, read from bytes.
 
-ghost use Rattle.std.specs.Prelude.{◌≡◌, map, IfOk};
+ghost use Rattle.std.specs.Prelude.{◌≡◌, [], map, IfOk, IsOk};
 ghost use Rattle.csv.specs.Records.{fields_of};
 ghost use Rattle.ruled_csv.specs.Faults.{Tells, rows_fault};
 ghost use Rattle.ruled_csv.specs.Rows.{rows_of};
@@ -17,7 +17,7 @@ use std::alloc::Global;
 /// end a row, an empty line is no row, and a byte order mark at the front is skipped. The fault is
 /// that of the first bad row: one with another number of fields than row 0, unless rows may be
 /// ragged, one that isn't UTF-8, or one in which a quote isn't closed or is followed by text. The
-/// only other fault is out of memory.
+/// only other fault is out of memory, which no bytes need.
 pub fn read_rows(
     alloc: Global,
     dialect: Dialect,
@@ -25,6 +25,7 @@ pub fn read_rows(
 ) -> Result<Vec<StringRecord>, RowsFault>
     ensures rows { IfOk result (λ rows. map fields_of rows.items ≡ rows_of dialect bytes.now) }
     ensures fault { Tells (rows_fault dialect bytes.now) result }
+    ensures nothing { bytes.now ≡ [] → IsOk result }
 {
     let mut rows = Vec::new(alloc);
     let reader = RowReader::new(alloc, dialect).read(bytes, &mut rows)?;

@@ -1,6 +1,6 @@
 //! Rows, read byte by byte.
 
-ghost use Rattle.std.specs.Prelude.{◌≡◌, ◌<◌, ◌≤◌, ◌++◌, ◌∷◌, ℕ, [], false, true, not, IfOk, IsTrue, OnOk, length, option_map, take};
+ghost use Rattle.std.specs.Prelude.{◌≡◌, ◌<◌, ◌≤◌, ◌++◌, ◌∷◌, ℕ, [], false, true, not, None, Ok, IfOk, IsTrue, OnOk, length, option_map, take};
 ghost use Rattle.std.specs.List.{list_all};
 ghost use Rattle.csv.specs.Machine.{in_field, start_field, step};
 ghost use Rattle.csv.specs.Records.{fields_of};
@@ -357,6 +357,7 @@ impl Scanner {
     pub(crate) fn end(&mut self) -> Result<Option<ByteRecord>, RowsFault>
         ensures row { IfOk result (λ found. option_map fields_of found ≡ last_row (hand_of self.old)) }
         ensures fault { Tells (open_fault (hand_of self.old)) result }
+        ensures nothing { hand_of self.old ≡ empty_hand → result ≡ Ok None }
         ensures dialect { self.new.dialect ≡ self.old.dialect }
     {
         match self.standing {

@@ -2,6 +2,7 @@ pub mod AtOnce
 pub mod Beginnings
 mod Marks
 mod Members
+mod Nothing
 mod Padding
 mod Pieces
 mod Results

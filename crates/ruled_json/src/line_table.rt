@@ -1,6 +1,6 @@
 //! The table of records, one on each line.
 
-ghost use Rattle.std.specs.Prelude.{◌≡◌, ◌∷◌, ◌++◌, [], ℕ, List, fold, length, map, None, Some, IfOk, OnOk, if◌then◌else◌};
+ghost use Rattle.std.specs.Prelude.{◌≡◌, ◌∷◌, ◌++◌, [], ℕ, List, fold, length, map, None, Some, IfOk, IsOk, OnOk, if◌then◌else◌};
 ghost use Rattle.csv.specs.Records.{fields_of};
 ghost use Rattle.json.specs.Json.{Json};
 ghost use Rattle.json.specs.Tree.{HasNumbers};
@@ -176,11 +176,15 @@ impl LineTable {
 /// [`read_rows`](crate::read_rows) gives them for an array of these objects. A blank line is no
 /// row.
 ///
-/// The fault is that of the first bad line. The only other fault is out of memory.
+/// The fault is that of the first bad line. The only other fault is out of memory, which no bytes need.
 pub fn read_line_rows(alloc: Global, bytes: &[u8]) -> Result<Vec<StringRecord>, JsonFault>
     ensures rows { IfOk result (λ rows. map fields_of rows.items ≡ line_rows_of bytes.now) }
     ensures fault { Tells (line_rows_fault bytes.now) result }
+    ensures nothing { bytes.now ≡ [] → IsOk result }
 {
+    if bytes.is_empty() {
+        return Ok(Vec::new(alloc));
+    }
     let lines = lines_of(alloc, bytes)?;
     let count = lines.len();
     let mut table = LineTable::new(alloc, count);

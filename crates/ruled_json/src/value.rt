@@ -1,12 +1,14 @@
 //! Rows of one value.
 
-ghost use Rattle.std.specs.Prelude.{◌≡◌, All, IsUtf8, Some, fold, map, string_bytes, IfOk, OnErr};
+ghost use Rattle.std.specs.Prelude.{◌≡◌, All, Err, IsUtf8, Some, [], fold, map, string_bytes, IfOk, OnErr};
 ghost use Rattle.csv.specs.Records.{fields_of};
 ghost use Rattle.json.specs.Json.{document};
 ghost use Rattle.json.specs.Tree.{HasNumbers};
 ghost use Rattle.json.specs.Value.{value_view};
 ghost use Rattle.ruled_json.specs.Faults.{Tells, but_near, first_fault, is_value, record_fault, rows_fault, text_fault, value_fault};
 ghost use Rattle.ruled_json.specs.Rows.{columns_of, records_in, rows_of, table_of};
+ghost use Rattle.ruled_json.specs.declared.fault.JsonFault.TheVariants.{Syntax};
+ghost use Rattle.ruled_json.specs.declared.place.Place.TheVariants.{Near};
 
 use crate::fault::JsonFault;
 use crate::member_names::MemberNames;
@@ -127,11 +129,15 @@ fn table_of(alloc: Global, records: &[Value<'_>]) -> Result<Vec<StringRecord>, A
 /// name the last one counts. If no record has a member, there are no rows.
 ///
 /// The fault is that of the text, else that of the value, else that of the first record that isn't
-/// an object. The only other fault is out of memory.
+/// an object. The only other fault is out of memory, which no bytes need.
 pub fn read_rows(alloc: Global, bytes: &[u8]) -> Result<Vec<StringRecord>, JsonFault>
     ensures rows { IfOk result (λ rows. map fields_of rows.items ≡ rows_of bytes.now) }
     ensures fault { Tells (rows_fault bytes.now) result }
+    ensures nothing { bytes.now ≡ [] → result ≡ Err (Syntax (Near 1)) }
 {
+    if bytes.is_empty() {
+        return Err(JsonFault::Syntax(Place::Near(1)));
+    }
     let mut scratch = Scratch::new(alloc);
     let value = value_of(alloc, &mut scratch, bytes, Place::Near(0))?;
     let records = records_in(&value)?;

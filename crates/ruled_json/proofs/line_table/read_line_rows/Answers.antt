@@ -1,14 +1,24 @@
-use Rattle.std.proofs.Common.{◌≡◌, ◌∙◌, ℕ, List, [], ap, arith, length, map, subst, sym, take}
+use Rattle.std.proofs.Common.{◌≡◌, ◌∙◌, ℕ, List, [], ap, arith, eqb-true, length, map, subst, sym, take}
+use Rattle.std.proofs.lemmas.List.{nil_from_length}
 use Rattle.csv.specs.Records.{fields_of}
 use Rattle.ruled_json.specs.Faults.{but_line, line_rows_fault}
 use Rattle.ruled_json.specs.Reading.{AppendsRest, HasLines}
-use Rattle.ruled_json.specs.Rows.{records_on}
+use Rattle.ruled_json.specs.Rows.{line_rows_of, records_on}
 use Rattle.ruled_json.specs.Streamed.{ended_table, first_fault_behind, streamed_table}
 use Rattle.ruled_json.proofs.AtOnce.{all-texts, bad-at, next-lines, next-rows, texts, whole-fault, whole-rows}
 use Rattle.ruled_json.proofs.StreamedLines.{all-right}
 use Rattle.ruled_json.proofs.Tables.{no-table}
 use Rattle.ruled_json.proofs.Texts.{handed_on}
 use Rattle.ruled_json.proofs.line_table.read_line_rows.Goals as goal
+
+pub returns-then-is_empty-clause-rows : goal.returns-then-is_empty-clause-rows
+unfolding line_rows_of
+returns-then-is_empty-clause-rows c =
+    ap (map fields_of) c.new.ensures.items ∙ sym (ap line_rows_of (nil_from_length c.args.bytes.now (eqb-true _ 0 (sym c.is_empty.ensures ∙ c.if-is_empty.true))))
+
+pub returns-then-is_empty-clause-fault : goal.returns-then-is_empty-clause-fault
+unfolding line_rows_fault
+returns-then-is_empty-clause-fault c = ap line_rows_fault (nil_from_length c.args.bytes.now (eqb-true _ 0 (sym c.is_empty.ensures ∙ c.if-is_empty.true)))
 
 pub loop-line-init : goal.loop-line-init
 loop-line-init c = (c.new-table.ensures, ap (map fields_of) c.new-rows.ensures.items ∙ sym (no-table c.len-count.result))

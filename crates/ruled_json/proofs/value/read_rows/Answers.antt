@@ -1,11 +1,17 @@
-use Rattle.std.proofs.Common.{◌∙◌, ap, sym, subst, All, None, Some}
+use Rattle.std.proofs.Common.{◌∙◌, ap, sym, subst, All, None, Some, eqb-true}
+use Rattle.std.proofs.lemmas.List.{nil_from_length}
 use Rattle.json.specs.Tree.{HasNumbers}
 use Rattle.json.specs.Value.{value_view}
 use Rattle.ruled_json.specs.Faults.{but_line, rows_fault}
 use Rattle.ruled_json.specs.Rows.{records_of, rows_of, table_of}
+use Rattle.ruled_json.proofs.Nothing.{nothing_told}
 use Rattle.ruled_json.proofs.Texts.{handed_on, text_told, value_told}
 use Rattle.ruled_json.proofs.Views.{records_have_numbers}
 use Rattle.ruled_json.proofs.value.read_rows.Goals as goal
+
+pub returns-then-is_empty-clause-fault : goal.returns-then-is_empty-clause-fault
+returns-then-is_empty-clause-fault c = λ _.
+    ap rows_fault (nil_from_length c.args.bytes.now (eqb-true _ 0 (sym c.is_empty.ensures ∙ c.if-is_empty.true))) ∙ nothing_told
 
 pub returns-in_err-value-clause-fault : goal.returns-in_err-value-clause-fault
 returns-in_err-value-clause-fault c =

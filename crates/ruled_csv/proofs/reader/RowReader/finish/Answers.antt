@@ -1,10 +1,10 @@
-use Rattle.std.proofs.Common.{◌∙◌, ◌≡◌, Option, Some, None, map, append-nil, refl, sym, ap, subst}
-use Rattle.std.specs.Prelude.{option_map}
+use Rattle.std.proofs.Common.{◌∙◌, ◌≡◌, Option, Some, None, map, append-nil, refl, sym, ap, subst, true≢false}
+use Rattle.std.specs.Prelude.{is_err, is_some, option_map}
 use Rattle.std.proofs.lemmas.Result.{on_ok_weaker}
 use Rattle.csv.specs.Reading.{strip_bom}
 use Rattle.csv.specs.Records.{fields_of}
 use Rattle.ruled_csv.specs.Faults.{Tells, rows_fault}
-use Rattle.ruled_csv.specs.Inside.{fault_below, hand_of, open_fault, scan_of}
+use Rattle.ruled_csv.specs.Inside.{fault_below, hand_of, last_row, open_fault, scan_of}
 use Rattle.ruled_csv.specs.declared.dialect.Dialect.{Dialect}
 use Rattle.ruled_csv.specs.declared.fault.RowsFault.{RowsFault}
 use Rattle.ruled_csv.proofs.Readers.{fault-end, fault-open, on-error, rows-end, sound-told, told-on}
@@ -47,3 +47,13 @@ returns-in_err-fields-clause-sound c = λ dialect bytes read.
 pub returns-in-Some-clause-sound : goal.returns-in-Some-clause-sound
 returns-in-Some-clause-sound c = λ dialect bytes read.
     sound-told dialect bytes c.args.self read c.give.result fields_of c.args.rows.now.items c.give.new.rows.items (returns-in-Some-clause-fault c dialect bytes read) c.give.ensures.kept
+
+pub returns-in_err-fields-clause-nothing : goal.returns-in_err-fields-clause-nothing
+unfolding strip_bom
+returns-in_err-fields-clause-nothing c = λ dialect read. absurd (true≢false (ap is_err (c.in_err-fields.ensures.nothing read.scan.hand)))
+
+pub returns-in-Some-clause-nothing : goal.returns-in-Some-clause-nothing
+unfolding strip_bom
+returns-in-Some-clause-nothing c = λ dialect read.
+    let row = ap (option_map fields_of) (sym c.in-Some.is) ∙ c.in_ok-fields.ensures.row in
+    absurd (true≢false (ap is_some (row ∙ ap last_row read.scan.hand)))
