@@ -64,17 +64,17 @@ module _ (t : Table) (can : CanDraw t) where
 
   -- what the calls answer that add up widths and heights of the table's parts
   module _ (u : Table) (same : u ≡ t) (p : Position) (o : IsOwner t p) where
-    pub width-answer : (columns : ℕ) → columns ≡ t.columns → (answer : Option ℕ)
+    pub rect-width-answer : (columns : ℕ) → columns ≡ t.columns → (answer : Option ℕ)
         → ((rows : ℕ) → answer ≡ if_fits (rect_width (sized u.config u.width u.height rows columns) p)) → answer ≡ Some (rect_width t p)
-    width-answer columns is answer answers =
+    rect-width-answer columns is answer answers =
         answers t.rows
         ∙ ap₂ (λ (s : Table) (n : ℕ). if_fits (rect_width (sized s.config s.width s.height t.rows n) p)) same is
         ∙ ap if_fits (rect_width-sized t p)
         ∙ width_answer t p can.fits.totals (owner_inside p o)
 
-    pub height-answer : (answer : Option ℕ)
+    pub rect-height-answer : (answer : Option ℕ)
         → answer ≡ (if nat_lt (p.row + rect_rows u.config.spans p) (2 ^ 64) then if_fits (height_of_rect u.config u.height p) else None) → answer ≡ Some (rect_height t p)
-    height-answer answer answers =
+    rect-height-answer answer answers =
         answers
         ∙ ap (λ (s : Table). if nat_lt (p.row + rect_rows s.config.spans p) (2 ^ 64) then if_fits (height_of_rect s.config s.height p) else None) same
         ∙ height_answer t p can.fits.totals (owner_inside p o)

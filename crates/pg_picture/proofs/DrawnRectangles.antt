@@ -78,9 +78,9 @@ module _ (config : Config) (height : ℕ → ℕ) where
       omega (arith, marks, one, more, z)
 
   -- so many marks of the rectangle stand before line i of row a + k
-  line_place : (rows a b k i : ℕ) → a + k < b → b ≤ rows → length (filter (stands_within a b) (before_line config height (a + k) i)) ≡ rows_high config height rows a k + i
+  line_counted : (rows a b k i : ℕ) → a + k < b → b ≤ rows → length (filter (stands_within a b) (before_line config height (a + k) i)) ≡ rows_high config height rows a k + i
   unfolding before_line
-  line_place rows a b k i h l =
+  line_counted rows a b k i h l =
       let parts = three_parts a b (marks_above config height (a + k)) (only_if (has_horizontal config (a + k) ((a + k) + 1)) (sep (a + k))) (map (line (a + k)) (range_with_len 0 i)) in
       let before = marks_before rows a b k h l in
       let lines = kept_lines a b (a + k) i (omega arith) h in
@@ -92,7 +92,7 @@ module _ (config : Config) (height : ℕ → ℕ) where
       let e : a + (r - a) ≡ r = omega (arith, h) in
       let there : a + (r - a) < b = omega (arith, h, k) in
       place_of_line config height rows a b r i (omega (arith, k, l)) inside h k
-      ∙ subst (λ n. length (filter (stands_within a b) (before_line config height n i)) ≡ rows_high config height rows a (r - a) + i) e (line_place rows a b (r - a) i there l)
+      ∙ subst (λ n. length (filter (stands_within a b) (before_line config height n i)) ≡ rows_high config height rows a (r - a) + i) e (line_counted rows a b (r - a) i there l)
 
   -- ---- separators
 
@@ -116,9 +116,9 @@ module _ (config : Config) (height : ℕ → ℕ) where
       let a : marks_above config height rows ≡ marks_above config height (suc r) ++ rows_from config height (suc r) j = subst (λ n. marks_above config height n ≡ marks_above config height (suc r) ++ rows_from config height (suc r) j) e (marks_above-add config height (suc r) j) in
       rw (a, there) (simp append_assoc)
 
-  sep_place : (rows a b r : ℕ) → r < rows → a < r → r < b → has_horizontal config r (r + 1) ≡ true → place_of (sep r) (marks_within config height rows a b) ≡ length (filter (stands_within a b) (marks_above config height r))
+  sep_counted : (rows a b r : ℕ) → r < rows → a < r → r < b → has_horizontal config r (r + 1) ≡ true → place_of (sep r) (marks_within config height rows a b) ≡ length (filter (stands_within a b) (marks_above config height r))
   unfolding place_of marks_within
-  sep_place rows a b r h l m there =
+  sep_counted rows a b r h l m there =
       rw (split_at_sep rows r h there)
       (index_in_filter (same_mark (sep r)) (stands_within a b) (sep r) (marks_above config height r) (after_sep rows r)
       (grind (arith, nat_tests)) (grind (arith, nat_tests)) (sep_not_above r r (omega arith)))
@@ -129,7 +129,7 @@ module _ (config : Config) (height : ℕ → ℕ) where
       let e : a + (r - a) ≡ r = omega (arith, h) in
       let inside : a + (r - a) < b = omega (arith, h, k) in
       let stays = sep-stays config r rows (omega (arith, k, l)) in
-      let place = sep_place rows a b r (omega (arith, k, l)) h k (stays ∙ there) in
+      let place = sep_counted rows a b r (omega (arith, k, l)) h k (stays ∙ there) in
       let before = subst (λ n. length (filter (stands_within a b) (marks_above config height n)) + length (filter (stands_within a b) (only_if (has_horizontal config n (n + 1)) (sep n))) ≡ rows_high config height rows a (r - a)) e (marks_before rows a b (r - a) inside l) in
       let one : length (filter (stands_within a b) (only_if (has_horizontal config r (r + 1)) (sep r))) ≡ 1 =
       sep_kept a b r rows (omega (arith, k, l)) k (has_horizontal config r (r + 1)) stays h ∙ ap (λ (x : Bool). cond x 1 0) there in
@@ -154,7 +154,7 @@ module _ (config : Config) (height : ℕ → ℕ) where
   unfolding marks_within
   sep-within rows a b r h k l there =
       let stays = sep-stays config r rows (omega (arith, k, l)) in
-      let place = sep_place rows a b r (omega (arith, k, l)) h k (stays ∙ there) in
+      let place = sep_counted rows a b r (omega (arith, k, l)) h k (stays ∙ there) in
       let less = place_less a b (sep r) (marks_above config height r) (after_sep rows r) (place_of (sep r) (marks_within config height rows a b)) (grind (arith, nat_tests, h, k)) place in
       subst (λ (m : List Mark). place_of (sep r) (marks_within config height rows a b) < length (filter (stands_within a b) m)) (sym (split_at_sep rows r (omega (arith, k, l)) (stays ∙ there))) less
 

@@ -5,7 +5,7 @@ use Rattle.pg_picture.specs.Rectangles.{IsOwner}
 use Rattle.pg_picture.specs.Table.{Table, rect_width, rect_height}
 use Rattle.pg_picture.proofs.FittingTables.{some_is}
 use Rattle.pg_picture.proofs.Ranges.{is_some_answer}
-use Rattle.pg_peekable.proofs.CanDraw.{owner_inside, width-answer, height-answer, lines-none}
+use Rattle.pg_peekable.proofs.CanDraw.{owner_inside, rect-width-answer, rect-height-answer, lines-none}
 use Rattle.pg_peekable.proofs.looked_up_table.LookedUpTable.rectangle_of.Goals as goal
 
 pub width_of_columns-requires-clause-count : goal.width_of_columns-requires-clause-count
@@ -24,7 +24,7 @@ width_of_columns-requires-clause-inside g c =
 pub unwrap-width-requires : goal.unwrap-width-requires
 unwrap-width-requires g c =
     let own = subst (IsOwner g.T.TableMarker.table) (sym c.corner_of-corner.ensures) c.requires.owner.owner in
-    is_some_answer (width-answer g.T.TableMarker.table c.args.self.now.can _ c.args.self.now.is c.corner_of-corner.result own c.args.self.now.sheet.columns c.args.self.now.shape.columns c.width_of_columns.result c.width_of_columns.ensures)
+    is_some_answer (rect-width-answer g.T.TableMarker.table c.args.self.now.can _ c.args.self.now.is c.corner_of-corner.result own c.args.self.now.sheet.columns c.args.self.now.shape.columns c.width_of_columns.result c.width_of_columns.ensures)
 
 pub height_of_rows-requires-clause-count : goal.height_of_rows-requires-clause-count
 height_of_rows-requires-clause-count g c = c.requires.owner.rows ∙ ap₂ (λ (t : Table) (p : Position). rect_rows t.config.spans p) (sym c.args.self.now.is) (sym c.corner_of-corner.ensures)
@@ -37,7 +37,7 @@ height_of_rows-requires-clause-some g c =
 pub unwrap-height-requires : goal.unwrap-height-requires
 unwrap-height-requires g c =
     let own = subst (IsOwner g.T.TableMarker.table) (sym c.corner_of-corner.ensures) c.requires.owner.owner in
-    is_some_answer (height-answer g.T.TableMarker.table c.args.self.now.can _ c.args.self.now.is c.corner_of-corner.result own c.height_of_rows.result c.height_of_rows.ensures)
+    is_some_answer (rect-height-answer g.T.TableMarker.table c.args.self.now.can _ c.args.self.now.is c.corner_of-corner.result own c.height_of_rows.result c.height_of_rows.ensures)
 
 pub invariant_of-result : goal.invariant_of-result
 invariant_of-result g c =
@@ -48,8 +48,8 @@ invariant_of-result g c =
     record {
       is = record {
         owner = own;
-        width = some_is c.unwrap-width.result (rect_width t p) (sym c.unwrap-width.ensures ∙ width-answer t self.can _ self.is p own self.sheet.columns self.shape.columns c.width_of_columns.result c.width_of_columns.ensures);
-        height = some_is c.unwrap-height.result (rect_height t p) (sym c.unwrap-height.ensures ∙ height-answer t self.can _ self.is p own c.height_of_rows.result c.height_of_rows.ensures);
+        width = some_is c.unwrap-width.result (rect_width t p) (sym c.unwrap-width.ensures ∙ rect-width-answer t self.can _ self.is p own self.sheet.columns self.shape.columns c.width_of_columns.result c.width_of_columns.ensures);
+        height = some_is c.unwrap-height.result (rect_height t p) (sym c.unwrap-height.ensures ∙ rect-height-answer t self.can _ self.is p own c.height_of_rows.result c.height_of_rows.ensures);
         begun = omega arith;
         above = lines-none t self.can p.row;
       };
