@@ -12,4 +12,3 @@ mod RowsConfig
 mod RowsFits
 mod RowsPictures
 mod RowsPrinting
-mod RowsShown

@@ -21,7 +21,7 @@ use Rattle.pg_table.specs.Spanning.{keeps_spans, least_cell_width, widths_from, 
 use Rattle.pg_table.proofs.FittedColumns.{same-listed, length-fitted}
 use Rattle.pg_table.proofs.FittedPlaces.{texts-are, table-is, table-narrow, columns-limited}
 use Rattle.pg_table.proofs.SpannedWidths.{width-is, full-is, rooms, sum-widths, width-limited, least-kept, full-kept}
-use Rattle.pg_table.proofs.Sums.{sum-same}
+use Rattle.pg_table.proofs.Widenings.{sum-same}
 use Rattle.pg_table.proofs.ToldRooms.{HaveRoom}
 
 -- a table that keeps no spans is at its natural sizes, whatever widths are told

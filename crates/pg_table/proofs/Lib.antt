@@ -3,7 +3,6 @@ pub mod ListedSizes
 pub mod NaturalRoom
 pub mod Faults
 pub mod StraightTables
-pub mod Sums
 pub mod Widenings
 pub mod ShownCells
 pub mod PlainCells
@@ -16,6 +15,5 @@ pub mod ToldRooms
 pub mod ToldTables
 pub mod RaisedWidths
 pub mod SpannedWidths
-pub mod LeastWidths
 pub mod FittedTables
 pub mod NaturalHeights

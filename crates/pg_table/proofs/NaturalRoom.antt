@@ -30,9 +30,8 @@ use Rattle.pg_table.specs.declared.needs.Need.{Need}
 use Rattle.pg_table.specs.declared.sizes.Axis.{Axis}
 use Rattle.pg_table.specs.declared.sizes.Axis.TheVariants.{Columns, Rows}
 use Rattle.pg_table.proofs.ListedSizes.{cell-below, natural-with_cells, size-at, all_fit-each, sum-listed}
-use Rattle.pg_table.proofs.Widenings.{cells_have_room, no_column_shrinks, widened-stays, widened-base}
+use Rattle.pg_table.proofs.Widenings.{cells_have_room, no_column_shrinks, widened-stays, widened-base, sum-same}
 use Rattle.pg_table.proofs.ShownCells.{fits-among, all-among, among-all, size-single, size-corner}
-use Rattle.pg_table.proofs.Sums.{sum-same}
 use Rattle.std.proofs.lemmas.List.FromFn.{length-map-range_with_len, get_or-map-range_with_len, fill_by_all}
 use Rattle.pg_table.specs.Inside.Measuring.{with_room}
 

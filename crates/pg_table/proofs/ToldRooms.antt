@@ -13,11 +13,10 @@ use Rattle.pg_table.specs.Natural.{is_single, cell_size, is_sized, natural_table
 use Rattle.pg_table.specs.Spanning.{singles_width, room_needed, width_for}
 use Rattle.pg_table.specs.Widening.{lacking, widened}
 use Rattle.pg_table.specs.declared.needs.Need.{Need}
-use Rattle.pg_table.proofs.Widenings.{cells_have_room, no_column_shrinks, enough_stays}
+use Rattle.pg_table.proofs.Widenings.{cells_have_room, no_column_shrinks, enough_stays, sum-le}
 use Rattle.pg_table.proofs.FittedColumns.{greatest-below}
 use Rattle.pg_table.proofs.NaturalRoom.{Inside, inside-of, has_room, height-at, single_below, all_fits, high_span}
 use Rattle.pg_table.proofs.ShownCells.{fits-among, all-among, among-all, size-single, size-corner, IsCorner, shown-cases, sized-from, cells-from}
-use Rattle.pg_table.proofs.Sums.{sum-le}
 use Rattle.pg_layout.specs.Colors.{Color}
 use Rattle.pg_layout.specs.Records.{text_at}
 use Rattle.pg_layout.specs.Text.{Text}

@@ -22,7 +22,7 @@ use Rattle.pg_table.proofs.Faults.{fault-none, fault-fits, fault-totals}
 use Rattle.pg_table.proofs.FitFaults.{kept-parts}
 use Rattle.pg_table.proofs.ListedSizes.{size-at}
 use Rattle.pg_table.proofs.StraightTables.{straight-of, even-of}
-use Rattle.pg_table.proofs.Sums.{sum-same}
+use Rattle.pg_table.proofs.Widenings.{sum-same}
 use Rattle.pg_table.proofs.ToldRooms as told_rooms
 use Rattle.pg_table.proofs.ToldRooms.{HaveRoom, inside, single-below, corner-below}
 

@@ -5,7 +5,7 @@ use Rattle.csv.specs.Machine.{next_record}
 use Rattle.csv.specs.Reading.{records_from, strip_bom}
 use Rattle.ruled_csv.proofs.Readers as csv
 use Rattle.ruled_json.proofs.AtOnce as at_once
-use Rattle.ruled_json.proofs.Beginnings as json
+use Rattle.ruled_json.proofs.AtOnce as json
 use Rattle.ruled_json.specs.Rows as json_rows
 use Rattle.pg_layout.specs.Text.{Text}
 use Rattle.ruled_csv.specs.Faults as csv_faults

@@ -8,7 +8,7 @@ use Rattle.ruled_io.specs.declared.reader.Reader.{Reader}
 use Rattle.ruled_io.specs.declared.reader.Reader.TheVariants.{Rows, Lines}
 use Rattle.ruled_io.specs.declared.reader.Reading.{Reading}
 use Rattle.ruled_csv.proofs.Readers as csv
-use Rattle.ruled_json.proofs.Beginnings as json
+use Rattle.ruled_json.proofs.AtOnce as json
 use Rattle.ruled_io.specs.declared.reader.Reading.TheVariants.{More, Done}
 
 -- rows that are complete are a beginning of all

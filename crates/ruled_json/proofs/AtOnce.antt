@@ -1,15 +1,24 @@
--- All lines at once, and as they are streamed.
-use Rattle.std.proofs.Common.{◌≡◌, ◌∙◌, ◌∷◌, ◌++◌, ◌+◌, ◌<◌, ◌≤◌, ℕ, List, [], None, Some, map, take, drop, length, get_or, arith, sym, ap}
+-- All lines at once, and what is read as a beginning of them.
+use Rattle.std.proofs.Common.{◌≡◌, ◌∙◌, ◌∷◌, ◌++◌, ◌+◌, ◌<◌, ◌≤◌, ℕ, List, [], None, Some, map, take, drop, length, get_or, arith, sym, ap, Bool, is_none, inl, inr, refl, ◌≢◌, true, false, Option, Result, Ok, Err}
 use Rattle.std.specs.Borrow.{Bor}
-use Rattle.std.proofs.lemmas.List.{length-map, map-append, map_more, drop_more, take_all, take-append-drop}
+use Rattle.std.proofs.lemmas.List.{length-map, map-append, map_more, drop_more, take_all, take-append-drop, append_assoc, append-nil, take-append-le}
 use Rattle.csv.specs.Reading.{strip_bom}
-use Rattle.ruled_json.specs.Faults.{first_line_fault, line_rows_fault}
-use Rattle.ruled_json.specs.Reading.{AppendsRest, HasLines}
-use Rattle.ruled_json.specs.Rows.{line_rows_of, lines_of, records_on, table_of}
-use Rattle.ruled_json.specs.Streamed.{ended_table, fault_behind, first_fault_behind, sound_line_rows, streamed_line_fault, streamed_table}
+use Rattle.ruled_json.specs.Faults.{first_line_fault, line_rows_fault, Tells, but_line}
+use Rattle.ruled_json.specs.Reading.{AppendsRest, HasLines, HasRead, without_front, Foretells, OnFault}
+use Rattle.ruled_json.specs.Rows.{line_rows_of, lines_of, records_on, table_of, columns_of, record_on, row_of, table_in}
+use Rattle.ruled_json.specs.Streamed.{ended_table, fault_behind, first_fault_behind, sound_line_rows, streamed_line_fault, streamed_table, ended_line_rows, ended_lines, first_columns, left_of, lines_above_fault}
 use Rattle.ruled_json.specs.declared.fault.JsonFault.{JsonFault}
 use Rattle.ruled_json.specs.declared.line_table.LineTable.{LineTable}
 use Rattle.ruled_json.proofs.StreamedLines.{all-above, bad-line, few-records, same-fault, same-table}
+use Rattle.std.specs.Prelude.{◌==◌, if◌then◌else◌, IsErrAnd, OnOk}
+use Rattle.std.proofs.lemmas.Bool.{cases_Bool, eqb-true}
+use Rattle.std.proofs.lemmas.List.Elements.{filter_map-append}
+use Rattle.json.specs.Json.{Json}
+use Rattle.ruled_json.specs.declared.line_reader.LineReader.{LineReader}
+use Rattle.std.specs.Bool.{OnTrue}
+use Rattle.ruled_json.specs.declared.fault.JsonFault.TheVariants.{Memory}
+
+-- ---- all lines at once, and as they are streamed
 
 -- the texts of lines
 abbrev pub texts : List (Bor (List ℕ)) → List (List ℕ)
@@ -76,3 +85,88 @@ unfolding streamed_line_fault sound_line_rows line_rows_of
 as-at-once records bytes none few =
     ap (λ (lines : List (List ℕ)). streamed_table records (records_on lines)) (all-above records [] (lines_of (strip_bom bytes)) none)
     ∙ same-table records (records_on (lines_of (strip_bom bytes))) few
+
+-- ---- the rows of what is read are a beginning of those of the whole input
+
+table-begins : (columns : List (List ℕ)) (above more : List Json) → (rows : List (List (List ℕ))) × (table_in columns (above ++ more) ≡ table_in columns above ++ rows)
+table-begins columns above more = elim (cases_Bool (length columns == 0)) [
+  | inl none ↦ ([], rw none refl)
+  | inr some ↦ (map (row_of columns) more, rw some (ap (λ (rows : List (List (List ℕ))). columns ∷ rows) (map-append (row_of columns) above more)))
+]
+
+ended-begins : (k : ℕ) (above more : List Json) → (rows : List (List (List ℕ))) × (streamed_table k (above ++ more) ≡ ended_table k above ++ rows)
+ended-begins k above more = elim (cases_Bool (left_of k above == 0)) [
+  | inl known ↦
+      let left : left_of k above ≡ 0 = eqb-true (left_of k above) 0 known in
+      let columns : first_columns k (above ++ more) ≡ first_columns k above = ap columns_of (take-append-le k above more (omega arith)) in
+      let rest = table-begins (first_columns k above) above more in (
+        rest.0,
+        ap (λ (c : List (List ℕ)). table_in c (above ++ more)) columns ∙ rest.1
+            ∙ ap (λ (b : Bool). (if b then streamed_table k above else []) ++ rest.0) (sym known),
+      )
+  | inr unknown ↦ (streamed_table k (above ++ more), ap (λ (b : Bool). (if b then streamed_table k above else []) ++ streamed_table k (above ++ more)) (sym unknown))
+]
+
+above-begins : (k : ℕ) (above lines : List (List ℕ)) → (more : List (List ℕ)) × (lines_above_fault k above lines ≡ above ++ more)
+above-begins k above [] = ([], sym (append-nil above))
+above-begins k above (line ∷ lines) = elim (cases_Bool (is_none (fault_behind k above line))) [
+  | inl sound ↦
+      let rest = above-begins k (above ++ line ∷ []) lines in
+      (line ∷ rest.0, ap (λ (b : Bool). if b then lines_above_fault k (above ++ line ∷ []) lines else above) sound ∙ rest.1 ∙ append_assoc above (line ∷ []) rest.0)
+  | inr bad ↦ ([], ap (λ (b : Bool). if b then lines_above_fault k (above ++ line ∷ []) lines else above) bad ∙ sym (append-nil above))
+]
+
+-- Rows that were given with a beginning are a beginning of the rows above the first bad line, whatever follows.
+pub ended-sound : (records : ℕ) (before behind : List ℕ) (reader : LineReader) → HasRead records before reader
+    → (more : List (List (List ℕ))) × (sound_line_rows records (before ++ behind) ≡ ended_line_rows records before ++ more)
+unfolding sound_line_rows ended_line_rows
+ended-sound records before behind reader has =
+    let above = ended_lines before in
+    let rest = lines_of (without_front reader.is_front (reader.line.items ++ behind)) in
+    let lines = above-begins records above rest in
+    let rows = ended-begins records (records_on above) (records_on lines.0) in (
+      rows.0,
+      ap (λ (all : List (List ℕ)). streamed_table records (records_on (lines_above_fault records [] all))) (has.lines behind)
+          ∙ ap (λ (all : List (List ℕ)). streamed_table records (records_on all)) (has.table.above rest ∙ lines.1)
+          ∙ ap (streamed_table records) (filter_map-append record_on above lines.0) ∙ rows.1,
+    )
+
+-- ---- what is said of a result, from what is said of another one
+
+pub on-ok : {X E : Type 0} (r : Result X E) (P Q : Type 0) → (P → Q) → OnOk r P → OnOk r Q
+on-ok (Ok x) P Q f p = f p
+on-ok (Err e) P Q f p = tt
+
+-- a fault that is handed on is the same
+pub is-err : {X E : Type 0} (r : Result X E) (found : E) → IsErrAnd r (λ (e : E). e ≡ found) → r ≡ Err found
+is-err (Ok x) found h = absurd h
+is-err (Err e) found h = ap Err h
+
+pub told-as : {X : Type 0} (r : Result X JsonFault) (right other : Option JsonFault) → other ≡ right → Tells right r → Tells other r
+told-as (Ok x) right other e told = e ∙ told
+told-as (Err fault) right other e told = λ counts. e ∙ told counts
+
+pub told-ok : {X : Type 0} (r : Result X JsonFault) (right : Option JsonFault) (P Q : Type 0) → (right ≡ None → P → Q) → Tells right r → OnOk r P → OnOk r Q
+told-ok (Ok x) right P Q f told p = f told p
+told-ok (Err fault) right P Q f told p = tt
+
+pub foretold : {X : Type 0} (r : Result X JsonFault) (right other : Option JsonFault) → ((fault : JsonFault) → right ≡ Some fault → other ≡ Some fault) → Tells right r → Foretells other r
+foretold (Ok x) right other f told = tt
+foretold (Err fault) right other f told = λ counts. f (but_line fault) (told counts)
+
+pub on-fault : {X : Type 0} (r : Result X JsonFault) (right : Option JsonFault) (P Q : Type 0) → ((fault : JsonFault) → right ≡ Some fault → P → Q) → Tells right r → OnFault r P → OnFault r Q
+on-fault (Ok x) right P Q f told p = tt
+on-fault (Err fault) right P Q f told p = λ counts. f (but_line fault) (told counts) (p counts)
+
+pub sound-handed-on : {X : Type 0} (P : Type 0) (found : JsonFault) (r : Result X JsonFault) → (found ≢ Memory → P) → IsErrAnd r (λ (fault : JsonFault). fault ≡ found) → OnFault r P
+sound-handed-on P found (Ok x) h told = absurd told
+sound-handed-on P found (Err fault) h told = λ counts. h (λ e. counts (told ∙ e))
+
+pub foretold-handed-on : {X : Type 0} (right : Option JsonFault) (found : JsonFault) (r : Result X JsonFault) → (found ≢ Memory → right ≡ Some (but_line found))
+    → IsErrAnd r (λ (fault : JsonFault). fault ≡ found) → Foretells right r
+foretold-handed-on right found (Ok x) h told = absurd told
+foretold-handed-on right found (Err fault) h told = λ counts. h (λ e. counts (told ∙ e)) ∙ ap (λ (f : JsonFault). Some (but_line f)) (sym told)
+
+pub on-true : (b : Bool) (P : Type 0) → b ≡ true → OnTrue b P → P
+on-true true P e p = p
+on-true false P e p = absurd (cc)

@@ -1,13 +1,13 @@
--- Values as they are read, and as the definitions have them.
-use Rattle.std.proofs.Common.{◌≡◌, ◌∙◌, ◌∷◌, ◌||◌, ℕ, List, [], map, Vec, Bool, String, string_bytes, true, false, inl, inr, Option, None, Some, option_map, IfSome, All, ◌<◌, length, get_or, subst, refl, sym, ap}
+-- Values as they are read, what is wrong with the text of one, and a byte order mark at the front.
+use Rattle.std.proofs.Common.{◌≡◌, ◌∙◌, ◌∷◌, ◌||◌, ℕ, List, [], map, Vec, Bool, String, string_bytes, true, false, inl, inr, Option, None, Some, option_map, IfSome, All, ◌<◌, length, get_or, subst, refl, sym, ap, ◌≢◌, Result, Ok, Err, ◌&&◌, nat_eq, take, drop}
 use Rattle.std.specs.List.{list_any}
 use Rattle.std.specs.Bool.{OnTrue}
 use Rattle.std.specs.Borrow.{Bor}
 use Rattle.std.proofs.lemmas.List.Folds.{list_any_at}
-use Rattle.std.specs.Str.{bytes_eq}
+use Rattle.std.specs.Str.{bytes_eq, IsUtf8, is_utf8}
 use Rattle.std.specs.String.{string_eq}
 use Rattle.indexmap.specs.IndexSet.{insert_key}
-use Rattle.json.specs.Json.{Json, null, boolean, number, string, array, object, Items, no_items, item}
+use Rattle.json.specs.Json.{Json, null, boolean, number, string, array, object, Items, no_items, item, document}
 use Rattle.json.specs.Strict.{keys}
 use Rattle.json.specs.Value.{value_view, items_view, members_view}
 use Rattle.json.specs.declared.value.Value.{Value, Object}
@@ -15,10 +15,23 @@ use Rattle.json.proofs.Trees.{view-Object}
 use Rattle.json.specs.Find.{get}
 use Rattle.json.specs.Tree.{HasNumbers, ItemsHaveNumbers}
 use Rattle.json.proofs.Numbered.{HasNumbers-get}
-use Rattle.std.proofs.lemmas.Bool.{cases_Bool}
+use Rattle.std.proofs.lemmas.Bool.{cases_Bool, and_parts}
 use Rattle.std.proofs.lemmas.List.{get_or-map, length-map, map-append}
 use Rattle.std.proofs.lemmas.List.Elements.{All-cons, All-nil}
 use Rattle.ruled_json.specs.Rows.{list_of, names_in, records_in, with_name}
+use Rattle.std.specs.Prelude.{◌↔◌, option_and_then, is_some, IfOk, IsSome, IsTrue, ◌==◌}
+use Rattle.std.specs.Option.{option_or}
+use Rattle.std.specs.Result.{IsErrAnd}
+use Rattle.std.proofs.lemmas.Str.{IsUtf8-from_is_utf8, is_utf8-from_IsUtf8}
+use Rattle.ruled_json.specs.Faults.{Tells, but_line, but_near, is_value, rows_fault, text_fault, value_fault}
+use Rattle.ruled_json.specs.declared.fault.JsonFault.{JsonFault}
+use Rattle.ruled_json.specs.declared.place.Place.TheVariants.{Near}
+use Rattle.ruled_json.specs.declared.place.Place.{Place}
+use Rattle.ruled_json.specs.declared.fault.JsonFault.TheVariants.{Encoding, Syntax, Memory}
+use Rattle.std.specs.Cmp.Lexicographic.{pointwise}
+use Rattle.csv.specs.Reading.{is_bom, strip_bom}
+
+-- ---- values as they are read, and as the definitions have them
 
 -- the names of an object's members
 keys_view : {A : Type 0} → (ms : List (Bor (List ℕ) × Value A)) → map (λ m. m.0.now) ms ≡ keys (members_view ms)
@@ -88,3 +101,83 @@ records_have_numbers (number s) h = All-nil HasNumbers
 records_have_numbers (string s) h = All-nil HasNumbers
 records_have_numbers (array js) h = items_have_numbers js h
 records_have_numbers (object ms) h = All-cons HasNumbers (object ms) [] h (All-nil HasNumbers)
+
+-- ---- what is wrong with the text of a value
+
+pub not_utf8 : (place found : Place) (text : List ℕ) → ¬ (IsUtf8 text) → but_near found ≡ but_near place → text_fault (but_near place) text ≡ Some (but_line (Encoding found))
+not_utf8 place found text none same = elim (cases_Bool (is_utf8 text)) [
+  | inl passed ↦ absurd (none (IsUtf8-from_is_utf8 text passed))
+  | inr failed ↦ rw failed (ap (λ (p : Place). Some (Encoding p)) (sym same))
+]
+
+pub not_json : (place found : Place) (text : List ℕ) → IsUtf8 text → document text ≡ None → but_near found ≡ but_near place → text_fault (but_near place) text ≡ Some (but_line (Syntax found))
+not_json place found text is none same = rw (is_utf8-from_IsUtf8 text is, none) (ap (λ (p : Place). Some (Syntax p)) (sym same))
+
+pub is_json : (place : Place) (text : List ℕ) (value : Json) → IsUtf8 text → document text ≡ Some value → text_fault place text ≡ None
+is_json place text value is some = rw (is_utf8-from_IsUtf8 text is, some) refl
+
+-- a fault that is handed on is the right one
+pub handed_on : {X : Type 0} (right : Option JsonFault) (found : JsonFault) (result : Result X JsonFault) → (found ≢ Memory → right ≡ Some (but_line found)) → IsErrAnd result (λ fault. fault ≡ found) → Tells right result
+handed_on right found (Ok x) is told = absurd told
+handed_on right found (Err fault) is told = λ counts. is (λ e. counts (told ∙ e)) ∙ ap (λ (f : JsonFault). Some (but_line f)) (sym told)
+
+-- what is wrong with bytes, where their text is wrong, where their value is, and where nothing is
+pub text_told : (bytes : List ℕ) (fault : JsonFault) → text_fault (Near 0) bytes ≡ Some fault → rows_fault bytes ≡ Some fault
+unfolding rows_fault
+text_told bytes fault wrong = ap (λ (f : Option JsonFault). option_or f (option_and_then value_fault (document bytes))) wrong
+
+pub value_told : (bytes : List ℕ) (value : Json) (told : Option JsonFault) → text_fault (Near 0) bytes ≡ None → document bytes ≡ Some value → value_fault value ≡ told → rows_fault bytes ≡ told
+unfolding rows_fault
+value_told bytes value told right is wrong =
+    ap (λ (f : Option JsonFault). option_or f (option_and_then value_fault (document bytes))) right
+    ∙ ap (option_and_then value_fault) is ∙ wrong
+
+-- whether bytes are one value
+same_truth : (a b : Bool) → (a ≡ true → b ≡ true) → (b ≡ true → a ≡ true) → a ≡ b
+same_truth true b to from = sym (to refl)
+same_truth false true to from = from refl
+same_truth false false to from = refl
+
+pub no_text : (text : List ℕ) → ¬ (IsUtf8 text) → false ≡ is_value text
+no_text text none = elim (cases_Bool (is_utf8 text)) [
+  | inl passed ↦ absurd (none (IsUtf8-from_is_utf8 text passed))
+  | inr failed ↦ rw failed refl
+]
+
+pub text_is_value : {E : Type 0} (text read : List ℕ) (valid : Result Bool E) → IfOk valid (λ b. IsTrue b ↔ IsSome (document read)) → read ≡ text → IsUtf8 text
+    → IfOk valid (λ b. b ≡ is_value text)
+text_is_value text read (Err e) said same is = tt
+text_is_value text read (Ok b) said same is =
+    same_truth b (is_some (document read)) said.0 said.1 ∙ ap (λ (t : List ℕ). is_some (document t)) same ∙ (rw (is_utf8-from_IsUtf8 text is) refl)
+
+-- ---- a byte order mark at the front of bytes
+
+-- the bytes of the mark
+abbrev mark : List ℕ
+mark = 0xEF ∷ 0xBB ∷ 0xBF ∷ []
+
+all_three : (x y z : Bool) → (x && (y && (z && true))) ≡ (x && y && z)
+all_three true true true = refl
+all_three true true false = refl
+all_three true false z = refl
+all_three false y z = refl
+
+tests : (a b c : ℕ) → (nat_eq a 0xEF && (nat_eq b 0xBB && (nat_eq c 0xBF && true))) ≡ is_bom a b c
+tests a b c = all_three (a == 0xEF) (b == 0xBB) (c == 0xBF)
+
+pub with_mark : (bytes : List ℕ) → pointwise nat_eq (take 3 bytes) mark ≡ true → drop 3 bytes ≡ strip_bom bytes
+unfolding strip_bom
+with_mark [] e = refl
+with_mark (a ∷ []) e = let parts = and_parts (a == 0xEF) false e in cc
+with_mark (a ∷ b ∷ []) e =
+    let parts = and_parts (a == 0xEF) ((b == 0xBB) && false) e in
+    let rest = and_parts (b == 0xBB) false parts.1 in
+    cc
+with_mark (a ∷ b ∷ c ∷ rest) e = let is : is_bom a b c ≡ true = sym (tests a b c) ∙ e in rw is refl
+
+pub no_mark : (bytes : List ℕ) → pointwise nat_eq (take 3 bytes) mark ≡ false → bytes ≡ strip_bom bytes
+unfolding strip_bom
+no_mark [] e = refl
+no_mark (a ∷ []) e = refl
+no_mark (a ∷ b ∷ []) e = refl
+no_mark (a ∷ b ∷ c ∷ rest) e = let is : is_bom a b c ≡ false = sym (tests a b c) ∙ e in rw is refl

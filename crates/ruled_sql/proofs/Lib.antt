@@ -1,7 +1,5 @@
 mod Answering
 mod Listing
-mod Made
 mod Refused
 mod Reading
 mod Tabling
-mod Walking

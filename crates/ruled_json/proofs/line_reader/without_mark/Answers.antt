@@ -1,5 +1,5 @@
 use Rattle.std.proofs.Common.{◌∙◌}
-use Rattle.ruled_json.proofs.Marks.{no_mark, with_mark}
+use Rattle.ruled_json.proofs.Views.{no_mark, with_mark}
 use Rattle.ruled_json.proofs.line_reader.without_mark.Goals as goal
 
 pub returns-in-Some : goal.returns-in-Some

@@ -8,7 +8,7 @@ use Rattle.ruled_json.specs.Streamed.{ended_table, first_fault_behind, streamed_
 use Rattle.ruled_json.proofs.AtOnce.{all-texts, bad-at, next-lines, next-rows, texts, whole-fault, whole-rows}
 use Rattle.ruled_json.proofs.StreamedLines.{all-right}
 use Rattle.ruled_json.proofs.Tables.{no-table}
-use Rattle.ruled_json.proofs.Texts.{handed_on}
+use Rattle.ruled_json.proofs.Views.{handed_on}
 use Rattle.ruled_json.proofs.line_table.read_line_rows.Goals as goal
 
 pub returns-then-is_empty-clause-rows : goal.returns-then-is_empty-clause-rows

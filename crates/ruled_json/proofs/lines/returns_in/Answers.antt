@@ -1,4 +1,4 @@
-use Rattle.ruled_json.proofs.Walks.{none-counted}
+use Rattle.ruled_json.proofs.Tables.{none-counted}
 use Rattle.ruled_json.proofs.lines.returns_in.Goals as goal
 
 pub returns-in-None : goal.returns-in-None

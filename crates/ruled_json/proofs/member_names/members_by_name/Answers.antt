@@ -4,7 +4,7 @@ use Rattle.std.specs.Map.{lookup}
 use Rattle.std.proofs.lemmas.List.{take_all}
 use Rattle.json.specs.Find.{get_member}
 use Rattle.json.specs.Value.{members_view, value_view}
-use Rattle.ruled_json.proofs.Members.{named_next}
+use Rattle.ruled_json.proofs.Tables.{named_next}
 use Rattle.ruled_json.proofs.member_names.members_by_name.Goals as goal
 
 pub loop-member-init : goal.loop-member-init

@@ -1,4 +1,4 @@
-use Rattle.ruled_json.proofs.Texts.{no_text, text_is_value}
+use Rattle.ruled_json.proofs.Views.{no_text, text_is_value}
 use Rattle.ruled_json.proofs.value.is_value.Goals as goal
 
 pub returns-in-Ok-clause-value : goal.returns-in-Ok-clause-value

@@ -3,8 +3,7 @@ use Rattle.json.specs.Value.{value_view}
 use Rattle.json.proofs.Trees.{view-Array}
 use Rattle.ruled_json.specs.Faults.{first_fault, value_fault}
 use Rattle.ruled_json.specs.Rows.{records_in}
-use Rattle.ruled_json.proofs.Texts.{handed_on}
-use Rattle.ruled_json.proofs.Views.{list_view}
+use Rattle.ruled_json.proofs.Views.{handed_on, list_view}
 use Rattle.ruled_json.proofs.value.records_in.Goals as goal
 
 pub returns-in_err-check_records-in-Array-clause-fault :

@@ -2,7 +2,7 @@ use Rattle.std.proofs.Common.{ap, sym, ◌∙◌}
 use Rattle.json.specs.Json.{document}
 use Rattle.json.specs.Value.{value_view}
 use Rattle.ruled_json.specs.Faults.{but_near}
-use Rattle.ruled_json.proofs.Texts.{not_utf8, not_json, is_json}
+use Rattle.ruled_json.proofs.Views.{not_utf8, not_json, is_json}
 use Rattle.ruled_json.proofs.value.value_of.Goals as goal
 
 pub returns-in-Err-clause-fault : goal.returns-in-Err-clause-fault

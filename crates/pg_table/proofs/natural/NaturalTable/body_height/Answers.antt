@@ -7,7 +7,7 @@ use Rattle.pg_picture.specs.Sizes.{if_fits}
 use Rattle.pg_table.specs.declared.sizes.Axis.TheVariants.{Rows}
 use Rattle.pg_table.specs.Inside.Sizes.{plain_size}
 use Rattle.pg_table.proofs.PlainCells.{plain-natural}
-use Rattle.pg_table.proofs.Sums.{sum-same}
+use Rattle.pg_table.proofs.Widenings.{sum-same}
 use Rattle.pg_table.proofs.NaturalRoom.{size, body_height-is}
 use Rattle.pg_table.proofs.natural.NaturalTable.body_height.Goals as goal
 

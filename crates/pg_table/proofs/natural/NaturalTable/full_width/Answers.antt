@@ -9,7 +9,7 @@ use Rattle.pg_picture.specs.Sizes.{if_fits}
 use Rattle.pg_table.specs.declared.sizes.Axis.TheVariants.{Columns}
 use Rattle.pg_table.specs.Inside.Sizes.{plain_size}
 use Rattle.pg_table.proofs.PlainCells.{plain-natural}
-use Rattle.pg_table.proofs.Sums.{sum-same}
+use Rattle.pg_table.proofs.Widenings.{sum-same}
 use Rattle.pg_table.proofs.NaturalRoom.{size, full_width-is}
 use Rattle.pg_table.proofs.natural.NaturalTable.full_width.Goals as goal
 

@@ -1,7 +1,7 @@
 use Rattle.std.proofs.Common.{ℕ, ◌-◌, ◌^◌, cond, nat_lt, None, [], sym, ap, ◌∙◌, inl, inr}
 use Rattle.pg_picture.specs.Sizes.{if_fits}
 use Rattle.pg_table.proofs.FittedTables.{full-plain}
-use Rattle.pg_table.proofs.LeastWidths.{least-no_spans, unkept-passes, told-width, told-ok, told-fault}
+use Rattle.pg_table.proofs.SpannedWidths.{least-no_spans, unkept-passes, told-width, told-ok, told-fault}
 use Rattle.pg_table.proofs.natural.NaturalTable.least_width.Goals as goal
 
 pub returns-then-keeps_spans-clause-fault : goal.returns-then-keeps_spans-clause-fault

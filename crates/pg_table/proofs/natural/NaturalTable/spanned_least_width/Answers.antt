@@ -8,8 +8,7 @@ use Rattle.pg_table.specs.Inside.Fitting.{HasHugeLeast}
 use Rattle.pg_table.specs.declared.fault.TableFault.TheVariants.{Memory}
 use Rattle.pg_table.proofs.Faults.{fault-is}
 use Rattle.pg_table.proofs.FitFaults.{handed-on}
-use Rattle.pg_table.proofs.LeastWidths.{kept-misfit, fit-passes, least-no_spans, least-spans, least-uncounted, least-huge, told-width, told-ok, told-fault, full-listed, huge-past}
-use Rattle.pg_table.proofs.SpannedWidths.{full-kept}
+use Rattle.pg_table.proofs.SpannedWidths.{kept-misfit, fit-passes, least-no_spans, least-spans, least-uncounted, least-huge, told-width, told-ok, told-fault, full-listed, huge-past, full-kept}
 use Rattle.pg_table.proofs.natural.NaturalTable.spanned_least_width.Goals as goal
 
 pub returns-then-not-spans_fit-clause-fault : goal.returns-then-not-spans_fit-clause-fault

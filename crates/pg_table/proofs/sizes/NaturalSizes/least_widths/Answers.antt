@@ -5,7 +5,7 @@ use Rattle.pg_picture.proofs.OwnersOfPlaces.{InOrder}
 use Rattle.pg_table.specs.Spanning.{least_cell_width}
 use Rattle.pg_table.specs.Widening.{widened}
 use Rattle.pg_table.specs.declared.needs.Need.{Need}
-use Rattle.pg_table.proofs.LeastWidths.{widened-least, length-singles, corner-huge}
+use Rattle.pg_table.proofs.SpannedWidths.{widened-least, length-singles, corner-huge}
 use Rattle.pg_table.proofs.ToldRooms.{all-fit, needs-some, needs-inside}
 use Rattle.pg_table.proofs.sizes.NaturalSizes.least_widths.Goals as goal
 

@@ -8,8 +8,7 @@ use Rattle.pg_table.specs.Overflowing.{beside_columns}
 use Rattle.pg_table.specs.Spanning.{are_within, spanned_least_width}
 use Rattle.pg_table.specs.declared.overflow.Overflow.{Overflow}
 use Rattle.pg_table.specs.declared.sizes.Axis.TheVariants.{Columns}
-use Rattle.pg_table.proofs.LeastWidths.{none-huge}
-use Rattle.pg_table.proofs.SpannedWidths.{widths-natural, widths-narrowed, length-naturals, listed-ranges}
+use Rattle.pg_table.proofs.SpannedWidths.{none-huge, widths-natural, widths-narrowed, length-naturals, listed-ranges}
 use Rattle.pg_table.proofs.sizes.NaturalSizes.spanned_widths.Goals as goal
 
 -- the test of the listed widths is that of the natural ones

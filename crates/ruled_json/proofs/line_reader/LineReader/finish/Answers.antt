@@ -5,10 +5,10 @@ use Rattle.ruled_json.specs.Reading.{AppendsRest, HasLines, without_front}
 use Rattle.ruled_json.specs.Rows.{records_on}
 use Rattle.ruled_json.specs.Streamed.{ended_line_rows, ended_lines, ended_table, fault_behind, sound_line_rows, streamed_line_fault, streamed_table}
 use Rattle.ruled_json.specs.declared.fault.JsonFault.TheVariants.{Memory}
-use Rattle.ruled_json.proofs.Pieces.{last-above, last-fault, last-right, last-rows}
-use Rattle.ruled_json.proofs.Results.{sound-handed-on}
+use Rattle.ruled_json.proofs.StreamedLines.{last-above, last-fault, last-right, last-rows}
+use Rattle.ruled_json.proofs.AtOnce.{sound-handed-on}
 use Rattle.ruled_json.proofs.Tables.{joined}
-use Rattle.ruled_json.proofs.Texts.{handed_on}
+use Rattle.ruled_json.proofs.Views.{handed_on}
 use Rattle.ruled_json.proofs.line_reader.LineReader.finish.Goals as goal
 
 pub returns-in_err-read_line-clause-fault : goal.returns-in_err-read_line-clause-fault

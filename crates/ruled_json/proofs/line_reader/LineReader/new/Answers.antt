@@ -1,5 +1,5 @@
 use Rattle.std.proofs.Common.{refl}
-use Rattle.ruled_json.proofs.Pieces.{fresh}
+use Rattle.ruled_json.proofs.StreamedLines.{fresh}
 use Rattle.ruled_json.proofs.line_reader.LineReader.new.Goals as goal
 
 pub returns : goal.returns

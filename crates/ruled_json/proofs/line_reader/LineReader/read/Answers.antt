@@ -3,8 +3,8 @@ use Rattle.std.proofs.lemmas.List.{append_assoc}
 use Rattle.csv.specs.Records.{fields_of}
 use Rattle.ruled_json.specs.Reading.{AppendsRest, HasRead}
 use Rattle.ruled_json.specs.Streamed.{ended_line_rows, sound_line_rows, streamed_line_fault}
-use Rattle.ruled_json.proofs.Pieces.{next-line, parted, read-all, rows-on}
-use Rattle.ruled_json.proofs.Results.{foretold-handed-on, sound-handed-on}
+use Rattle.ruled_json.proofs.StreamedLines.{next-line, parted, read-all, rows-on}
+use Rattle.ruled_json.proofs.AtOnce.{foretold-handed-on, sound-handed-on}
 use Rattle.ruled_json.proofs.Tables.{joined}
 use Rattle.ruled_json.proofs.line_reader.LineReader.read.Goals as goal
 

@@ -3,7 +3,7 @@ use Rattle.csv.specs.Records.{fields_of}
 use Rattle.ruled_json.specs.Reading.{AppendsRest, columns_in}
 use Rattle.ruled_json.specs.Rows.{table_in}
 use Rattle.ruled_json.specs.Streamed.{ended_table, streamed_table}
-use Rattle.ruled_json.proofs.Results.{on-ok}
+use Rattle.ruled_json.proofs.AtOnce.{on-ok}
 use Rattle.ruled_json.proofs.Tables.{rest-held, rest-known}
 use Rattle.ruled_json.proofs.line_table.LineTable.finish.Goals as goal
 

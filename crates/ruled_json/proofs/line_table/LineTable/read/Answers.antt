@@ -4,7 +4,7 @@ use Rattle.json.specs.Value.{value_view}
 use Rattle.ruled_json.specs.Reading.{AppendsRest, HasLines, HasRecords}
 use Rattle.ruled_json.specs.Rows.{record_on, records_on}
 use Rattle.ruled_json.specs.Streamed.{ended_table, late_fault}
-use Rattle.ruled_json.proofs.Results.{on-ok, told-ok}
+use Rattle.ruled_json.proofs.AtOnce.{on-ok, told-ok}
 use Rattle.ruled_json.proofs.StreamedLines.{blank-sound, lines-more, no-rows, record-fault, same-records, with-record, with-rows, without-record}
 use Rattle.ruled_json.proofs.line_table.LineTable.read.Goals as goal
 

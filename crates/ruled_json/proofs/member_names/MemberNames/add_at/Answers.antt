@@ -1,6 +1,6 @@
 use Rattle.std.proofs.Common.{map, string_bytes}
 use Rattle.ruled_json.proofs.Views.{no-new-name}
-use Rattle.ruled_json.proofs.Results.{on-true}
+use Rattle.ruled_json.proofs.AtOnce.{on-true}
 use Rattle.ruled_json.proofs.member_names.MemberNames.add_at.Goals as goal
 
 pub returns-then-stands_at : goal.returns-then-stands_at

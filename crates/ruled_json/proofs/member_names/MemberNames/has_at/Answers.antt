@@ -1,5 +1,5 @@
 use Rattle.std.proofs.Common.{sym}
-use Rattle.ruled_json.proofs.Results.{on-true}
+use Rattle.ruled_json.proofs.AtOnce.{on-true}
 use Rattle.ruled_json.proofs.member_names.MemberNames.has_at.Goals as goal
 
 pub returns-then-stands_at : goal.returns-then-stands_at

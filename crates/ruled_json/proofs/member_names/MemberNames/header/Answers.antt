@@ -1,6 +1,6 @@
 use Rattle.std.proofs.Common.{◌≡◌, string_bytes, arith, rules}
 use Rattle.csv.specs.Records.{fields_of}
-use Rattle.ruled_json.proofs.Walks.{made_next}
+use Rattle.ruled_json.proofs.Tables.{made_next}
 use Rattle.ruled_json.proofs.member_names.MemberNames.header.Goals as goal
 
 pub loop-name-preserved : goal.loop-name-preserved

@@ -2,7 +2,7 @@ use Rattle.std.proofs.Common.{arith}
 use Rattle.csv.specs.Records.{fields_of}
 use Rattle.json.specs.Value.{value_view}
 use Rattle.ruled_json.proofs.Views.{part_has_numbers}
-use Rattle.ruled_json.proofs.Walks.{whole_row}
+use Rattle.ruled_json.proofs.Tables.{whole_row}
 use Rattle.ruled_json.proofs.member_names.MemberNames.narrow_row.Goals as goal
 
 pub push_cell-requires : goal.push_cell-requires

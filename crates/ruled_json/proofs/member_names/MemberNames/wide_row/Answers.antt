@@ -4,7 +4,7 @@ use Rattle.json.specs.Find.{get}
 use Rattle.json.specs.Value.{value_view}
 use Rattle.ruled_json.specs.Rows.{cell_text}
 use Rattle.ruled_json.proofs.Views.{part_has_numbers}
-use Rattle.ruled_json.proofs.Walks.{made_next, whole_row}
+use Rattle.ruled_json.proofs.Tables.{made_next, whole_row}
 use Rattle.ruled_json.proofs.member_names.MemberNames.wide_row.Goals as goal
 
 pub push_cell-requires : goal.push_cell-requires

@@ -5,8 +5,7 @@ use Rattle.ruled_sql.specs.Reads.{Read}
 use Rattle.ruled_sql.specs.Reading.{Gives, GivesPage}
 use Rattle.ruled_sql.specs.Trees.{chain}
 use Rattle.ruled_sql.specs.declared.file.File.{File}
-use Rattle.ruled_sql.proofs.Reading.{gives_nothing}
-use Rattle.ruled_sql.proofs.Walking.{chain_none, gives_chain, gives_no_chain, handed_on}
+use Rattle.ruled_sql.proofs.Reading.{gives_nothing, chain_none, gives_chain, gives_no_chain, handed_on}
 use Rattle.ruled_sql.proofs.overflow.Overflow.read_chain.Goals as goal
 
 pub returns-in_err-page-clause-bytes : goal.returns-in_err-page-clause-bytes

@@ -8,8 +8,7 @@ use Rattle.ruled_sql.specs.Rows.{stored_of}
 use Rattle.ruled_sql.specs.Trees.{Stored, rows_at, rows_below, rows_of_child}
 use Rattle.ruled_sql.specs.declared.fault.TableFault.{TableFault}
 use Rattle.ruled_sql.specs.declared.file.File.{File}
-use Rattle.ruled_sql.proofs.Reading.{gives_more}
-use Rattle.ruled_sql.proofs.Walking.{gives_cell, gives_no_cell, gives_no_page, gives_no_row, gives_rows, handed_on, none_at_zero}
+use Rattle.ruled_sql.proofs.Reading.{gives_more, gives_cell, gives_no_cell, gives_no_page, gives_no_row, gives_rows, handed_on, none_at_zero}
 use Rattle.ruled_sql.proofs.tree.Walk.+walk.Goals as goal
 
 pub read_cell-returns-in_err-read_child-clause-rows : goal.read_cell-returns-in_err-read_child-clause-rows
