@@ -43,8 +43,7 @@ where
         self.pen.push_line_end(buf, index)
     }
 
-    // Out of line, so that what is round the cells is in the loop over the rows.
-    #[inline(never)]
+    #[inline(always)]
     fn push_single_cells<S: AsStr + Drop, I: Iterator<Item = S>, W: Allocator>(
         self,
         buf: &mut String<W>,
