@@ -22,7 +22,7 @@ use Rattle.std.proofs.lemmas.List.Concat.{flat_map-append}
 use Rattle.pg_layout.specs.declared.borders.HorizontalLine.{HorizontalLine}
 use Rattle.pg_picture.specs.Pieces.{cut}
 use Rattle.pg_picture.specs.Inside.Following.{open_parts, open_color, lines_before, feed_before}
-use Rattle.pg_picture.proofs.CompactPieces.{open_parts-append, open_color-append, parts_after-close}
+use Rattle.pg_picture.proofs.PiecesOfLines.{open_parts-append, open_color-append, parts_after-close}
 use Rattle.std.proofs.lemmas.Bool.Decides.{nat_tests}
 use Rattle.std.proofs.lemmas.List.{length-replicate}
 use Rattle.pg_layout.specs.Borders.{has_top, has_bottom, has_inner_horizontal}

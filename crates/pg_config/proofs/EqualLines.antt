@@ -1,15 +1,15 @@
--- Row lines and column lines: which are equal, which have no glyph, and the places along a row line.
-use Rattle.std.proofs.Common.{◌≡◌, ℕ, ◌<◌, Bool, true, false, not, ◌||◌, ◌==◌, nat_lt, List, [], ◌∷◌, None, refl, arith, ap, zero, suc, ◌+◌, ◌-◌, ◌^◌, ◌≤◌, ◌&&◌, ◌++◌, length, get_or, drop, Option, Some, cond, sum_by, count_by, sym, subst, ◌∙◌, append_assoc, zero-add, inl, inr, is_some, min}
+-- Row lines and column lines: which are equal, which have no glyph, and what all cells have in common.
+use Rattle.std.proofs.Common.{◌≡◌, ℕ, ◌<◌, Bool, true, false, not, ◌||◌, ◌==◌, nat_lt, List, [], ◌∷◌, None, refl, arith, ap, zero, suc, ◌+◌, ◌-◌, ◌^◌, ◌≤◌, ◌&&◌, ◌++◌, length, get_or, drop, Option, Some, cond, sum_by, count_by, sym, subst, ◌∙◌, append_assoc, zero-add, inl, inr, is_some, min, if◌then◌else◌}
 use Rattle.std.proofs.lemmas.Bool.{and_parts, false≢true, cases_Bool, or_parts}
 use Rattle.std.proofs.lemmas.Bool.Decides.{nat_tests}
 use Rattle.pg_layout.specs.declared.position.Position.{Position}
 use Rattle.pg_layout.specs.declared.borders.Borders.{Borders}
 use Rattle.pg_layout.specs.Borders.{ends, has_side, horizontal_glyph, crossing_glyph, vertical_glyph, any_of, has_left, has_right, has_inner_vertical}
 use Rattle.pg_layout.specs.Position.{at}
-use Rattle.pg_config.specs.Settings.{has_some}
+use Rattle.pg_config.specs.Settings.{has_some, Settings, is_for_all, setting_of}
 use Rattle.pg_config.specs.Overrides.{Overrides, sets_rows, horizontal_override, crossing_override, overrides_row, overrides_column, with_row, line_crossing, has_glyph, with_row_line, on_lines, with_round, sets_columns, vertical_override}
 use Rattle.pg_config.specs.Offsets.{Offsets, has_offsets, lookup_offset}
-use Rattle.pg_config.specs.Config.{Config, has_equal_row_lines, has_horizontal, get_horizontal, get_intersection, get_horizontal_color, get_intersection_color, has_vertical, get_vertical, get_vertical_color, has_column_lines}
+use Rattle.pg_config.specs.Config.{Config, has_equal_row_lines, has_horizontal, get_horizontal, get_intersection, get_horizontal_color, get_intersection_color, has_vertical, get_vertical, get_vertical_color, has_column_lines, get_padding, get_padding_color, get_alignment_horizontal, get_alignment_vertical, get_formatting, get_justification, get_justification_color}
 use Rattle.pg_config.specs.Inside.Lines.{SameForRows, SameForColumns}
 use Rattle.std.specs.Int.{from_bool}
 use Rattle.std.specs.List.{find, range_with_len}
@@ -18,9 +18,15 @@ use Rattle.std.proofs.lemmas.List.Folds.{find-append}
 use Rattle.pg_config.specs.LineGlyphs.{first_of_column, ends_behind, place_in, line_place, over_line}
 use Rattle.pg_config.specs.declared.line_glyphs.LinePlace.{LinePlace}
 use Rattle.pg_config.specs.declared.line_glyphs.LinePlace.TheVariants.{Glyph, Crossing}
-use Rattle.pg_config.proofs.Ranges.{range-add, sum_by-from_more}
+use Rattle.pg_config.proofs.CoveredPlaces.{range-add, sum_by-from_more}
 use Rattle.pg_layout.specs.declared.borders.HorizontalLine.{HorizontalLine}
 use Rattle.pg_layout.specs.declared.borders.Border.{Border}
+use Rattle.std.proofs.lemmas.Option.{none-some}
+use Rattle.pg_config.specs.Cells.{style_at}
+use Rattle.pg_config.specs.Common.{has_one_style_but_across, inner_vertical}
+use Rattle.pg_config.proofs.SettingsLaw.{for_all-base}
+
+-- ---- row lines and column lines: which are equal, which have no glyph, and the places along a row line
 
 -- ---- where nothing was set by its place for row lines, those between two rows are equal
 
@@ -405,3 +411,53 @@ module _ (config : Config) (none : has_column_lines config ≡ false) where
   pub no_verticals : (p : Position) (columns : ℕ) → get_vertical config p columns ≡ None
   unfolding get_vertical vertical_override vertical_glyph
   no_verticals p columns = rw (no-line p.col columns, no-overrides.0, no-glyphs.0, no-glyphs.1, no-glyphs.2, ends-same {A = Option ℕ} None p.col columns) refl
+
+-- ---- what all cells have in common, and the glyph of all verticals between two columns
+
+same : {V : Type 0} (s : Settings V) → is_for_all s ≡ true → (p q : Position) → setting_of s p ≡ setting_of s q
+same s h p q = sym (for_all-base s p h) ∙ for_all-base s q h
+
+-- Where no setting but a horizontal alignment is for a row, a column or a cell, all cells have one style but for that.
+pub one_style_but_across : (config : Config) → has_one_style_but_across config ≡ true → (p q : Position) → record (style_at config p) { across = get_alignment_horizontal config q } ≡ style_at config q
+unfolding style_at has_one_style_but_across get_padding get_padding_color get_alignment_vertical get_formatting get_justification get_justification_color
+one_style_but_across config h p q =
+    let half = and_parts _ _ h in
+    let first = and_parts _ _ half.0 in
+    let second = and_parts _ _ half.1 in
+    let paddings = and_parts _ _ first.0 in
+    let lines = and_parts _ _ second.0 in
+    let trims = and_parts _ _ lines.1 in
+    let fills = and_parts _ _ second.1 in
+    rw (same config.padding paddings.0 p q, same config.padding_color paddings.1 p q, same config.alignment_vertical first.1 p q, same config.trim_horizontal lines.0 p q, same config.trim_vertical trims.0 p q, same config.line_alignment trims.1 p q, same config.justification fills.0 p q, same config.justification_color fills.1 p q) refl
+
+-- They have one horizontal alignment where none is for a row, a column or a cell alone
+pub one_side : (config : Config) → is_for_all config.alignment_horizontal ≡ true → (p q : Position) → get_alignment_horizontal config p ≡ get_alignment_horizontal config q
+unfolding get_alignment_horizontal
+one_side config h p q = rw (same config.alignment_horizontal h p q) refl
+
+is_not_first : (i n : ℕ) → IsInner i n → (i == 0) ≡ false
+is_not_first i n inner = grind (arith, nat_tests, inner.some)
+
+is_not_last : (i n : ℕ) → IsInner i n → (i == n) ≡ false
+is_not_last i n inner = grind (arith, nat_tests, inner.less)
+
+unless : (b : Bool) (o : Option ℕ) (g : ℕ) → (if b then None else o) ≡ Some g → (b ≡ false) × (o ≡ Some g)
+unless true o g is = absurd (none-some g is)
+unless false o g is = (refl, is)
+
+module _ (config : Config) (g : ℕ) (is : inner_vertical config ≡ Some g) where
+  -- the test that finds no place of a vertical and no colour, and the borders' glyph
+  inner-parts : (((has_some config.overrides.verticals || has_some config.color_overrides.verticals) || is_some config.border_colors.vertical) ≡ false) × (config.borders.vertical ≡ Some g)
+  unfolding inner_vertical
+  inner-parts = unless ((has_some config.overrides.verticals || has_some config.color_overrides.verticals) || is_some config.border_colors.vertical) config.borders.vertical g is
+
+  inner-lists : (config.overrides.verticals ≡ []) × (config.color_overrides.verticals ≡ [])
+  inner-lists = nothing config.overrides.verticals config.color_overrides.verticals (ap not (or_parts (has_some config.overrides.verticals || has_some config.color_overrides.verticals) (is_some config.border_colors.vertical) inner-parts.0).0)
+
+  pub inner_vertical-glyph : (p : Position) (columns : ℕ) → IsInner p.col columns → get_vertical config p columns ≡ Some g
+  unfolding get_vertical vertical_override vertical_glyph
+  inner_vertical-glyph p columns inner = rw (inner-lists.0, is_not_first p.col columns inner, is_not_last p.col columns inner, inner-parts.1) refl
+
+  pub inner_vertical-color : (p : Position) (columns : ℕ) → IsInner p.col columns → get_vertical_color config p columns ≡ None
+  unfolding get_vertical_color vertical_override vertical_glyph
+  inner_vertical-color p columns inner = rw (inner-lists.1, is_not_first p.col columns inner, is_not_last p.col columns inner, is_none config.border_colors.vertical (or_parts (has_some config.overrides.verticals || has_some config.color_overrides.verticals) (is_some config.border_colors.vertical) inner-parts.0).1) refl

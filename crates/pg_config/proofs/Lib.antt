@@ -1,10 +1,8 @@
 -- Lemmas of this crate.
 pub mod EqualLines
 pub mod OneStyle
-pub mod Common
 pub mod Lookups
-pub mod Ranges
+pub mod CoveredPlaces
 mod SpanCrossings
-mod CoveredPlaces
 pub mod SettingsLaw
 pub mod Computing

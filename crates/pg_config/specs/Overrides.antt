@@ -43,7 +43,8 @@ module _ {G : Type 0} where
   with_round p below right b o = record {
     horizontals = with_some by_place (at below p.col) b.bottom (with_some by_place p b.top o.horizontals);
     verticals = with_some by_columns (column_place (at p.row right)) b.right (with_some by_columns (column_place p) b.left o.verticals);
-    crossings = with_some by_place (at below right) b.bottom_right (with_some by_place (at below p.col) b.bottom_left (with_some by_place (at p.row right) b.top_right (with_some by_place p b.top_left o.crossings)));
+    crossings = with_some by_place (at below right) b.bottom_right
+        (with_some by_place (at below p.col) b.bottom_left (with_some by_place (at p.row right) b.top_right (with_some by_place p b.top_left o.crossings)));
   }
 
   -- The border of the cell at p overrides the places round it, as far as they stand on lines that there are.

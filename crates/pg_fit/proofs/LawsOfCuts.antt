@@ -14,7 +14,7 @@ use Rattle.unicode_width.proofs.Rules.{is_simple_kind, is_simple}
 use Rattle.unicode_width.proofs.Computing.{unicode_width}
 use Rattle.unicode_segmentation.specs.Grapheme.{graphemes, is_grapheme_break}
 use Rattle.pg_fit.specs.Laws.{is_tail_character, CutLinesFit, CutTextsStay, CutLinesStand, CutTextsFit}
-use Rattle.pg_fit.proofs.PrintableBytes.{nothing_wide, simple-behind, simple-characters}
+use Rattle.pg_fit.proofs.LawsOfControls.{nothing_wide, simple-behind, simple-characters}
 use Rattle.pg_fit.proofs.FilledLines.{StandFrom, characters-stand, slice_range-all, slice_range-none}
 use Rattle.std.proofs.lemmas.List.{length-map, reverse-append, take-append-drop}
 use Rattle.std.proofs.lemmas.List.Splits.{join_with_byte-slice_split}

@@ -12,7 +12,7 @@ use Rattle.pg_fit.specs.declared.wrapping.Breaking.{Breaking}
 use Rattle.pg_fit.specs.declared.wrapping.Breaking.TheVariants.{Anywhere, BetweenWords}
 use Rattle.pg_fit.specs.Wrapping.{Piece, fits, takes, filled, characters, words, indented, parted, pieces, wrapped_line, wrapped, widest_character, least_line_width, before_words, least_width}
 use Rattle.pg_fit.specs.Laws.{EachFits, LinesFit, NothingIsLost, FittingTextsStay, LinesStand, WrappedTextsFit, OnlySpacesAreLost}
-use Rattle.pg_fit.proofs.PrintableBytes.{nothing_wide}
+use Rattle.pg_fit.proofs.LawsOfControls.{nothing_wide}
 use Rattle.pg_fit.proofs.FilledLines.{wrapped_line-fits, wrapped_line-some}
 use Rattle.std.specs.Str.{IsUtf8, encode_utf8_all}
 use Rattle.std.proofs.lemmas.List.Elements.{All-nil, All-cons}

@@ -7,7 +7,7 @@ use Rattle.pg_layout.specs.Position.{at}
 use Rattle.std.specs.Iterator.{YieldsFirstBy, item_count}
 use Rattle.pg_layout.specs.Records.{Table, Gives, text_at}
 use Rattle.pg_layout.specs.Text.{Text}
-use Rattle.pg_layout.proofs.Rows.{yields-all}
+use Rattle.pg_layout.proofs.Given.{yields-all}
 use Rattle.pg_fit.specs.declared.overlaid.OverlaidColumns.{OverlaidColumns}
 use Rattle.pg_fit.specs.declared.overlaid.OverlaidRows.{OverlaidRows}
 use Rattle.pg_fit.specs.Overlaid.{Overlay, other_text, row_from, rows_from, overlaid, row_left}

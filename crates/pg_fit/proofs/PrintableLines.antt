@@ -20,7 +20,7 @@ use Rattle.pg_fit.specs.declared.wrapping.Breaking.{Breaking}
 use Rattle.pg_fit.specs.declared.wrapping.Breaking.TheVariants.{Anywhere, BetweenWords}
 use Rattle.pg_fit.specs.Printable.{is_printable}
 use Rattle.pg_fit.specs.Wrapping.{Piece, before_words, words, indented, widest_character, least_line_width, least_width}
-use Rattle.pg_fit.proofs.PrintableBytes.{printable-low, IsAscii-printable}
+use Rattle.pg_fit.proofs.LawsOfControls.{printable-low, IsAscii-printable}
 
 -- ---- characters
 

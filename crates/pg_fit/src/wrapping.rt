@@ -70,7 +70,8 @@ fn take_line<W: Allocator>(
     ensures order { IfOk result (λ r. (r.begin ≤ r.end) × (r.end ≤ length line.now)) }
     ensures line_begin { IfOk result (λ r. IsCharBoundary line.now r.begin) }
     ensures line_end { IfOk result (λ r. IsCharBoundary line.now r.end) }
-    ensures filled { IfOk result (λ r. string_bytes out.new ++ join_with_byte 10 (slice_range line.now r.begin r.end ∷ []) ≡ string_bytes out.old ++ join_with_byte 10 (filled width [] (pieces breaking width line.now))) }
+    ensures filled { IfOk result (λ r. string_bytes out.new ++ join_with_byte 10 (slice_range line.now r.begin r.end ∷ []) ≡ string_bytes out.old
+        ++ join_with_byte 10 (filled width [] (pieces breaking width line.now))) }
 {
     match breaking {
         Breaking::Anywhere => {

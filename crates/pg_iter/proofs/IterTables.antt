@@ -16,8 +16,7 @@ use Rattle.pg_picture.proofs.FirstPlaces.{fits}
 use Rattle.pg_stream.specs.Conditions.{AreRowsFrom, PrinterFits, RowsFit}
 use Rattle.pg_stream.specs.Laws.{texts_of}
 use Rattle.pg_stream.specs.Printing.{Printing, hint_of, printer, rows_text}
-use Rattle.pg_stream.proofs.PicturesOfRows.{may-be-printed, rows-make}
-use Rattle.pg_stream.proofs.RowsInTurn.{next-row}
+use Rattle.pg_stream.proofs.PicturesOfRows.{may-be-printed, rows-make, next-row}
 
 -- a list is what it has at its places
 at-places : {A : Type 0} (f : ℕ → A) (a : ℕ) (xs : List A) (d : A) → ((i : ℕ) → i < length xs → f (a + i) ≡ get_or xs i d) → map f (range_with_len a (length xs)) ≡ xs

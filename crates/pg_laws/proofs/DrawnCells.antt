@@ -12,7 +12,7 @@ use Rattle.pg_picture.specs.Marks.{Mark, sep, line, only_if, marks_of_row, marks
 use Rattle.pg_picture.specs.Pieces.{block, Piece, style_at, block_line, pieces_width, Style, written, separator_text, shown, lines_above, inner_width, left_share, text_line, text_height, text_top}
 use Rattle.pg_picture.specs.Table.{Table, rect_marks, block_at, is_inside, is_covered, vertical, crossing, column_items, separator_part, table_body, rect_height, rect_width, Hint, vertical_at, row_part, line_of_row, crossing_at, separator_items, total_width, full_width, side_margin, margin_lines, mark_text, body_line}
 use Rattle.pg_picture.proofs.Owners.{HasOwners, apart_from, owners_of, is_at-same}
-use Rattle.pg_picture.proofs.FittingTables.{RectInside, rect_inside}
+use Rattle.pg_picture.proofs.FittingTables.{RectInside, rect_inside, rect_height-one_row}
 use Rattle.pg_picture.proofs.Pictures.{All-body, All-enumerate_from, body-same, map-same}
 use Rattle.pg_picture.proofs.MarksOfRectangles.{rows_from, row_lines, run_of, marks_above-add, marks_within-run, NonePasses, NonePasses-append, none_sep, sep_lines, line_not_above}
 use Rattle.pg_picture.proofs.WalksOfRows.{row-begins, row-inside, no-crossing, column-inside, column-begins}
@@ -31,7 +31,6 @@ use Rattle.pg_layout.specs.Text.{Text}
 use Rattle.pg_config.specs.Settings.{Settings}
 use Rattle.pg_picture.specs.Joined.{joined}
 use Rattle.pg_picture.specs.Picture.{top_lines, bottom_lines, body_lines, picture_lines, picture}
-use Rattle.pg_picture.proofs.PlainTables.{rect_height-one_row}
 
 -- ---- a shown cell is drawn in each line of its rectangle, and these lines stand together
 

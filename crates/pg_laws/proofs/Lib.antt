@@ -1,6 +1,5 @@
 -- Lemmas of this crate.
 mod SettingLaws
-mod SpanLaw
 mod LinesOfPictures
 mod DrawnCells
 mod ColorsOfLines

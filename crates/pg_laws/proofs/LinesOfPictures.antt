@@ -24,7 +24,7 @@ use Rattle.pg_picture.specs.Marks.{Mark}
 use Rattle.pg_picture.specs.Pieces.{fill, written}
 use Rattle.pg_picture.specs.Plain.{cell_line}
 use Rattle.pg_picture.proofs.Ranges.{range-more}
-use Rattle.pg_picture.proofs.PlainTables.{row_part_plain, row_part_plain_end, crossing_plain, column_items_plain}
+use Rattle.pg_picture.proofs.FittingTables.{row_part_plain, row_part_plain_end, crossing_plain, column_items_plain}
 use Rattle.pg_picture.proofs.WalksOfRows.{separator_part_end}
 use Rattle.std.specs.Borrow.{Bor}
 use Rattle.pg_stream.specs.Printing.{hint_of}

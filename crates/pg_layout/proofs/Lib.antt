@@ -3,8 +3,6 @@ pub mod KeyedPlaces
 mod PlacesInTrees
 pub mod TextLines
 pub mod PlainBytes
-pub mod Greatest
-pub mod Rows
 pub mod Given
 pub mod GivenArrays
 pub mod Computing

@@ -1,6 +1,6 @@
 -- The lines of a text: where they are cut, how wide they are, and what is trimmed of them.
-use Rattle.std.proofs.Common.{◌≡◌, ◌+◌, ◌-◌, ◌<◌, ◌≤◌, ◌≢◌, ◌==◌, ℕ, suc, not, Bool, true, false, List, [], ◌∷◌, ◌++◌, length, take, drop, get_or, cond, count_by, Option, Some, None, unwrap_or, MatchOption, Bor, nat_lt, arith, refl, sym, ◌∙◌, ap, zero, map, fold, max, min, subst, add-one, length-append, take-append-drop, get_or-drop, ◌&&◌, ◌||◌, chars, length-take, length-drop, get_or-take, take-suc, drop-cons, eq-zero-or-pos, ⊎_elim, true≢false}
-use Rattle.std.specs.List.{position_or_len, slice_range, slice_split, onto_first, before_first, after_first, list_all, slice_get}
+use Rattle.std.proofs.Common.{◌≡◌, ◌+◌, ◌-◌, ◌<◌, ◌≤◌, ◌≢◌, ◌==◌, ℕ, suc, not, Bool, true, false, List, [], ◌∷◌, ◌++◌, length, take, drop, get_or, cond, count_by, Option, Some, None, unwrap_or, MatchOption, Bor, nat_lt, arith, refl, sym, ◌∙◌, ap, zero, map, fold, max, min, subst, add-one, length-append, take-append-drop, get_or-drop, ◌&&◌, ◌||◌, chars, length-take, length-drop, get_or-take, take-suc, drop-cons, eq-zero-or-pos, ⊎_elim, true≢false, inl, inr, eqb-true}
+use Rattle.std.specs.List.{position_or_len, slice_range, slice_split, onto_first, before_first, after_first, list_all, slice_get, range_with_len}
 use Rattle.std.specs.Str.{IsUtf8, IsCharBoundary, IsAscii, IsAsciiWhitespaceBelow, IsAsciiWhitespaceFrom, IsTrimAscii, encode_utf8_all, skip_leading_whitespace, drop_trailing_whitespace, trim, trim_start, trim_end}
 use Rattle.std.proofs.lemmas.Bool.Decides.{nat_tests}
 use Rattle.std.proofs.lemmas.List.{drop_at, take_all, drop-append-le, drop-take, take-append-le, take-take, drop_more, take_more, get_or_append_left, get_or_at}
@@ -8,12 +8,15 @@ use Rattle.std.proofs.lemmas.List.Sums.{prefix_len-le-length, passes_at_first, s
 use Rattle.std.proofs.lemmas.List.Splits.{slice_split_first, length-slice_split}
 use Rattle.std.proofs.lemmas.Str.{IsCharBoundary-after_ascii, chars-IsAscii, chars-nil, chars-append, encodes-chars, encodes-append, encode_ascii, IsUtf8-from_ascii, IsUtf8-take, IsUtf8-drop, IsCharBoundary-before_ascii}
 use Rattle.pg_layout.specs.Text.{Text, lines_of, first_line_of, first_of_lines, without_return, is_plain_byte, width_of, text_width_of, greatest}
-use Rattle.std.proofs.lemmas.Bool.{and_parts}
+use Rattle.std.proofs.lemmas.Bool.{and_parts, cases_Bool}
 use Rattle.unicode_width.specs.Width.{str_width, read_before, step, past_emoji, plain}
 use Rattle.std.proofs.lemmas.Option.{slice_get_past, slice_get_within}
 use Rattle.pg_layout.specs.LineCursor.{ended, stands_in, StandsIn, line_number}
 use Rattle.std.proofs.lemmas.Str.Ascii.{IsAscii-cons}
 use Rattle.std.specs.Char.{is_whitespace, is_ascii_whitespace, is_ascii_graphic}
+use Rattle.std.proofs.lemmas.List.FromFn.{map-range_with_len_more}
+
+-- ---- the lines of a text: where they are cut, how wide they are, and what is trimmed of them
 
 -- ---- a text cut at a line feed, and its lines
 
@@ -451,3 +454,25 @@ trim-seen_ends line inner utf8 cut ends =
     cut.1
     ∙ trim_end-from left (length inner) fits cut.4 (λ some. (begun (omega arith), ap is_ascii_graphic (same (length inner - 1) (omega arith)) ∙ (both some).1))
     ∙ ap trim_end (sym (trim_start-seen left (λ some. (begun some, first some))) ∙ trim_start-below line cut.0 cut.2)
+
+-- ---- the greatest of what a function gives over a range of numbers
+
+greatest-append : (xs ys : List ℕ) → greatest (xs ++ ys) ≡ max (greatest xs) (greatest ys)
+greatest-append [] ys = omega arith
+greatest-append (x ∷ xs) ys = let ih = greatest-append xs ys in omega (arith, ih)
+
+-- it is no less than any of them
+pub greatest-reaches : (f : ℕ → ℕ) (a n y : ℕ) → a ≤ y → y < a + n → f y ≤ greatest (map f (range_with_len a n))
+greatest-reaches f a zero y h l = absurd (omega (arith, h, l))
+greatest-reaches f a (suc n) y h l =
+    elim (cases_Bool (y == a)) [
+      | inl e ↦ let same : y ≡ a = eqb-true y a e in let is = ap f same in omega (arith, is)
+      | inr e ↦ let more : a + 1 ≤ y = grind (arith, nat_tests, h, e) in let ih = greatest-reaches f (a + 1) n y more (omega (arith, l)) in omega (arith, ih)
+    ]
+
+-- one number more
+pub greatest-more : (f : ℕ → ℕ) (n : ℕ) → greatest (map f (range_with_len 0 (n + 1))) ≡ max (greatest (map f (range_with_len 0 n))) (f n)
+greatest-more f n =
+    let listed = ap greatest (map-range_with_len_more f 0 n n (omega arith)) in
+    let parts = greatest-append (map f (range_with_len 0 n)) (f n ∷ []) in
+    omega (arith, listed, parts)

@@ -1,4 +1,3 @@
 -- Lemmas of this crate.
-pub mod TallCells
 pub mod RowParts
 pub mod CanDraw

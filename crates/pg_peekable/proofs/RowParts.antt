@@ -1,11 +1,11 @@
--- What a column adds to a line of a row and to a separator.
-use Rattle.std.proofs.Common.{◌≡◌, ℕ, ◌+◌, ◌-◌, ◌<◌, true, List, [], ◌++◌, flat_map, sym, ap, ◌∙◌, zero-add, Some, None, arith, ◌≤◌, ◌∷◌, Option, ap₂, subst}
+-- What a column adds to a line of a row and to a separator, and lines that are read on from where the last one ended.
+use Rattle.std.proofs.Common.{◌≡◌, ℕ, ◌+◌, ◌-◌, ◌<◌, true, List, [], ◌++◌, flat_map, sym, ap, ◌∙◌, zero-add, Some, None, arith, ◌≤◌, ◌∷◌, Option, ap₂, subst, length, refl}
 use Rattle.std.specs.List.{range_with_len}
 use Rattle.pg_layout.specs.declared.position.Position.{Position}
 use Rattle.pg_layout.specs.Position.{at}
 use Rattle.pg_config.specs.Spans.{Span, corner, owner, is_left, left_span, span_above}
 use Rattle.pg_picture.specs.Marks.{line, sep}
-use Rattle.pg_picture.specs.Pieces.{Piece, written, style_at, block_line, Item, block, cut}
+use Rattle.pg_picture.specs.Pieces.{Piece, written, style_at, block_line, Item, block, cut, Style}
 use Rattle.pg_picture.specs.Table.{Table, vertical, vertical_at, block_at, row_part, crossing_at, border_items, separator_part}
 use Rattle.pg_picture.specs.Fits.{cell_fits}
 use Rattle.pg_picture.specs.Fitting.{TableFits}
@@ -13,7 +13,7 @@ use Rattle.pg_picture.specs.Inside.Rectangles.{columns_or_one}
 use Rattle.pg_picture.proofs.PiecesOfLines.{written-append}
 use Rattle.pg_picture.proofs.Ranges.{range-more, range-cut}
 use Rattle.pg_picture.specs.Plain.{cell_line}
-use Rattle.pg_picture.proofs.PlainTables.{row_part_plain}
+use Rattle.pg_picture.proofs.FittingTables.{row_part_plain}
 use Rattle.pg_picture.proofs.OwnersOfPlaces.{InOrder, owner_alone, owner_found, size_alone}
 use Rattle.pg_picture.proofs.FirstPlaces.{step-some}
 use Rattle.pg_picture.proofs.WalksOfRows.{walk_step, row_part_end, row_part_left, row_part_inner, width_above-positive, width_above-inside, next_start, separator_part_inner, separator_part_border, separator_part_block, above_some}
@@ -23,6 +23,17 @@ use Rattle.pg_config.specs.Config.{get_horizontal}
 use Rattle.pg_picture.specs.Inside.Following.{items_after, last_color}
 use Rattle.pg_picture.proofs.Separators.{items_after-append, items_after-one, last_color-append, last_color-one}
 use Rattle.pg_peekable.specs.Inside.LookedUpTable.{starts}
+use Rattle.pg_layout.specs.Text.{Text, lines_of}
+use Rattle.pg_picture.specs.Inside.Cells.{HasRoomFor, facts_of, place_of, text_line_at, line_if, placed_line}
+use Rattle.pg_picture.proofs.PlacesOfTexts.{place_in-tall, place-lines, room-of-line, block_line-at, cell_fits-width}
+use Rattle.pg_peekable.specs.declared.kept.Reading.{Reading}
+use Rattle.pg_peekable.specs.declared.rectangle.Rectangle.{Rectangle}
+use Rattle.pg_peekable.specs.Inside.Kept.{IsReading}
+use Rattle.pg_peekable.specs.Inside.Lines.{IsCellLine}
+use Rattle.std.specs.Borrow.{Bor}
+use Rattle.std.specs.Option.{option_map, unwrap_or}
+
+-- ---- what a column adds to a line of a row and to a separator
 
 -- ---- what a column adds to a line of a row
 
@@ -134,3 +145,44 @@ module _ (t : Table) (order : InOrder t.config.spans t.rows t.columns) where
 
     pub above-parts : flat_map (separator_part t r) (range_with_len 0 (x + w)) ≡ flat_map (separator_part t r) (range_with_len 0 x) ++ separator_part t r x
     above-parts = walk_step (separator_part t r) x w above-some (λ y h k. separator_part_inner t order r x y start here h (omega (arith, k, is)))
+
+-- ---- a line of a cell that has more, and lines that are read on from where the last one ended
+
+-- ---- a line of a cell that has more: its text is placed, and read so far
+
+module _ (t : Table) (r : Rectangle) (i : ℕ) (is : IsCellLine t r i) (reading : Reading) (reads : IsReading t r reading) where
+  abbrev own : Style
+  own = style_at t.config r.corner
+
+  abbrev text : Text
+  text = t.text r.corner
+
+  tall : 0 < r.height
+  tall = omega (arith, is.line)
+
+  stands : reading.place ≡ place_of (facts_of own.formatting text) own r.width r.height
+  stands = reads.place ∙ place_in-tall own text r.width r.height tall
+
+  -- its place shows lines of the text
+  pub tall-lines : reading.place.skip + reading.place.shown ≤ length (lines_of text)
+  tall-lines = place-lines own text r.width r.height reading.place stands
+
+  -- the line of it that was found by its place
+  module _ {found line : Text} {which : Option ℕ} (same : found ≡ text) (at_place : which ≡ text_line_at reading.place i) (is_line : line ≡ line_if found which) where
+    of_text : line ≡ line_if text (text_line_at reading.place i)
+    of_text = is_line ∙ ap₂ line_if same at_place
+
+    -- has room
+    pub tall-room : HasRoomFor own reading.place r.width i line
+    tall-room = λ below above. room-of-line own text r.width r.height i reading.place line stands of_text (cell_fits-width own text r.width r.height tall is.room) below above
+
+    -- and is that of the cell's block
+    pub tall-line : placed_line own (t.color r.corner) reading.place r.width i line ≡ block_line own (t.color r.corner) text r.width r.height i
+    tall-line = block_line-at own (t.color r.corner) text r.width r.height i reading.place line stands of_text
+
+-- ---- lines that are read on from where the last one ended
+
+-- a lent line, or another where there is none
+pub lent-or : (line : Option (Bor (List ℕ))) (other : Bor (List ℕ)) → (unwrap_or line other).now ≡ unwrap_or (option_map (λ x. x.now) line) other.now
+lent-or None other = refl
+lent-or (Some line) other = refl

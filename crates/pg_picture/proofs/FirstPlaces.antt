@@ -23,7 +23,7 @@ use Rattle.pg_layout.specs.Text.{Text}
 use Rattle.std.specs.Option.{option_map}
 use Rattle.pg_picture.specs.declared.fits.Misfit.TheVariants.{Spans, Totals, Room}
 use Rattle.pg_picture.specs.Fitting.{TableFits}
-use Rattle.pg_picture.proofs.PlainTables.{rect_width_plain, rect_height_plain}
+use Rattle.pg_picture.proofs.FittingTables.{rect_width_plain, rect_height_plain}
 
 -- ---- a walk along a row from left column to left column meets each place that owns itself
 

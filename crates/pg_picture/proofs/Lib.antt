@@ -3,15 +3,11 @@ pub mod Appending
 pub mod Ranges
 pub mod PiecesOfLines
 pub mod MarksOfRectangles
-pub mod PlainTables
+pub mod FittingTables
 pub mod Pictures
 pub mod Separators
-pub mod CompactPieces
-pub mod GlyphsOfLines
 pub mod PlacesOfTexts
 pub mod FirstPlaces
-pub mod FittingTables
-pub mod SpansByColumns
 pub mod OwnersOfPlaces
 pub mod WalksOfRows
 pub mod Owners

@@ -1,5 +1,5 @@
--- The text of pieces: one character several times, fills, and the margins of a line.
-use Rattle.std.proofs.Common.{◌≡◌, ℕ, zero, suc, ◌+◌, ◌-◌, ◌*◌, ◌<◌, ◌≤◌, List, [], ◌++◌, length, take, flat_map, replicate, sym, ◌∙◌, ap, subst, append-nil, length-append, zero-mul, suc-mul, add_comm, arith, refl, encode_utf8, ◌==◌, ◌&&◌, Bool, true, ◌∷◌, Option, Some, None, is_none, ap₂, lit<, ◌||◌, false, inl, inr, nat_lt, min}
+-- The text of pieces: one character several times, fills, margins, and the pieces of a compact table.
+use Rattle.std.proofs.Common.{◌≡◌, ℕ, zero, suc, ◌+◌, ◌-◌, ◌*◌, ◌<◌, ◌≤◌, List, [], ◌++◌, length, take, flat_map, replicate, sym, ◌∙◌, ap, subst, append-nil, length-append, zero-mul, suc-mul, add_comm, arith, refl, encode_utf8, ◌==◌, ◌&&◌, Bool, true, ◌∷◌, Option, Some, None, is_none, ap₂, lit<, ◌||◌, false, inl, inr, nat_lt, min, append_assoc, nat_le, if◌then◌else◌, option_map, unwrap_or, Bor}
 use Rattle.std.specs.List.{slice_range}
 use Rattle.std.specs.Str.{IsUtf8, IsCharBoundary}
 use Rattle.std.specs.Char.{IsScalar}
@@ -7,18 +7,26 @@ use Rattle.std.proofs.lemmas.List.{replicate-append-replicate}
 use Rattle.std.proofs.lemmas.List.Concat.{flat_map-append}
 use Rattle.std.proofs.lemmas.Str.{IsUtf8-nil, IsUtf8-encode, IsUtf8-append, IsCharBoundary-at_seam}
 use Rattle.std.proofs.Math.Seq.{take-append_seam}
-use Rattle.pg_picture.specs.Pieces.{repeated, Style, Piece, fill, glyph_piece, written, piece_text, in_color}
+use Rattle.pg_picture.specs.Pieces.{repeated, Style, Piece, fill, glyph_piece, written, piece_text, in_color, cut, shares}
 use Rattle.pg_picture.proofs.Appending.{run-cut}
 use Rattle.std.proofs.lemmas.Bool.{and_parts, false≢true, cases_Bool}
 use Rattle.std.proofs.lemmas.Bool.Decides.{nat_tests}
-use Rattle.pg_layout.specs.Colors.{Color}
-use Rattle.pg_picture.specs.CompactLines.{colored_glyph}
+use Rattle.pg_layout.specs.Colors.{Color, str_color, lent_color}
+use Rattle.pg_picture.specs.CompactLines.{colored_glyph, Part, own_or, parts_after, compact_indent, compact_cell_of, part_if, main_part}
 use Rattle.pg_picture.specs.Inside.Cells.{has_plain_sides, line_parts}
 use Rattle.pg_layout.specs.declared.sides.Indent.{Indent}
 use Rattle.pg_layout.specs.declared.sides.Offset.{Offset}
 use Rattle.pg_layout.specs.declared.sides.Offset.TheVariants.{Start, End}
 use Rattle.pg_picture.specs.Table.{Unknown, margin_line, is_blank_at, side_margin, side_margin_at}
 use Rattle.pg_picture.specs.Inside.Margins.{is_blank_in}
+use Rattle.pg_picture.specs.Inside.Following.{part_after, open_parts, open_color}
+use Rattle.pg_layout.specs.declared.alignment.AlignmentHorizontal.{AlignmentHorizontal}
+use Rattle.pg_layout.specs.declared.colors.ANSIStr.{ANSIStr}
+use Rattle.pg_layout.specs.declared.sides.Sides.{Sides}
+use Rattle.pg_layout.specs.Text.{Text, first_line_of, width_of}
+use Rattle.pg_config.specs.CompactConfig.{CompactSettings}
+
+-- ---- the text of pieces: one character several times, fills, and the margins of a line
 
 -- ---- one character several times: its parts, its length, and where its text may be cut
 
@@ -209,3 +217,99 @@ side_margin-unknown indent (Start s) color i h here =
     let same : nat_lt i (min s (i + 1)) ≡ nat_lt i (min s h) = grind (arith, nat_tests) in
     rw same refl
 side_margin-unknown indent (End e) color i h here = refl
+
+-- ---- the texts of a compact table's pieces: indents, glyphs, cells, and the parts of a separator with the cuts between them
+
+-- ---- the parts of a compact separator with the cuts between them: some more, and the end of their line
+
+pub open_parts-append : (c : Option Color) (parts more : List Part) → open_parts c (parts ++ more) ≡ open_parts c parts ++ open_parts (open_color c parts) more
+unfolding open_parts open_color
+open_parts-append c [] more = refl
+open_parts-append c (part ∷ parts) more =
+    ap (λ t. part_after c part ++ t) (open_parts-append (own_or part.2 c) parts more)
+    ∙ sym (append_assoc (part_after c part) (open_parts (own_or part.2 c) parts) (open_parts (open_color (own_or part.2 c) parts) more))
+
+pub open_color-append : (c : Option Color) (parts more : List Part) → open_color c (parts ++ more) ≡ open_color (open_color c parts) more
+unfolding open_color
+open_color-append c [] more = refl
+open_color-append c (part ∷ parts) more = open_color-append (own_or part.2 c) parts more
+
+pub open_parts-one : (c : Option Color) (part : Part) → open_parts c (part ∷ []) ≡ part_after c part
+unfolding open_parts
+open_parts-one c part = append-nil (part_after c part)
+
+pub open_color-one : (c : Option Color) (part : Part) → open_color c (part ∷ []) ≡ own_or part.2 c
+unfolding open_color
+open_color-one c part = refl
+
+-- the last cut closes what the parts left open
+pub parts_after-close : (c : Option Color) (parts : List Part) → parts_after c parts ≡ open_parts c parts ++ cut (open_color c parts) None
+unfolding parts_after open_parts open_color
+parts_after-close c [] = refl
+parts_after-close c (part ∷ parts) =
+    ap (λ t. part_after c part ++ t) (parts_after-close (own_or part.2 c) parts)
+    ∙ sym (append_assoc (part_after c part) (open_parts (own_or part.2 c) parts) (cut (open_color (own_or part.2 c) parts) None))
+
+-- ---- the texts of a compact table's pieces: indents, glyphs, cells, and the parts of a separator
+
+-- an empty colour is none
+pub indent-plain : (c k : ℕ) (color : Color) → ((length color.prefix == 0) && (length color.suffix == 0)) ≡ true → repeated c k ≡ compact_indent c k color
+unfolding compact_indent
+indent-plain c k color none = rw none refl
+
+pub indent-colored : (c k : ℕ) (color : Color) → ((length color.prefix == 0) && (length color.suffix == 0)) ≡ false → in_color (Some color) (repeated c k) ≡ compact_indent c k color
+unfolding compact_indent
+indent-colored c k color some = rw some refl
+
+-- a colour that is lent is the colour
+pub lent-color : (lent : Option (Bor ANSIStr)) {color : Option ANSIStr} → option_map (λ x. x.now) lent ≡ color → lent_color str_color lent ≡ option_map str_color color
+lent-color lent is = through lent ∙ ap (λ o. option_map str_color o) is
+  where
+    through : (lent : Option (Bor ANSIStr)) → lent_color str_color lent ≡ option_map str_color (option_map (λ x. x.now) lent)
+    through None = refl
+    through (Some c) = refl
+
+-- a cell as its left side, its line and its right side
+pub cell-text : (config : CompactSettings) (w : ℕ) (color : Option Color) (text line : Text) (padding : Sides Indent) (colors : Sides Color) (alignment : AlignmentHorizontal) (got room : ℕ) (share : ℕ × ℕ)
+    → share ≡ (if nat_le got room then shares alignment got room else (0, 0)) → room ≡ w - (padding.left.size + padding.right.size) → got ≡ width_of line → line ≡ first_line_of text
+    → padding ≡ config.padding → colors ≡ config.padding_color → alignment ≡ config.alignment
+    → (compact_indent padding.left.fill padding.left.size colors.left ++ repeated 32 share.0) ++ (in_color color line ++ (repeated 32 share.1 ++ compact_indent padding.right.fill padding.right.size colors.right))
+    ≡ compact_cell_of config w color text
+unfolding compact_cell_of
+cell-text config w color text line padding colors alignment got room share shared roomy wide first pads coloured aligned =
+    rw (shared, roomy, wide, first, pads, coloured, aligned) refl
+
+-- ---- parts of a separator
+
+module _ (c : Option Color) where
+  -- no part appends nothing and keeps the colour
+  pub no_parts-text : {ps : List Part} → ps ≡ [] → [] ≡ open_parts c ps
+  unfolding open_parts
+  no_parts-text none = rw none refl
+
+  pub no_parts-color : {ps : List Part} → ps ≡ [] → c ≡ open_color c ps
+  unfolding open_color
+  no_parts-color none = rw none refl
+
+  pub one_part-text : {ps : List Part} (p : Part) → ps ≡ p ∷ [] → part_after c p ≡ open_parts c ps
+  one_part-text p one = sym (ap (λ ps. open_parts c ps) one ∙ open_parts-one c p)
+
+  pub one_part-color : {ps : List Part} (p : Part) → ps ≡ p ∷ [] → own_or p.2 c ≡ open_color c ps
+  one_part-color p one = sym (ap (λ ps. open_color c ps) one ∙ open_color-one c p)
+
+pub part_if-none : {g : Option ℕ} (color : Option Color) → g ≡ None → part_if g color ≡ []
+part_if-none color none = rw none refl
+
+pub part_if-some : {g : Option ℕ} (x : ℕ) (color : Option Color) → g ≡ Some x → part_if g color ≡ (x, 1, color) ∷ []
+part_if-some x color some = rw some refl
+
+-- a column of no width has no main part
+pub main_part-none : (g : Option ℕ) (color : Option Color) (w : ℕ) → w ≡ 0 → main_part g color w ≡ []
+unfolding main_part
+main_part-none g color zero none = refl
+main_part-none g color (suc w) none = absurd (omega (arith, none))
+
+pub main_part-some : (g : Option ℕ) (color : Option Color) (w : ℕ) → 0 < w → main_part g color w ≡ (unwrap_or g 32, w, color) ∷ []
+unfolding main_part
+main_part-some g color zero some = absurd (omega (arith, some))
+main_part-some g color (suc w) some = refl

@@ -30,7 +30,7 @@ use Rattle.pg_picture.proofs.Pictures.{All-body, All-enumerate_from}
 use Rattle.pg_picture.proofs.PlacesOfTexts.{pieces_width-append, pieces_width-fill, block_line-width}
 use Rattle.pg_picture.proofs.WalksOfRows.{row_part_end, separator_part_end, left-there, row-begins, row-inside, covered-row, no-crossing, crossing-begins, crossing-open, column-inside, column-begins, column-open}
 use Rattle.pg_picture.proofs.FittingTables.{rect_inside, owner_fits-own}
-use Rattle.pg_picture.proofs.GlyphsOfLines.{get_vertical-none}
+use Rattle.pg_picture.proofs.Separators.{get_vertical-none}
 
 -- ---- glyphs
 

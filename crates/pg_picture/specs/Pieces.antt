@@ -1,5 +1,6 @@
 -- Pieces of a line, the block of a cell, and how colours are opened and closed along a separator.
-use Rattle.std.specs.Prelude.{ℕ, zero, suc, ◌+◌, ◌-◌, ◌*◌, ◌/◌, Bool, true, false, nat_lt, min, List, [], ◌∷◌, ◌++◌, map, flat_map, sum_by, length, replicate, slice_index_or, Option, Some, None, encode_utf8, if◌then◌else◌}
+use Rattle.std.specs.Prelude.{ℕ, zero, suc, ◌+◌, ◌-◌, ◌*◌, ◌/◌, Bool, true, false, nat_lt, min, List, [], ◌∷◌, ◌++◌, map, flat_map, sum_by, length, replicate, slice_index_or}
+use Rattle.std.specs.Prelude.{Option, Some, None, encode_utf8, if◌then◌else◌}
 use Rattle.std.specs.Str.{trim}
 use Rattle.pg_layout.specs.declared.alignment.Formatting.{Formatting}
 use Rattle.pg_layout.specs.declared.alignment.AlignmentHorizontal.{AlignmentHorizontal}

@@ -53,7 +53,8 @@ pub record HasNarrowGlyphs (t : Table) : Type 0 where
 -- counts it also where nothing stands; spaces stand for a horizontal without glyph, so those need none.
 pub record HasNoGaps (t : Table) : Type 0 where
   pub verticals : (r c : ℕ) → r < t.rows → c ≤ t.columns → has_vertical t.config c t.columns ≡ true → IsSome (get_vertical t.config (at r c) t.columns)
-  pub crossings : (r c : ℕ) → r ≤ t.rows → c ≤ t.columns → has_horizontal t.config r t.rows ≡ true → has_vertical t.config c t.columns ≡ true → IsSome (get_intersection t.config (at r c) t.rows t.columns)
+  pub crossings : (r c : ℕ) → r ≤ t.rows → c ≤ t.columns → has_horizontal t.config r t.rows ≡ true → has_vertical t.config c t.columns ≡ true
+      → IsSome (get_intersection t.config (at r c) t.rows t.columns)
 
 -- All lines of the body are as wide as the table, side margins aside.
 abbrev pub HasStraightLines : Table → Type 0

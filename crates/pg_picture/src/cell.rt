@@ -44,7 +44,8 @@ pub fn push_text_line<C: ANSIFmt, B: Allocator, A: Allocator>(
     width: usize,
 ) -> Result<(), AllocError>
     requires { style.now.padding.left.size + style.now.padding.right.size + share_of (style_of style.now) left width (width_of line.now) + width_of line.now ≤ width }
-    ensures { Appends buf.old buf.new result (written (line_with (style_of style.now) (lent_color C.color_of color.entry) width (share_of (style_of style.now) left width (width_of line.now)) line.now)) }
+    ensures { Appends buf.old buf.new result
+        (written (line_with (style_of style.now) (lent_color C.color_of color.entry) width (share_of (style_of style.now) left width (width_of line.now)) line.now)) }
 {
     push_line_of_width(buf, style, color, line, get_line_width(line), left, width)
 }
@@ -62,7 +63,8 @@ pub(crate) fn push_line_of_width<C: ANSIFmt, B: Allocator, A: Allocator>(
 ) -> Result<(), AllocError>
     requires known { line_width ≡ width_of line.now }
     requires room { style.now.padding.left.size + style.now.padding.right.size + share_of (style_of style.now) left width line_width + line_width ≤ width }
-    ensures { Appends buf.old buf.new result (written (line_with (style_of style.now) (lent_color C.color_of color.entry) width (share_of (style_of style.now) left width (width_of line.now)) line.now)) }
+    ensures { Appends buf.old buf.new result
+        (written (line_with (style_of style.now) (lent_color C.color_of color.entry) width (share_of (style_of style.now) left width (width_of line.now)) line.now)) }
 {
     let inner = inner_width(style, width);
     let share = columns_left(style, left, line_width, width);
@@ -131,7 +133,8 @@ fn push_left_side<B: Allocator, A: Allocator>(
     style: &CellStyle<'_, B>,
     share: usize,
 ) -> Result<(), AllocError>
-    ensures { Appends buf.old buf.new result (written (fill style.now.padding.left.fill style.now.padding.left.size (style_of style.now).padding_color.left) ++ written (fill style.now.justification share (style_of style.now).justification_color)) }
+    ensures { Appends buf.old buf.new result (written (fill style.now.padding.left.fill style.now.padding.left.size (style_of style.now).padding_color.left)
+        ++ written (fill style.now.justification share (style_of style.now).justification_color)) }
 {
     let left = style.padding.left;
     let color = &style.padding_color.left;
@@ -151,7 +154,8 @@ fn push_right_side<B: Allocator, A: Allocator>(
     style: &CellStyle<'_, B>,
     rest: usize,
 ) -> Result<(), AllocError>
-    ensures { Appends buf.old buf.new result (written (fill style.now.justification rest (style_of style.now).justification_color) ++ written (fill style.now.padding.right.fill style.now.padding.right.size (style_of style.now).padding_color.right)) }
+    ensures { Appends buf.old buf.new result (written (fill style.now.justification rest (style_of style.now).justification_color)
+        ++ written (fill style.now.padding.right.fill style.now.padding.right.size (style_of style.now).padding_color.right)) }
 {
     let right = style.padding.right;
     let color = &style.padding_color.right;

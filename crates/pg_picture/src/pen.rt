@@ -139,7 +139,8 @@ where
 
     /// Appends the lines of the top margin.
     pub fn push_top<A: Allocator>(self, buf: &mut String<A>) -> Result<(), AllocError>
-        ensures { Appends buf.old buf.new result (continued 0 (replicate T.table.config.margin.top.size (written (margin_line T.table.config.margin.top T.table.config.margin_offset.top T.table.config.margin_color.top self.entry.sheet.now.width)))) }
+        ensures { Appends buf.old buf.new result
+            (continued 0 (replicate T.table.config.margin.top.size (written (margin_line T.table.config.margin.top T.table.config.margin_offset.top T.table.config.margin_color.top self.entry.sheet.now.width)))) }
     {
         push_top_margin(buf, self.sheet.config, self.sheet.width)
     }
@@ -150,7 +151,8 @@ where
         buf: &mut String<A>,
         is_first: bool,
     ) -> Result<(), AllocError>
-        ensures { Appends buf.old buf.new result (continued (lines_before is_first) (replicate T.table.config.margin.bottom.size (written (margin_line T.table.config.margin.bottom T.table.config.margin_offset.bottom T.table.config.margin_color.bottom self.entry.sheet.now.width)))) }
+        ensures { Appends buf.old buf.new result
+            (continued (lines_before is_first) (replicate T.table.config.margin.bottom.size (written (margin_line T.table.config.margin.bottom T.table.config.margin_offset.bottom T.table.config.margin_color.bottom self.entry.sheet.now.width)))) }
     {
         push_bottom_margin(buf, self.sheet.config, self.sheet.width, is_first)
     }
@@ -178,7 +180,8 @@ where
 
     #[inline(always)]
     fn push_left<A: Allocator>(self, buf: &mut String<A>, index: usize) -> Result<(), AllocError>
-        ensures { Appends buf.old buf.new result (written (side_margin_at self.entry.sheet.now.height T.table.config.margin.left T.table.config.margin_offset.left T.table.config.margin_color.left index)) }
+        ensures { Appends buf.old buf.new result
+            (written (side_margin_at self.entry.sheet.now.height T.table.config.margin.left T.table.config.margin_offset.left T.table.config.margin_color.left index)) }
     {
         if !self.sheet.has_sides {
             return Ok(());

@@ -70,7 +70,8 @@ where
         buf: &mut String<A>,
         line: PlacedLine<'_, T>,
     ) -> Result<(), AllocError>
-        ensures { Appends buf.old buf.new result (written (placed_line (style_at T.table.config line.entry.pos) (T.table.color line.entry.pos) line.entry.place line.entry.width line.entry.number line.entry.text.now)) }
+        ensures { Appends buf.old buf.new result
+            (written (placed_line (style_at T.table.config line.entry.pos) (T.table.color line.entry.pos) line.entry.place line.entry.width line.entry.number line.entry.text.now)) }
     {
         match &self.sheet.all {
             Some(style) => match line.place.left {
@@ -90,7 +91,8 @@ where
         line: PlacedLine<'_, T>,
     ) -> Result<(), AllocError>
         requires style { record (style_of style.now) { across = get_alignment_horizontal T.table.config line.pos } ≡ style_at T.table.config line.pos }
-        ensures { Appends buf.old buf.new result (written (placed_line (style_at T.table.config line.entry.pos) (T.table.color line.entry.pos) line.entry.place line.entry.width line.entry.number line.entry.text.now)) }
+        ensures { Appends buf.old buf.new result
+            (written (placed_line (style_at T.table.config line.entry.pos) (T.table.color line.entry.pos) line.entry.place line.entry.width line.entry.number line.entry.text.now)) }
     {
         let aligned = style.aligned(self.side_of(line.pos));
         self.push_line_in_style(buf, &aligned, line)
@@ -105,7 +107,8 @@ where
         buf: &mut String<A>,
         line: PlacedLine<'_, T>,
     ) -> Result<(), AllocError>
-        ensures { Appends buf.old buf.new result (written (placed_line (style_at T.table.config line.entry.pos) (T.table.color line.entry.pos) line.entry.place line.entry.width line.entry.number line.entry.text.now)) }
+        ensures { Appends buf.old buf.new result
+            (written (placed_line (style_at T.table.config line.entry.pos) (T.table.color line.entry.pos) line.entry.place line.entry.width line.entry.number line.entry.text.now)) }
     {
         self.push_line_in_own_style(buf, line)
     }
@@ -116,7 +119,8 @@ where
         buf: &mut String<A>,
         line: PlacedLine<'_, T>,
     ) -> Result<(), AllocError>
-        ensures { Appends buf.old buf.new result (written (placed_line (style_at T.table.config line.entry.pos) (T.table.color line.entry.pos) line.entry.place line.entry.width line.entry.number line.entry.text.now)) }
+        ensures { Appends buf.old buf.new result
+            (written (placed_line (style_at T.table.config line.entry.pos) (T.table.color line.entry.pos) line.entry.place line.entry.width line.entry.number line.entry.text.now)) }
     {
         let style = self.style_of_lines(line.place.left, line.pos);
         self.push_line_in_style(buf, &style, line)
@@ -141,7 +145,8 @@ where
         line: PlacedLine<'_, T>,
     ) -> Result<(), AllocError>
         requires { DrawsAs line.place.left (style_of style.now) (style_at T.table.config line.pos) }
-        ensures { Appends buf.old buf.new result (written (placed_line (style_at T.table.config line.entry.pos) (T.table.color line.entry.pos) line.entry.place line.entry.width line.entry.number line.entry.text.now)) }
+        ensures { Appends buf.old buf.new result
+            (written (placed_line (style_at T.table.config line.entry.pos) (T.table.color line.entry.pos) line.entry.place line.entry.width line.entry.number line.entry.text.now)) }
     {
         let color = self.color_of(line.pos);
         push_block_line_of(

@@ -61,7 +61,8 @@ pub fn push_top_margin<B: Allocator, A: Allocator>(
     config: &SpannedConfig<B>,
     width: usize,
 ) -> Result<(), AllocError>
-    ensures { Appends buf.old buf.new result (continued 0 (replicate config.now.margin.top.size (written (margin_line config.now.margin.top config.now.margin_offset.top config.now.margin_color.top width)))) }
+    ensures { Appends buf.old buf.new result
+        (continued 0 (replicate config.now.margin.top.size (written (margin_line config.now.margin.top config.now.margin_offset.top config.now.margin_color.top width)))) }
 {
     let margin = config.get_margin().top;
     let offset = config.get_margin_offset().top;
@@ -83,7 +84,8 @@ pub fn push_bottom_margin<B: Allocator, A: Allocator>(
     width: usize,
     is_first: bool,
 ) -> Result<(), AllocError>
-    ensures { Appends buf.old buf.new result (continued (lines_before is_first) (replicate config.now.margin.bottom.size (written (margin_line config.now.margin.bottom config.now.margin_offset.bottom config.now.margin_color.bottom width)))) }
+    ensures { Appends buf.old buf.new result
+        (continued (lines_before is_first) (replicate config.now.margin.bottom.size (written (margin_line config.now.margin.bottom config.now.margin_offset.bottom config.now.margin_color.bottom width)))) }
 {
     let margin = config.get_margin().bottom;
     let offset = config.get_margin_offset().bottom;

@@ -1,8 +1,8 @@
--- The lines of a script and their words: texts, characters and numbers.
-use Rattle.std.proofs.Common.{◌≡◌, ◌+◌, ◌<◌, ◌==◌, ℕ, suc, not, true, false, List, [], ◌∷◌, length, take, drop, filter, cond, arith, refl, sym, ◌∙◌, ap, subst, length-take, Bool, ◌++◌, Option, Some, None, append_assoc, if◌then◌else◌, codes, Result, Ok, Err, append-nil, lit<, ◌≤◌, ◌^◌, nat_lt, ◌-◌, length-drop}
+-- The lines of a script and their words: texts, characters and numbers; and rows of texts.
+use Rattle.std.proofs.Common.{◌≡◌, ◌+◌, ◌<◌, ◌==◌, ℕ, suc, not, true, false, List, [], ◌∷◌, length, take, drop, filter, cond, arith, refl, sym, ◌∙◌, ap, subst, length-take, Bool, ◌++◌, Option, Some, None, append_assoc, if◌then◌else◌, codes, Result, Ok, Err, append-nil, lit<, ◌≤◌, ◌^◌, nat_lt, ◌-◌, length-drop, map, slice_set, slice_index_or, All, is_some}
 use Rattle.std.specs.List.{position_or_len, slice_split, onto_first, before_first, after_first, list_all, position}
 use Rattle.std.proofs.lemmas.Bool.Decides.{nat_tests}
-use Rattle.std.proofs.lemmas.List.{drop_all, take_all}
+use Rattle.std.proofs.lemmas.List.{drop_all, take_all, map-set, get_or-map}
 use Rattle.std.proofs.lemmas.List.Splits.{slice_split_first, length-slice_split}
 use Rattle.pg_script.specs.Words.{Word, is_space, words_of, behind_word, meant, escaped_of, text_of, char_of, but_backslash, is_number, number_of, read_on, first_number, first_numbers}
 use Rattle.std.specs.Option.{option_map, option_and_then, SomeIff}
@@ -13,7 +13,7 @@ use Rattle.pg_script.specs.Script.{Drafted, line_of_words, first_line, later_lin
 use Rattle.pg_script.specs.Statement.{size_said}
 use Rattle.pg_script.specs.Told.{Told, told_nothing}
 use Rattle.pg_script.specs.declared.statement.Size.{Size}
-use Rattle.std.specs.Result.{result_ok}
+use Rattle.std.specs.Result.{result_ok, IsOk, result_err}
 use lib.Utf8.{scalars, encodes}
 use Rattle.std.specs.Str.Parse.{ParsesChar, IsNumeral, AllDigits, digits_value}
 use Rattle.std.proofs.lemmas.Slice.Eq.{bytes_eq-Decides}
@@ -21,6 +21,11 @@ use Rattle.std.proofs.lemmas.Str.Ascii.{IsAscii-cons, IsAscii-nil, encode_ascii}
 use Rattle.std.specs.Str.Lines.{lines, lines_of_parts, strip_carriage_return}
 use Rattle.std.proofs.lemmas.List.Quantifiers.{position-Some}
 use Rattle.std.proofs.lemmas.List.Sums.{position_or_len_is, prefix_len-le-length}
+use Rattle.std.proofs.lemmas.Bool.{false≢true}
+use Rattle.std.proofs.lemmas.List.Elements.{All-head, All-tail}
+use Rattle.pg_layout.specs.Records.{ragged_row}
+
+-- ---- the lines of a script and their words: texts, characters and numbers
 
 -- ---- the words of a line, read one by one
 
@@ -411,3 +416,45 @@ length-lines (b ∷ bs) =
       | true ↦ omega (arith, before, fewer)
       | false ↦ omega (arith, onto, fewer)
     ]
+
+-- ---- rows of texts, and rows of one length
+
+-- ---- rows of texts, and one text changed
+
+-- each element in two steps, or in one
+pub map-steps : {X Y Z : Type 0} (f : Y → Z) (g : X → Y) (xs : List X) → map f (map g xs) ≡ map (λ x. f (g x)) xs
+map-steps f g [] = refl
+map-steps f g (x ∷ xs) = ap (λ rest. f (g x) ∷ rest) (map-steps f g xs)
+
+-- one element of one row is changed
+pub map-set_in_row : {R X Y : Type 0} (items : R → List X) (f : X → Y) (rows : List R) (row changed : R) (r c : ℕ) (x : X) → r < length rows → row ≡ slice_index_or rows r row → items changed ≡ slice_set (items row) c x → map (λ w. map f (items w)) (slice_set rows r changed) ≡ slice_set (map (λ w. map f (items w)) rows) r (slice_set (slice_index_or (map (λ w. map f (items w)) rows) r []) c (f x))
+map-set_in_row {R} {X} {Y} items f rows row changed r c x inside at is =
+    let texts : R → List Y = λ w. map f (items w) in
+    let old : texts row ≡ slice_index_or (map texts rows) r [] = ap texts at ∙ sym (get_or-map texts rows r row [] inside) in
+    let new : texts changed ≡ slice_set (slice_index_or (map texts rows) r []) c (f x) = ap (map f) is ∙ map-set f (items row) c x ∙ ap (λ t. slice_set t c (f x)) old in
+    map-set texts rows r changed ∙ ap (λ t. slice_set (map texts rows) r t) new
+
+-- ---- rows of one length are records
+
+-- a search for another length goes to the end
+other_length-not_found : {X T : Type 0} (f : X → List T) (n : ℕ) (xs : List X) → All (λ x. length (f x) ≡ n) xs → position_or_len (λ row. not (length row == n)) (map f xs) ≡ length (map f xs)
+other_length-not_found f n [] even = refl
+other_length-not_found f n (x ∷ xs) even =
+    let rest = other_length-not_found f n xs (All-tail (λ x. length (f x) ≡ n) x xs even) in
+    let first = All-head (λ x. length (f x) ≡ n) x xs even in grind (arith, nat_tests)
+
+-- no row has another length
+other_length-none : {X T : Type 0} (f : X → List T) (n : ℕ) (xs : List X) → All (λ x. length (f x) ≡ n) xs → position (λ row. not (length row == n)) (map f xs) ≡ None
+other_length-none f n xs even =
+    let all = other_length-not_found f n xs even in grind (arith, nat_tests)
+
+-- rows of one length are not ragged
+pub even-not_ragged : {X T : Type 0} (f : X → List T) (n : ℕ) (xs : List X) → All (λ x. length (f x) ≡ n) xs → ragged_row (map f xs) ≡ None
+even-not_ragged f n [] even = refl
+even-not_ragged f n (x ∷ xs) even =
+    ap (λ k. position (λ row. not (length row == k)) (map f (x ∷ xs))) (All-head (λ x. length (f x) ≡ n) x xs even) ∙ other_length-none f n (x ∷ xs) even
+
+-- what has no error is a success
+pub no_error-is_ok : {X E : Type 0} (r : Result X E) → result_err r ≡ None → IsOk r
+no_error-is_ok (Ok x) none = refl
+no_error-is_ok {X} {E} (Err e) none = absurd (false≢true (ap (λ (o : Option E). is_some o) (sym none)))

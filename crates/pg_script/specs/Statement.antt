@@ -56,7 +56,8 @@ abbrev pub set_padding : Entity → Sides Indent → Told → Told
 set_padding entity padding = tell_setting (λ config. record config { padding = with_setting entity padding config.padding })
 
 abbrev pub set_trims : Entity → Bool → Bool → Told → Told
-set_trims entity horizontal vertical = tell_setting (λ config. record config { trim_horizontal = with_setting entity horizontal config.trim_horizontal; trim_vertical = with_setting entity vertical config.trim_vertical })
+set_trims entity horizontal vertical = tell_setting
+    (λ config. record config { trim_horizontal = with_setting entity horizontal config.trim_horizontal; trim_vertical = with_setting entity vertical config.trim_vertical })
 
 abbrev pub set_line_alignment : Entity → Bool → Told → Told
 set_line_alignment entity aligns = tell_setting (λ config. record config { line_alignment = with_setting entity aligns config.line_alignment })

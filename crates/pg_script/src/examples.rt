@@ -20,7 +20,8 @@ ghost use Rattle.pg_script.specs.Told.{told_nothing};
 /// The size is the number of rows, then that of columns, at most 1000 each. Cells are empty,
 /// columns have width 0, rows height 1, and nothing else is set.
 pub fn a_size_is_rows_and_columns()
-    ensures small { told_by (codes "size 2 3") ≡ Ok (record { widths = 0 ∷ 0 ∷ 0 ∷ []; heights = 1 ∷ 1 ∷ []; texts = ([] ∷ [] ∷ [] ∷ []) ∷ ([] ∷ [] ∷ [] ∷ []) ∷ []; colors = []; config = default_config }) }
+    ensures small { told_by (codes "size 2 3")
+        ≡ Ok (record { widths = 0 ∷ 0 ∷ 0 ∷ []; heights = 1 ∷ 1 ∷ []; texts = ([] ∷ [] ∷ [] ∷ []) ∷ ([] ∷ [] ∷ [] ∷ []) ∷ []; colors = []; config = default_config }) }
     ensures most_rows { told_by (codes "size 1000 0") ≡ Ok (told_nothing (record { rows = 1000; columns = 0 })) }
     ensures most_columns { told_by (codes "size 0 1000") ≡ Ok (told_nothing (record { rows = 0; columns = 1000 })) }
     ensures more_rows { told_by (codes "size 1001 0") ≡ Err 1 }
@@ -40,7 +41,8 @@ pub fn widths_and_heights_are_told_in_order()
 /// A line feed, a carriage return and a backslash are written with a backslash, and nothing else is. The place
 /// is a row and a column of the table.
 pub fn a_text_is_written_with_escapes()
-    ensures three { told_by (codes "size 2 3\ncell 1 2 a\\nb\\rc\\\\d") ≡ Ok (record two_by_three { texts = ([] ∷ [] ∷ [] ∷ []) ∷ ([] ∷ [] ∷ (codes "a" ++ 10 ∷ codes "b" ++ 13 ∷ codes "c" ++ 92 ∷ codes "d") ∷ []) ∷ [] }) }
+    ensures three { told_by (codes "size 2 3\ncell 1 2 a\\nb\\rc\\\\d")
+        ≡ Ok (record two_by_three { texts = ([] ∷ [] ∷ [] ∷ []) ∷ ([] ∷ [] ∷ (codes "a" ++ 10 ∷ codes "b" ++ 13 ∷ codes "c" ++ 92 ∷ codes "d") ∷ []) ∷ [] }) }
     ensures a_tab { told_by (codes "size 2 3\ncell 1 2 a\\tb") ≡ Err 2 }
     ensures at_the_end { told_by (codes "size 2 3\ncell 1 2 a\\") ≡ Err 2 }
     ensures no_row { told_by (codes "size 2 3\ncell 2 0 a") ≡ Err 2 }
@@ -111,10 +113,14 @@ pub fn a_row_is_padded()
 
 /// Each name sets both trims: that of line ends, and that of blank lines.
 pub fn trims_are_told_by_name()
-    ensures both { told_by (codes "size 2 3\ntrim all hv") ≡ Ok (with_settings (record default_config { trim_horizontal = with_setting Global true no_settings; trim_vertical = with_setting Global true no_settings })) }
-    ensures sides { told_by (codes "size 2 3\ntrim row 1 h") ≡ Ok (with_settings (record default_config { trim_horizontal = with_setting (Row 1) true no_settings; trim_vertical = with_setting (Row 1) false no_settings })) }
-    ensures blank_lines { told_by (codes "size 2 3\ntrim col 2 v") ≡ Ok (with_settings (record default_config { trim_horizontal = with_setting (Column 2) false no_settings; trim_vertical = with_setting (Column 2) true no_settings })) }
-    ensures none { told_by (codes "size 2 3\ntrim cell 1 2 none") ≡ Ok (with_settings (record default_config { trim_horizontal = with_setting (Cell 1 2) false no_settings; trim_vertical = with_setting (Cell 1 2) false no_settings })) }
+    ensures both { told_by (codes "size 2 3\ntrim all hv")
+        ≡ Ok (with_settings (record default_config { trim_horizontal = with_setting Global true no_settings; trim_vertical = with_setting Global true no_settings })) }
+    ensures sides { told_by (codes "size 2 3\ntrim row 1 h")
+        ≡ Ok (with_settings (record default_config { trim_horizontal = with_setting (Row 1) true no_settings; trim_vertical = with_setting (Row 1) false no_settings })) }
+    ensures blank_lines { told_by (codes "size 2 3\ntrim col 2 v")
+        ≡ Ok (with_settings (record default_config { trim_horizontal = with_setting (Column 2) false no_settings; trim_vertical = with_setting (Column 2) true no_settings })) }
+    ensures none { told_by (codes "size 2 3\ntrim cell 1 2 none")
+        ≡ Ok (with_settings (record default_config { trim_horizontal = with_setting (Cell 1 2) false no_settings; trim_vertical = with_setting (Cell 1 2) false no_settings })) }
     ensures two_names { told_by (codes "size 2 3\ntrim all h v") ≡ Err 2 }
 {}
 
@@ -151,8 +157,10 @@ pub fn the_latest_line_counts()
     ensures widths { told_by (codes "size 2 3\nwidths 1 2 3\nwidths 4 5 6") ≡ Ok (record two_by_three { widths = 4 ∷ 5 ∷ 6 ∷ [] }) }
     ensures texts { told_by (codes "size 2 3\ncell 0 1 a\ncell 0 1 b") ≡ Ok (record two_by_three { texts = ([] ∷ codes "b" ∷ [] ∷ []) ∷ ([] ∷ [] ∷ [] ∷ []) ∷ [] }) }
     ensures colors { told_by (codes "size 2 3\ncolor 1 2 30\ncolor 1 2 31") ≡ Ok (record two_by_three { colors = (at 1 2, record { prefix = 27 ∷ codes "[31m"; suffix = 27 ∷ codes "[0m" }) ∷ [] }) }
-    ensures settings { told_by (codes "size 2 3\nhalign row 1 right\nhalign all center") ≡ Ok (with_settings (record default_config { alignment_horizontal = with_setting Global across.Center (with_setting (Row 1) across.Right no_settings) })) }
-    ensures of_all { told_by (codes "size 2 3\nhalign all right\nhalign all center") ≡ Ok (with_settings (record default_config { alignment_horizontal = with_setting Global across.Center no_settings })) }
+    ensures settings { told_by (codes "size 2 3\nhalign row 1 right\nhalign all center")
+        ≡ Ok (with_settings (record default_config { alignment_horizontal = with_setting Global across.Center (with_setting (Row 1) across.Right no_settings) })) }
+    ensures of_all { told_by (codes "size 2 3\nhalign all right\nhalign all center")
+        ≡ Ok (with_settings (record default_config { alignment_horizontal = with_setting Global across.Center no_settings })) }
 {}
 
 /// A number has 1 to 20 decimal digits, and is below 2^64.

@@ -1,7 +1,9 @@
 //! The statements of a script, one a line.
 
 ghost use Rattle.std.specs.Prelude.{◌≡◌, ◌≤◌, ◌<◌, ℕ, length, IfSome, IfOk, option_map};
-ghost use Rattle.pg_script.specs.Statement.{FitsSize, change_of, size_said, widths_said, heights_said, cell_said, borders_said, halign_said, valign_said, pad_said, trim_said, lines_said, margin_said, color_said, color_code_said, span_said, line_said, is_inside, borders_named, horizontal_named, vertical_named, trims_named, switch_named};
+ghost use Rattle.pg_script.specs.Statement.{FitsSize, change_of, size_said, widths_said, heights_said, cell_said, borders_said, halign_said, valign_said, pad_said, trim_said};
+ghost use Rattle.pg_script.specs.Statement.{lines_said, margin_said, color_said, color_code_said, span_said, line_said, is_inside, borders_named, horizontal_named, vertical_named};
+ghost use Rattle.pg_script.specs.Statement.{trims_named, switch_named};
 ghost use Rattle.pg_script.specs.Told.{indents, terminal_color};
 ghost use Rattle.pg_script.specs.Words.{words_of, first_numbers, first_place, first_number, read_on, end_of};
 ghost use Rattle.pg_script.specs.declared.statement.Size.{Size};
@@ -116,7 +118,8 @@ fn numbers<A: Allocator>(
     count: usize,
 ) -> Result<Option<Vec<usize, A>>, AllocError>
     ensures counted { IfOk result (λ read. IfSome read (λ numbers. length numbers.items ≡ count)) }
-    ensures read { IfOk result (λ read. option_map (λ numbers. numbers.items) read ≡ read_on (first_numbers count (words_of words.entry.rest.now)) (λ numbers rest. option_map (λ _. numbers) (end_of rest))) }
+    ensures read { IfOk result (λ read. option_map (λ numbers. numbers.items) read
+        ≡ read_on (first_numbers count (words_of words.entry.rest.now)) (λ numbers rest. option_map (λ _. numbers) (end_of rest))) }
 {
     let mut numbers = Vec::new(alloc);
     for _ in 0..count {

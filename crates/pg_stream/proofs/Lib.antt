@@ -1,5 +1,4 @@
 -- Lemmas that other crates cite; the others stand in the modules that they serve.
 pub mod DrawnLines
 pub mod PicturesOfRows
-pub mod RowsInTurn
 pub mod SizedRows

@@ -25,10 +25,15 @@ use Rattle.pg_picture.specs.Sizes.{height_of_rect}
 use Rattle.pg_picture.proofs.FittingTables.{totals_facts, rect_inside, rect_width_fits, rect_height_fits, owner_fits-own}
 use Rattle.pg_picture.proofs.MarksOfRectangles.{length-table_body, rect_height-of_rect}
 use Rattle.pg_picture.proofs.FirstPlaces.{fits}
-use Rattle.pg_stream.specs.Conditions.{HasRoom, PrinterFits, RowFits, RowsFit}
+use Rattle.pg_stream.specs.Conditions.{HasRoom, PrinterFits, RowFits, RowsFit, AreRowsFrom}
 use Rattle.pg_stream.proofs.printer.RowsOfTables.{row_inside_body, Ends, SameHeight, owner-reached, lines_at-same}
 use Rattle.pg_stream.specs.LiveStreams.{live_text}
 use Rattle.pg_stream.specs.Open.{open_before}
+use Rattle.std.specs.Prelude.{String}
+use Rattle.pg_layout.specs.Records.{AlwaysGives}
+use Rattle.pg_picture.proofs.Appending.{Gained}
+
+-- ---- rows that are printed one after another make the picture of their table
 
 -- ---- the text that rows append, call by call, is that of their lines
 
@@ -260,3 +265,48 @@ live-make t fit some wide =
     ap (λ l. live_text s l) (rows-from t 0 t.rows)
     ∙ ap (λ q. live_text q (texts_from t 0 t.rows)) start ∙ sym same ∙ ap (λ q. rows_text q (texts_from t 0 t.rows)) (sym start)
     ∙ ap (λ l. rows_text s l) (sym (rows-from t 0 t.rows)) ∙ rows-make t None tt fit some wide
+
+-- ---- rows that are read one by one: the row that comes next, and what is still to be printed
+
+module _ {S A : Type 0} (is_row : A → List Text → Type 0) (steps : S → Option A → S → Type 0) where
+  -- the row that was taken next is the first of those that were left
+  pub record NextRow (row : A) (rows : S) (texts : List (List Text)) : Type 0 where
+    pub cells : List Text
+    pub others : List (List Text)
+    pub all : texts ≡ cells ∷ others
+    pub from : AreRowsFrom is_row steps row rows cells others
+
+  pub next-row : (s : S) (row : A) (t : S) (texts : List (List Text)) → AlwaysGives is_row steps s texts → steps s (Some row) t → NextRow row t texts
+  next-row s row t [] gives step = absurd (gives row t step)
+  next-row s row t (cells ∷ others) gives step = let (is, more) = gives.1 row t step in record { cells = cells; others = others; all = refl; from = record { first = is; others = more } }
+
+  pub no-row : (s t : S) (texts : List (List Text)) → AlwaysGives is_row steps s texts → steps s None t → texts ≡ []
+  no-row s t [] gives step = refl
+  no-row s t (cells ∷ others) gives step = absurd (gives.0 t step)
+
+  -- the buffer has gained the text of the rows so far, and the row that was taken and those behind it make the rest of the text
+  pub record Printed {Z : Type 0} (old now : String Z) (row : A) (rows : S) (s : Printing) (all : Text) : Type 0 where
+    pub cells : List Text
+    pub texts : List (List Text)
+    pub from : AreRowsFrom is_row steps row rows cells texts
+    pub so_far : Text
+    pub gained : Gained old now so_far
+    pub is : all ≡ so_far ++ rows_text s (cells ∷ texts)
+
+-- one row more of the text
+pub rows_text-more : (s : Printing) (cells : List Text) (texts : List (List Text)) (next : List Text) (others : List (List Text)) → texts ≡ next ∷ others
+    → rows_text s (cells ∷ texts) ≡ row_text s cells false ++ rows_text (after_row s cells false) (next ∷ others)
+unfolding rows_text
+rows_text-more s cells texts next others all = rw all refl
+
+pub rows_text-last : (s : Printing) (cells : List Text) (texts : List (List Text)) → texts ≡ [] → rows_text s (cells ∷ texts) ≡ row_text s cells true ++ finish_text (after_row s cells true)
+unfolding rows_text
+rows_text-last s cells texts all = rw all refl
+
+-- the conditions of a row, and those of the rows behind it
+pub row-fits : (s : Printing) (cells : List Text) (texts : List (List Text)) (next : List Text) (others : List (List Text)) → texts ≡ next ∷ others → RowsFit s (cells ∷ texts)
+    → RowFits s cells false × RowsFit (after_row s cells false) (next ∷ others)
+row-fits s cells texts next others all fit = subst (λ (rows : List (List Text)). RowsFit s (cells ∷ rows)) all fit
+
+pub last-fits : (s : Printing) (cells : List Text) (texts : List (List Text)) → texts ≡ [] → RowsFit s (cells ∷ texts) → RowFits s cells true
+last-fits s cells texts all fit = subst (λ (rows : List (List Text)). RowsFit s (cells ∷ rows)) all fit

@@ -2,4 +2,3 @@
 pub mod StreamedRows
 pub mod StreamedResults
 pub mod OwnRows
-pub mod SizedPushes

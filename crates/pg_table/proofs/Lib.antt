@@ -6,7 +6,6 @@ pub mod StraightTables
 pub mod Widenings
 pub mod ShownCells
 pub mod PlainCells
-pub mod TotalsOfSizes
 pub mod TrimmedWidths
 pub mod FittedColumns
 pub mod FittedPlaces
@@ -16,4 +15,3 @@ pub mod ToldTables
 pub mod RaisedWidths
 pub mod SpannedWidths
 pub mod FittedTables
-pub mod NaturalHeights

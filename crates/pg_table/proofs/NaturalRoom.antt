@@ -1,7 +1,7 @@
--- A table at its natural sizes has room for its cells.
-use Rattle.std.proofs.Common.{◌≡◌, ℕ, ◌+◌, ◌-◌, ◌<◌, ◌≤◌, ◌&&◌, ◌==◌, true, false, not, nat_le, cond, List, [], map, length, find, sum_by, count_by, All, refl, sym, ap, ◌∙◌, subst, arith, Option, Some, None, inl, inr, slice_index}
+-- A table at its natural sizes has room for its cells, shows each line, and has these totals.
+use Rattle.std.proofs.Common.{◌≡◌, ℕ, ◌+◌, ◌-◌, ◌<◌, ◌≤◌, ◌&&◌, ◌==◌, true, false, not, nat_le, cond, List, [], map, length, find, sum_by, count_by, All, refl, sym, ap, ◌∙◌, subst, arith, Option, Some, None, inl, inr, slice_index, ◌⊎◌, slice_index_or}
 use Rattle.std.specs.List.{range_with_len, list_all}
-use Rattle.std.proofs.lemmas.Bool.{cases_Bool, and_from, and_parts, or_right}
+use Rattle.std.proofs.lemmas.Bool.{cases_Bool, and_from, and_parts, or_right, false≢true}
 use Rattle.std.proofs.lemmas.Bool.Decides.{nat_tests}
 use Rattle.pg_layout.specs.declared.position.Position.{Position}
 use Rattle.pg_layout.specs.Colors.{Color}
@@ -14,26 +14,31 @@ use Rattle.pg_config.specs.declared.spans.SpanSize.{SpanSize}
 use Rattle.pg_config.proofs.EqualLines.{rows_stay}
 use Rattle.pg_picture.specs.Fitting.{TableFits}
 use Rattle.pg_picture.specs.Fits.{span_fits, all_apart, spans_fit, totals_fit, cell_fits, owner_fits, misfit_of, body_height}
-use Rattle.pg_picture.specs.Pieces.{Style, style_at, widest}
-use Rattle.pg_picture.specs.Table.{Table, is_empty, rect_width, rect_height, full_width, total_width}
+use Rattle.pg_picture.specs.Pieces.{Style, style_at, widest, shown}
+use Rattle.pg_picture.specs.Table.{Table, is_empty, rect_width, rect_height, full_width, total_width, rect_marks}
 use Rattle.pg_picture.specs.declared.fits.Misfit.TheVariants.{Spans}
-use Rattle.pg_picture.proofs.FittingTables.{widths_fit, heights_fit, misfit-empty}
+use Rattle.pg_picture.proofs.FittingTables.{widths_fit, heights_fit, misfit-empty, rect_height-one_row, unshown-empty, cell_shows_all-by_count, rect_inside, rect_width_fits, rect_height_fits, totals_fit-sized}
 use Rattle.pg_picture.proofs.MarksOfRectangles.{height_of_rect-sum, rect_height-of_rect}
 use Rattle.pg_picture.proofs.OwnersOfPlaces.{Among, find_cases}
-use Rattle.pg_picture.proofs.PlainTables.{rect_height-one_row}
 use Rattle.pg_picture.proofs.Owners.{is_at-same}
-use Rattle.pg_picture.proofs.FirstPlaces.{misfit_of-totals, fitting_tables_have_none}
+use Rattle.pg_picture.proofs.FirstPlaces.{misfit_of-totals, fitting_tables_have_none, none_failed, unshown_of-misfit, unshown_of-cell, fits}
 use Rattle.pg_table.specs.Laws.{NaturalTablesHaveRoom, PlainSizes}
-use Rattle.pg_table.specs.Natural.{cell_size, cell_at, count, count_cells, is_single, size_of_singles, need_of, natural_size, natural_sizes, natural_table, all_fit}
+use Rattle.pg_table.specs.Natural.{cell_size, cell_at, count, count_cells, is_single, size_of_singles, need_of, natural_size, natural_sizes, natural_table, all_fit, is_sized, cells_fit}
 use Rattle.pg_table.specs.Widening.{widened}
 use Rattle.pg_table.specs.declared.needs.Need.{Need}
 use Rattle.pg_table.specs.declared.sizes.Axis.{Axis}
 use Rattle.pg_table.specs.declared.sizes.Axis.TheVariants.{Columns, Rows}
 use Rattle.pg_table.proofs.ListedSizes.{cell-below, natural-with_cells, size-at, all_fit-each, sum-listed}
 use Rattle.pg_table.proofs.Widenings.{cells_have_room, no_column_shrinks, widened-stays, widened-base, sum-same}
-use Rattle.pg_table.proofs.ShownCells.{fits-among, all-among, among-all, size-single, size-corner}
+use Rattle.pg_table.proofs.ShownCells.{fits-among, all-among, among-all, size-single, size-corner, IsCorner, shown-cases, sized-from, cells-from}
 use Rattle.std.proofs.lemmas.List.FromFn.{length-map-range_with_len, get_or-map-range_with_len, fill_by_all}
 use Rattle.pg_table.specs.Inside.Measuring.{with_room}
+use Rattle.pg_picture.specs.Shown.{cell_shows_all, owner_shows_all, misfit_or_cell}
+use Rattle.pg_picture.specs.declared.fits.Misfit.{Misfit}
+use Rattle.pg_table.specs.ShownLaws.{NaturalHeightsShowAll, table_of_widths}
+use Rattle.pg_picture.specs.Sizes.{sized}
+
+-- ---- a table at its natural sizes has room for its cells
 
 -- ---- a table at its natural sizes has room for each of its shown cells
 
@@ -270,3 +275,121 @@ plain_sizes axis config texts columns none some =
     sym (natural-with_cells axis config (text_at texts) (length texts) columns k some
     ∙ ap (λ spans. widened base (map (need_of axis config (text_at texts) n) spans) n k) none
     ∙ widened-stays base [] (λ i d l. absurd (omega (arith, l))) n k))
+
+-- ---- at its natural heights a table shows each line of its texts
+
+-- a cell at least as high as its top padding and its lines
+high_enough : (style : Style) (text : Text) (h : ℕ) → style.padding.top.size + length (shown style.formatting text) ≤ h → cell_shows_all style text h ≡ true
+high_enough style text h high =
+    let enough : nat_le (length (shown style.formatting text)) (h - style.padding.top.size) ≡ true = grind (arith, nat_tests, high) in
+    sym (cell_shows_all-by_count style text h) ∙ enough
+
+module _ (config : Config) (texts : List (List Text)) (columns : ℕ) (color : Position → Option Color) (fit : spans_fit config.spans (length texts) columns ≡ true) where
+  abbrev natural_table_of : Table
+  natural_table_of = natural_table config texts columns color
+
+  shown_single : (r c : ℕ) → r < length texts → c < columns → find (in_span r c) config.spans ≡ None → cell_shows_all (style_at config (at r c)) (text_at texts (at r c)) (rect_height natural_table_of (at r c)) ≡ true
+  unfolding style_at rect_rows
+  shown_single r c h k none =
+      let one : size_of config.spans (at r c) ≡ span_size 1 1 = size-single (length texts) columns config.spans r c (all_fits config texts columns color fit) none in
+      let one_row : rect_rows config.spans (at r c) ≡ 1 = ap (λ (z : SpanSize). z.rows) one in
+      let single : is_single config.spans (at r c) ≡ true = rw none refl in
+      high_enough (style_at config (at r c)) (text_at texts (at r c)) (rect_height natural_table_of (at r c))
+      (omega (arith, rect_height-one_row natural_table_of (at r c) one_row h, height-at config texts columns color r h, single_below config texts columns color Rows r c k single))
+
+  shown_corner : (s : Span) → Among config.spans s → size_of config.spans (corner s) ≡ s.1 → cell_shows_all (style_at config (corner s)) (text_at texts (corner s)) (rect_height natural_table_of (corner s)) ≡ true
+  unfolding style_at
+  shown_corner s m one =
+      high_enough (style_at config (corner s)) (text_at texts (corner s)) (rect_height natural_table_of (corner s))
+      (let high = high_span config texts columns color fit s m one in omega (arith, high))
+
+  each_shown : (r c : ℕ) → r < length texts → c < columns → owner_shows_all natural_table_of (at r c) ≡ true
+  unfolding owner_shows_all owner
+  each_shown r c h k =
+      elim (find_cases (in_span r c) config.spans) [
+        | inl none ↦ or_right (not _) _ (shown_single r c h k none)
+        | inr some ↦
+            let s : Span = some.0 in
+            elim (cases_Bool (is_at (corner s) r c)) [
+              | inl own ↦
+                  let same : corner s ≡ at r c = is_at-same (corner s) (at r c) own in
+                  let one : size_of config.spans (at r c) ≡ s.1 = size-corner (length texts) columns config.spans s r c (all_fits config texts columns color fit) some.1 same in
+                  or_right (not _) _
+                  (subst (λ p. cell_shows_all (style_at config p) (text_at texts p) (rect_height natural_table_of p) ≡ true) same
+                  (shown_corner s some.3 (subst (λ p. size_of config.spans p ≡ s.1) (sym same) one)))
+              | inr other ↦ rw (some.1, other) refl
+            ]
+      ]
+
+  -- whatever the widths are
+  widths_do_nothing : (width : ℕ → ℕ) (p : Position) → owner_shows_all (table_of_widths config texts columns width color) p ≡ owner_shows_all natural_table_of p
+  unfolding owner_shows_all rect_height rect_marks
+  widths_do_nothing width p = refl
+
+  pub each_shown-at : (width : ℕ → ℕ) (r c : ℕ) → r < length texts → c < columns → owner_shows_all (table_of_widths config texts columns width color) (at r c) ≡ true
+  each_shown-at width r c h k = widths_do_nothing width (at r c) ∙ each_shown r c h k
+
+misfit_cases : (o : Option Misfit) → (o ≡ None) ⊎ ((m : Misfit) × (o ≡ Some m))
+misfit_cases None = inl refl
+misfit_cases (Some m) = inr (m, refl)
+
+pub natural_heights_show_all : NaturalHeightsShowAll
+natural_heights_show_all config texts columns width color =
+    let t : Table = table_of_widths config texts columns width color in
+    elim (cases_Bool (is_empty t)) [
+      | inl y ↦ rw (unshown-empty t y, misfit-empty t y) refl
+      | inr n ↦ elim (misfit_cases (misfit_of t)) [
+        | inr some ↦ rw some.1 (unshown_of-misfit t some.0 n some.1)
+        | inl none ↦
+            let rows : 0 < t.rows = grind (arith, nat_tests, n) in
+            let some_columns : 0 < t.columns = grind (arith, nat_tests, n) in
+            let fit = (fits t none rows some_columns).spans in
+            let all = none_failed (owner_shows_all t) t.rows t.columns (each_shown-at config texts columns color fit width) in
+            rw none (unshown_of-cell t n none ∙ ap (λ (cell : Option Position). misfit_or_cell None cell) all)
+      ]
+    ]
+
+-- ---- totals at natural sizes: where they fit, so do all shown cells; and those of the listed sizes are those of the table
+
+module _ (config : Config) (texts : List (List Text)) (columns : ℕ) (color : Position → Option Color) where
+  abbrev measured : Table
+  measured = natural_table config texts columns color
+
+  pub listed-totals : (widths heights : List ℕ) → widths ≡ natural_sizes Columns config texts columns → heights ≡ natural_sizes Rows config texts columns
+      → totals_fit (sized config (λ c. slice_index_or widths c 0) (λ r. slice_index_or heights r 0) (length texts) columns) ≡ totals_fit measured
+  listed-totals widths heights wide high =
+      ap (λ (xs : List ℕ). totals_fit (sized config (λ c. slice_index_or xs c 0) (λ r. slice_index_or heights r 0) (length texts) columns)) wide
+      ∙ ap (λ (xs : List ℕ). totals_fit (sized config measured.width (λ r. slice_index_or xs r 0) (length texts) columns)) high
+      ∙ totals_fit-sized measured
+
+  module _ (fit : spans_fit config.spans (length texts) columns ≡ true) where
+    corner-sized : (p : Position) → IsCorner config.spans p → totals_fit measured ≡ true → p.row < length texts → p.col < columns → is_sized config (text_at texts) p ≡ true
+    corner-sized p f totals h l =
+        let s : Span = f.span in
+        let one : size_of config.spans (corner s) ≡ s.1 = subst (λ q. size_of config.spans q ≡ s.1) (sym f.is) (size-corner (length texts) columns config.spans s p.row p.col (all_fits config texts columns color fit) f.found f.is) in
+        let room = rect_inside config.spans (length texts) columns (corner s) fit (omega (arith, h, ap (λ (q : Position). q.row) f.is)) (omega (arith, l, ap (λ (q : Position). q.col) f.is)) in
+        subst (λ q. is_sized config (text_at texts) q ≡ true) f.is
+        (sized-from config (text_at texts) (corner s)
+        (omega (arith, wide_span config texts columns color fit s f.among one, rect_width_fits measured (corner s) totals room))
+        (omega (arith, high_span config texts columns color fit s f.among one, rect_height_fits measured (corner s) totals)))
+
+    single-sized : (r c : ℕ) → is_single config.spans (at r c) ≡ true → totals_fit measured ≡ true → r < length texts → c < columns → is_sized config (text_at texts) (at r c) ≡ true
+    single-sized r c single totals h l =
+        sized-from config (text_at texts) (at r c)
+        (omega (arith, single_below config texts columns color Columns c r h single, width-at config texts columns color c l, widths_fit measured totals c l))
+        (omega (arith, single_below config texts columns color Rows r c l single, height-at config texts columns color r h, heights_fit measured totals r h))
+
+    pub totals-cells : totals_fit measured ≡ true → cells_fit config (text_at texts) (length texts) columns ≡ true
+    totals-cells totals =
+        cells-from config (text_at texts) (length texts) columns (λ r c h l shown.
+        elim (shown-cases config.spans (at r c) shown) [
+          | inl single ↦ single-sized r c single totals h l
+          | inr f ↦ corner-sized (at r c) f totals h l
+        ])
+
+    pub cells-past : cells_fit config (text_at texts) (length texts) columns ≡ false → totals_fit measured ≡ false
+    cells-past past =
+        elim (cases_Bool (totals_fit measured)) [
+          | inl totals ↦ absurd (false≢true (sym past ∙ totals-cells totals))
+          | inr n ↦ n
+        ]

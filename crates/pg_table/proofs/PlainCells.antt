@@ -5,7 +5,7 @@ use Rattle.std.proofs.lemmas.Bool.Decides.{nat_tests}
 use Rattle.pg_layout.specs.declared.position.Position.{Position}
 use Rattle.pg_layout.specs.Records.{text_at}
 use Rattle.pg_layout.specs.Text.{Text}
-use Rattle.pg_layout.proofs.Greatest.{greatest-reaches}
+use Rattle.pg_layout.proofs.TextLines.{greatest-reaches}
 use Rattle.pg_config.specs.Config.{Config}
 use Rattle.pg_picture.specs.Sizes.{if_fits}
 use Rattle.pg_picture.proofs.Ranges.{if_fits-past}

@@ -17,7 +17,7 @@ use Rattle.pg_picture.specs.Pieces.{style_at}
 use Rattle.pg_picture.specs.Table.{Table, Known}
 use Rattle.pg_picture.specs.Fits.{spans_fit, totals_fit}
 use Rattle.pg_picture.proofs.StraightColumns.{columns_are_straight, margins_are_straight}
-use Rattle.pg_picture.proofs.GlyphsOfLines.{missing_glyph_fills_gaps}
+use Rattle.pg_picture.proofs.Separators.{missing_glyph_fills_gaps}
 use Rattle.pg_table.specs.Even.{HasNarrowLines, HasEvenLines, IsEven, IsEvenText, HasNarrowSides, IsNarrowLook, is_line_glyph, is_line_glyph_if, are_line_glyphs, is_of_line_glyphs, are_line_fills}
 use Rattle.pg_table.specs.Natural.{natural_table}
 use Rattle.pg_table.specs.Printing.{fault_of, Parts, ascii_config, with_header_line}

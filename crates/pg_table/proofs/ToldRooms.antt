@@ -4,7 +4,7 @@ use Rattle.std.specs.List.{range_with_len, list_all}
 use Rattle.std.proofs.lemmas.Bool.{cases_Bool, and_parts, false≢true, or_right}
 use Rattle.pg_layout.specs.declared.position.Position.{Position}
 use Rattle.pg_layout.specs.Position.{at, is_at}
-use Rattle.pg_layout.proofs.Greatest.{greatest-reaches}
+use Rattle.pg_layout.proofs.TextLines.{greatest-reaches}
 use Rattle.pg_config.specs.Config.{Config, has_vertical}
 use Rattle.pg_config.specs.Spans.{Span, corner, in_span, owner, size_of, span_size, rect_rows, rect_columns}
 use Rattle.pg_picture.specs.Fits.{span_fits, all_apart, spans_fit, totals_fit, cell_fits, owner_fits, misfit_of}
@@ -24,8 +24,7 @@ use Rattle.pg_config.specs.declared.spans.SpanSize.{SpanSize}
 use Rattle.pg_picture.specs.Fitting.{TableFits}
 use Rattle.pg_picture.specs.Pieces.{style_at}
 use Rattle.pg_picture.specs.Table.{Table, rect_width, rect_height, rect_marks}
-use Rattle.pg_picture.proofs.FittingTables.{widths_fit, heights_fit, rect_inside, rect_width_fits, rect_height_fits}
-use Rattle.pg_picture.proofs.PlainTables.{rect_height-one_row}
+use Rattle.pg_picture.proofs.FittingTables.{widths_fit, heights_fit, rect_inside, rect_width_fits, rect_height_fits, rect_height-one_row}
 use Rattle.pg_picture.proofs.Owners.{is_at-same}
 use Rattle.pg_picture.proofs.FirstPlaces.{fitting_tables_have_none}
 use Rattle.pg_table.specs.ShownLaws.{table_of_widths}

@@ -1,7 +1,5 @@
-mod Marks
+mod Scans
 pub mod Readers
 mod Runs
-mod Scans
 pub mod SoundRows
 mod TextFaults
-mod TextRows

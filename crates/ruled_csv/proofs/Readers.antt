@@ -15,8 +15,7 @@ use Rattle.ruled_csv.specs.declared.reader.Front.{Front}
 use Rattle.ruled_csv.specs.declared.reader.Front.TheVariants as front
 use Rattle.ruled_csv.specs.declared.reader.RowReader.{RowReader}
 use Rattle.ruled_csv.specs.declared.scanner.Scanner.{Scanner}
-use Rattle.ruled_csv.proofs.Marks.{fault-behind-mark, late, mark-begins, mark-ends, mark-parts, marked-fault, strip-late, strip-more}
-use Rattle.ruled_csv.proofs.Scans.{ended-scanned, records-scanned, scan-append}
+use Rattle.ruled_csv.proofs.Scans.{fault-behind-mark, late, mark-begins, mark-ends, mark-parts, marked-fault, strip-late, strip-more, ended-scanned, records-scanned, scan-append}
 use Rattle.ruled_csv.proofs.SoundRows.{ended-first, stops-at, stops-last}
 use Rattle.ruled_csv.proofs.TextFaults.{fault-found, fault-last}
 use Rattle.ruled_csv.specs.declared.dialect.Dialect.{Dialect}

@@ -1,25 +1,29 @@
--- The rows above the first bad one.
+-- The rows above the first bad one, and rows that aren't text.
 use Rattle.std.proofs.Common.{◌≡◌, ◌≤◌, ◌∙◌, ℕ, ◌+◌, ◌-◌, Bool, true, false, List, [], ◌∷◌, ◌++◌, length, length-append, take, drop, Option, Some, None, unwrap_or, inl, inr, refl, sym, ap, append-nil, append_assoc, arith}
 use Rattle.std.specs.Prelude.{not, is_none, if◌then◌else◌}
 use Rattle.std.specs.List.{cons_option, list_all, take_while}
 use Rattle.std.specs.Option.{option_or}
 use Rattle.std.specs.Str.{is_utf8}
-use Rattle.std.proofs.lemmas.Bool.{cases_Bool}
+use Rattle.std.proofs.lemmas.Bool.{cases_Bool, and_parts}
 use Rattle.std.proofs.lemmas.List.{take-append-drop}
 use Rattle.std.proofs.lemmas.List.Sums.{take_while-cons}
 use Rattle.std.proofs.Math.Seq.{take-append-add, take-append_seam}
 use Rattle.csv.specs.Reading.{records, strip_bom}
-use Rattle.ruled_csv.specs.Faults.{first_fault, has_length, is_sound, quoted_rows, row_fault, rows_fault, sound_rows, sound_rows_in, text_fault}
+use Rattle.ruled_csv.specs.Faults.{first_fault, has_length, is_sound, quoted_rows, row_fault, rows_fault, sound_rows, sound_rows_in, text_fault, number_of}
 use Rattle.ruled_csv.specs.Inside as scan
 use Rattle.ruled_csv.specs.Inside.{Scan, fault_below, is_behind, last_row, row_ended, scan_after, scan_from, scan_of, scan_start, with_row}
 use Rattle.ruled_csv.specs.Lines.{line_behind}
 use Rattle.ruled_csv.specs.Quotes.{first_behind_quote, quote_fault}
 use Rattle.ruled_csv.specs.Rows.{columns_of, config_of, rows_of}
 use Rattle.ruled_csv.specs.declared.fault.RowsFault.{RowsFault}
-use Rattle.ruled_csv.specs.declared.fault.RowsFault.TheVariants.{BehindQuote}
+use Rattle.ruled_csv.specs.declared.fault.RowsFault.TheVariants.{BehindQuote, Encoding}
 use Rattle.ruled_csv.proofs.Scans.{ended-scanned, records-scanned, scan-append}
 use Rattle.ruled_csv.proofs.TextFaults.{by-bytes, clean, fault-last, fault-of, first-more, first-next, open-is, place-of, quoted-by}
 use Rattle.ruled_csv.specs.declared.dialect.Dialect.{Dialect}
+use Rattle.std.proofs.lemmas.Str.{IsUtf8-from_is_utf8, is_utf8-from_IsUtf8}
+use Rattle.csv.specs.Records.{AllText}
+
+-- ---- the rows above the first bad one
 
 -- ---- one row
 
@@ -248,3 +252,28 @@ sound-first dialect bytes =
     let (behind, all) = quoted-among dialect text in
     let (more, quoted) = take_while-first (is_sound dialect (columns_of (quoted_rows dialect text))) (quoted_rows dialect text) in
     (more ++ behind, all ∙ ap (λ (rs : List Row). rs ++ behind) quoted ∙ append_assoc (sound_rows_in dialect text) more behind)
+
+-- ---- rows that are text, and rows that aren't
+
+-- the test and the fact
+passes : (fields : List (List ℕ)) → AllText fields → list_all is_utf8 fields ≡ true
+unfolding AllText
+passes [] h = refl
+passes (field ∷ fields) h = rw (is_utf8-from_IsUtf8 field h.0) (passes fields h.1)
+
+is_text : (fields : List (List ℕ)) → list_all is_utf8 fields ≡ true → AllText fields
+unfolding AllText
+is_text [] e = tt
+is_text (field ∷ fields) e =
+    let parts = and_parts (is_utf8 field) (list_all is_utf8 fields) e in
+    (IsUtf8-from_is_utf8 field parts.0, is_text fields parts.1)
+
+-- a row of the right length that is text is right, and one that is no text isn't
+pub row_right : (dialect : Dialect) (columns row : ℕ) (fields : List (List ℕ)) → has_length dialect columns (length fields) ≡ true → AllText fields → row_fault dialect columns row fields ≡ None
+row_right dialect columns row fields long text = rw (long, passes fields text) refl
+
+pub row_wrong : (dialect : Dialect) (columns row : ℕ) (fields : List (List ℕ)) → has_length dialect columns (length fields) ≡ true → ¬ (AllText fields) → row_fault dialect columns row fields ≡ Some (Encoding (number_of row) 0)
+row_wrong dialect columns row fields long none = elim (cases_Bool (list_all is_utf8 fields)) [
+  | inl passed ↦ absurd (none (is_text fields passed))
+  | inr failed ↦ rw (long, failed) refl
+]

@@ -1,5 +1,4 @@
 mod LentTexts
 mod Tables
 mod RowsInParts
-mod Shown
 pub mod RowPictures

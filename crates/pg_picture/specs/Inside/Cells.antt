@@ -1,5 +1,6 @@
 -- What is known of a cell before its lines are written: the facts of its text, its style, its text's place.
-use Rattle.std.specs.Prelude.{◌≡◌, ℕ, ◌+◌, ◌-◌, ◌<◌, ◌≤◌, ◌==◌, nat_lt, min, Bool, true, false, not, ◌&&◌, List, [], ◌++◌, length, slice_index_or, Option, Some, None, is_none, unwrap_or, if◌then◌else◌}
+use Rattle.std.specs.Prelude.{◌≡◌, ℕ, ◌+◌, ◌-◌, ◌<◌, ◌≤◌, ◌==◌, nat_lt, min, Bool, true, false, not, ◌&&◌, List, [], ◌++◌, length, slice_index_or, Option, Some, None, is_none}
+use Rattle.std.specs.Prelude.{unwrap_or, if◌then◌else◌}
 use Rattle.std.specs.List.{list_all}
 use Rattle.pg_layout.specs.Text.{Text, is_plain_byte, lines_of, width_of, blank_top, blank_bottom, without_blank_ends}
 use Rattle.pg_layout.specs.declared.alignment.Formatting.{Formatting}

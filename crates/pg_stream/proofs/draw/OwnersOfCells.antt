@@ -21,7 +21,7 @@ use Rattle.pg_stream.proofs.draw.OpenLists.{slots-at}
 use Rattle.pg_stream.proofs.draw.Steps.{open_value}
 use Rattle.pg_stream.proofs.printer.WholePictures.{at_range}
 use Rattle.pg_layout.specs.Text.{greatest, Text}
-use Rattle.pg_layout.proofs.Greatest.{greatest-reaches}
+use Rattle.pg_layout.proofs.TextLines.{greatest-reaches}
 use Rattle.pg_stream.specs.Inside.StreamedTable.{column_end, reach, open_part, open_line, cell_items, open_separator_part, open_separator}
 use Rattle.pg_config.specs.Inside.Lines.{SameForRows}
 use Rattle.pg_config.proofs.EqualLines.{rows_stay}

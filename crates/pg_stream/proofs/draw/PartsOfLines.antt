@@ -15,7 +15,7 @@ use Rattle.pg_stream.specs.Inside.Slots.{slot_block, separator_height}
 use Rattle.pg_layout.specs.Colors.{Color}
 use Rattle.pg_layout.specs.declared.position.Position.{Position}
 use Rattle.pg_layout.specs.Position.{at}
-use Rattle.pg_layout.proofs.Greatest.{greatest-more}
+use Rattle.pg_layout.proofs.TextLines.{greatest-more}
 use Rattle.pg_config.specs.Spans.{Span}
 use Rattle.pg_picture.specs.Inside.Following.{items_after, last_color}
 use Rattle.pg_picture.proofs.Separators.{items_after-append, items_after-one, last_color-append, with_cuts-close}

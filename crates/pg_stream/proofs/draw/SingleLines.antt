@@ -11,7 +11,7 @@ use Rattle.pg_picture.specs.Pieces.{style_at, Piece, Style, block_line, written}
 use Rattle.pg_picture.specs.Sizes.{height_of_rect}
 use Rattle.pg_picture.specs.Table.{Table, vertical}
 use Rattle.pg_picture.proofs.MarksOfRectangles.{rect_height-of_rect}
-use Rattle.pg_picture.proofs.PlainTables.{owner_plain, rect_rows_plain, rect_width_plain, rect_height_plain}
+use Rattle.pg_picture.proofs.FittingTables.{owner_plain, rect_rows_plain, rect_width_plain, rect_height_plain}
 use Rattle.pg_stream.specs.Conditions.{HasRoom}
 use Rattle.std.specs.List.{range_with_len}
 use Rattle.pg_layout.specs.Colors.{Color}

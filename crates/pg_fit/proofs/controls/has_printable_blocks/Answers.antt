@@ -1,5 +1,5 @@
 use Rattle.std.proofs.Common.{arith}
-use Rattle.pg_fit.proofs.PrintableBytes.{printable_runs, printable_to_the_end}
+use Rattle.pg_fit.proofs.LawsOfControls.{printable_runs, printable_to_the_end}
 use Rattle.pg_fit.proofs.controls.has_printable_blocks.Goals as goal
 
 pub loop-block-preserved : goal.loop-block-preserved

@@ -1,5 +1,5 @@
 use Rattle.std.proofs.lemmas.Bool.{and_parts}
-use Rattle.pg_fit.proofs.PrintableBytes.{printable_halves}
+use Rattle.pg_fit.proofs.LawsOfControls.{printable_halves}
 use Rattle.pg_fit.proofs.controls.has_printable_ends.Goals as goal
 
 pub returns : goal.returns

@@ -1,4 +1,4 @@
-use Rattle.pg_fit.proofs.PrintableBytes.{run_from_masks}
+use Rattle.pg_fit.proofs.LawsOfControls.{run_from_masks}
 use Rattle.pg_fit.proofs.controls.is_block_printable.Goals as goal
 
 pub returns : goal.returns

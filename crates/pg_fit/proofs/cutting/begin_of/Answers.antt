@@ -6,7 +6,7 @@ use Rattle.unicode_segmentation.specs.Iter.{graphemes_left}
 use Rattle.unicode_segmentation.proofs.TextLemmas.{slice_range_split}
 use Rattle.pg_layout.specs.Text.{width_of}
 use Rattle.pg_fit.specs.Cutting.{held}
-use Rattle.pg_fit.proofs.PrintableBytes.{nothing_wide}
+use Rattle.pg_fit.proofs.LawsOfControls.{nothing_wide}
 use Rattle.pg_fit.proofs.FilledLines.{StandFrom, characters-stand, slice_range-none, slice_range-all}
 use Rattle.pg_fit.proofs.LawsOfCuts.{held-more, held-end}
 use Rattle.pg_fit.proofs.cutting.begin_of.Goals as goal

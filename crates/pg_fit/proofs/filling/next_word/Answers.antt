@@ -1,6 +1,6 @@
 use Rattle.std.proofs.Common.{◌≡◌, ◌+◌, ◌-◌, ◌<◌, ⊎_elim, eq-zero-or-pos, drop, length, length-drop, subst, sym, ap, ◌∙◌, arith}
 use Rattle.std.specs.Str.{IsCharBoundary}
-use Rattle.pg_fit.proofs.WordsOfTexts.{spaces, word, spaces-short, word-short, behind_spaces, later_word-is, first_word-is, no_word}
+use Rattle.pg_fit.proofs.FilledLines.{spaces, word, spaces-short, word-short, behind_spaces, later_word-is, first_word-is, no_word}
 use Rattle.pg_fit.proofs.filling.next_word.Goals as goal
 
 pub returns-then-gap-rest : goal.returns-then-gap-rest

@@ -1,7 +1,7 @@
 use Rattle.std.proofs.Common.{sym, ◌∙◌, ap}
 use Rattle.std.specs.List.{list_all}
 use Rattle.pg_fit.specs.Printable.{is_printable}
-use Rattle.pg_fit.proofs.PrintableBytes.{printable_texts_add_up}
+use Rattle.pg_fit.proofs.LawsOfControls.{printable_texts_add_up}
 use Rattle.pg_fit.proofs.line.adds_up.Goals as goal
 
 pub returns-then-is_printable : goal.returns-then-is_printable

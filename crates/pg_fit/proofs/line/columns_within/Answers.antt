@@ -2,7 +2,7 @@ use Rattle.std.proofs.Common.{chars, sym, ap, ◌∙◌, arith}
 use Rattle.std.specs.List.{list_all}
 use Rattle.pg_layout.specs.Text.{width_of}
 use Rattle.pg_fit.specs.Inside.{adds_up}
-use Rattle.pg_fit.proofs.PrintableBytes.{added-width}
+use Rattle.pg_fit.proofs.LawsOfControls.{added-width}
 use Rattle.pg_fit.proofs.line.columns_within.Goals as goal
 
 pub returns-in_default : goal.returns-in_default

@@ -6,7 +6,7 @@ use Rattle.unicode_segmentation.specs.Grapheme.{graphemes}
 use Rattle.std.specs.List.{join_with_byte}
 use Rattle.pg_fit.specs.Wrapping.{filled, characters, pieces}
 use Rattle.pg_layout.specs.Text.{width_of}
-use Rattle.pg_fit.proofs.PrintableBytes.{nothing_wide}
+use Rattle.pg_fit.proofs.LawsOfControls.{nothing_wide}
 use Rattle.pg_fit.proofs.FilledLines.{slice_range-none, slice_range-all}
 use Rattle.pg_fit.proofs.wrapping.take_line.Goals as goal
 

@@ -1,4 +1,4 @@
-use Rattle.pg_picture.proofs.GlyphsOfLines.{missing_glyph_fills_gaps}
+use Rattle.pg_picture.proofs.Separators.{missing_glyph_fills_gaps}
 use Rattle.pg_picture.proofs.StraightColumns.{columns_are_straight, margins_are_straight}
 use Rattle.pg_laws.proofs.laws.columns_are_straight.Goals as goal
 

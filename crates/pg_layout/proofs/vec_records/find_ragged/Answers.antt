@@ -1,7 +1,7 @@
 use Rattle.std.proofs.Common.{not, ◌==◌, ◌∙◌, sym, ap, map, length}
 use Rattle.std.specs.List.{position}
 use Rattle.pg_layout.specs.Records.{columns_of}
-use Rattle.pg_layout.proofs.Rows.{position-map}
+use Rattle.pg_layout.proofs.Given.{position-map}
 use Rattle.pg_layout.proofs.vec_records.find_ragged.Goals as goal
 
 pub returns : goal.returns

@@ -1,8 +1,7 @@
 use Rattle.std.proofs.Common.{ap, ◌∙◌}
 use Rattle.pg_picture.specs.CompactLines.{colored_glyph}
 use Rattle.pg_picture.proofs.Appending.{Appends-text}
-use Rattle.pg_picture.proofs.CompactPieces.{lent-color}
-use Rattle.pg_picture.proofs.PiecesOfLines.{written-glyph_piece}
+use Rattle.pg_picture.proofs.PiecesOfLines.{lent-color, written-glyph_piece}
 use Rattle.pg_picture.proofs.compact_cell.push_border_glyph.Goals as goal
 
 pub returns : goal.returns

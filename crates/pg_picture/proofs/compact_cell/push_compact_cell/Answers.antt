@@ -4,7 +4,7 @@ use Rattle.pg_config.specs.CompactConfig.{settings_of, side_colors}
 use Rattle.pg_picture.specs.Pieces.{in_color, repeated}
 use Rattle.pg_picture.specs.CompactLines.{compact_indent}
 use Rattle.pg_picture.proofs.Appending.{Appends-text, ◌then◌, stopped}
-use Rattle.pg_picture.proofs.CompactPieces.{cell-text}
+use Rattle.pg_picture.proofs.PiecesOfLines.{cell-text}
 use Rattle.pg_picture.proofs.compact_cell.push_compact_cell.Goals as goal
 
 pub returns-in_err-push_left_side : goal.returns-in_err-push_left_side

@@ -1,7 +1,7 @@
 use Rattle.std.proofs.Common.{sym, ap, ◌∙◌}
 use Rattle.pg_layout.specs.Colors.{str_color}
 use Rattle.pg_picture.specs.Pieces.{repeated}
-use Rattle.pg_picture.proofs.CompactPieces.{indent-plain}
+use Rattle.pg_picture.proofs.PiecesOfLines.{indent-plain}
 use Rattle.pg_picture.proofs.compact_cell.spaces_together.Goals as goal
 
 pub returns-then-is_empty-clause-plain : goal.returns-then-is_empty-clause-plain

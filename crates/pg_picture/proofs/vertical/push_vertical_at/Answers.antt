@@ -4,7 +4,7 @@ use Rattle.std.specs.Option.{option_or}
 use Rattle.pg_layout.specs.Colors.{Color, lent_color}
 use Rattle.pg_picture.specs.Pieces.{written, fill}
 use Rattle.pg_picture.proofs.Appending.{Gained-none, Gained-all, Appends-text}
-use Rattle.pg_picture.proofs.GlyphsOfLines.{vertical_at-none, vertical_at-some, lent_color-or}
+use Rattle.pg_picture.proofs.Separators.{vertical_at-none, vertical_at-some, lent_color-or}
 use Rattle.pg_picture.proofs.vertical.push_vertical_at.Goals as goal
 
 pub returns-in_default : goal.returns-in_default

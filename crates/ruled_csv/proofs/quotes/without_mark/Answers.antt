@@ -1,5 +1,5 @@
 use Rattle.std.proofs.Common.{◌∙◌}
-use Rattle.ruled_csv.proofs.Marks.{no_mark, with_mark}
+use Rattle.ruled_csv.proofs.Scans.{no_mark, with_mark}
 use Rattle.ruled_csv.proofs.quotes.without_mark.Goals as goal
 
 pub returns-in-Some : goal.returns-in-Some

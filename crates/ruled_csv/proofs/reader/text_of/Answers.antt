@@ -2,7 +2,7 @@ use Rattle.std.proofs.Common.{◌≡◌, ◌∙◌, length, Some, ap, sym, ℕ, 
 use Rattle.csv.specs.Records.{fields_of}
 use Rattle.ruled_csv.specs.Faults.{has_length}
 use Rattle.ruled_csv.specs.declared.fault.RowsFault.TheVariants.{Encoding}
-use Rattle.ruled_csv.proofs.TextRows.{row_right, row_wrong}
+use Rattle.ruled_csv.proofs.SoundRows.{row_right, row_wrong}
 use Rattle.ruled_csv.proofs.reader.text_of.Goals as goal
 
 pub returns-in-Ok-clause-fault : goal.returns-in-Ok-clause-fault

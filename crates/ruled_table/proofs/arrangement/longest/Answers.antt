@@ -2,7 +2,7 @@ use Rattle.std.proofs.Common.{◌≡◌, ◌<◌, ◌≤◌, ◌∷◌, ◌+◌,
 use Rattle.std.proofs.lemmas.List.{drop_all}
 use Rattle.csv.specs.Records.{Row, fields_of}
 use Rattle.ruled_table.specs.Arranged.{longest}
-use Rattle.ruled_table.proofs.Shown.{drop_next}
+use Rattle.ruled_table.proofs.LentTexts.{drop_next}
 use Rattle.ruled_table.proofs.arrangement.longest.Goals as goal
 
 pub loop-fields-preserved : goal.loop-fields-preserved

@@ -4,7 +4,7 @@ use Rattle.std.proofs.lemmas.List.{length-map}
 use Rattle.csv.specs.Records.{fields_of}
 use Rattle.ruled_table.specs.Blocks.{pair_at}
 use Rattle.ruled_table.specs.LentRows.{fields_at}
-use Rattle.ruled_table.proofs.Shown.{made_next}
+use Rattle.ruled_table.proofs.LentTexts.{made_next}
 use Rattle.ruled_table.proofs.blocks.pairs_of.Goals as goal
 
 pub loop-column-preserved : goal.loop-column-preserved

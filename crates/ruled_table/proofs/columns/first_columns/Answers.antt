@@ -1,7 +1,7 @@
 use Rattle.std.proofs.Common.{◌≡◌, ◌∙◌, ◌∷◌, ◌++◌, [], ℕ, List, sym, ap, arith}
 use Rattle.std.specs.List.{range_with_len}
 use Rattle.std.proofs.lemmas.List.FromFn.{map-range_with_len_more}
-use Rattle.ruled_table.proofs.Shown.{same_numbers}
+use Rattle.ruled_table.proofs.LentTexts.{same_numbers}
 use Rattle.ruled_table.proofs.columns.first_columns.Goals as goal
 
 pub loop-place-preserved : goal.loop-place-preserved

@@ -3,7 +3,7 @@ use Rattle.std.proofs.lemmas.List.{get_or-map, length-map, take_all}
 use Rattle.csv.specs.Records.{Row, fields_of}
 use Rattle.pg_layout.specs.Text.{Text}
 use Rattle.ruled_table.specs.Shown.{shown_text}
-use Rattle.ruled_table.proofs.Shown.{same_more}
+use Rattle.ruled_table.proofs.LentTexts.{same_more}
 use Rattle.ruled_table.proofs.layout.rows_stand.Goals as goal
 
 pub loop-fields-preserved : goal.loop-fields-preserved

@@ -2,7 +2,7 @@ use Rattle.std.proofs.Common.{◌∙◌, ◌++◌, map, string_bytes, append-nil
 use Rattle.std.specs.Cow.{cow_str_bytes}
 use Rattle.std.specs.Vec.Iter.{into_iter_items}
 use Rattle.std.proofs.lemmas.List.{nil_from_length}
-use Rattle.ruled_table.proofs.Shown.{made_on}
+use Rattle.ruled_table.proofs.LentTexts.{made_on}
 use Rattle.ruled_table.proofs.row_lines.owned.Goals as goal
 
 pub loop-cell-init : goal.loop-cell-init

@@ -3,7 +3,7 @@ use Rattle.std.proofs.lemmas.List.{take_all}
 use Rattle.csv.specs.Records.{fields_of}
 use Rattle.pg_layout.specs.Text.{Text}
 use Rattle.ruled_table.specs.Shown.{shown_text}
-use Rattle.ruled_table.proofs.Shown.{pushed_more}
+use Rattle.ruled_table.proofs.LentTexts.{pushed_more}
 use Rattle.ruled_table.proofs.rows.made_record.Goals as goal
 
 pub loop-place-preserved : goal.loop-place-preserved

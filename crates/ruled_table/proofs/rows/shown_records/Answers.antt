@@ -5,7 +5,7 @@ use Rattle.std.proofs.lemmas.Simd.{map-map}
 use Rattle.csv.specs.Records.{Row, fields_of}
 use Rattle.pg_layout.specs.Text.{Text}
 use Rattle.ruled_table.specs.Shown.{shown_text}
-use Rattle.ruled_table.proofs.Shown.{made_on}
+use Rattle.ruled_table.proofs.LentTexts.{made_on}
 use Rattle.ruled_table.proofs.rows.shown_records.Goals as goal
 
 pub loop-fields-init : goal.loop-fields-init

@@ -1,7 +1,7 @@
 use Rattle.std.proofs.Common.{◌≡◌, ◌∙◌, ◌-◌, ◌<◌, ℕ, Option, List, length, map, Some, sym, ap, arith, rules}
 use Rattle.csv.specs.Records.{fields_of}
 use Rattle.ruled_table.specs.Arranged.{last_of}
-use Rattle.ruled_table.proofs.Shown.{last-kept}
+use Rattle.ruled_table.proofs.LentTexts.{last-kept}
 use Rattle.ruled_table.proofs.rows.tails.Goals as goal
 
 pub returns-then-end-gt1 : goal.returns-then-end-gt1

@@ -1,7 +1,7 @@
 use Rattle.std.proofs.Common.{◌≡◌, ◌++◌, OnSome, sym, ◌∙◌, subst}
 use Rattle.pg_layout.specs.Colors.{str_color}
 use Rattle.pg_layout.specs.Text.{Text}
-use Rattle.pg_picture.proofs.CompactPieces.{indent-plain, indent-colored}
+use Rattle.pg_picture.proofs.PiecesOfLines.{indent-plain, indent-colored}
 use Rattle.pg_compact.proofs.short_text.ShortText.push_indent.Goals as goal
 
 pub returns-then-is_empty : goal.returns-then-is_empty

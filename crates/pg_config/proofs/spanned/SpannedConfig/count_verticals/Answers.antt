@@ -1,7 +1,7 @@
 use Rattle.std.proofs.Common.{ap, ◌∙◌}
 use Rattle.std.specs.Int.{from_bool}
 use Rattle.pg_config.specs.Config.{has_vertical}
-use Rattle.pg_config.proofs.Ranges.{found-more}
+use Rattle.pg_config.proofs.CoveredPlaces.{found-more}
 use Rattle.pg_config.proofs.spanned.SpannedConfig.count_verticals.Goals as goal
 
 pub loop-step-preserved : goal.loop-step-preserved

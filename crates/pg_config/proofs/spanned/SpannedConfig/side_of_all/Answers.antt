@@ -1,7 +1,7 @@
 use Rattle.std.proofs.Common.{◌≡◌, ◌∙◌, sym, ap}
 use Rattle.pg_config.specs.Settings.{is_for_all}
 use Rattle.pg_config.specs.Config.{Config}
-use Rattle.pg_config.proofs.Common.{one_side}
+use Rattle.pg_config.proofs.EqualLines.{one_side}
 use Rattle.pg_config.proofs.spanned.SpannedConfig.side_of_all.Goals as goal
 
 pub returns-clause-of : goal.returns-clause-of

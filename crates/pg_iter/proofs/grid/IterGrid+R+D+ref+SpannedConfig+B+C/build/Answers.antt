@@ -8,7 +8,7 @@ use Rattle.pg_picture.proofs.Appending.{Appends-text, Gained-none, Gained-all}
 use Rattle.pg_picture.proofs.Pictures.{picture-none}
 use Rattle.pg_stream.specs.Printing.{hint_of}
 use Rattle.pg_iter.specs.IterGrids.{streamed}
-use Rattle.pg_stream.proofs.RowsInTurn.{no-row}
+use Rattle.pg_stream.proofs.PicturesOfRows.{no-row}
 use Rattle.pg_iter.proofs.IterTables.{begun, some-cells}
 use Rattle.pg_iter.proofs.grid.IterGrid+R+D+ref+SpannedConfig+B+C.build.Goals as goal
 

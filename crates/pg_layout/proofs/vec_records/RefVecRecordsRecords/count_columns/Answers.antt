@@ -1,6 +1,6 @@
 use Rattle.std.proofs.Common.{◌≡◌, ◌∙◌, sym, ap, None, map}
 use Rattle.pg_layout.specs.Records.{columns_of, ragged_row}
-use Rattle.pg_layout.proofs.Rows.{even-texts}
+use Rattle.pg_layout.proofs.Given.{even-texts}
 use Rattle.pg_layout.proofs.vec_records.RefVecRecordsRecords.count_columns.Goals as goal
 
 pub returns-clause-even : goal.returns-clause-even

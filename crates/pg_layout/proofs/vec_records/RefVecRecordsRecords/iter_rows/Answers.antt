@@ -1,6 +1,6 @@
 use Rattle.std.proofs.Common.{◌≡◌, refl, sym, map, ap, ◌∙◌, Bor, List, ℕ}
 use Rattle.std.proofs.lemmas.Simd.{map-map}
-use Rattle.pg_layout.proofs.Rows.{yields-all}
+use Rattle.pg_layout.proofs.Given.{yields-all}
 use Rattle.pg_layout.proofs.vec_records.RefVecRecordsRecords.iter_rows.Goals as goal
 
 pub returns : goal.returns

@@ -1,6 +1,6 @@
 use Rattle.std.proofs.Common.{◌≡◌, ◌∷◌, ◌++◌, ◌∙◌, [], arith, sym}
 use Rattle.pg_layout.specs.Records.{ragged_row}
-use Rattle.pg_layout.proofs.Rows.{even-push, ragged-below}
+use Rattle.pg_layout.proofs.Given.{even-push, ragged-below}
 use Rattle.pg_layout.proofs.vec_records.VecRecords.push_row.Goals as goal
 
 pub returns-in-Some-clause-ragged : goal.returns-in-Some-clause-ragged

@@ -1,5 +1,5 @@
 use Rattle.std.proofs.Common.{◌∙◌, map, arith}
-use Rattle.pg_layout.proofs.Rows.{row-with, cell-at}
+use Rattle.pg_layout.proofs.Given.{row-with, cell-at}
 use Rattle.pg_layout.proofs.vec_records.VecRecords.text_at.Goals as goal
 
 pub index-requires-2 : goal.index-requires-2

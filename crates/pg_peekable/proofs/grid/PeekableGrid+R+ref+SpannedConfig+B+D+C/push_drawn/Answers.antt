@@ -1,6 +1,6 @@
 use Rattle.std.proofs.Common.{sym, ap, ◌∙◌}
 use Rattle.pg_picture.specs.Table.{Table}
-use Rattle.pg_picture.proofs.PlainTables.{not-false}
+use Rattle.pg_picture.proofs.FittingTables.{not-false}
 use Rattle.pg_peekable.proofs.grid.PeekableGrid+R+ref+SpannedConfig+B+D+C.push_drawn.Goals as goal
 
 pub invariant_of-table-clause-is_plain : goal.invariant_of-table-clause-is_plain

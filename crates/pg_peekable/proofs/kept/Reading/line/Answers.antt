@@ -6,7 +6,7 @@ use Rattle.std.proofs.lemmas.List.Sums.{count_by-le-length}
 use Rattle.std.proofs.lemmas.Option.{unwrap_or-slice_get}
 use Rattle.pg_layout.specs.Text.{lines_of}
 use Rattle.pg_layout.proofs.TextLines.{is_feed, length-lines_of}
-use Rattle.pg_peekable.proofs.TallCells.{lent-or}
+use Rattle.pg_peekable.proofs.RowParts.{lent-or}
 use Rattle.pg_peekable.proofs.kept.Reading.line.Goals as goal
 
 pub overflow_add-self : goal.overflow_add-self

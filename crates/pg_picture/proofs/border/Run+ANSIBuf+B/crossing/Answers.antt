@@ -1,6 +1,6 @@
 use Rattle.std.proofs.Common.{sym, ◌∙◌}
 use Rattle.pg_picture.proofs.Appending.{Gained-none, Gained-all, Appends-text}
-use Rattle.pg_picture.proofs.GlyphsOfLines.{items_after-nil, last_color-nil, crossing_at-no_line, crossing_at-no_glyph}
+use Rattle.pg_picture.proofs.Separators.{items_after-nil, last_color-nil, crossing_at-no_line, crossing_at-no_glyph}
 use Rattle.pg_picture.proofs.border.Run+ANSIBuf+B.crossing.Goals as goal
 
 pub returns-then-not-has_vertical-clause-appends : goal.returns-then-not-has_vertical-clause-appends

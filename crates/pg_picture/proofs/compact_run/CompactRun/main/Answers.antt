@@ -3,7 +3,7 @@ use Rattle.pg_layout.specs.Colors.{str_color}
 use Rattle.pg_picture.specs.Inside.Following.{part_after}
 use Rattle.pg_picture.proofs.Appending.{Appends-text, Gained-none, Gained-all}
 use Rattle.pg_picture.proofs.Separators.{IfOk-same}
-use Rattle.pg_picture.proofs.CompactPieces.{no_parts-text, no_parts-color, one_part-text, one_part-color, main_part-none, main_part-some}
+use Rattle.pg_picture.proofs.PiecesOfLines.{no_parts-text, no_parts-color, one_part-text, one_part-color, main_part-none, main_part-some}
 use Rattle.pg_picture.proofs.compact_run.CompactRun.main.Goals as goal
 
 pub returns-then-width-eq0-clause-appends : goal.returns-then-width-eq0-clause-appends

@@ -2,7 +2,7 @@ use Rattle.std.proofs.Common.{option_map}
 use Rattle.pg_layout.specs.Colors.{str_color}
 use Rattle.pg_picture.proofs.Appending.{Appends-text, Gained-none, Gained-all}
 use Rattle.pg_picture.proofs.Separators.{IfOk-same}
-use Rattle.pg_picture.proofs.CompactPieces.{no_parts-text, no_parts-color, one_part-text, one_part-color, part_if-none, part_if-some}
+use Rattle.pg_picture.proofs.PiecesOfLines.{no_parts-text, no_parts-color, one_part-text, one_part-color, part_if-none, part_if-some}
 use Rattle.pg_picture.proofs.compact_run.CompactRun.part_if.Goals as goal
 
 pub returns-in-None-clause-appends : goal.returns-in-None-clause-appends

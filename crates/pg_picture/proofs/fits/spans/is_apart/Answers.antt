@@ -1,5 +1,5 @@
 use Rattle.std.proofs.Common.{◌∙◌, ◌+◌, ◌<◌, rules, arith, refl, sym}
-use Rattle.pg_picture.proofs.SpansByColumns.{before_first, column_more, columns_end, column_not}
+use Rattle.pg_picture.proofs.OwnersOfPlaces.{before_first, column_more, column_apart, column_not}
 use Rattle.pg_picture.proofs.fits.spans.is_apart.Goals as goal
 
 pub loop-column-init : goal.loop-column-init
@@ -21,4 +21,4 @@ loop-column-preserved g c =
     }
 
 pub returns : goal.returns
-returns g c = sym (columns_end c.args.span c.loop-column.from (c.args.span.0.col + c.args.span.1.columns) c.args.spans.now refl c.in_default.ensures c.loop-column.invariant.apart)
+returns g c = sym (column_apart c.args.span c.loop-column.from (c.args.span.0.col + c.args.span.1.columns) c.args.spans.now refl c.in_default.ensures c.loop-column.invariant.apart)

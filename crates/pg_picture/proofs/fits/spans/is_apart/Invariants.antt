@@ -1,6 +1,6 @@
 use Rattle.std.proofs.Common.{◌≡◌, ◌+◌, ◌-◌, ◌<◌}
 use Rattle.pg_layout.specs.Places.{Each}
-use Rattle.pg_picture.proofs.SpansByColumns.{ApartBefore}
+use Rattle.pg_picture.proofs.OwnersOfPlaces.{ApartBefore}
 use Rattle.pg_picture.proofs.fits.spans.is_apart.Given as goal
 
 -- the rectangles that begin left of the column are told apart

@@ -1,7 +1,7 @@
 use Rattle.std.proofs.Common.{◌≡◌, ◌∙◌, Some, None, sym, arith}
 use Rattle.std.proofs.lemmas.Bool.Decides.{nat_tests}
 use Rattle.pg_picture.specs.Inside.SpansByColumns.{ends_above, apart_at}
-use Rattle.pg_picture.proofs.SpansByColumns.{told_by_search}
+use Rattle.pg_picture.proofs.OwnersOfPlaces.{told_by_search}
 use Rattle.pg_picture.proofs.fits.spans.is_apart_at.Goals as goal
 
 pub returns-in-None : goal.returns-in-None

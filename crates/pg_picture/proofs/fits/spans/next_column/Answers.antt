@@ -2,7 +2,7 @@ use Rattle.std.proofs.Common.{◌≡◌, ◌∙◌, Some, sym, arith}
 use Rattle.pg_layout.specs.Position.{at}
 use Rattle.pg_layout.specs.Keys.{by_columns, column_place}
 use Rattle.pg_layout.specs.Places.{next_from}
-use Rattle.pg_picture.proofs.SpansByColumns.{skips_all, skips_none, skips_to, next_is_right}
+use Rattle.pg_picture.proofs.OwnersOfPlaces.{skips_all, skips_none, skips_to, next_is_right}
 use Rattle.pg_picture.proofs.fits.spans.next_column.Goals as goal
 
 pub returns-then-end-from : goal.returns-then-end-from

@@ -1,5 +1,5 @@
 use Rattle.std.proofs.Common.{◌∙◌, sym, arith}
-use Rattle.pg_picture.proofs.SpansByColumns.{have_ends_columns}
+use Rattle.pg_picture.proofs.OwnersOfPlaces.{have_ends_columns}
 use Rattle.pg_picture.proofs.fits.spans.spans_fit_columns.Goals as goal
 
 pub all_apart-requires-clause-ends : goal.all_apart-requires-clause-ends

@@ -1,7 +1,6 @@
 use Rattle.std.proofs.Common.{◌≡◌, ◌∙◌, sym, Some, arith}
 use Rattle.pg_config.specs.Common.{inner_vertical}
-use Rattle.pg_config.proofs.Common.{inner_vertical-glyph, inner_vertical-color}
-use Rattle.pg_config.proofs.EqualLines.{IsInner}
+use Rattle.pg_config.proofs.EqualLines.{inner_vertical-glyph, inner_vertical-color, IsInner}
 use Rattle.pg_picture.proofs.pen.Pen.glyph_of.Goals as goal
 
 -- between two columns all verticals have the glyph that is kept

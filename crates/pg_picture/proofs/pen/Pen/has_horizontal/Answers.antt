@@ -1,5 +1,5 @@
 use Rattle.std.proofs.Common.{sym, ◌∙◌}
-use Rattle.pg_picture.proofs.PlainTables.{no_row_line}
+use Rattle.pg_picture.proofs.FittingTables.{no_row_line}
 use Rattle.pg_picture.proofs.pen.Pen.has_horizontal.Goals as goal
 
 -- without row lines none is there

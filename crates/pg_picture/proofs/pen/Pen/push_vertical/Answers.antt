@@ -2,7 +2,7 @@ use Rattle.std.proofs.Common.{sym, ap, ap₂, ◌∙◌}
 use Rattle.pg_config.proofs.EqualLines.{no_verticals}
 use Rattle.pg_picture.specs.Pieces.{written, glyph_piece}
 use Rattle.pg_picture.proofs.Appending.{Appends-text, Gained-none, Gained-all}
-use Rattle.pg_picture.proofs.GlyphsOfLines.{vertical_at-none, vertical_at-border, no_column_lines, no_offset_chars}
+use Rattle.pg_picture.proofs.Separators.{vertical_at-none, vertical_at-border, no_column_lines, no_offset_chars}
 use Rattle.pg_picture.proofs.pen.Pen.push_vertical.Goals as goal
 
 -- without column lines there is nothing to append

@@ -1,7 +1,7 @@
 use Rattle.std.proofs.Common.{◌≡◌, ◌∙◌, map, string_bytes, ap}
 use Rattle.std.specs.Option.{option_map}
 use Rattle.pg_layout.specs.declared.vec_records.RecordsFault.TheVariants.{Ragged}
-use Rattle.pg_script.proofs.RowsOfTexts.{map-steps, even-not_ragged, no_error-is_ok}
+use Rattle.pg_script.proofs.LineWords.{map-steps, even-not_ragged, no_error-is_ok}
 use Rattle.pg_script.proofs.cell_texts.CellTexts.into_records.Goals as goal
 
 pub unwrap-requires : goal.unwrap-requires

@@ -1,5 +1,5 @@
 use Rattle.std.proofs.Common.{◌<◌, length, string_bytes, refl, arith}
-use Rattle.pg_script.proofs.RowsOfTexts.{map-set_in_row}
+use Rattle.pg_script.proofs.LineWords.{map-set_in_row}
 use Rattle.pg_script.proofs.cell_texts.CellTexts.set.Goals as goal
 
 pub returns-clause-texts : goal.returns-clause-texts

@@ -3,7 +3,7 @@ use Rattle.pg_picture.specs.Table.{Table}
 use Rattle.pg_table.specs.Printing.{printed_table_of, natural_parts}
 use Rattle.pg_table.specs.declared.fault.TableFault.TheVariants.{Spans, Totals}
 use Rattle.pg_table.proofs.Faults.{fault-spans, fault-totals, fault-fits, can-fail}
-use Rattle.pg_table.proofs.TotalsOfSizes.{cells-past}
+use Rattle.pg_table.proofs.NaturalRoom.{cells-past}
 use Rattle.pg_table.proofs.natural.NaturalTable.sized.Goals as goal
 
 pub returns-then-not-spans_fit-clause-fault : goal.returns-then-not-spans_fit-clause-fault

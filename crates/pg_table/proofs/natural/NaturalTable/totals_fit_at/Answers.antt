@@ -1,5 +1,5 @@
 use Rattle.std.proofs.Common.{◌∙◌}
-use Rattle.pg_table.proofs.TotalsOfSizes.{listed-totals}
+use Rattle.pg_table.proofs.NaturalRoom.{listed-totals}
 use Rattle.pg_table.proofs.natural.NaturalTable.totals_fit_at.Goals as goal
 
 pub returns : goal.returns

@@ -2,7 +2,7 @@ use Rattle.std.proofs.Common.{◌≡◌, ℕ, map, length, refl, ap, ◌∙◌, 
 use Rattle.std.specs.List.{range_with_len}
 use Rattle.pg_layout.specs.Position.{at}
 use Rattle.pg_layout.specs.Text.{greatest}
-use Rattle.pg_layout.proofs.Greatest.{greatest-more}
+use Rattle.pg_layout.proofs.TextLines.{greatest-more}
 use Rattle.pg_table.specs.Spanning.{singles_width}
 use Rattle.pg_table.proofs.ListedSizes.{least_single}
 use Rattle.pg_table.proofs.sizes.NaturalSizes.least_by_singles.Goals as goal

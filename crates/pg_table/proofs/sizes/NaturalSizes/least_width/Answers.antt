@@ -3,7 +3,7 @@ use Rattle.std.specs.List.{range_with_len}
 use Rattle.pg_layout.specs.Position.{at}
 use Rattle.pg_layout.specs.Records.{text_at}
 use Rattle.pg_layout.specs.Text.{greatest}
-use Rattle.pg_layout.proofs.Greatest.{greatest-more}
+use Rattle.pg_layout.proofs.TextLines.{greatest-more}
 use Rattle.pg_picture.specs.Sizes.{if_fits}
 use Rattle.pg_picture.proofs.Ranges.{if_fits-below}
 use Rattle.pg_table.specs.Natural.{paddings}

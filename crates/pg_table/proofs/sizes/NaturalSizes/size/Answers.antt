@@ -6,7 +6,7 @@ use Rattle.pg_picture.specs.Sizes.{if_fits}
 use Rattle.pg_picture.proofs.Ranges.{if_fits-below}
 use Rattle.pg_table.specs.Natural.{paddings, cell_size, cell_at, count_cells}
 use Rattle.pg_table.specs.Inside.Sizes.{plain_size}
-use Rattle.pg_layout.proofs.Greatest.{greatest-more}
+use Rattle.pg_layout.proofs.TextLines.{greatest-more}
 use Rattle.pg_table.proofs.PlainCells.{past-paddings, past-cell}
 use Rattle.pg_table.proofs.ListedSizes.{some-below}
 use Rattle.pg_table.proofs.sizes.NaturalSizes.size.Goals as goal

@@ -1,7 +1,7 @@
 use Rattle.std.proofs.Common.{◌≡◌, ◌∙◌, sym, ap}
 use Rattle.pg_config.specs.Config.{get_alignment_horizontal}
 use Rattle.pg_config.specs.Cells.{Style, style_of}
-use Rattle.pg_config.proofs.Common.{one_style_but_across}
+use Rattle.pg_config.proofs.EqualLines.{one_style_but_across}
 use Rattle.pg_config.proofs.spanned.cells.CellStyle.of_all_but_across.Goals as goal
 
 pub returns-clause-of : goal.returns-clause-of

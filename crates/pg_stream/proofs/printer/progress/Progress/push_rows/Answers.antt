@@ -5,7 +5,7 @@ use Rattle.pg_picture.proofs.Appending.{◌then◌, Appends-text, Gained-none, G
 use Rattle.pg_stream.specs.Conditions.{RowsFit}
 use Rattle.pg_stream.specs.Printers.{now_of}
 use Rattle.pg_stream.specs.Printing.{Printing, row_text, finish_text, after_row, rows_text}
-use Rattle.pg_stream.proofs.RowsInTurn.{next-row, no-row, rows_text-more, rows_text-last, row-fits}
+use Rattle.pg_stream.proofs.PicturesOfRows.{next-row, no-row, rows_text-more, rows_text-last, row-fits}
 use Rattle.pg_stream.proofs.printer.progress.Progress.push_rows.Goals as goal
 
 pub loop-next-init : goal.loop-next-init

@@ -5,7 +5,7 @@ use Rattle.pg_stream.specs.Conditions.{AreRowsFrom, RowsFit}
 use Rattle.pg_stream.specs.Inside.Held.{IsSoundAt}
 use Rattle.pg_stream.specs.Printers.{now_of}
 use Rattle.pg_stream.specs.Printing.{rows_text}
-use Rattle.pg_stream.proofs.RowsInTurn.{Printed}
+use Rattle.pg_stream.proofs.PicturesOfRows.{Printed}
 use Rattle.pg_stream.proofs.printer.progress.Progress.push_rows.Given as goal
 
 -- the row that was taken and those behind it may be printed, and make the rest of the text

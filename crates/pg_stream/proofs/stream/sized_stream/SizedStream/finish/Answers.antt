@@ -1,4 +1,4 @@
-use Rattle.pg_stream.proofs.stream.SizedPushes.{sound-told, ends-told}
+use Rattle.pg_stream.proofs.stream.StreamedRows.{sound-told, ends-told}
 use Rattle.pg_stream.proofs.stream.sized_stream.SizedStream.finish.Goals as goal
 
 pub close-requires-clause-sound : goal.close-requires-clause-sound

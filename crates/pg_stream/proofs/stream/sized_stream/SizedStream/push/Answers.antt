@@ -5,8 +5,7 @@ use Rattle.pg_layout.specs.Text.{Text}
 use Rattle.pg_picture.proofs.Appending.{Appends-text}
 use Rattle.pg_stream.specs.LiveStreams.{Living}
 use Rattle.pg_stream.specs.Printing.{Printing}
-use Rattle.pg_stream.proofs.stream.SizedPushes.{sound-told, fits-told, told-fits, text-told, after-told, above-fits, sized-told}
-use Rattle.pg_stream.proofs.stream.StreamedRows.{row-misfits, row-refused, row-printed}
+use Rattle.pg_stream.proofs.stream.StreamedRows.{sound-told, fits-told, told-fits, text-told, after-told, above-fits, sized-told, row-misfits, row-refused, row-printed}
 use Rattle.pg_stream.proofs.stream.sized_stream.SizedStream.push.Goals as goal
 
 pub kind_if_fits-requires : goal.kind_if_fits-requires

@@ -5,8 +5,7 @@ use Rattle.std.proofs.lemmas.Result.{err_from_is_err_and}
 use Rattle.pg_picture.proofs.Appending.{Appends-text}
 use Rattle.pg_stream.specs.LiveStreams.{Living}
 use Rattle.pg_stream.specs.Printing.{Printing}
-use Rattle.pg_stream.proofs.stream.StreamedRows.{given-lent, row-misfits, row-refused, row-printed}
-use Rattle.pg_stream.proofs.stream.SizedPushes.{sound-told, lent-told, told-lent, text-told, after-told, above-fits, sized-told}
+use Rattle.pg_stream.proofs.stream.StreamedRows.{given-lent, row-misfits, row-refused, row-printed, sound-told, lent-told, told-lent, text-told, after-told, above-fits, sized-told}
 use Rattle.pg_stream.proofs.stream.sized_stream.SizedStream.push_lent.Goals as goal
 
 pub kind_if_lent-requires : goal.kind_if_lent-requires
