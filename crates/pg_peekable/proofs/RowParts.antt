@@ -105,15 +105,15 @@ step-text t order r x w is left here i =
 -- ---- what a column adds to a separator where cells span rows or columns: a crossing, and a rectangle's line or a horizontal
 
 -- a block behind other items: the cut before it, and its line
-pub block-text : (c : Option Color) (items : List Item) {d : Option Color} (line : List Piece) {drawn : List Piece} → d ≡ last_color c items → drawn ≡ line
-    → items_after c items ++ (cut d None ++ written drawn) ≡ items_after c (items ++ block line ∷ [])
-block-text c items line last is =
+pub block-text : (c : Option Color) (items : List Item) {d : Option Color} (pieces : List Piece) {drawn : List Piece} → d ≡ last_color c items → drawn ≡ pieces
+    → items_after c items ++ (cut d None ++ written drawn) ≡ items_after c (items ++ block pieces ∷ [])
+block-text c items pieces last is =
     ap₂ (λ e p. items_after c items ++ (cut e None ++ written p)) last is
-    ∙ sym (items_after-append c items (block line ∷ []) ∙ ap (λ x. items_after c items ++ x) (items_after-one (last_color c items) (block line)))
+    ∙ sym (items_after-append c items (block pieces ∷ []) ∙ ap (λ x. items_after c items ++ x) (items_after-one (last_color c items) (block pieces)))
 
 -- no colour is open after it
-pub block-color : (c : Option Color) (items : List Item) (line : List Piece) → last_color c (items ++ block line ∷ []) ≡ None
-block-color c items line = last_color-append c items (block line ∷ []) ∙ last_color-one (last_color c items) (block line)
+pub block-color : (c : Option Color) (items : List Item) (pieces : List Piece) → last_color c (items ++ block pieces ∷ []) ≡ None
+block-color c items pieces = last_color-append c items (block pieces ∷ []) ∙ last_color-one (last_color c items) (block pieces)
 
 module _ (t : Table) (order : InOrder t.config.spans t.rows t.columns) where
   pub found-above : (r x : ℕ) (s : Span) → span_above t.config.spans r x ≡ Some s → left_span t.config.spans r x ≡ Some s
