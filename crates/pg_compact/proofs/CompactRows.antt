@@ -150,16 +150,16 @@ module _ (config : CompactSettings) {none one both : Text} (g : Borders ℕ) (gc
   pub start-text : g ≡ config.borders → gc ≡ config.borders_color → m ≡ config.margin → mc ≡ config.margin_color
       → none ≡ [] → one ≡ none ++ compact_indent m.left.fill m.left.size mc.left → both ≡ one ++ colored_glyph g.left gc.left → both ≡ row_start config
   unfolding row_start
-  start-text glyphs colors margin painted begun first then =
-      then
+  start-text glyphs colors margin painted begun first last =
+      last
       ∙ ap (λ (text : Text). text ++ colored_glyph g.left gc.left) (first ∙ ap (λ (text : Text). text ++ compact_indent m.left.fill m.left.size mc.left) begun)
       ∙ rw (glyphs, colors, margin, painted) refl
 
   pub end-text : g ≡ config.borders → gc ≡ config.borders_color → m ≡ config.margin → mc ≡ config.margin_color
       → none ≡ [] → one ≡ none ++ colored_glyph g.right gc.right → both ≡ one ++ compact_indent m.right.fill m.right.size mc.right → both ≡ row_end config
   unfolding row_end
-  end-text glyphs colors margin painted begun first then =
-      then
+  end-text glyphs colors margin painted begun first last =
+      last
       ∙ ap (λ (text : Text). text ++ compact_indent m.right.fill m.right.size mc.right) (first ∙ ap (λ (text : Text). text ++ colored_glyph g.right gc.right) begun)
       ∙ rw (glyphs, colors, margin, painted) refl
 

@@ -168,21 +168,21 @@ module _ (t : Table) (r : Rectangle) (i : ℕ) (is : IsCellLine t r i) (reading 
   tall-lines = place-lines own text r.width r.height reading.place stands
 
   -- the line of it that was found by its place
-  module _ {found line : Text} {which : Option ℕ} (same : found ≡ text) (at_place : which ≡ text_line_at reading.place i) (is_line : line ≡ line_if found which) where
-    of_text : line ≡ line_if text (text_line_at reading.place i)
+  module _ {found text_line : Text} {which : Option ℕ} (same : found ≡ text) (at_place : which ≡ text_line_at reading.place i) (is_line : text_line ≡ line_if found which) where
+    of_text : text_line ≡ line_if text (text_line_at reading.place i)
     of_text = is_line ∙ ap₂ line_if same at_place
 
     -- has room
-    pub tall-room : HasRoomFor own reading.place r.width i line
-    tall-room = λ below above. room-of-line own text r.width r.height i reading.place line stands of_text (cell_fits-width own text r.width r.height tall is.room) below above
+    pub tall-room : HasRoomFor own reading.place r.width i text_line
+    tall-room = λ below above. room-of-line own text r.width r.height i reading.place text_line stands of_text (cell_fits-width own text r.width r.height tall is.room) below above
 
     -- and is that of the cell's block
-    pub tall-line : placed_line own (t.color r.corner) reading.place r.width i line ≡ block_line own (t.color r.corner) text r.width r.height i
-    tall-line = block_line-at own (t.color r.corner) text r.width r.height i reading.place line stands of_text
+    pub tall-line : placed_line own (t.color r.corner) reading.place r.width i text_line ≡ block_line own (t.color r.corner) text r.width r.height i
+    tall-line = block_line-at own (t.color r.corner) text r.width r.height i reading.place text_line stands of_text
 
 -- ---- lines that are read on from where the last one ended
 
 -- a lent line, or another where there is none
-pub lent-or : (line : Option (Bor (List ℕ))) (other : Bor (List ℕ)) → (unwrap_or line other).now ≡ unwrap_or (option_map (λ x. x.now) line) other.now
+pub lent-or : (text_line : Option (Bor (List ℕ))) (other : Bor (List ℕ)) → (unwrap_or text_line other).now ≡ unwrap_or (option_map (λ x. x.now) text_line) other.now
 lent-or None other = refl
-lent-or (Some line) other = refl
+lent-or (Some text_line) other = refl
