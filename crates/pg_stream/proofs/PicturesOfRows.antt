@@ -162,9 +162,9 @@ module _ (t : Table) (fit : TableFits t) where
     apart : Apart t.config.spans
     apart = apart_from t.config.spans t.columns (fit_columns t.config.spans t.rows t.columns fit.spans)
 
-    row-fits : (k : ℕ) → k < t.rows → RowFits (state_at t hint k) (cells_at t k) ((k + 1) == t.rows)
+    row-fits-at : (k : ℕ) → k < t.rows → RowFits (state_at t hint k) (cells_at t k) ((k + 1) == t.rows)
     unfolding state_at
-    row-fits k below = record {
+    row-fits-at k below = record {
       whole = length-map-range_with_len (λ c. t.text (at k c)) 0 t.columns;
       goes_on = grind (arith, nat_tests, below);
       rows = omega (arith, below, (totals_facts t fit.totals).rows);
@@ -178,12 +178,12 @@ module _ (t : Table) (fit : TableFits t) where
     unfolding texts_from
     rows-fit zero k e =
         let is : ((k + 1) == t.rows) ≡ true = grind (arith, nat_tests, e) in
-        (rw is at (row-fits k (omega (arith, e))))
+        (rw is at (row-fits-at k (omega (arith, e))))
     rows-fit (suc j) k e =
         let below : k < t.rows = omega (arith, e) in
         let is : ((k + 1) == t.rows) ≡ false = grind (arith, nat_tests, e) in
         let next : after_row (state_at t hint k) (cells_at t k) false ≡ state_at t hint (k + 1) = (rw is at (after_row-is t hint exact apart fit.spans k below)) in
-        ((rw is at (row-fits k below)), subst (λ (s : Printing). RowsFit s (texts_from t (k + 1) (suc j))) (sym next) (rows-fit j (k + 1) (omega (arith, e))))
+        ((rw is at (row-fits-at k below)), subst (λ (s : Printing). RowsFit s (texts_from t (k + 1) (suc j))) (sym next) (rows-fit j (k + 1) (omega (arith, e))))
 
     all-fit : 0 < t.rows → RowsFit (printer t.config t.columns t.width t.height t.color hint) (texts_of t)
     all-fit some =
