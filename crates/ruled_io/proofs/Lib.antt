@@ -1,4 +1,5 @@
 mod AtOnce
+mod BothWays
 mod Causes
 mod Drawn
 mod Fronts
@@ -7,6 +8,7 @@ mod HeadRows
 mod Inputs
 mod Readers
 mod Readings
+mod SameLines
 mod Shown
 mod Shows
 mod Tables

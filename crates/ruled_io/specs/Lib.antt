@@ -2,6 +2,7 @@ pub mod Databases
 pub mod Faults
 pub mod Formats
 pub mod Input
+pub mod Laws
 pub mod Names
 pub mod Output
 pub mod Reading

@@ -8,6 +8,7 @@ mod fault;
 mod formats;
 mod heads;
 mod input;
+mod laws;
 mod lines;
 mod name;
 mod output;
@@ -19,6 +20,7 @@ mod stream;
 
 pub use crate::fault::{InputFault, RunFault, StreamedFault};
 pub use crate::formats::{Format, Kind};
+pub use crate::laws::both_ways_show_one_text;
 pub use crate::name::{OneLine, Quoted};
 pub use crate::output::Output;
 pub use crate::program::{Ending, run};

@@ -1,0 +1,183 @@
+-- A run at once, and a stream whose first rows are all rows.
+use Rattle.std.proofs.Common.{◌≡◌, ◌∙◌, ◌∷◌, ◌≤◌, ℕ, suc, List, [], Bool, true, false, Option, None, Some, length, take, arith, refl, sym, ap, subst}
+use Rattle.std.specs.Prelude.{◌≢◌, ◌==◌, is_some, option_map, if◌then◌else◌}
+use Rattle.std.specs.Option.{option_or}
+use Rattle.std.proofs.lemmas.Bool.Decides.{nat_tests}
+use Rattle.std.proofs.lemmas.List.{take_all}
+use Rattle.pg_layout.specs.Text.{Text}
+use Rattle.ruled_csv.specs.Faults.{rows_fault}
+use Rattle.ruled_csv.proofs.SoundRows.{all-sound}
+use Rattle.ruled_json.specs.Streamed.{streamed_line_fault}
+use Rattle.ruled_table.specs.Columns.{column_fault}
+use Rattle.ruled_table.specs.Layouts.{first_fault, layout_of, start_fault, whole_text}
+use Rattle.ruled_table.specs.View.{table_fault, table_text, whole_fault, whole_table}
+use Rattle.ruled_table.specs.declared.options.Options.{Options}
+use Rattle.ruled_io.specs.Faults.{fault_of_json, fault_of_rows, of_view}
+use Rattle.ruled_io.specs.Formats.{content_of}
+use Rattle.ruled_io.specs.Input.{format_fault, input_fault, rows_in, rows_of}
+use Rattle.ruled_io.specs.Laws.{AllAreFirst, AtOnceShowsAsStreams, BothWaysFindOneFault, IsStreamable, ShowsEachRow, StreamsShowAsAtOnce}
+use Rattle.ruled_io.specs.Reading.{sound_rows, wrong_in}
+use Rattle.ruled_io.specs.Requests.{format_told, holds_database, rows_needed}
+use Rattle.ruled_io.specs.Runs.{AreRows, AreRowsAs}
+use Rattle.ruled_io.specs.Stream.{first_count, first_plan, first_wrong, record_count, shown_text, streamed_count, streamed_fault, streamed_format, streamed_rows, streamed_wrong}
+use Rattle.ruled_io.specs.declared.fault.InputFault.TheVariants.{Stream}
+use Rattle.ruled_io.specs.declared.fault.RunFault.{RunFault}
+use Rattle.ruled_io.specs.declared.fault.StreamedFault.TheVariants.{Database}
+use Rattle.ruled_io.specs.declared.formats.Format.{Format}
+use Rattle.ruled_io.specs.declared.formats.Format.TheVariants.{Separated, Json, JsonLines}
+use Rattle.ruled_io.specs.declared.formats.Known.{Known}
+use Rattle.ruled_io.specs.declared.request.Request.{Request}
+use Rattle.ruled_io.proofs.SameLines.{fine-at-once, rows-at-once, same-fault}
+
+unmapped : {X Y : Type 0} (f : X → Y) (found : Option X) → option_map f found ≡ None → found ≡ None
+unmapped f None none = refl
+unmapped f (Some x) none = absurd (cc)
+
+-- ---- the rows of a format
+
+-- where nothing is wrong with a stream, its rows are those at once
+same-rows : (records : ℕ) (bytes : List ℕ) (format : Format) → wrong_in format records bytes ≡ None
+    → (format_fault format bytes ≡ None) × (sound_rows format records bytes ≡ rows_of format bytes)
+same-rows records bytes (Separated dialect) none = (none, all-sound dialect bytes (unmapped fault_of_rows (rows_fault dialect bytes) none))
+same-rows records bytes Json none = absurd (cc)
+same-rows records bytes JsonLines none =
+    let fine : streamed_line_fault records bytes ≡ None = unmapped fault_of_json (streamed_line_fault records bytes) none in
+    (ap (option_map fault_of_json) (fine-at-once records bytes fine), rows-at-once records bytes fine)
+
+-- where the first rows are all, the same is wrong
+same-wrong : (options : Options) (count : ℕ) (bytes : List ℕ) (format : Format) → format ≢ Json → length (rows_of format bytes) ≤ first_count options format count
+    → wrong_in format (record_count count) bytes ≡ format_fault format bytes
+same-wrong options count bytes (Separated dialect) lines few = refl
+same-wrong options count bytes Json lines few = absurd (lines refl)
+same-wrong options count bytes JsonLines lines few = ap (option_map fault_of_json) (same-fault (record_count count) bytes (omega arith))
+
+-- ---- their table
+
+-- what is wrong with the table of first rows, if there are any
+abbrev some_fault : Options → List (List Text) → Option RunFault
+some_fault options rows = if length rows == 0 then None else option_map of_view (first_fault options rows)
+
+not-none : (n : ℕ) → (suc n == 0) ≡ false
+not-none n = grind (arith, nat_tests)
+
+once : {X : Type 0} (first second third : Option X) → option_or (option_or first second) third ≡ option_or first (option_or (option_or first second) third)
+once None second third = refl
+once (Some x) second third = refl
+
+whole-wrong : (options : Options) (rows : List (List Text)) → some_fault options rows ≡ option_map of_view (option_or (column_fault options.columns.items rows) (whole_fault options rows))
+whole-wrong options [] = refl
+whole-wrong options (row ∷ rows) =
+    ap (λ (none : Bool). if none then None else option_map of_view (first_fault options (row ∷ rows))) (not-none (length rows))
+    ∙ ap (option_map of_view) (once (column_fault options.columns.items (row ∷ rows)) _ (start_fault (layout_of options (row ∷ rows))))
+
+module _ (options : Options) (each : ShowsEachRow options) where
+  all-needed : rows_needed options ≡ None
+  all-needed = rw (each.padded, each.head) refl
+
+  module _ (count : ℕ) (rows : List (List Text)) (few : length rows ≤ count) where
+    all-first : take count rows ≡ rows
+    all-first = take_all count rows few
+
+    one-wrong : first_wrong options count rows None ≡ option_map of_view (table_fault options rows)
+    one-wrong =
+        let whole : table_fault options rows ≡ option_or (column_fault options.columns.items rows) (whole_fault options rows) = rw (each.padded, each.head, each.tail, each.vertical) refl in
+        ap (λ (first : List (List Text)). if length rows == 0 then None else option_map of_view (first_fault options first)) all-first
+        ∙ whole-wrong options rows ∙ sym (ap (option_map of_view) whole)
+
+    table-fine : first_wrong options count rows None ≡ None → table_fault options rows ≡ None
+    table-fine none = unmapped of_view (table_fault options rows) (sym one-wrong ∙ none)
+
+    one-text : first_wrong options count rows None ≡ None → shown_text options count rows None ≡ table_text options rows
+    one-text none =
+        let whole : table_text options rows ≡ whole_table options rows = rw (each.padded, each.head, each.tail, each.vertical) refl in
+        ap (λ (wrong : Option RunFault). if is_some wrong then [] else whole_text options (first_plan options count rows None) rows) none
+        ∙ ap (λ (first : List (List Text)). whole_text options (layout_of options first) rows) all-first ∙ sym whole
+
+-- ---- an input
+
+module _ (request : Request) (count : ℕ) (bytes : List ℕ) (all : AllAreFirst request count bytes) where
+  abbrev known : Known
+  known = format_told request.source
+
+  abbrev format : Format
+  format = streamed_format request count bytes
+
+  abbrev content : List ℕ
+  content = content_of format bytes
+
+  abbrev first : ℕ
+  first = streamed_count request count bytes
+
+  -- both ways read it in one format
+  format-fault : input_fault None known bytes ≡ format_fault format content
+  format-fault = ap (λ (f : Format). format_fault f (content_of f bytes)) all.format
+
+  format-rows : rows_in None known bytes ≡ rows_of format content
+  format-rows = ap (λ (f : Format). rows_of f (content_of f bytes)) all.format
+
+  held : (holds : Bool) → (if holds then Some (Stream Database) else wrong_in format (record_count count) content) ≡ None
+      → AreRowsAs None holds request.source bytes (if holds then [] else sound_rows format (record_count count) content)
+      × ((if holds then [] else sound_rows format (record_count count) content) ≡ rows_in None known bytes)
+  held true none = absurd (cc)
+  held false none =
+      let (fine, same) = same-rows (record_count count) content format none in
+      let these : sound_rows format (record_count count) content ≡ rows_in None known bytes = same ∙ sym format-rows in
+      ((format-fault ∙ fine, these), these)
+
+  rows-are : streamed_wrong request count bytes ≡ None
+      → AreRows None request.source bytes (streamed_rows request count bytes) × (streamed_rows request count bytes ≡ rows_in None known bytes)
+  unfolding streamed_rows streamed_wrong
+  rows-are none = held (holds_database request.source bytes) none
+
+  few : (rows : List (List Text)) → rows ≡ rows_in None known bytes → length rows ≤ first
+  few rows are = subst (λ (n : ℕ). n ≤ first) (ap length (sym are)) all.rows
+
+  wrong-is : IsStreamable request count bytes → streamed_wrong request count bytes ≡ input_fault None known bytes
+  unfolding streamed_wrong
+  wrong-is (file, lines) =
+      ap (λ (holds : Bool). if holds then Some (Stream Database) else wrong_in format (record_count count) content) file
+      ∙ same-wrong request.view count content format lines (few (rows_of format content) (sym format-rows)) ∙ sym format-fault
+
+  -- where nothing is wrong, the stream of these rows is what is shown
+  module _ (none : streamed_wrong request count bytes ≡ None) (rows : List (List Text)) (are : rows ≡ rows_in None known bytes) where
+    same : streamed_rows request count bytes ≡ rows
+    same = (rows-are none).1 ∙ sym are
+
+    fault-is : streamed_fault request count bytes ≡ first_wrong request.view first rows None
+    fault-is = ap (λ (r : List (List Text)). first_wrong request.view first r (streamed_wrong request count bytes)) same ∙ ap (first_wrong request.view first rows) none
+
+    text-is : shown_text request.view first (streamed_rows request count bytes) (streamed_wrong request count bytes) ≡ shown_text request.view first rows None
+    text-is = ap (λ (r : List (List Text)). shown_text request.view first r (streamed_wrong request count bytes)) same ∙ ap (shown_text request.view first rows) none
+
+pub streams-as-at-once : StreamsShowAsAtOnce
+streams-as-at-once request count bytes text all (right, none, is) =
+    let rows : List (List Text) = streamed_rows request count bytes in
+    let (are, same) = rows-are request count bytes all none in
+    let short : length rows ≤ streamed_count request count bytes = few request count bytes all rows same in
+    let fine : first_wrong request.view (streamed_count request count bytes) rows None ≡ None = sym (fault-is request count bytes all none rows same) ∙ right in (
+      rows,
+      subst (λ (limit : Option ℕ). AreRows limit request.source bytes rows) (sym (all-needed request.view all.options)) are,
+      table-fine request.view all.options (streamed_count request count bytes) rows short fine,
+      is ∙ text-is request count bytes all none rows same ∙ one-text request.view all.options (streamed_count request count bytes) rows short fine,
+    )
+
+pub at-once-as-streams : AtOnceShowsAsStreams
+at-once-as-streams request count bytes text all can (rows, needed, right, is) =
+    let are : AreRows None request.source bytes rows = subst (λ (limit : Option ℕ). AreRows limit request.source bytes rows) (all-needed request.view all.options) needed in
+    let (fine, same) = subst (λ (holds : Bool). AreRowsAs None holds request.source bytes rows) can.0 are in
+    let none : streamed_wrong request count bytes ≡ None = wrong-is request count bytes all can ∙ fine in
+    let short : length rows ≤ streamed_count request count bytes = few request count bytes all rows same in
+    let first : first_wrong request.view (streamed_count request count bytes) rows None ≡ None =
+    one-wrong request.view all.options (streamed_count request count bytes) rows short ∙ ap (option_map of_view) right in (
+      fault-is request count bytes all none rows same ∙ first,
+      none,
+      is ∙ sym (text-is request count bytes all none rows same ∙ one-text request.view all.options (streamed_count request count bytes) rows short first),
+    )
+
+pub one-fault : BothWaysFindOneFault
+one-fault request count bytes all can = (
+  wrong-is request count bytes all can,
+  λ none.
+      let rows : List (List Text) = rows_in None (format_told request.source) bytes in
+      fault-is request count bytes all none rows refl ∙ one-wrong request.view all.options (streamed_count request count bytes) rows all.rows,
+)
