@@ -1,4 +1,4 @@
-use Rattle.std.proofs.Common.{◌≡◌, ◌∙◌, ◌<◌, [], ℕ, List, None, Option, length, map, take, sym, ap, subst, arith}
+use Rattle.std.proofs.Common.{◌≡◌, ◌∙◌, ◌<◌, [], ℕ, List, None, Some, Option, Err, length, map, take, refl, sym, ap, subst, arith}
 use Rattle.std.specs.Prelude.{option_map}
 use Rattle.std.specs.Option.{option_or}
 use Rattle.std.proofs.lemmas.Bool.{eqb-true}
@@ -9,9 +9,10 @@ use Rattle.ruled_table.specs.Plans.{plan_in}
 use Rattle.ruled_table.specs.Layouts.{first_fault, layout_fault, layout_of, start_fault}
 use Rattle.ruled_table.specs.declared.fault.ViewFault.{ViewFault}
 use Rattle.ruled_io.specs.Faults.{of_view}
+use Rattle.ruled_io.specs.declared.fault.RunFault.TheVariants.{Input}
 use Rattle.ruled_io.specs.Reading.{Stands, sound_rows, wrong_in}
 use Rattle.ruled_io.specs.Steps.{wrong_within}
-use Rattle.ruled_io.proofs.Shows.{above-none, first-rows, judged, no-rows, none-ends, open-rows, refused-ends, some-rows, table-ends}
+use Rattle.ruled_io.proofs.Shows.{above-none, first-rows, judged, no-rows, none-ends, open-rows, refused-ends, short-rows, some-rows, table-ends, wrong-ends}
 use Rattle.ruled_io.proofs.stream.show_table.Goals as goal
 
 pub returns-then-is_empty-clause-ends : goal.returns-then-is_empty-clause-ends
@@ -24,6 +25,16 @@ returns-then-is_empty-clause-ends g c = λ format records all some enough stands
     let clean : wrong_within c.args.count (length given) c.args.reading ≡ None = ap (λ (n : ℕ). wrong_within c.args.count n c.args.reading) (sym count) ∙ sym c.wrong_within.ensures ∙ c.in_default.is in
     none-ends c.args.options.now c.args.count (sound_rows format records all) (wrong_in format records all) (g.W.Write.contents c.args.out.now.writer)
     (no-rows c.args.count format records all left given c.args.reading some zero enough stands clean)
+
+pub returns-in-Some-clause-ends : goal.returns-in-Some-clause-ends
+returns-in-Some-clause-ends g c = λ format records all some enough stands.
+    let given : List (List Text) = map fields_of c.args.rows.items in
+    let left = g.R.Read.remaining c.args.pieces.now.input in
+    let long : length given ≡ length c.args.rows.items = length-map c.args.rows.items fields_of in
+    let count : c.len.result ≡ length given = omega (arith, c.len.ensures, c.args.rows.ok, long) in
+    let bad : wrong_within c.args.count (length given) c.args.reading ≡ Some c.in-Some.fault = ap (λ (n : ℕ). wrong_within c.args.count n c.args.reading) (sym count) ∙ sym c.wrong_within.ensures ∙ c.in-Some.is in
+    wrong-ends c.args.options.now c.args.count (sound_rows format records all) (wrong_in format records all) {X = Unit {0}} (g.W.Write.contents c.args.out.now.writer) c.in-Some.fault (Err (Input c.in-Some.fault)) refl
+    (short-rows c.args.count format records all left given c.args.reading c.in-Some.fault stands bad)
 
 pub returns-in_err-layout-clause-ends : goal.returns-in_err-layout-clause-ends
 returns-in_err-layout-clause-ends g c = λ format records all some enough stands.
