@@ -1,6 +1,6 @@
--- Rows that are written when all of them are there.
+-- Rows that are written when all of them are there, and a run at once and one row by row.
 use Rattle.std.proofs.Common.{◌≡◌, ◌∙◌, ◌<◌, ℕ, Bool, true, false, List, [], ◌∷◌, ◌++◌, Option, Some, None, Result, Ok, Err, OnErr, OnOk, drop, length, map, append-nil, refl, sym, ap, subst, arith}
-use Rattle.std.specs.Prelude.{IfErr, not}
+use Rattle.std.specs.Prelude.{IfErr, not, IfSome}
 use Rattle.std.specs.List.{flat_map}
 use Rattle.std.specs.Option.{option_or}
 use Rattle.std.specs.Io.KnownBytes.{Appends, Keeps}
@@ -27,9 +27,14 @@ use Rattle.ruled_io.specs.Writing.{Begins}
 use Rattle.ruled_io.specs.declared.fault.RunFault.{RunFault}
 use Rattle.ruled_io.specs.declared.fault.RunFault.TheVariants.{Input, Read, Closed, Write}
 use Rattle.ruled_table.proofs.Tables.{chosen-named as tables-named}
-use Rattle.ruled_io.proofs.Drawn.{begun-none, begun-whole}
-use Rattle.ruled_io.proofs.Growing.{begins-behind, begins-longer, begins-none, grows-more, nears-more, nears-on}
-use Rattle.ruled_io.proofs.Written.{Goes, goes-end, goes-on}
+use Rattle.ruled_io.proofs.Written.{begun-none, begun-whole, begins-behind, begins-longer, begins-none, grows-more, nears-more, nears-on, Goes, goes-end, goes-on}
+use Rattle.ruled_io.specs.Runs.{CausedAtOnce, CausedBy, ShowsAll, ShowsBy}
+use Rattle.ruled_io.specs.Stream.{StreamsAll, streamed_text}
+use Rattle.ruled_io.specs.declared.request.Request.{Request}
+use Rattle.ruled_io.specs.declared.request.Rows.{Rows}
+use Rattle.ruled_io.specs.declared.request.Rows.TheVariants.{AtOnce, FromFirst}
+
+-- ---- rows that are written when all of them are there
 
 -- ---- faults
 
@@ -159,3 +164,34 @@ chosen-named options all rows are none = ap (column_fault options.columns.items)
 pub drop-one : {X Y : Type 0} (f : X → Y) (xs : List X) → map f (drop 1 xs) ≡ drop 1 (map f xs)
 drop-one f [] = refl
 drop-one f (x ∷ xs) = refl
+
+-- ---- a run at once, and one row by row, as a request asks for them
+
+module _ {X : Type 0} (given old new : Option (List ℕ)) (request : Request) (r : Result X RunFault) where
+  abbrev ShowsText : Rows → Type 0
+  ShowsText rows = OnOk r (IfSome given (λ bytes. (text : Text) × ShowsBy rows request bytes text × Appends old new text))
+
+  abbrev EndsBefore : Rows → Type 0
+  EndsBefore rows = IfErr r (λ fault. IfSome given (λ bytes. CausedBy rows request bytes fault old new))
+
+  pub once-shown : request.rows ≡ AtOnce → OnOk r (IfSome given (λ bytes. (text : Text) × ShowsAll request bytes text × Appends old new text)) → ShowsText request.rows
+  once-shown is shows = subst ShowsText (sym is) shows
+
+  pub once-caused : request.rows ≡ AtOnce → IfErr r (λ fault. IfSome given (λ bytes. CausedAtOnce request bytes fault old new)) → EndsBefore request.rows
+  once-caused is ends = subst EndsBefore (sym is) ends
+
+streamed-text : {X : Type 0} (given old new : Option (List ℕ)) (request : Request) (count : ℕ) (r : Result X RunFault) → IfSome given (λ bytes. StreamsAll request count bytes old new r) → ShowsText given old new request r (FromFirst count)
+streamed-text None old new request count (Ok x) streams = tt
+streamed-text (Some bytes) old new request count (Ok x) (none, fine, wrote) = (streamed_text request count bytes, (none, fine, refl), wrote)
+streamed-text given old new request count (Err fault) streams = tt
+
+streamed-cause : {X : Type 0} (given old new : Option (List ℕ)) (request : Request) (count : ℕ) (r : Result X RunFault) → IfSome given (λ bytes. StreamsAll request count bytes old new r) → EndsBefore given old new request r (FromFirst count)
+streamed-cause given old new request count (Ok x) streams = tt
+streamed-cause None old new request count (Err fault) streams = tt
+streamed-cause (Some bytes) old new request count (Err fault) streams = streams
+
+pub rows-shown : {X : Type 0} (given old new : Option (List ℕ)) (request : Request) (count : ℕ) (r : Result X RunFault) → request.rows ≡ FromFirst count → IfSome given (λ bytes. StreamsAll request count bytes old new r) → ShowsText given old new request r request.rows
+rows-shown given old new request count r is streams = subst (ShowsText given old new request r) (sym is) (streamed-text given old new request count r streams)
+
+pub rows-caused : {X : Type 0} (given old new : Option (List ℕ)) (request : Request) (count : ℕ) (r : Result X RunFault) → request.rows ≡ FromFirst count → IfSome given (λ bytes. StreamsAll request count bytes old new r) → EndsBefore given old new request r request.rows
+rows-caused given old new request count r is streams = subst (EndsBefore given old new request r) (sym is) (streamed-cause given old new request count r streams)

@@ -1,21 +1,21 @@
--- What is read of an input before its rows.
-use Rattle.std.proofs.Common.{◌≡◌, ◌∙◌, ◌<◌, ◌+◌, ◌-◌, ◌^◌, ℕ, Bool, true, false, List, [], ◌++◌, Option, Some, None, Result, Ok, Err, min, inl, inr, refl, sym, ap, subst, append-nil, arith}
-use Rattle.std.specs.Prelude.{◌==◌, IfOk, IfSome}
+-- What is read of an input before its rows, and its first rows.
+use Rattle.std.proofs.Common.{◌≡◌, ◌∙◌, ◌<◌, ◌+◌, ◌-◌, ◌^◌, ℕ, Bool, true, false, List, [], ◌++◌, Option, Some, None, Result, Ok, Err, min, inl, inr, refl, sym, ap, subst, append-nil, arith, ◌&&◌, ◌⊎◌, length, map, take, nat_lt, append_assoc}
+use Rattle.std.specs.Prelude.{◌==◌, IfOk, IfSome, IfErr, is_some, option_map, if◌then◌else◌}
 use Rattle.std.specs.Io.KnownBytes.{Consumes, IsAtEnd}
 use Rattle.std.specs.Result.{IsErrAnd}
-use Rattle.std.proofs.KnownBytes.{Consumes-trans}
+use Rattle.std.proofs.KnownBytes.{Consumes-trans, Consumes-all, Consumes-nil}
 use Rattle.std.proofs.lemmas.List.{append_cancel_left}
-use Rattle.std.proofs.lemmas.Bool.{cases_Bool, lt-ltb, true≢false}
+use Rattle.std.proofs.lemmas.Bool.{cases_Bool, lt-ltb, true≢false, false≢true}
 use Rattle.pg_layout.specs.Text.{Text}
 use Rattle.ruled_table.specs.declared.options.Options.{Options}
 use Rattle.csv.specs.Reading.{strip_bom}
-use Rattle.ruled_io.specs.Formats.{content_of, format_shown, format_streamed, is_database}
+use Rattle.ruled_io.specs.Formats.{content_of, format_shown, format_streamed, is_database, format_in, format_of_all, is_one_value, is_separated}
 use Rattle.ruled_io.specs.Reading.{BeginsSo, GoesOn, HoldsOn, ReadsFront, ShowsFormat, ShowsInput, ShowsSource, Stands, sound_rows, wrong_in}
 use Rattle.ruled_io.specs.Requests.{format_told, holds_database}
 use Rattle.ruled_io.specs.Stream.{Ends, StreamsAll, first_count, has_names, record_count, streamed_count, streamed_rows, streamed_wrong}
-use Rattle.ruled_io.specs.declared.fault.InputFault.TheVariants.{Stream}
+use Rattle.ruled_io.specs.declared.fault.InputFault.TheVariants.{Stream, Memory}
 use Rattle.ruled_io.specs.declared.fault.RunFault.{RunFault}
-use Rattle.ruled_io.specs.declared.fault.RunFault.TheVariants.{Input}
+use Rattle.ruled_io.specs.declared.fault.RunFault.TheVariants.{Input, Read, Closed, Write}
 use Rattle.ruled_io.specs.declared.fault.StreamedFault.TheVariants.{Database}
 use Rattle.ruled_io.specs.declared.formats.Format.{Format}
 use Rattle.ruled_io.specs.declared.formats.Format.TheVariants.{Separated, Json, JsonLines}
@@ -24,7 +24,16 @@ use Rattle.ruled_io.specs.declared.reader.Reading.{Reading}
 use Rattle.ruled_io.specs.declared.request.Request.{Request}
 use Rattle.ruled_io.specs.declared.request.Source.{Source}
 use Rattle.ruled_io.specs.declared.request.Source.TheVariants as source
-use Rattle.ruled_io.proofs.Shows.{above-none, wrong-ends}
+use Rattle.ruled_io.proofs.Shows.{above-none, wrong-ends, first-rows, open-rows, short-rows}
+use Rattle.ruled_csv.specs.declared.dialect.Dialect.{Dialect}
+use Rattle.ruled_io.specs.Faults.{IsOfRead, but_line_in, is_memory}
+use Rattle.ruled_io.specs.Input.{fault_within, input_fault, rows_in, rows_within}
+use Rattle.ruled_io.specs.Runs.{AreRows, AreRowsAs, LacksInput, LacksRows, LacksRowsAs}
+use Rattle.ruled_io.specs.Steps.{AreFirst, IsEnough, LacksFirst, fault_of_first, wrong_within}
+use Rattle.ruled_io.specs.declared.fault.InputFault.{InputFault}
+use Rattle.ruled_io.specs.declared.formats.Known.TheVariants as known
+
+-- ---- what is read of an input before its rows
 
 -- ---- the first bytes
 
@@ -34,25 +43,25 @@ took-none given mid left front piece took more none = subst (Consumes given left
 pub took-more : (given mid left : Option (List ℕ)) (front piece grown : List ℕ) → Consumes given mid front → Consumes mid left piece → grown ≡ front ++ piece → Consumes given left grown
 took-more given mid left front piece grown took more is = subst (Consumes given left) (sym is) (Consumes-trans given mid left front piece took more)
 
-pub shown-front : (known : Known) (given left : Option (List ℕ)) (front : List ℕ) → Consumes given left front → ((behind : List ℕ) → ShowsInput known front behind) → IfSome given (BeginsSo known front)
-shown-front known None left front took shows = tt
-shown-front known (Some all) None front took shows = absurd took
-shown-front known (Some all) (Some rest) front took shows = (rest, took, shows rest)
+pub shown-front : (given_format : Known) (given left : Option (List ℕ)) (front : List ℕ) → Consumes given left front → ((behind : List ℕ) → ShowsInput given_format front behind) → IfSome given (BeginsSo given_format front)
+shown-front given_format None left front took shows = tt
+shown-front given_format (Some all) None front took shows = absurd took
+shown-front given_format (Some all) (Some rest) front took shows = (rest, took, shows rest)
 
 -- all of it shows itself
 content-whole : (format : Format) (bytes : List ℕ) → HoldsOn format bytes []
 content-whole format bytes = ap (content_of format) (append-nil bytes) ∙ sym (append-nil (content_of format bytes))
 
-shows-whole : (known : Known) (bytes : List ℕ) → ShowsInput known bytes []
-shows-whole known bytes = record {
+shows-whole : (given_format : Known) (bytes : List ℕ) → ShowsInput given_format bytes []
+shows-whole given_format bytes = record {
   database = ap is_database (append-nil bytes);
-  rows = record { format = ap (λ (xs : List ℕ). format_shown known (strip_bom xs)) (append-nil bytes); content = content-whole (format_shown known (strip_bom bytes)) bytes };
+  rows = record { format = ap (λ (xs : List ℕ). format_shown given_format (strip_bom xs)) (append-nil bytes); content = content-whole (format_shown given_format (strip_bom bytes)) bytes };
 }
 
-pub shown-all : (known : Known) (given mid : Option (List ℕ)) (front : List ℕ) → Consumes given mid front → IsAtEnd mid → IfSome given (BeginsSo known front)
-shown-all known None mid front took end = tt
-shown-all known (Some all) None front took end = absurd took
-shown-all known (Some all) (Some rest) front took end = ([], took ∙ ap (λ (xs : List ℕ). front ++ xs) end, shows-whole known front)
+pub shown-all : (given_format : Known) (given mid : Option (List ℕ)) (front : List ℕ) → Consumes given mid front → IsAtEnd mid → IfSome given (BeginsSo given_format front)
+shown-all given_format None mid front took end = tt
+shown-all given_format (Some all) None front took end = absurd took
+shown-all given_format (Some all) (Some rest) front took end = ([], took ∙ ap (λ (xs : List ℕ). front ++ xs) end, shows-whole given_format front)
 
 source-shows : (s : Source) (front behind : List ℕ) → ShowsInput (format_told s) front behind → ShowsSource s front behind
 source-shows (source.Rows format) front behind shows = (refl, λ none. shows.rows)
@@ -61,12 +70,12 @@ source-shows (source.Seen log is_ragged) front behind shows = (shows.database, �
 source-shows (source.Database selection log) front behind shows = (refl, λ none. absurd (true≢false none))
 
 -- its first bytes are read
-pub front-seen : {V : Type 0} (items : V → List ℕ) (s : Source) (given left : Option (List ℕ)) (known : Known) (result : Result V RunFault) → known ≡ format_told s
-    → IfOk result (λ front. Consumes given left (items front)) → IfOk result (λ front. IfSome given (BeginsSo known (items front))) → IfOk result (λ front. IfSome given (λ all. ReadsFront s all left (items front)))
-front-seen items s given left known (Err fault) told took shows = tt
-front-seen items s None left known (Ok front) told took shows = tt
-front-seen items s (Some all) None known (Ok front) told took shows = absurd took
-front-seen items s (Some all) (Some rest) known (Ok front) told took (behind, is, begins) =
+pub front-seen : {V : Type 0} (items : V → List ℕ) (s : Source) (given left : Option (List ℕ)) (given_format : Known) (result : Result V RunFault) → given_format ≡ format_told s
+    → IfOk result (λ front. Consumes given left (items front)) → IfOk result (λ front. IfSome given (BeginsSo given_format (items front))) → IfOk result (λ front. IfSome given (λ all. ReadsFront s all left (items front)))
+front-seen items s given left given_format (Err fault) told took shows = tt
+front-seen items s None left given_format (Ok front) told took shows = tt
+front-seen items s (Some all) None given_format (Ok front) told took shows = absurd took
+front-seen items s (Some all) (Some rest) given_format (Ok front) told took (behind, is, begins) =
     let same : rest ≡ behind = append_cancel_left (items front) rest behind (sym took ∙ is) in
     (behind, is, ap (λ (xs : List ℕ). Some xs) same, source-shows s (items front) behind (subst (λ (k : Known). ShowsInput k (items front) behind) told begins))
 
@@ -100,9 +109,9 @@ pub rows-end-so : {X : Type 0} (request : Request) (count : ℕ) (front rest all
     → Ends request.view (first_count request.view format count) (sound_rows format (record_count count) (content_of format front ++ rest)) (wrong_in format (record_count count) (content_of format front ++ rest)) old new result → StreamsAll request count all old new result
 unfolding streamed_rows streamed_wrong
 rows-end-so request count front rest all format old new result is (same, shows) none shown ends =
-    let known : Known = format_told request.source in
-    let both : ShowsFormat known front rest = shows none in
-    let formats : format ≡ format_streamed known all = shown ∙ sym (ap (λ (xs : List ℕ). format_shown known (strip_bom xs)) is ∙ both.format) in
+    let given_format : Known = format_told request.source in
+    let both : ShowsFormat given_format front rest = shows none in
+    let formats : format ≡ format_streamed given_format all = shown ∙ sym (ap (λ (xs : List ℕ). format_shown given_format (strip_bom xs)) is ∙ both.format) in
     let content : content_of format front ++ rest ≡ content_of format all =
     sym (
     ap (content_of format) is ∙ ap (λ (f : Format). content_of f (front ++ rest)) shown ∙ both.content
@@ -125,3 +134,157 @@ if-more (Some bytes) p q = q bytes refl p
 -- rows that the first bytes give
 pub stands-so : (format : Format) (records : ℕ) (all : List ℕ) (left : Option (List ℕ)) (old new : List (List Text)) (reading : Reading) → old ≡ [] → GoesOn format records all left [] old new reading → Stands format records all left new reading
 stands-so format records all left old new reading none (more, is, stands) = subst (λ (rows : List (List Text)). Stands format records all left rows reading) (sym (is ∙ ap (λ (xs : List (List Text)). xs ++ more) none)) stands
+
+-- ---- the first rows of an input
+
+-- ---- what is left of an input
+
+-- so much was read behind these bytes
+abbrev pub Rested : List ℕ → List ℕ → Option (List ℕ) → Option (List ℕ) → Type 0
+Rested front held given left = (done : List ℕ) × (held ≡ front ++ done) × Consumes given left done
+
+pub rest-begin : (front : List ℕ) (given : Option (List ℕ)) → Rested front front given given
+rest-begin front given = ([], sym (append-nil front), Consumes-nil given)
+
+pub rest-more : (front held grown piece : List ℕ) (given mid left : Option (List ℕ)) → Rested front held given mid → Consumes mid left piece → grown ≡ held ++ piece → Rested front grown given left
+rest-more front held grown piece given mid left (done, is, took) next more =
+    (done ++ piece, more ∙ ap (λ (xs : List ℕ). xs ++ piece) is ∙ append_assoc front done piece, Consumes-trans given mid left done piece took next)
+
+pub rest-all : (front held : List ℕ) (given mid : Option (List ℕ)) → Rested front held given mid → IsAtEnd mid → IfSome given (λ rest. held ≡ front ++ rest)
+rest-all front held given mid (done, is, took) end = Consumes-all given mid done front held took end is
+
+-- ---- the first rows
+
+module _ (format : Format) (limit : ℕ) (all : List ℕ) (left : Option (List ℕ)) (given : List (List Text)) (reading : Reading) (enough : IsEnough limit given reading) (stands : Stands format 1 all left given reading) where
+  -- nothing is wrong with them
+  pub first-are : wrong_within limit (length given) reading ≡ None → AreFirst format limit all (take limit given)
+  first-are none = (fine (wrong_in format 1 all) (nat_lt (length (sound_rows format 1 all)) limit) (open-rows limit format 1 all left given reading enough stands none), first-rows limit format 1 all left given reading enough stands) where
+    fine : (wrong : Option InputFault) (short : Bool) → (is_some wrong && short) ≡ false → (if short then wrong else None) ≡ None
+    fine wrong false whole = refl
+    fine None true whole = refl
+    fine (Some fault) true whole = absurd (true≢false whole)
+
+  -- they end at a bad one
+  pub first-lack : (fault : InputFault) → wrong_within limit (length given) reading ≡ Some fault → fault_of_first format limit all ≡ Some (but_line_in fault)
+  first-lack fault some = let (wrong, short) = short-rows limit format 1 all left given reading fault stands some in rw (short, wrong) refl
+
+pub read-first : (format : Format) (limit : ℕ) (all : List ℕ) (found : RunFault) → IsOfRead found → LacksFirst format limit all found
+read-first format limit all found (inl memory) = subst (LacksFirst format limit all) (sym memory) (λ soft. absurd (true≢false soft))
+read-first format limit all found (inr read) = subst (LacksFirst format limit all) (sym read) tt
+
+-- ---- the format of an input by its first bytes
+
+shown-in : (k : Known) (text : List ℕ) (dialect : Dialect) → format_shown k text ≡ Separated dialect → format_of_all k text ≡ Separated dialect
+shown-in (known.Format format) text dialect is = is
+shown-in (known.Values is_ragged) text dialect is = is
+shown-in (known.Nothing is_ragged) text dialect is = rw is refl
+
+other-in : (k : Known) (text : List ℕ) → is_separated (format_shown k text) ≡ false → is_separated (format_of_all k text) ≡ false
+other-in k text other = elim (cases_Bool (is_one_value k (format_shown k text) text)) [
+  | inl one ↦ rw one refl
+  | inr more ↦ rw more other
+]
+
+-- of another format, no row is left out
+within-other : (limit : ℕ) (format : Format) (bytes : List ℕ) → is_separated format ≡ false → (rows_within (Some limit) format bytes ≡ rows_within None format bytes) × (fault_within (Some limit) format bytes ≡ fault_within None format bytes)
+within-other limit (Separated dialect) bytes other = absurd (true≢false other)
+within-other limit Json bytes other = (refl, refl)
+within-other limit JsonLines bytes other = (refl, refl)
+
+module _ (origin : Source) (limit : ℕ) (bytes : List ℕ) where
+  other-rows : (holds : Bool) (rows : List (List Text)) → (holds ≡ false → is_separated (format_in (format_told origin) bytes) ≡ false) → AreRowsAs None holds origin bytes rows → AreRowsAs (Some limit) holds origin bytes rows
+  other-rows true rows other are = are
+  other-rows false rows other (fine, are) =
+      let format : Format = format_in (format_told origin) bytes in
+      let (same, told) = within-other limit format (content_of format bytes) (other refl) in
+      (told ∙ fine, are ∙ sym same)
+
+  other-lacks : (holds : Bool) (fault : InputFault) → (holds ≡ false → is_separated (format_in (format_told origin) bytes) ≡ false) → LacksRowsAs None holds origin bytes fault → LacksRowsAs (Some limit) holds origin bytes fault
+  other-lacks true fault other lacks = go fault lacks where
+    go : (f : InputFault) → LacksRowsAs None true origin bytes f → LacksRowsAs (Some limit) true origin bytes f
+    go f lacks = lacks
+  other-lacks false fault other lacks = λ soft. (within-other limit (format_in (format_told origin) bytes) (content_of (format_in (format_told origin) bytes) bytes) (other refl)).1 ∙ lacks soft
+
+-- ---- an input of which the first bytes were read
+
+module _ (origin : Source) (limit : ℕ) (front : List ℕ) where
+  -- it is a database, or has another format
+  abbrev pub IsOther : Type 0
+  IsOther = (holds_database origin front ≡ true) ⊎ (is_separated (format_streamed (format_told origin) front) ≡ false)
+
+  other-format : (all rest : List ℕ) → all ≡ front ++ rest → ShowsSource origin front rest → IsOther → holds_database origin all ≡ false → is_separated (format_in (format_told origin) all) ≡ false
+  other-format all rest is (same, shows) (inl holds) none = absurd (true≢false (sym (ap (holds_database origin) is ∙ same ∙ holds) ∙ none))
+  other-format all rest is (same, shows) (inr other) none =
+      let here : holds_database origin front ≡ false = sym (ap (holds_database origin) is ∙ same) ∙ none in
+      other-in (format_told origin) (strip_bom all) (ap (λ (bytes : List ℕ). is_separated (format_shown (format_told origin) (strip_bom bytes))) is ∙ ap is_separated (shows here).format ∙ other)
+
+  known-rest : (P : List ℕ → Type 0) (left : Option (List ℕ)) (rest : List ℕ) → left ≡ Some rest → IfSome left P → P rest
+  known-rest P left rest is holds = subst (λ (l : Option (List ℕ)). IfSome l P) is holds
+
+  -- then all of it is read
+  pub whole-rows : {V : Type 0} (view : V → List (List Text)) (given left : Option (List ℕ)) (result : Result V RunFault) → IsOther → IfSome given (λ all. ReadsFront origin all left front)
+      → IfOk result (λ v. IfSome left (λ rest. AreRows None origin (front ++ rest) (view v))) → IfOk result (λ v. IfSome given (λ all. AreRows (Some limit) origin all (view v)))
+  whole-rows view given left (Err fault) other reads rows = tt
+  whole-rows view None left (Ok v) other reads rows = tt
+  whole-rows view (Some all) left (Ok v) other (rest, is, left-is, shows) rows =
+      let these : AreRows None origin (front ++ rest) (view v) = known-rest (λ bytes. AreRows None origin (front ++ bytes) (view v)) left rest left-is rows in
+      other-rows origin limit all (holds_database origin all) (view v) (other-format all rest is shows other) (subst (λ (bytes : List ℕ). AreRows None origin bytes (view v)) (sym is) these)
+
+  lacks-whole : (all : List ℕ) (fault : RunFault) → (holds_database origin all ≡ false → is_separated (format_in (format_told origin) all) ≡ false) → LacksInput None origin all fault → LacksInput (Some limit) origin all fault
+  lacks-whole all (Input fault) other lacks = other-lacks origin limit all (holds_database origin all) fault other lacks
+  lacks-whole all Read other lacks = lacks
+  lacks-whole all Closed other lacks = lacks
+  lacks-whole all Write other lacks = lacks
+
+  pub whole-lacks : {V : Type 0} (given left : Option (List ℕ)) (result : Result V RunFault) → IsOther → IfSome given (λ all. ReadsFront origin all left front)
+      → IfErr result (λ fault. IfSome left (λ rest. LacksInput None origin (front ++ rest) fault)) → IfErr result (λ fault. IfSome given (λ all. LacksInput (Some limit) origin all fault))
+  whole-lacks given left (Ok v) other reads lacks = tt
+  whole-lacks None left (Err fault) other reads lacks = tt
+  whole-lacks (Some all) left (Err fault) other (rest, is, left-is, shows) lacks =
+      let these : LacksInput None origin (front ++ rest) fault = known-rest (λ bytes. LacksInput None origin (front ++ bytes) fault) left rest left-is lacks in
+      lacks-whole all fault (other-format all rest is shows other) (subst (λ (bytes : List ℕ). LacksInput None origin bytes fault) (sym is) these)
+
+  -- else its first rows
+  module _ (none : holds_database origin front ≡ false) (dialect : Dialect) (seen : format_streamed (format_told origin) front ≡ Separated dialect) where
+    in-is : (all rest : List ℕ) → all ≡ front ++ rest → ShowsSource origin front rest → format_in (format_told origin) all ≡ Separated dialect
+    in-is all rest is (same, shows) =
+        shown-in (format_told origin) (strip_bom all) dialect (ap (λ (bytes : List ℕ). format_shown (format_told origin) (strip_bom bytes)) is ∙ (shows none).format ∙ seen)
+
+    content-is : (all rest : List ℕ) → all ≡ front ++ rest → ShowsSource origin front rest → content_of (Separated dialect) all ≡ content_of (Separated dialect) front ++ rest
+    content-is all rest is (same, shows) =
+        ap (content_of (Separated dialect)) is ∙ subst (λ (format : Format). content_of format (front ++ rest) ≡ content_of format front ++ rest) seen (shows none).content
+
+    holds-is : (all rest : List ℕ) → all ≡ front ++ rest → ShowsSource origin front rest → holds_database origin all ≡ false
+    holds-is all rest is (same, shows) = ap (holds_database origin) is ∙ same ∙ none
+
+    heads-are : (all content : List ℕ) (rows : List (List Text)) → format_in (format_told origin) all ≡ Separated dialect → content_of (Separated dialect) all ≡ content → AreFirst (Separated dialect) limit content rows
+        → AreRowsAs (Some limit) false origin all rows
+    heads-are all content rows format content-same first = rw (format, content-same) first
+
+    heads-lack : (all content : List ℕ) (fault : RunFault) → format_in (format_told origin) all ≡ Separated dialect → content_of (Separated dialect) all ≡ content → holds_database origin all ≡ false → LacksFirst (Separated dialect) limit content fault
+        → LacksInput (Some limit) origin all fault
+    heads-lack all content (Input fault) format content-same holds lacks = subst (λ (h : Bool). LacksRowsAs (Some limit) h origin all fault) (sym holds) (λ soft. rw (format, content-same) (lacks soft))
+    heads-lack all content Read format content-same holds lacks = lacks
+    heads-lack all content Closed format content-same holds lacks = lacks
+    heads-lack all content Write format content-same holds lacks = lacks
+
+    pub first-rows-are : {V : Type 0} (view : V → List (List Text)) (given left : Option (List ℕ)) (result : Result V RunFault) → IfSome given (λ all. ReadsFront origin all left front)
+        → ((rest : List ℕ) → left ≡ Some rest → IfOk result (λ v. AreFirst (Separated dialect) limit (content_of (Separated dialect) front ++ rest) (view v))) → IfOk result (λ v. IfSome given (λ all. AreRows (Some limit) origin all (view v)))
+    first-rows-are view given left (Err fault) reads rows = tt
+    first-rows-are view None left (Ok v) reads rows = tt
+    first-rows-are view (Some all) left (Ok v) (rest, is, left-is, shows) rows =
+        subst (λ (h : Bool). AreRowsAs (Some limit) h origin all (view v)) (sym (holds-is all rest is shows))
+        (heads-are all (content_of (Separated dialect) front ++ rest) (view v) (in-is all rest is shows) (content-is all rest is shows) (rows rest left-is))
+
+    pub first-rows-lack : {V : Type 0} (given left : Option (List ℕ)) (result : Result V RunFault) → IfSome given (λ all. ReadsFront origin all left front)
+        → ((rest : List ℕ) → left ≡ Some rest → IfErr result (LacksFirst (Separated dialect) limit (content_of (Separated dialect) front ++ rest))) → IfErr result (λ fault. IfSome given (λ all. LacksInput (Some limit) origin all fault))
+    first-rows-lack given left (Ok v) reads lacks = tt
+    first-rows-lack None left (Err fault) reads lacks = tt
+    first-rows-lack (Some all) left (Err fault) (rest, is, left-is, shows) lacks =
+        heads-lack all (content_of (Separated dialect) front ++ rest) fault (in-is all rest is shows) (content-is all rest is shows) (holds-is all rest is shows) (lacks rest left-is)
+
+-- separated values have a dialect
+pub dialect-of : (format : Format) → is_separated format ≡ true → (dialect : Dialect) × (format ≡ Separated dialect)
+dialect-of (Separated dialect) is = (dialect, refl)
+dialect-of Json is = absurd (false≢true is)
+dialect-of JsonLines is = absurd (false≢true is)

@@ -1,15 +1,10 @@
 mod AtOnce
 mod BothWays
 mod Causes
-mod Drawn
+mod Written
 mod Fronts
-mod Growing
-mod HeadRows
 mod Inputs
 mod Readers
-mod Readings
 mod SameLines
-mod Shown
 mod Shows
 mod Tables
-mod Written

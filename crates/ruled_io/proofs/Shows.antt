@@ -25,10 +25,9 @@ use Rattle.ruled_io.specs.declared.fault.RunFault.TheVariants.{Input}
 use Rattle.ruled_io.specs.declared.formats.Format.{Format}
 use Rattle.ruled_io.specs.declared.reader.Reading.{Reading}
 use Rattle.ruled_io.specs.declared.reader.Reading.TheVariants.{More, Done}
-use Rattle.ruled_io.proofs.Drawn.{begun-none, whole-none}
+use Rattle.ruled_io.proofs.Written.{begun-none, whole-none, begins-kept, begins-none}
 use Rattle.ruled_io.proofs.Fronts.{and-false}
-use Rattle.ruled_io.proofs.Growing.{begins-kept, begins-none}
-use Rattle.ruled_io.proofs.Readings.{stands-begin}
+use Rattle.ruled_io.proofs.Readers.{stands-begin}
 
 -- ---- the first rows of an input
 

@@ -27,9 +27,8 @@ use Rattle.ruled_io.specs.declared.formats.Format.{Format}
 use Rattle.ruled_io.specs.declared.reader.Reader.{Reader}
 use Rattle.ruled_io.specs.declared.reader.Reading.{Reading}
 use Rattle.ruled_io.specs.declared.reader.Reading.TheVariants.{More, Done}
-use Rattle.ruled_io.proofs.Drawn.{begun-on, begun-whole}
-use Rattle.ruled_io.proofs.Growing.{grows-kept, grows-more, grows-nears, grows-none, nears-more, nears-none, nears-on}
-use Rattle.ruled_io.proofs.Readings.{stands-begin}
+use Rattle.ruled_io.proofs.Written.{begun-on, begun-whole, grows-kept, grows-more, grows-nears, grows-none, nears-more, nears-none, nears-on}
+use Rattle.ruled_io.proofs.Readers.{stands-begin}
 
 -- ---- faults
 

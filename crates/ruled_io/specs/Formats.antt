@@ -1,5 +1,6 @@
 -- The format of bytes, by its name or by what they show.
-use Rattle.std.specs.Prelude.{ℕ, ◌==◌, ◌&&◌, ◌||◌, ◌++◌, ◌∷◌, [], not, codes, bytes_eq, nat_eq, nat_lt, List, drop, find, get_or, length, take, position, false, true, Bool, Option, Some, None, is_some, unwrap_or, if◌then◌else◌}
+use Rattle.std.specs.Prelude.{ℕ, ◌==◌, ◌&&◌, ◌||◌, ◌++◌, ◌∷◌, [], not, codes, bytes_eq, nat_eq, nat_lt, List, drop, find, get_or, length, take, position, false, true, Bool}
+use Rattle.std.specs.Prelude.{Option, Some, None, is_some, unwrap_or, if◌then◌else◌}
 use Rattle.std.specs.List.{count_by, starts_with}
 use Rattle.std.specs.Option.{option_map_or}
 use Rattle.csv.specs.Reading.{strip_bom}

@@ -64,7 +64,8 @@ ShowsAll request bytes text = (rows : List (List Text)) × AreRows (rows_needed 
 -- there are no rows, or they have no table
 abbrev pub CausedAll : Request → List ℕ → InputFault → Type 0
 CausedAll request bytes fault =
-    LacksRows (rows_needed request.view) request.source bytes fault ⊎ ((rows : List (List Text)) × AreRows (rows_needed request.view) request.source bytes rows × (option_map fault_of_view (table_fault request.view rows) ≡ Some fault))
+    LacksRows (rows_needed request.view) request.source bytes fault
+    ⊎ ((rows : List (List Text)) × AreRows (rows_needed request.view) request.source bytes rows × (option_map fault_of_view (table_fault request.view rows) ≡ Some fault))
 
 -- ---- a run
 

@@ -43,7 +43,8 @@ module _ (options : Options) (plan : Plan) (above rows : List (List Text)) (old 
 
   -- those in front of one that no room is left for
   abbrev pub StopsIn : Type 0
-  StopsIn = (done behind : List (List Text)) × (row : List Text) × (rows ≡ done ++ row ∷ behind) × HasNoRoom options plan (above ++ done) row × Grows (begun_text options plan above) (begun_text options plan (above ++ done)) old new
+  StopsIn = (done behind : List (List Text)) × (row : List Text) × (rows ≡ done ++ row ∷ behind) × HasNoRoom options plan (above ++ done) row
+      × Grows (begun_text options plan above) (begun_text options plan (above ++ done)) old new
 
   -- why not all are written
   abbrev pub FailsIn : RunFault → Type 0
@@ -52,7 +53,8 @@ module _ (options : Options) (plan : Plan) (above rows : List (List Text)) (old 
 module _ (options : Options) (plan : Plan) (rows : List (List Text)) (wrong : Option InputFault) (above : List (List Text)) (old new : Option (List ℕ)) where
   -- the lines of all these rows up to one that no room is left for, where those above are written
   abbrev pub StopsBelow : Type 0
-  StopsBelow = (done behind : List (List Text)) × (row : List Text) × (rows ≡ done ++ row ∷ behind) × HasNoRoom options plan done row × Grows (begun_text options plan above) (begun_text options plan done) old new
+  StopsBelow = (done behind : List (List Text)) × (row : List Text) × (rows ≡ done ++ row ∷ behind) × HasNoRoom options plan done row
+      × Grows (begun_text options plan above) (begun_text options plan done) old new
 
   -- all are written, and the table is ended where nothing is wrong
   abbrev pub EndsBelow : {X : Type 0} → Result X RunFault → Type 0

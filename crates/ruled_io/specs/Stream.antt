@@ -1,5 +1,6 @@
 -- Rows that are shown one after another, each when it comes, in the layout of the first ones.
-use Rattle.std.specs.Prelude.{◌≡◌, ◌⊎◌, ℕ, ◌+◌, ◌-◌, ◌^◌, min, nat_lt, ◌==◌, ◌&&◌, is_some, Bool, true, false, List, [], ◌∷◌, ◌++◌, take, length, Option, Some, None, option_map, Result, Ok, Err, if◌then◌else◌}
+use Rattle.std.specs.Prelude.{◌≡◌, ◌⊎◌, ℕ, ◌+◌, ◌-◌, ◌^◌, min, nat_lt, ◌==◌, ◌&&◌, is_some, Bool, true, false, List, [], ◌∷◌, ◌++◌, take, length, Option, Some, None, option_map}
+use Rattle.std.specs.Prelude.{Result, Ok, Err, if◌then◌else◌}
 use Rattle.std.specs.Io.KnownBytes.{Appends}
 use Rattle.pg_layout.specs.Text.{Text}
 use Rattle.ruled_table.specs.Layouts.{first_fault, layout_of, whole_text}

@@ -85,8 +85,10 @@ fn write_lines<W: Write + Drop>(
     rows: &[StringRecord],
     out: &mut Output<W>,
 ) -> Result<(), RunFault>
-    ensures lines { (options : Options) (plan : Plan) → HasAppended options plan [] table.entry → OnOk result (Appends (W.contents out.old.writer) (W.contents out.new.writer) (whole_text options plan (map fields_of rows.now))) }
-    ensures begun { (options : Options) (plan : Plan) → HasAppended options plan [] table.entry → OnErr result (Begins (W.contents out.old.writer) (W.contents out.new.writer) (whole_text options plan (map fields_of rows.now))) }
+    ensures lines { (options : Options) (plan : Plan) → HasAppended options plan [] table.entry
+        → OnOk result (Appends (W.contents out.old.writer) (W.contents out.new.writer) (whole_text options plan (map fields_of rows.now))) }
+    ensures begun { (options : Options) (plan : Plan) → HasAppended options plan [] table.entry
+        → OnErr result (Begins (W.contents out.old.writer) (W.contents out.new.writer) (whole_text options plan (map fields_of rows.now))) }
     ensures told { TellsWrite (failure_of out.old) (failure_of out.new) result }
     ensures writes { IfErr result (λ fault. is_read fault ≡ false) }
 {
@@ -114,7 +116,8 @@ fn write_whole<W: Write + Drop>(
     rows: &[StringRecord],
     out: &mut Output<W>,
 ) -> Result<(), RunFault>
-    ensures draws { (options : Options) (plan : Plan) → HasAppended options plan [] table.entry → DrawsInMemory (whole_text options plan (map fields_of rows.now)) None (W.contents out.old.writer) (W.contents out.new.writer) result }
+    ensures draws { (options : Options) (plan : Plan) → HasAppended options plan [] table.entry
+        → DrawsInMemory (whole_text options plan (map fields_of rows.now)) None (W.contents out.old.writer) (W.contents out.new.writer) result }
     ensures told { TellsWrite (failure_of out.old) (failure_of out.new) result }
 {
     match write_lines(alloc, table, rows, out) {
@@ -147,7 +150,8 @@ fn write_block<W: Write + Drop>(
     fields: &StringRecord,
     out: &mut Output<W>,
 ) -> Result<(), RunFault>
-    ensures draws { (options : Options) (rows : List (List Text)) → HasNames options rows blocks.now → DrawsInMemory (record_block options rows (fields_of fields.now)) (record_fault options rows (fields_of fields.now)) (W.contents out.old.writer) (W.contents out.new.writer) result }
+    ensures draws { (options : Options) (rows : List (List Text)) → HasNames options rows blocks.now
+        → DrawsInMemory (record_block options rows (fields_of fields.now)) (record_fault options rows (fields_of fields.now)) (W.contents out.old.writer) (W.contents out.new.writer) result }
     ensures told { TellsWrite (failure_of out.old) (failure_of out.new) result }
 {
     match blocks.block(fields) {
@@ -162,7 +166,8 @@ fn write_blocks<W: Write + Drop>(
     records: &[StringRecord],
     out: &mut Output<W>,
 ) -> Result<(), RunFault>
-    ensures draws { (options : Options) (rows : List (List Text)) → HasNames options rows blocks.now → DrawsInMemory (flat_map (record_block options rows) (map fields_of records.now)) (records_fault options rows (map fields_of records.now)) (W.contents out.old.writer) (W.contents out.new.writer) result }
+    ensures draws { (options : Options) (rows : List (List Text)) → HasNames options rows blocks.now
+        → DrawsInMemory (flat_map (record_block options rows) (map fields_of records.now)) (records_fault options rows (map fields_of records.now)) (W.contents out.old.writer) (W.contents out.new.writer) result }
     ensures told { TellsWrite (failure_of out.old) (failure_of out.new) result }
 {
     for fields in records {
@@ -188,7 +193,8 @@ fn show_blocks<W: Write + Drop>(
     rows: &[StringRecord],
     out: &mut Output<W>,
 ) -> Result<(), RunFault>
-    ensures draws { column_fault options.now.columns.items (map fields_of rows.now) ≡ None → Draws (blocks_text options.now (map fields_of rows.now)) (blocks_fault options.now (map fields_of rows.now)) (W.contents out.old.writer) (W.contents out.new.writer) result }
+    ensures draws { column_fault options.now.columns.items (map fields_of rows.now) ≡ None
+        → Draws (blocks_text options.now (map fields_of rows.now)) (blocks_fault options.now (map fields_of rows.now)) (W.contents out.old.writer) (W.contents out.new.writer) result }
     ensures told { TellsWrite (failure_of out.old) (failure_of out.new) result }
 {
     let blocks = Blocks::new(alloc, options, rows)?;

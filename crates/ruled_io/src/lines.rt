@@ -22,9 +22,12 @@ fn write_row<W: Write + Drop>(
     buf: &mut String,
     out: &mut Output<W>,
 ) -> Result<(), RunFault>
-    ensures after { (options : Options) (plan : Plan) (above : List (List (List ℕ))) → HasAppended options plan above table.old → OnOk result (HasAppended options plan (above ++ fields_of fields.now ∷ []) table.new) }
-    ensures written { (options : Options) (plan : Plan) (above : List (List (List ℕ))) → HasAppended options plan above table.old → OnOk result (WritesRows options plan above (fields_of fields.now ∷ []) (W.contents out.old.writer) (W.contents out.new.writer)) }
-    ensures failed { (options : Options) (plan : Plan) (above : List (List (List ℕ))) → HasAppended options plan above table.old → IfErr result (FailsIn options plan above (fields_of fields.now ∷ []) (W.contents out.old.writer) (W.contents out.new.writer)) }
+    ensures after { (options : Options) (plan : Plan) (above : List (List (List ℕ))) → HasAppended options plan above table.old
+        → OnOk result (HasAppended options plan (above ++ fields_of fields.now ∷ []) table.new) }
+    ensures written { (options : Options) (plan : Plan) (above : List (List (List ℕ))) → HasAppended options plan above table.old
+        → OnOk result (WritesRows options plan above (fields_of fields.now ∷ []) (W.contents out.old.writer) (W.contents out.new.writer)) }
+    ensures failed { (options : Options) (plan : Plan) (above : List (List (List ℕ))) → HasAppended options plan above table.old
+        → IfErr result (FailsIn options plan above (fields_of fields.now ∷ []) (W.contents out.old.writer) (W.contents out.new.writer)) }
     ensures told { TellsWrite (failure_of out.old) (failure_of out.new) result }
     ensures writes { IfErr result (λ fault. is_read fault ≡ false) }
 {
@@ -40,9 +43,12 @@ pub(crate) fn write_rows<W: Write + Drop>(
     buf: &mut String,
     out: &mut Output<W>,
 ) -> Result<(), RunFault>
-    ensures after { (options : Options) (plan : Plan) (above : List (List (List ℕ))) → HasAppended options plan above table.old → OnOk result (HasAppended options plan (above ++ map fields_of rows.now) table.new) }
-    ensures written { (options : Options) (plan : Plan) (above : List (List (List ℕ))) → HasAppended options plan above table.old → OnOk result (WritesRows options plan above (map fields_of rows.now) (W.contents out.old.writer) (W.contents out.new.writer)) }
-    ensures failed { (options : Options) (plan : Plan) (above : List (List (List ℕ))) → HasAppended options plan above table.old → IfErr result (FailsIn options plan above (map fields_of rows.now) (W.contents out.old.writer) (W.contents out.new.writer)) }
+    ensures after { (options : Options) (plan : Plan) (above : List (List (List ℕ))) → HasAppended options plan above table.old
+        → OnOk result (HasAppended options plan (above ++ map fields_of rows.now) table.new) }
+    ensures written { (options : Options) (plan : Plan) (above : List (List (List ℕ))) → HasAppended options plan above table.old
+        → OnOk result (WritesRows options plan above (map fields_of rows.now) (W.contents out.old.writer) (W.contents out.new.writer)) }
+    ensures failed { (options : Options) (plan : Plan) (above : List (List (List ℕ))) → HasAppended options plan above table.old
+        → IfErr result (FailsIn options plan above (map fields_of rows.now) (W.contents out.old.writer) (W.contents out.new.writer)) }
     ensures told { TellsWrite (failure_of out.old) (failure_of out.new) result }
     ensures writes { IfErr result (λ fault. is_read fault ≡ false) }
 {
@@ -59,7 +65,8 @@ pub(crate) fn write_end<W: Write + Drop>(
     buf: &mut String,
     out: &mut Output<W>,
 ) -> Result<(), RunFault>
-    ensures ends { (options : Options) (plan : Plan) (rows : List (List (List ℕ))) → HasAppended options plan rows table.entry → EndsBelow options plan rows (option_map but_line_in wrong) rows (W.contents out.old.writer) (W.contents out.new.writer) result }
+    ensures ends { (options : Options) (plan : Plan) (rows : List (List (List ℕ))) → HasAppended options plan rows table.entry
+        → EndsBelow options plan rows (option_map but_line_in wrong) rows (W.contents out.old.writer) (W.contents out.new.writer) result }
     ensures told { TellsWrite (failure_of out.old) (failure_of out.new) result }
     ensures writes { IfErr result (λ fault. is_read fault ≡ false) }
 {

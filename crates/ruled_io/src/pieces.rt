@@ -112,7 +112,9 @@ impl<R: Read + Drop> Pieces<R> {
         reader: Reader,
         rows: &mut Vec<StringRecord>,
     ) -> Result<Reading, RunFault>
-        ensures given { (format : Format) (records : ℕ) (all : List ℕ) (given : List (List (List ℕ))) → Stands format records all (R.remaining self.old.input) given (Reading.More reader) → IfOk result (GoesOn format records all (R.remaining self.new.input) given (map fields_of rows.old.items) (map fields_of rows.new.items)) }
+        ensures given { (format : Format) (records : ℕ) (all : List ℕ) (given : List (List (List ℕ)))
+            → Stands format records all (R.remaining self.old.input) given (Reading.More reader)
+            → IfOk result (GoesOn format records all (R.remaining self.new.input) given (map fields_of rows.old.items) (map fields_of rows.new.items)) }
         ensures failed { IfErr result IsOfRead }
     {
         let count = self.read()?;

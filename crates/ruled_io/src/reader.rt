@@ -40,7 +40,8 @@ impl Reader {
         bytes: &[u8],
         rows: &mut Vec<StringRecord>,
     ) -> Result<Reading, InputFault>
-        ensures given { (format : Format) (records : ℕ) (before behind : List ℕ) → HasTaken format records before self → IfOk result (Gives format records before bytes.now ((before ++ bytes.now) ++ behind) (map fields_of rows.old.items) (map fields_of rows.new.items)) }
+        ensures given { (format : Format) (records : ℕ) (before behind : List ℕ) → HasTaken format records before self
+            → IfOk result (Gives format records before bytes.now ((before ++ bytes.now) ++ behind) (map fields_of rows.old.items) (map fields_of rows.new.items)) }
         ensures memory { IfErr result (λ fault. fault ≡ InputFault.Memory) }
     {
         match self {
@@ -62,7 +63,8 @@ impl Reader {
     ///
     /// The only fault is out of memory.
     pub(crate) fn finish(self, rows: &mut Vec<StringRecord>) -> Result<Reading, InputFault>
-        ensures given { (format : Format) (records : ℕ) (bytes : List ℕ) → HasTaken format records bytes self → IfOk result (Ends format records bytes (map fields_of rows.old.items) (map fields_of rows.new.items)) }
+        ensures given { (format : Format) (records : ℕ) (bytes : List ℕ) → HasTaken format records bytes self
+            → IfOk result (Ends format records bytes (map fields_of rows.old.items) (map fields_of rows.new.items)) }
         ensures memory { IfErr result (λ fault. fault ≡ InputFault.Memory) }
     {
         match self {

@@ -35,7 +35,10 @@ fn write_table<R: Read + Drop, W: Write + Drop>(
     pieces: &mut Pieces<R>,
     out: &mut Output<W>,
 ) -> Result<(), RunFault>
-    ensures ends { (options : Options) (plan : Plan) (format : Format) (records : ℕ) (all : List ℕ) (above : List (List (List ℕ))) → Stands format records all (R.remaining pieces.old.input) (above ++ map fields_of rows.items) reading → HasAppended options plan above table.entry → EndsBelow options plan (sound_rows format records all) (wrong_in format records all) above (W.contents out.old.writer) (W.contents out.new.writer) result }
+    ensures ends { (options : Options) (plan : Plan) (format : Format) (records : ℕ) (all : List ℕ) (above : List (List (List ℕ)))
+        → Stands format records all (R.remaining pieces.old.input) (above ++ map fields_of rows.items) reading
+        → HasAppended options plan above table.entry
+        → EndsBelow options plan (sound_rows format records all) (wrong_in format records all) above (W.contents out.old.writer) (W.contents out.new.writer) result }
     ensures told { TellsWrite (failure_of out.old) (failure_of out.new) result }
 {
     let mut buf = String::new(alloc);
@@ -60,7 +63,9 @@ pub(crate) fn read_first<R: Read + Drop>(
     pieces: &mut Pieces<R>,
     rows: &mut Vec<StringRecord>,
 ) -> Result<Reading, RunFault>
-    ensures given { (format : Format) (records : ℕ) (all : List ℕ) → Stands format records all (R.remaining pieces.old.input) (map fields_of rows.old.items) reading → IfOk result (Stands format records all (R.remaining pieces.new.input) (map fields_of rows.new.items)) }
+    ensures given { (format : Format) (records : ℕ) (all : List ℕ)
+        → Stands format records all (R.remaining pieces.old.input) (map fields_of rows.old.items) reading
+        → IfOk result (Stands format records all (R.remaining pieces.new.input) (map fields_of rows.new.items)) }
     ensures enough { IfOk result (IsEnough count (map fields_of rows.new.items)) }
     ensures failed { IfErr result IsOfRead }
 {
@@ -98,7 +103,9 @@ fn show_table<R: Read + Drop, W: Write + Drop>(
     pieces: &mut Pieces<R>,
     out: &mut Output<W>,
 ) -> Result<(), RunFault>
-    ensures ends { (format : Format) (records : ℕ) (all : List ℕ) → 0 < count → IsEnough count (map fields_of rows.items) reading → Stands format records all (R.remaining pieces.old.input) (map fields_of rows.items) reading → Ends options.now count (sound_rows format records all) (wrong_in format records all) (W.contents out.old.writer) (W.contents out.new.writer) result }
+    ensures ends { (format : Format) (records : ℕ) (all : List ℕ) → 0 < count → IsEnough count (map fields_of rows.items) reading
+        → Stands format records all (R.remaining pieces.old.input) (map fields_of rows.items) reading
+        → Ends options.now count (sound_rows format records all) (wrong_in format records all) (W.contents out.old.writer) (W.contents out.new.writer) result }
     ensures told { TellsWrite (failure_of out.old) (failure_of out.new) result }
 {
     if let Some(fault) = wrong_within(&reading, count, rows.len()) {
@@ -152,7 +159,8 @@ fn show_rows<R: Read + Drop, W: Write + Drop>(
     pieces: &mut Pieces<R>,
     out: &mut Output<W>,
 ) -> Result<(), RunFault>
-    ensures ends { (rest : List ℕ) → R.remaining pieces.old.input ≡ Some rest → Ends options.now (first_count options.now format count) (sound_rows format (record_count count) (front.now ++ rest)) (wrong_in format (record_count count) (front.now ++ rest)) (W.contents out.old.writer) (W.contents out.new.writer) result }
+    ensures ends { (rest : List ℕ) → R.remaining pieces.old.input ≡ Some rest
+        → Ends options.now (first_count options.now format count) (sound_rows format (record_count count) (front.now ++ rest)) (wrong_in format (record_count count) (front.now ++ rest)) (W.contents out.old.writer) (W.contents out.new.writer) result }
     ensures told { TellsWrite (failure_of out.old) (failure_of out.new) result }
 {
     let mut rows = Vec::new(alloc);

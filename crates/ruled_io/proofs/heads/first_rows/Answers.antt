@@ -4,8 +4,7 @@ use Rattle.csv.specs.Records.{fields_of}
 use Rattle.pg_layout.specs.Text.{Text}
 use Rattle.ruled_io.specs.Reading.{Stands}
 use Rattle.ruled_io.specs.Steps.{AreFirst, wrong_within}
-use Rattle.ruled_io.proofs.HeadRows.{first-are, first-lack}
-use Rattle.ruled_io.proofs.Inputs.{stands-so}
+use Rattle.ruled_io.proofs.Inputs.{first-are, first-lack, stands-so}
 use Rattle.ruled_io.proofs.heads.first_rows.Goals as goal
 
 pub returns-in-Some-clause-cause : goal.returns-in-Some-clause-cause

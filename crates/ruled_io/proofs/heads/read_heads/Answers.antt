@@ -8,7 +8,7 @@ use Rattle.ruled_io.specs.declared.formats.Format.{Format}
 use Rattle.ruled_io.specs.declared.formats.Format.TheVariants.{Separated}
 use Rattle.ruled_io.specs.declared.formats.Known.{Known}
 use Rattle.pg_layout.specs.Text.{Text}
-use Rattle.ruled_io.proofs.HeadRows.{dialect-of, first-rows-are, first-rows-lack, whole-lacks, whole-rows}
+use Rattle.ruled_io.proofs.Inputs.{dialect-of, first-rows-are, first-rows-lack, whole-lacks, whole-rows}
 use Rattle.ruled_io.proofs.heads.read_heads.Goals as goal
 
 pub returns-then-is_database-clause-rows : goal.returns-then-is_database-clause-rows

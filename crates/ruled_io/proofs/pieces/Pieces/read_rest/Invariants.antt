@@ -1,4 +1,4 @@
-use Rattle.ruled_io.proofs.HeadRows.{Rested}
+use Rattle.ruled_io.proofs.Inputs.{Rested}
 use Rattle.ruled_io.proofs.pieces.Pieces.read_rest.Given as goal
 
 abbrev pub invariant-loop : goal.invariant-loop
