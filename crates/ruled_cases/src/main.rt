@@ -13,7 +13,7 @@
 //! - `:` begins a case and names it. `@` has an option and its value.
 //! - `>` has a line of the input. What can't be seen is written by pictures: `␍` is a carriage return,
 //!   `␉` a tab, `␊` a line feed, `␛` an escape, `␀` a zero byte, `␂` a byte order mark and `⌧` a byte that is
-//!   no UTF-8; so is it in the name of a column. Behind a line with `␃` at its end there is no line feed.
+//!   no UTF-8; so is it in the name of a column or a table. Behind a line with `␃` at its end there is no line feed.
 //! - `=` has a line that is shown, with `␣` for a space at its end. `!` has the exit status and the line
 //!   that is told; without it the status is 0, and nothing is told.
 //! - `>x` has bytes of the input, each as two hexadecimal digits, with spaces between some, and `*` and a number behind

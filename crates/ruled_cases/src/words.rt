@@ -104,7 +104,7 @@ fn set_input(
             log: request.source.log(),
         }),
         "table" => Some(Source::Database {
-            selection: Selection::Table(String::from_str(alloc, value)?),
+            selection: Selection::Table(meant(alloc, value)?),
             log: request.source.log(),
         }),
         "ragged" => {

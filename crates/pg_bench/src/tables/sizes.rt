@@ -47,10 +47,11 @@ impl TableCase<'_> {
         }
     }
 
-    /// How many requests the listing of natural sizes makes, where there are any: with spans or within a
-    /// width those that come, else one for each list.
+    /// How many requests the listing of natural sizes makes: within a width those that come, and with spans, if
+    /// there are such sizes; else one for each list.
     pub(crate) fn requests_of_sizes(&self, drawer: Drawer<'_>) -> u64 {
-        if self.lists() == 0 || (!self.is_spanned && self.within.is_none()) {
+        let is_counted = self.is_spanned && self.lists() > 0;
+        if self.within.is_none() && !is_counted {
             return self.lists();
         }
         let memory = Refusing::from_on(self.alloc, u64::MAX);
