@@ -190,11 +190,11 @@ module _ (config : Config) (texts : List (List Text)) (columns : ℕ) (color : P
               ]
         ]
 
-    pub fits : totals_fit table ≡ true → TableFits table
-    fits totals = record { spans = fit; totals = totals; rooms = λ r c h k. room r c h k }
+    pub table-fits : totals_fit table ≡ true → TableFits table
+    table-fits totals = record { spans = fit; totals = totals; rooms = λ r c h k. room r c h k }
 
     pub misfit-none : totals_fit table ≡ true → misfit_of table ≡ None
-    misfit-none totals = fitting_tables_have_none table (fits totals)
+    misfit-none totals = fitting_tables_have_none table (table-fits totals)
 
   -- ---- totals
 

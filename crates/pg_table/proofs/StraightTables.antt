@@ -21,7 +21,7 @@ use Rattle.pg_picture.proofs.Separators.{missing_glyph_fills_gaps}
 use Rattle.pg_table.specs.Even.{HasNarrowLines, HasEvenLines, IsEven, IsEvenText, HasNarrowSides, IsNarrowLook, is_line_glyph, is_line_glyph_if, are_line_glyphs, is_of_line_glyphs, are_line_fills}
 use Rattle.pg_table.specs.Natural.{natural_table}
 use Rattle.pg_table.specs.Printing.{fault_of, Parts, ascii_config, with_header_line}
-use Rattle.pg_table.proofs.NaturalRoom.{fits}
+use Rattle.pg_table.proofs.NaturalRoom.{table-fits}
 use Rattle.pg_table.proofs.Faults.{fault-none}
 use Rattle.std.proofs.lemmas.List.{length-map}
 use Rattle.std.proofs.lemmas.Str.{chars-nil}
@@ -109,7 +109,7 @@ module _ (config : Config) (texts : List (List Text)) (columns : ℕ) (color : P
 
   cells : 0 < table.rows → 0 < table.columns → CellsFit table
   cells h k =
-      let fitting = fits config texts columns color (facts h k).0 (facts h k).1 in
+      let fitting = table-fits config texts columns color (facts h k).0 (facts h k).1 in
       record { spans = fitting.spans; rooms = fitting.rooms }
 
   pub straight : IsStraight table
