@@ -59,8 +59,11 @@ impl TableCase<'_> {
         memory.requests()
     }
 
-    // Refuses each request for the memory of sizes in turn, alone.
+    // Refuses each request for the memory of sizes in turn, alone. That there are none is found without some of them.
     fn mismatch_of_sizes(&self, drawer: Drawer<'_>) -> Option<TableMismatch> {
+        if self.lists() == 0 {
+            return None;
+        }
         for number in 0..self.requests_of_sizes(drawer) {
             let memory = Refusing::only(self.alloc, number);
             let listed = self.sizes(&memory, drawer)?;
