@@ -9,7 +9,6 @@ use Rattle.ruled_io.specs.declared.reader.Reader.TheVariants.{Rows, Lines}
 use Rattle.ruled_io.specs.declared.reader.Reading.{Reading}
 use Rattle.ruled_csv.proofs.Readers as csv
 use Rattle.ruled_json.proofs.AtOnce as json
-use Rattle.ruled_json.proofs.AtOnce as at_once
 use Rattle.ruled_io.specs.declared.reader.Reading.TheVariants.{More, Done}
 use Rattle.std.specs.Prelude.{IfOk, option_map}
 use Rattle.csv.specs.Machine.{next_record}
@@ -157,8 +156,8 @@ no-rows dialect = refl
 no-lines : (records : ℕ) → json_streamed.sound_line_rows records [] ≡ []
 unfolding strip_bom json_rows.line_rows_of json_faults.line_rows_fault
 no-lines records =
-    let none = at_once.fault-as-at-once records [] (omega arith) in
-    at_once.as-at-once records [] none (omega arith)
+    let none = json.fault-as-at-once records [] (omega arith) in
+    json.as-at-once records [] none (omega arith)
 
 pub rows-begin : (dialect : Dialect) (reader : RowReader) → csv_reading.HasRead dialect [] reader → csv_rows.ended_rows dialect [] ≡ []
 rows-begin dialect reader has =

@@ -1,4 +1,4 @@
-mod LentTexts
-mod Tables
-mod RowsInParts
+pub mod LentTexts
+pub mod Tables
+pub mod RowsInParts
 pub mod RowPictures
