@@ -43,7 +43,8 @@ where
         self.pen.push_line_end(buf, index)
     }
 
-    #[inline(always)]
+    // Out of line, so that what is round the cells is in the loop over the rows.
+    #[inline(never)]
     fn push_single_cells<S: AsStr + Drop, I: Iterator<Item = S>, W: Allocator>(
         self,
         buf: &mut String<W>,
