@@ -47,8 +47,8 @@ impl TableCase<'_> {
         }
     }
 
-    /// How many requests the listing of natural sizes makes: within a width those that come, and with spans, if
-    /// there are such sizes; else one for each list.
+    /// How many requests the listing of natural sizes makes. They are counted within a width, and with spans if
+    /// there are such sizes; else there is one for each list.
     pub(crate) fn requests_of_sizes(&self, drawer: Drawer<'_>) -> u64 {
         let is_counted = self.is_spanned && self.lists() > 0;
         if self.within.is_none() && !is_counted {
@@ -59,7 +59,8 @@ impl TableCase<'_> {
         memory.requests()
     }
 
-    // Refuses each request for the memory of sizes in turn, alone. That there are none is found without some of them.
+    // Refuses each request for the memory of sizes in turn, alone. A table without natural sizes shows so before
+    // some of these requests, so none is refused there.
     fn mismatch_of_sizes(&self, drawer: Drawer<'_>) -> Option<TableMismatch> {
         if self.lists() == 0 {
             return None;
