@@ -326,7 +326,7 @@ fn source_in_name(found: &ArgMatches) -> Option<Source> {
 // Rows with this delimiter, unless another format is asked for.
 fn rows_with(delimiter: &str, asked: Option<Kind>) -> Result<Source, &'static str> {
     let Some(delimiter) = delimiter_of(delimiter) else {
-        return Err("a delimiter is one character of ASCII that is no quote, or the word tab");
+        return Err("a delimiter is one ASCII character other than a quote, or the word tab");
     };
     match asked {
         Some(Kind::Rows(Format::Json)) | Some(Kind::Rows(Format::JsonLines)) => {
@@ -381,7 +381,7 @@ fn is_selected(found: &ArgMatches, asked: Option<Kind>) -> Result<bool, &'static
         return Err("--query takes no --table");
     }
     if found.get_str("delimiter").is_some() || matches!(asked, Some(Kind::Rows(_))) {
-        return Err("only a database takes a query or a table");
+        return Err("--query and --table need a database");
     }
     Ok(true)
 }

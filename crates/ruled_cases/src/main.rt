@@ -7,7 +7,7 @@
 //! @ look markdown
 //! > a,b
 //! > 1
-//! ! 2 ruled: line 2: 1 field, and row 0 has 2; see --ragged
+//! ! 2 ruled: line 2: 1 field, but row 0 has 2; see --ragged
 //! ```
 //!
 //! - `:` begins a case and names it. `@` has an option and its value.

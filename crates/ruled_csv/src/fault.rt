@@ -54,10 +54,7 @@ impl fmt::Display for RowsFault {
     fn fmt<W: fmt::Write>(&self, f: &mut fmt::Formatter<W>) -> fmt::Result {
         match self {
             RowsFault::OpenQuote { line } => write!(f, "line {line}: a quote isn't closed"),
-            RowsFault::BehindQuote { line } => write!(
-                f,
-                "line {line}: text behind a closing quote"
-            ),
+            RowsFault::BehindQuote { line } => write!(f, "line {line}: text after a closing quote"),
             RowsFault::Length {
                 line,
                 fields,
@@ -67,7 +64,7 @@ impl fmt::Display for RowsFault {
                 let fields_word = if *fields == 1 { "field" } else { "fields" };
                 write!(
                     f,
-                    "line {line}: {fields} {fields_word}, and row 0 has {columns}; see --ragged"
+                    "line {line}: {fields} {fields_word}, but row 0 has {columns}; see --ragged"
                 )
             }
             RowsFault::Encoding { line, .. } => write!(f, "line {line}: not UTF-8"),

@@ -169,7 +169,7 @@ impl From<ViewFault> for RunFault {
 impl fmt::Display for StreamedFault {
     fn fmt<W: fmt::Write>(&self, f: &mut fmt::Formatter<W>) -> fmt::Result {
         match self {
-            StreamedFault::Value => write!(f, "one value of JSON can't be streamed"),
+            StreamedFault::Value => write!(f, "a single JSON value can't be streamed"),
             StreamedFault::Database => write!(f, "a database can't be streamed"),
         }
     }
@@ -213,7 +213,7 @@ impl InputFault {
 // The words for a log that isn't read.
 fn words_of(log: Log) -> &'static str {
     match log {
-        Log::Unknown => "a database in WAL mode, whose log can't be seen",
+        Log::Unknown => "the database is in WAL mode, and its log can't be seen",
         _ => "a log beside the database may have rows that its file lacks",
     }
 }

@@ -31,7 +31,7 @@ pub enum QueryFault {
 pub enum SqlFault {
     /// The bytes hold no database, or one of a kind that isn't understood.
     Database,
-    /// The bytes hold a database that is damaged, or of a kind that isn't understood.
+    /// The database is damaged, or of an unsupported kind.
     Damage,
     /// The query answers none.
     Query(QueryFault),
@@ -198,7 +198,7 @@ impl Display for QueryFault {
             QueryFault::Refused(Error::SqlInputError(error)) => {
                 write!(
                     f,
-                    "the query isn't understood, or names what isn't there: {error}"
+                    "the query isn't valid, or names something that doesn't exist: {error}"
                 )
             }
             QueryFault::Refused(error) => write!(f, "the query fails: {error}"),
@@ -244,11 +244,9 @@ impl Display for SqlFault {
     fn fmt<W: fmt::Write>(&self, f: &mut fmt::Formatter<W>) -> fmt::Result {
         match self {
             SqlFault::Database => f.write_str(
-                "no database of SQLite, or one that is encrypted or of a kind that isn't understood",
+                "not an SQLite database, or it is encrypted or of an unsupported kind",
             ),
-            SqlFault::Damage => f.write_str(
-                "a database that is damaged, or of a kind that isn't understood",
-            ),
+            SqlFault::Damage => f.write_str("the database is damaged, or of an unsupported kind"),
             SqlFault::Query(fault) => fault.fmt(f),
             SqlFault::Memory => f.write_str("out of memory"),
         }
