@@ -47,7 +47,7 @@ impl Axis {
 }
 
 /// The natural sizes of the columns and the rows of records, worked out at each question.
-#[derive(Debug, Drop)]
+#[derive(Drop)]
 pub(crate) struct NaturalSizes<'a, R, B: Allocator> {
     pub(crate) records: R,
     pub(crate) config: &'a SpannedConfig<B>,

@@ -99,7 +99,7 @@ impl<T, A: Allocator> Table<T, A> {
         ensures table { result ≡ record self { config = record self.config { padding = with_setting Entity.Global padding self.config.padding } } }
         ensures narrow { IsNarrowLook self.config → are_line_fills padding ≡ true → IsNarrowLook result.config }
     {
-        self.config.set_padding(Entity::Global, padding).unwrap();
+        self.set_padding(padding);
         self
     }
 
@@ -110,9 +110,7 @@ impl<T, A: Allocator> Table<T, A> {
         ensures table { result ≡ aligned Entity.Global alignment self }
         ensures narrow { IsNarrowLook self.config → IsNarrowLook result.config }
     {
-        self.config
-            .set_alignment_horizontal(Entity::Global, alignment)
-            .unwrap();
+        self.set_alignment(alignment);
         self
     }
 
@@ -121,7 +119,7 @@ impl<T, A: Allocator> Table<T, A> {
         ensures table { result ≡ record self { config = record self.config { borders = borders } } }
         ensures narrow { IsNarrowLook self.config → are_line_glyphs borders ≡ true → IsNarrowLook result.config }
     {
-        self.config.set_borders(borders);
+        self.set_borders(borders);
         self
     }
 

@@ -87,7 +87,7 @@ where
 }
 
 /// A table with spans whose columns have at least these widths.
-#[derive(Debug, Drop)]
+#[derive(Drop)]
 pub(crate) struct ToldTable<'a, R, C, B: Allocator> {
     pub(crate) table: NaturalTable<'a, R, C, B>,
     pub(crate) widths: &'a [usize],
