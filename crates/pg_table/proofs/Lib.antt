@@ -15,3 +15,4 @@ pub mod ToldTables
 pub mod RaisedWidths
 pub mod SpannedWidths
 pub mod FittedTables
+pub mod Setters

@@ -193,10 +193,8 @@ impl<T: AsStr + Drop, A: Allocator> Table<T, A> {
         ensures narrow { IsNarrowLook self.config → is_of_line_glyphs line ≡ true → IfOk result (λ table. IsNarrowLook table.config) }
         ensures memory { (fault : TableFault) → result ≡ Err fault → fault ≡ TableFault.Memory }
     {
-        match self.set_header_line(line) {
-            Ok(()) => Ok(self),
-            Err(error) => Err(error.into()),
-        }
+        let set = self.set_header_line(line);
+        self.if_set(set)
     }
 
     /// The natural widths of the columns and the natural heights of the rows, in terminal columns
@@ -338,5 +336,22 @@ impl<T: AsStr + Drop, A: Allocator> Table<T, A> {
     {
         let records = &self.records;
         (records.count_rows(), records.count_columns())
+    }
+}
+
+impl<T: Drop, A: Allocator> Table<T, A> {
+    ghost use Rattle.std.specs.Prelude.{◌≡◌, Err, IfOk, IsOk};
+
+    // The table by value after one of its setters, which is dropped if memory was refused.
+    fn if_set(self, set: Result<(), AllocError>) -> Result<Table<T, A>, TableFault>
+        ensures same { IfOk result (λ table. table ≡ self) }
+        ensures set { IsOk result → IsOk set }
+        ensures ok { IsOk set → IsOk result }
+        ensures memory { (fault : TableFault) → result ≡ Err fault → fault ≡ TableFault.Memory }
+    {
+        match set {
+            Ok(()) => Ok(self),
+            Err(error) => Err(error.into()),
+        }
     }
 }

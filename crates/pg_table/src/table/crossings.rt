@@ -40,9 +40,7 @@ impl<T: AsStr + Drop, A: Allocator + Copy> Table<T, A> {
         ensures memory { (fault : TableFault) → result ≡ Err fault → fault ≡ TableFault.Memory }
         ensures nothing { self.config.spans ≡ [] → IsOk result }
     {
-        match self.set_span_crossings(alloc, borders) {
-            Ok(()) => Ok(self),
-            Err(error) => Err(error.into()),
-        }
+        let set = self.set_span_crossings(alloc, borders);
+        self.if_set(set)
     }
 }

@@ -133,9 +133,7 @@ impl<T, A: Allocator> Table<T, A> {
         ensures again { HasRoom (Entity.Column column) self.config.alignment_horizontal → IsOk result }
         ensures narrow { IsNarrowLook self.config → IfOk result (λ table. IsNarrowLook table.config) }
     {
-        match self.set_column_alignment(column, alignment) {
-            Ok(()) => Ok(self),
-            Err(error) => Err(error.into()),
-        }
+        let set = self.set_column_alignment(column, alignment);
+        self.if_set(set)
     }
 }

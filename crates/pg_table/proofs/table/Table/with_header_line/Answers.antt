@@ -1,5 +1,11 @@
-use Rattle.pg_table.proofs.StraightTables.{told-header}
+use Rattle.std.proofs.Common.{◌≡◌}
+use Rattle.pg_table.specs.Even.{IsNarrowLook}
+use Rattle.pg_table.specs.OwnRows.{headed}
+use Rattle.pg_table.proofs.Setters.{left, set}
 use Rattle.pg_table.proofs.table.Table.with_header_line.Goals as goal
 
-pub returns-in-Ok-clause-narrow : goal.returns-in-Ok-clause-narrow
-returns-in-Ok-clause-narrow g c = λ look glyphs. rw c.in-Ok.ensures.ok (told-header c.args.self.config look c.args.line _ _ glyphs)
+pub returns-clause-ok : goal.returns-clause-ok
+returns-clause-ok g c = set c.set_header_line-set.result c.if_set.result c.set_header_line-set.new.self (λ t. t ≡ headed c.args.line c.args.self) c.if_set.ensures.set c.set_header_line-set.ensures.ok c.if_set.ensures.same
+
+pub returns-clause-narrow : goal.returns-clause-narrow
+returns-clause-narrow g c = λ look glyphs. left c.if_set.result c.set_header_line-set.new.self (λ t. IsNarrowLook t.config) (c.set_header_line-set.ensures.narrow look glyphs) c.if_set.ensures.same

@@ -1,11 +1,11 @@
-use Rattle.std.proofs.Common.{nat_lt, length, inl, inr}
-use Rattle.std.proofs.lemmas.Bool.{cases_Bool}
-use Rattle.pg_table.proofs.StraightTables.{told-spans}
+use Rattle.std.proofs.Common.{◌≡◌}
+use Rattle.pg_table.specs.Even.{IsNarrowLook}
+use Rattle.pg_table.specs.Panels.{panelled}
+use Rattle.pg_table.proofs.Setters.{left, set}
 use Rattle.pg_table.proofs.table.Table.with_panel.Goals as goal
 
-pub returns-in-Ok-clause-narrow : goal.returns-in-Ok-clause-narrow
-returns-in-Ok-clause-narrow g c = λ look.
-    rw c.in-Ok.ensures.ok (elim (cases_Bool (nat_lt c.args.row (length c.args.self.rows))) [
-      | inl there ↦ rw there (told-spans c.args.self.config look _)
-      | inr absent ↦ rw absent look
-    ])
+pub returns-clause-ok : goal.returns-clause-ok
+returns-clause-ok g c = set c.set_panel-set.result c.if_set.result c.set_panel-set.new.self (λ t. t ≡ panelled c.args.row c.args.self) c.if_set.ensures.set c.set_panel-set.ensures.ok c.if_set.ensures.same
+
+pub returns-clause-narrow : goal.returns-clause-narrow
+returns-clause-narrow g c = λ look. left c.if_set.result c.set_panel-set.new.self (λ t. IsNarrowLook t.config) (c.set_panel-set.ensures.narrow look) c.if_set.ensures.same
