@@ -8,6 +8,7 @@ use Rattle.std.specs.Prelude.{if◌then◌else◌}
 use Rattle.csv.specs.Records.{Row, fields_of, field_at}
 use Rattle.pg_layout.specs.Records.{columns_of}
 use Rattle.pg_layout.specs.Text.{Text}
+use Rattle.pg_config.specs.Config.{Config}
 use Rattle.pg_fit.specs.Controls.{sign_of, visible_text}
 use Rattle.ruled_table.specs.Blocks.{pair_at, block_fault, block_of, names_in, places_in, record_block, record_fault}
 use Rattle.ruled_table.specs.Escapes.{escape_of, escaped_text, is_plain}
@@ -99,14 +100,16 @@ module _ (options : Options) (rows : List (List Text)) (blocks : Blocks) (has : 
   texts-same : fields_at places fields ≡ shown_row options (places_in options rows) row
   texts-same = ap (fields_at places) shown ∙ row-shown options row places ∙ ap (λ (ps : List ℕ). shown_row options ps row) (at ∙ has.at)
 
-  pub block-same : block_of blocks.options.now.bounds (look_config blocks.options.now.look) (fields_at places (fields_of blocks.names)) (fields_at places fields) ≡ record_block options rows row
+  pub block-same : block_of blocks.options.now.bounds blocks.config (fields_at places (fields_of blocks.names)) (fields_at places fields) ≡ record_block options rows row
   block-same =
-      ap (λ (o : Options). block_of o.bounds (look_config o.look) (fields_at places (fields_of blocks.names)) (fields_at places fields)) has.asked
+      ap (λ (o : Options). block_of o.bounds blocks.config (fields_at places (fields_of blocks.names)) (fields_at places fields)) has.asked
+      ∙ ap (λ (c : Config). block_of options.bounds c (fields_at places (fields_of blocks.names)) (fields_at places fields)) has.looks
       ∙ ap₂ (block_of options.bounds (look_config options.look)) names-same texts-same
 
-  pub fault-same : block_fault blocks.options.now.bounds (look_config blocks.options.now.look) (fields_at places (fields_of blocks.names)) (fields_at places fields) ≡ record_fault options rows row
+  pub fault-same : block_fault blocks.options.now.bounds blocks.config (fields_at places (fields_of blocks.names)) (fields_at places fields) ≡ record_fault options rows row
   fault-same =
-      ap (λ (o : Options). block_fault o.bounds (look_config o.look) (fields_at places (fields_of blocks.names)) (fields_at places fields)) has.asked
+      ap (λ (o : Options). block_fault o.bounds blocks.config (fields_at places (fields_of blocks.names)) (fields_at places fields)) has.asked
+      ∙ ap (λ (c : Config). block_fault options.bounds c (fields_at places (fields_of blocks.names)) (fields_at places fields)) has.looks
       ∙ ap₂ (block_fault options.bounds (look_config options.look)) names-same texts-same
 
 -- ---- a field by its place

@@ -49,18 +49,17 @@ use Rattle.ruled_table.specs.declared.look.Look.TheVariants.{Sharp, Rounded, Mod
 
 -- ---- the text of a table of rows, by whether there are any
 
-module _ (bounds : Bounds) (config : Config) (line : Option (HorizontalLine ℕ)) (rows : List (List Text)) where
-  pub text_none : (length rows == 0) ≡ true → [] ≡ text_with bounds config line rows
+module _ (bounds : Bounds) (config : Config) (rows : List (List Text)) where
+  pub text_none : (length rows == 0) ≡ true → [] ≡ text_with bounds config rows
   text_none e = rw e refl
 
-  pub fault_none : (length rows == 0) ≡ true → fault_with bounds config line rows ≡ None
+  pub fault_none : (length rows == 0) ≡ true → fault_with bounds config rows ≡ None
   fault_none e = rw e refl
 
-  pub text_drawn : (length rows == 0) ≡ false → picture Known (bounded_table bounds (with_line line (length rows) (columns_of rows) config) rows) ++ 10 ∷ [] ≡ text_with bounds config line rows
+  pub text_drawn : (length rows == 0) ≡ false → picture Known (bounded_table bounds config rows) ++ 10 ∷ [] ≡ text_with bounds config rows
   text_drawn e = rw e refl
 
-  pub fault_drawn : (length rows == 0) ≡ false
-      → (if is_none (bounded_fault bounds (with_line line (length rows) (columns_of rows) config) rows) then None else Some Totals) ≡ fault_with bounds config line rows
+  pub fault_drawn : (length rows == 0) ≡ false → (if is_none (bounded_fault bounds config rows) then None else Some Totals) ≡ fault_with bounds config rows
   fault_drawn e = rw e refl
 
 -- ---- what is told where rows have no table: of the columns, or of the sizes

@@ -21,11 +21,11 @@ pairs_of names texts = map (pair_at names texts) (range_with_len 0 (length names
 
 -- its block, and an empty line
 abbrev pub block_of : Bounds → Config → List Text → List Text → Text
-block_of bounds config names texts = text_with bounds config None (pairs_of names texts) ++ 10 ∷ []
+block_of bounds config names texts = text_with bounds config (pairs_of names texts) ++ 10 ∷ []
 
 -- what is wrong with its sizes
 abbrev pub block_fault : Bounds → Config → List Text → List Text → Option ViewFault
-block_fault bounds config names texts = fault_with bounds config None (pairs_of names texts)
+block_fault bounds config names texts = fault_with bounds config (pairs_of names texts)
 
 -- of rows, of which the first has the names
 module _ (options : Options) (rows : List (List Text)) where

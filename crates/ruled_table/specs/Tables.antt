@@ -1,11 +1,10 @@
 -- Tables of rows, and their texts.
 use Rattle.std.specs.Prelude.{ℕ, ◌==◌, List, [], ◌∷◌, ◌++◌, length, Option, Some, None, if◌then◌else◌}
 use Rattle.pg_layout.specs.Text.{Text}
-use Rattle.pg_layout.specs.Records.{columns_of}
 use Rattle.pg_layout.specs.declared.borders.HorizontalLine.{HorizontalLine}
 use Rattle.pg_config.specs.Config.{Config}
 use Rattle.pg_picture.specs.Picture.{picture}
-use Rattle.pg_picture.specs.Table.{Known, Table}
+use Rattle.pg_picture.specs.Table.{Known}
 use Rattle.pg_table.specs.Printing.{with_header_line}
 use Rattle.ruled_table.specs.Bounds.{bounded_fault, bounded_table}
 use Rattle.ruled_table.specs.Faults.{totals_of}
@@ -17,15 +16,10 @@ abbrev pub with_line : Option (HorizontalLine ℕ) → ℕ → ℕ → Config �
 with_line None rows columns config = config
 with_line (Some line) rows columns config = with_header_line line rows columns config
 
--- a table of rows, within its bounds
-abbrev pub table_with : Bounds → Config → Option (HorizontalLine ℕ) → List (List Text) → Table
-table_with bounds config line rows = bounded_table bounds (with_line line (length rows) (columns_of rows) config) rows
-
--- its picture, and a line feed; of no rows nothing
-abbrev pub text_with : Bounds → Config → Option (HorizontalLine ℕ) → List (List Text) → Text
-text_with bounds config line rows = if length rows == 0 then [] else picture Known (table_with bounds config line rows) ++ 10 ∷ []
+-- the picture of the table of rows within its bounds, and a line feed; of no rows nothing
+abbrev pub text_with : Bounds → Config → List (List Text) → Text
+text_with bounds config rows = if length rows == 0 then [] else picture Known (bounded_table bounds config rows) ++ 10 ∷ []
 
 -- what is wrong with its sizes
-abbrev pub fault_with : Bounds → Config → Option (HorizontalLine ℕ) → List (List Text) → Option ViewFault
-fault_with bounds config line rows =
-    if length rows == 0 then None else totals_of (bounded_fault bounds (with_line line (length rows) (columns_of rows) config) rows)
+abbrev pub fault_with : Bounds → Config → List (List Text) → Option ViewFault
+fault_with bounds config rows = if length rows == 0 then None else totals_of (bounded_fault bounds config rows)

@@ -1,6 +1,6 @@
 //! Records as blocks: a table for each record, with a row for each field.
 
-ghost use Rattle.std.specs.Prelude.{◌≡◌, List, map, string_bytes, IfOk};
+ghost use Rattle.std.specs.Prelude.{◌≡◌, [], List, map, slice_index_or, string_bytes, IfOk};
 ghost use Rattle.csv.specs.Records.{fields_of};
 ghost use Rattle.pg_layout.specs.Text.{Text};
 ghost use Rattle.ruled_table.specs.Blocks as spec;
@@ -8,18 +8,18 @@ ghost use Rattle.ruled_table.specs.Columns.{column_fault};
 ghost use Rattle.ruled_table.specs.Faults.{Tells};
 ghost use Rattle.ruled_table.specs.LentRows.{fields_at};
 ghost use Rattle.ruled_table.specs.Named.{HasNames};
-ghost use Rattle.ruled_table.specs.Shown.{look_config};
+ghost use Rattle.ruled_table.specs.Shown.{shown_text};
 ghost use Rattle.ruled_table.specs.declared.options.Options.{Options};
 
 use crate::bounds::Bounds;
 use crate::columns::places_of;
 use crate::fault::ViewFault;
 use crate::lent_rows::{LentRows, text_in};
-use crate::look::Look;
 use crate::options::Options;
 use crate::rows::{all_stand, made_record};
 use crate::table::{look_config, text_with};
 use csv::StringRecord;
+use pg_config::SpannedConfig;
 use std::alloc::{AllocError, Global};
 
 /// Records as blocks: a table for each, with a row for each field, of its name and its text.
@@ -27,10 +27,26 @@ use std::alloc::{AllocError, Global};
 pub struct Blocks<'a> {
     alloc: Global,
     options: &'a Options,
+    /// What each block looks like.
+    config: SpannedConfig,
     /// The names of the fields, as they are shown.
     names: StringRecord,
     /// Where the fields that are shown stand in a record.
     places: Vec<usize>,
+}
+
+// The names in the first of these rows, as they are shown.
+fn names_of(
+    alloc: Global,
+    options: &Options,
+    rows: &[StringRecord],
+) -> Result<StringRecord, AllocError>
+    ensures { IfOk result (λ names. fields_of names ≡ map (shown_text options.now) (slice_index_or (map fields_of rows.now) 0 [])) }
+{
+    match rows {
+        [names, ..] => made_record(alloc, options, names),
+        [] => Ok(StringRecord::new(alloc)),
+    }
 }
 
 // A field's name and its text.
@@ -43,9 +59,11 @@ fn pair_at(
 ) -> Result<StringRecord, AllocError>
     ensures { IfOk result (λ pair. fields_of pair ≡ spec.pair_at (fields_at places.now (fields_of names.now)) (fields_at places.now (fields_of fields.now)) column) }
 {
-    let mut pair = StringRecord::new(alloc);
-    pair.push_field(text_in(names, places, column))?;
-    pair.push_field(text_in(fields, places, column))?;
+    let name = text_in(names, places, column);
+    let text = text_in(fields, places, column);
+    let mut pair = StringRecord::with_capacity(alloc, name.len().saturating_add(text.len()), 2)?;
+    pair.push_field(name)?;
+    pair.push_field(text)?;
     Ok(pair)
 }
 
@@ -70,21 +88,20 @@ fn pairs_of(
 fn block_of(
     alloc: Global,
     bounds: &Bounds,
-    look: Look,
+    config: &SpannedConfig,
     names: &StringRecord,
     fields: &StringRecord,
     places: &[usize],
 ) -> Result<String, ViewFault>
-    ensures text { IfOk result (λ text. string_bytes text ≡ spec.block_of bounds.now (look_config look) (fields_at places.now (fields_of names.now)) (fields_at places.now (fields_of fields.now))) }
-    ensures fault { Tells (spec.block_fault bounds.now (look_config look) (fields_at places.now (fields_of names.now)) (fields_at places.now (fields_of fields.now))) result }
+    ensures text { IfOk result (λ text. string_bytes text ≡ spec.block_of bounds.now config.now (fields_at places.now (fields_of names.now)) (fields_at places.now (fields_of fields.now))) }
+    ensures fault { Tells (spec.block_fault bounds.now config.now (fields_at places.now (fields_of names.now)) (fields_at places.now (fields_of fields.now))) result }
 {
-    let config = look_config(alloc, look)?;
     let pairs = pairs_of(alloc, names, fields, places)?;
     let rows = LentRows {
         records: &pairs,
         places: &[0, 1],
     };
-    let mut text = text_with(alloc, bounds, config, None, rows)?;
+    let mut text = text_with(alloc, bounds, config, rows)?;
     text.push('\n')?;
     Ok(text)
 }
@@ -102,13 +119,12 @@ impl<'a> Blocks<'a> {
         ensures fault { Tells (column_fault options.now.columns.items (map fields_of rows.now)) result }
     {
         let places = places_of(alloc, &options.columns, rows)?;
-        let names = match rows {
-            [names, ..] => made_record(alloc, options, names)?,
-            [] => StringRecord::new(alloc),
-        };
+        let config = look_config(alloc, options.look)?;
+        let names = names_of(alloc, options, rows)?;
         Ok(Blocks {
             alloc,
             options,
+            config,
             names,
             places,
         })
@@ -120,11 +136,25 @@ impl<'a> Blocks<'a> {
             → IfOk result (λ text. string_bytes text ≡ spec.record_block options rows (fields_of fields.now)) }
         ensures fault { (options : Options) (rows : List (List Text)) → HasNames options rows self.now → Tells (spec.record_fault options rows (fields_of fields.now)) result }
     {
-        let Options { bounds, look, .. } = self.options;
+        let bounds = &self.options.bounds;
         if all_stand(self.options, fields) {
-            return block_of(self.alloc, bounds, *look, &self.names, fields, &self.places);
+            return block_of(
+                self.alloc,
+                bounds,
+                &self.config,
+                &self.names,
+                fields,
+                &self.places,
+            );
         }
         let shown = made_record(self.alloc, self.options, fields)?;
-        block_of(self.alloc, bounds, *look, &self.names, &shown, &self.places)
+        block_of(
+            self.alloc,
+            bounds,
+            &self.config,
+            &self.names,
+            &shown,
+            &self.places,
+        )
     }
 }

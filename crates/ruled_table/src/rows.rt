@@ -56,8 +56,8 @@ pub fn shown_text<'a>(
     Ok(CowStr::Owned(escaped(alloc, seen.as_str())?))
 }
 
-// Whether a text is shown unchanged.
-fn stands(options: &Options, text: &str) -> bool
+/// Whether a text is shown unchanged.
+pub(crate) fn stands(options: &Options, text: &str) -> bool
     ensures { result ≡ true → shown_text options.now text.now ≡ text.now }
 {
     if !is_seen(options.is_raw, text) {

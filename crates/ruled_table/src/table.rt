@@ -84,22 +84,18 @@ fn picture_of(
     Ok(text)
 }
 
-/// The text of the table of these rows, with this line below row 0, within its bounds.
+/// The text of the table of these rows within its bounds.
 pub(crate) fn text_with(
     alloc: Global,
     bounds: &Bounds,
-    config: SpannedConfig,
-    line: Option<HorizontalLine<char>>,
+    config: &SpannedConfig,
     rows: LentRows<'_>,
 ) -> Result<String, ViewFault>
-    ensures text { IfOk result (λ text. string_bytes text ≡ text_with bounds.now config line (texts_of rows.entry)) }
-    ensures fault { Tells (fault_with bounds.now config line (texts_of rows.entry)) result }
+    ensures text { IfOk result (λ text. string_bytes text ≡ text_with bounds.now config.now (texts_of rows.entry)) }
+    ensures fault { Tells (fault_with bounds.now config.now (texts_of rows.entry)) result }
 {
-    let (count, columns) = (rows.count_rows(), rows.count_columns());
-    if count == 0 {
+    if rows.count_rows() == 0 {
         return Ok(String::new(alloc));
     }
-    let mut config = config;
-    set_line_below(&mut config, line, count, columns)?;
-    picture_of(alloc, bounds, &config, rows)
+    picture_of(alloc, bounds, config, rows)
 }

@@ -9,7 +9,7 @@ ghost use Rattle.ruled_table.specs.Faults.{Tells};
 ghost use Rattle.ruled_table.specs.Layouts.{start_fault, whole_text};
 ghost use Rattle.ruled_table.specs.Plans.{Plan, plan_in};
 ghost use Rattle.ruled_table.specs.RowLines.{GrowsTo, HasNoRoom, TellsRoom, begun_text};
-ghost use Rattle.ruled_table.specs.Shown.{shown_row};
+ghost use Rattle.ruled_table.specs.Shown.{shown_row, shown_text};
 ghost use Rattle.ruled_table.specs.Widths as spec;
 ghost use Rattle.ruled_table.specs.declared.fault.ViewFault.{ViewFault};
 ghost use Rattle.ruled_table.specs.declared.fault.ViewFault.TheVariants.{Memory};
@@ -20,11 +20,10 @@ use crate::fault::ViewFault;
 use crate::layout::Layout;
 use crate::options::Options;
 use crate::row_lines::RowLines;
-use crate::rows::shown_text;
+use crate::rows::{shown_text, stands};
 use crate::widths::{lent_within, room_of};
 use csv::StringRecord;
-use pg_layout::ConstantDimension;
-use pg_table::Overflow;
+use pg_layout::{ConstantDimension, get_text_width};
 use std::alloc::{AllocError, Global};
 use std::borrow::CowStr;
 
@@ -41,19 +40,35 @@ pub struct TableRows<'a> {
     is_over: bool,
 }
 
-// Adds a text within its column, the next one.
-fn push_within<'a>(
+// The text that is shown of a field, within so many columns. Most fields are shown as they are, so that is tested first.
+fn cell_shown<'a>(
     alloc: Global,
-    overflow: Overflow<'_>,
+    options: &Options,
+    room: usize,
+    field: &'a str,
+) -> Result<CowStr<'a>, AllocError>
+    ensures { IfOk result (λ cell. cow_str_bytes cell ≡ spec.text_within options.now.bounds.overflow room (shown_text options.now field.now)) }
+{
+    if get_text_width(field) <= room && stands(options, field) {
+        return Ok(CowStr::Borrowed(field));
+    }
+    let text = shown_text(alloc, options, field)?;
+    lent_within(alloc, options.bounds.overflow, room, text)
+}
+
+// Adds the text that is shown of a field within its column, the next one.
+fn push_shown<'a>(
+    alloc: Global,
+    options: &Options,
     widths: &ConstantDimension,
-    text: CowStr<'a>,
+    field: &'a str,
     cells: &mut Vec<CowStr<'a>>,
 ) -> Result<(), AllocError>
     ensures { OnOk result (map cow_str_bytes cells.new.items ≡ map cow_str_bytes cells.old.items
-        ++ spec.text_within overflow.entry (spec.room_of (spec.widths_in widths.now) (length cells.old.items)) (cow_str_bytes text.entry) ∷ []) }
+        ++ spec.text_within options.now.bounds.overflow (spec.room_of (spec.widths_in widths.now) (length cells.old.items)) (shown_text options.now field.now) ∷ []) }
 {
     let room = room_of(widths, cells.len());
-    let cell = lent_within(alloc, overflow, room, text)?;
+    let cell = cell_shown(alloc, options, room, field)?;
     Ok(cells.push(cell)?)
 }
 
@@ -69,8 +84,7 @@ fn cells_shown<'a>(
 {
     let mut cells = Vec::with_capacity(alloc, places.len())?;
     for place in places {
-        let text = shown_text(alloc, options, field_at(fields, *place))?;
-        push_within(alloc, options.bounds.overflow, widths, text, &mut cells)?;
+        push_shown(alloc, options, widths, field_at(fields, *place), &mut cells)?;
     }
     Ok(cells)
 }

@@ -17,9 +17,8 @@ loop-place-preserved c =
     let made = c.loop-place.cells.items in
     let width : ℕ → ℕ = widths_in c.args.widths.now in
     let here : c.field_at.result.now ≡ slice_index_or fields (slice_index_or places i 0) [] = search rules in
-    let shown : cow_str_bytes c.in_ok-text.text ≡ shown_text options (slice_index_or fields (slice_index_or places i 0) []) = c.in_ok-text.ensures ∙ ap (shown_text options) here in
-    within-next cow_str_bytes overflow width (λ place. shown_text options (slice_index_or fields place [])) places made c.push_within.new.cells.items i (omega arith)
-    (c.in_ok-push_within.ensures ∙ ap (λ (text : Text). map cow_str_bytes made ++ text_within overflow (room_of width (length made)) text ∷ []) shown)
+    within-next cow_str_bytes overflow width (λ place. shown_text options (slice_index_or fields place [])) places made c.push_shown.new.cells.items i (omega arith)
+    (c.in_ok-push_shown.ensures ∙ ap (λ (text : Text). map cow_str_bytes made ++ text_within overflow (room_of width (length made)) (shown_text options text) ∷ []) here)
     c.loop-place.invariant
 
 pub returns : goal.returns
