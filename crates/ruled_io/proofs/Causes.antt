@@ -6,12 +6,12 @@ use Rattle.std.specs.Result.{IsErrAnd, result_err}
 use Rattle.std.proofs.KnownBytes.{Appends-kept, Keeps-refl}
 use Rattle.std.proofs.lemmas.Bool.{false≢true, true≢false}
 use Rattle.pg_layout.specs.Text.{Text}
-use Rattle.ruled_sql.specs.declared.fault.DatabaseFault.{DatabaseFault}
-use Rattle.ruled_sql.specs.declared.fault.DatabaseFault.TheVariants as database
+use Rattle.ruled_database.specs.declared.fault.DatabaseFault.{DatabaseFault}
+use Rattle.ruled_database.specs.declared.fault.DatabaseFault.TheVariants as database
 use Rattle.ruled_sql.specs.declared.fault.QueryFault.TheVariants as query
 use Rattle.ruled_sql.specs.declared.fault.SqlFault.{SqlFault}
 use Rattle.ruled_sql.specs.declared.fault.SqlFault.TheVariants as sql
-use Rattle.ruled_sql.specs.declared.fault.TableFault.TheVariants as table
+use Rattle.ruled_database.specs.declared.fault.TableFault.TheVariants as table
 use Rattle.ruled_table.specs.View.{table_fault, table_text}
 use Rattle.ruled_table.specs.declared.fault.ViewFault.{ViewFault}
 use Rattle.ruled_io.specs.Databases.{LacksAnswer, LacksSelected, LacksStored}

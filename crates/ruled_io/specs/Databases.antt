@@ -2,8 +2,8 @@
 use Rattle.std.specs.Prelude.{◌≡◌, ⊤, ℕ, List, Option, Some, None, string_bytes}
 use Rattle.pg_layout.specs.Text.{Text}
 use Rattle.ruled_sql.specs.Answers.{AreAnswered, HoldsNone}
-use Rattle.ruled_sql.specs.Listings.{AreTable, IsListing, LacksListing, LacksTable}
-use Rattle.ruled_sql.specs.declared.fault.DatabaseFault.{DatabaseFault}
+use Rattle.ruled_database.specs.Listings.{AreTable, IsListing, LacksListing, LacksTable}
+use Rattle.ruled_database.specs.declared.fault.DatabaseFault.{DatabaseFault}
 use Rattle.ruled_sql.specs.declared.fault.SqlFault.{SqlFault}
 use Rattle.ruled_sql.specs.declared.fault.SqlFault.TheVariants as sql
 use Rattle.ruled_io.specs.declared.fault.InputFault.{InputFault}

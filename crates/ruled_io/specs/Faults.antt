@@ -6,12 +6,12 @@ use Rattle.ruled_csv.specs.Faults as csv
 use Rattle.ruled_json.specs.declared.fault.JsonFault.{JsonFault}
 use Rattle.ruled_json.specs.declared.fault.JsonFault.TheVariants as json_faults
 use Rattle.ruled_json.specs.Faults as json
-use Rattle.ruled_sql.specs.declared.fault.DatabaseFault.{DatabaseFault}
-use Rattle.ruled_sql.specs.declared.fault.DatabaseFault.TheVariants as database
+use Rattle.ruled_database.specs.declared.fault.DatabaseFault.{DatabaseFault}
+use Rattle.ruled_database.specs.declared.fault.DatabaseFault.TheVariants as database
 use Rattle.ruled_sql.specs.declared.fault.QueryFault.TheVariants as query
 use Rattle.ruled_sql.specs.declared.fault.SqlFault.{SqlFault}
 use Rattle.ruled_sql.specs.declared.fault.SqlFault.TheVariants as sql
-use Rattle.ruled_sql.specs.declared.fault.TableFault.TheVariants as table
+use Rattle.ruled_database.specs.declared.fault.TableFault.TheVariants as table
 use Rattle.ruled_table.specs.declared.fault.ViewFault.{ViewFault}
 use Rattle.ruled_table.specs.declared.fault.ViewFault.TheVariants as view
 use Rattle.ruled_io.specs.declared.fault.InputFault.{InputFault}

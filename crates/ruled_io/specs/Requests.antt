@@ -1,6 +1,6 @@
 -- What is asked of a run.
 use Rattle.std.specs.Prelude.{ℕ, max, Bool, true, false, List, Option, Some, None, option_map, if◌then◌else◌}
-use Rattle.ruled_sql.specs.Answers.{keeps_log}
+use Rattle.ruled_database.specs.Files.{keeps_log}
 use Rattle.ruled_io.specs.Formats as formats
 use Rattle.ruled_table.specs.Shown.{limit_of}
 use Rattle.ruled_table.specs.declared.options.Options.{Options}

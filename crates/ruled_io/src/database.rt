@@ -8,7 +8,8 @@ ghost use Rattle.ruled_io.specs.Runs.{AreAsked, LacksRowsAs};
 use crate::fault::InputFault;
 use crate::request::{Selection, Source};
 use csv::StringRecord;
-use ruled_sql::{list_rows, query_rows, table_rows};
+use ruled_database::{list_rows, table_rows};
+use ruled_sql::query_rows;
 use std::alloc::Global;
 
 // The rows of a selection, or the tables where there is none.

@@ -4,7 +4,7 @@ ghost use Rattle.std.specs.Prelude.{◌≡◌, option_map};
 ghost use Rattle.ruled_io.specs.Requests as spec;
 
 use crate::formats::{Format, Known, is_database};
-use ruled_sql::keeps_log;
+use ruled_database::keeps_log;
 use ruled_table::Options;
 
 /// What is known of the logs beside the file of a database.

@@ -1,8 +1,12 @@
--- What is known of a database that was opened, and of a statement that has shown its rows.
-use Rattle.std.proofs.Common.{◌≡◌, ◌∙◌, ℕ, [], List, IsTrue, true, Option, None, Some, Result, Ok, sym, ap, subst, subst₂}
+-- What is known of a database that was opened, of a statement that has shown its rows, and of the texts of these.
+use Rattle.std.proofs.Common.{◌≡◌, ◌<◌, ◌+◌, ◌∙◌, ◌∷◌, ◌++◌, ℕ, [], List, length, map, take, get_or, IsTrue, true, Option, None, Some, Result, Ok, sym, ap, subst, subst₂}
 use Rattle.std.specs.Prelude.{unwrap_or}
 use Rattle.std.proofs.lemmas.Bool.{and_from}
-use Rattle.sqlite_value.specs.Order.{Row}
+use Rattle.std.proofs.lemmas.List.{map-append, map_more, take_more}
+use Rattle.csv.specs.Records.{Row as Fields, fields_of}
+use Rattle.sqlite_value.specs.Order.{Row, column}
+use Rattle.sqlite_value.specs.declared.value.Value.{Value}
+use Rattle.sqlite_value.specs.declared.value.Value.TheVariants.{Null}
 use Rattle.sqlite_disk.specs.declared.Disk.{Ghosts}
 use Rattle.sqlite_pool.specs.Pool.{files}
 use Rattle.sqlite_pool.proofs.StateLemmas.{clean_is}
@@ -20,7 +24,8 @@ use Rattle.sqlite.specs.Outline.{Outline}
 use Rattle.sqlite.specs.Start.{FindsIn}
 use Rattle.sqlite.specs.State.{HasCleanDisk, IsLive, IsUnchanged, Opens, Shown, ShowsRows, State, mode_of, text_of}
 use Rattle.sqlite.specs.Steps.{Outlines, column_names}
-use Rattle.ruled_sql.specs.Answers.{IsAnswer, IsHeld, Shows, image_of}
+use Rattle.ruled_database.specs.Values.{shown_text}
+use Rattle.ruled_sql.specs.Answers.{IsAnswer, IsHeld, Shows, image_of, shown_rows}
 
 -- ---- databases
 
@@ -72,3 +77,32 @@ module _ (query : List ℕ) (old mid new : State) (rows : List Row) where
         shows = shows opens unlimited same limit none h.0 _ h.0.returning h.2;
         named = named_as (understood old.now.schema query) h.0 it is outlines;
       }
+
+-- ---- rows that are made one after another
+
+-- one element more of a list
+pub taken : {X : Type 0} (xs : List X) (i : ℕ) (x y : X) (old new : List X) → i < length xs → x ≡ get_or xs i x → new ≡ old ++ y ∷ [] → y ≡ x → old ≡ take i xs → new ≡ take (i + 1) xs
+taken {X} xs i x y old new within is pushed same before =
+    pushed
+    ∙ ap (λ (ys : List X). ys ++ y ∷ []) before
+    ∙ ap (λ (z : X). take i xs ++ z ∷ []) (same ∙ is)
+    ∙ sym (take_more xs i x within)
+
+-- one value more of a row
+pub value_more : (values : Row) (i : ℕ) (value : Value) (old new : List (List ℕ)) → i < length values → value ≡ column values i → new ≡ old ++ shown_text value ∷ []
+    → old ≡ map shown_text (take i values) → new ≡ map shown_text (take (i + 1) values)
+value_more values i value old new within is pushed before =
+    pushed
+    ∙ ap (λ (texts : List (List ℕ)). texts ++ shown_text value ∷ []) before
+    ∙ ap (λ (v : Value). map shown_text (take i values) ++ shown_text v ∷ []) is
+    ∙ sym (map_more shown_text values i Null within)
+
+-- one row more of an answer
+pub row_more : (names : List (List ℕ)) (answer : List Row) (i : ℕ) (x : Row) (rows : List Fields) (fields : Fields) → i < length answer → x ≡ get_or answer i x
+    → fields_of fields ≡ map shown_text x → map fields_of rows ≡ shown_rows names (take i answer) → map fields_of (rows ++ fields ∷ []) ≡ shown_rows names (take (i + 1) answer)
+row_more names answer i x rows fields within is made before =
+    map-append fields_of rows (fields ∷ [])
+    ∙ ap (λ (texts : List (List (List ℕ))). texts ++ fields_of fields ∷ []) before
+    ∙ ap (λ (text : List (List ℕ)). shown_rows names (take i answer) ++ text ∷ []) made
+    ∙ ap (λ (y : Row). shown_rows names (take i answer) ++ map shown_text y ∷ []) is
+    ∙ ap (λ (texts : List (List (List ℕ))). names ∷ texts) (sym (map_more (map shown_text) answer i x within))

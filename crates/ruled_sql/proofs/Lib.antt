@@ -1,5 +1,2 @@
 mod Answering
-mod Listing
 mod Refused
-mod Reading
-mod Tabling

@@ -1,11 +1,6 @@
 -- The rows that a query answers of the database that bytes hold.
-use Rattle.std.specs.Prelude.{◌≡◌, ◌≤◌, ◌==◌, ◌++◌, ℕ, Bool, false, List, [], ◌∷◌, length, map, codes, slice_index_or, Option, Some, None, unwrap_or, Ok}
-use Rattle.std.specs.Fmt.{signed_decimal}
-use Rattle.hex.specs.Hex.{encode_lower}
+use Rattle.std.specs.Prelude.{◌≡◌, ◌≤◌, ℕ, false, List, [], ◌∷◌, length, map, Option, Some, None, unwrap_or, Ok}
 use Rattle.sqlite_value.specs.Order.{Row}
-use Rattle.sqlite_value.specs.declared.value.Value.{Value}
-use Rattle.sqlite_value.specs.declared.value.Value.TheVariants.{Null, Int, Real, Text, Blob}
-use Rattle.sqlite_sql.specs.Spelling.{spelled}
 use Rattle.sqlite_trees.specs.Tree.{Trees}
 use Rattle.sqlite_wal.specs.Recovery.{Image}
 use Rattle.sqlite_schema.specs.declared.command.Returning.{Returning}
@@ -18,6 +13,7 @@ use Rattle.sqlite.specs.Files.{AreFoundIn, HoldsDatabase}
 use Rattle.sqlite.specs.Listing.{IsSourceOf, reads_listing, understood}
 use Rattle.sqlite.specs.State.{text_of}
 use Rattle.sqlite.specs.Steps.{column_names}
+use Rattle.ruled_database.specs.Values.{shown_text}
 
 -- ---- the database
 
@@ -63,14 +59,6 @@ pub record IsAnswer (query : List ℕ) (db : Database) (names : List (List ℕ))
 
 -- ---- texts
 
--- a value as a text: nothing for NULL, numbers as SQLite writes them, and bytes that are no text as a literal of SQL
-abbrev pub shown_text : Value → List ℕ
-shown_text Null = []
-shown_text (Int n) = signed_decimal n
-shown_text (Real x) = spelled x
-shown_text (Text bytes) = bytes
-shown_text (Blob bytes) = codes "x'" ++ (encode_lower bytes ++ codes "'")
-
 -- rows of texts, of which the names are row 0
 abbrev pub shown_rows : List (List ℕ) → List Row → List (List (List ℕ))
 shown_rows names rows = names ∷ map (map shown_text) rows
@@ -83,9 +71,3 @@ pub record AreAnswered (bytes query : List ℕ) (rows : List (List (List ℕ))) 
   pub answer : List Row
   pub is : IsAnswer query database names answer
   pub shown : rows ≡ shown_rows names answer
-
--- ---- logs
-
--- the bytes are those of a database that keeps a log beside its file
-abbrev pub keeps_log : List ℕ → Bool
-keeps_log bytes = slice_index_or bytes 18 0 == 2

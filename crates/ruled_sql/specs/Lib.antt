@@ -1,12 +1,2 @@
 pub mod Answers
 pub mod Pages
-pub mod Files
-pub mod Reads
-pub mod Trees
-pub mod Reading
-pub mod Rows
-pub mod Tokens
-pub mod Definitions
-pub mod Tables
-pub mod Listings
-pub mod Faults

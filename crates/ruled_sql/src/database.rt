@@ -8,7 +8,6 @@ ghost use Rattle.sqlite.specs.State.{HasCleanDisk, Opens};
 ghost use Rattle.sqlite.specs.declared.error.Error.TheVariants.{SqliteFailure};
 ghost use Rattle.sqlite.specs.declared.error.ErrorCode.TheVariants.{NotADatabase};
 ghost use Rattle.sqlite_disk.specs.Memory.{memory_bytes, memory_is_usable};
-ghost use Rattle.ruled_sql.specs.Answers as spec;
 ghost use Rattle.ruled_sql.specs.Answers.{HoldsNone, IsAnswer, image_of};
 ghost use Rattle.ruled_sql.specs.Pages.{kept_pages};
 ghost use Rattle.ruled_sql.specs.declared.fault.SqlFault.{SqlFault};
@@ -17,14 +16,6 @@ use crate::fault::{QueryFault, SqlFault};
 use sqlite::{Alter, Connection, Error, ErrorCode, FileStore, Files, Options, Row, Statement};
 use sqlite_disk::{Disk, Memory};
 use std::alloc::Global;
-
-/// Whether these are the bytes of a database in WAL mode, whose latest rows may stand in a log beside
-/// its file.
-pub fn keeps_log(bytes: &[u8]) -> bool
-    ensures { result ≡ spec.keeps_log bytes.now }
-{
-    matches!(bytes.get(18), Some(2))
-}
 
 // A copy of bytes, as a file in memory.
 fn copy_of(alloc: Global, bytes: &[u8]) -> Result<Memory, SqlFault>

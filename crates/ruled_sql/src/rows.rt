@@ -2,13 +2,14 @@
 
 ghost use Rattle.std.specs.Prelude.{◌≡◌, map, Err, IfOk};
 ghost use Rattle.csv.specs.Records.{fields_of};
-ghost use Rattle.ruled_sql.specs.Answers.{AreAnswered, HoldsNone, shown_rows, shown_text};
+ghost use Rattle.ruled_database.specs.Values.{shown_text};
+ghost use Rattle.ruled_sql.specs.Answers.{AreAnswered, HoldsNone, shown_rows};
 ghost use Rattle.ruled_sql.specs.declared.fault.SqlFault.TheVariants.{Database};
 
 use crate::database::{answer_of, open};
 use crate::fault::{QueryFault, SqlFault};
-use crate::value::{push_text, push_value};
 use csv::StringRecord;
+use ruled_database::{push_text, push_value};
 use sqlite::Row;
 use sqlite_value::value::Bytes;
 use std::alloc::Global;
@@ -53,9 +54,8 @@ fn rows_in(alloc: Global, names: &[Bytes], answer: &[Row]) -> Result<Vec<StringR
 /// The rows that a query answers of the database that the bytes of its file hold, with the names of the
 /// columns as row 0.
 ///
-/// A text is shown as it is, a number as SQLite writes it (`12`, `1.0`, `1.5e+20`), `NULL` as an empty
-/// text, and a blob as `x'00ff'`. The query is one statement without parameters that changes nothing.
-/// What stands in a log beside the file isn't seen: [`crate::keeps_log`] tells whether there may be one.
+/// A value is shown as by [`push_value`]. The query is one statement without parameters that changes nothing.
+/// Rows in a log beside the file aren't seen: [`ruled_database::keeps_log`] says whether there may be a log.
 pub fn query_rows(alloc: Global, bytes: &[u8], query: &str) -> Result<Vec<StringRecord>, SqlFault>
     ensures rows { IfOk result (λ rows. AreAnswered bytes.now query.now (map fields_of rows.items)) }
     ensures none { result ≡ Err Database → HoldsNone bytes.now }

@@ -2,8 +2,8 @@ use Rattle.std.proofs.Common.{◌≡◌, ◌∙◌, length, map, ap, arith}
 use Rattle.std.proofs.lemmas.List.{take_all}
 use Rattle.csv.specs.Records.{fields_of}
 use Rattle.sqlite_value.specs.Value.{owned}
-use Rattle.ruled_sql.specs.Answers.{shown_text}
-use Rattle.ruled_sql.proofs.Listing.{value_more}
+use Rattle.ruled_database.specs.Values.{shown_text}
+use Rattle.ruled_sql.proofs.Answering.{value_more}
 use Rattle.ruled_sql.proofs.rows.fields_in.Goals as goal
 
 pub loop-at-preserved : goal.loop-at-preserved

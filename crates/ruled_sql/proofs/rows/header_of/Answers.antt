@@ -1,6 +1,6 @@
 use Rattle.std.proofs.Common.{◌≡◌, arith, rules}
 use Rattle.csv.specs.Records.{fields_of}
-use Rattle.ruled_sql.proofs.Listing.{taken}
+use Rattle.ruled_sql.proofs.Answering.{taken}
 use Rattle.ruled_sql.proofs.rows.header_of.Goals as goal
 
 pub loop-name-preserved : goal.loop-name-preserved

@@ -1,5 +1,5 @@
 use Rattle.std.proofs.Common.{arith}
-use Rattle.ruled_sql.proofs.Listing.{row_more}
+use Rattle.ruled_sql.proofs.Answering.{row_more}
 use Rattle.ruled_sql.proofs.rows.rows_in.Goals as goal
 
 pub loop-values-preserved : goal.loop-values-preserved

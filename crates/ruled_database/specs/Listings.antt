@@ -1,0 +1,236 @@
+-- The tables that a database lists, and the rows of one.
+use Rattle.std.specs.Prelude.{◌≡◌, ◌≢◌, ⊤, ℕ, ◌^◌, ◌==◌, nat_lt, true, false, List, [], ◌∷◌, ◌++◌, codes, bytes_eq, unsigned_abs, Option, Some, None, option_map, if◌then◌else◌}
+use Rattle.std.specs.Option.{option_and_then, option_or, unwrap_or}
+use Rattle.std.specs.Str.{str_eq_ignore_ascii_case}
+use Rattle.csv.specs.Records.{field_at}
+use Rattle.sqlite_format.specs.declared.kind.Tree.TheVariants as tree
+use Rattle.sqlite_sql.specs.Numeral.{int_at_front}
+use Rattle.ruled_database.specs.Definitions.{definition_of}
+use Rattle.ruled_database.specs.Files.{has_header, has_utf8}
+use Rattle.ruled_database.specs.Tables.{AreRows, IsDamaged, names_in}
+use Rattle.ruled_database.specs.declared.definition.Column.{Column}
+use Rattle.ruled_database.specs.declared.definition.Definition.{Definition}
+use Rattle.ruled_database.specs.declared.fault.DatabaseFault.{DatabaseFault}
+use Rattle.ruled_database.specs.declared.fault.DatabaseFault.TheVariants.{Database, Encoding, Schema, Absent, Elsewhere, Keyed, Computed, Table}
+use Rattle.ruled_database.specs.declared.fault.TableFault.{TableFault}
+use Rattle.ruled_database.specs.declared.fault.TableFault.TheVariants as row
+use Rattle.ruled_database.specs.declared.schema.ItemKind.{ItemKind}
+use Rattle.ruled_database.specs.declared.schema.ItemKind.TheVariants as kind
+use Rattle.ruled_database.specs.declared.schema.Listed.{Listed}
+
+abbrev pub Text : Type 0
+Text = List ℕ
+
+-- ---- the entries of a schema
+
+abbrev pub text_at : List Text → ℕ → Text
+text_at row place = unwrap_or (field_at row place) []
+
+-- the number of a page, or 0
+unfoldable pub root_of : Text → ℕ
+root_of text = let root = unsigned_abs (int_at_front text) in if nat_lt root (2 ^ 32) then root else 0
+
+-- a table without a page of its own is a virtual one
+abbrev pub kind_of : Text → ℕ → Option ItemKind
+kind_of word root =
+    if bytes_eq word (codes "table") then Some (if root == 0 then kind.VirtualTable else kind.Table)
+    else if bytes_eq word (codes "view") then Some kind.View
+    else None
+
+-- a table or a view
+pub record Entry : Type 0 where
+  pub kind : ItemKind
+  pub name : Text
+  pub root : ℕ
+  pub statement : Text
+
+abbrev pub entry_of : Listed → Entry
+entry_of it = record { kind = it.kind; name = it.name.now; root = it.root; statement = it.statement.now }
+
+-- an entry has a type, a name, a table, a page and a statement
+abbrev pub entry_by : List Text → ItemKind → Entry
+entry_by row kind = record { kind = kind; name = text_at row 1; root = root_of (text_at row 3); statement = text_at row 4 }
+
+unfoldable pub entry_in : List Text → Option Entry
+entry_in row = option_map (entry_by row) (kind_of (text_at row 0) (root_of (text_at row 3)))
+
+-- names are equal in any case
+abbrev pub if_named : Text → Entry → Option Entry
+if_named name entry = if str_eq_ignore_ascii_case entry.name name then Some entry else None
+
+unfoldable pub named_in : Text → List Text → Option Entry
+named_in name row = option_and_then (if_named name) (entry_in row)
+
+-- the first one of a name
+abbrev pub find : Text → List (List Text) → Option Entry
+find name [] = None
+find name (row ∷ rows) = option_or (named_in name row) (find name rows)
+
+-- ---- the schema
+
+-- a database that is read
+abbrev pub IsRead : List ℕ → Type 0
+IsRead file = (has_header file ≡ true) × (has_utf8 file ≡ true)
+
+unfoldable pub schema_definition : Definition
+schema_definition = definition_of (codes "create table sqlite_schema(type text, name text, tbl_name text, rootpage integer, sql text)")
+
+-- the schema is the table that begins at page 1
+abbrev pub AreListed : List ℕ → List (List Text) → Type 0
+AreListed file rows = AreRows file tree.Table 1 schema_definition rows
+
+-- the entry of a name
+pub record IsListed (file name : List ℕ) (entry : Entry) : Type 0 where
+  pub rows : List (List Text)
+  pub listed : AreListed file rows
+  pub found : find name rows ≡ Some entry
+
+-- ---- a table
+
+-- a table whose rows are stored in full, in the order of rowids
+pub record IsStored (entry : Entry) (definition : Definition) : Type 0 where
+  pub kind : entry.kind ≡ kind.Table
+  pub declared : definition ≡ definition_of entry.statement
+  pub by_rowid : definition.keyed ≡ false
+  pub whole : definition.computed ≡ false
+
+-- row 0 is the names of the columns
+abbrev pub AreNamedRows : List ℕ → ℕ → Definition → List (List Text) → Type 0
+AreNamedRows file root definition rows = (shown : List (List Text)) × AreRows file tree.Table root definition shown × (rows ≡ names_in definition.columns ∷ shown)
+
+-- the rows of an entry
+pub record AreEntryRows (file : List ℕ) (entry : Entry) (rows : List (List Text)) : Type 0 where
+  pub definition : Definition
+  pub stored : IsStored entry definition
+  pub shown : AreNamedRows file entry.root definition rows
+
+-- the rows of the table of a name
+pub record AreTable (file name : List ℕ) (rows : List (List Text)) : Type 0 where
+  pub read : IsRead file
+  pub entry : Entry
+  pub listed : IsListed file name entry
+  pub shown : AreEntryRows file entry rows
+
+-- ---- the list of all
+
+abbrev pub behind : List Column → Text
+behind [] = []
+behind (column ∷ columns) = codes ", "
+
+abbrev pub line_of : List Column → Text
+line_of [] = []
+line_of (column ∷ columns) = column.name ++ (behind columns ++ line_of columns)
+
+abbrev pub columns_by : ItemKind → Text → Text
+columns_by kind.Table statement = line_of (definition_of statement).columns
+columns_by kind.VirtualTable statement = []
+columns_by kind.View statement = []
+
+abbrev pub columns_of : Entry → Text
+columns_of entry = columns_by entry.kind entry.statement
+
+abbrev pub kind_name : ItemKind → Text
+kind_name kind.Table = codes "table"
+kind_name kind.VirtualTable = codes "virtual table"
+kind_name kind.View = codes "view"
+
+abbrev pub fields_of_entry : Entry → List Text
+fields_of_entry entry = entry.name ∷ (kind_name entry.kind ∷ (columns_of entry ∷ []))
+
+abbrev pub header : List Text
+header = codes "name" ∷ (codes "kind" ∷ (codes "columns" ∷ []))
+
+abbrev pub with_entry : List (List Text) → Option Entry → List (List Text)
+with_entry rows None = rows
+with_entry rows (Some entry) = rows ++ fields_of_entry entry ∷ []
+
+abbrev pub with_entries : List (List Text) → List (List Text) → List (List Text)
+with_entries rows [] = rows
+with_entries rows (entry ∷ entries) = with_entries (with_entry rows (entry_in entry)) entries
+
+-- the tables and views of a schema, below the names of the columns
+abbrev pub listing : List (List Text) → List (List Text)
+listing schema = with_entries (header ∷ []) schema
+
+pub record IsListing (file : List ℕ) (rows : List (List Text)) : Type 0 where
+  pub read : IsRead file
+  pub schema : List (List Text)
+  pub listed : AreListed file schema
+  pub shown : rows ≡ listing schema
+
+-- ---- faults
+
+abbrev pub LacksFile : List ℕ → DatabaseFault → Type 0
+LacksFile file Database = has_header file ≡ false
+LacksFile file Encoding = has_utf8 file ≡ false
+LacksFile file (Schema fault) = ⊥
+LacksFile file Absent = ⊥
+LacksFile file Elsewhere = ⊥
+LacksFile file Keyed = ⊥
+LacksFile file Computed = ⊥
+LacksFile file (Table fault) = ⊥
+
+-- why a table's rows can't be read
+abbrev pub LacksRows : List ℕ → ℕ → Definition → TableFault → Type 0
+LacksRows file root definition row.Damage = IsDamaged file tree.Table root definition
+LacksRows file root definition row.Default = IsDamaged file tree.Table root definition
+LacksRows file root definition (row.Encoding at) = ⊤
+LacksRows file root definition row.Memory = ⊤
+
+abbrev pub LacksSchema : List ℕ → DatabaseFault → Type 0
+LacksSchema file Database = ⊥
+LacksSchema file Encoding = ⊥
+LacksSchema file (Schema fault) = LacksRows file 1 schema_definition fault
+LacksSchema file Absent = ⊥
+LacksSchema file Elsewhere = ⊥
+LacksSchema file Keyed = ⊥
+LacksSchema file Computed = ⊥
+LacksSchema file (Table fault) = fault ≡ row.Memory
+
+abbrev pub LacksDefinition : Entry → DatabaseFault → Type 0
+LacksDefinition entry Database = ⊥
+LacksDefinition entry Encoding = ⊥
+LacksDefinition entry (Schema fault) = ⊥
+LacksDefinition entry Absent = ⊥
+LacksDefinition entry Elsewhere = entry.kind ≢ kind.Table
+LacksDefinition entry Keyed = (definition_of entry.statement).keyed ≡ true
+LacksDefinition entry Computed = (definition_of entry.statement).computed ≡ true
+LacksDefinition entry (Table fault) = fault ≡ row.Memory
+
+-- why an entry has no rows to show
+abbrev pub LacksEntry : List ℕ → Entry → DatabaseFault → Type 0
+LacksEntry file entry Database = ⊥
+LacksEntry file entry Encoding = ⊥
+LacksEntry file entry (Schema fault) = ⊥
+LacksEntry file entry Absent = ⊥
+LacksEntry file entry Elsewhere = entry.kind ≢ kind.Table
+LacksEntry file entry Keyed = (definition_of entry.statement).keyed ≡ true
+LacksEntry file entry Computed = (definition_of entry.statement).computed ≡ true
+LacksEntry file entry (Table fault) = LacksRows file entry.root (definition_of entry.statement) fault
+
+abbrev pub LacksListed : List ℕ → List ℕ → DatabaseFault → Type 0
+LacksListed file name fault = (entry : Entry) × IsListed file name entry × LacksEntry file entry fault
+
+-- why the rows of a table aren't shown
+abbrev pub LacksTable : List ℕ → List ℕ → DatabaseFault → Type 0
+LacksTable file name Database = has_header file ≡ false
+LacksTable file name Encoding = has_utf8 file ≡ false
+LacksTable file name (Schema fault) = LacksRows file 1 schema_definition fault
+LacksTable file name Absent = (rows : List (List Text)) × AreListed file rows × (find name rows ≡ None)
+LacksTable file name Elsewhere = LacksListed file name Elsewhere
+LacksTable file name Keyed = LacksListed file name Keyed
+LacksTable file name Computed = LacksListed file name Computed
+LacksTable file name (Table row.Damage) = LacksListed file name (Table row.Damage)
+LacksTable file name (Table row.Default) = LacksListed file name (Table row.Default)
+LacksTable file name (Table (row.Encoding at)) = LacksListed file name (Table (row.Encoding at))
+LacksTable file name (Table row.Memory) = ⊤
+
+abbrev pub LacksListing : List ℕ → DatabaseFault → Type 0
+LacksListing file Database = has_header file ≡ false
+LacksListing file Encoding = has_utf8 file ≡ false
+LacksListing file (Schema fault) = LacksRows file 1 schema_definition fault
+LacksListing file Absent = ⊥
+LacksListing file Elsewhere = ⊥
+LacksListing file Keyed = ⊥
+LacksListing file Computed = ⊥
+LacksListing file (Table fault) = fault ≡ row.Memory

@@ -1,0 +1,98 @@
+-- The rows of a table, as they are shown.
+use Rattle.std.specs.Prelude.{◌≡◌, ◌<◌, ◌⊎◌, ℕ, ℤ, nat_le, nat_lt, List, [], ◌∷◌, ◌++◌, length, map, Option, Some, None, Result, Ok, Err, if◌then◌else◌}
+use Rattle.std.specs.Int.{cast_signed, w64}
+use Rattle.std.specs.Option.{option_and_then}
+use Rattle.sqlite_format.specs.Cell.{flip_sign}
+use Rattle.sqlite_format.specs.declared.kind.Tree.{Tree}
+use Rattle.sqlite_record.specs.Affinity.{as_real}
+use Rattle.sqlite_record.specs.Record.{decode}
+use Rattle.sqlite_value.specs.Order.{Row, column}
+use Rattle.sqlite_value.specs.declared.value.Value.{Value}
+use Rattle.sqlite_value.specs.declared.value.Value.TheVariants.{Int}
+use Rattle.ruled_database.specs.Values.{shown_text}
+use Rattle.ruled_database.specs.Files.{page_count}
+use Rattle.ruled_database.specs.Reads.{Read, all}
+use Rattle.ruled_database.specs.Trees.{Stored, record_of, rows_below}
+use Rattle.ruled_database.specs.declared.definition.Column.{Column}
+use Rattle.ruled_database.specs.declared.definition.Definition.{Definition}
+use Rattle.ruled_database.specs.declared.definition.Shown.{Shown}
+use Rattle.ruled_database.specs.declared.definition.Shown.TheVariants.{Values, Reals, Rowids}
+use Rattle.ruled_database.specs.declared.fault.TableFault.{TableFault}
+use Rattle.ruled_database.specs.declared.fault.TableFault.TheVariants.{Damage, Default, Encoding, Memory}
+
+-- ---- the texts of a row
+
+-- the rowid that a key stands for
+abbrev pub rowid : ℕ → ℤ
+rowid key = cast_signed w64 (flip_sign key)
+
+module _ (definition : Definition) where
+  -- the value at a place of a record; that of the defaults where the record is older than the column
+  abbrev pub value_at : Row → ℕ → Value
+  value_at values place = if nat_lt place (length values) then column values place else column definition.defaults place
+
+  -- the value of a column
+  abbrev pub value_by : Shown → ℕ → Row → ℕ → Value
+  value_by Values key values place = value_at values place
+  value_by Reals key values place = as_real (value_at values place)
+  value_by Rowids key values place = Int (rowid key)
+
+  abbrev pub value_in : ℕ → Row → Column → Value
+  value_in key values it = value_by it.shown key values it.place
+
+  abbrev pub texts_in : ℕ → Row → List (List ℕ)
+  texts_in key values = map (λ it. shown_text (value_in key values it)) definition.columns
+
+  -- the row, where no column lacks its value
+  abbrev pub row_in : ℕ → Row → Option (List (List (List ℕ)))
+  row_in key values = if nat_le definition.least (length values) then Some (texts_in key values ∷ []) else None
+
+-- the names of columns
+abbrev pub names_in : List Column → List (List ℕ)
+names_in columns = map (λ it. it.name) columns
+
+-- ---- the rows of a tree
+
+module _ (file : List ℕ) (definition : Definition) where
+  -- the texts of a row, with the overflow pages that it takes
+  abbrev pub shown_row : Stored → Read (List (List (List ℕ)))
+  shown_row row = ((record_of file row).0, option_and_then (λ bytes. row_in definition row.key (decode bytes)) (record_of file row).1)
+
+  abbrev pub shown_rows_of : List Stored → Read (List (List (List ℕ)))
+  shown_rows_of rows = all (map shown_row rows)
+
+-- no tree has more levels
+abbrev pub most_levels : ℕ
+most_levels = 20
+
+-- a part isn't sound, or takes more pages than the file has
+abbrev pub IsUnsound : {X : Type 0} → List ℕ → Read (List X) → Type 0
+IsUnsound file read = (read.1 ≡ None) ⊎ (page_count file < read.0)
+
+-- the rows of the tree that begins at this page
+pub record AreRows (file : List ℕ) (tree : Tree) (root : ℕ) (definition : Definition) (rows : List (List (List ℕ))) : Type 0 where
+  pub stored : List Stored
+  pub walked : (rows_below file tree most_levels root).1 ≡ Some stored
+  pub shown : (shown_rows_of file definition stored).1 ≡ Some rows
+
+-- its pages, or those of its rows
+abbrev pub IsDamaged : List ℕ → Tree → ℕ → Definition → Type 0
+IsDamaged file tree root definition =
+    IsUnsound file (rows_below file tree most_levels root)
+    ⊎ ((stored : List Stored) × ((rows_below file tree most_levels root).1 ≡ Some stored) × IsUnsound file (shown_rows_of file definition stored))
+
+-- what the walk through a tree gives
+abbrev pub Walks : {P : Type 0} → (P → List Stored) → List ℕ → Tree → ℕ → Result P TableFault → Type 0
+Walks shown file tree root (Ok it) = (rows_below file tree most_levels root).1 ≡ Some (shown it)
+Walks shown file tree root (Err Damage) = IsUnsound file (rows_below file tree most_levels root)
+Walks shown file tree root (Err Default) = IsUnsound file (rows_below file tree most_levels root)
+Walks shown file tree root (Err (Encoding row)) = Unit {0}
+Walks shown file tree root (Err Memory) = Unit {0}
+
+-- the rows of a table stand behind others
+abbrev pub AddsRows : {U : Type 0} → List ℕ → Tree → ℕ → Definition → List (List (List ℕ)) → List (List (List ℕ)) → Result U TableFault → Type 0
+AddsRows file tree root definition old new (Ok x) = (rows : List (List (List ℕ))) × AreRows file tree root definition rows × (new ≡ old ++ rows)
+AddsRows file tree root definition old new (Err Damage) = IsDamaged file tree root definition
+AddsRows file tree root definition old new (Err Default) = IsDamaged file tree root definition
+AddsRows file tree root definition old new (Err (Encoding row)) = Unit {0}
+AddsRows file tree root definition old new (Err Memory) = Unit {0}

@@ -1,0 +1,103 @@
+//! The bytes of a database's file, by pages.
+
+ghost use Rattle.std.specs.Prelude.{◌≡◌, ◌≤◌, length, slice_index, false, true, MatchOption, option_map, ⊤};
+ghost use Rattle.sqlite_pages.specs.PageMap.{IsUsableSize};
+ghost use Rattle.ruled_database.specs.Files as spec;
+ghost use Rattle.ruled_database.specs.Files.{has_utf8};
+
+use sqlite_format::bytes::{get_u16, get_u32};
+
+/// How many bytes the header of a file has.
+const HEADER: usize = 100;
+
+/// The bytes of a file, and how large its pages are.
+#[derive(Clone, Copy)]
+pub(crate) struct File<'a> {
+    bytes: &'a [u8],
+    page_size: usize,
+    usable: usize,
+    ghost sized: { page_size ≡ spec.bytes_of_page bytes.now },
+    ghost used: { usable ≡ spec.usable_size bytes.now },
+    ghost fits: { IsUsableSize usable },
+    ghost within: { usable ≤ page_size },
+    ghost small: { page_size ≤ 65536 },
+    ghost headed: { 100 ≤ length bytes.now },
+}
+
+/// Whether these are the bytes of a database in WAL mode, whose latest rows may be in a log beside its
+/// file.
+pub fn keeps_log(bytes: &[u8]) -> bool
+    ensures { result ≡ spec.keeps_log bytes.now }
+{
+    matches!(bytes.get(18), Some(2))
+}
+
+// How many bytes a page has.
+fn page_size(bytes: &[u8]) -> usize
+    requires { 18 ≤ length bytes.now }
+    ensures value { result ≡ spec.bytes_of_page bytes.now }
+    ensures fits { result ≤ 65536 }
+{
+    match get_u16(bytes, 16) {
+        1 => 65536,
+        size => size,
+    }
+}
+
+impl<'a> File<'a> {
+    #[tactic(auto, unfolding(crate::specs::Files::has_header))]
+    /// The file of these bytes, where they begin with the header of a database.
+    pub(crate) fn of(bytes: &'a [u8]) -> Option<File<'a>>
+        ensures { MatchOption result (spec.has_header bytes.now ≡ false) (λ file. (spec.has_header bytes.now ≡ true) × (file.bytes.now ≡ bytes.now)) }
+    {
+        if !bytes.starts_with(b"SQLite format 3\0") || bytes.len() < HEADER {
+            return None;
+        }
+        let page_size = page_size(bytes);
+        let usable = page_size.saturating_sub(usize::from(bytes[20]));
+        if usable < 480 {
+            return None;
+        }
+        Some(File {
+            bytes,
+            page_size,
+            usable,
+        })
+    }
+
+    /// How many bytes of a page are used.
+    pub(crate) fn usable(&self) -> usize
+        ensures value { result ≡ spec.usable_size self.now.bytes.now }
+        ensures fits { IsUsableSize result }
+    {
+        self.usable
+    }
+
+    /// Whether its texts are in UTF-8.
+    pub(crate) fn has_utf8(&self) -> bool
+        ensures { result ≡ has_utf8 self.now.bytes.now }
+    {
+        get_u32(self.bytes, 56) <= 1
+    }
+
+    /// How many pages it has.
+    pub(crate) fn pages(&self) -> usize
+        ensures { result ≡ spec.page_count self.now.bytes.now }
+    {
+        self.bytes.len() / self.page_size
+    }
+
+    #[tactic(auto, unfolding(crate::specs::Files::page))]
+    /// The used bytes of the page of this number.
+    pub(crate) fn page(&self, number: u32) -> Option<&'a [u8]>
+        ensures bytes { option_map (λ page. page.now) result ≡ spec.page self.now.bytes.now number }
+        ensures usable { MatchOption result ⊤ (λ page. length page.now ≡ spec.usable_size self.now.bytes.now) }
+    {
+        let end = number as usize * self.page_size;
+        if number == 0 || end > self.bytes.len() {
+            return None;
+        }
+        let start = end - self.page_size;
+        Some(&self.bytes[start..start + self.usable])
+    }
+}

@@ -1,0 +1,19 @@
+//! The rows of a table of an SQLite database, read from the bytes of its file by the file's format, and the list of its
+//! tables.
+#![tactic(auto)]
+
+mod definition;
+mod fault;
+mod file;
+mod overflow;
+mod page;
+mod schema;
+mod table;
+mod token;
+mod tree;
+mod value;
+
+pub use crate::fault::{DatabaseFault, TableFault, TextFault};
+pub use crate::file::keeps_log;
+pub use crate::schema::{list_rows, table_rows};
+pub use crate::value::{push_text, push_value};

@@ -1,0 +1,310 @@
+//! The tables of a database, as its schema lists them.
+
+ghost use Rattle.std.specs.Prelude.{◌≡◌, ◌∷◌, map, option_map, IfErr, IfOk};
+ghost use Rattle.csv.specs.Records.{fields_of};
+ghost use Rattle.ruled_database.specs.Listings as spec;
+ghost use Rattle.ruled_database.specs.Listings.{AreEntryRows, AreListed, AreTable, IsListing, LacksEntry, LacksListing, LacksSchema, LacksTable, entry_of};
+
+use crate::definition::{Column, Definition, definition_of};
+use crate::fault::{DatabaseFault, TableFault, TextFault};
+use crate::file::File;
+use crate::table::{names_of, push_rows};
+use crate::value::push_text;
+use csv::StringRecord;
+use sqlite_format::Tree;
+use sqlite_sql::numeral::int_at_front;
+use std::alloc::{AllocError, Global};
+
+/// What an entry of the schema is.
+#[derive(Clone, Copy)]
+pub(crate) enum ItemKind {
+    /// A table whose rows the file has.
+    Table,
+    /// A table whose rows a module makes.
+    VirtualTable,
+    View,
+}
+
+/// A table or a view that a schema lists.
+#[derive(Clone, Copy)]
+pub(crate) struct Listed<'r> {
+    kind: ItemKind,
+    name: &'r str,
+    /// The page at which its tree begins, or 0.
+    root: u32,
+    statement: &'r str,
+}
+
+/// The statement that declares the columns of a schema.
+const SCHEMA: &[u8] =
+    b"create table sqlite_schema(type text, name text, tbl_name text, rootpage integer, sql text)";
+
+// The text at a place of an entry.
+fn text_at(row: &StringRecord, place: usize) -> &str
+    ensures { result.now ≡ spec.text_at (fields_of row.now) place }
+{
+    row.get(place).unwrap_or("")
+}
+
+#[tactic(auto, unfolding(crate::specs::Listings::root_of))]
+// The page of this number, or 0.
+fn root_of(text: &str) -> u32
+    ensures { result ≡ spec.root_of text.now }
+{
+    let root = int_at_front(text.as_bytes()).unsigned_abs();
+    if root < 1 << 32 { root as u32 } else { 0 }
+}
+
+// What an entry is, where it is a table or a view.
+fn kind_of(word: &str, root: u32) -> Option<ItemKind>
+    ensures { result ≡ spec.kind_of word.now root }
+{
+    match word {
+        "table" if root == 0 => Some(ItemKind::VirtualTable),
+        "table" => Some(ItemKind::Table),
+        "view" => Some(ItemKind::View),
+        _ => None,
+    }
+}
+
+#[tactic(auto, unfolding(crate::specs::Listings::entry_in))]
+// The table or the view that an entry of the schema lists.
+fn listed_in(row: &StringRecord) -> Option<Listed<'_>>
+    ensures { option_map entry_of result ≡ spec.entry_in (fields_of row.now) }
+{
+    let root = root_of(text_at(row, 3));
+    let kind = kind_of(text_at(row, 0), root)?;
+    Some(Listed {
+        kind,
+        name: text_at(row, 1),
+        root,
+        statement: text_at(row, 4),
+    })
+}
+
+#[tactic(auto, unfolding(crate::specs::Listings::named_in))]
+// The entry, if it has this name, in any case.
+fn named_in<'r>(row: &'r StringRecord, name: &str) -> Option<Listed<'r>>
+    ensures { option_map entry_of result ≡ spec.named_in name.now (fields_of row.now) }
+{
+    let listed = listed_in(row)?;
+    if listed.name.eq_ignore_ascii_case(name) {
+        Some(listed)
+    } else {
+        None
+    }
+}
+
+// The first table or view of this name.
+fn find<'r>(mut schema: &'r [StringRecord], name: &str) -> Option<Listed<'r>>
+    ensures { option_map entry_of result ≡ spec.find name.now (map fields_of schema.entry.now) }
+{
+    while let [row, rest @ ..] = schema {
+        if let Some(listed) = named_in(row, name) {
+            return Some(listed);
+        }
+        schema = rest;
+    }
+    None
+}
+
+#[tactic(auto, unfolding(crate::specs::Listings::schema_definition))]
+// The entries of a schema: the type, the name, the table, the page and the statement of each.
+fn schema_rows(alloc: Global, file: File<'_>) -> Result<Vec<StringRecord>, DatabaseFault>
+    ensures rows { IfOk result (λ rows. AreListed file.entry.bytes.now (map fields_of rows.items)) }
+    ensures fault { IfErr result (LacksSchema file.entry.bytes.now) }
+{
+    let definition = definition_of(alloc, SCHEMA)?;
+    let mut rows = Vec::new(alloc);
+    match push_rows(alloc, file, Tree::Table, 1, &definition, &mut rows) {
+        Ok(()) => Ok(rows),
+        Err(fault) => Err(DatabaseFault::Schema(fault)),
+    }
+}
+
+// What the statement of a table declares, where its rows are read.
+fn stored_definition(alloc: Global, listed: Listed<'_>) -> Result<Definition, DatabaseFault>
+    ensures value { IfOk result (λ it. spec.IsStored (entry_of listed.entry) it) }
+    ensures fault { IfErr result (spec.LacksDefinition (entry_of listed.entry)) }
+{
+    if !matches!(listed.kind, ItemKind::Table) {
+        return Err(DatabaseFault::Elsewhere);
+    }
+    let definition = definition_of(alloc, listed.statement.as_bytes())?;
+    if definition.keyed {
+        return Err(DatabaseFault::Keyed);
+    }
+    if definition.computed {
+        return Err(DatabaseFault::Computed);
+    }
+    Ok(definition)
+}
+
+// The rows of the table that begins at this page, with the names of its columns as row 0.
+fn rows_of(
+    alloc: Global,
+    file: File<'_>,
+    root: u32,
+    definition: &Definition,
+) -> Result<Vec<StringRecord>, TableFault>
+    ensures rows { IfOk result (λ rows. spec.AreNamedRows file.entry.bytes.now root definition.now (map fields_of rows.items)) }
+    ensures fault { IfErr result (spec.LacksRows file.entry.bytes.now root definition.now) }
+{
+    let mut rows = Vec::new(alloc);
+    let names = names_of(alloc, definition.columns.as_slice())?;
+    rows.push(names)?;
+    push_rows(alloc, file, Tree::Table, root, definition, &mut rows)?;
+    Ok(rows)
+}
+
+// The file of a database with texts in UTF-8.
+fn file_of(bytes: &[u8]) -> Result<File<'_>, DatabaseFault>
+    ensures bytes { IfOk result (λ file. file.bytes.now ≡ bytes.now) }
+    ensures known { IfOk result (λ file. spec.IsRead bytes.now) }
+    ensures fault { IfErr result (spec.LacksFile bytes.now) }
+{
+    let file = File::of(bytes).ok_or(DatabaseFault::Database)?;
+    if file.has_utf8() {
+        Ok(file)
+    } else {
+        Err(DatabaseFault::Encoding)
+    }
+}
+
+// The rows of an entry of the schema.
+fn entry_rows(
+    alloc: Global,
+    file: File<'_>,
+    listed: Listed<'_>,
+) -> Result<Vec<StringRecord>, DatabaseFault>
+    ensures rows { IfOk result (λ rows. AreEntryRows file.entry.bytes.now (entry_of listed.entry) (map fields_of rows.items)) }
+    ensures fault { IfErr result (LacksEntry file.entry.bytes.now (entry_of listed.entry)) }
+{
+    let definition = stored_definition(alloc, listed)?;
+    let rows = rows_of(alloc, file, listed.root, &definition)?;
+    Ok(rows)
+}
+
+/// All rows of a table of the database that the bytes of its file hold, with the names of the columns as row 0.
+///
+/// A value is shown as by [`crate::push_value`]. Of the schema's statements, only that of this table is read, and
+/// of that only the columns.
+pub fn table_rows(
+    alloc: Global,
+    bytes: &[u8],
+    name: &str,
+) -> Result<Vec<StringRecord>, DatabaseFault>
+    ensures rows { IfOk result (λ rows. AreTable bytes.now name.now (map fields_of rows.items)) }
+    ensures fault { IfErr result (LacksTable bytes.now name.now) }
+{
+    let file = file_of(bytes)?;
+    let schema = schema_rows(alloc, file)?;
+    match find(&schema, name) {
+        Some(listed) => entry_rows(alloc, file, listed),
+        None => Err(DatabaseFault::Absent),
+    }
+}
+
+// The names of columns, in a line.
+fn line_of(alloc: Global, mut columns: &[Column]) -> Result<Vec<u8>, AllocError>
+    ensures { IfOk result (λ line. line.items ≡ spec.line_of columns.entry.now) }
+{
+    let mut line = Vec::new(alloc);
+    while let [column, rest @ ..] = columns {
+        line.extend_from_slice(column.name.as_slice())?;
+        if !rest.is_empty() {
+            line.extend_from_slice(b", ")?;
+        }
+        columns = rest;
+    }
+    Ok(line)
+}
+
+// The names of the columns of an entry, in a line.
+fn columns_of(alloc: Global, listed: Listed<'_>) -> Result<Vec<u8>, AllocError>
+    ensures { IfOk result (λ line. line.items ≡ spec.columns_of (entry_of listed.entry)) }
+{
+    match listed.kind {
+        ItemKind::Table => {
+            let declared = definition_of(alloc, listed.statement.as_bytes())?;
+            line_of(alloc, declared.columns.as_slice())
+        }
+        ItemKind::VirtualTable | ItemKind::View => Ok(Vec::new(alloc)),
+    }
+}
+
+fn kind_name(kind: ItemKind) -> &'static str
+    ensures { result.now ≡ spec.kind_name kind }
+{
+    match kind {
+        ItemKind::Table => "table",
+        ItemKind::VirtualTable => "virtual table",
+        ItemKind::View => "view",
+    }
+}
+
+// What is shown of an entry, in this row.
+fn fields_in(alloc: Global, row: usize, listed: Listed<'_>) -> Result<StringRecord, TextFault>
+    ensures { IfOk result (λ fields. fields_of fields ≡ spec.fields_of_entry (entry_of listed.entry)) }
+{
+    let mut fields = StringRecord::new(alloc);
+    fields.push_field(listed.name)?;
+    fields.push_field(kind_name(listed.kind))?;
+    let columns = columns_of(alloc, listed)?;
+    push_text(&mut fields, row, &columns)?;
+    Ok(fields)
+}
+
+// The words above a list of tables.
+fn header_of(alloc: Global) -> Result<StringRecord, AllocError>
+    ensures { IfOk result (λ fields. fields_of fields ≡ spec.header) }
+{
+    let mut fields = StringRecord::new(alloc);
+    fields.push_field("name")?;
+    fields.push_field("kind")?;
+    fields.push_field("columns")?;
+    Ok(fields)
+}
+
+// Appends what is shown of these entries.
+fn push_listing(
+    alloc: Global,
+    mut schema: &[StringRecord],
+    rows: &mut Vec<StringRecord>,
+) -> Result<(), TextFault>
+    ensures { IfOk result (λ x. map fields_of rows.new.items ≡ spec.with_entries (map fields_of rows.old.items) (map fields_of schema.entry.now)) }
+{
+    while let [row, rest @ ..] = schema {
+        if let Some(listed) = listed_in(row) {
+            let fields = fields_in(alloc, rows.len(), listed)?;
+            rows.push(fields)?;
+        }
+        schema = rest;
+    }
+    Ok(())
+}
+
+// The list of these entries.
+fn listing_of(alloc: Global, schema: &[StringRecord]) -> Result<Vec<StringRecord>, TextFault>
+    ensures { IfOk result (λ rows. map fields_of rows.items ≡ spec.listing (map fields_of schema.now)) }
+{
+    let header = header_of(alloc)?;
+    let mut rows = Vec::new(alloc);
+    rows.push(header)?;
+    push_listing(alloc, schema, &mut rows)?;
+    Ok(rows)
+}
+
+/// The tables and views of the database that the bytes of its file hold: the name, the kind and the columns of
+/// each, below a row of these words.
+pub fn list_rows(alloc: Global, bytes: &[u8]) -> Result<Vec<StringRecord>, DatabaseFault>
+    ensures rows { IfOk result (λ rows. IsListing bytes.now (map fields_of rows.items)) }
+    ensures fault { IfErr result (LacksListing bytes.now) }
+{
+    let file = file_of(bytes)?;
+    let schema = schema_rows(alloc, file)?;
+    match listing_of(alloc, &schema) {
+        Ok(rows) => Ok(rows),
+        Err(fault) => Err(DatabaseFault::Schema(fault.into())),
+    }
+}

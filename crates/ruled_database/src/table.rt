@@ -1,0 +1,157 @@
+//! The rows of a table, as texts.
+
+ghost use Rattle.std.specs.Prelude.{◌≡◌, ◌++◌, ◌∷◌, [], map, IfOk, OnOk};
+ghost use Rattle.csv.specs.Records.{fields_of};
+ghost use Rattle.sqlite_record.specs.Affinity.{as_real};
+ghost use Rattle.sqlite_value.specs.Value.{owned};
+ghost use Rattle.ruled_database.specs.Reading.{Gives};
+ghost use Rattle.ruled_database.specs.Rows.{stored_of};
+ghost use Rattle.ruled_database.specs.Tables.{AddsRows, names_in, rowid, shown_row, texts_in, value_at, value_in};
+
+use crate::definition::{Column, Definition, Shown};
+use crate::fault::{TableFault, TextFault};
+use crate::file::File;
+use crate::overflow::Overflow;
+use crate::tree::{StoredRow, stored_rows};
+use crate::value::{push_text, push_value};
+use csv::StringRecord;
+use sqlite_format::Tree;
+use sqlite_format::cell::toggle_sign;
+use sqlite_record::fields::decode_into;
+use sqlite_value::row::Row;
+use sqlite_value::value::ValueRef;
+use std::alloc::Global;
+use std::num::nearest_i64_to_f64;
+
+/// The greatest integer up to which each one is a float.
+const EXACT: u64 = 1 << 53;
+
+// The rowid that a key stands for.
+fn rowid_of(key: u64) -> i64
+    ensures { result ≡ rowid key }
+{
+    toggle_sign(key).cast_signed()
+}
+
+// An integer as a float.
+fn to_real(value: ValueRef<'_>) -> ValueRef<'_>
+    ensures { owned result ≡ as_real (owned value.entry) }
+{
+    match value {
+        ValueRef::Int(n) if n.unsigned_abs() <= EXACT => ValueRef::Real(nearest_i64_to_f64(n)),
+        other => other,
+    }
+}
+
+// The value at a place of a record, or of the defaults where the record is older.
+fn value_at<'v>(definition: &'v Definition, values: &'v Row, place: usize) -> ValueRef<'v>
+    ensures { owned result ≡ value_at definition.now values.now place }
+{
+    if place < values.len() {
+        values.get(place)
+    } else {
+        definition.defaults.get(place)
+    }
+}
+
+// The value of a column.
+fn value_of<'v>(
+    definition: &'v Definition,
+    column: &Column,
+    key: u64,
+    values: &'v Row,
+) -> ValueRef<'v>
+    ensures { owned result ≡ value_in definition.now key values.now column.now }
+{
+    match column.shown {
+        Shown::Rowids => ValueRef::Int(rowid_of(key)),
+        Shown::Values => value_at(definition, values, column.place),
+        Shown::Reals => to_real(value_at(definition, values, column.place)),
+    }
+}
+
+// The texts of all columns, in this row.
+fn fields_in(
+    alloc: Global,
+    definition: &Definition,
+    row: usize,
+    key: u64,
+    values: &Row,
+) -> Result<StringRecord, TextFault>
+    ensures { IfOk result (λ fields. fields_of fields ≡ texts_in definition.now key values.now) }
+{
+    let mut fields = StringRecord::new(alloc);
+    for column in definition.columns.as_slice() {
+        let value = value_of(definition, column, key, values);
+        push_value(alloc, &mut fields, row, value)?;
+    }
+    Ok(fields)
+}
+
+/// What reads rows: their overflow pages, and the record and the values of one row at a time.
+#[derive(Drop)]
+struct RowReader<'a> {
+    overflow: Overflow<'a>,
+    record: Vec<u8>,
+    values: Row,
+}
+
+impl<'a> RowReader<'a> {
+    // Appends a row.
+    fn push_row(
+        &mut self,
+        alloc: Global,
+        definition: &Definition,
+        row: &StoredRow<'_>,
+        rows: &mut Vec<StringRecord>,
+    ) -> Result<(), TableFault>
+        ensures file { self.new.overflow.file ≡ self.old.overflow.file }
+        ensures rows { Gives (shown_row self.old.overflow.file.bytes.now definition.now (stored_of row.now)) self.old.overflow.left self.new.overflow.left
+            (map fields_of rows.old.items) (map fields_of rows.new.items) result }
+    {
+        self.record.clear();
+        self.values.clear();
+        self.overflow.read_record(row, &mut self.record)?;
+        decode_into(&self.record, 0, &mut self.values)?;
+        if self.values.len() < definition.least {
+            return Err(TableFault::Default);
+        }
+        let fields = fields_in(alloc, definition, rows.len(), row.key, &self.values)?;
+        rows.push(fields)?;
+        Ok(())
+    }
+}
+
+/// Appends the rows of the tree that begins at this page.
+pub(crate) fn push_rows(
+    alloc: Global,
+    file: File<'_>,
+    tree: Tree,
+    root: u32,
+    definition: &Definition,
+    rows: &mut Vec<StringRecord>,
+) -> Result<(), TableFault>
+    ensures { AddsRows file.entry.bytes.now tree root definition.now (map fields_of rows.old.items) (map fields_of rows.new.items) result }
+{
+    let stored = stored_rows(alloc, file, tree, root)?;
+    let mut reader = RowReader {
+        overflow: Overflow::of(file),
+        record: Vec::new(alloc),
+        values: Row::new(alloc),
+    };
+    for row in &stored {
+        reader.push_row(alloc, definition, row, rows)?;
+    }
+    Ok(())
+}
+
+/// The names of columns.
+pub(crate) fn names_of(alloc: Global, columns: &[Column]) -> Result<StringRecord, TextFault>
+    ensures { IfOk result (λ fields. fields_of fields ≡ names_in columns.now) }
+{
+    let mut fields = StringRecord::new(alloc);
+    for column in columns {
+        push_text(&mut fields, 0, column.name.as_slice())?;
+    }
+    Ok(fields)
+}

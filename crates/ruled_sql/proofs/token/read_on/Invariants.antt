@@ -1,9 +1,0 @@
-use Rattle.std.proofs.Common.{◌≡◌, length}
-use Rattle.ruled_sql.specs.Tokens.{read_from}
-use Rattle.ruled_sql.proofs.token.read_on.Given as goal
-
-abbrev pub invariant-loop-text : goal.invariant-loop-text
-invariant-loop-text l = read_from l.statement l.text ≡ read_from l.initial.statement l.initial.text
-
-abbrev pub decreases-loop-text : goal.decreases-loop-text
-decreases-loop-text l = length l.text
