@@ -27,11 +27,8 @@ use Rattle.ruled_io.specs.declared.formats.Format.{Format}
 use Rattle.ruled_io.specs.declared.formats.Format.TheVariants.{Separated, Json, JsonLines}
 use Rattle.ruled_io.specs.declared.formats.Known.{Known}
 use Rattle.ruled_io.specs.declared.request.Request.{Request}
+use Rattle.ruled_io.proofs.Inputs.{unmapped}
 use Rattle.ruled_io.proofs.SameLines.{fine-at-once, rows-at-once, same-fault}
-
-unmapped : {X Y : Type 0} (f : X → Y) (found : Option X) → option_map f found ≡ None → found ≡ None
-unmapped f None none = refl
-unmapped f (Some x) none = absurd (cc)
 
 -- ---- the rows of a format
 

@@ -1,10 +1,12 @@
 -- What is read of an input before its rows, and its first rows.
-use Rattle.std.proofs.Common.{◌≡◌, ◌∙◌, ◌<◌, ◌+◌, ◌-◌, ◌^◌, ℕ, Bool, true, false, List, [], ◌++◌, Option, Some, None, Result, Ok, Err, min, inl, inr, refl, sym, ap, subst, append-nil, arith, ◌&&◌, ◌⊎◌, length, map, take, nat_lt, append_assoc}
-use Rattle.std.specs.Prelude.{◌==◌, IfOk, IfSome, IfErr, is_some, option_map, if◌then◌else◌}
+use Rattle.std.proofs.Common.{◌≡◌, ◌∙◌, ◌<◌, ◌+◌, ◌-◌, ◌^◌, ℕ, Bool, true, false, List, [], ◌++◌, Option, Some, None, Result, Ok, Err, min, inl, inr, refl, sym, ap, subst, append-nil, arith, ◌&&◌, ◌⊎◌, length, length-take, map, take, nat_lt, append_assoc}
+use Rattle.std.specs.Prelude.{◌==◌, IfOk, IfSome, IfErr, is_some, option_map, unwrap_or, if◌then◌else◌}
 use Rattle.std.specs.Io.KnownBytes.{Consumes, IsAtEnd}
 use Rattle.std.specs.Result.{IsErrAnd}
 use Rattle.std.proofs.KnownBytes.{Consumes-trans, Consumes-all, Consumes-nil}
-use Rattle.std.proofs.lemmas.List.{append_cancel_left}
+use Rattle.std.proofs.lemmas.List.{append_cancel_left, take_all}
+use Rattle.ruled_csv.specs.Faults as csv
+use Rattle.ruled_csv.proofs.SoundRows.{all-sound}
 use Rattle.std.proofs.lemmas.Bool.{cases_Bool, lt-ltb, true≢false, false≢true}
 use Rattle.pg_layout.specs.Text.{Text}
 use Rattle.ruled_table.specs.declared.options.Options.{Options}
@@ -26,7 +28,7 @@ use Rattle.ruled_io.specs.declared.request.Source.{Source}
 use Rattle.ruled_io.specs.declared.request.Source.TheVariants as source
 use Rattle.ruled_io.proofs.Shows.{above-none, wrong-ends, first-rows, open-rows, short-rows}
 use Rattle.ruled_csv.specs.declared.dialect.Dialect.{Dialect}
-use Rattle.ruled_io.specs.Faults.{IsOfRead, but_line_in, is_memory}
+use Rattle.ruled_io.specs.Faults.{IsOfRead, but_line_in, fault_of_rows, is_memory}
 use Rattle.ruled_io.specs.Input.{fault_within, input_fault, rows_in, rows_within}
 use Rattle.ruled_io.specs.Runs.{AreRows, AreRowsAs, LacksInput, LacksRows, LacksRowsAs}
 use Rattle.ruled_io.specs.Steps.{AreFirst, IsEnough, LacksFirst, fault_of_first, wrong_within}
@@ -204,6 +206,66 @@ module _ (origin : Source) (limit : ℕ) (bytes : List ℕ) where
     go : (f : InputFault) → LacksRowsAs None true origin bytes f → LacksRowsAs (Some limit) true origin bytes f
     go f lacks = lacks
   other-lacks false fault other lacks = λ soft. (within-other limit (format_in (format_told origin) bytes) (content_of (format_in (format_told origin) bytes) bytes) (other refl)).1 ∙ lacks soft
+
+-- ---- all rows, where fewer are there than are needed
+
+-- nothing is made of nothing alone
+pub unmapped : {X Y : Type 0} (f : X → Y) (found : Option X) → option_map f found ≡ None → found ≡ None
+unmapped f None none = refl
+unmapped f (Some x) none = absurd (cc)
+
+none-if : {X : Type 0} (b : Bool) (o : Option X) → b ≡ true → (if b then o else None) ≡ None → o ≡ None
+none-if true o is none = none
+none-if false o is none = absurd (false≢true is)
+
+told-if : {X : Type 0} (b : Bool) (o : Option X) (x : X) → (if b then o else None) ≡ Some x → o ≡ Some x
+told-if true o x is = is
+told-if false o x is = absurd (cc)
+
+few-are : (limit : ℕ) (format : Format) (bytes : List ℕ) (rows : List (List Text)) → fault_within (Some limit) format bytes ≡ None → rows ≡ rows_within (Some limit) format bytes → length rows < limit
+    → (fault_within None format bytes ≡ None) × (rows ≡ rows_within None format bytes)
+few-are limit (Separated dialect) bytes rows none are few =
+    let sound : List (List Text) = csv.sound_rows dialect bytes in
+    let long : length rows ≡ length (take limit sound) = ap (λ (xs : List (List Text)). length xs) are in
+    let less : length sound < limit = omega (arith, few, long, length-take limit sound) in
+    let all : nat_lt (length sound) limit ≡ true = lt-ltb _ _ less in
+    let fault : option_map fault_of_rows (csv.rows_fault dialect bytes) ≡ None = none-if (nat_lt (length sound) limit) (option_map fault_of_rows (csv.rows_fault dialect bytes)) all none in
+    let clean : csv.rows_fault dialect bytes ≡ None = unmapped fault_of_rows (csv.rows_fault dialect bytes) fault in
+    (fault, are ∙ take_all limit sound (omega (arith, less)) ∙ all-sound dialect bytes clean)
+few-are limit Json bytes rows none are few = (none, are)
+few-are limit JsonLines bytes rows none are few = (none, are)
+
+few-lack : (limit : ℕ) (format : Format) (bytes : List ℕ) (fault : InputFault) → fault_within (Some limit) format bytes ≡ Some fault → fault_within None format bytes ≡ Some fault
+few-lack limit (Separated dialect) bytes fault is = told-if (nat_lt (length (csv.sound_rows dialect bytes)) limit) _ fault is
+few-lack limit Json bytes fault is = is
+few-lack limit JsonLines bytes fault is = is
+
+module _ (origin : Source) (limit : ℕ) (bytes : List ℕ) where
+  needed-are : (needed : Option ℕ) (holds : Bool) (rows : List (List Text)) → AreRowsAs (Some (unwrap_or needed limit)) holds origin bytes rows → length rows < limit → AreRowsAs needed holds origin bytes rows
+  needed-are (Some n) holds rows are few = are
+  needed-are None true rows are few = are
+  needed-are None false rows (none, are) few =
+      let format : Format = format_in (format_told origin) bytes in
+      few-are limit format (content_of format bytes) rows none are few
+
+  needed-lack : (needed : Option ℕ) (holds : Bool) (fault : InputFault) → LacksRowsAs (Some (unwrap_or needed limit)) holds origin bytes fault → LacksRowsAs needed holds origin bytes fault
+  needed-lack (Some n) holds fault lacks = lacks
+  needed-lack None true fault lacks = go fault lacks where
+    go : (f : InputFault) → LacksRowsAs (Some limit) true origin bytes f → LacksRowsAs None true origin bytes f
+    go f lacks = lacks
+  needed-lack None false fault lacks = λ soft.
+      let format : Format = format_in (format_told origin) bytes in
+      few-lack limit format (content_of format bytes) (but_line_in fault) (lacks soft)
+
+  -- as many rows as are needed, or all, of which there are fewer than the greatest number
+  pub rows-needed : (needed : Option ℕ) (rows : List (List Text)) → AreRows (Some (unwrap_or needed limit)) origin bytes rows → length rows < limit → AreRows needed origin bytes rows
+  rows-needed needed rows are few = needed-are needed (holds_database origin bytes) rows are few
+
+  pub needed-lacks : (needed : Option ℕ) (fault : RunFault) → LacksInput (Some (unwrap_or needed limit)) origin bytes fault → LacksInput needed origin bytes fault
+  needed-lacks needed (Input fault) lacks = needed-lack needed (holds_database origin bytes) fault lacks
+  needed-lacks needed Read lacks = lacks
+  needed-lacks needed Closed lacks = lacks
+  needed-lacks needed Write lacks = lacks
 
 -- ---- an input of which the first bytes were read
 

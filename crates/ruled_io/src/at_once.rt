@@ -12,7 +12,7 @@ ghost use Rattle.ruled_table.specs.Layouts.{whole_text};
 ghost use Rattle.ruled_table.specs.Named.{HasNames};
 ghost use Rattle.ruled_table.specs.Plans.{Plan};
 ghost use Rattle.ruled_table.specs.View.{table_fault, table_text, whole_fault, whole_table};
-ghost use Rattle.ruled_io.specs.Faults.{IsOfRead, is_early, is_read};
+ghost use Rattle.ruled_io.specs.Faults.{is_early, is_read};
 ghost use Rattle.ruled_io.specs.Output.{TellsWrite, failure_of, write_part};
 ghost use Rattle.ruled_io.specs.Requests.{rows_needed};
 ghost use Rattle.ruled_io.specs.Runs.{AreRows, CausedAtOnce, LacksInput, ShowsAll};
@@ -22,46 +22,16 @@ ghost use Rattle.ruled_table.specs.declared.options.Options.{Options};
 
 use crate::fault::{InputFault, RunFault};
 use crate::heads::{read_heads, rows_needed};
-use crate::input::all_rows;
 use crate::lines::{write_end, write_rows};
 use crate::output::Output;
 use crate::pieces::Pieces;
-use crate::request::{Request, Source};
+use crate::request::Request;
 use csv::StringRecord;
 use ruled_table::{Blocks, Layout, Options, TableRows, chosen_rows};
 use std::alloc::Global;
-use std::io::{ErrorKind, Read, Write};
+use std::io::{Read, Write};
 
-// All that an input gives, or that it can't be read.
-fn read_whole<R: Read>(alloc: Global, input: &mut R) -> Result<Vec<u8>, RunFault>
-    ensures whole { IfOk result (λ bytes. IfSome (R.remaining input.old) (λ given. bytes.items ≡ given)) }
-    ensures failed { IfErr result IsOfRead }
-{
-    let mut bytes = Vec::new(alloc);
-    match input.read_to_end(&mut bytes) {
-        Ok(_) => Ok(bytes),
-        Err(error) if error.kind() == ErrorKind::OutOfMemory => {
-            Err(RunFault::Input(InputFault::Memory))
-        }
-        Err(_) => Err(RunFault::Read),
-    }
-}
-
-// All rows that are asked of an input, of which nothing else is kept.
-fn read_all_rows<R: Read>(
-    alloc: Global,
-    source: &Source,
-    input: &mut R,
-) -> Result<Vec<StringRecord>, RunFault>
-    ensures rows { IfOk result (λ rows. IfSome (R.remaining input.old) (λ bytes. AreRows None source.now bytes (map fields_of rows.items))) }
-    ensures cause { IfErr result (λ fault. IfSome (R.remaining input.old) (λ bytes. LacksInput None source.now bytes fault)) }
-    ensures unwritten { IfErr result (λ fault. write_part fault ≡ None) }
-{
-    let bytes = read_whole(alloc, input)?;
-    Ok(all_rows(alloc, source, &bytes)?)
-}
-
-// The rows that are asked of an input, as many as are needed.
+// The rows that are asked of an input, as many as are needed. Nothing else is kept of rows of separated values.
 fn read_rows<R: Read + Drop>(
     alloc: Global,
     request: &Request,
@@ -71,11 +41,12 @@ fn read_rows<R: Read + Drop>(
     ensures cause { IfErr result (λ fault. IfSome (R.remaining input) (λ bytes. LacksInput (rows_needed request.now.view) request.now.source bytes fault)) }
     ensures unwritten { IfErr result (λ fault. write_part fault ≡ None) }
 {
-    let mut input = input;
-    match rows_needed(&request.view) {
-        Some(limit) => read_heads(alloc, &request.source, limit, &mut Pieces::new(input)),
-        None => read_all_rows(alloc, &request.source, &mut input),
+    let limit = rows_needed(&request.view).unwrap_or(usize::MAX);
+    let rows = read_heads(alloc, &request.source, limit, &mut Pieces::new(input))?;
+    if rows.len() == usize::MAX {
+        return Err(RunFault::Input(InputFault::Memory));
     }
+    Ok(rows)
 }
 
 // Writes the lines of all rows of a table, and its end.
