@@ -67,18 +67,16 @@ gives_both a b n m k old mid new x (Ok y) first last =
     (first.0 ++ last.0, joined_some a.1 b.1 first.0 last.0 first.1 last.1, last.2 ∙ ap (λ (xs : List _). xs ++ last.0) first.2 ∙ append_assoc old first.0 last.0, omega (arith, first.3, last.3))
 gives_both a b n m k old mid new x (Err Damage) first (inl none) = inl (joined_none a.1 b.1 none)
 gives_both a b n m k old mid new x (Err Damage) first (inr less) = inr (omega (arith, first.3, less))
-gives_both a b n m k old mid new x (Err Default) first (inl none) = inl (joined_none a.1 b.1 none)
-gives_both a b n m k old mid new x (Err Default) first (inr less) = inr (omega (arith, first.3, less))
-gives_both a b n m k old mid new x (Err (Encoding row)) first last = tt
+gives_both a b n m k old mid new x (Err Default) first last = absurd last
+gives_both a b n m k old mid new x (Err (Encoding row)) first last = absurd last
 gives_both a b n m k old mid new x (Err Memory) first last = tt
 
 -- where the first part isn't sound, or takes too many pages, both aren't or do
 pub gives_fault : {X : Type 0} (U V : Type 0) (a b : Read (List X)) (n m : ℕ) (old new : List X) (fault : TableFault) → Gives {U = U} a n m old new (Err fault) → Gives {U = V} (both a b) n m old new (Err fault)
 gives_fault U V a b n m old new Damage (inl none) = inl (ap (λ (o : Option (List _)). joined o b.1) none)
 gives_fault U V a b n m old new Damage (inr less) = inr (omega (arith, less))
-gives_fault U V a b n m old new Default (inl none) = inl (ap (λ (o : Option (List _)). joined o b.1) none)
-gives_fault U V a b n m old new Default (inr less) = inr (omega (arith, less))
-gives_fault U V a b n m old new (Encoding row) fails = tt
+gives_fault U V a b n m old new Default fails = absurd fails
+gives_fault U V a b n m old new (Encoding row) fails = absurd fails
 gives_fault U V a b n m old new Memory fails = tt
 
 pub gives_nothing : {X : Type 0} (n : ℕ) (old : List X) → Gives {U = ℕ} (given []) n n old old (Ok 0)
@@ -143,8 +141,8 @@ pub handed_on : {X : Type 0} (U : Type 0) {V : Type 0} (read : Read (List X)) (n
     → Gives {U = U} read n m old new (Err found) → Gives {U = V} read n m old new result
 handed_on U {V} read n m old new (Ok x) found told gives = absurd told
 handed_on U {V} read n m old new (Err Damage) found told gives = let is : found ≡ Damage = sym told in subst (λ (f : TableFault). Gives {U = V} read n m old new (Err f)) is gives
-handed_on U {V} read n m old new (Err Default) found told gives = let is : found ≡ Default = sym told in subst (λ (f : TableFault). Gives {U = V} read n m old new (Err f)) is gives
-handed_on U {V} read n m old new (Err (Encoding row)) found told gives = tt
+handed_on U {V} read n m old new (Err Default) found told gives = let is : found ≡ Default = sym told in absurd (subst (λ (f : TableFault). Gives {U = V} read n m old new (Err f)) is gives)
+handed_on U {V} read n m old new (Err (Encoding row)) found told gives = let is : found ≡ Encoding row = sym told in absurd (subst (λ (f : TableFault). Gives {U = V} read n m old new (Err f)) is gives)
 handed_on U {V} read n m old new (Err Memory) found told gives = tt
 
 -- ---- a cell

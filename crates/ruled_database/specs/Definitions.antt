@@ -191,7 +191,7 @@ with_computed computed it = record it { computed = it.computed || computed }
 unfoldable pub declared : Option (List ℕ) → Token → List Token → Definition → Definition
 declared key name rules it =
     let kind = kind_of (type_of rules) in
-    with_computed (is_computed rules) (with_default (default_of kind rules) (with_column name.text (shown_of kind (is_key key name.text rules)) it))
+    with_default (default_of kind rules) (with_column name.text (shown_of kind (is_key key name.text rules)) (with_computed (is_computed rules) it))
 
 abbrev pub with_part : Option (List ℕ) → Definition → List Token → Definition
 with_part key it [] = it

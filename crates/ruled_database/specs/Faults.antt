@@ -1,10 +1,12 @@
--- Why rows of a table aren't shown.
+-- Why texts are no row to show.
+use Rattle.std.specs.Prelude.{⊤, ℕ, List}
+use Rattle.csv.specs.Records.{AllText}
 use Rattle.ruled_database.specs.declared.fault.TableFault.{TableFault}
-use Rattle.ruled_database.specs.declared.fault.TableFault.TheVariants as table
-use Rattle.ruled_database.specs.declared.fault.TextFault.{TextFault}
-use Rattle.ruled_database.specs.declared.fault.TextFault.TheVariants.{Encoding, Memory}
+use Rattle.ruled_database.specs.declared.fault.TableFault.TheVariants.{Damage, Default, Encoding, Memory}
 
--- a value of the table isn't shown
-abbrev pub fault_of_text : TextFault → TableFault
-fault_of_text (Encoding row) = table.Encoding row
-fault_of_text Memory = table.Memory
+-- one of them isn't UTF-8, unless memory was refused
+abbrev pub LacksTexts : List (List ℕ) → TableFault → Type 0
+LacksTexts texts Damage = ⊥
+LacksTexts texts Default = ⊥
+LacksTexts texts (Encoding row) = ¬ AllText texts
+LacksTexts texts Memory = ⊤

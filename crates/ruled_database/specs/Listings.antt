@@ -1,13 +1,13 @@
 -- The tables that a database lists, and the rows of one.
-use Rattle.std.specs.Prelude.{◌≡◌, ◌≢◌, ⊤, ℕ, ◌^◌, ◌==◌, nat_lt, true, false, List, [], ◌∷◌, ◌++◌, codes, bytes_eq, unsigned_abs, Option, Some, None, option_map, if◌then◌else◌}
+use Rattle.std.specs.Prelude.{◌≡◌, ◌≢◌, ◌⊎◌, ⊤, ℕ, ◌^◌, ◌==◌, nat_lt, true, false, List, [], ◌∷◌, ◌++◌, codes, bytes_eq, unsigned_abs, Option, Some, None, option_map, if◌then◌else◌}
 use Rattle.std.specs.Option.{option_and_then, option_or, unwrap_or}
 use Rattle.std.specs.Str.{str_eq_ignore_ascii_case}
-use Rattle.csv.specs.Records.{field_at}
+use Rattle.csv.specs.Records.{AllText, field_at}
 use Rattle.sqlite_format.specs.declared.kind.Tree.TheVariants as tree
 use Rattle.sqlite_sql.specs.Numeral.{int_at_front}
 use Rattle.ruled_database.specs.Definitions.{definition_of}
 use Rattle.ruled_database.specs.Files.{has_header, has_utf8}
-use Rattle.ruled_database.specs.Tables.{AreRows, IsDamaged, names_in}
+use Rattle.ruled_database.specs.Tables.{AreRows, HasRow, HasWrongText, IsDamaged, IsOld, names_in}
 use Rattle.ruled_database.specs.declared.definition.Column.{Column}
 use Rattle.ruled_database.specs.declared.definition.Definition.{Definition}
 use Rattle.ruled_database.specs.declared.fault.DatabaseFault.{DatabaseFault}
@@ -152,6 +152,22 @@ with_entries rows (entry ∷ entries) = with_entries (with_entry rows (entry_in 
 abbrev pub listing : List (List Text) → List (List Text)
 listing schema = with_entries (header ∷ []) schema
 
+-- what is shown of an entry isn't UTF-8
+abbrev pub IsWrongEntry : Option Entry → Type 0
+IsWrongEntry None = ⊥
+IsWrongEntry (Some entry) = ¬ AllText (fields_of_entry entry)
+
+abbrev pub HasWrongEntry : List (List Text) → Type 0
+HasWrongEntry [] = ⊥
+HasWrongEntry (entry ∷ entries) = IsWrongEntry (entry_in entry) ⊎ HasWrongEntry entries
+
+-- why entries aren't listed
+abbrev pub LacksEntries : List (List Text) → TableFault → Type 0
+LacksEntries schema row.Damage = ⊥
+LacksEntries schema row.Default = ⊥
+LacksEntries schema (row.Encoding at) = HasWrongEntry schema
+LacksEntries schema row.Memory = ⊤
+
 pub record IsListing (file : List ℕ) (rows : List (List Text)) : Type 0 where
   pub read : IsRead file
   pub schema : List (List Text)
@@ -173,8 +189,8 @@ LacksFile file (Table fault) = ⊥
 -- why a table's rows can't be read
 abbrev pub LacksRows : List ℕ → ℕ → Definition → TableFault → Type 0
 LacksRows file root definition row.Damage = IsDamaged file tree.Table root definition
-LacksRows file root definition row.Default = IsDamaged file tree.Table root definition
-LacksRows file root definition (row.Encoding at) = ⊤
+LacksRows file root definition row.Default = HasRow file tree.Table root (IsOld file definition)
+LacksRows file root definition (row.Encoding at) = (¬ AllText (names_in definition.columns)) ⊎ HasRow file tree.Table root (HasWrongText file definition)
 LacksRows file root definition row.Memory = ⊤
 
 abbrev pub LacksSchema : List ℕ → DatabaseFault → Type 0
@@ -228,7 +244,7 @@ LacksTable file name (Table row.Memory) = ⊤
 abbrev pub LacksListing : List ℕ → DatabaseFault → Type 0
 LacksListing file Database = has_header file ≡ false
 LacksListing file Encoding = has_utf8 file ≡ false
-LacksListing file (Schema fault) = LacksRows file 1 schema_definition fault
+LacksListing file (Schema fault) = LacksRows file 1 schema_definition fault ⊎ ((schema : List (List Text)) × AreListed file schema × LacksEntries schema fault)
 LacksListing file Absent = ⊥
 LacksListing file Elsewhere = ⊥
 LacksListing file Keyed = ⊥

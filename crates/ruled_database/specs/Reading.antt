@@ -8,8 +8,8 @@ use Rattle.ruled_database.specs.declared.fault.TableFault.TheVariants.{Damage, D
 abbrev pub Gives : {X U : Type 0} → Read (List X) → ℕ → ℕ → List X → List X → Result U TableFault → Type 0
 Gives {X} read before after old new (Ok x) = (items : List X) × (read.1 ≡ Some items) × (new ≡ old ++ items) × (before ≡ after + read.0)
 Gives read before after old new (Err Damage) = (read.1 ≡ None) ⊎ (before < read.0)
-Gives read before after old new (Err Default) = (read.1 ≡ None) ⊎ (before < read.0)
-Gives read before after old new (Err (Encoding row)) = Unit {0}
+Gives read before after old new (Err Default) = ⊥
+Gives read before after old new (Err (Encoding row)) = ⊥
 Gives read before after old new (Err Memory) = Unit {0}
 
 -- of one page

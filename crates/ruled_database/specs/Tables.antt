@@ -1,7 +1,8 @@
 -- The rows of a table, as they are shown.
-use Rattle.std.specs.Prelude.{◌≡◌, ◌<◌, ◌⊎◌, ℕ, ℤ, nat_le, nat_lt, List, [], ◌∷◌, ◌++◌, length, map, Option, Some, None, Result, Ok, Err, if◌then◌else◌}
+use Rattle.std.specs.Prelude.{◌≡◌, ◌<◌, ◌⊎◌, ℕ, ℤ, nat_le, nat_lt, List, [], ◌∷◌, ◌++◌, length, map, Any, Option, Some, None, Result, Ok, Err, if◌then◌else◌}
 use Rattle.std.specs.Int.{cast_signed, w64}
 use Rattle.std.specs.Option.{option_and_then}
+use Rattle.csv.specs.Records.{AllText}
 use Rattle.sqlite_format.specs.Cell.{flip_sign}
 use Rattle.sqlite_format.specs.declared.kind.Tree.{Tree}
 use Rattle.sqlite_record.specs.Affinity.{as_real}
@@ -11,6 +12,7 @@ use Rattle.sqlite_value.specs.declared.value.Value.{Value}
 use Rattle.sqlite_value.specs.declared.value.Value.TheVariants.{Int}
 use Rattle.ruled_database.specs.Values.{shown_text}
 use Rattle.ruled_database.specs.Files.{page_count}
+use Rattle.ruled_database.specs.Reading.{Gives}
 use Rattle.ruled_database.specs.Reads.{Read, all}
 use Rattle.ruled_database.specs.Trees.{Stored, record_of, rows_below}
 use Rattle.ruled_database.specs.declared.definition.Column.{Column}
@@ -61,6 +63,22 @@ module _ (file : List ℕ) (definition : Definition) where
   abbrev pub shown_rows_of : List Stored → Read (List (List (List ℕ)))
   shown_rows_of rows = all (map shown_row rows)
 
+  -- the record of a row lacks the value of a column
+  abbrev pub IsOld : Stored → Type 0
+  IsOld row = (bytes : List ℕ) × ((record_of file row).1 ≡ Some bytes) × (length (decode bytes) < definition.least)
+
+  -- a text of a row isn't UTF-8
+  abbrev pub HasWrongText : Stored → Type 0
+  HasWrongText row = (bytes : List ℕ) × ((record_of file row).1 ≡ Some bytes) × ¬ AllText (texts_in definition row.key (decode bytes))
+
+-- what reading a row gives
+abbrev pub GivesRow : {U : Type 0} → List ℕ → Definition → Stored → ℕ → ℕ → List (List (List ℕ)) → List (List (List ℕ)) → Result U TableFault → Type 0
+GivesRow file definition row before after old new (Ok x) = Gives {U = ℕ} (shown_row file definition row) before after old new (Ok 0)
+GivesRow file definition row before after old new (Err Damage) = Gives {U = ℕ} (shown_row file definition row) before after old new (Err Damage)
+GivesRow file definition row before after old new (Err Default) = IsOld file definition row
+GivesRow file definition row before after old new (Err (Encoding at)) = HasWrongText file definition row
+GivesRow file definition row before after old new (Err Memory) = Unit {0}
+
 -- no tree has more levels
 abbrev pub most_levels : ℕ
 most_levels = 20
@@ -81,18 +99,22 @@ IsDamaged file tree root definition =
     IsUnsound file (rows_below file tree most_levels root)
     ⊎ ((stored : List Stored) × ((rows_below file tree most_levels root).1 ≡ Some stored) × IsUnsound file (shown_rows_of file definition stored))
 
+-- one of the rows of the tree
+abbrev pub HasRow : List ℕ → Tree → ℕ → (Stored → Type 0) → Type 0
+HasRow file tree root Is = (stored : List Stored) × ((rows_below file tree most_levels root).1 ≡ Some stored) × Any Is stored
+
 -- what the walk through a tree gives
 abbrev pub Walks : {P : Type 0} → (P → List Stored) → List ℕ → Tree → ℕ → Result P TableFault → Type 0
 Walks shown file tree root (Ok it) = (rows_below file tree most_levels root).1 ≡ Some (shown it)
 Walks shown file tree root (Err Damage) = IsUnsound file (rows_below file tree most_levels root)
-Walks shown file tree root (Err Default) = IsUnsound file (rows_below file tree most_levels root)
-Walks shown file tree root (Err (Encoding row)) = Unit {0}
+Walks shown file tree root (Err Default) = ⊥
+Walks shown file tree root (Err (Encoding row)) = ⊥
 Walks shown file tree root (Err Memory) = Unit {0}
 
 -- the rows of a table stand behind others
 abbrev pub AddsRows : {U : Type 0} → List ℕ → Tree → ℕ → Definition → List (List (List ℕ)) → List (List (List ℕ)) → Result U TableFault → Type 0
 AddsRows file tree root definition old new (Ok x) = (rows : List (List (List ℕ))) × AreRows file tree root definition rows × (new ≡ old ++ rows)
 AddsRows file tree root definition old new (Err Damage) = IsDamaged file tree root definition
-AddsRows file tree root definition old new (Err Default) = IsDamaged file tree root definition
-AddsRows file tree root definition old new (Err (Encoding row)) = Unit {0}
+AddsRows file tree root definition old new (Err Default) = HasRow file tree root (IsOld file definition)
+AddsRows file tree root definition old new (Err (Encoding row)) = HasRow file tree root (HasWrongText file definition)
 AddsRows file tree root definition old new (Err Memory) = Unit {0}

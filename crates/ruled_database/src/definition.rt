@@ -396,19 +396,19 @@ fn is_computed(rules: &[Token]) -> bool
 }
 
 impl Definition {
-    // Adds a column.
-    fn push_column(&mut self, alloc: Global, name: &[u8], shown: Shown) -> Result<(), AllocError>
-        ensures { OnOk result (self.new ≡ spec.with_column name.now shown self.old) }
+    // Adds a column and its default.
+    fn push(
+        &mut self,
+        alloc: Global,
+        name: &[u8],
+        shown: Shown,
+        value: Option<ValueRef<'_>>,
+    ) -> Result<(), AllocError>
+        ensures { OnOk result (self.new ≡ spec.with_default (option_map owned value.entry) (spec.with_column name.now shown self.old)) }
     {
         let place = self.columns.len();
         let name = Items::from_slice(alloc, name)?;
-        self.columns.push(Column { name, shown, place })
-    }
-
-    // Adds a default.
-    fn push_default(&mut self, value: Option<ValueRef<'_>>) -> Result<(), AllocError>
-        ensures { OnOk result (self.new ≡ spec.with_default (option_map owned value.entry) self.old) }
-    {
+        self.columns.push(Column { name, shown, place })?;
         match value {
             Some(value) => self.defaults.push(value),
             None => {
@@ -433,27 +433,26 @@ impl Definition {
         let text = type_of(alloc, rules)?;
         let kind = kind_of(&text);
         let shown = shown_of(kind, is_key(key, name, rules));
-        self.push_column(alloc, name, shown)?;
         let value = default_of(alloc, kind, rules)?;
-        self.push_default(value)?;
         self.computed = self.computed || is_computed(rules);
-        Ok(())
+        self.push(alloc, name, shown, value)
     }
 
-    // Takes these parts.
-    fn take_all(
-        &mut self,
+    // The same with these parts.
+    fn with_parts(
+        self,
         alloc: Global,
         key: Option<&[u8]>,
         mut parts: &[Items<Token>],
-    ) -> Result<(), AllocError>
-        ensures { OnOk result (self.new ≡ spec.with_parts (option_map (λ key. key.now) key.entry) self.old parts.entry.now) }
+    ) -> Result<Definition, AllocError>
+        ensures { IfOk result (λ it. it ≡ spec.with_parts (option_map (λ key. key.now) key.entry) self parts.entry.now) }
     {
+        let mut definition = self;
         while let [part, rest @ ..] = parts {
-            self.take(alloc, key, part.as_slice())?;
+            definition.take(alloc, key, part.as_slice())?;
             parts = rest;
         }
-        Ok(())
+        Ok(definition)
     }
 }
 
@@ -477,13 +476,12 @@ pub(crate) fn definition_of(alloc: Global, statement: &[u8]) -> Result<Definitio
 {
     let statement = read(alloc, statement)?;
     let parts = statement.parts.as_slice();
-    let mut definition = Definition {
+    let definition = Definition {
         columns: Items::new(alloc),
         defaults: Row::new(alloc),
         least: 0,
         computed: false,
         keyed: is_keyed(statement.outside.as_slice()),
     };
-    definition.take_all(alloc, key_of(parts), parts)?;
-    Ok(definition)
+    definition.with_parts(alloc, key_of(parts), parts)
 }

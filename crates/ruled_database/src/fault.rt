@@ -1,10 +1,8 @@
 //! Why a database has no rows to show.
 
 ghost use Rattle.std.specs.Prelude.{◌≡◌};
-ghost use Rattle.ruled_database.specs.Faults.{fault_of_text};
 ghost use Rattle.ruled_database.specs.declared.fault.DatabaseFault.TheVariants.{Table};
 ghost use Rattle.ruled_database.specs.declared.fault.TableFault.{TableFault};
-ghost use Rattle.ruled_database.specs.declared.fault.TextFault.{TextFault};
 
 use std::alloc::{AllocError, AllocFailed};
 use std::fmt;
@@ -44,42 +42,6 @@ pub enum DatabaseFault {
     Table(TableFault),
 }
 
-/// Why a value isn't shown.
-#[derive(Clone, Copy)]
-pub enum TextFault {
-    /// A text of this row isn't UTF-8.
-    Encoding(usize),
-    /// Out of memory.
-    Memory,
-}
-
-impl From<AllocError> for TextFault {
-    ghost from_gives = { λ _ fault. fault ≡ TextFault.Memory };
-
-    fn from(_error: AllocError) -> TextFault {
-        TextFault::Memory
-    }
-}
-
-impl<T: Drop> From<AllocFailed<T>> for TextFault {
-    ghost from_gives = { λ _ fault. fault ≡ TextFault.Memory };
-
-    fn from(_error: AllocFailed<T>) -> TextFault {
-        TextFault::Memory
-    }
-}
-
-impl From<TextFault> for TableFault {
-    ghost from_gives = { λ found fault. fault ≡ fault_of_text found };
-
-    fn from(fault: TextFault) -> TableFault {
-        match fault {
-            TextFault::Encoding(row) => TableFault::Encoding(row),
-            TextFault::Memory => TableFault::Memory,
-        }
-    }
-}
-
 impl From<AllocError> for TableFault {
     ghost from_gives = { λ _ fault. fault ≡ TableFault.Memory };
 
@@ -112,40 +74,32 @@ impl From<AllocError> for DatabaseFault {
     }
 }
 
-impl<T: Drop> From<AllocFailed<T>> for DatabaseFault {
-    ghost from_gives = { λ _ fault. fault ≡ Table TableFault.Memory };
-
-    fn from(_error: AllocFailed<T>) -> DatabaseFault {
-        DatabaseFault::Table(TableFault::Memory)
-    }
-}
-
 /// Writes what is wrong with a table.
 impl Display for TableFault {
     fn fmt<W: fmt::Write>(&self, f: &mut fmt::Formatter<W>) -> fmt::Result {
-        match self {
-            TableFault::Damage => f.write_str("a page is damaged"),
-            TableFault::Default => f.write_str("a default isn't understood"),
-            TableFault::Encoding(row) => write!(f, "row {row}: not UTF-8"),
-            TableFault::Memory => f.write_str("out of memory"),
-        }
+        let words = match self {
+            TableFault::Damage => "a page is damaged",
+            TableFault::Default => "a default isn't understood",
+            TableFault::Encoding(row) => return write!(f, "row {row}: not UTF-8"),
+            TableFault::Memory => "out of memory",
+        };
+        f.write_str(words)
     }
 }
 
 /// Writes what is wrong.
 impl Display for DatabaseFault {
     fn fmt<W: fmt::Write>(&self, f: &mut fmt::Formatter<W>) -> fmt::Result {
-        match self {
-            DatabaseFault::Database => f.write_str("no database of SQLite"),
-            DatabaseFault::Encoding => f.write_str("a database in UTF-16 isn't supported"),
-            DatabaseFault::Schema(fault) => write!(f, "the list of the tables: {fault}"),
-            DatabaseFault::Absent => f.write_str("no such table"),
-            DatabaseFault::Elsewhere => f.write_str(
-                "a view or a virtual table, which stores no rows",
-            ),
-            DatabaseFault::Keyed => f.write_str("a table WITHOUT ROWID isn't supported"),
-            DatabaseFault::Computed => f.write_str("a column that is computed isn't supported"),
-            DatabaseFault::Table(fault) => fault.fmt(f),
-        }
+        let words = match self {
+            DatabaseFault::Database => "no database of SQLite",
+            DatabaseFault::Encoding => "a database in UTF-16 isn't supported",
+            DatabaseFault::Schema(fault) => return write!(f, "the list of the tables: {fault}"),
+            DatabaseFault::Absent => "no such table",
+            DatabaseFault::Elsewhere => "a view or a virtual table, which stores no rows",
+            DatabaseFault::Keyed => "a table WITHOUT ROWID isn't supported",
+            DatabaseFault::Computed => "a column that is computed isn't supported",
+            DatabaseFault::Table(fault) => return fault.fmt(f),
+        };
+        f.write_str(words)
     }
 }

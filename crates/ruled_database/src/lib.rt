@@ -13,7 +13,7 @@ mod token;
 mod tree;
 mod value;
 
-pub use crate::fault::{DatabaseFault, TableFault, TextFault};
+pub use crate::fault::{DatabaseFault, TableFault};
 pub use crate::file::keeps_log;
 pub use crate::schema::{list_rows, table_rows};
-pub use crate::value::{push_text, push_value};
+pub use crate::value::push_value;

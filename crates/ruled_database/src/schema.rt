@@ -2,15 +2,16 @@
 
 ghost use Rattle.std.specs.Prelude.{◌≡◌, ◌∷◌, map, option_map, IfErr, IfOk};
 ghost use Rattle.csv.specs.Records.{fields_of};
+ghost use Rattle.ruled_database.specs.Faults.{LacksTexts};
 ghost use Rattle.ruled_database.specs.Listings as spec;
-ghost use Rattle.ruled_database.specs.Listings.{AreEntryRows, AreListed, AreTable, IsListing, LacksEntry, LacksListing, LacksSchema, LacksTable, entry_of};
+ghost use Rattle.ruled_database.specs.Listings.{AreEntryRows, AreListed, AreTable, IsListing, LacksEntries, LacksEntry, LacksListing, LacksSchema, LacksTable, entry_of};
 
 use crate::definition::{Column, Definition, definition_of};
-use crate::fault::{DatabaseFault, TableFault, TextFault};
+use crate::fault::{DatabaseFault, TableFault};
 use crate::file::File;
 use crate::table::{names_of, push_rows};
-use crate::value::push_text;
-use csv::StringRecord;
+use crate::value::row_of;
+use csv::{ByteRecord, StringRecord};
 use sqlite_format::Tree;
 use sqlite_sql::numeral::int_at_front;
 use std::alloc::{AllocError, Global};
@@ -244,26 +245,16 @@ fn kind_name(kind: ItemKind) -> &'static str
 }
 
 // What is shown of an entry, in this row.
-fn fields_in(alloc: Global, row: usize, listed: Listed<'_>) -> Result<StringRecord, TextFault>
-    ensures { IfOk result (λ fields. fields_of fields ≡ spec.fields_of_entry (entry_of listed.entry)) }
+fn fields_in(alloc: Global, row: usize, listed: Listed<'_>) -> Result<StringRecord, TableFault>
+    ensures fields { IfOk result (λ fields. fields_of fields ≡ spec.fields_of_entry (entry_of listed.entry)) }
+    ensures fault { IfErr result (LacksTexts (spec.fields_of_entry (entry_of listed.entry))) }
 {
-    let mut fields = StringRecord::new(alloc);
-    fields.push_field(listed.name)?;
-    fields.push_field(kind_name(listed.kind))?;
+    let mut texts = ByteRecord::new(alloc);
+    texts.push_field(listed.name.as_bytes())?;
+    texts.push_field(kind_name(listed.kind).as_bytes())?;
     let columns = columns_of(alloc, listed)?;
-    push_text(&mut fields, row, &columns)?;
-    Ok(fields)
-}
-
-// The words above a list of tables.
-fn header_of(alloc: Global) -> Result<StringRecord, AllocError>
-    ensures { IfOk result (λ fields. fields_of fields ≡ spec.header) }
-{
-    let mut fields = StringRecord::new(alloc);
-    fields.push_field("name")?;
-    fields.push_field("kind")?;
-    fields.push_field("columns")?;
-    Ok(fields)
+    texts.push_field(&columns)?;
+    row_of(texts, row)
 }
 
 // Appends what is shown of these entries.
@@ -271,8 +262,9 @@ fn push_listing(
     alloc: Global,
     mut schema: &[StringRecord],
     rows: &mut Vec<StringRecord>,
-) -> Result<(), TextFault>
-    ensures { IfOk result (λ x. map fields_of rows.new.items ≡ spec.with_entries (map fields_of rows.old.items) (map fields_of schema.entry.now)) }
+) -> Result<(), TableFault>
+    ensures rows { IfOk result (λ x. map fields_of rows.new.items ≡ spec.with_entries (map fields_of rows.old.items) (map fields_of schema.entry.now)) }
+    ensures fault { IfErr result (LacksEntries (map fields_of schema.entry.now)) }
 {
     while let [row, rest @ ..] = schema {
         if let Some(listed) = listed_in(row) {
@@ -285,10 +277,11 @@ fn push_listing(
 }
 
 // The list of these entries.
-fn listing_of(alloc: Global, schema: &[StringRecord]) -> Result<Vec<StringRecord>, TextFault>
-    ensures { IfOk result (λ rows. map fields_of rows.items ≡ spec.listing (map fields_of schema.now)) }
+fn listing_of(alloc: Global, schema: &[StringRecord]) -> Result<Vec<StringRecord>, TableFault>
+    ensures rows { IfOk result (λ rows. map fields_of rows.items ≡ spec.listing (map fields_of schema.now)) }
+    ensures fault { IfErr result (LacksEntries (map fields_of schema.now)) }
 {
-    let header = header_of(alloc)?;
+    let header = StringRecord::from_fields(alloc, &["name", "kind", "columns"])?;
     let mut rows = Vec::new(alloc);
     rows.push(header)?;
     push_listing(alloc, schema, &mut rows)?;
@@ -305,6 +298,6 @@ pub fn list_rows(alloc: Global, bytes: &[u8]) -> Result<Vec<StringRecord>, Datab
     let schema = schema_rows(alloc, file)?;
     match listing_of(alloc, &schema) {
         Ok(rows) => Ok(rows),
-        Err(fault) => Err(DatabaseFault::Schema(fault.into())),
+        Err(fault) => Err(DatabaseFault::Schema(fault)),
     }
 }

@@ -1,26 +1,26 @@
 //! The rows of a table, as texts.
 
-ghost use Rattle.std.specs.Prelude.{◌≡◌, ◌++◌, ◌∷◌, [], map, IfOk, OnOk};
+ghost use Rattle.std.specs.Prelude.{◌≡◌, map, IfErr, IfOk};
 ghost use Rattle.csv.specs.Records.{fields_of};
 ghost use Rattle.sqlite_record.specs.Affinity.{as_real};
 ghost use Rattle.sqlite_value.specs.Value.{owned};
-ghost use Rattle.ruled_database.specs.Reading.{Gives};
+ghost use Rattle.ruled_database.specs.Faults.{LacksTexts};
 ghost use Rattle.ruled_database.specs.Rows.{stored_of};
-ghost use Rattle.ruled_database.specs.Tables.{AddsRows, names_in, rowid, shown_row, texts_in, value_at, value_in};
+ghost use Rattle.ruled_database.specs.Tables.{AddsRows, GivesRow, names_in, rowid, texts_in, value_at, value_in};
 
 use crate::definition::{Column, Definition, Shown};
-use crate::fault::{TableFault, TextFault};
+use crate::fault::TableFault;
 use crate::file::File;
 use crate::overflow::Overflow;
 use crate::tree::{StoredRow, stored_rows};
-use crate::value::{push_text, push_value};
-use csv::StringRecord;
+use crate::value::{push_value, row_of};
+use csv::{ByteRecord, StringRecord};
 use sqlite_format::Tree;
 use sqlite_format::cell::toggle_sign;
 use sqlite_record::fields::decode_into;
 use sqlite_value::row::Row;
 use sqlite_value::value::ValueRef;
-use std::alloc::Global;
+use std::alloc::{AllocError, Global};
 use std::num::nearest_i64_to_f64;
 
 /// The greatest integer up to which each one is a float.
@@ -70,22 +70,21 @@ fn value_of<'v>(
     }
 }
 
-// The texts of all columns, in this row.
-fn fields_in(
+// The texts of all columns.
+fn texts_of(
     alloc: Global,
     definition: &Definition,
-    row: usize,
     key: u64,
     values: &Row,
-) -> Result<StringRecord, TextFault>
-    ensures { IfOk result (λ fields. fields_of fields ≡ texts_in definition.now key values.now) }
+) -> Result<ByteRecord, AllocError>
+    ensures { IfOk result (λ texts. fields_of texts ≡ texts_in definition.now key values.now) }
 {
-    let mut fields = StringRecord::new(alloc);
+    let mut texts = ByteRecord::new(alloc);
     for column in definition.columns.as_slice() {
         let value = value_of(definition, column, key, values);
-        push_value(alloc, &mut fields, row, value)?;
+        push_value(alloc, &mut texts, value)?;
     }
-    Ok(fields)
+    Ok(texts)
 }
 
 /// What reads rows: their overflow pages, and the record and the values of one row at a time.
@@ -106,7 +105,7 @@ impl<'a> RowReader<'a> {
         rows: &mut Vec<StringRecord>,
     ) -> Result<(), TableFault>
         ensures file { self.new.overflow.file ≡ self.old.overflow.file }
-        ensures rows { Gives (shown_row self.old.overflow.file.bytes.now definition.now (stored_of row.now)) self.old.overflow.left self.new.overflow.left
+        ensures rows { GivesRow self.old.overflow.file.bytes.now definition.now (stored_of row.now) self.old.overflow.left self.new.overflow.left
             (map fields_of rows.old.items) (map fields_of rows.new.items) result }
     {
         self.record.clear();
@@ -116,7 +115,8 @@ impl<'a> RowReader<'a> {
         if self.values.len() < definition.least {
             return Err(TableFault::Default);
         }
-        let fields = fields_in(alloc, definition, rows.len(), row.key, &self.values)?;
+        let texts = texts_of(alloc, definition, row.key, &self.values)?;
+        let fields = row_of(texts, rows.len())?;
         rows.push(fields)?;
         Ok(())
     }
@@ -146,12 +146,13 @@ pub(crate) fn push_rows(
 }
 
 /// The names of columns.
-pub(crate) fn names_of(alloc: Global, columns: &[Column]) -> Result<StringRecord, TextFault>
-    ensures { IfOk result (λ fields. fields_of fields ≡ names_in columns.now) }
+pub(crate) fn names_of(alloc: Global, columns: &[Column]) -> Result<StringRecord, TableFault>
+    ensures fields { IfOk result (λ fields. fields_of fields ≡ names_in columns.now) }
+    ensures fault { IfErr result (LacksTexts (names_in columns.now)) }
 {
-    let mut fields = StringRecord::new(alloc);
+    let mut names = ByteRecord::new(alloc);
     for column in columns {
-        push_text(&mut fields, 0, column.name.as_slice())?;
+        names.push_field(column.name.as_slice())?;
     }
-    Ok(fields)
+    row_of(names, 0)
 }

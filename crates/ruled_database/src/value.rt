@@ -1,13 +1,15 @@
 //! Values as texts.
 
-ghost use Rattle.std.specs.Prelude.{◌≡◌, ◌++◌, ◌∷◌, [], codes, string_bytes, IfOk, OnOk};
+ghost use Rattle.std.specs.Prelude.{◌≡◌, ◌++◌, ◌∷◌, [], codes, string_bytes, IfErr, IfOk, OnOk};
 ghost use Rattle.hex.specs.Hex.{encode_lower};
-ghost use Rattle.csv.specs.Records.{fields_of};
+ghost use Rattle.csv.specs.Records.{fields_of, partial_of};
 ghost use Rattle.sqlite_value.specs.Value.{owned};
+ghost use Rattle.ruled_database.specs.Faults.{LacksTexts};
 ghost use Rattle.ruled_database.specs.Values.{shown_text};
+ghost use Rattle.ruled_database.specs.declared.fault.TableFault.{TableFault};
 
-use crate::fault::TextFault;
-use csv::StringRecord;
+use crate::fault::TableFault;
+use csv::{ByteRecord, StringRecord};
 use sqlite_sql::spelling::{of_float, of_integer};
 use sqlite_value::value::ValueRef;
 use std::alloc::{AllocError, Global};
@@ -23,34 +25,36 @@ fn literal_of(alloc: Global, bytes: &[u8]) -> Result<String, AllocError>
     Ok(text)
 }
 
-/// Appends a text, of this row. One that isn't UTF-8 is a fault of its row.
-pub fn push_text(fields: &mut StringRecord, row: usize, bytes: &[u8]) -> Result<(), TextFault>
-    ensures { OnOk result (fields_of fields.new ≡ fields_of fields.old ++ bytes.now ∷ []) }
+/// Appends a value as a text: a text as it is, a number as SQLite writes it (`12`, `1.0`, `1.5e+20`), `NULL` as an empty
+/// text, and a blob as `x'00ff'`.
+pub fn push_value(
+    alloc: Global,
+    texts: &mut ByteRecord,
+    value: ValueRef<'_>,
+) -> Result<(), AllocError>
+    ensures fields { OnOk result (fields_of texts.new ≡ fields_of texts.old ++ ((partial_of texts.old ++ shown_text (owned value.entry)) ∷ [])) }
+    ensures partial { OnOk result (partial_of texts.new ≡ []) }
 {
-    match str::from_utf8(bytes) {
-        Ok(text) => Ok(fields.push_field(text)?),
-        Err(_) => Err(TextFault::Encoding(row)),
+    match value {
+        ValueRef::Null => texts.push_field(b""),
+        ValueRef::Int(number) => texts.push_field(of_integer(number).as_slice()),
+        ValueRef::Real(number) => texts.push_field(of_float(number).as_slice()),
+        ValueRef::Text(bytes) => texts.push_field(bytes),
+        ValueRef::Blob(bytes) => {
+            let text = literal_of(alloc, bytes)?;
+            texts.push_field(text.as_bytes())
+        }
     }
 }
 
-/// Appends a value, of this row, as a text: a text as it is, a number as SQLite writes it (`12`, `1.0`, `1.5e+20`), `NULL`
-/// as an empty text, and a blob as `x'00ff'`. A text that isn't UTF-8 is a fault of its row.
-pub fn push_value(
-    alloc: Global,
-    fields: &mut StringRecord,
-    row: usize,
-    value: ValueRef<'_>,
-) -> Result<(), TextFault>
-    ensures { OnOk result (fields_of fields.new ≡ fields_of fields.old ++ shown_text (owned value.entry) ∷ []) }
+/// The texts as a row of this number. One that isn't UTF-8 is a fault.
+pub(crate) fn row_of(texts: ByteRecord, row: usize) -> Result<StringRecord, TableFault>
+    ensures fields { IfOk result (λ fields. fields_of fields ≡ fields_of texts) }
+    ensures place { IfErr result (λ fault. fault ≡ TableFault.Encoding row) }
+    ensures fault { IfErr result (LacksTexts (fields_of texts)) }
 {
-    match value {
-        ValueRef::Null => Ok(fields.push_field("")?),
-        ValueRef::Int(number) => push_text(fields, row, of_integer(number).as_slice()),
-        ValueRef::Real(number) => push_text(fields, row, of_float(number).as_slice()),
-        ValueRef::Text(bytes) => push_text(fields, row, bytes),
-        ValueRef::Blob(bytes) => {
-            let text = literal_of(alloc, bytes)?;
-            Ok(fields.push_field(&text)?)
-        }
+    match StringRecord::from_byte_record(texts) {
+        Ok(fields) => Ok(fields),
+        Err(_) => Err(TableFault::Encoding(row)),
     }
 }

@@ -4,7 +4,6 @@ ghost use Rattle.std.specs.Prelude.{◌≡◌};
 ghost use Rattle.ruled_sql.specs.declared.fault.QueryFault.{QueryFault};
 ghost use Rattle.ruled_sql.specs.declared.fault.SqlFault.TheVariants.{Query};
 
-use ruled_database::TextFault;
 use sqlite::{Error, ErrorCode};
 use std::alloc::{AllocError, AllocFailed};
 use std::fmt;
@@ -34,15 +33,6 @@ pub enum SqlFault {
     Query(QueryFault),
     /// Out of memory, before the query was read.
     Memory,
-}
-
-impl From<TextFault> for QueryFault {
-    fn from(fault: TextFault) -> QueryFault {
-        match fault {
-            TextFault::Encoding(row) => QueryFault::Encoding(row),
-            TextFault::Memory => QueryFault::Memory,
-        }
-    }
 }
 
 impl From<AllocError> for QueryFault {
@@ -89,8 +79,8 @@ impl Display for QueryFault {
                 )
             }
             QueryFault::Refused(error) => write!(f, "the query fails: {error}"),
-            QueryFault::Change => f.write_str("the query changes the database"),
             QueryFault::Encoding(row) => write!(f, "row {row}: not UTF-8"),
+            QueryFault::Change => f.write_str("the query changes the database"),
             QueryFault::Memory => f.write_str("out of memory"),
         }
     }
@@ -99,13 +89,14 @@ impl Display for QueryFault {
 /// Writes what is wrong.
 impl Display for SqlFault {
     fn fmt<W: fmt::Write>(&self, f: &mut fmt::Formatter<W>) -> fmt::Result {
-        match self {
-            SqlFault::Database => f.write_str(
-                "not an SQLite database, or it is encrypted or of an unsupported kind",
-            ),
-            SqlFault::Damage => f.write_str("the database is damaged, or of an unsupported kind"),
-            SqlFault::Query(fault) => fault.fmt(f),
-            SqlFault::Memory => f.write_str("out of memory"),
-        }
+        let words = match self {
+            SqlFault::Database => {
+                "not an SQLite database, or it is encrypted or of an unsupported kind"
+            }
+            SqlFault::Damage => "the database is damaged, or of an unsupported kind",
+            SqlFault::Query(fault) => return fault.fmt(f),
+            SqlFault::Memory => "out of memory",
+        };
+        f.write_str(words)
     }
 }

@@ -8,33 +8,43 @@ ghost use Rattle.ruled_sql.specs.declared.fault.SqlFault.TheVariants.{Database};
 
 use crate::database::{answer_of, open};
 use crate::fault::{QueryFault, SqlFault};
-use csv::StringRecord;
-use ruled_database::{push_text, push_value};
+use csv::{ByteRecord, StringRecord};
+use ruled_database::push_value;
 use sqlite::Row;
 use sqlite_value::value::Bytes;
 use std::alloc::Global;
+
+// The texts as a row of this number.
+fn row_of(texts: ByteRecord, row: usize) -> Result<StringRecord, QueryFault>
+    ensures { IfOk result (λ fields. fields_of fields ≡ fields_of texts) }
+{
+    match StringRecord::from_byte_record(texts) {
+        Ok(fields) => Ok(fields),
+        Err(_) => Err(QueryFault::Encoding(row)),
+    }
+}
 
 // The names of the columns.
 fn header_of(alloc: Global, names: &[Bytes]) -> Result<StringRecord, QueryFault>
     ensures { IfOk result (λ fields. fields_of fields ≡ names.now) }
 {
-    let mut fields = StringRecord::new(alloc);
+    let mut texts = ByteRecord::new(alloc);
     for name in names {
-        push_text(&mut fields, 0, name.as_slice())?;
+        texts.push_field(name.as_slice())?;
     }
-    Ok(fields)
+    row_of(texts, 0)
 }
 
 // The values of a row.
 fn fields_in(alloc: Global, row: usize, values: &Row) -> Result<StringRecord, QueryFault>
     ensures { IfOk result (λ fields. fields_of fields ≡ map shown_text values.now) }
 {
-    let mut fields = StringRecord::new(alloc);
+    let mut texts = ByteRecord::new(alloc);
     for at in 0..values.column_count() {
         let value = values.get_ref(at)?;
-        push_value(alloc, &mut fields, row, value)?;
+        push_value(alloc, &mut texts, value)?;
     }
-    Ok(fields)
+    row_of(texts, row)
 }
 
 // The rows of an answer, with the names of the columns as row 0.

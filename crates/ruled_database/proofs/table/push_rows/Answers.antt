@@ -6,12 +6,13 @@ use Rattle.ruled_database.specs.Files.{page_count}
 use Rattle.ruled_database.specs.Reads.{Read, all}
 use Rattle.ruled_database.specs.Reading.{Gives}
 use Rattle.ruled_database.specs.Rows.{stored_of}
-use Rattle.ruled_database.specs.Tables.{shown_row, shown_rows_of}
+use Rattle.ruled_database.specs.Tables.{GivesRow, shown_row, shown_rows_of}
 use Rattle.ruled_database.specs.declared.definition.Definition.{Definition}
+use Rattle.ruled_database.specs.declared.fault.TableFault.TheVariants.{Damage}
 use Rattle.ruled_database.specs.declared.file.File.{File}
 use Rattle.ruled_database.specs.declared.tree.StoredRow.{StoredRow}
 use Rattle.ruled_database.proofs.Reading.{gives_last, gives_next}
-use Rattle.ruled_database.proofs.Tabling.{adds_all, adds_unread}
+use Rattle.ruled_database.proofs.Tabling.{adds_all, adds_unread, among}
 use Rattle.ruled_database.proofs.table.push_rows.Goals as goal
 
 -- what a list has past its end
@@ -54,11 +55,14 @@ returns-in_err-push_row c =
     let fault = c.in_err-push_row.field-0.0 in
     let left = c.push_row.new.self.overflow.left in
     let nought : ℕ = 0 in
-    let fails = subst (λ (it : File). Gives {U = Unit {0}} (shown it.bytes.now definition (get_or xs l.row-index none)) l.reader.overflow.left left mid new (Err fault)) l.invariant.file c.in_err-push_row.ensures.rows in
-    let last = gives_last (Unit {0}) (shown file definition) xs l.row-index (get_or xs l.row-index none) none (page_count file) l.reader.overflow.left left old mid new nought fault (omega arith) refl l.invariant.rows fails in
-    let whole = subst (λ (read : Read (List (List (List ℕ)))). Gives {U = Unit {0}} read (page_count file) left old new (Err fault)) (same_rows file definition xs items c.deref-row-items.ensures.value) last in
-    adds_unread file c.args.tree c.args.root definition old new (map stored_of items) c.in_ok-stored.ensures (Unit {0}) (Unit {0}) (page_count file) left new c.from_residual-in_err-push_row.result fault
-    c.from_residual-in_err-push_row.ensures.1 refl whole
+    let item = get_or xs l.row-index none in
+    let row = stored_of item in
+    let fails = subst (λ (it : File). GivesRow {U = Unit {0}} it.bytes.now definition row l.reader.overflow.left left mid new (Err fault)) l.invariant.file c.in_err-push_row.ensures.rows in
+    let whole = λ (damage : Gives {U = Unit {0}} (shown file definition item) l.reader.overflow.left left mid new (Err Damage)).
+    subst (λ (read : Read (List (List (List ℕ)))). Gives {U = Unit {0}} read (page_count file) left old new (Err Damage)) (same_rows file definition xs items c.deref-row-items.ensures.value)
+    (gives_last (Unit {0}) (shown file definition) xs l.row-index item none (page_count file) l.reader.overflow.left left old mid new nought Damage (omega arith) refl l.invariant.rows damage) in
+    adds_unread file c.args.tree c.args.root definition old new (map stored_of items) c.in_ok-stored.ensures (Unit {0}) (Unit {0}) (page_count file) l.reader.overflow.left left l.row-index mid row
+    c.from_residual-in_err-push_row.result fault c.from_residual-in_err-push_row.ensures.1 refl (among stored_of xs items l.row-index none c.deref-row-items.ensures.value (omega arith)) whole fails
 
 pub returns : goal.returns
 returns c =

@@ -1,6 +1,7 @@
-use Rattle.std.proofs.Common.{◌≡◌, ◌∙◌, length, map, ap, arith}
+use Rattle.std.proofs.Common.{◌≡◌, ◌∙◌, ◌++◌, ◌∷◌, [], ℕ, List, length, map, ap, subst, arith}
+use Rattle.std.specs.Prelude.{IfOk}
 use Rattle.std.proofs.lemmas.List.{take_all}
-use Rattle.csv.specs.Records.{fields_of}
+use Rattle.csv.specs.Records.{Row as Fields, fields_of}
 use Rattle.sqlite_value.specs.Value.{owned}
 use Rattle.ruled_database.specs.Values.{shown_text}
 use Rattle.ruled_sql.proofs.Answering.{value_more}
@@ -9,10 +10,18 @@ use Rattle.ruled_sql.proofs.rows.fields_in.Goals as goal
 pub loop-at-preserved : goal.loop-at-preserved
 loop-at-preserved c =
     let found = c.in_ok-value.ensures.ok in
-    value_more c.args.values.now c.loop-at.at (owned c.in_ok-value.value) (fields_of c.loop-at.fields) (fields_of c.push_value.new.fields) found.0 found.1 c.in_ok-push_value.ensures c.loop-at.invariant
+    let value = owned c.in_ok-value.value in
+    let old = fields_of c.loop-at.texts in
+    let pushed : fields_of c.push_value.new.texts ≡ old ++ shown_text value ∷ [] =
+    c.in_ok-push_value.ensures.fields ∙ ap (λ (p : List ℕ). old ++ ((p ++ shown_text value) ∷ [])) c.loop-at.invariant.partial in
+    record {
+      fields = value_more c.args.values.now c.loop-at.at value old (fields_of c.push_value.new.texts) found.0 found.1 pushed c.loop-at.invariant.fields;
+      partial = c.in_ok-push_value.ensures.partial;
+    }
 
 pub returns : goal.returns
 returns c =
     let values = c.args.values.now in
     let all : c.loop-at.at ≡ length values = omega (arith, c.loop-at-test.false, c.loop-at.auto.at-end, c.column_count-at-end.ensures) in
-    c.loop-at.invariant ∙ ap (map shown_text) (take_all c.loop-at.at values (omega (arith, all)))
+    let whole : fields_of c.loop-at.texts ≡ map shown_text values = c.loop-at.invariant.fields ∙ ap (map shown_text) (take_all c.loop-at.at values (omega (arith, all))) in
+    subst (λ (texts : List (List ℕ)). IfOk c.row_of.result (λ (fields : Fields). fields_of fields ≡ texts)) whole c.row_of.ensures

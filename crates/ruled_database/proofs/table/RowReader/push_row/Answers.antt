@@ -5,15 +5,28 @@ use Rattle.sqlite_record.specs.Record.{decode}
 use Rattle.sqlite_value.specs.Order.{Row}
 use Rattle.ruled_database.specs.Reading.{Gives}
 use Rattle.ruled_database.specs.Rows.{stored_of}
-use Rattle.ruled_database.specs.Tables.{shown_row, texts_in}
+use Rattle.ruled_database.specs.Tables.{texts_in}
 use Rattle.ruled_database.specs.Trees.{record_of}
-use Rattle.ruled_database.proofs.Tabling.{gives_no_text, gives_old, gives_shown, widened}
+use Rattle.ruled_database.proofs.Tabling.{gives_old, gives_shown, gives_unread, gives_wrong, widened}
 use Rattle.ruled_database.proofs.table.RowReader.push_row.Goals as goal
+
+pub returns-in_err-read_record-clause-rows : goal.returns-in_err-read_record-clause-rows
+returns-in_err-read_record-clause-rows c =
+    gives_unread c.args.self.now.overflow.file.bytes.now c.args.definition.now (stored_of c.args.row.now) c.args.self.now.overflow.left c.read_record.new.self.left (Unit {0}) c.clear.new.self.items c.read_record.new.bytes.items
+    (map fields_of c.args.rows.now.items) (map fields_of c.args.rows.now.items) c.from_residual.result c.in_err-read_record.field-0.0 c.from_residual.ensures.1 c.in_err-read_record.ensures.bytes
 
 pub returns-in_err-fields-clause-rows : goal.returns-in_err-fields-clause-rows
 returns-in_err-fields-clause-rows c =
-    gives_no_text (shown_row c.args.self.now.overflow.file.bytes.now c.args.definition.now (stored_of c.args.row.now)) c.args.self.now.overflow.left c.read_record.new.self.left (map fields_of c.args.rows.now.items)
-    (map fields_of c.args.rows.now.items) c.from_residual-in_err-fields.result c.in_err-fields.field-0.0 c.from_residual-in_err-fields.ensures.1
+    let file = c.args.self.now.overflow.file.bytes.now in
+    let definition = c.args.definition.now in
+    let row = stored_of c.args.row.now in
+    let left = c.args.self.now.overflow.left in
+    let rows = map fields_of c.args.rows.now.items in
+    let bytes = c.read_record.new.bytes.items in
+    let read = subst (λ (b : List ℕ). Gives {U = Unit {0}} (record_of file row) left c.read_record.new.self.left b bytes (Ok c.in_ok-read_record.field-0)) c.clear.ensures.items c.in_ok-read_record.ensures.bytes in
+    let values : c.decode_into.new.row ≡ decode bytes = c.in_ok-decode_into.ensures ∙ rw (c.clear-2.ensures, widened (decode c.deref.result.now), c.deref.ensures.value) in
+    gives_wrong file definition row left c.read_record.new.self.left c.in_ok-read_record.field-0 bytes (fields_of c.in_ok-texts.texts) rows rows c.from_residual-in_err-fields.result c.in_err-fields.field-0.0 _
+    c.from_residual-in_err-fields.ensures.1 c.in_err-fields.ensures.place read (c.in_ok-texts.ensures ∙ ap (texts_in definition row.key) values) c.in_err-fields.ensures.fault
 
 pub returns-clause-rows : goal.returns-clause-rows
 returns-clause-rows c =
@@ -26,7 +39,7 @@ returns-clause-rows c =
     let read = subst (λ (b : List ℕ). Gives {U = Unit {0}} (record_of file row) left c.read_record.new.self.left b bytes (Ok c.in_ok-read_record.field-0)) c.clear.ensures.items c.in_ok-read_record.ensures.bytes in
     let values : c.decode_into.new.row ≡ decode bytes = c.in_ok-decode_into.ensures ∙ rw (c.clear-2.ensures, widened (decode c.deref.result.now), c.deref.ensures.value) in
     let added : map fields_of c.push.new.self.items ≡ map fields_of old ++ texts_in definition row.key (decode bytes) ∷ [] =
-    ap (map fields_of) c.in_ok-push.ensures.items ∙ map-append fields_of old (c.in_ok-fields.fields ∷ []) ∙ ap (λ (t : List (List ℕ)). map fields_of old ++ t ∷ []) (c.in_ok-fields.ensures ∙ ap (texts_in definition row.key) values) in
+    ap (map fields_of) c.in_ok-push.ensures.items ∙ map-append fields_of old (c.in_ok-fields.fields ∷ []) ∙ ap (λ (t : List (List ℕ)). map fields_of old ++ t ∷ []) (c.in_ok-fields.ensures.fields ∙ c.in_ok-texts.ensures ∙ ap (texts_in definition row.key) values) in
     let long : definition.least ≤ length (decode bytes) = subst (λ (values : Row). definition.least ≤ length values) values (omega arith) in
     gives_shown file definition row left c.read_record.new.self.left c.in_ok-read_record.field-0 c.in_ok-read_record.field-0 bytes (map fields_of old) (map fields_of c.push.new.self.items) read long added
 

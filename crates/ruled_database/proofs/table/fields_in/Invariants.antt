@@ -1,9 +1,0 @@
-use Rattle.std.proofs.Common.{◌≡◌, map, take}
-use Rattle.csv.specs.Records.{fields_of}
-use Rattle.ruled_database.specs.Values.{shown_text}
-use Rattle.ruled_database.specs.Tables.{value_in}
-use Rattle.ruled_database.specs.declared.definition.Column.{Column}
-use Rattle.ruled_database.proofs.table.fields_in.Given as goal
-
-abbrev pub invariant-loop-column : goal.invariant-loop-column
-invariant-loop-column l = fields_of l.fields ≡ map (λ (it : Column). shown_text (value_in l.definition l.key l.values it)) (take l.column-index l.column-items)

@@ -1,0 +1,12 @@
+use Rattle.std.proofs.Common.{◌≡◌, [], map, take}
+use Rattle.csv.specs.Records.{fields_of, partial_of}
+use Rattle.ruled_database.specs.Values.{shown_text}
+use Rattle.ruled_database.specs.Tables.{value_in}
+use Rattle.ruled_database.specs.declared.definition.Column.{Column}
+use Rattle.ruled_database.proofs.table.texts_of.Given as goal
+
+abbrev pub invariant-loop-column : goal.invariant-loop-column
+invariant-loop-column l = record {
+  fields : fields_of l.texts ≡ map (λ (it : Column). shown_text (value_in l.definition l.key l.values it)) (take l.column-index l.column-items);
+  partial : partial_of l.texts ≡ [];
+}
