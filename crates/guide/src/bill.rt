@@ -6,19 +6,21 @@
 //! ├───────┬───────┤
 //! ```
 
+use crate::rows::rows_of;
 use pg_layout::{AlignmentHorizontal, Borders, HorizontalLine, Sides};
 use pg_table::{Table, TableFault};
 use std::alloc::Global;
 
+const ROWS: &[&[&str]] = &[
+    &["Bill", ""],
+    &["soup", "4.20"],
+    &["rice", "6.50"],
+    &["total", "10.70"],
+];
+
 /// A bill over two dishes.
 pub(crate) fn bill(alloc: Global) -> Result<String, TableFault> {
-    let rows = vec![in alloc;
-        vec![in alloc; "Bill", ""]?,
-        vec![in alloc; "soup", "4.20"]?,
-        vec![in alloc; "rice", "6.50"]?,
-        vec![in alloc; "total", "10.70"]?,
-    ]?;
-    Table::new(alloc, rows)?
+    Table::new(alloc, rows_of(alloc, ROWS)?)?
         .with_borders(Borders::rounded())
         .with_padding(Sides::spaces(1, 0))
         .with_column_alignment(1, AlignmentHorizontal::Right)?

@@ -1,19 +1,16 @@
 //! Why the program ends early.
 
-use pg_layout::RecordsFault;
-use pg_picture::fits::Misfit;
 use pg_picture::{PrintFault, WholeFault};
 use pg_stream::StreamFault;
 use pg_table::TableFault;
 use std::alloc::{AllocError, AllocFailed};
-use std::{fmt, io};
+use std::fmt::{self, Display};
+use std::io;
 
 /// Why the program ends early.
-#[derive(Debug, Drop)]
+#[derive(Drop)]
 pub(crate) enum Fault {
-    /// Two rows have different numbers of cells.
-    Records(RecordsFault),
-    /// A table from rows isn't printed.
+    /// Rows aren't a table, or it isn't printed.
     Table(TableFault),
     /// A grid isn't printed.
     Print(PrintFault),
@@ -31,12 +28,6 @@ pub(crate) enum Fault {
     Io(io::Error),
 }
 
-impl From<RecordsFault> for Fault {
-    fn from(fault: RecordsFault) -> Fault {
-        Fault::Records(fault)
-    }
-}
-
 impl From<TableFault> for Fault {
     fn from(fault: TableFault) -> Fault {
         Fault::Table(fault)
@@ -52,12 +43,6 @@ impl From<PrintFault> for Fault {
 impl From<WholeFault> for Fault {
     fn from(fault: WholeFault) -> Fault {
         Fault::Whole(fault)
-    }
-}
-
-impl From<Misfit> for Fault {
-    fn from(misfit: Misfit) -> Fault {
-        Fault::Print(PrintFault::Misfit(misfit))
     }
 }
 
@@ -86,18 +71,17 @@ impl From<io::Error> for Fault {
 }
 
 /// Writes why.
-impl fmt::Display for Fault {
+impl Display for Fault {
     fn fmt<W: fmt::Write>(&self, f: &mut fmt::Formatter<W>) -> fmt::Result {
         match self {
-            Fault::Records(fault) => write!(f, "{fault}"),
-            Fault::Table(fault) => write!(f, "{fault}"),
-            Fault::Print(fault) => write!(f, "{fault}"),
-            Fault::Whole(fault) => write!(f, "{fault}"),
-            Fault::Stream(fault) => write!(f, "{fault}"),
+            Fault::Table(fault) => fault.fmt(f),
+            Fault::Print(fault) => fault.fmt(f),
+            Fault::Whole(fault) => fault.fmt(f),
+            Fault::Stream(fault) => fault.fmt(f),
             Fault::Line(line) => write!(f, "line {line} isn't a row"),
-            Fault::Name => write!(f, "no program of this name reads an input"),
-            Fault::Memory => write!(f, "out of memory"),
-            Fault::Io(error) => write!(f, "{error}"),
+            Fault::Name => f.write_str("no program of this name reads an input"),
+            Fault::Memory => f.write_str("out of memory"),
+            Fault::Io(error) => error.fmt(f),
         }
     }
 }

@@ -10,10 +10,10 @@ use pg_fit::visible;
 use pg_layout::Borders;
 use pg_table::{Breaking, Overflow, Table, TableFault};
 use std::alloc::{AllocError, Global};
-use std::io::{BufRead, BufReader, Read};
+use std::io::BufRead;
 
 /// The table of the rows within a width.
-pub(crate) fn table_within<R: Read + Drop>(
+pub(crate) fn table_within<R: BufRead + Drop>(
     alloc: Global,
     input: R,
     width: usize,
@@ -25,20 +25,22 @@ pub(crate) fn table_within<R: Read + Drop>(
 /// How many columns there are, by the argument, else by the variable `COLUMNS`, if it is a number
 /// above 0; without limit if neither is.
 pub(crate) fn width_of(argument: Option<&str>, columns: Option<&str>) -> usize {
-    let said = argument.and_then(|word| number_of(word));
-    let said = said.or_else(|| columns.and_then(|word| number_of(word)));
-    said.unwrap_or(usize::MAX)
+    let width = argument.and_then(number_of);
+    width.or(columns.and_then(number_of)).unwrap_or(usize::MAX)
 }
 
 // The number above 0 that a word writes.
 fn number_of(word: &str) -> Option<usize> {
-    word.parse::<usize>().ok().filter(|n| *n > 0)
+    match word.parse() {
+        Ok(0) | Err(_) => None,
+        Ok(number) => Some(number),
+    }
 }
 
 // The rows of the input, with visible control characters.
-fn rows_of<R: Read + Drop>(alloc: Global, input: R) -> Result<Vec<Vec<String>>, Fault> {
+fn rows_of<R: BufRead + Drop>(alloc: Global, input: R) -> Result<Vec<Vec<String>>, Fault> {
     let mut rows = Vec::new(alloc);
-    for line in BufReader::new(alloc, input)?.lines(alloc) {
+    for line in input.lines(alloc) {
         rows.push(row_of(alloc, &line?)?)?;
     }
     Ok(rows)

@@ -17,9 +17,6 @@ use pg_grid::{Misfit, PrintFault};
 use pg_layout::{Borders, ConstantDimension, NoColors, VecRecords};
 use std::alloc::Global;
 
-/// The rows of the table.
-const ROWS: [(&str, &str); 2] = [("apples", "12"), ("rye bread\n(sliced)", "1")];
-
 /// The parts of the table, sizes that it fits in and sizes that it doesn't, and looks.
 #[derive(Drop)]
 struct Given {
@@ -37,7 +34,7 @@ pub(crate) fn tables(alloc: Global) -> Result<String, Fault> {
     config.set_borders(Borders::ascii());
     let given = Given {
         alloc,
-        records: parts::records(alloc, &ROWS)?,
+        records: parts::records(alloc)?,
         wide: parts::sizes(alloc, 9)?,
         narrow: parts::sizes(alloc, 6)?,
         config,
@@ -68,7 +65,7 @@ fn push_checked(given: &Given, text: &mut String) -> Result<(), Fault> {
     let (records, config) = (&given.records, &given.config);
     checked::push_looked_up(records, config, &given.wide, text)?;
     text.push('\n')?;
-    let handed_over = parts::records(given.alloc, &ROWS)?;
+    let handed_over = parts::records(given.alloc)?;
     checked::push_streamed(given.alloc, handed_over, config, &given.wide, text)?;
     text.push('\n')?;
     let compact = checked::compact_text(given.alloc, records, &given.compact, &given.wide)?;
@@ -86,7 +83,7 @@ fn push_tested(given: &Given, text: &mut String) -> Result<(), Fault> {
     let (alloc, wide) = (given.alloc, &given.wide);
     text.push_str(&tested::text(alloc, &given.records, &given.config, wide)?)?;
     text.push('\n')?;
-    let handed_over = parts::records(alloc, &ROWS)?;
+    let handed_over = parts::records(alloc)?;
     text.push_str(&tested::streamed_text(alloc, handed_over, &given.config, wide)?)?;
     text.push('\n')?;
     text.push_str(&tested::compact_text(alloc, &given.records, &given.compact, wide)?)?;
@@ -105,7 +102,7 @@ fn push_built(given: &Given, text: &mut String) -> Result<(), Fault> {
     tested::push_compact(&given.records, &given.compact, &given.wide, text)?;
     for sizes in [&given.wide, &given.narrow] {
         text.push('\n')?;
-        let handed_over = parts::records(given.alloc, &ROWS)?;
+        let handed_over = parts::records(given.alloc)?;
         tested::push_streamed(given.alloc, handed_over, &given.config, sizes, text)?;
     }
     Ok(())

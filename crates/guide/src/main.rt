@@ -18,6 +18,7 @@ mod menu;
 mod price_list;
 mod record_blocks;
 mod report;
+mod rows;
 mod samples;
 mod streamed_rows;
 mod timetable;
@@ -28,7 +29,7 @@ mod word_counts;
 use crate::fault::Fault;
 use std::alloc::Global;
 use std::env;
-use std::io::Read;
+use std::io::{BufRead, Lock};
 use std::process::ExitCode;
 
 fn main(rt: HostRuntime) -> ExitCode {
@@ -44,12 +45,12 @@ fn main(rt: HostRuntime) -> ExitCode {
 // Runs the program that the first word names, or all of them.
 fn run(rt: &HostRuntime) -> Result<(), Fault> {
     let alloc = rt.alloc();
-    let width = env::args(rt)?.nth(2);
-    match env::args(rt)?.nth(1) {
+    let mut words = env::args(rt)?.skip(1);
+    match words.next() {
         Some(name) => {
             let columns = env::var(rt, "COLUMNS").ok();
-            let width = foreign_rows::width_of(width.as_deref(), columns.as_deref());
-            print_of_input(rt, alloc, &name, width, rt.stdin())
+            let width = foreign_rows::width_of(words.next().as_deref(), columns.as_deref());
+            print_of_input(rt, alloc, &name, width, rt.stdin().lock())
         }
         None => {
             show_texts(rt, alloc)?;
@@ -103,7 +104,7 @@ fn show_samples(rt: &impl Print, alloc: Global) -> Result<(), Fault> {
 }
 
 // Prints what the program of this name makes of an input, within a width if it has one.
-fn print_of_input<R: Read + Drop>(
+fn print_of_input<R: BufRead + Drop>(
     rt: &impl Print,
     alloc: Global,
     name: &str,

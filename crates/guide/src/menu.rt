@@ -18,6 +18,7 @@ ghost use Rattle.pg_table.specs.OwnRows.{crossed, titled};
 ghost use Rattle.pg_table.specs.Panels.{over_columns};
 ghost use Rattle.pg_table.specs.Printing.{ascii_config, printed_table};
 
+use crate::rows::rows_of;
 use pg_config::SpannedConfig;
 use pg_layout::{AlignmentHorizontal, Borders, Position};
 use pg_table::{Table, TableFault};
@@ -25,11 +26,10 @@ use std::alloc::{AllocError, Global};
 
 /// A menu for lunch.
 pub(crate) fn lunch(alloc: Global) -> Result<String, TableFault> {
-    let rows = vec![in alloc;
-        vec![in alloc; "Monday", ""]?,
-        vec![in alloc; "soup", "4.20"]?,
-        vec![in alloc; "rice", "6.50"]?,
-    ]?;
+    let rows = rows_of(
+        alloc,
+        &[&["Monday", ""], &["soup", "4.20"], &["rice", "6.50"]],
+    )?;
     menu(alloc, " Lunch ", rows)
 }
 
@@ -50,10 +50,7 @@ fn menu(alloc: Global, title: &str, rows: Vec<Vec<&str>>) -> Result<String, Tabl
 
 /// A menu for dinner.
 pub(crate) fn dinner(alloc: Global) -> Result<String, TableFault> {
-    let rows = vec![in alloc;
-        vec![in alloc; "Monday", ""]?,
-        vec![in alloc; "fish", "9.80"]?,
-    ]?;
+    let rows = rows_of(alloc, &[&["Monday", ""], &["fish", "9.80"]])?;
     framed_menu(alloc, " Dinner ", rows)
 }
 

@@ -6,14 +6,15 @@
 ghost use Rattle.std.specs.Prelude.{IfOk, string_bytes};
 ghost use Rattle.pg_table.specs.Even.{IsEvenText, IsNarrowLook};
 
+use crate::rows::rows_of;
 use pg_layout::{AlignmentHorizontal, Borders, HorizontalLine, Indent, Sides};
 use pg_table::{Table, TableFault};
-use std::alloc::{AllocError, Global};
+use std::alloc::Global;
 
-const PRICES: [[&str; 3]; 3] = [
-    ["name", "quantity", "price"],
-    ["apples", "12", "3.50"],
-    ["rye bread\n(sliced)", "1", "14.20"],
+const PRICES: &[&[&str]] = &[
+    &["name", "quantity", "price"],
+    &["apples", "12", "3.50"],
+    &["rye bread\n(sliced)", "1", "14.20"],
 ];
 
 /// The table of the prices, with a line below its header.
@@ -30,16 +31,7 @@ pub(crate) fn prices(alloc: Global) -> Result<String, TableFault>
 fn framed(alloc: Global) -> Result<Table<&'static str>, TableFault>
     ensures narrow { IfOk result (λ table. IsNarrowLook table.config) }
 {
-    Ok(Table::new(alloc, rows(alloc)?)?.with_borders(Borders::sharp()))
-}
-
-// The prices, row by row.
-fn rows(alloc: Global) -> Result<Vec<Vec<&'static str>>, AllocError> {
-    let mut rows = Vec::new(alloc);
-    for row in PRICES {
-        rows.push(row.to_vec(alloc)?)?;
-    }
-    Ok(rows)
+    Ok(Table::new(alloc, rows_of(alloc, PRICES)?)?.with_borders(Borders::sharp()))
 }
 
 // A space at both sides of each text.

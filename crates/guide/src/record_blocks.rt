@@ -5,7 +5,7 @@
 //! of one table without a copy.
 
 use pg_config::SpannedConfig;
-use pg_layout::{Borders, Entity, HorizontalLine, Position, Sides};
+use pg_layout::{Borders, HorizontalLine, Position, Sides};
 use pg_table::{Table, TableFault};
 use std::alloc::{AllocError, Global};
 use std::borrow::CowStr;
@@ -15,21 +15,13 @@ const STOCK: [[&str; 3]; 2] = [["tea", "12", "3.50"], ["rice, brown", "3", "14.2
 
 /// The table of the blocks.
 pub(crate) fn blocks(alloc: Global) -> Result<String, TableFault> {
-    let mut table = Table::new(alloc, Vec::new(alloc))?;
-    let mut config = look(alloc)?;
+    let mut table = Table::new(alloc, Vec::new(alloc))?
+        .with_borders(Borders::psql())
+        .with_padding(Sides::spaces(1, 0));
     for (before, item) in STOCK.iter().enumerate() {
-        head(&mut config, table.count_rows())?;
         push_block(alloc, &mut table, before.saturating_add(1), *item)?;
     }
-    table.with_config(config).to_string(alloc)
-}
-
-// A column line, and a space at both sides of each text.
-fn look(alloc: Global) -> Result<SpannedConfig, AllocError> {
-    let mut config = SpannedConfig::new(alloc);
-    config.set_borders(Borders::psql());
-    config.set_padding(Entity::Global, Sides::horizontal(1))?;
-    Ok(config)
+    table.to_string(alloc)
 }
 
 // Adds a heading with the record's number, and below it a row for each key.
@@ -37,17 +29,19 @@ fn push_block(
     alloc: Global,
     table: &mut Table<CowStr<'static>>,
     number: usize,
-    item: [&'static str; 3],
+    [name, count, price]: [&'static str; 3],
 ) -> Result<(), TableFault> {
+    let row = table.count_rows();
+    head(table.config_mut(), row)?;
     let heading = format!(in alloc; "RECORD {number}")?;
-    let [name, count, price] = item;
     table.push_row(vec![in alloc; CowStr::Owned(heading), CowStr::Borrowed("")]?)?;
-    table.push_row(vec![in alloc; CowStr::Borrowed("item"), CowStr::Borrowed(name)]?)?;
-    table.push_row(vec![in alloc; CowStr::Borrowed("in stock"), CowStr::Borrowed(count)]?)?;
-    table.push_row(vec![in alloc; CowStr::Borrowed("price"), CowStr::Borrowed(price)]?)
+    for (key, value) in [("item", name), ("in stock", count), ("price", price)] {
+        table.push_row(vec![in alloc; CowStr::Borrowed(key), CowStr::Borrowed(value)]?)?;
+    }
+    Ok(())
 }
 
-// The next row's heading takes both columns, below a line without a crossing.
+// The heading in this row takes both columns, below a line without a crossing.
 fn head(config: &mut SpannedConfig, row: usize) -> Result<(), AllocError> {
     let line = HorizontalLine {
         intersection: Some('-'),

@@ -4,16 +4,16 @@
 
 use crate::fault::Fault;
 use pg_config::SpannedConfig;
-use pg_layout::{AlignmentHorizontal, Borders, Entity, EvenDimension, Indent, NoColors, Sides};
+use pg_layout::{AlignmentHorizontal, Borders, Entity, EvenDimension, NoColors, Sides};
 use pg_stream::{RowStream, StreamFault};
 use std::alloc::{AllocError, Global};
-use std::io::{self, BufRead, BufReader, Read};
+use std::io::{self, BufRead};
 
 /// Room for a text of 24 columns and otherwise for words of 10, with a space at each side.
 const WIDTHS: [usize; 3] = [12, 26, 12];
 
 /// Prints the rows of all lines, or those above the first line that isn't a row.
-pub(crate) fn print_report<R: Read + Drop>(
+pub(crate) fn print_report<R: BufRead + Drop>(
     rt: &impl Print,
     alloc: Global,
     input: R,
@@ -26,7 +26,7 @@ pub(crate) fn print_report<R: Read + Drop>(
     };
     let mut stream = RowStream::new(alloc, &config, &dimension, &NoColors, 3, None)?;
     let mut buf = String::new(alloc);
-    for line in BufReader::new(alloc, input)?.lines(alloc) {
+    for line in input.lines(alloc) {
         let row = row_of(alloc, &line?)?;
         stream = stream.push(row, &mut buf).map_err(line_fault)?;
         print_lines(rt, &mut buf)?;
@@ -39,7 +39,7 @@ pub(crate) fn print_report<R: Read + Drop>(
 fn row_of(alloc: Global, line: &str) -> Result<Vec<String>, AllocError> {
     let mut cells = Vec::new(alloc);
     for field in line.split(';') {
-        cells.push(String::from_str(alloc, field)?)?;
+        cells.push(field.to_string(alloc)?)?;
     }
     Ok(cells)
 }
@@ -64,7 +64,6 @@ fn print_lines(rt: &impl Print, buf: &mut String) -> io::Result<()> {
 
 // ASCII borders without lines between the rows, a space at each side of a text, and amounts on the right.
 fn set_look(config: &mut SpannedConfig) -> Result<(), AllocError> {
-    let (beside, none) = (Indent::spaced(1), Indent::zero());
     config.set_borders(Borders {
         horizontal: None,
         left_intersection: None,
@@ -72,6 +71,6 @@ fn set_look(config: &mut SpannedConfig) -> Result<(), AllocError> {
         intersection: None,
         ..Borders::ascii()
     });
-    config.set_padding(Entity::Global, Sides::new(beside, beside, none, none))?;
+    config.set_padding(Entity::Global, Sides::horizontal(1))?;
     config.set_alignment_horizontal(Entity::Column(2), AlignmentHorizontal::Right)
 }

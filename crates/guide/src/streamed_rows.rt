@@ -11,10 +11,11 @@ mod tested_rows;
 ghost use Rattle.std.specs.Prelude.{◌≡◌, ◌++◌, map, None, OnOk, string_bytes};
 ghost use Rattle.pg_stream.specs.Printing.{printer, rows_text};
 
+use crate::rows::rows_of;
 use crate::streamed_rows::priced_lines::append_priced_lines;
 use crate::streamed_rows::tested_rows::append_fitting;
 use pg_config::SpannedConfig;
-use pg_layout::{Borders, Colors, Dimension, Entity, EvenDimension, Indent, NoColors, Sides};
+use pg_layout::{Borders, Colors, Dimension, Entity, EvenDimension, NoColors, Sides};
 use pg_stream::{RowStream, StreamFault};
 use std::alloc::{AllocError, Global};
 
@@ -23,14 +24,13 @@ const COLUMNS: usize = 2;
 
 // Verticals, and a space at each side of a text.
 fn set_look(config: &mut SpannedConfig) -> Result<(), AllocError> {
-    let (beside, none) = (Indent::spaced(1), Indent::zero());
     config.set_borders(Borders {
         left: Some('|'),
         vertical: Some('|'),
         right: Some('|'),
         ..Borders::empty()
     });
-    config.set_padding(Entity::Global, Sides::new(beside, beside, none, none))
+    config.set_padding(Entity::Global, Sides::horizontal(1))
 }
 
 /// Appends the rows of a vector: after success, the text of all of them.
@@ -91,16 +91,7 @@ fn append_lines(
     stream.finish(buf)
 }
 
-// Rows of these cells.
-fn rows_of(alloc: Global, rows: &[&[&'static str]]) -> Result<Vec<Vec<&'static str>>, AllocError> {
-    let mut list = Vec::new(alloc);
-    for row in rows {
-        list.push(row.to_vec(alloc)?)?;
-    }
-    Ok(list)
-}
-
-// Rows of vectors, one of which has no price. Dashes follow each list.
+// Rows of vectors, one of which has no price. Dashes are above each list but the first.
 fn append_vectors(
     alloc: Global,
     config: &SpannedConfig,
@@ -109,10 +100,9 @@ fn append_vectors(
 ) -> Result<(), StreamFault> {
     let rows = rows_of(alloc, &[&["bread", "2.10"], &["milk", "0.95"]])?;
     append_rows(alloc, config, dimension, &NoColors, rows, buf)?;
-    buf.push_str("\n--\n")?;
     for rows in PRICED {
-        append_priced(alloc, config, dimension, rows_of(alloc, rows)?, buf)?;
         buf.push_str("\n--\n")?;
+        append_priced(alloc, config, dimension, rows_of(alloc, rows)?, buf)?;
     }
     Ok(())
 }
@@ -124,7 +114,7 @@ const PRICED: [&[&[&str]]; 3] = [
 ];
 
 // Rows of arrays and of lines, one of which has no price, and rows one of which doesn't fit, and is
-// left out.
+// left out. Dashes are above each list.
 fn append_parts(
     alloc: Global,
     config: &SpannedConfig,
@@ -132,6 +122,7 @@ fn append_parts(
     buf: &mut String,
 ) -> Result<(), StreamFault> {
     let pairs = [("oil", "6.00"), ("oats", "1.20")];
+    buf.push_str("\n--\n")?;
     append_pairs(alloc, config, dimension, &pairs, buf)?;
     buf.push_str("\n--\n")?;
     append_lines(alloc, config, dimension, "eggs,3.10\nbeans,1.05", buf)?;

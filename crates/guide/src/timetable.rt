@@ -1,32 +1,32 @@
 //! A timetable: spans and colours, and given sizes.
 
+use crate::fault::Fault;
+use crate::rows::records_of;
 use pg_config::SpannedConfig;
 use pg_layout::{
-    ANSIBuf, AlignmentHorizontal, AlignmentVertical, Border, Borders, ColorsMap, ConstantDimension,
-    Entity, Indent, Position, Sides, VecRecords,
+    AlignmentHorizontal, AlignmentVertical, Border, Borders, Color, ColorsMap, ConstantDimension,
+    Entity, Position, Sides,
 };
 use pg_peekable::{PeekableGrid, TablePrinter};
-use pg_picture::PrintFault;
 use std::alloc::{AllocError, Global};
 
+// The texts. Covered cells have one too, which isn't shown.
+const LESSONS: &[&[&str]] = &[
+    &["hour", "Monday", "Tuesday"],
+    &["8-9", "algebra", "physics"],
+    &["9-10", "history", ""],
+    &["10-11", "sport", ""],
+];
+
 /// The lessons of two days, as a table.
-pub(crate) fn week(alloc: Global) -> Result<String, PrintFault> {
+pub(crate) fn week(alloc: Global) -> Result<String, Fault> {
+    let records = records_of(alloc, LESSONS)?;
+    let dimension = sizes(alloc)?;
+    let colors = colors(alloc)?;
     let mut config = SpannedConfig::new(alloc);
     set_look(&mut config)?;
     set_spans(&mut config)?;
-    let records = lessons(alloc)?;
-    let dimension = sizes(alloc)?;
-    let colors = colors(alloc)?;
-    PeekableGrid::new(records, &config, dimension, colors).text(alloc)
-}
-
-// The texts. Covered cells have one too, which isn't shown.
-fn lessons(alloc: Global) -> Result<VecRecords<&'static str>, AllocError> {
-    let header = vec![in alloc; "hour", "Monday", "Tuesday"]?;
-    let first = vec![in alloc; "8-9", "algebra", "physics"]?;
-    let second = vec![in alloc; "9-10", "history", ""]?;
-    let third = vec![in alloc; "10-11", "sport", ""]?;
-    Ok(VecRecords::new(vec![in alloc; header, first, second, third]?).unwrap())
+    Ok(PeekableGrid::new(records, &config, dimension, colors).text(alloc)?)
 }
 
 // The widths of the columns, and the heights of the rows.
@@ -36,21 +36,18 @@ fn sizes(alloc: Global) -> Result<ConstantDimension, AllocError> {
 
 // A bold header, and green physics.
 fn colors(alloc: Global) -> Result<ColorsMap, AllocError> {
+    let (bold, green) = (Color::plain().bold(), Color::green());
     let mut colors = ColorsMap::new(alloc);
-    for column in 0..3 {
-        let bold = ANSIBuf::new(alloc, "\u{1b}[1m", "\u{1b}[22m")?;
-        colors.set(Position::new(0, column), bold)?;
+    for (row, column, color) in [(0, 0, bold), (0, 1, bold), (0, 2, bold), (1, 2, green)] {
+        colors.set(Position::new(row, column), color.to_ansi(alloc)?)?;
     }
-    let green = ANSIBuf::new(alloc, "\u{1b}[32m", "\u{1b}[39m")?;
-    colors.set(Position::new(1, 2), green)?;
     Ok(colors)
 }
 
 // Double lines, a space at both sides of each text, and the hours at the right.
 fn set_look(config: &mut SpannedConfig) -> Result<(), AllocError> {
-    let (space, none) = (Indent::spaced(1), Indent::zero());
     config.set_borders(Borders::extended());
-    config.set_padding(Entity::Global, Sides::new(space, space, none, none))?;
+    config.set_padding(Entity::Global, Sides::horizontal(1))?;
     config.set_alignment_horizontal(Entity::Column(0), AlignmentHorizontal::Right)
 }
 

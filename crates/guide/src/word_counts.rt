@@ -10,13 +10,13 @@
 
 use crate::fault::Fault;
 use pg_config::SpannedConfig;
-use pg_layout::{AlignmentHorizontal, Borders, Entity, EvenDimension, Indent, NoColors, Sides};
+use pg_layout::{AlignmentHorizontal, Borders, Entity, EvenDimension, NoColors, Sides};
 use pg_stream::RowStream;
 use std::alloc::{AllocError, Global};
-use std::io::{BufRead, BufReader, Read};
+use std::io::BufRead;
 
 /// Prints how many words each line has, and the line.
-pub(crate) fn print_counts<R: Read + Drop>(
+pub(crate) fn print_counts<R: BufRead + Drop>(
     rt: &impl Print,
     alloc: Global,
     input: R,
@@ -27,7 +27,7 @@ pub(crate) fn print_counts<R: Read + Drop>(
     let dimension = EvenDimension { widths, height: 1 };
     let mut stream = RowStream::new(alloc, &config, &dimension, &NoColors, 2, None)?;
     let mut buf = String::new(alloc);
-    for line in BufReader::new(alloc, input)?.lines(alloc) {
+    for line in input.lines(alloc) {
         stream = stream.push(counted(alloc, line?)?, &mut buf)?;
         print!(rt; "{buf}")?;
         buf.clear();
@@ -45,13 +45,12 @@ fn counted(alloc: Global, line: String) -> Result<Vec<String>, AllocError> {
 
 // Verticals, a space at each side of a text, and numbers on the right.
 fn set_look(config: &mut SpannedConfig) -> Result<(), AllocError> {
-    let (beside, none) = (Indent::spaced(1), Indent::zero());
     config.set_borders(Borders {
         left: Some('|'),
         vertical: Some('|'),
         right: Some('|'),
         ..Borders::empty()
     });
-    config.set_padding(Entity::Global, Sides::new(beside, beside, none, none))?;
+    config.set_padding(Entity::Global, Sides::horizontal(1))?;
     config.set_alignment_horizontal(Entity::Column(0), AlignmentHorizontal::Right)
 }

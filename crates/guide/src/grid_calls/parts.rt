@@ -1,21 +1,21 @@
 //! The parts of the table: its texts and its sizes.
 
-use crate::fault::Fault;
 use pg_layout::{ConstantDimension, VecRecords};
-use std::alloc::Global;
+use pg_table::TableFault;
+use std::alloc::{AllocError, Global};
 
-/// Rows of a text and a number.
-pub(crate) fn records(alloc: Global, rows: &[(&str, &str)]) -> Result<VecRecords<String>, Fault> {
-    let mut cells = Vec::new(alloc);
-    for (name, count) in rows {
-        let name = String::from_str(alloc, name)?;
-        let count = String::from_str(alloc, count)?;
-        cells.push(vec![in alloc; name, count]?)?;
+/// The texts: two rows of a name and a number.
+pub(crate) fn records(alloc: Global) -> Result<VecRecords<String>, TableFault> {
+    let mut rows = Vec::new(alloc);
+    for (name, number) in [("apples", "12"), ("rye bread\n(sliced)", "1")] {
+        let name = name.to_string(alloc)?;
+        let number = number.to_string(alloc)?;
+        rows.push(vec![in alloc; name, number]?)?;
     }
-    Ok(VecRecords::new(cells)?)
+    Ok(VecRecords::new(rows)?)
 }
 
 /// This width for the texts and 2 for the numbers; the second row has two lines.
-pub(crate) fn sizes(alloc: Global, width: usize) -> Result<ConstantDimension, Fault> {
+pub(crate) fn sizes(alloc: Global, width: usize) -> Result<ConstantDimension, AllocError> {
     Ok(ConstantDimension(vec![in alloc; width, 2]?, vec![in alloc; 1, 2]?))
 }

@@ -1,8 +1,7 @@
 //! Calls that require a table that fits, after the test that it does.
 
-use crate::fault::Fault;
 use pg_config::{CompactConfig, SpannedConfig};
-use pg_grid::{CompactGrid, IterGrid, PeekableGrid};
+use pg_grid::{CompactGrid, IterGrid, PeekableGrid, PrintFault};
 use pg_layout::{ConstantDimension, NoColors, VecRecords};
 use std::alloc::{AllocError, Global};
 
@@ -12,7 +11,7 @@ pub(crate) fn text(
     records: &VecRecords<String>,
     config: &SpannedConfig,
     dimension: &ConstantDimension,
-) -> Result<String, Fault> {
+) -> Result<String, PrintFault> {
     let grid = PeekableGrid::new(records, config, dimension, &NoColors);
     grid.fits()?;
     Ok(grid.to_string(alloc)?)
@@ -24,7 +23,7 @@ pub(crate) fn streamed_text(
     records: VecRecords<String>,
     config: &SpannedConfig,
     dimension: &ConstantDimension,
-) -> Result<String, Fault> {
+) -> Result<String, PrintFault> {
     let grid = IterGrid::new(records, config, dimension, &NoColors);
     grid.fits()?;
     Ok(grid.to_string(alloc)?)
@@ -36,7 +35,7 @@ pub(crate) fn compact_text(
     records: &VecRecords<String>,
     config: &CompactConfig,
     dimension: &ConstantDimension,
-) -> Result<String, Fault> {
+) -> Result<String, PrintFault> {
     let grid = CompactGrid::new(records, config, dimension, &NoColors);
     grid.fits()?;
     Ok(grid.to_string(alloc)?)
@@ -64,7 +63,7 @@ pub(crate) fn push_twice(
     config: &SpannedConfig,
     dimension: &ConstantDimension,
     buf: &mut String,
-) -> Result<(), Fault> {
+) -> Result<(), PrintFault> {
     let grid = PeekableGrid::new(records, config, dimension, &NoColors);
     grid.fits()?;
     grid.build(buf)?;
@@ -94,7 +93,7 @@ pub(crate) fn push_compact(
     config: &CompactConfig,
     dimension: &ConstantDimension,
     buf: &mut String,
-) -> Result<(), Fault> {
+) -> Result<(), PrintFault> {
     let grid = CompactGrid::new(records, config, dimension, &NoColors);
     grid.fits()?;
     Ok(grid.build(buf)?)

@@ -7,7 +7,7 @@ use pg_stream::{RowStream, RowsFault, StreamFault};
 use std::alloc::{AllocFailed, Global};
 
 /// Why a line isn't a row.
-#[derive(Clone, Copy)]
+#[derive(Drop)]
 enum LineFault {
     /// No comma separates a price from the article.
     NoPrice,
