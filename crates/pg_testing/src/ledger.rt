@@ -4,7 +4,7 @@ ghost use Rattle.std.specs.Prelude.{◌≡◌, ◌+◌, ◌-◌, ◌^◌, ◌||�
 ghost use Rattle.pg_testing.specs.Ledger.{fails_next, before_calls, after_call};
 
 /// Which calls fail. Calls are numbered from 0.
-#[derive(Debug, Clone, Copy, PartialEq, Eq)]
+#[derive(Clone, Copy)]
 pub enum Rule {
     /// No call fails.
     Never,
@@ -15,7 +15,7 @@ pub enum Rule {
 }
 
 /// A rule, and what is known of the calls so far.
-#[derive(Debug, Clone, Copy, PartialEq, Eq)]
+#[derive(Clone, Copy)]
 pub struct Ledger {
     /// Which calls fail.
     pub rule: Rule,

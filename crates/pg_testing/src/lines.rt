@@ -67,9 +67,14 @@ fn meaning(alloc: Global, line: &str) -> Result<String, AllocError> {
 /// The lines of an input to be followed: those of a block once for each value.
 pub fn read_lines<R: Read + Drop>(alloc: Global, input: R) -> io::Result<Vec<NumberedLine>> {
     let text = io::read_to_string(alloc, input)?;
+    Ok(lines_of(alloc, &text)?)
+}
+
+// The lines of a text to be followed.
+fn lines_of(alloc: Global, text: &str) -> Result<Vec<NumberedLine>, AllocError> {
     let mut lines = Vec::new(alloc);
     for line in text.lines() {
         lines.push(meaning(alloc, line)?)?;
     }
-    Ok(unfold(alloc, &lines)?)
+    unfold(alloc, &lines)
 }

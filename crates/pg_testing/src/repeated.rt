@@ -14,7 +14,7 @@ ghost use Rattle.std.specs.Iterator.{at_most};
 /// rows.next(); // Some(["a", "b"])
 /// rows.next(); // None
 /// ```
-#[derive(Debug, Clone, Drop)]
+#[derive(Drop)]
 pub struct Repeated<T> {
     /// What is given.
     pub item: T,

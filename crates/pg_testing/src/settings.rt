@@ -28,18 +28,20 @@
 mod borders;
 mod cells;
 mod looks;
-mod margins;
 mod named_places;
 mod parts;
 mod places;
 mod words;
 
 use crate::fault::LineFault;
+use crate::settings::borders::set_line;
 pub use crate::settings::cells::set_cell_color;
 pub use crate::settings::looks::header_line_named;
 pub use crate::settings::named_places::NamedPlaces;
+use crate::settings::named_places::with_colors;
 pub use crate::settings::words::Words;
 use pg_config::SpannedConfig;
+use pg_layout::Borders;
 use std::alloc::Allocator;
 
 /// Applies the setting of a line, as `padding row 1 2 0 0 0`.
@@ -52,27 +54,17 @@ pub fn apply<A: Allocator + Copy>(
     line: &str,
 ) -> Result<(), LineFault> {
     let mut words = Words::new(line);
-    let name = words.word()?;
+    let name = words.word();
     match name {
-        "borders" | "borders_missing" => borders::set_borders(config, name, words),
-        "borders_color" => borders::set_borders_color(config, alloc, words),
-        "border" => borders::set_border(config, words),
-        "border_color" => borders::set_border_color(config, alloc, words),
-        "row_line" => borders::set_row_line(config, words),
-        "span_crossings" => borders::set_span_crossings(config, alloc, words),
-        "line_glyphs" => borders::set_line_glyphs(config, alloc, words),
-        "column_span" | "row_span" => places::set_span(config, name, words),
-        "horizontal_char" | "vertical_char" => places::set_glyph(config, name, words),
-        "horizontal_color" | "vertical_color" => places::set_color(config, alloc, name, words),
-        "margin" | "margin_offset" | "margin_color" => {
-            margins::set_margin(config, alloc, name, words)
-        }
-        "padding_color" | "justification_color" => cells::set_color(config, alloc, name, words),
-        "trim_horizontal" | "trim_vertical" | "line_alignment" => {
-            cells::set_switch(config, name, words)
-        }
-        _ => cells::set_cell(config, name, words),
+        "borders" => config.set_borders(words.last_borders()?),
+        "borders_missing" => config.set_borders_missing(words.last_glyph()?),
+        "borders_color" => config.set_borders_color(with_colors(Borders::empty(), alloc, words)?),
+        "margin" => config.set_margin(words.last_indents()?),
+        "margin_offset" => config.set_margin_offset(words.last_offsets()?),
+        "margin_color" => config.set_margin_color(words.last_colors(alloc)?),
+        _ => return set_line(config, alloc, name, words),
     }
+    Ok(())
 }
 
 /// Applies the settings of these lines, one after the other, up to the first that is an error.

@@ -37,7 +37,7 @@ fn count(calls: &mut Ledger) -> io::Result<()>
 /// A failed read takes no bytes, so a reader that goes on after it gives all of them.
 ///
 /// Lend it, as `&mut reader`, to count its reads afterwards.
-#[derive(Debug, Drop)]
+#[derive(Drop)]
 pub struct FailingReader<'a> {
     left: &'a [u8],
     reads: Ledger,
@@ -93,7 +93,7 @@ impl Read for FailingReader<'_> {
 }
 
 /// A reader without an end, which gives one line feed at each read.
-#[derive(Debug, Clone, Copy, Default, PartialEq, Eq)]
+#[derive(Clone, Copy)]
 pub struct EndlessReader;
 
 impl Read for EndlessReader {
@@ -120,7 +120,7 @@ impl Read for EndlessReader {
 /// memory, whatever the rule.
 ///
 /// Lend it, as `&mut writer`, to count its writes afterwards.
-#[derive(Debug, Drop)]
+#[derive(Drop)]
 pub struct FailingWriter<'a, A: Allocator = Global> {
     held: &'a mut Vec<u8, A>,
     writes: Ledger,

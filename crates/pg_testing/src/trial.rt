@@ -1,7 +1,7 @@
 //! Calls that are repeated while each of their requests for memory, reads or writes fails in turn.
 
 /// How a call ends.
-#[derive(Debug, Clone, Copy, PartialEq, Eq)]
+#[derive(Clone, Copy, PartialEq, Eq)]
 pub enum Outcome {
     /// Nothing failed, and all is as expected.
     Whole,

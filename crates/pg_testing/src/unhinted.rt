@@ -7,7 +7,7 @@ use pg_layout::{ExactRecords, PeekableRecords, Position, Records};
 /// Records that don't give their number of rows.
 ///
 /// A test of whether the table fits may count them, and look at their texts.
-#[derive(Debug, Clone, Copy, Drop)]
+#[derive(Drop)]
 pub struct Unhinted<R> {
     pub(crate) records: R,
 }

@@ -142,7 +142,8 @@ impl<'a> SettingsCase<'a> {
         match question.strip_prefix("get_color ") {
             Some(place) => {
                 let mut words = Words::new(place);
-                let pos = words.place()?;
+                let pos = words.place();
+                words.rest()?;
                 answer.push_color(self.colors.get_color(pos))
             }
             None => write_answers(&self.config, self.alloc, question, answer),

@@ -69,9 +69,9 @@ impl<'t> BuilderCall<'t> {
 
 // The title of a row line, a side and all that is left: of nothing more it has no characters.
 fn title_of<'t>(mut words: Words<'t>) -> Result<Title<'t>, CaseFault> {
-    let row = words.number()?;
-    let side = Words::new(words.word()?).last_horizontal()?;
-    let text = words.rest().unwrap_or("");
+    let row = words.number();
+    let side = Words::new(words.word()).last_horizontal()?;
+    let text = words.rest()?.unwrap_or("");
     Ok(Title { row, side, text })
 }
 

@@ -31,13 +31,19 @@ pub(crate) enum Refusal {
 impl Refusal {
     /// The refusal that a line names, as `room 0 1`.
     pub(crate) fn named(line: &str) -> Result<Refusal, CaseFault> {
+        match line {
+            "spans" => return Ok(Refusal::Spans),
+            "totals" => return Ok(Refusal::Totals),
+            "memory" => return Ok(Refusal::Memory),
+            _ => {}
+        }
         let mut words = Words::new(line);
-        match (words.word()?, words.rest()) {
-            ("spans", None) => Ok(Refusal::Spans),
-            ("totals", None) => Ok(Refusal::Totals),
-            ("memory", None) => Ok(Refusal::Memory),
-            ("ragged", Some(_)) => Ok(Refusal::Ragged(words.last_number()?)),
-            ("room", Some(_)) => Ok(Refusal::Room(words.number()?, words.last_number()?)),
+        match words.word() {
+            "ragged" => Ok(Refusal::Ragged(words.last_number()?)),
+            "room" => {
+                let row = words.number();
+                Ok(Refusal::Room(row, words.last_number()?))
+            }
             _ => Err(CaseFault::Unknown),
         }
     }

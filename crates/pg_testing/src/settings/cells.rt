@@ -6,53 +6,27 @@ use pg_config::SpannedConfig;
 use pg_layout::ColorsMap;
 use std::alloc::Allocator;
 
-/// Sets a padding, an alignment or a justification.
+/// Sets a padding, an alignment, a justification, one of their colours, or what becomes of lines.
 pub(crate) fn set_cell<A: Allocator + Copy>(
-    config: &mut SpannedConfig<A>,
-    name: &str,
-    mut words: Words<'_>,
-) -> Result<(), LineFault> {
-    let entity = words.entity()?;
-    let set = match name {
-        "padding" => config.set_padding(entity, words.last_indents()?),
-        "alignment_horizontal" => {
-            config.set_alignment_horizontal(entity, words.last_horizontal()?)
-        }
-        "alignment_vertical" => config.set_alignment_vertical(entity, words.last_vertical()?),
-        "justification" => config.set_justification(entity, words.last_fill()?),
-        _ => return Err(LineFault::Unknown),
-    };
-    set.map_err(LineFault::from)
-}
-
-/// Sets what is trimmed, or whether lines are aligned one by one.
-pub(crate) fn set_switch<A: Allocator + Copy>(
-    config: &mut SpannedConfig<A>,
-    name: &str,
-    mut words: Words<'_>,
-) -> Result<(), LineFault> {
-    let entity = words.entity()?;
-    let is_on = words.last_switch()?;
-    let set = match name {
-        "trim_horizontal" => config.set_trim_horizontal(entity, is_on),
-        "trim_vertical" => config.set_trim_vertical(entity, is_on),
-        _ => config.set_line_alignment(entity, is_on),
-    };
-    set.map_err(LineFault::from)
-}
-
-/// Sets the colours of paddings or of justifications.
-pub(crate) fn set_color<A: Allocator + Copy>(
     config: &mut SpannedConfig<A>,
     alloc: A,
     name: &str,
     mut words: Words<'_>,
 ) -> Result<(), LineFault> {
-    let entity = words.entity()?;
-    let set = if name == "padding_color" {
-        config.set_padding_color(entity, words.last_colors(alloc)?)
-    } else {
-        config.set_justification_color(entity, words.last_color(alloc)?)
+    let entity = words.entity();
+    let set = match name {
+        "padding" => config.set_padding(entity, words.last_indents()?),
+        "padding_color" => config.set_padding_color(entity, words.last_colors(alloc)?),
+        "alignment_horizontal" => {
+            config.set_alignment_horizontal(entity, words.last_horizontal()?)
+        }
+        "alignment_vertical" => config.set_alignment_vertical(entity, words.last_vertical()?),
+        "trim_horizontal" => config.set_trim_horizontal(entity, words.last_switch()?),
+        "trim_vertical" => config.set_trim_vertical(entity, words.last_switch()?),
+        "line_alignment" => config.set_line_alignment(entity, words.last_switch()?),
+        "justification" => config.set_justification(entity, words.last_fill()?),
+        "justification_color" => config.set_justification_color(entity, words.last_color(alloc)?),
+        _ => return Err(LineFault::Unknown),
     };
     set.map_err(LineFault::from)
 }
@@ -65,7 +39,7 @@ pub fn set_cell_color<A: Allocator + Copy>(
     text: &str,
 ) -> Result<(), LineFault> {
     let mut words = Words::new(text);
-    let pos = words.place()?;
+    let pos = words.place();
     let color = words.last_color_there(alloc)?;
     colors.set(pos, color).map_err(LineFault::from)
 }

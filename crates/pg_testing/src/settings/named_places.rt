@@ -63,20 +63,37 @@ impl NamedPlaces<char> for HorizontalLine<char> {
     }
 }
 
-/// These places, of which those that the words name have their glyphs.
-pub(crate) fn with_glyphs<P: NamedPlaces<char> + Drop>(
-    mut places: P,
+/// Gives the places that the words name their glyphs.
+pub(crate) fn set_glyphs<P: NamedPlaces<char>>(
+    places: &mut P,
     words: Words<'_>,
-) -> Result<P, LineFault> {
-    let Some(parts) = words.rest() else {
-        return Ok(places);
+) -> Result<(), LineFault> {
+    let Some(parts) = words.rest()? else {
+        return Ok(());
     };
     for part in parts.split(' ') {
         let (name, word) = named(part)?;
-        let glyph = glyph_of(word)?;
-        *places.place(name)? = glyph;
+        let place = places.place(name)?;
+        *place = glyph_of(word)?;
     }
-    Ok(places)
+    Ok(())
+}
+
+// Gives the places that the words name their colours.
+fn set_colors<A: Allocator + Copy, P: NamedPlaces<ANSIBuf<A>>>(
+    places: &mut P,
+    alloc: A,
+    words: Words<'_>,
+) -> Result<(), LineFault> {
+    let Some(parts) = words.rest()? else {
+        return Ok(());
+    };
+    for part in parts.split(' ') {
+        let (name, word) = named(part)?;
+        let place = places.place(name)?;
+        *place = color_of(alloc, word)?;
+    }
+    Ok(())
 }
 
 /// These places, of which those that the words name have their colours.
@@ -85,13 +102,6 @@ pub(crate) fn with_colors<A: Allocator + Copy, P: NamedPlaces<ANSIBuf<A>> + Drop
     alloc: A,
     words: Words<'_>,
 ) -> Result<P, LineFault> {
-    let Some(parts) = words.rest() else {
-        return Ok(places);
-    };
-    for part in parts.split(' ') {
-        let (name, word) = named(part)?;
-        let color = color_of(alloc, word)?;
-        *places.place(name)? = color;
-    }
+    set_colors(&mut places, alloc, words)?;
     Ok(places)
 }

@@ -39,10 +39,12 @@ pub(crate) fn indent_of(word: &str) -> Result<Indent, LineFault> {
     }
 }
 
+/// The number that a word means.
+pub(crate) fn number_of(word: &str) -> Result<usize, LineFault> {
+    word.parse::<usize>().ok().ok_or(LineFault::Unknown)
+}
+
 /// The name of a place and its value, as `left` and `|` of `left=|`.
 pub(crate) fn named(word: &str) -> Result<(&str, &str), LineFault> {
-    match word.split_once('=') {
-        Some(part) => Ok(part),
-        None => Err(LineFault::Unknown),
-    }
+    word.split_once('=').ok_or(LineFault::Unknown)
 }

@@ -2,7 +2,7 @@
 
 use crate::fault::LineFault;
 use crate::settings::borders::borders_of;
-use crate::settings::parts::{color_of, glyph_of, indent_of};
+use crate::settings::parts::{color_of, glyph_of, indent_of, number_of};
 use pg_layout::{
     ANSIBuf, AlignmentHorizontal, AlignmentVertical, Borders, Entity, Indent, Offset, Position,
     Sides,
@@ -11,60 +11,81 @@ use std::alloc::Allocator;
 
 /// What is left of a line that is read word by word. Single spaces separate words.
 ///
-/// A call that reads the end of a line takes it by value: a word left after it is an error.
+/// A call that reads the next words returns some value even if one is missing or wrong. A call that reads the end of
+/// a line takes it by value, and returns what was wrong with any word of the line: a word left after it is an error.
 #[derive(Clone, Copy)]
 pub struct Words<'a> {
     // `None` after the last word.
     rest: Option<&'a str>,
+    // What is wrong with a word that was read.
+    fault: Option<LineFault>,
 }
 
 impl<'a> Words<'a> {
     /// All words of a line.
     pub fn new(line: &'a str) -> Words<'a> {
-        Words { rest: Some(line) }
+        Words {
+            rest: Some(line),
+            fault: None,
+        }
     }
 
-    /// The next word.
-    pub fn word(&mut self) -> Result<&'a str, LineFault> {
+    /// The next word, or an empty one if none is left.
+    pub fn word(&mut self) -> &'a str {
         let Some(line) = self.rest else {
-            return Err(LineFault::Unknown);
+            self.fault = Some(LineFault::Unknown);
+            return "";
         };
         match line.split_once(' ') {
             Some((word, rest)) => {
                 self.rest = Some(rest);
-                Ok(word)
+                word
             }
             None => {
                 self.rest = None;
-                Ok(line)
+                line
             }
         }
     }
 
     /// What is left of the line, if a word is.
-    pub fn rest(self) -> Option<&'a str> {
-        self.rest
-    }
-
-    /// The last word.
-    pub fn last(self) -> Result<&'a str, LineFault> {
-        match self.rest {
-            Some(word) if !word.contains(' ') => Ok(word),
-            _ => Err(LineFault::Unknown),
+    pub fn rest(self) -> Result<Option<&'a str>, LineFault> {
+        match self.fault {
+            Some(fault) => Err(fault),
+            None => Ok(self.rest),
         }
     }
 
-    // The last four words.
-    fn last_four(mut self) -> Result<Sides<&'a str>, LineFault> {
-        let left = self.word()?;
-        let right = self.word()?;
-        let top = self.word()?;
-        Ok(Sides::new(left, right, top, self.last()?))
+    // What was read of the whole line.
+    fn end<T: Drop>(self, read: T) -> Result<T, LineFault> {
+        match (self.fault, self.rest) {
+            (None, None) => Ok(read),
+            (Some(fault), _) => Err(fault),
+            (None, Some(_)) => Err(LineFault::Unknown),
+        }
+    }
+
+    // What a word means, or something else if it is wrong.
+    fn taken<T: Drop>(&mut self, meant: Result<T, LineFault>, other: T) -> T {
+        match meant {
+            Ok(meant) => meant,
+            Err(fault) => {
+                self.fault = Some(fault);
+                other
+            }
+        }
+    }
+
+    /// The last word.
+    pub fn last(mut self) -> Result<&'a str, LineFault> {
+        let word = self.word();
+        self.end(word)
     }
 
     /// The next word as a number.
-    pub fn number(&mut self) -> Result<usize, LineFault> {
-        self.word().and_then(number_of)
+    pub fn number(&mut self) -> usize {
+        let meant = number_of(self.word());
+        self.taken(meant, 0)
     }
 
     /// The last word as a number.
@@ -73,47 +94,38 @@ impl<'a> Words<'a> {
     }
 
     /// The next two words as a row and a column.
-    pub fn place(&mut self) -> Result<Position, LineFault> {
-        let (row, col) = self.two_numbers()?;
-        Ok(Position::new(row, col))
-    }
-
-    /// The next two words as numbers.
-    pub(crate) fn two_numbers(&mut self) -> Result<(usize, usize), LineFault> {
-        let first = self.number()?;
-        Ok((first, self.number()?))
+    pub fn place(&mut self) -> Position {
+        let row = self.number();
+        Position::new(row, self.number())
     }
 
     /// The next words as all cells, a row, a column or a cell.
-    pub fn entity(&mut self) -> Result<Entity, LineFault> {
-        match self.word()? {
-            "all" => Ok(Entity::Global),
-            "row" => self.number().map(Entity::Row),
-            "col" => self.number().map(Entity::Column),
-            "cell" => self.place().map(Entity::from),
-            _ => Err(LineFault::Unknown),
+    pub fn entity(&mut self) -> Entity {
+        match self.word() {
+            "all" => Entity::Global,
+            "row" => Entity::Row(self.number()),
+            "col" => Entity::Column(self.number()),
+            "cell" => Entity::from(self.place()),
+            _ => self.taken(Err(LineFault::Unknown), Entity::Global),
         }
     }
 
     /// The next two words as a place that is counted from the start or from the end.
-    pub fn offset(&mut self) -> Result<Offset, LineFault> {
-        match self.word()? {
-            "start" => self.number().map(Offset::Start),
-            "end" => self.number().map(Offset::End),
-            _ => Err(LineFault::Unknown),
+    pub fn offset(&mut self) -> Offset {
+        match self.word() {
+            "start" => Offset::Start(self.number()),
+            "end" => Offset::End(self.number()),
+            _ => self.taken(Err(LineFault::Unknown), Offset::Start(0)),
         }
     }
 
     /// The last eight words as such places, one at each side.
     pub fn last_offsets(mut self) -> Result<Sides<Offset>, LineFault> {
-        let left = self.offset()?;
-        let right = self.offset()?;
-        let top = self.offset()?;
-        let bottom = self.offset()?;
-        match self.rest {
-            None => Ok(Sides::new(left, right, top, bottom)),
-            Some(_) => Err(LineFault::Unknown),
-        }
+        let left = self.offset();
+        let right = self.offset();
+        let top = self.offset();
+        let bottom = self.offset();
+        self.end(Sides::new(left, right, top, bottom))
     }
 
     /// The last word as a glyph, or `None` for none.
@@ -126,20 +138,25 @@ impl<'a> Words<'a> {
         self.last_glyph()?.ok_or(LineFault::Unknown)
     }
 
-    /// The last four words as the sizes and fills of the sides.
-    pub fn last_indents(self) -> Result<Sides<Indent>, LineFault> {
-        let words = self.last_four()?;
-        let (left, right) = (indent_of(words.left)?, indent_of(words.right)?);
-        let (top, bottom) = (indent_of(words.top)?, indent_of(words.bottom)?);
-        Ok(Sides::new(left, right, top, bottom))
+    // The next word as the size and the fill of a side.
+    fn indent(&mut self) -> Indent {
+        let meant = indent_of(self.word());
+        self.taken(meant, Indent::new(0, ' '))
     }
 
-    /// The last word as a colour, which can't be none.
-    pub(crate) fn last_color_there<A: Allocator + Copy>(
-        self,
-        alloc: A,
-    ) -> Result<ANSIBuf<A>, LineFault> {
-        self.last_color(alloc)?.ok_or(LineFault::Unknown)
+    /// The last four words as the sizes and fills of the sides.
+    pub fn last_indents(mut self) -> Result<Sides<Indent>, LineFault> {
+        let left = self.indent();
+        let right = self.indent();
+        let top = self.indent();
+        let bottom = self.indent();
+        self.end(Sides::new(left, right, top, bottom))
+    }
+
+    // The next word as a colour, or `None` for none.
+    fn color<A: Allocator + Copy>(&mut self, alloc: A) -> Option<ANSIBuf<A>> {
+        let meant = color_of(alloc, self.word());
+        self.taken(meant, None)
     }
 
     /// The last word as a colour, or `None` for none.
@@ -150,17 +167,24 @@ impl<'a> Words<'a> {
         color_of(alloc, self.last()?)
     }
 
-    /// The last four words as the colours of the sides.
-    pub fn last_colors<A: Allocator + Copy>(
+    /// The last word as a colour, which can't be none.
+    pub(crate) fn last_color_there<A: Allocator + Copy>(
         self,
         alloc: A,
+    ) -> Result<ANSIBuf<A>, LineFault> {
+        self.last_color(alloc)?.ok_or(LineFault::Unknown)
+    }
+
+    /// The last four words as the colours of the sides.
+    pub fn last_colors<A: Allocator + Copy>(
+        mut self,
+        alloc: A,
     ) -> Result<Sides<Option<ANSIBuf<A>>>, LineFault> {
-        let words = self.last_four()?;
-        let left = color_of(alloc, words.left)?;
-        let right = color_of(alloc, words.right)?;
-        let top = color_of(alloc, words.top)?;
-        let bottom = color_of(alloc, words.bottom)?;
-        Ok(Sides::new(left, right, top, bottom))
+        let left = self.color(alloc);
+        let right = self.color(alloc);
+        let top = self.color(alloc);
+        let bottom = self.color(alloc);
+        self.end(Sides::new(left, right, top, bottom))
     }
 
     /// All words that are left as the borders of a look, or as those whose places are named.
@@ -196,9 +220,4 @@ impl<'a> Words<'a> {
             _ => Err(LineFault::Unknown),
         }
     }
-}
-
-// The number that a word writes.
-fn number_of(word: &str) -> Result<usize, LineFault> {
-    word.parse::<usize>().ok().ok_or(LineFault::Unknown)
 }
