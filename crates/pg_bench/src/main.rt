@@ -18,6 +18,8 @@
 
 mod case;
 mod fault;
+mod numbers;
+mod rows;
 mod scripts;
 mod settings;
 mod streams;

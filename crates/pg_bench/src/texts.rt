@@ -23,4 +23,4 @@
 //! memory refused, which it has to say: two answers.
 
 pub(crate) mod case;
-mod fit_call;
+pub(crate) mod fit_call;

@@ -2,6 +2,7 @@
 
 use crate::case::Case;
 use crate::fault::CaseFault;
+use crate::rows::owned_row;
 use crate::scripts::failing::slip_of;
 use crate::scripts::run::{Given, Kind, Run};
 use pg_testing::ledger::Rule;
@@ -56,9 +57,11 @@ impl<'a> Script<'a> {
             ">" => Ok(push_line(&mut self.text, text)?),
             "=" => self.take_answer(alloc, 0, text),
             "!" => {
-                let (status, line) = text.split_once(' ').ok_or(CaseFault::Unknown)?;
-                let status = status.parse::<u8>().ok().ok_or(CaseFault::Unknown)?;
-                self.take_answer(alloc, status, line)
+                let (status, line) = text.split_once(' ').unwrap_or((text, ""));
+                match status.parse::<u8>() {
+                    Ok(status) => self.take_answer(alloc, status, line),
+                    Err(_) => Err(CaseFault::Unknown),
+                }
             }
             "~" if text.is_empty() => {
                 self.is_failing = true;
@@ -132,14 +135,14 @@ impl<'a> ScriptCase<'a> {
         let text = format!(in self.alloc; "{}{}", self.common.text, own.text)?;
         let is_failing = own.is_failing || self.common.is_failing;
         for mode in modes.split(' ') {
-            let words = vec![in self.alloc; String::from_str(self.alloc, mode)?]?;
+            let words = owned_row(self.alloc, &[mode])?;
             let given = Given {
                 alloc: self.alloc,
                 words: &words,
                 script: &text,
                 answer: answer.parts(),
             };
-            self.run_one((own.number, mode), given, is_failing, report)?;
+            self.run_one((own.number, mode), given, is_failing, report);
         }
         Ok(())
     }
@@ -151,18 +154,21 @@ impl<'a> ScriptCase<'a> {
         given: Given<'_>,
         is_failing: bool,
         report: &mut Report,
-    ) -> Result<(), AllocError> {
+    ) {
         let run = Run::new(given, (Kind::Memory, Rule::Never));
-        let shown = String::from_utf8_lossy(self.alloc, &run.out)?;
-        let told = String::from_utf8_lossy(self.alloc, &run.err)?;
-        let answer = (run.status, shown.as_str(), told.as_str());
-        report.compare((number, self.section), mode, answer, given.answer);
+        let (status, shown, told) = given.answer;
+        let answer = (
+            run.status,
+            str::from_utf8(&run.out).ok(),
+            str::from_utf8(&run.err).ok(),
+        );
+        let expected = (status, Some(shown), Some(told));
+        report.compare((number, self.section), mode, answer, expected);
         if is_failing {
             if let Some(slip) = slip_of(given) {
                 report.refuse(number, mode, slip);
             }
         }
-        Ok(())
     }
 
     // The script that is read, or what is common to the scripts of the section.

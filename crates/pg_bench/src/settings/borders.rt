@@ -8,7 +8,7 @@ use crate::settings::memory::Config;
 use pg_layout::{Borders, Position};
 
 /// Writes the places that have a glyph, as `top=-`.
-pub(crate) fn write_borders(borders: &Borders<char>, answer: &mut Answer) -> Result<(), CaseFault> {
+pub(crate) fn write_borders(borders: &Borders<char>, answer: &mut Answer) {
     for (name, glyph) in [
         ("top", borders.top),
         ("top_left", borders.top_left),
@@ -26,9 +26,8 @@ pub(crate) fn write_borders(borders: &Borders<char>, answer: &mut Answer) -> Res
         ("right", borders.right),
         ("vertical", borders.vertical),
     ] {
-        answer.push_named(name, glyph)?;
+        answer.push_named(name, glyph);
     }
-    Ok(())
 }
 
 /// Writes what is answered of a crossing in a table of so many rows and columns.
@@ -38,12 +37,12 @@ pub(crate) fn write_of_crossing(
     (row, col): (usize, usize),
     size: (usize, usize),
     answer: &mut Answer,
-) -> Result<(), CaseFault> {
+) {
     let pos = Position::new(row, col);
     match getter {
         "get_intersection" => answer.push_glyph(config.get_intersection(pos, size)),
         "get_intersection_color" => answer.push_color(config.get_intersection_color(pos, size)),
-        _ => Err(CaseFault::Unknown),
+        _ => answer.fail(CaseFault::Unknown),
     }
 }
 
@@ -54,7 +53,7 @@ pub(crate) fn write_of_side(
     getter: &str,
     (row, col, size): (usize, usize, usize),
     answer: &mut Answer,
-) -> Result<(), CaseFault> {
+) {
     let pos = Position::new(row, col);
     match getter {
         "get_horizontal" => answer.push_glyph(config.get_horizontal(pos, size)),
@@ -81,14 +80,9 @@ fn places_beside(pos: Position) -> [Position; 3] {
 
 // Writes the glyphs round a cell, in a table of as many rows as columns: above and below it, left and
 // right of it, and at its corners, the two at its top first.
-fn write_glyphs_round(
-    config: &Config<'_>,
-    pos: Position,
-    size: usize,
-    answer: &mut Answer,
-) -> Result<(), CaseFault> {
+fn write_glyphs_round(config: &Config<'_>, pos: Position, size: usize, answer: &mut Answer) {
     let [below, right, across] = places_beside(pos);
-    answer.begin_word()?;
+    answer.begin_word();
     for glyph in [
         config.get_horizontal(pos, size),
         config.get_horizontal(below, size),
@@ -99,20 +93,14 @@ fn write_glyphs_round(
         config.get_intersection(below, (size, size)),
         config.get_intersection(across, (size, size)),
     ] {
-        answer.push_mark(glyph)?;
+        answer.push_mark(glyph);
     }
-    Ok(())
 }
 
 // Writes the prefixes of the colours round a cell, in the order of its glyphs.
-fn write_colors_round(
-    config: &Config<'_>,
-    pos: Position,
-    size: usize,
-    answer: &mut Answer,
-) -> Result<(), CaseFault> {
+fn write_colors_round(config: &Config<'_>, pos: Position, size: usize, answer: &mut Answer) {
     let [below, right, across] = places_beside(pos);
-    answer.begin_word()?;
+    answer.begin_word();
     for color in [
         config.get_horizontal_color(pos, size),
         config.get_horizontal_color(below, size),
@@ -123,9 +111,8 @@ fn write_colors_round(
         config.get_intersection_color(below, (size, size)),
         config.get_intersection_color(across, (size, size)),
     ] {
-        answer.push_prefix(color)?;
+        answer.push_prefix(color);
     }
-    Ok(())
 }
 
 // Writes the glyphs of a row line in a table of so many rows and columns, from its left to its right
@@ -135,34 +122,28 @@ fn write_row_line(
     row: usize,
     (rows, columns): (usize, usize),
     answer: &mut Answer,
-) -> Result<(), CaseFault> {
-    answer.begin_word()?;
+) {
+    answer.begin_word();
     for col in 0..columns {
         let pos = Position::new(row, col);
-        answer.push_mark(config.get_intersection(pos, (rows, columns)))?;
-        answer.push_mark(config.get_horizontal(pos, rows))?;
+        answer.push_mark(config.get_intersection(pos, (rows, columns)));
+        answer.push_mark(config.get_horizontal(pos, rows));
     }
     let end = Position::new(row, columns);
-    answer.push_mark(config.get_intersection(end, (rows, columns)))
+    answer.push_mark(config.get_intersection(end, (rows, columns)));
 }
 
 // Writes what is set for the glyphs of a horizontal and a vertical: glyphs and colours of the one, and
 // then of the other.
-fn write_lookups(
-    config: &Config<'_>,
-    pos: Position,
-    length: usize,
-    answer: &mut Answer,
-) -> Result<(), CaseFault> {
+fn write_lookups(config: &Config<'_>, pos: Position, length: usize, answer: &mut Answer) {
     for getter in [
         "lookup_horizontal_char",
         "lookup_horizontal_color",
         "lookup_vertical_char",
         "lookup_vertical_color",
     ] {
-        write_lookup(config, getter, (pos, length), answer)?;
+        write_lookup(config, getter, (pos, length), answer);
     }
-    Ok(())
 }
 
 // Writes what a getter answers of each of so many glyphs of a horizontal or a vertical, of which there is
@@ -172,15 +153,14 @@ fn write_lookup(
     getter: &str,
     (pos, length): (Position, usize),
     answer: &mut Answer,
-) -> Result<(), CaseFault> {
+) {
     if length == 0 {
-        return Err(CaseFault::Unknown);
+        return answer.fail(CaseFault::Unknown);
     }
-    answer.begin_word()?;
+    answer.begin_word();
     for i in 0..length {
-        write_single(config, getter, pos, i, length, answer)?;
+        write_single(config, getter, pos, i, length, answer);
     }
-    Ok(())
 }
 
 // Writes what it answers of glyph i.
@@ -191,7 +171,7 @@ fn write_single(
     i: usize,
     length: usize,
     answer: &mut Answer,
-) -> Result<(), CaseFault>
+)
     requires { i < length }
 {
     match getter {
@@ -201,6 +181,6 @@ fn write_single(
         }
         "lookup_vertical_char" => answer.push_mark(config.lookup_vertical_char(pos, i, length)),
         "lookup_vertical_color" => answer.push_prefix(config.lookup_vertical_color(pos, i, length)),
-        _ => Err(CaseFault::Unknown),
+        _ => answer.fail(CaseFault::Unknown),
     }
 }

@@ -91,16 +91,16 @@ impl<'a> SettingsCase<'a> {
         line: &str,
         report: &mut Report,
     ) -> Result<(), CaseFault> {
-        let before = self.watched_answers()?;
+        let before = self.watched_answers();
+        let before = before.words()?;
         for request in 0..MANY {
             self.memory.refuse_only(request);
             let applied = self.apply(line);
             if !self.memory.has_refused() {
-                return applied.map_err(CaseFault::from);
+                return Ok(applied?);
             }
             self.refused = self.refused.saturating_add(1);
-            let after = self.watched_answers()?;
-            if applied != Err(LineFault::Memory) || after.as_str() != before.as_str() {
+            if applied != Err(LineFault::Memory) || !self.still_answers(before) {
                 report.refuse(number, line, SettingMismatch::Request(request));
                 return Ok(());
             }
@@ -117,34 +117,46 @@ impl<'a> SettingsCase<'a> {
         expected: Result<(), LineFault>,
         report: &mut Report,
     ) -> Result<(), CaseFault> {
-        let before = self.watched_answers()?;
+        let before = self.watched_answers();
+        let before = before.words()?;
         self.memory.refuse_only(0);
         let applied = self.apply(line);
         let is_refused = self.memory.has_refused();
         let place = (number, self.section);
         report.compare(place, line, (applied, is_refused), (expected, false));
-        let after = self.watched_answers()?;
-        report.compare(place, line, after.as_str(), before.as_str());
+        let after = self.watched_answers();
+        report.compare(place, line, after.words().ok(), Some(before));
         Ok(())
     }
 
     // What is answered to the questions that are watched.
-    fn watched_answers(&self) -> Result<Answer, CaseFault> {
+    fn watched_answers(&self) -> Answer {
         let mut answer = Answer::new(self.alloc);
         for question in &self.watched {
-            self.write_answers(question, &mut answer)?;
+            self.write_answers(question, &mut answer);
         }
-        Ok(answer)
+        answer
+    }
+
+    // Whether the questions that are watched have these answers.
+    fn still_answers(&self, before: &str) -> bool {
+        let answers = self.watched_answers();
+        match answers.words() {
+            Ok(after) => after == before,
+            Err(_) => false,
+        }
     }
 
     // Writes what is answered to a question.
-    fn write_answers(&self, question: &str, answer: &mut Answer) -> Result<(), CaseFault> {
+    fn write_answers(&self, question: &str, answer: &mut Answer) {
         match question.strip_prefix("get_color ") {
             Some(place) => {
                 let mut words = Words::new(place);
                 let pos = words.place();
-                words.rest()?;
-                answer.push_color(self.colors.get_color(pos))
+                match words.rest() {
+                    Ok(None) => answer.push_color(self.colors.get_color(pos)),
+                    _ => answer.fail(CaseFault::Unknown),
+                }
             }
             None => write_answers(&self.config, self.alloc, question, answer),
         }
@@ -156,9 +168,8 @@ impl<'a> SettingsCase<'a> {
             return Err(CaseFault::Unknown);
         };
         let mut answer = Answer::new(self.alloc);
-        self.write_answers(question, &mut answer)?;
-        let place = (number, self.section);
-        report.compare(place, question, answer.as_str(), expected);
+        self.write_answers(question, &mut answer);
+        report.compare((number, self.section), question, answer.words()?, expected);
         Ok(())
     }
 }

@@ -13,11 +13,11 @@ pub(crate) fn write_of_place(
     getter: &str,
     (row, col): (usize, usize),
     answer: &mut Answer,
-) -> Result<(), CaseFault> {
+) {
     let pos = Position::new(row, col);
     match getter {
-        "has_horizontal" => answer.push_truth(Some(config.has_horizontal(row, col))),
-        "has_vertical" => answer.push_truth(Some(config.has_vertical(row, col))),
+        "has_horizontal" => answer.push_truth(config.has_horizontal(row, col)),
+        "has_vertical" => answer.push_truth(config.has_vertical(row, col)),
         "cell" => write_cell(config, pos, answer),
         "get_padding" => answer.push_indents(config.get_padding(pos)),
         "get_padding_color" => write_padding_color(config, pos, answer),
@@ -31,11 +31,7 @@ pub(crate) fn write_of_place(
 }
 
 // Writes the colours of a cell's padding.
-fn write_padding_color(
-    config: &Config<'_>,
-    pos: Position,
-    answer: &mut Answer,
-) -> Result<(), CaseFault> {
+fn write_padding_color(config: &Config<'_>, pos: Position, answer: &mut Answer) {
     let colors = config.get_padding_color(pos);
     answer.push_colors(Sides::new(
         colors.left.as_ref(),
@@ -46,23 +42,18 @@ fn write_padding_color(
 }
 
 // Writes how a cell looks: what seven getters answer, one after the other.
-fn write_cell(config: &Config<'_>, pos: Position, answer: &mut Answer) -> Result<(), CaseFault> {
-    answer.push_indents(config.get_padding(pos))?;
-    write_padding_color(config, pos, answer)?;
-    answer.push_horizontal(config.get_alignment_horizontal(pos))?;
-    answer.push_vertical(config.get_alignment_vertical(pos))?;
-    answer.push_formatting(config.get_formatting(pos))?;
-    answer.push_glyph(Some(config.get_justification(pos)))?;
+fn write_cell(config: &Config<'_>, pos: Position, answer: &mut Answer) {
+    answer.push_indents(config.get_padding(pos));
+    write_padding_color(config, pos, answer);
+    answer.push_horizontal(config.get_alignment_horizontal(pos));
+    answer.push_vertical(config.get_alignment_vertical(pos));
+    answer.push_formatting(config.get_formatting(pos));
+    answer.push_glyph(Some(config.get_justification(pos)));
     answer.push_color(config.get_justification_color(pos))
 }
 
 // Writes what is answered of the rectangle of a place, or of the spans from or before it.
-fn write_of_span(
-    config: &Config<'_>,
-    getter: &str,
-    pos: Position,
-    answer: &mut Answer,
-) -> Result<(), CaseFault> {
+fn write_of_span(config: &Config<'_>, getter: &str, pos: Position, answer: &mut Answer) {
     match getter {
         "get_column_span" => answer.push_size(config.get_column_span(pos)),
         "get_row_span" => answer.push_size(config.get_row_span(pos)),
@@ -71,26 +62,29 @@ fn write_of_span(
         "left_span" => answer.push_span(config.left_span(pos)),
         "next_from" => answer.push_span(config.spans().next_from(pos)),
         "last_before" => answer.push_span(config.spans().last_before(pos)),
-        _ => answer.push_truth(truth_of_place(config, getter, pos)),
+        _ => write_truth_of_place(config, getter, pos, answer),
     }
 }
 
-// Whether this is so of a place, if it can be asked.
-fn truth_of_place(config: &Config<'_>, getter: &str, pos: Position) -> Option<bool> {
+// Writes whether this is so of a place.
+fn write_truth_of_place(config: &Config<'_>, getter: &str, pos: Position, answer: &mut Answer) {
     match getter {
-        "is_cell_visible" => Some(config.is_cell_visible(pos)),
-        "is_cell_covered_by_column_span" => Some(config.is_cell_covered_by_column_span(pos)),
-        "is_cell_covered_by_row_span" => Some(config.is_cell_covered_by_row_span(pos)),
-        "is_cell_covered_by_both_spans" => Some(config.is_cell_covered_by_both_spans(pos)),
-        "is_overridden_horizontal" => Some(config.is_overridden_horizontal(pos)),
-        _ => None,
+        "is_cell_visible" => answer.push_truth(config.is_cell_visible(pos)),
+        "is_cell_covered_by_column_span" => {
+            answer.push_truth(config.is_cell_covered_by_column_span(pos))
+        }
+        "is_cell_covered_by_row_span" => answer.push_truth(config.is_cell_covered_by_row_span(pos)),
+        "is_cell_covered_by_both_spans" => {
+            answer.push_truth(config.is_cell_covered_by_both_spans(pos))
+        }
+        "is_overridden_horizontal" => answer.push_truth(config.is_overridden_horizontal(pos)),
+        _ => answer.fail(CaseFault::Unknown),
     }
 }
 
 /// Writes all rectangles in their order.
-pub(crate) fn write_spans(spans: &Spans<Memory<'_>>, answer: &mut Answer) -> Result<(), CaseFault> {
+pub(crate) fn write_spans(spans: &Spans<Memory<'_>>, answer: &mut Answer) {
     for (place, size) in spans.iter() {
-        answer.push_span(Some((*place, *size)))?;
+        answer.push_span(Some((*place, *size)));
     }
-    Ok(())
 }

@@ -2,6 +2,7 @@
 
 use crate::case::Case;
 use crate::fault::CaseFault;
+use crate::numbers::set_numbers;
 use crate::streams::printing::check_others;
 use crate::streams::way::Way;
 use pg_config::SpannedConfig;
@@ -9,7 +10,7 @@ use pg_layout::ConstantDimension;
 use pg_testing::report::Report;
 use pg_testing::settings::{Words, apply};
 use pg_testing::{Line, texts_of_row};
-use std::alloc::Global;
+use std::alloc::{AllocError, Global};
 
 /// What a step asks for.
 #[derive(Clone, Copy, PartialEq, Eq)]
@@ -135,10 +136,7 @@ impl<'a> StreamCase<'a> {
         };
         match word {
             "=" => {
-                if step.has_line {
-                    self.text.push('\n')?;
-                }
-                self.text.push_str(rest)?;
+                push_line(&mut self.text, step.has_line, rest)?;
                 step.has_line = true;
                 step.bytes = self.text.len();
             }
@@ -207,11 +205,10 @@ impl<'a> Case<'a> for StreamCase<'a> {
     }
 }
 
-// Takes the numbers that words write, in the place of those that are there.
-fn set_numbers(numbers: &mut Vec<usize>, words: &str) -> Result<(), CaseFault> {
-    numbers.clear();
-    for word in words.split(' ') {
-        numbers.push(Words::new(word).last_number()?)?;
+// Appends a line to a text, which has one already or not.
+fn push_line(text: &mut String, has_line: bool, line: &str) -> Result<(), AllocError> {
+    if has_line {
+        text.push('\n')?;
     }
-    Ok(())
+    text.push_str(line)
 }

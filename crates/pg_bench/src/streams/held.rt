@@ -63,10 +63,8 @@ impl<'a> StreamCase<'a> {
         watch: &mut Watch<'m>,
         buf: &mut Buffer<'m>,
     ) {
-        match self.printed(way, hint, watch.memory, buf) {
-            Ok(()) => watch.goes(self.stop(), buf),
-            Err(fault) => watch.stops(self.stop(), &fault, buf),
-        }
+        let printed = self.printed(way, hint, watch.memory, buf);
+        watch.ends(self.stop(), printed, buf);
     }
 
     // A stream before its first row.
@@ -93,12 +91,27 @@ impl<'a> StreamCase<'a> {
         memory: Memory<'m>,
         buf: &mut Buffer<'m>,
     ) -> Result<(), RowsFault<u8>> {
-        let stream = self.stream(memory, hint)?;
-        match way {
-            Way::PrintVec => Ok(stream.print_vec(self.rows(memory)?, buf)?),
-            Way::PrintAll => Ok(stream.print_all(self.rows(memory)?.into_iter(), buf)?),
-            _ => stream.print_results(&mut self.items(memory)?.into_iter(), buf),
+        if way == Way::PrintResults {
+            let mut items = self.items(memory)?.into_iter();
+            return self.stream(memory, hint)?.print_results(&mut items, buf);
         }
+        Ok(self.printed_rows(way, hint, memory, buf)?)
+    }
+
+    // What a call answers that prints all rows, of which each is there.
+    fn printed_rows<'m>(
+        &'m self,
+        way: Way,
+        hint: Option<usize>,
+        memory: Memory<'m>,
+        buf: &mut Buffer<'m>,
+    ) -> Result<(), StreamFault> {
+        let rows = self.rows(memory)?;
+        let stream = self.stream(memory, hint)?;
+        if way == Way::PrintVec {
+            return stream.print_vec(rows, buf);
+        }
+        stream.print_all(rows.into_iter(), buf)
     }
 
     // All rows.
@@ -135,7 +148,7 @@ impl<'a> StreamCase<'a> {
                 return number;
             }
         }
-        self.steps.len().saturating_sub(1)
+        self.last()
     }
 }
 

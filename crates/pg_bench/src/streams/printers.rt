@@ -49,8 +49,7 @@ impl<'a> StreamCase<'a> {
                 self.see_note(number, &printer, watch);
             }
         }
-        let ended = self.end(printer, buf);
-        self.see_end(ended, watch, buf);
+        watch.ends(self.last(), self.end(printer, buf), buf);
     }
 
     // A printer before its first row: one memory is asked for, that of its open cells.

@@ -44,6 +44,11 @@ impl StreamCase<'_> {
         self.dimension.0.len()
     }
 
+    /// The step of the end.
+    pub(crate) fn last(&self) -> usize {
+        self.steps.len().saturating_sub(1)
+    }
+
     /// Prints the table in all ways. Before the first section there is none.
     pub(crate) fn print(&self, report: &mut Report) -> Result<(), CaseFault> {
         let Some(last) = self.steps.last() else {
@@ -117,8 +122,7 @@ impl StreamCase<'_> {
             Way::PrintVec | Way::PrintAll | Way::PrintResults => {
                 self.print_rows(way, hint, &mut watch, &mut buf)
             }
-            Way::Live | Way::Lent => self.show_rows(way, &mut watch, &mut buf),
-            Way::Sized => self.show_sized(&mut watch, &mut buf),
+            Way::Live | Way::Lent | Way::Sized => self.show_rows(way, &mut watch, &mut buf),
             Way::Printer | Way::Tested => self.try_rows(way, hint, &mut watch, &mut buf),
             Way::WholePeekable | Way::WholeIter | Way::WholeCompact => {
                 self.print_whole(way, &mut watch, &mut buf)

@@ -103,6 +103,14 @@ impl<'w> Watch<'w> {
         self.look(step, buf);
     }
 
+    /// The call of this step ended so.
+    pub(crate) fn ends<F: Display + Drop>(&mut self, step: usize, ended: Result<(), F>, buf: &str) {
+        match ended {
+            Ok(()) => self.goes(step, buf),
+            Err(fault) => self.stops(step, &fault, buf),
+        }
+    }
+
     // The buffer holds what is expected behind this step.
     fn look(&mut self, step: usize, buf: &str) {
         let bytes = match self.steps.get(step) {

@@ -1,7 +1,7 @@
 //! Grids that say whether each line of a table is shown, and print it where it is.
 
+use crate::rows::owned_row;
 use crate::streams::case::{StepKind, StreamCase};
-use crate::streams::live::owned;
 use crate::streams::watch::{Buffer, Watch};
 use crate::streams::way::Way;
 use pg_config::CompactConfig;
@@ -31,7 +31,7 @@ impl StreamCase<'_> {
         let mut rows = Vec::new(self.alloc);
         for step in &self.steps {
             if step.kind == StepKind::Row {
-                rows.push(owned(self.alloc, &step.cells).ok()?).ok()?;
+                rows.push(owned_row(self.alloc, &step.cells).ok()?).ok()?;
             }
         }
         VecRecords::new(rows).ok()

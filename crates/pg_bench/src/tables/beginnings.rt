@@ -25,7 +25,7 @@ impl TableCase<'_> {
         for granted in 1..GRANTED {
             let bytes = self.draw_beginning(drawer, endless, granted, report)?;
             let goes_on = bytes > longest || granted < needed;
-            report.compare(self.place(), drawer.print_call(), goes_on, true);
+            report.compare(self.place(drawer), "print", goes_on, true);
             longest = bytes;
         }
         let memory = Refusing::from_on(self.alloc, GRANTED);
@@ -33,12 +33,7 @@ impl TableCase<'_> {
             Ok(_) => Ok(()),
             Err(fault) => Err(fault),
         };
-        report.compare(
-            self.place(),
-            drawer.text_call(),
-            refused,
-            Err(Refusal::Memory),
-        );
+        report.compare(self.place(drawer), "text", refused, Err(Refusal::Memory));
         Ok(())
     }
 
@@ -52,16 +47,16 @@ impl TableCase<'_> {
         granted: u64,
         report: &mut Report,
     ) -> Result<usize, AllocError> {
-        let call = drawer.print_call();
+        let call = "print";
         let memory = Refusing::from_on(self.alloc, granted);
         let mut buf = String::from_str(&memory, OLD)?;
         let printed = self.print(&memory, drawer, &mut buf);
-        report.compare(self.place(), call, printed, Err(Refusal::Memory));
+        report.compare(self.place(drawer), call, printed, Err(Refusal::Memory));
         let requests = granted.saturating_add(1);
-        report.compare(self.place(), call, memory.requests(), requests);
+        report.compare(self.place(drawer), call, memory.requests(), requests);
         let front = self.front_of(endless, buf.len())?;
         let is_begun = buf.len() >= OLD.len() && front.starts_with(buf.as_str());
-        report.compare(self.place(), call, is_begun, true);
+        report.compare(self.place(drawer), call, is_begun, true);
         Ok(buf.len())
     }
 

@@ -1,11 +1,11 @@
 //! Calls of the builder with rows and settings of its own.
 
 use crate::fault::CaseFault;
-use crate::tables::builder_call::{BuilderCall, Title};
+use crate::tables::builder_call::BuilderCall;
 use crate::tables::case::TableCase;
 use pg_config::SpannedConfig;
 use pg_layout::ColorsMap;
-use pg_table::Table;
+use pg_table::{Table, TableFault};
 use pg_testing::report::Report;
 use std::mem;
 
@@ -15,62 +15,53 @@ impl<'a> TableCase<'a> {
         if self.natural.is_none() {
             return Err(CaseFault::Unknown);
         }
-        let call = BuilderCall::of(text)?;
+        let (name, rest) = text.split_once(' ').unwrap_or((text, ""));
+        let call = BuilderCall::of(name, rest)?;
         self.refuse(call, report)?;
-        let table = match self.table.take() {
+        let table = match self.way.table.take() {
             Some(table) => table,
             None => self.new_table()?,
         };
-        self.table = Some(self.called(table, call)?);
+        let called = if name.starts_with("set_") {
+            self.set(table, call)
+        } else {
+            self.with(table, call)
+        };
+        self.way.table = Some(called?);
         Ok(())
     }
 
-    // What a builder gives when it is called so.
-    fn called(
+    // What a builder gives when it is called by reference.
+    fn set(
+        &self,
+        mut table: Table<String>,
+        call: BuilderCall<'_>,
+    ) -> Result<Table<String>, TableFault> {
+        call.set(self.alloc, &mut table)?;
+        Ok(table)
+    }
+
+    // What it gives when it is called by value.
+    fn with(
         &mut self,
         table: Table<String>,
         call: BuilderCall<'_>,
-    ) -> Result<Table<String>, CaseFault> {
+    ) -> Result<Table<String>, TableFault> {
         match call {
-            BuilderCall::Nothing => Ok(table),
-            BuilderCall::Borders(borders) => Ok(table.with_borders(borders)),
-            BuilderCall::Padding(padding) => Ok(table.with_padding(padding)),
-            BuilderCall::Alignment(alignment) => Ok(table.with_alignment(alignment)),
-            BuilderCall::HeaderLine(line) => Ok(table.with_header_line(line)?),
-            BuilderCall::SetHeaderLine(line) => {
-                let mut table = table;
-                table.set_header_line(line)?;
-                Ok(table)
-            }
-            BuilderCall::SpanCrossings(borders) => Ok(table.with_span_crossings(
-                self.alloc, borders,
-            )?),
-            BuilderCall::SetSpanCrossings(borders) => {
-                let mut table = table;
-                table.set_span_crossings(self.alloc, borders)?;
-                Ok(table)
-            }
-            BuilderCall::Title(Title { row, side, text }) => {
-                Ok(table.with_title(self.alloc, row, text, side)?)
-            }
-            BuilderCall::SetTitle(Title { row, side, text }) => {
-                let mut table = table;
-                table.set_title(self.alloc, row, text, side)?;
-                Ok(table)
-            }
             BuilderCall::Config => Ok(table.with_config(self.take_config())),
             BuilderCall::Colors => Ok(table.with_colors(self.take_colors())),
+            _ => call.with(self.alloc, table),
         }
     }
 
     /// The settings of the lines since the last call.
     pub(crate) fn take_config(&mut self) -> SpannedConfig {
-        mem::replace(&mut self.config, SpannedConfig::new(self.alloc))
+        mem::replace(&mut self.way.config, SpannedConfig::new(self.alloc))
     }
 
     /// The colours of the lines since the last call.
     pub(crate) fn take_colors(&mut self) -> ColorsMap {
-        mem::replace(&mut self.colors, ColorsMap::new(self.alloc))
+        mem::replace(&mut self.way.colors, ColorsMap::new(self.alloc))
     }
 
     /// A table of the rows without a call, which owns its texts.

@@ -1,8 +1,11 @@
 //! Calls of a builder.
 
-use crate::fault::CaseFault;
 use pg_layout::{AlignmentHorizontal, Borders, HorizontalLine, Indent, Sides};
+use pg_table::{Table, TableFault};
+use pg_testing::LineFault;
 use pg_testing::settings::{Words, header_line_named};
+use std::alloc::Allocator;
+use std::convert::AsStr;
 
 /// A title over a row line.
 #[derive(Clone, Copy)]
@@ -15,60 +18,88 @@ pub(crate) struct Title<'t> {
     pub(crate) text: &'t str,
 }
 
-/// A call of a builder.
+/// What a call of a builder sets.
 #[derive(Clone, Copy)]
 pub(crate) enum BuilderCall<'t> {
-    /// None: the table stays as it is.
+    /// Nothing: the table stays as it is.
     Nothing,
-    /// `with_borders`.
+    /// Its borders.
     Borders(Borders<char>),
-    /// `with_padding`.
+    /// Its paddings.
     Padding(Sides<Indent>),
-    /// `with_alignment`.
+    /// Where its texts stand.
     Alignment(AlignmentHorizontal),
-    /// `with_header_line`.
+    /// The line below its header.
     HeaderLine(HorizontalLine<char>),
-    /// `set_header_line`.
-    SetHeaderLine(HorizontalLine<char>),
-    /// `with_span_crossings`.
+    /// Its crossings round cells with a span.
     SpanCrossings(Borders<char>),
-    /// `set_span_crossings`.
-    SetSpanCrossings(Borders<char>),
-    /// `with_title`.
+    /// A title.
     Title(Title<'t>),
-    /// `set_title`.
-    SetTitle(Title<'t>),
-    /// `with_config`.
+    /// All settings.
     Config,
-    /// `with_colors`.
+    /// The colours of its cells.
     Colors,
 }
 
 impl<'t> BuilderCall<'t> {
-    /// The call that a text names.
-    pub(crate) fn of(text: &'t str) -> Result<BuilderCall<'t>, CaseFault> {
-        let (call, rest) = text.split_once(' ').unwrap_or((text, ""));
+    /// What the call of this name sets, by what stands behind the name.
+    pub(crate) fn of(name: &str, rest: &'t str) -> Result<BuilderCall<'t>, LineFault> {
         let words = Words::new(rest);
-        match call {
+        match name {
             "" if rest.is_empty() => Ok(BuilderCall::Nothing),
             "with_borders" => Ok(BuilderCall::Borders(words.last_borders()?)),
             "with_padding" => Ok(BuilderCall::Padding(words.last_indents()?)),
             "with_alignment" => Ok(BuilderCall::Alignment(words.last_horizontal()?)),
-            "with_header_line" => Ok(BuilderCall::HeaderLine(line_of(rest)?)),
-            "set_header_line" => Ok(BuilderCall::SetHeaderLine(line_of(rest)?)),
-            "with_span_crossings" => Ok(BuilderCall::SpanCrossings(words.last_borders()?)),
-            "set_span_crossings" => Ok(BuilderCall::SetSpanCrossings(words.last_borders()?)),
-            "with_title" => Ok(BuilderCall::Title(title_of(words)?)),
-            "set_title" => Ok(BuilderCall::SetTitle(title_of(words)?)),
+            "with_header_line" | "set_header_line" => Ok(BuilderCall::HeaderLine(line_of(rest)?)),
+            "with_span_crossings" | "set_span_crossings" => {
+                Ok(BuilderCall::SpanCrossings(words.last_borders()?))
+            }
+            "with_title" | "set_title" => Ok(BuilderCall::Title(title_of(words)?)),
             "with_config" if rest.is_empty() => Ok(BuilderCall::Config),
             "with_colors" if rest.is_empty() => Ok(BuilderCall::Colors),
-            _ => Err(CaseFault::Unknown),
+            _ => Err(LineFault::Unknown),
         }
+    }
+
+    /// Makes the call by value. Settings and colours aren't set.
+    pub(crate) fn with<T: AsStr + Drop, A: Allocator + Copy>(
+        self,
+        alloc: A,
+        table: Table<T, A>,
+    ) -> Result<Table<T, A>, TableFault> {
+        match self {
+            BuilderCall::Borders(borders) => Ok(table.with_borders(borders)),
+            BuilderCall::Padding(padding) => Ok(table.with_padding(padding)),
+            BuilderCall::Alignment(alignment) => Ok(table.with_alignment(alignment)),
+            BuilderCall::HeaderLine(line) => table.with_header_line(line),
+            BuilderCall::SpanCrossings(borders) => table.with_span_crossings(alloc, borders),
+            BuilderCall::Title(Title { row, side, text }) => {
+                table.with_title(alloc, row, text, side)
+            }
+            BuilderCall::Nothing | BuilderCall::Config | BuilderCall::Colors => Ok(table),
+        }
+    }
+
+    /// Makes the call by reference: a line, crossings or a title.
+    pub(crate) fn set<T: AsStr + Drop, A: Allocator + Copy>(
+        self,
+        alloc: A,
+        table: &mut Table<T, A>,
+    ) -> Result<(), TableFault> {
+        let set = match self {
+            BuilderCall::HeaderLine(line) => table.set_header_line(line),
+            BuilderCall::SpanCrossings(borders) => table.set_span_crossings(alloc, borders),
+            BuilderCall::Title(Title { row, side, text }) => {
+                return table.set_title(alloc, row, text, side);
+            }
+            _ => Ok(()),
+        };
+        Ok(set?)
     }
 }
 
 // The title of a row line, a side and all that is left: of nothing more it has no characters.
-fn title_of<'t>(mut words: Words<'t>) -> Result<Title<'t>, CaseFault> {
+fn title_of<'t>(mut words: Words<'t>) -> Result<Title<'t>, LineFault> {
     let row = words.number();
     let side = Words::new(words.word()).last_horizontal()?;
     let text = words.rest()?.unwrap_or("");
@@ -76,9 +107,9 @@ fn title_of<'t>(mut words: Words<'t>) -> Result<Title<'t>, CaseFault> {
 }
 
 // The line below a header of this name, or of this glyph, with crossings and ends as they were.
-fn line_of(word: &str) -> Result<HorizontalLine<char>, CaseFault> {
+fn line_of(word: &str) -> Result<HorizontalLine<char>, LineFault> {
     match word.parse::<char>() {
         Ok(glyph) => Ok(HorizontalLine::new(Some(glyph), None, None, None)),
-        Err(_) => Ok(header_line_named(word)?),
+        Err(_) => header_line_named(word),
     }
 }

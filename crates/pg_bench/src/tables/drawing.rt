@@ -13,32 +13,36 @@ use std::alloc::AllocError;
 /// What a buffer holds before.
 pub(crate) const OLD: &str = "log:";
 
-impl<'a> TableCase<'a> {
+impl TableCase<'_> {
     /// Draws the table of the case. Before the first section there is none.
     pub(crate) fn draw(&mut self, report: &mut Report) {
         if !self.section.is_empty() {
             report.count_case();
             let drawn = self.draw_by_all(report);
-            report.take(self.line, self.section, drawn);
+            report.take(self.way.line, self.section, drawn);
         }
     }
 
     // Draws the table by all that its lines name, unless its rows have several lengths.
     fn draw_by_all(&mut self, report: &mut Report) -> Result<(), CaseFault> {
         match VecRecords::new(self.copied_rows()?) {
-            Err(fault) => {
-                let made = Refusal::from(TableFault::from(fault));
-                report.compare(self.place(), "VecRecords::new", Some(made), self.refusal);
-                let made = Table::new(self.alloc, self.copied_rows()?).err();
-                let made = made.map(Refusal::from);
-                report.compare(self.place(), "Table::new", made, self.refusal);
-                Ok(())
-            }
+            Err(fault) => self.refuse_rows(TableFault::from(fault), report),
             Ok(records) => match self.natural {
                 Some(_) => self.draw_naturally(&records, report),
                 None => self.draw_by_grids(&records, report),
             },
         }
+    }
+
+    // The rows are refused by the records with this fault, and by a builder.
+    fn refuse_rows(&self, fault: TableFault, report: &mut Report) -> Result<(), CaseFault> {
+        let place = (self.way.line, self.section);
+        let made = Some(Refusal::from(fault));
+        report.compare(place, "VecRecords::new", made, self.refusal);
+        let made = Table::new(self.alloc, self.copied_rows()?).err();
+        let made = made.map(Refusal::from);
+        report.compare(place, "Table::new", made, self.refusal);
+        Ok(())
     }
 
     // Draws the table by each grid.
@@ -55,10 +59,10 @@ impl<'a> TableCase<'a> {
 
     // The grids that draw the table.
     fn chosen_grids(&self) -> &[Grid] {
-        if self.grids.is_empty() {
+        if self.way.grids.is_empty() {
             return &SPANNED;
         }
-        self.grids.as_slice()
+        self.way.grids.as_slice()
     }
 
     // Draws the table at its natural sizes: as its builder was called, or by both builders.
@@ -67,7 +71,7 @@ impl<'a> TableCase<'a> {
         records: &VecRecords<String>,
         report: &mut Report,
     ) -> Result<(), CaseFault> {
-        let table = match self.table.take() {
+        let table = match self.way.table.take() {
             Some(table) => table,
             None => {
                 self.draw_by(Drawer::Lent(records), report)?;
@@ -93,9 +97,9 @@ impl<'a> TableCase<'a> {
         Ok(())
     }
 
-    /// The number of the line and the name of the section that lines on mismatches have.
-    pub(crate) fn place(&self) -> (usize, &'a str) {
-        (self.line, self.section)
+    /// The number of the line and the name of what draws the table that lines on mismatches have.
+    pub(crate) fn place(&self, drawer: Drawer<'_>) -> (usize, &'static str) {
+        (self.way.line, drawer.name())
     }
 
     // Draws the table, which fits, behind the text of a buffer, as a text of its own, and while memory is
@@ -106,17 +110,18 @@ impl<'a> TableCase<'a> {
         picture: &str,
         report: &mut Report,
     ) -> Result<(), AllocError> {
-        let place = self.place();
+        let place = self.place(drawer);
         if let Some(fits) = self.fits(drawer) {
-            report.compare(place, drawer.fits_call(), fits, Ok(()));
+            report.compare(place, "fits", fits, Ok(()));
         }
         let mut buf = String::from_str(self.alloc, OLD)?;
         let printed = self.print(self.alloc, drawer, &mut buf);
-        report.compare(place, drawer.print_call(), printed, Ok(()));
+        report.compare(place, "print", printed, Ok(()));
         let gained = buf.as_str().strip_prefix(OLD);
-        report.compare(place, drawer.print_call(), gained, Some(picture));
+        report.compare(place, "print", gained, Some(picture));
         let given = self.text(self.alloc, drawer).ok();
-        report.compare(place, drawer.text_call(), given.as_deref(), Some(picture));
-        self.draw_refused(drawer, picture, report)
+        report.compare(place, "text", given.as_deref(), Some(picture));
+        self.draw_refused(drawer, picture, report);
+        Ok(())
     }
 }

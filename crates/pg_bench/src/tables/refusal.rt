@@ -88,23 +88,23 @@ impl TableCase<'_> {
         refusal: Refusal,
         report: &mut Report,
     ) -> Result<(), AllocError> {
-        let place = self.place();
+        let place = self.place(drawer);
         if let Some(fits) = self.fits(drawer) {
-            report.compare(place, drawer.fits_call(), fits, Err(refusal));
+            report.compare(place, "fits", fits, Err(refusal));
         }
         let granted = if self.has_memory { u64::MAX } else { 1 };
         let memory = Refusing::from_on(self.alloc, granted);
         let mut buf = String::from_str(&memory, KEPT)?;
         let printed = self.print(&memory, drawer, &mut buf);
-        report.compare(place, drawer.print_call(), printed, Err(refusal));
-        report.compare(place, drawer.print_call(), buf.as_bytes(), KEPT.as_bytes());
+        report.compare(place, "print", printed, Err(refusal));
+        report.compare(place, "print", buf.as_bytes(), KEPT.as_bytes());
         let given = self.text(&memory, drawer).err();
-        report.compare(place, drawer.text_call(), given, Some(refusal));
+        report.compare(place, "text", given, Some(refusal));
         if self.has_memory {
             return Ok(());
         }
         let requests = self.requests_of(drawer, refusal);
-        report.compare(place, drawer.text_call(), memory.requests(), requests);
+        report.compare(place, "text", memory.requests(), requests);
         Ok(())
     }
 
@@ -113,7 +113,7 @@ impl TableCase<'_> {
     // at first. Within a width totals are, too.
     fn requests_of(&self, drawer: Drawer<'_>, refusal: Refusal) -> u64 {
         match (drawer, refusal) {
-            _ if self.within.is_some() => 1,
+            _ if self.way.within.is_some() => 1,
             (Drawer::Grid(_, _), _) | (_, Refusal::Spans) => 1,
             _ => 3,
         }

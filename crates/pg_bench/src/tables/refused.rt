@@ -35,123 +35,95 @@ pub(crate) enum TableMismatch {
     Count(u64),
 }
 
-/// A table, what draws it, and its picture.
+/// A call of a table that is made while memory is refused, what draws the table, and its picture.
 #[derive(Clone, Copy)]
-struct Refusals<'c, 'a> {
+struct RefusedTable<'c, 'a> {
     case: &'c TableCase<'a>,
     drawer: Drawer<'c>,
     picture: &'c str,
+    call: PrintCall,
 }
 
 impl TableCase<'_> {
     /// Draws the table again and again while memory is refused, and reports the first thing that is wrong with
     /// each kind of these tries.
-    pub(crate) fn draw_refused(
-        &self,
-        drawer: Drawer<'_>,
-        picture: &str,
-        report: &mut Report,
-    ) -> Result<(), AllocError> {
-        let tried = Refusals {
+    pub(crate) fn draw_refused(&self, drawer: Drawer<'_>, picture: &str, report: &mut Report) {
+        let printed = RefusedTable {
             case: self,
             drawer,
             picture,
+            call: PrintCall::Print,
         };
-        let place = self.place();
+        let text = RefusedTable {
+            call: PrintCall::Text,
+            ..printed
+        };
+        let place = self.place(drawer);
         if self.rows.len() <= FEW {
-            report.compare(
-                place,
-                drawer.print_call(),
-                tried.mismatch_of(PrintCall::Print),
-                None,
-            );
-            report.compare(
-                place,
-                drawer.text_call(),
-                tried.mismatch_of(PrintCall::Text),
-                None,
-            );
+            report.compare(place, "print", printed.mismatch(), None);
+            report.compare(place, "text", text.mismatch(), None);
         }
-        report.compare(place, drawer.print_call(), tried.mismatch_of_rooms()?, None);
-        Ok(())
+        report.compare(place, "print", printed.mismatch_of_rooms(), None);
     }
 }
 
-/// A call of a table whose request of each number is refused in turn.
-#[derive(Clone, Copy)]
-struct RefusedCall<'c, 'a> {
-    refusals: Refusals<'c, 'a>,
-    call: PrintCall,
-}
-
-impl Trial for RefusedCall<'_, '_> {
+impl Trial for RefusedTable<'_, '_> {
+    // The request of this number is refused, alone or with all behind it: both ways end alike.
     fn outcome(&mut self, number: u64) -> Outcome {
-        match self.refusals.without(self.call, number) {
-            Ok(outcome) => outcome,
-            Err(_) => Outcome::Wrong,
-        }
+        let refused = match self.call {
+            PrintCall::Print => number.saturating_add(1),
+            PrintCall::Text => number,
+        };
+        let one = self.made(&Refusing::only(self.case.alloc, refused));
+        let all = self.made(&Refusing::from_on(self.case.alloc, refused));
+        if one == all { one } else { Outcome::Wrong }
     }
 }
 
-impl Refusals<'_, '_> {
-    // Refuses the requests of a call in turn, until one comes no more.
-    fn mismatch_of(&self, call: PrintCall) -> Option<TableMismatch> {
-        let mut refused = RefusedCall {
-            refusals: *self,
-            call,
-        };
-        match refused.failures() {
+impl RefusedTable<'_, '_> {
+    // Refuses the requests of the call in turn, until one comes no more.
+    fn mismatch(mut self) -> Option<TableMismatch> {
+        match self.failures() {
             Ok(requests) => self.mismatch_of_count(requests),
             Err(number) => Some(TableMismatch::Request(number)),
         }
     }
 
-    // How a call ends whose request of this number is refused, alone or with all behind it: both ways
-    // alike.
-    fn without(&self, call: PrintCall, number: u64) -> Result<Outcome, AllocError> {
-        let refused = match call {
-            PrintCall::Print => number.saturating_add(1),
-            PrintCall::Text => number,
-        };
-        let one = self.made(call, &Refusing::only(self.case.alloc, refused))?;
-        let all = self.made(call, &Refusing::from_on(self.case.alloc, refused))?;
-        Ok(if one == all { one } else { Outcome::Wrong })
-    }
-
-    // How a call ends.
-    fn made(&self, call: PrintCall, memory: &Refusing<Global>) -> Result<Outcome, AllocError> {
-        match call {
+    // How the call ends.
+    fn made(&self, memory: &Refusing<Global>) -> Outcome {
+        match self.call {
             PrintCall::Print => self.printed(memory, 0),
-            PrintCall::Text => Ok(self.given(memory)),
+            PrintCall::Text => self.given(memory),
         }
     }
 
     // Prints the table into a buffer that has room for so many bytes behind its old text.
-    fn printed(&self, memory: &Refusing<Global>, room: usize) -> Result<Outcome, AllocError> {
-        let mut buf = String::with_capacity(memory, OLD.len().saturating_add(room))?;
-        buf.push_str(OLD)?;
+    fn printed(&self, memory: &Refusing<Global>, room: usize) -> Outcome {
+        let Ok(mut buf) = old_text(memory, room) else {
+            return Outcome::Wrong;
+        };
         let printed = self.case.print(memory, self.drawer, &mut buf);
-        Ok(match buf.as_str().strip_prefix(OLD) {
-            Some(gained) => self.outcome(memory.has_refused(), printed.err(), gained),
+        match buf.as_str().strip_prefix(OLD) {
+            Some(gained) => self.judged(memory, printed.err(), gained),
             None => Outcome::Wrong,
-        })
+        }
     }
 
     // Asks for a text of the table: where memory is refused there is none.
     fn given(&self, memory: &Refusing<Global>) -> Outcome {
         match self.case.text(memory, self.drawer) {
-            Ok(text) => self.outcome(memory.has_refused(), None, text.as_str()),
-            Err(fault) => self.outcome(memory.has_refused(), Some(fault), ""),
+            Ok(text) => self.judged(memory, None, text.as_str()),
+            Err(fault) => self.judged(memory, Some(fault), ""),
         }
     }
 
     // How a call ends that answers this, and leaves this text. Of an empty picture any beginning is all.
-    fn outcome(&self, is_refused: bool, refusal: Option<Refusal>, text: &str) -> Outcome {
+    fn judged(&self, memory: &Refusing<Global>, refusal: Option<Refusal>, text: &str) -> Outcome {
         let is_whole = text == self.picture;
         let is_begun = self.picture.starts_with(text) && (!is_whole || text.is_empty());
-        match refusal {
-            None if is_whole && !is_refused => Outcome::Whole,
-            Some(Refusal::Memory) if is_begun && is_refused => Outcome::Failed,
+        match (refusal, memory.has_refused()) {
+            (None, false) if is_whole => Outcome::Whole,
+            (Some(Refusal::Memory), true) if is_begun => Outcome::Failed,
             _ => Outcome::Wrong,
         }
     }
@@ -165,16 +137,12 @@ impl Refusals<'_, '_> {
         } else {
             requests > own
         };
-        if is_right {
-            None
-        } else {
-            Some(TableMismatch::Count(requests))
-        }
+        (!is_right).then_some(TableMismatch::Count(requests))
     }
 
     // Prints the table into buffers of more and more room, the last of which has room for all of it. Of a
     // long picture only the last two are tried.
-    fn mismatch_of_rooms(&self) -> Result<Option<TableMismatch>, AllocError> {
+    fn mismatch_of_rooms(&self) -> Option<TableMismatch> {
         let bytes = self.picture.len();
         let first = if bytes > SHORT {
             bytes.saturating_sub(1)
@@ -187,27 +155,37 @@ impl Refusals<'_, '_> {
             } else {
                 Outcome::Whole
             };
-            if self.within(room)? != expected {
-                return Ok(Some(TableMismatch::Room(room)));
+            if self.within(room) != expected {
+                return Some(TableMismatch::Room(room));
             }
         }
-        Ok(None)
+        None
     }
 
     // How it ends where the buffer has room for so many bytes, and nothing else is granted than what
     // printing asks for of its own: those who ask for more are refused, and ask once.
-    fn within(&self, room: usize) -> Result<Outcome, AllocError> {
+    fn within(&self, room: usize) -> Outcome {
         let granted = self.case.own_requests(self.drawer).saturating_add(1);
         let memory = Refusing::from_on(self.case.alloc, granted);
-        let outcome = self.printed(&memory, room)?;
+        let outcome = self.printed(&memory, room);
         let requests = match outcome {
             Outcome::Whole => granted,
             _ => granted.saturating_add(1),
         };
-        Ok(if memory.requests() == requests {
+        if memory.requests() == requests {
             outcome
         } else {
             Outcome::Wrong
-        })
+        }
     }
+}
+
+// The old text of a buffer that has room for so many bytes behind it.
+fn old_text(
+    memory: &Refusing<Global>,
+    room: usize,
+) -> Result<String<&Refusing<Global>>, AllocError> {
+    let mut buf = String::with_capacity(memory, OLD.len().saturating_add(room))?;
+    buf.push_str(OLD)?;
+    Ok(buf)
 }

@@ -1,7 +1,7 @@
 //! Calls of a builder that are made while memory is refused.
 
 use crate::fault::CaseFault;
-use crate::tables::builder_call::{BuilderCall, Title};
+use crate::tables::builder_call::BuilderCall;
 use crate::tables::case::TableCase;
 use crate::tables::refusal::Refusal;
 use crate::tables::refused::TableMismatch;
@@ -11,34 +11,39 @@ use pg_testing::report::Report;
 use pg_testing::trial::{Outcome, Trial};
 use std::alloc::Global;
 
-/// How a call of a table ends while memory is refused.
-#[derive(Drop)]
-struct Tried {
-    /// Whether the call succeeds.
-    is_set: bool,
-    /// Whether a request was refused.
-    has_refused: bool,
-    /// The picture of the table behind it.
-    text: String,
-}
-
-/// A call of a builder whose requests for memory are refused in turn.
+/// A call of a builder by reference whose requests for memory are refused in turn.
 #[derive(Clone, Copy)]
 struct RefusedBuilder<'c, 'a> {
     case: &'c TableCase<'a>,
     call: BuilderCall<'c>,
-    // The picture of the table before the call.
+    // How many requests the table makes before the call.
+    requests: u64,
+    // Its picture before the call.
     before: &'c str,
 }
 
 impl Trial for RefusedBuilder<'_, '_> {
     fn outcome(&mut self, number: u64) -> Outcome {
-        match self.case.tried(self.call, number) {
-            Ok(tried) if tried.is_set && !tried.has_refused => Outcome::Whole,
-            Ok(tried) if !tried.is_set && tried.has_refused && tried.text.as_str() == self.before =>
-                Outcome::Failed,
-            _ => Outcome::Wrong,
+        match self.outcome_from_on(number) {
+            Ok(outcome) => outcome,
+            Err(_) => Outcome::Wrong,
         }
+    }
+}
+
+impl RefusedBuilder<'_, '_> {
+    // How the call ends whose requests from this number on are refused. A table that is refused one is as it was.
+    fn outcome_from_on(&self, number: u64) -> Result<Outcome, CaseFault> {
+        let memory = Refusing::from_on(self.case.alloc, self.requests.saturating_add(number));
+        let mut table = self.case.table_in(&memory)?;
+        let is_set = self.call.set(&memory, &mut table).is_ok();
+        let has_refused = memory.has_refused();
+        let text = table.to_string(self.case.alloc)?;
+        Ok(match (is_set, has_refused) {
+            (true, false) => Outcome::Whole,
+            (false, true) if text.as_str() == self.before => Outcome::Failed,
+            _ => Outcome::Wrong,
+        })
     }
 }
 
@@ -52,23 +57,24 @@ impl<'a> TableCase<'a> {
         report: &mut Report,
     ) -> Result<(), CaseFault> {
         let (set, with, takes_memory) = match call {
-            BuilderCall::HeaderLine(_) | BuilderCall::SetHeaderLine(_) => {
+            BuilderCall::HeaderLine(_) => {
                 let takes_memory = self.rows.len() > 1 && self.has_cells();
                 ("set_header_line", "with_header_line", takes_memory)
             }
-            BuilderCall::Title(title) | BuilderCall::SetTitle(title) => {
+            BuilderCall::Title(title) => {
                 let takes_memory = !title.text.is_empty() && self.has_line(title.row)?;
                 ("set_title", "with_title", takes_memory)
             }
             _ => return Ok(()),
         };
-        let mismatch = self.mismatch_of_call(call)?;
+        let place = (self.way.line, self.section);
+        let memory = Refusing::from_on(self.alloc, u64::MAX);
+        drop(self.table_in(&memory)?);
+        let requests = memory.requests();
         let expected = (!takes_memory).then_some(TableMismatch::Count(0));
-        report.compare(self.place(), set, mismatch, expected);
-        let memory = Refusing::from_on(self.alloc, self.requests_of_rows()?);
-        let refusal = refusal_of_call(&memory, self.table_in(&memory)?, call);
+        report.compare(place, set, self.mismatch_of_call(call, requests)?, expected);
         let expected = takes_memory.then_some(Refusal::Memory);
-        report.compare(self.place(), with, refusal, expected);
+        report.compare(place, with, self.refusal_of_call(call, requests)?, expected);
         Ok(())
     }
 
@@ -78,13 +84,18 @@ impl<'a> TableCase<'a> {
         Ok(self.rows.is_empty() || table.config().has_horizontal(row, self.rows.len()))
     }
 
-    // Refuses each request that this call makes, and all behind it. A table that is refused one is as it was;
-    // `Count(0)` is for a call that makes none.
-    fn mismatch_of_call(&self, call: BuilderCall<'_>) -> Result<Option<TableMismatch>, CaseFault> {
+    // Refuses each request that this call makes by reference, and all behind it, of a table that makes so many
+    // before. `Count(0)` is for a call that makes none.
+    fn mismatch_of_call(
+        &self,
+        call: BuilderCall<'_>,
+        requests: u64,
+    ) -> Result<Option<TableMismatch>, CaseFault> {
         let before = self.new_table()?.to_string(self.alloc)?;
         let mut refused = RefusedBuilder {
             case: self,
             call,
+            requests,
             before: before.as_str(),
         };
         Ok(match refused.failures() {
@@ -94,26 +105,15 @@ impl<'a> TableCase<'a> {
         })
     }
 
-    // Makes this call of a table whose requests from this number on are refused.
-    fn tried(&self, call: BuilderCall<'_>, number: u64) -> Result<Tried, CaseFault> {
-        let granted = self.requests_of_rows()?.saturating_add(number);
-        let memory = Refusing::from_on(self.alloc, granted);
-        let mut table = self.table_in(&memory)?;
-        let is_set = is_set(&memory, &mut table, call);
-        let has_refused = memory.has_refused();
-        let text = table.to_string(self.alloc)?;
-        Ok(Tried {
-            is_set,
-            has_refused,
-            text,
-        })
-    }
-
-    // How many requests a table of the rows makes before any call.
-    fn requests_of_rows(&self) -> Result<u64, CaseFault> {
-        let memory = Refusing::from_on(self.alloc, u64::MAX);
-        let _table = self.table_in(&memory)?;
-        Ok(memory.requests())
+    // Why this call by value fails whose requests are all refused, of a table that makes so many before.
+    fn refusal_of_call(
+        &self,
+        call: BuilderCall<'_>,
+        requests: u64,
+    ) -> Result<Option<Refusal>, CaseFault> {
+        let memory = Refusing::from_on(self.alloc, requests);
+        let table = self.table_in(&memory)?;
+        Ok(call.with(&memory, table).err().map(Refusal::from))
     }
 
     // A table of the rows without a call, which is lent its texts and has this memory.
@@ -127,41 +127,4 @@ impl<'a> TableCase<'a> {
         }
         Ok(Table::new(memory, rows)?)
     }
-}
-
-// Whether this call by reference succeeds.
-fn is_set<'m>(
-    memory: &'m Refusing<Global>,
-    table: &mut Table<&str, &'m Refusing<Global>>,
-    call: BuilderCall<'_>,
-) -> bool {
-    match call {
-        BuilderCall::HeaderLine(line) | BuilderCall::SetHeaderLine(line) => table
-            .set_header_line(line)
-            .is_ok(),
-        BuilderCall::Title(title) | BuilderCall::SetTitle(title) => {
-            let Title { row, side, text } = title;
-            table.set_title(memory, row, text, side).is_ok()
-        }
-        _ => true,
-    }
-}
-
-// Why this call by value fails.
-fn refusal_of_call<'m>(
-    memory: &'m Refusing<Global>,
-    table: Table<&str, &'m Refusing<Global>>,
-    call: BuilderCall<'_>,
-) -> Option<Refusal> {
-    let called = match call {
-        BuilderCall::HeaderLine(line) | BuilderCall::SetHeaderLine(line) => table.with_header_line(
-            line,
-        ),
-        BuilderCall::Title(title) | BuilderCall::SetTitle(title) => {
-            let Title { row, side, text } = title;
-            table.with_title(memory, row, text, side)
-        }
-        _ => Ok(table),
-    };
-    called.err().map(Refusal::from)
 }

@@ -2,9 +2,9 @@
 
 use crate::tables::case::TableCase;
 use crate::tables::drawer::Drawer;
-use crate::tables::refusal::Refusal;
 use crate::tables::refused::TableMismatch;
 use pg_layout::ConstantDimension;
+use pg_table::TableFault;
 use pg_testing::refusing::Refusing;
 use pg_testing::report::Report;
 use std::alloc::{AllocError, Allocator, Global};
@@ -29,13 +29,15 @@ impl TableCase<'_> {
             return Ok(());
         }
         let memory = Refusing::from_on(self.alloc, self.requests_of_sizes(drawer));
-        let Some(listed) = self.sizes(&memory, drawer) else {
-            return Ok(());
-        };
-        let text = sizes_text(self.alloc, &listed)?;
-        report.compare(self.place(), "natural_dimension", text.as_str(), sizes);
+        let text = sizes_text(self.alloc, &self.sizes(&memory, drawer))?;
+        report.compare(
+            self.place(drawer),
+            "natural_dimension",
+            text.as_str(),
+            sizes,
+        );
         let mismatch = self.mismatch_of_sizes(drawer);
-        report.compare(self.place(), "natural_dimension", mismatch, None);
+        report.compare(self.place(drawer), "natural_dimension", mismatch, None);
         Ok(())
     }
 
@@ -50,8 +52,8 @@ impl TableCase<'_> {
     /// How many requests the listing of natural sizes makes. They are counted within a width, and with spans if
     /// there are such sizes; else there is one for each list.
     pub(crate) fn requests_of_sizes(&self, drawer: Drawer<'_>) -> u64 {
-        let is_counted = self.is_spanned && self.lists() > 0;
-        if self.within.is_none() && !is_counted {
+        let is_counted = self.way.is_spanned && self.lists() > 0;
+        if self.way.within.is_none() && !is_counted {
             return self.lists();
         }
         let memory = Refusing::from_on(self.alloc, u64::MAX);
@@ -67,8 +69,7 @@ impl TableCase<'_> {
         }
         for number in 0..self.requests_of_sizes(drawer) {
             let memory = Refusing::only(self.alloc, number);
-            let listed = self.sizes(&memory, drawer)?;
-            if listed.err() != Some(Refusal::Memory) {
+            if self.sizes(&memory, drawer).err() != Some(TableFault::Memory) {
                 return Some(TableMismatch::Request(number));
             }
         }
@@ -79,15 +80,15 @@ impl TableCase<'_> {
 // What a line `natural` says of these sizes.
 fn sizes_text<A: Allocator>(
     alloc: Global,
-    listed: &Result<ConstantDimension<A>, Refusal>,
+    listed: &Result<ConstantDimension<A>, TableFault>,
 ) -> Result<String, AllocError> {
     match listed {
         Ok(ConstantDimension(widths, heights)) => {
             let (widths, heights) = (widths.as_slice(), heights.as_slice());
             Ok(format!(in alloc; "{widths:?} {heights:?}")?)
         }
-        Err(Refusal::Totals) => String::from_str(alloc, NONE),
-        Err(Refusal::Spans) => String::from_str(alloc, SPANS),
-        Err(refusal) => Ok(format!(in alloc; "{refusal:?}")?),
+        Err(TableFault::Totals) => String::from_str(alloc, NONE),
+        Err(TableFault::Spans) => String::from_str(alloc, SPANS),
+        Err(fault) => Ok(format!(in alloc; "{fault:?}")?),
     }
 }

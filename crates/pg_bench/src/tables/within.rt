@@ -1,11 +1,13 @@
 //! Tables within a width.
 
 use crate::fault::CaseFault;
+use crate::numbers::number_of;
 use crate::tables::case::TableCase;
 use crate::tables::drawer::Drawer;
 use crate::tables::refusal::Refusal;
+use crate::texts::fit_call::breaking_of;
 use pg_layout::{ColorsMap, ConstantDimension, VecRecords};
-use pg_table::{Breaking, FittedTable, NaturalTable, Overflow, TableFault};
+use pg_table::{FittedTable, NaturalTable, Overflow, TableFault};
 use pg_testing::refusing::Refusing;
 use pg_testing::report::Report;
 use std::alloc::{Allocator, Global};
@@ -38,18 +40,14 @@ fn limit_of(word: &str) -> Result<usize, CaseFault> {
     if word == ANY {
         return Ok(usize::MAX);
     }
-    word.parse::<usize>().map_err(|_| CaseFault::Unknown)
+    number_of(word)
 }
 
 // What becomes of texts that are too wide.
 fn overflow_of(words: &str) -> Result<Overflow<'_>, CaseFault> {
-    match words {
-        "anywhere" => Ok(Overflow::Wrap(Breaking::Anywhere)),
-        "words" => Ok(Overflow::Wrap(Breaking::BetweenWords)),
-        _ => {
-            let tail = words.strip_prefix("cut ").ok_or(CaseFault::Unknown)?;
-            Ok(Overflow::Cut(tail))
-        }
+    match words.strip_prefix("cut ") {
+        Some(tail) => Ok(Overflow::Cut(tail)),
+        None => Ok(Overflow::Wrap(breaking_of(words)?)),
     }
 }
 
@@ -63,85 +61,95 @@ pub(crate) fn limits_of(alloc: Global, words: &str) -> Result<Vec<usize>, CaseFa
 }
 
 impl<'a> TableCase<'a> {
+    /// The builder that is lent the rows.
+    pub(crate) fn lent<'c>(
+        &'c self,
+        records: &'c VecRecords<String>,
+    ) -> NaturalTable<'c, &'c VecRecords<String>, ColorsMap> {
+        NaturalTable::new(records, &self.way.config, &self.way.colors)
+    }
+
     // The table within a width. A grid draws none.
     fn fitted<'c, A: Allocator + Copy>(
         &'c self,
         memory: A,
         drawer: Drawer<'c>,
-        within: Within<'a>,
-    ) -> Result<FittedTable<'c, &'c VecRecords<String>, ColorsMap, Global, A>, Refusal> {
-        let limits = self.limits.as_slice();
-        let fitted = match drawer {
-            Drawer::Owned(table) => table.within_limits(memory, within.width, limits, within.how),
-            Drawer::Lent(records) | Drawer::Grid(_, records) => {
-                NaturalTable::new(records, &self.config, &self.colors).within_limits(
-                    memory,
-                    within.width,
-                    limits,
-                    within.how,
-                )
-            }
-        };
-        fitted.map_err(Refusal::from)
-    }
-
-    /// What the test of the table within a width answers.
-    pub(crate) fn fits_within(
-        &self,
-        drawer: Drawer<'_>,
-        within: Within<'a>,
-    ) -> Result<(), Refusal> {
-        let fitted = self.fitted(self.alloc, drawer, within)?;
-        Ok(fitted.fits(self.alloc)?)
-    }
-
-    /// Appends the table within a width, with `memory` for all but the buffer.
-    pub(crate) fn print_within<A: Allocator + Copy, B: Allocator>(
-        &self,
-        memory: A,
-        drawer: Drawer<'_>,
-        within: Within<'a>,
-        buf: &mut String<B>,
-    ) -> Result<(), Refusal> {
-        let fitted = self.fitted(memory, drawer, within)?;
-        Ok(fitted.print(memory, buf)?)
-    }
-
-    /// The text of the table within a width, whose memory, and all other, is `memory`.
-    pub(crate) fn text_within<A: Allocator + Copy>(
-        &self,
-        memory: A,
-        drawer: Drawer<'_>,
-        within: Within<'a>,
-    ) -> Result<String<A>, Refusal> {
-        let fitted = self.fitted(memory, drawer, within)?;
-        Ok(fitted.to_string(memory)?)
-    }
-
-    /// The sizes of the table within a width.
-    pub(crate) fn sizes_within<A: Allocator + Copy>(
-        &self,
-        memory: A,
-        drawer: Drawer<'_>,
-        within: Within<'a>,
-    ) -> Result<ConstantDimension<A>, Refusal> {
-        let fitted = self.fitted(memory, drawer, within)?;
-        Ok(fitted.natural_dimension(memory)?)
-    }
-
-    // The least width of a line, with `memory` for that of a table that keeps spans.
-    fn least_width<A: Allocator + Copy>(
-        &self,
-        memory: A,
-        drawer: Drawer<'_>,
-        within: Within<'a>,
-    ) -> Result<usize, TableFault> {
+        Within { width, how }: Within<'a>,
+    ) -> Result<FittedTable<'c, &'c VecRecords<String>, ColorsMap, Global, A>, TableFault> {
+        let limits = self.way.limits.as_slice();
         match drawer {
-            Drawer::Owned(table) => table.least_width(memory, within.how),
+            Drawer::Owned(table) => table.within_limits(memory, width, limits, how),
             Drawer::Lent(records) | Drawer::Grid(_, records) => {
-                NaturalTable::new(records, &self.config, &self.colors).least_width(
-                    memory, within.how,
-                )
+                self.lent(records).within_limits(memory, width, limits, how)
+            }
+        }
+    }
+
+    /// What the test of the table at its natural sizes answers, or of that within a width.
+    pub(crate) fn fits_naturally(&self, drawer: Drawer<'_>) -> Result<(), TableFault> {
+        match (drawer, self.way.within) {
+            (_, Some(within)) => self.fitted(self.alloc, drawer, within)?.fits(self.alloc),
+            (Drawer::Owned(_), None) => Ok(()),
+            (Drawer::Lent(records) | Drawer::Grid(_, records), None) => {
+                self.lent(records).fits(self.alloc)
+            }
+        }
+    }
+
+    /// Appends such a table, with `memory` for all but the buffer.
+    pub(crate) fn print_naturally<A: Allocator + Copy, B: Allocator>(
+        &self,
+        memory: A,
+        drawer: Drawer<'_>,
+        buf: &mut String<B>,
+    ) -> Result<(), TableFault> {
+        match (drawer, self.way.within) {
+            (_, Some(within)) => self.fitted(memory, drawer, within)?.print(memory, buf),
+            (Drawer::Owned(table), None) => table.print(memory, buf),
+            (Drawer::Lent(records) | Drawer::Grid(_, records), None) => {
+                self.lent(records).print(memory, buf)
+            }
+        }
+    }
+
+    /// The text of such a table, whose memory, and all other, is `memory`.
+    pub(crate) fn text_naturally<A: Allocator + Copy>(
+        &self,
+        memory: A,
+        drawer: Drawer<'_>,
+    ) -> Result<String<A>, TableFault> {
+        match (drawer, self.way.within) {
+            (_, Some(within)) => self.fitted(memory, drawer, within)?.to_string(memory),
+            (Drawer::Owned(table), None) => table.to_string(memory),
+            (Drawer::Lent(records) | Drawer::Grid(_, records), None) => {
+                self.lent(records).to_string(memory)
+            }
+        }
+    }
+
+    /// The sizes of such a table.
+    pub(crate) fn sizes<A: Allocator + Copy>(
+        &self,
+        memory: A,
+        drawer: Drawer<'_>,
+    ) -> Result<ConstantDimension<A>, TableFault> {
+        match (drawer, self.way.within) {
+            (_, Some(within)) => self
+                .fitted(memory, drawer, within)?
+                .natural_dimension(memory),
+            (Drawer::Owned(table), None) => table.natural_dimension(memory),
+            (Drawer::Lent(records) | Drawer::Grid(_, records), None) => {
+                self.lent(records).natural_dimension(memory)
+            }
+        }
+    }
+
+    // The least width of a line.
+    fn least_width(&self, drawer: Drawer<'_>, how: Overflow<'a>) -> Result<usize, TableFault> {
+        match drawer {
+            Drawer::Owned(table) => table.least_width(self.alloc, how),
+            Drawer::Lent(records) | Drawer::Grid(_, records) => {
+                self.lent(records).least_width(self.alloc, how)
             }
         }
     }
@@ -149,17 +157,18 @@ impl<'a> TableCase<'a> {
     /// Asks for the least width of a line, where the case has it, and where nothing changes for the table
     /// while all memory is refused.
     pub(crate) fn look_within(&self, drawer: Drawer<'_>, report: &mut Report) {
-        let Some(within) = self.within else {
+        let Some(within) = self.way.within else {
             return;
         };
-        if let Some(expected) = self.least {
-            let least = self.least_width(self.alloc, drawer, within).ok();
-            report.compare(self.place(), "least_width", least, expected);
+        if let Some(expected) = self.way.least {
+            let least = self.least_width(drawer, within.how).ok();
+            report.compare(self.place(drawer), "least_width", least, expected);
         }
-        if self.is_unchanged {
+        if self.way.is_unchanged {
             let memory = Refusing::from_on(self.alloc, 0);
             let refused = self.fitted(&memory, drawer, within).err();
-            report.compare(self.place(), "within", refused, None);
+            let refused = refused.map(Refusal::from);
+            report.compare(self.place(drawer), "within", refused, None);
         }
     }
 
@@ -169,10 +178,10 @@ impl<'a> TableCase<'a> {
             return Err(CaseFault::Unknown);
         }
         match word {
-            "within" => self.within = Some(Within::of(rest)?),
-            "limits" => self.limits = limits_of(self.alloc, rest)?,
-            "least" => self.least = Some(rest.parse::<usize>().ok()),
-            _ => self.is_unchanged = true,
+            "within" => self.way.within = Some(Within::of(rest)?),
+            "limits" => self.way.limits = limits_of(self.alloc, rest)?,
+            "least" => self.way.least = Some(rest.parse::<usize>().ok()),
+            _ => self.way.is_unchanged = true,
         }
         Ok(())
     }

@@ -2,12 +2,14 @@
 
 use crate::case::Case;
 use crate::fault::CaseFault;
-use crate::texts::fit_call::{FitCall, RefusedFit, breaking_of, number_of};
+use crate::numbers::number_of;
+use crate::rows::push_line;
+use crate::texts::fit_call::{FitCall, RefusedFit, breaking_of};
 use pg_fit::least_width;
 use pg_testing::report::Report;
 use pg_testing::trial::Trial;
 use pg_testing::{Line, texts_of_row};
-use std::alloc::{AllocError, Global};
+use std::alloc::Global;
 
 /// A text, and a call that fits it.
 #[derive(Drop)]
@@ -42,7 +44,7 @@ impl<'a> TextCase<'a> {
     ) -> Result<(), CaseFault> {
         let (word, rest) = line.split_once(' ').unwrap_or((line, ""));
         if word == "=" {
-            return Ok(self.push_line(rest)?);
+            return Ok(push_line(self.alloc, &mut self.made, rest)?);
         }
         self.make(report)?;
         if word == "least" {
@@ -50,20 +52,6 @@ impl<'a> TextCase<'a> {
         }
         self.call = Some((number, FitCall::of(word, rest)?));
         Ok(())
-    }
-
-    // Takes the next line of what a call gives.
-    fn push_line(&mut self, line: &str) -> Result<(), AllocError> {
-        match &mut self.made {
-            Some(made) => {
-                made.push('\n')?;
-                made.push_str(line)
-            }
-            None => {
-                self.made = Some(String::from_str(self.alloc, line)?);
-                Ok(())
-            }
-        }
     }
 
     // Compares the least width.

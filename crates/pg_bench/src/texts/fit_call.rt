@@ -1,6 +1,7 @@
 //! Calls that fit a text.
 
 use crate::fault::CaseFault;
+use crate::numbers::number_of;
 use pg_fit::{Breaking, cut, visible, wrap};
 use pg_testing::refusing::Refusing;
 use pg_testing::trial::{Outcome, Trial};
@@ -24,11 +25,6 @@ pub(crate) fn breaking_of(word: &str) -> Result<Breaking, CaseFault> {
         "words" => Ok(Breaking::BetweenWords),
         _ => Err(CaseFault::Unknown),
     }
-}
-
-/// The number that a word says.
-pub(crate) fn number_of(word: &str) -> Result<usize, CaseFault> {
-    word.parse::<usize>().map_err(|_| CaseFault::Unknown)
 }
 
 impl<'a> FitCall<'a> {

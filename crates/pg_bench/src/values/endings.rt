@@ -2,6 +2,7 @@
 //! can't be written.
 
 use crate::fault::CaseFault;
+use crate::rows::owned_row;
 use crate::values::Fact;
 use pg_show::{Ending, Fault, run};
 use pg_testing::ledger::Rule;
@@ -38,57 +39,49 @@ fn check_refused<R: Read>(
     words: &[&str],
     input: &mut R,
     (line, status): (&str, u8),
-) -> Result<(), AllocError> {
-    let mut arguments = Vec::new(alloc);
-    for word in words {
-        arguments.push(String::from_str(alloc, word)?)?;
-    }
+) {
+    let Ok(arguments) = owned_row(alloc, words) else {
+        return fact.holds(false);
+    };
     let (mut out, mut err) = (Vec::new(alloc), Vec::new(alloc));
     let ending = run(alloc, &arguments, input, &mut out, &mut err);
     fact.same((ending.status(), out.len()), (status, 0));
     fact.same(err.as_slice(), line.as_bytes());
-    Ok(())
 }
 
-fn anything_but_one_mode_is_wrong(alloc: Global, report: &mut Report) -> Result<(), AllocError> {
+fn anything_but_one_mode_is_wrong(alloc: Global, report: &mut Report) {
     let mut fact = Fact::new(report, "anything but one mode is wrong");
     let wrong: [&[&str]; 4] = [&[], &["compact", "compact"], &["Compact"], &[""]];
     for words in wrong {
         let mut script = "size 1".as_bytes();
-        check_refused(&mut fact, alloc, words, &mut script, (USAGE, 2))?;
+        check_refused(&mut fact, alloc, words, &mut script, (USAGE, 2));
     }
-    Ok(())
 }
 
-fn a_line_that_is_no_utf_8_is_bad(alloc: Global, report: &mut Report) -> Result<(), AllocError> {
+fn a_line_that_is_no_utf_8_is_bad(alloc: Global, report: &mut Report) {
     let mut fact = Fact::new(report, "a line that is no UTF-8 is bad");
     for (script, line) in NO_TEXTS {
         for mode in MODES {
             let mut script = script;
-            check_refused(&mut fact, alloc, &[mode], &mut script, (line, 2))?;
+            check_refused(&mut fact, alloc, &[mode], &mut script, (line, 2));
         }
     }
-    Ok(())
 }
 
 // Without words a script is bad behind its last line.
-fn short_reads_are_read_to_the_end(alloc: Global, report: &mut Report) -> Result<(), AllocError> {
+fn short_reads_are_read_to_the_end(alloc: Global, report: &mut Report) {
     let mut fact = Fact::new(report, "short reads are read to the end");
     for mode in MODES {
         let input = &mut EndlessReader.take(10_000);
-        check_refused(&mut fact, alloc, &[mode], input, ("line 10001: bad\n", 2))?;
+        check_refused(&mut fact, alloc, &[mode], input, ("line 10001: bad\n", 2));
     }
-    Ok(())
 }
 
 // An input that goes on after 16,777,216 reads is refused, whatever it is.
-fn a_reader_without_an_end_is_refused(
-    alloc: Global,
-    report: &mut Report,
-) -> Result<(), AllocError> {
+fn a_reader_without_an_end_is_refused(alloc: Global, report: &mut Report) {
     let mut fact = Fact::new(report, "a reader without an end is refused");
     let input = &mut EndlessReader;
-    check_refused(&mut fact, alloc, &["peek"], input, ("read failed\n", 5))
+    check_refused(&mut fact, alloc, &["peek"], input, ("read failed\n", 5));
 }
 
 // Arguments that can't be read for these errors end the run with this line and this status.
@@ -138,7 +131,7 @@ impl Trial for UntoldFault {
 
 // The fault of a table that doesn't fit.
 fn misfit(alloc: Global) -> Result<Fault, CaseFault> {
-    let words = vec![in alloc; String::from_str(alloc, "peek")?]?;
+    let words = owned_row(alloc, &["peek"])?;
     let (mut out, mut err) = (Vec::new(alloc), Vec::new(alloc));
     let mut script = TOO_WIDE.as_bytes();
     let ending = run(alloc, &words, &mut script, &mut out, &mut err);
@@ -183,7 +176,7 @@ fn an_ending_says_whether_its_fault_is_told(
     let mut fact = Fact::new(report, "an ending says whether its fault is told");
     for mode in MODES {
         for (rule, line) in [(Rule::Never, "line 2: bad\n"), (Rule::FromOn(0), "")] {
-            let words = vec![in alloc; String::from_str(alloc, mode)?]?;
+            let words = owned_row(alloc, &[mode])?;
             let (mut out, mut told) = (Vec::new(alloc), Vec::new(alloc));
             let mut err = FailingWriter::new(&mut told, rule);
             let mut script = "size 1 1\nwidth 5\n".as_bytes();
@@ -198,12 +191,11 @@ fn an_ending_says_whether_its_fault_is_told(
 
 /// All facts of this file.
 pub(crate) fn check_endings(alloc: Global, report: &mut Report) -> Result<(), CaseFault> {
-    anything_but_one_mode_is_wrong(alloc, report)?;
-    a_line_that_is_no_utf_8_is_bad(alloc, report)?;
-    short_reads_are_read_to_the_end(alloc, report)?;
-    a_reader_without_an_end_is_refused(alloc, report)?;
+    anything_but_one_mode_is_wrong(alloc, report);
+    a_line_that_is_no_utf_8_is_bad(alloc, report);
+    short_reads_are_read_to_the_end(alloc, report);
+    a_reader_without_an_end_is_refused(alloc, report);
     unread_arguments_end_the_run(alloc, report);
     each_fault_keeps_its_status_where_it_is_not_told(alloc, report)?;
-    an_ending_says_whether_its_fault_is_told(alloc, report)?;
-    Ok(())
+    Ok(an_ending_says_whether_its_fault_is_told(alloc, report)?)
 }

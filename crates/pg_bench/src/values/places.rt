@@ -29,12 +29,13 @@ fn check_found(fact: &mut Fact<'_>, places: &Places<Position, u8>) {
     fact.same(places.iter().count(), 3);
     fact.same(places.get(TWICE).copied(), Some(4));
     fact.same(places.get(at(0, 6)).copied(), None);
-    fact.same(places.last_up_to(at(0, 6)).map(|entry| *entry.1), None);
-    fact.same(places.last_up_to(at(1, 4)).map(|entry| *entry.1), Some(3));
-    fact.same(places.last_before(at(1, 1)).map(|entry| *entry.1), Some(4));
-    fact.same(places.last_before(TWICE).map(|entry| *entry.1), None);
-    fact.same(places.next_from(at(1, 1)).map(|entry| *entry.1), Some(3));
-    fact.same(places.next_from(at(1, 6)).map(|entry| *entry.1), None);
+    let (three, four) = (3u8, 4u8);
+    fact.same(places.last_up_to(at(0, 6)), None);
+    fact.same(places.last_up_to(at(1, 4)), Some((at(1, 1), &three)));
+    fact.same(places.last_before(at(1, 1)), Some((TWICE, &four)));
+    fact.same(places.last_before(TWICE), None);
+    fact.same(places.next_from(at(1, 1)), Some((at(1, 1), &three)));
+    fact.same(places.next_from(at(1, 6)), None);
     fact.same(places.first_key_from(at(1, 0)), Some(at(1, 1)));
     fact.same(places.first_key_from(at(2, 0)), None);
 }
