@@ -63,16 +63,27 @@ impl Subject {
                 let checked = check_values(alloc, report);
                 report.take(0, "values", checked);
             }
-            Subject::Settings => {
-                let memory = Refusing::only(alloc, u64::MAX);
-                follow_all(&mut SettingsCase::new(alloc, &memory), lines, report);
-            }
+            Subject::Settings => follow_settings(alloc, lines, report),
             Subject::Texts => follow_all(&mut TextCase::new(alloc), lines, report),
-            Subject::Tables => follow_all(&mut TableCase::new(alloc), lines, report),
+            Subject::Tables => follow_tables(alloc, lines, report),
             Subject::Streams => follow_all(&mut StreamCase::new(alloc), lines, report),
             Subject::Scripts => follow_all(&mut ScriptCase::new(alloc), lines, report),
         }
     }
+}
+
+// Follows the lines on configurations, whose memory is refused now and then.
+fn follow_settings(alloc: Global, lines: &[NumberedLine], report: &mut Report) {
+    let memory = Refusing::only(alloc, u64::MAX);
+    let mut case = SettingsCase::new(alloc, &memory);
+    follow_all(&mut case, lines, report);
+}
+
+// Follows the lines on tables in memory.
+fn follow_tables(alloc: Global, lines: &[NumberedLine], report: &mut Report) {
+    let mut case = TableCase::new(alloc);
+    follow_all(&mut case, lines, report);
+    drop(case);
 }
 
 /// The lines on a subject.
