@@ -2,7 +2,7 @@
 
 use crate::fault::CaseFault;
 use crate::numbers::number_of;
-use pg_fit::{Breaking, cut, visible, wrap};
+use pg_fit::{Breaking, cut, cut_front, cut_middle, visible, without_escapes, wrap};
 use pg_testing::refusing::Refusing;
 use pg_testing::trial::{Outcome, Trial};
 use std::alloc::{AllocError, Allocator, Global};
@@ -14,8 +14,14 @@ pub(crate) enum FitCall<'a> {
     Wrap(usize, Breaking),
     /// `cut` at a width, with a tail.
     Cut(usize, &'a str),
+    /// `cut_front` at a width, with a tail.
+    CutFront(usize, &'a str),
+    /// `cut_middle` at a width, with a tail.
+    CutMiddle(usize, &'a str),
     /// `visible`.
     Visible,
+    /// `without_escapes`.
+    WithoutEscapes,
 }
 
 /// The modes of breaking by their names.
@@ -34,7 +40,10 @@ impl<'a> FitCall<'a> {
         match word {
             "wrap" => Ok(FitCall::Wrap(number_of(width)?, breaking_of(how)?)),
             "cut" => Ok(FitCall::Cut(number_of(width)?, how)),
+            "cut_front" => Ok(FitCall::CutFront(number_of(width)?, how)),
+            "cut_middle" => Ok(FitCall::CutMiddle(number_of(width)?, how)),
             "visible" if rest.is_empty() => Ok(FitCall::Visible),
+            "without_escapes" if rest.is_empty() => Ok(FitCall::WithoutEscapes),
             _ => Err(CaseFault::Unknown),
         }
     }
@@ -44,16 +53,26 @@ impl<'a> FitCall<'a> {
         match self {
             FitCall::Wrap(_, _) => "wrap",
             FitCall::Cut(_, _) => "cut",
+            FitCall::CutFront(_, _) => "cut_front",
+            FitCall::CutMiddle(_, _) => "cut_middle",
             FitCall::Visible => "visible",
+            FitCall::WithoutEscapes => "without_escapes",
         }
     }
 
     /// What becomes of a text.
-    pub(crate) fn made<A: Allocator>(self, alloc: A, text: &str) -> Result<String<A>, AllocError> {
+    pub(crate) fn made<A: Allocator + Copy>(
+        self,
+        alloc: A,
+        text: &str,
+    ) -> Result<String<A>, AllocError> {
         match self {
             FitCall::Wrap(width, breaking) => wrap(alloc, text, width, breaking),
             FitCall::Cut(width, tail) => cut(alloc, text, width, tail),
+            FitCall::CutFront(width, tail) => cut_front(alloc, text, width, tail),
+            FitCall::CutMiddle(width, tail) => cut_middle(alloc, text, width, tail),
             FitCall::Visible => visible(alloc, text),
+            FitCall::WithoutEscapes => without_escapes(alloc, text),
         }
     }
 }
