@@ -75,8 +75,8 @@ fn ending_of<W: Write>(answer: Result<(), RunFault>, request: &Request, err: &mu
 /// Shows the table of the rows that are requested of `input`, or reports why there is none: for a
 /// database the rows of its query, else those that the bytes hold.
 ///
-/// At once, all of `input` is read, or as much as the first rows need, and what is wrong with them or their table is
-/// reported, before anything is written.
+/// At once, `input` is read to its end, to its first bad row, or as far as the first rows need, and what is wrong with
+/// the rows or their table is reported, before anything is written.
 /// Then each row is written to `out` when it is drawn, so no text of the table is kept. If memory is refused or a
 /// write fails meanwhile, a beginning of the text has been written.
 ///
