@@ -12,7 +12,7 @@ ghost use Rattle.pg_config.specs.Overrides.{HasColumns, no_lines, behind, on_lin
 use crate::line_glyphs::{LinePlace, put_over};
 use crate::noted_places::NotedPlaces;
 use crate::offsets::GlyphPlace;
-use pg_layout::{Border, ColumnPlace, HorizontalLine, Places, Position};
+use pg_layout::{Border, ColumnPlace, HorizontalLine, Key, Places, Position};
 use std::alloc::{AllocError, Allocator, Global};
 use std::marker::Model;
 
@@ -102,27 +102,77 @@ impl<G: Drop, A: Allocator + Clone> Lines<G, A> {
         ensures before { self.new.before ≡ self.old.before }
         ensures nothing { border ≡ no_border → IsOk result }
     {
-        let row = pos.row;
         let at_bottom_left = Position {
             row: below,
             col: pos.col,
         };
-        let at_top_right = Position { row, col: right };
+        let at_top_right = Position {
+            row: pos.row,
+            col: right,
+        };
         let at_bottom_right = Position {
             row: below,
             col: right,
         };
-        self.horizontals.put(pos, border.top)?;
-        self.horizontals.put(at_bottom_left, border.bottom)?;
-        self.verticals.put(ColumnPlace::of(pos), border.left)?;
-        self.verticals
-            .put(ColumnPlace::of(at_top_right), border.right)?;
+        // By pairs: each `?` drops what is left of the border.
+        let (at_left, at_right) = (ColumnPlace::of(pos), ColumnPlace::of(at_top_right));
+        put_two(
+            &mut self.horizontals,
+            (pos, border.top),
+            (at_bottom_left, border.bottom),
+        )?;
+        put_two(
+            &mut self.verticals,
+            (at_left, border.left),
+            (at_right, border.right),
+        )?;
         let (crossings, columns) = (&mut self.crossings, &mut self.columns);
-        put_crossing(crossings, columns, pos, border.top_left)?;
-        put_crossing(crossings, columns, at_top_right, border.top_right)?;
-        put_crossing(crossings, columns, at_bottom_left, border.bottom_left)?;
-        put_crossing(crossings, columns, at_bottom_right, border.bottom_right)
+        put_two_crossings(
+            crossings,
+            columns,
+            (pos, border.top_left),
+            (at_top_right, border.top_right),
+        )?;
+        put_two_crossings(
+            crossings,
+            columns,
+            (at_bottom_left, border.bottom_left),
+            (at_bottom_right, border.bottom_right),
+        )
     }
+}
+
+// Sets two places to these values, if there are any, or only the first one if memory is refused.
+fn put_two<K: Key, G: Drop, A: Allocator + Clone>(
+    places: &mut NotedPlaces<K, G, A>,
+    first: (K, Option<G>),
+    second: (K, Option<G>),
+) -> Result<(), AllocError>
+    ensures ok { OnOk result (places.new.now ≡ with_some K.order second.0 second.1 (with_some K.order first.0 first.1 places.old.now)) }
+    ensures before { places.new.before ≡ places.old.before }
+    ensures nothing { first.1 ≡ None → second.1 ≡ None → IsOk result }
+{
+    places.put(first.0, first.1)?;
+    places.put(second.0, second.1)
+}
+
+// Sets two crossings to these values, if there are any, and lists their columns, or does a part of that
+// if memory is refused.
+fn put_two_crossings<G: Drop, A: Allocator + Clone>(
+    crossings: &mut NotedPlaces<Position, G, A>,
+    columns: &mut NotedPlaces<usize, (), A>,
+    first: (Position, Option<G>),
+    second: (Position, Option<G>),
+) -> Result<(), AllocError>
+    requires has_columns { HasColumns columns.old.now crossings.old.now }
+    ensures ok { OnOk result (crossings.new.now ≡ with_some by_place second.0 second.1 (with_some by_place first.0 first.1 crossings.old.now)) }
+    ensures has_columns { OnOk result (HasColumns columns.new.now crossings.new.now) }
+    ensures before { crossings.new.before ≡ crossings.old.before }
+    ensures before_columns { columns.new.before ≡ columns.old.before }
+    ensures nothing { first.1 ≡ None → second.1 ≡ None → IsOk result }
+{
+    put_crossing(crossings, columns, first.0, first.1)?;
+    put_crossing(crossings, columns, second.0, second.1)
 }
 
 fn on_lines<G: Drop>(pos: Position, border: Border<G>) -> Border<G>

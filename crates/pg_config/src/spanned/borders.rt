@@ -9,6 +9,7 @@ ghost use Rattle.pg_config.specs.Config.{get_intersection, get_horizontal_color,
 ghost use Rattle.pg_config.specs.Common.{inner_vertical};
 
 use crate::spanned::SpannedConfig;
+use crate::spanned::colors::set;
 use pg_layout::{ANSIBuf, Border, Borders, HorizontalLine, Position};
 use std::alloc::{AllocError, Allocator};
 
@@ -240,7 +241,7 @@ impl<A: Allocator> SpannedConfig<A> {
     pub fn set_borders_color(&mut self, colors: Borders<ANSIBuf<A>>)
         ensures { self.new ≡ record self.old { border_colors = colors; border_colored = true } }
     {
-        self.border_colors = colors;
+        set(&mut self.border_colors, colors);
         self.border_colored = true;
     }
 
