@@ -11,9 +11,16 @@ use std::marker::Model;
 
 /// The cells that are open between two rows: each begins above and continues below, at its left
 /// column. So there is at most one for each column.
-#[derive(Drop)]
 pub struct OpenCells<S: AsStr, A: Allocator = Global> {
     slots: Vec<Option<OpenCell<S>>, A>,
+}
+
+// Written out, like those of what holds them, so that a caller's proof has one call when it drops them.
+impl<S: AsStr + Drop, A: Allocator> Drop for OpenCells<S, A> {
+    fn drop(self) {
+        let OpenCells { slots } = self;
+        drop(slots);
+    }
 }
 
 impl<S: AsStr, A: Allocator> Model for OpenCells<S, A> {

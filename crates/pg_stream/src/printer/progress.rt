@@ -27,13 +27,25 @@ use std::vec::IntoIter;
 /// What a row changes of a printer: the cells that continue below, the text of the separators above
 /// all rows but the first, if it is kept, how many rows and lines of the body are printed, and
 /// whether the last row is among them.
-#[derive(Drop)]
 pub(crate) struct Progress<'k, S: AsStr, A: Allocator = Global> {
     pub(crate) cells: OpenCells<S, A>,
     pub(crate) kept: SeparatorKeeper<'k>,
     pub(crate) rows: usize,
     pub(crate) lines: usize,
     pub(crate) is_ended: bool,
+}
+
+impl<'k, S: AsStr + Drop, A: Allocator> Drop for Progress<'k, S, A> {
+    fn drop(self) {
+        let Progress {
+            cells,
+            kept: _,
+            rows: _,
+            lines: _,
+            is_ended: _,
+        } = self;
+        drop(cells);
+    }
 }
 
 impl<S: AsStr + Drop, A: Allocator> Progress<'_, S, A> {

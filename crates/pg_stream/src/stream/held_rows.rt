@@ -19,10 +19,16 @@ use std::convert::AsStr;
 
 /// What a row changes of a stream: how far it has printed, and the row that is held until the next
 /// one comes.
-#[derive(Drop)]
 pub(crate) struct HeldRows<'k, S: AsStr, A: Allocator = Global, V: Allocator = Global> {
     pub(crate) progress: Progress<'k, S, A>,
     pub(crate) held: Option<Vec<S, V>>,
+}
+
+impl<'k, S: AsStr + Drop, A: Allocator, V: Allocator> Drop for HeldRows<'k, S, A, V> {
+    fn drop(self) {
+        let HeldRows { progress, held } = self;
+        drop((progress, held));
+    }
 }
 
 impl<S: AsStr + Drop, A: Allocator, V: Allocator> HeldRows<'_, S, A, V> {
@@ -82,9 +88,10 @@ impl<S: AsStr + Drop, A: Allocator, V: Allocator> HeldRows<'_, S, A, V> {
     fn with_room<'r>(self, room: &'r mut [u8]) -> HeldRows<'r, S, A, V>
         ensures { result ≡ record self.entry { progress = record self.entry.progress { kept = record { text = None; room = length room.old } } } }
     {
+        let HeldRows { progress, held } = self;
         HeldRows {
-            progress: self.progress.with_room(room),
-            held: self.held,
+            progress: progress.with_room(room),
+            held,
         }
     }
 
