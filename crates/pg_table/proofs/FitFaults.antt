@@ -27,6 +27,12 @@ handed-on (Err fault) told h = ap (λ (f : TableFault). Err f) h
 pub kept-parts : (e n : Bool) → (not e && n) ≡ true → (e ≡ false) × (n ≡ true)
 kept-parts e n h = (grind (arith, h), grind (arith, h))
 
+pub kept-from : (e n : Bool) → e ≡ false → n ≡ false → (not e && not n) ≡ true
+kept-from e n some kept = grind (arith, some, kept)
+
+pub no-cells : (e n : Bool) → e ≡ true → (not e && n) ≡ false
+no-cells e n empty = grind (arith, empty)
+
 pub unkept : (e n : Bool) → (not e && n) ≡ false → e ≡ false → n ≡ false
 unkept e n h some = grind (arith, h, some)
 

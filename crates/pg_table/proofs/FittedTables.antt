@@ -22,19 +22,8 @@ use Rattle.pg_table.proofs.FittedColumns.{same-listed, length-fitted}
 use Rattle.pg_table.proofs.FittedPlaces.{texts-are, table-is, table-narrow, columns-limited}
 use Rattle.pg_table.proofs.SpannedWidths.{width-is, full-is, rooms, sum-widths, width-limited, least-kept, full-kept}
 use Rattle.pg_table.proofs.Widenings.{sum-same}
+use Rattle.pg_table.proofs.RaisedWidths.{plain-table}
 use Rattle.pg_table.proofs.ToldRooms.{HaveRoom}
-
--- a table that keeps no spans is at its natural sizes, whatever widths are told
-pub plain-table : (ws : List ℕ) (config : Config) (texts : List (List Text)) (columns : ℕ) (color : Position → Option Color) → keeps_spans config texts columns ≡ false → table_from ws config texts columns color ≡ natural_table config texts columns color
-unfolding widths_from
-plain-table ws config texts columns color unkept =
-    let listed : widths_from ws config texts columns ≡ natural_sizes Columns config texts columns = rw unkept refl in
-    ap (λ (xs : List ℕ). record (natural_table config texts columns color) { width = λ k. slice_index_or xs k 0 }) listed
-
--- and its widths are these
-pub plain-widths_from : (ws : List ℕ) (config : Config) (texts : List (List Text)) (columns : ℕ) → keeps_spans config texts columns ≡ false → widths_from ws config texts columns ≡ natural_sizes Columns config texts columns
-unfolding widths_from
-plain-widths_from ws config texts columns unkept = rw unkept refl
 
 module _ (how : Overflow) (total : ℕ) (limits : List ℕ) (config : Config) (texts : List (List Text)) (columns : ℕ) where
   texts-kept : keeps_spans config texts columns ≡ true → fitted_texts how total limits config texts columns ≡ spanned_texts how (spanned_widths how total limits config texts columns) config texts columns

@@ -11,8 +11,8 @@ pub mod FittedColumns
 pub mod FittedPlaces
 pub mod FitFaults
 pub mod ToldRooms
-pub mod ToldTables
 pub mod RaisedWidths
+pub mod ToldTables
 pub mod SpannedWidths
 pub mod FittedTables
 pub mod Setters

@@ -349,18 +349,11 @@ natural_heights_show_all config texts columns width color =
       ]
     ]
 
--- ---- totals at natural sizes: where they fit, so do all shown cells; and those of the listed sizes are those of the table
+-- ---- totals at natural sizes: where they fit, so do all shown cells
 
 module _ (config : Config) (texts : List (List Text)) (columns : ℕ) (color : Position → Option Color) where
   abbrev measured : Table
   measured = natural_table config texts columns color
-
-  pub listed-totals : (widths heights : List ℕ) → widths ≡ natural_sizes Columns config texts columns → heights ≡ natural_sizes Rows config texts columns
-      → totals_fit (sized config (λ c. slice_index_or widths c 0) (λ r. slice_index_or heights r 0) (length texts) columns) ≡ totals_fit measured
-  listed-totals widths heights wide high =
-      ap (λ (xs : List ℕ). totals_fit (sized config (λ c. slice_index_or xs c 0) (λ r. slice_index_or heights r 0) (length texts) columns)) wide
-      ∙ ap (λ (xs : List ℕ). totals_fit (sized config measured.width (λ r. slice_index_or xs r 0) (length texts) columns)) high
-      ∙ totals_fit-sized measured
 
   module _ (fit : spans_fit config.spans (length texts) columns ≡ true) where
     corner-sized : (p : Position) → IsCorner config.spans p → totals_fit measured ≡ true → p.row < length texts → p.col < columns → is_sized config (text_at texts) p ≡ true

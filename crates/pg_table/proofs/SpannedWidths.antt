@@ -365,7 +365,7 @@ module _ (how : Overflow) (ws : List ℕ) (config : Config) (texts : List (List 
       kept-fitted = ap (λ n. not ((n == 0) || (columns == 0)) && not (length config.spans == 0)) length-fitted ∙ kept
 
       pub width-is : (k : ℕ) → k < columns → table.width k ≡ slice_index ws k
-      width-is k h = width-at ws config fitted columns color kept-fitted k h ∙ widths-stay k h
+      width-is k h = width-at ws config fitted columns color kept-fitted (ap (λ n. spans_fit config.spans n columns) length-fitted ∙ fit) k h ∙ widths-stay k h
 
       pub full-is : full_width table ≡ sum_by (slice_index ws) (range_with_len 0 columns) + beside_columns config columns
       unfolding full_width total_width

@@ -119,25 +119,25 @@ abbrev pub sizes_fault_fitted : {R C B A : Type 0} → (R → List (List Text)) 
 sizes_fault_fitted texts columns t = sizes_fault t.config.now (overlaid texts columns t.records) (columns t.records.records)
 
 -- the table of lent parts, fitted
-abbrev pub fitted_of : {R C : Type 0} → Overflow → ℕ → List ℕ → (R → List (List Text)) → (R → ℕ) → (C → Position → Option Color) → R × Config × C → PrintedTable
-fitted_of how total limits texts columns color (records, config, colors) = fitted_table how total limits config (texts records) (columns records) (color colors)
+abbrev pub fitted_of : {R C : Type 0} → Overflow → ℕ → List ℕ → (R → List (List Text)) → (R → ℕ) → (C → Position → Option Color) → R × Config × C × List ℕ → PrintedTable
+fitted_of how total limits texts columns color (records, config, colors, told) = fitted_table how total limits config (texts records) (columns records) (color colors)
 
 -- why it isn't fitted, and the width of a line whose columns are as narrow as they can be
-abbrev pub fit_fault_of : {R C : Type 0} → (R → List (List Text)) → (R → ℕ) → R × Config × C → Option TableFault
-fit_fault_of texts columns (records, config, colors) = fit_fault config (texts records) (columns records)
+abbrev pub fit_fault_of : {R C : Type 0} → (R → List (List Text)) → (R → ℕ) → R × Config × C × List ℕ → Option TableFault
+fit_fault_of texts columns (records, config, colors, told) = fit_fault config (texts records) (columns records)
 
 -- whether nothing is too wide
-abbrev pub IsNarrowOf : {R C : Type 0} → ℕ → List ℕ → (R → List (List Text)) → (R → ℕ) → R × Config × C → Type 0
-IsNarrowOf total limits texts columns (records, config, colors) = IsNarrow total limits config (texts records) (columns records)
+abbrev pub IsNarrowOf : {R C : Type 0} → ℕ → List ℕ → (R → List (List Text)) → (R → ℕ) → R × Config × C × List ℕ → Type 0
+IsNarrowOf total limits texts columns (records, config, colors, told) = IsNarrow total limits config (texts records) (columns records)
 
-abbrev pub least_at : {R C : Type 0} → Overflow → (R → List (List Text)) → (R → ℕ) → R × Config × C → ℕ → ℕ
-least_at how texts columns (records, config, colors) k = least_width_at how config (texts records) (columns records) k
+abbrev pub least_at : {R C : Type 0} → Overflow → (R → List (List Text)) → (R → ℕ) → R × Config × C × List ℕ → ℕ → ℕ
+least_at how texts columns (records, config, colors, told) k = least_width_at how config (texts records) (columns records) k
 
-abbrev pub least_width_of : {R C : Type 0} → Overflow → (R → List (List Text)) → (R → ℕ) → R × Config × C → ℕ
-least_width_of how texts columns (records, config, colors) = least_full_width how config (texts records) (columns records)
+abbrev pub least_width_of : {R C : Type 0} → Overflow → (R → List (List Text)) → (R → ℕ) → R × Config × C × List ℕ → ℕ
+least_width_of how texts columns (records, config, colors, told) = least_full_width how config (texts records) (columns records)
 
-abbrev pub least_fault_of : {R C : Type 0} → Overflow → (R → List (List Text)) → (R → ℕ) → R × Config × C → Option TableFault
-least_fault_of how texts columns (records, config, colors) = least_fault how config (texts records) (columns records)
+abbrev pub least_fault_of : {R C : Type 0} → Overflow → (R → List (List Text)) → (R → ℕ) → R × Config × C × List ℕ → Option TableFault
+least_fault_of how texts columns (records, config, colors, told) = least_fault how config (texts records) (columns records)
 
 -- the same of a table with rows of its own, by the texts of its cells; and what it draws, fitted, over these rows
 abbrev pub fitted_rows : {T : Type 0} → Overflow → ℕ → List ℕ → (T → Text) → Parts T → PrintedTable

@@ -13,6 +13,7 @@ use Rattle.pg_picture.specs.Fits.{spans_fit, totals_fit}
 use Rattle.pg_picture.specs.Table.{Table as PrintedTable, is_empty}
 use Rattle.pg_picture.specs.Appending.{AppendsOrNothing}
 use Rattle.pg_table.specs.Natural.{natural_sizes, natural_table, all_fit, cells_fit}
+use Rattle.pg_table.specs.Spanning.{widths_from, table_from}
 use Rattle.pg_table.specs.declared.fault.TableFault.{TableFault}
 use Rattle.pg_table.specs.declared.fault.TableFault.TheVariants.{Spans, Totals, Memory}
 use Rattle.pg_table.specs.declared.natural.NaturalTable.{NaturalTable}
@@ -55,21 +56,22 @@ sizes_fault config texts columns =
 
 -- ---- tables
 
--- what a lending table is made of: its records, its configuration and its colours
-abbrev pub natural_parts : {R C B : Type 0} → NaturalTable R C B → R × Config × C
-natural_parts t = (t.records, t.config.now, t.colors.now)
+-- what a lending table is made of: its records, its configuration, its colours, and how wide its columns are at least where spans are kept
+abbrev pub natural_parts : {R C B : Type 0} → NaturalTable R C B → R × Config × C × List ℕ
+natural_parts t = (t.records, t.config.now, t.colors.now, t.widths.now)
 
 -- the table that it draws, by what its records and its colours tell
-abbrev pub printed_table_of : {R C : Type 0} → (R → List (List Text)) → (R → ℕ) → (C → Position → Option Color) → R × Config × C → PrintedTable
-printed_table_of texts columns color (records, config, colors) = natural_table config (texts records) (columns records) (color colors)
+abbrev pub printed_table_of : {R C : Type 0} → (R → List (List Text)) → (R → ℕ) → (C → Position → Option Color) → R × Config × C × List ℕ → PrintedTable
+printed_table_of texts columns color (records, config, colors, told) = table_from told config (texts records) (columns records) (color colors)
 
--- its natural sizes, by what its records tell
-abbrev pub sizes_of : {R C : Type 0} → (R → List (List Text)) → (R → ℕ) → Axis → R × Config × C → List ℕ
-sizes_of texts columns axis (records, config, colors) = natural_sizes axis config (texts records) (columns records)
+-- its sizes, by what its records tell
+abbrev pub sizes_of : {R C : Type 0} → (R → List (List Text)) → (R → ℕ) → Axis → R × Config × C × List ℕ → List ℕ
+sizes_of texts columns Columns (records, config, colors, told) = widths_from told config (texts records) (columns records)
+sizes_of texts columns Rows (records, config, colors, told) = natural_sizes Rows config (texts records) (columns records)
 
 -- and why they aren't told
-abbrev pub sizes_fault_of : {R C : Type 0} → (R → List (List Text)) → (R → ℕ) → R × Config × C → Option TableFault
-sizes_fault_of texts columns (records, config, colors) = sizes_fault config (texts records) (columns records)
+abbrev pub sizes_fault_of : {R C : Type 0} → (R → List (List Text)) → (R → ℕ) → R × Config × C × List ℕ → Option TableFault
+sizes_fault_of texts columns (records, config, colors, told) = sizes_fault config (texts records) (columns records)
 
 -- what a table with rows of its own is made of
 pub record Parts (T : Type 0) : Type 0 where

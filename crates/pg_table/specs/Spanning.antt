@@ -1,5 +1,5 @@
 -- A table that keeps spans, within a width: texts are fitted to all columns of their cells, and columns are at least as wide as they are told.
-use Rattle.std.specs.Prelude.{ℕ, ◌+◌, ◌-◌, ◌==◌, ◌&&◌, ◌||◌, Bool, not, nat_le, max, List, map, length, sum_by, count_by, slice_index, slice_index_or, Option, if◌then◌else◌}
+use Rattle.std.specs.Prelude.{ℕ, ◌+◌, ◌-◌, ◌==◌, ◌&&◌, ◌||◌, Bool, not, nat_le, max, List, [], ◌∷◌, map, length, sum_by, count_by, slice_index, slice_index_or, Option, if◌then◌else◌}
 use Rattle.std.specs.List.{range_with_len, list_all}
 use Rattle.pg_layout.specs.declared.position.Position.{Position}
 use Rattle.pg_layout.specs.Colors.{Color}
@@ -42,10 +42,11 @@ module _ (config : Config) (rows columns : ℕ) (size : Position → ℕ) where
   unfoldable pub width_for : (ℕ → ℕ) → ℕ → ℕ
   width_for told k = widened (λ c. max (told c) (singles_width c)) (map room_needed config.spans) columns k
 
--- the widths of the columns of a table that keeps spans, each at least as wide as it is told; of any other table the natural ones
-unfoldable pub widths_from : List ℕ → Config → List (List Text) → ℕ → List ℕ
-widths_from told config texts columns =
-    if keeps_spans config texts columns then map (width_for config (length texts) columns (cell_size Columns config (text_at texts)) (slice_index told)) (range_with_len 0 columns)
+-- the widths of the columns of a table that keeps spans, each at least as wide as it is told; of any other table, or where nothing is told, the natural ones
+abbrev pub widths_from : List ℕ → Config → List (List Text) → ℕ → List ℕ
+widths_from [] config texts columns = natural_sizes Columns config texts columns
+widths_from (first ∷ told) config texts columns =
+    if keeps_spans config texts columns then map (width_for config (length texts) columns (cell_size Columns config (text_at texts)) (slice_index (first ∷ told))) (range_with_len 0 columns)
     else natural_sizes Columns config texts columns
 
 -- the table of these texts at these widths, and its natural heights

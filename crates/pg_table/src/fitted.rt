@@ -5,7 +5,6 @@ use crate::fault::TableFault;
 use crate::natural::NaturalTable;
 use crate::overflow::{Overflow, Within};
 use crate::sizes::plus;
-use crate::told::ToldTable;
 use pg_config::SpannedConfig;
 use pg_fit::OverlaidRecords;
 use pg_layout::{Colors, ConstantDimension, ExactRecords, PeekableRecords};
@@ -224,37 +223,24 @@ where
     ghost use Rattle.pg_picture.specs.Table.{Known, is_empty};
     ghost use Rattle.pg_fit.specs.Overlaid.{overlaid};
     ghost use Rattle.pg_table.specs.Fitted.{printed_fitted_table, sizes_fitted, sizes_fault_fitted};
-    ghost use Rattle.pg_table.specs.Spanning.{keeps_spans};
     ghost use Rattle.pg_table.specs.Even.{IsEven, IsEvenText, IsNarrowLook};
     ghost use Rattle.pg_table.specs.Printing.{fault_of, is_spanned, CanFail, Prints};
     ghost use Rattle.pg_table.specs.declared.sizes.Axis.TheVariants.{Columns, Rows};
 
-    // The table over the records with their fitted texts.
+    // The table over the records with their fitted texts, at least as wide as its columns were
+    // narrowed to if it keeps spans.
     fn natural(&self) -> NaturalTable<'_, &OverlaidRecords<R, A>, C, B>
         ensures records { result.records.now ≡ self.now.records }
         ensures config { result.config.now ≡ self.now.config.now }
         ensures colors { result.colors.now ≡ self.now.colors.now }
-    {
-        NaturalTable::new(&self.records, self.config, self.colors)
-    }
-
-    // The table whose columns have at least the narrowed widths.
-    fn told(&self) -> ToldTable<'_, &OverlaidRecords<R, A>, C, B>
-        ensures records { result.table.records.now ≡ self.now.records }
-        ensures config { result.table.config.now ≡ self.now.config.now }
-        ensures colors { result.table.colors.now ≡ self.now.colors.now }
         ensures widths { result.widths.now ≡ self.now.widths.items }
     {
-        ToldTable {
-            table: self.natural(),
+        NaturalTable {
+            records: &self.records,
+            config: self.config,
+            colors: self.colors,
             widths: &self.widths,
         }
-    }
-
-    fn keeps_spans(&self) -> bool
-        ensures { result ≡ keeps_spans self.now.config.now (overlaid R.texts R.columns self.now.records) (R.columns self.now.records.records) }
-    {
-        self.natural().keeps_spans()
     }
 
     /// The widths of the columns and the heights of the rows with the fitted texts, in terminal
@@ -268,9 +254,6 @@ where
         ensures widths { IfOk result (λ d. d.0.items ≡ sizes_fitted R.texts R.columns Columns self.now) }
         ensures heights { IfOk result (λ d. d.1.items ≡ sizes_fitted R.texts R.columns Rows self.now) }
     {
-        if self.keeps_spans() {
-            return self.told().natural_dimension(alloc);
-        }
         self.natural().natural_dimension(alloc)
     }
 
@@ -280,9 +263,6 @@ where
         ensures fault { (fault : TableFault) → result ≡ Err fault → CanFail (printed_fitted_table R.texts R.columns C.color self.now) fault }
         ensures empty { is_empty (printed_fitted_table R.texts R.columns C.color self.now) ≡ true → IsOk result }
     {
-        if self.keeps_spans() {
-            return self.told().fits(alloc);
-        }
         self.natural().fits(alloc)
     }
 
@@ -301,9 +281,6 @@ where
         ensures straight { IsOk result → IsStraight (printed_fitted_table R.texts R.columns C.color self.now) }
         ensures even { IsOk result → IsEven (printed_fitted_table R.texts R.columns C.color self.now) }
     {
-        if self.keeps_spans() {
-            return self.told().print(alloc, buf);
-        }
         self.natural().print(alloc, buf)
     }
 

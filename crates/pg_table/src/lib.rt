@@ -13,7 +13,6 @@ mod overflow;
 mod sizes;
 mod spanning;
 mod table;
-mod told;
 
 pub use crate::fault::TableFault;
 pub use crate::fitted::FittedTable;

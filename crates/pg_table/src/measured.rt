@@ -10,7 +10,7 @@ ghost use Rattle.pg_picture.specs.Sizes.{if_fits};
 ghost use Rattle.pg_table.specs.Natural.{all_fit, text_size, cell_size, single_size, is_single, is_sized, cells_fit, size_of_singles, need_of, natural_sizes};
 ghost use Rattle.pg_table.specs.Inside.Sizes.{count_of, cells_of};
 ghost use Rattle.pg_table.specs.Inside.Measuring.{most, IsHuge, HasHugeIn, HasHuge, high, wide, with_room};
-ghost use Rattle.pg_table.specs.Spanning.{keeps_spans, widths_from};
+ghost use Rattle.pg_table.specs.Spanning.{widths_from};
 ghost use Rattle.pg_table.specs.declared.sizes.Axis.TheVariants.{Columns, Rows};
 
 use crate::needs::{Need, widened};
@@ -275,51 +275,29 @@ impl<'a, R: PeekableRecords + ExactRecords, B: Allocator> NaturalSizes<'a, R, B>
         }
     }
 
-    /// The natural sizes of a table with cells whose spans fit; `None` if the width or the height
-    /// of a shown cell exceeds `usize::MAX`. Each text is read once.
+    /// The natural sizes of a table with cells whose spans fit, with columns that are at least so
+    /// wide if it keeps spans; `None` if the width or the height of a shown cell exceeds
+    /// `usize::MAX`. Each text is read once.
     pub(crate) fn measured<A: Allocator + Copy>(
-        &self,
-        alloc: A,
-    ) -> Result<Option<ConstantDimension<A>>, AllocError>
-        requires rows { 0 < length (R.texts self.now.records) }
-        requires columns { 0 < R.columns self.now.records }
-        requires fit { spans_fit self.now.config.now.spans (length (R.texts self.now.records)) (R.columns self.now.records) ≡ true }
-        ensures widths { IfOk result (λ o. IfSome o (λ d. d.0.items ≡ natural_sizes Columns self.now.config.now (R.texts self.now.records) (R.columns self.now.records))) }
-        ensures heights { IfOk result (λ o. IfSome o (λ d. d.1.items ≡ natural_sizes Rows self.now.config.now (R.texts self.now.records) (R.columns self.now.records))) }
-        ensures sized { IfOk result (λ o. is_some o ≡ cells_fit self.now.config.now (text_at (R.texts self.now.records)) (length (R.texts self.now.records)) (R.columns self.now.records)) }
-    {
-        match self.singles(alloc)? {
-            Some(singles) => {
-                both_are_numbers(&singles);
-                if self.config.spans().is_empty() {
-                    return Ok(Some(singles));
-                }
-                self.with_spans(alloc, singles)
-            }
-            None => Ok(None),
-        }
-    }
-
-    /// The natural sizes of a table that keeps spans, with columns that are at least so wide; None as
-    /// by [`NaturalSizes::measured`].
-    pub(crate) fn measured_from<A: Allocator + Copy>(
         &self,
         alloc: A,
         least: &[usize],
     ) -> Result<Option<ConstantDimension<A>>, AllocError>
-        requires kept { keeps_spans self.now.config.now (R.texts self.now.records) (R.columns self.now.records) ≡ true }
+        requires rows { 0 < length (R.texts self.now.records) }
+        requires columns { 0 < R.columns self.now.records }
         requires fit { spans_fit self.now.config.now.spans (length (R.texts self.now.records)) (R.columns self.now.records) ≡ true }
         ensures widths { IfOk result (λ o. IfSome o (λ d. d.0.items ≡ widths_from least.now self.now.config.now (R.texts self.now.records) (R.columns self.now.records))) }
         ensures heights { IfOk result (λ o. IfSome o (λ d. d.1.items ≡ natural_sizes Rows self.now.config.now (R.texts self.now.records) (R.columns self.now.records))) }
         ensures sized { IfOk result (λ o. is_some o ≡ cells_fit self.now.config.now (text_at (R.texts self.now.records)) (length (R.texts self.now.records)) (R.columns self.now.records)) }
     {
-        // Shows that the spans are in order.
-        let _spans = self.config.spans();
         match self.singles(alloc)? {
-            Some(mut sizes) => {
-                both_are_numbers(&sizes);
-                raise(&mut sizes.0, least);
-                self.with_spans(alloc, sizes)
+            Some(mut singles) => {
+                both_are_numbers(&singles);
+                if self.config.spans().is_empty() {
+                    return Ok(Some(singles));
+                }
+                raise(&mut singles.0, least);
+                self.with_spans(alloc, singles)
             }
             None => Ok(None),
         }

@@ -1,6 +1,6 @@
 //! A table at its natural sizes, over lent records, settings and colours.
 
-ghost use Rattle.std.specs.Prelude.{◌≡◌};
+ghost use Rattle.std.specs.Prelude.{◌≡◌, []};
 ghost use Rattle.pg_table.specs.Printing.{natural_parts};
 
 use crate::fault::TableFault;
@@ -24,18 +24,21 @@ pub struct NaturalTable<'a, R, C, B: Allocator = Global> {
     pub(crate) records: R,
     pub(crate) config: &'a SpannedConfig<B>,
     pub(crate) colors: &'a C,
+    // The least widths of the columns of a fitted table that keeps spans; else none.
+    pub(crate) widths: &'a [usize],
 }
 
 impl<'a, R, C, B: Allocator> NaturalTable<'a, R, C, B> {
     /// The table of these records, which may be a reference, with the settings of this
     /// configuration and these colours. Allocates nothing.
     pub fn new(records: R, config: &'a SpannedConfig<B>, colors: &'a C) -> NaturalTable<'a, R, C, B>
-        ensures { natural_parts result ≡ (records, config.now, colors.now) }
+        ensures { natural_parts result ≡ (records, config.now, colors.now, []) }
     {
         NaturalTable {
             records,
             config,
             colors,
+            widths: &[],
         }
     }
 }
@@ -81,7 +84,7 @@ where
         if !self.spans_fit() {
             return Err(TableFault::Spans);
         }
-        match self.sizes().measured(alloc) {
+        match self.sizes().measured(alloc, self.widths) {
             Ok(Some(dimension)) => Ok(dimension),
             Ok(None) => Err(TableFault::Totals),
             Err(_) => Err(self.sizes_fault().unwrap_or(TableFault::Memory)),
@@ -199,7 +202,7 @@ where
         if !self.spans_fit() {
             return Err(TableFault::Spans);
         }
-        match self.sizes().measured(alloc) {
+        match self.sizes().measured(alloc, self.widths) {
             Ok(Some(dimension)) => {
                 if self.totals_fit_at(&dimension) {
                     Ok(dimension)

@@ -1,6 +1,6 @@
 //! Tables that keep spans, within a width: texts are fitted to all columns of their cells.
 
-ghost use Rattle.std.specs.Prelude.{◌≡◌, ℕ, ◌+◌, ◌^◌, ◌-◌, ◌<◌, ◌≤◌, min, true, false, nat_lt, is_some, None, IfOk, IfSome, OnOk, [], length, map, slice_index, if◌then◌else◌};
+ghost use Rattle.std.specs.Prelude.{◌≡◌, ◌⊎◌, ℕ, ◌+◌, ◌^◌, ◌-◌, ◌<◌, ◌≤◌, min, true, false, nat_lt, is_some, Some, None, Err, IfOk, IsOk, IfSome, OnOk, [], length, map, slice_index, if◌then◌else◌};
 ghost use Rattle.std.specs.List.{range_with_len, list_all};
 ghost use Rattle.pg_fit.specs.Overlaid.{other_text};
 ghost use Rattle.pg_fit.specs.Narrowing.{limited};
@@ -12,20 +12,25 @@ ghost use Rattle.pg_config.specs.Spans.{corner, is_visible};
 ghost use Rattle.pg_picture.specs.Fits.{spans_fit, span_fits};
 ghost use Rattle.pg_picture.specs.Sizes.{if_fits};
 ghost use Rattle.pg_table.specs.Natural.{is_single, natural_sizes, cells_fit};
+ghost use Rattle.pg_table.specs.Fitted.{fit_fault_of, least_fault_of, least_width_of};
 ghost use Rattle.pg_table.specs.Overflowing.{limit_of};
-ghost use Rattle.pg_table.specs.Spanning.{singles_width, room_needed, least_cell_width, spanned_least_width, are_within, spanned_widths, cell_room, spanned_text};
-ghost use Rattle.pg_table.specs.Inside.Fitting.{IsHugeLeast, HasHugeLeast, HasRoomTogether, AreFittedTo};
+ghost use Rattle.pg_table.specs.Printing.{natural_parts};
+ghost use Rattle.pg_table.specs.Spanning.{keeps_spans, singles_width, room_needed, least_cell_width, spanned_least_width, are_within, spanned_widths, cell_room, spanned_text};
+ghost use Rattle.pg_table.specs.Inside.Fitting.{IsHugeLeast, HasHugeLeast, HasRoomTogether, AreFittedTo, AreFittedTogether};
 ghost use Rattle.pg_table.specs.declared.sizes.Axis.TheVariants.{Columns};
 
+use crate::fault::TableFault;
 use crate::narrowing::{limit_of, room_of};
+use crate::natural::NaturalTable;
 use crate::needs::{Need, widened};
 use crate::overflow::{Overflow, Within};
 use crate::sizes::{Axis, NaturalSizes};
 use pg_config::{Span, SpannedConfig};
 use pg_fit::{ColumnRange, OverlaidRecords, narrow};
-use pg_layout::{ConstantDimension, ExactRecords, PeekableRecords, Position};
-use pg_picture::fits::rect_width;
+use pg_layout::{Colors, ConstantDimension, ExactRecords, PeekableRecords, Position};
+use pg_picture::fits::{full_width, rect_width};
 use std::alloc::{AllocError, Allocator};
+use std::mem;
 
 fn are_within<B: Allocator>(
     config: &SpannedConfig<B>,
@@ -311,5 +316,67 @@ impl<'a, R: PeekableRecords + ExactRecords, B: Allocator> NaturalSizes<'a, R, B>
             self.fit_row(alloc, how, widths, row, fitted)?;
         }
         Ok(())
+    }
+}
+
+impl<'a, R, C, B> NaturalTable<'a, R, C, B>
+where
+    R: PeekableRecords + ExactRecords + Copy,
+    C: Colors,
+    B: Allocator,
+{
+    /// The least width of a line of a table with spans.
+    pub(crate) fn spanned_least_width<A: Allocator + Copy>(
+        &self,
+        alloc: A,
+        how: Overflow,
+    ) -> Result<usize, TableFault>
+        requires { keeps_spans self.now.config.now (R.texts self.now.records) (R.columns self.now.records) ≡ true }
+        ensures width { IfOk result (λ width. width ≡ least_width_of how.entry R.texts R.columns (natural_parts self.now)) }
+        ensures ok { IsOk result → least_fault_of how.entry R.texts R.columns (natural_parts self.now) ≡ None }
+        ensures spans { least_fault_of how.entry R.texts R.columns (natural_parts self.now) ≡ Some TableFault.Spans → result ≡ Err TableFault.Spans }
+        ensures fault { (fault : TableFault) → result ≡ Err fault → (least_fault_of how.entry R.texts R.columns (natural_parts self.now) ≡ Some fault) ⊎ (fault ≡ TableFault.Memory) }
+    {
+        if !self.spans_fit() {
+            return Err(TableFault::Spans);
+        }
+        if self.records.count_columns() == usize::MAX {
+            return Err(TableFault::Totals);
+        }
+        match self.sizes().least_widths(alloc, how)? {
+            Some(widths) => {
+                let widths = ConstantDimension(widths, Vec::new(alloc));
+                full_width(self.config, &widths, self.records.count_columns()).ok_or(
+                    TableFault::Totals,
+                )
+            }
+            None => Err(TableFault::Totals),
+        }
+    }
+
+    /// Sets other texts for the cells of a table with spans whose texts are too wide for their
+    /// columns, and returns the columns' widths.
+    pub(crate) fn fit_spanned<A: Allocator + Copy>(
+        &self,
+        alloc: A,
+        within: &Within<'_>,
+        records: &mut OverlaidRecords<R, A>,
+    ) -> Result<Vec<usize, A>, TableFault>
+        requires own { records.old.others ≡ [] }
+        requires kept { keeps_spans self.now.config.now (R.texts self.now.records) (R.columns self.now.records) ≡ true }
+        ensures fault { (fault : TableFault) → fit_fault_of R.texts R.columns (natural_parts self.now) ≡ Some fault → result ≡ Err fault }
+        ensures memory { (fault : TableFault) → fit_fault_of R.texts R.columns (natural_parts self.now) ≡ None → result ≡ Err fault → fault ≡ TableFault.Memory }
+        ensures records { records.new.records ≡ records.old.records }
+        ensures fits { IfOk result
+            (λ widths. AreFittedTogether within.now.how within.now.total within.now.limits.now self.now.config.now (R.texts self.now.records) (R.columns self.now.records) widths.items (other_text records.new.others (R.texts self.now.records))) }
+    {
+        // Shows that the spans are in order.
+        let _spans = self.config.spans();
+        let natural = NaturalTable::new(self.records, self.config, self.colors);
+        let mut dimension = natural.natural_dimension(alloc)?;
+        let sizes = self.sizes();
+        dimension.0 = sizes.spanned_widths(alloc, within, &dimension.0)?;
+        sizes.fit_rows(alloc, within.how, &dimension, records)?;
+        Ok(mem::replace(&mut dimension.0, Vec::new(alloc)))
     }
 }

@@ -326,6 +326,7 @@ impl<T: AsStr + Drop, A: Allocator> Table<T, A> {
         ensures records { result.records.now ≡ self.now.rows }
         ensures config { result.config.now ≡ self.now.config }
         ensures colors { result.colors.now ≡ self.now.colors }
+        ensures widths { result.widths.now ≡ [] }
     {
         NaturalTable::new(&self.records, &self.config, &self.colors)
     }

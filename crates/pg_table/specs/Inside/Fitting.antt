@@ -1,8 +1,7 @@
 -- Cells whose texts are fitted to the widths of their columns, as the code holds them.
-use Rattle.std.specs.Prelude.{◌≡◌, ◌⊎◌, ℕ, ◌+◌, ◌-◌, ◌^◌, ◌<◌, ◌≤◌, true, false, List, length, slice_index, sum_by, Option}
+use Rattle.std.specs.Prelude.{◌≡◌, ◌⊎◌, ℕ, ◌+◌, ◌-◌, ◌^◌, ◌<◌, ◌≤◌, true, false, List, length, slice_index, sum_by}
 use Rattle.std.specs.List.{range_with_len}
 use Rattle.pg_layout.specs.declared.position.Position.{Position}
-use Rattle.pg_layout.specs.Colors.{Color}
 use Rattle.pg_layout.specs.Keys.{by_columns}
 use Rattle.pg_layout.specs.Places.{IsAscending}
 use Rattle.pg_layout.specs.Position.{at}
@@ -10,11 +9,10 @@ use Rattle.pg_layout.specs.Records.{text_at}
 use Rattle.pg_layout.specs.Text.{Text}
 use Rattle.pg_config.specs.Config.{Config, get_formatting}
 use Rattle.pg_picture.specs.Pieces.{widest}
-use Rattle.pg_picture.specs.Table.{Table}
 use Rattle.pg_config.specs.Spans.{is_visible}
 use Rattle.pg_picture.specs.Fits.{spans_fit}
 use Rattle.pg_table.specs.Natural.{paddings, natural_size, natural_sizes}
-use Rattle.pg_table.specs.Spanning.{keeps_spans, table_from, least_cell_width, cell_room, spanned_text, spanned_widths}
+use Rattle.pg_table.specs.Spanning.{keeps_spans, least_cell_width, cell_room, spanned_text, spanned_widths}
 use Rattle.pg_table.specs.Fitted.{fitted_text, least_text_width, least_column_width, beside_columns, limit_of, column_widths, fitted_at, HasPlainTail}
 use Rattle.pg_table.specs.declared.overflow.Overflow.{Overflow}
 use Rattle.pg_table.specs.declared.sizes.Axis.TheVariants.{Columns}
@@ -87,10 +85,6 @@ pub record IsHugeLeast (how : Overflow) (config : Config) (texts : List (List Te
 
 abbrev pub HasHugeLeast : Overflow → Config → List (List Text) → ℕ → Type 0
 HasHugeLeast how config texts columns = (p : Position) × IsHugeLeast how config texts columns p
-
--- the table of lent parts whose columns are at least so wide
-abbrev pub told_of : {R C : Type 0} → (R → List (List Text)) → (R → ℕ) → (C → Position → Option Color) → List ℕ → R × Config × C → Table
-told_of texts columns color told (records, config, colors) = table_from told config (texts records) (columns records) (color colors)
 
 -- p stands before this place, row by row
 abbrev pub IsBefore : ℕ → ℕ → Position → Type 0

@@ -7,7 +7,9 @@ use Rattle.pg_table.specs.Printing.{sizes_fault}
 use Rattle.pg_table.specs.declared.fault.TableFault.TheVariants.{Totals}
 use Rattle.pg_table.specs.declared.sizes.Axis.TheVariants.{Columns, Rows}
 use Rattle.pg_table.proofs.Faults.{empty-passes, sizes-past, sizes-numbers, one_fault, no_fault}
+use Rattle.pg_table.proofs.FitFaults.{no-cells}
 use Rattle.pg_table.proofs.PlainCells.{empty-sizes, empty-fits}
+use Rattle.pg_table.proofs.RaisedWidths.{plain-widths}
 use Rattle.pg_table.proofs.natural.NaturalTable.dimension_without_cells.Goals as goal
 
 pub returns-then-not-fit-clause-fault : goal.returns-then-not-fit-clause-fault
@@ -60,7 +62,9 @@ returns-clause-widths g c =
     let config : Config = self.config.now in
     let texts = g.R.Records.texts self.records in
     let columns : ℕ = g.R.Records.columns self.records in
-    (rw (c.sizes-sizes.ensures.records, c.sizes-sizes.ensures.config) at c.in_ok-listed.ensures.widths) ∙ empty-sizes config texts columns c.requires Columns
+    (rw (c.sizes-sizes.ensures.records, c.sizes-sizes.ensures.config) at c.in_ok-listed.ensures.widths)
+    ∙ empty-sizes config texts columns c.requires Columns
+    ∙ sym (plain-widths self.widths.now config texts columns (no-cells _ _ c.requires))
 
 pub returns-clause-heights : goal.returns-clause-heights
 returns-clause-heights g c =

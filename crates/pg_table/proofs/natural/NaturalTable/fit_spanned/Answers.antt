@@ -9,9 +9,11 @@ use Rattle.pg_fit.specs.Overlaid.{other_text}
 use Rattle.pg_table.specs.Fitted.{fit_fault}
 use Rattle.pg_table.specs.Inside.Fitting.{AreFittedTo}
 use Rattle.pg_table.specs.Natural.{cells_fit}
-use Rattle.pg_table.specs.Printing.{sizes_fault}
+use Rattle.pg_table.specs.Printing.{sizes_fault, sizes_fault_of, sizes_of}
 use Rattle.pg_table.specs.Spanning.{keeps_spans}
 use Rattle.pg_table.specs.declared.fault.TableFault.{TableFault}
+use Rattle.pg_table.specs.declared.fault.TableFault.TheVariants.{Memory}
+use Rattle.pg_table.specs.declared.sizes.Axis.TheVariants.{Columns}
 use Rattle.pg_table.proofs.Faults.{fault-is}
 use Rattle.pg_table.proofs.FitFaults.{kept-parts, not-both, fault-spans, told-fits, told-none, handed-on, same-fault as one-fault}
 use Rattle.pg_table.proofs.natural.NaturalTable.fit_spanned.Goals as goal
@@ -37,6 +39,15 @@ module _ (config : Config) (texts : List (List Text)) (columns : ℕ) (kept : ke
     not-there : (fault : TableFault) → fit_fault config texts columns ≡ Some fault → ⊥
     not-there fault h = not-both (fit_fault config texts columns) fault (same-fault ∙ none) h
 
+-- what the natural table of the same parts tells
+told-fault : {R C X : Type 0} (texts : R → List (List Text)) (columns : R → ℕ) {a b : R × Config × C × List ℕ} {r : Result X TableFault} → a ≡ b
+    → ((fault : TableFault) → sizes_fault_of texts columns a ≡ Some fault → r ≡ Err fault) → (fault : TableFault) → sizes_fault_of texts columns b ≡ Some fault → r ≡ Err fault
+told-fault texts columns {r} same h = subst (λ parts. (fault : TableFault) → sizes_fault_of texts columns parts ≡ Some fault → r ≡ Err fault) same h
+
+told-memory : {R C X : Type 0} (texts : R → List (List Text)) (columns : R → ℕ) {a b : R × Config × C × List ℕ} {r : Result X TableFault} → a ≡ b
+    → ((fault : TableFault) → sizes_fault_of texts columns a ≡ None → r ≡ Err fault → fault ≡ Memory) → (fault : TableFault) → sizes_fault_of texts columns b ≡ None → r ≡ Err fault → fault ≡ Memory
+told-memory texts columns {r} same h = subst (λ parts. (fault : TableFault) → sizes_fault_of texts columns parts ≡ None → r ≡ Err fault → fault ≡ Memory) same h
+
 err-same : {X : Type 0} (a b : TableFault) → ◌≡◌ {A = Result X TableFault} (Err a) (Err b) → a ≡ b
 err-same a b e = one-fault a b (ap result_err e)
 
@@ -46,7 +57,7 @@ returns-in_err-dimension-clause-fault g c = λ fault h.
     let config : Config = self.config.now in
     let texts = g.R.Records.texts self.records in
     let columns : ℕ = g.R.Records.columns self.records in
-    handed-on c.from_residual.result c.in_err-dimension.field-0.0 c.from_residual.ensures.1 ∙ ap (λ (f : TableFault). Err f) (err-same c.in_err-dimension.field-0.0 fault (c.in_err-dimension.ensures.fault fault (sym (same-fault config texts columns c.requires.kept) ∙ h)))
+    handed-on c.from_residual.result c.in_err-dimension.field-0.0 c.from_residual.ensures.1 ∙ ap (λ (f : TableFault). Err f) (err-same c.in_err-dimension.field-0.0 fault (told-fault g.R.Records.texts g.R.Records.columns c.new-natural.ensures c.in_err-dimension.ensures.fault fault (sym (same-fault config texts columns c.requires.kept) ∙ h)))
 
 pub returns-in_err-dimension-clause-memory : goal.returns-in_err-dimension-clause-memory
 returns-in_err-dimension-clause-memory g c = λ fault h e.
@@ -54,7 +65,7 @@ returns-in_err-dimension-clause-memory g c = λ fault h e.
     let config : Config = self.config.now in
     let texts = g.R.Records.texts self.records in
     let columns : ℕ = g.R.Records.columns self.records in
-    c.in_err-dimension.ensures.memory fault (sym (same-fault config texts columns c.requires.kept) ∙ h) (ap (λ (f : TableFault). Err f) (fault-is c.from_residual.result c.in_err-dimension.field-0.0 fault (handed-on c.from_residual.result c.in_err-dimension.field-0.0 c.from_residual.ensures.1) e))
+    told-memory g.R.Records.texts g.R.Records.columns c.new-natural.ensures c.in_err-dimension.ensures.memory fault (sym (same-fault config texts columns c.requires.kept) ∙ h) (ap (λ (f : TableFault). Err f) (fault-is c.from_residual.result c.in_err-dimension.field-0.0 fault (handed-on c.from_residual.result c.in_err-dimension.field-0.0 c.from_residual.ensures.1) e))
 
 pub spanned_widths-requires-clause-fit : goal.spanned_widths-requires-clause-fit
 spanned_widths-requires-clause-fit g c =
@@ -62,7 +73,7 @@ spanned_widths-requires-clause-fit g c =
     let config : Config = self.config.now in
     let texts = g.R.Records.texts self.records in
     let columns : ℕ = g.R.Records.columns self.records in
-    rw (c.sizes-sizes.ensures.records, c.sizes-sizes.ensures.config) (fits config texts columns c.requires.kept (Ok c.in_ok-dimension.dimension) refl c.in_ok-dimension.ensures.fault).0
+    rw (c.sizes-sizes.ensures.records, c.sizes-sizes.ensures.config) (fits config texts columns c.requires.kept (Ok c.in_ok-dimension.dimension) refl (told-fault g.R.Records.texts g.R.Records.columns c.new-natural.ensures c.in_ok-dimension.ensures.fault)).0
 
 pub spanned_widths-requires-clause-sized : goal.spanned_widths-requires-clause-sized
 spanned_widths-requires-clause-sized g c =
@@ -70,10 +81,10 @@ spanned_widths-requires-clause-sized g c =
     let config : Config = self.config.now in
     let texts = g.R.Records.texts self.records in
     let columns : ℕ = g.R.Records.columns self.records in
-    rw (c.sizes-sizes.ensures.records, c.sizes-sizes.ensures.config) (fits config texts columns c.requires.kept (Ok c.in_ok-dimension.dimension) refl c.in_ok-dimension.ensures.fault).1
+    rw (c.sizes-sizes.ensures.records, c.sizes-sizes.ensures.config) (fits config texts columns c.requires.kept (Ok c.in_ok-dimension.dimension) refl (told-fault g.R.Records.texts g.R.Records.columns c.new-natural.ensures c.in_ok-dimension.ensures.fault)).1
 
 pub spanned_widths-requires-clause-naturals : goal.spanned_widths-requires-clause-naturals
-spanned_widths-requires-clause-naturals g c = rw (c.sizes-sizes.ensures.records, c.sizes-sizes.ensures.config) (c.deref.ensures.value ∙ c.in_ok-dimension.ensures.widths)
+spanned_widths-requires-clause-naturals g c = rw (c.sizes-sizes.ensures.records, c.sizes-sizes.ensures.config) (c.deref.ensures.value ∙ c.in_ok-dimension.ensures.widths ∙ ap (λ parts. sizes_of g.R.Records.texts g.R.Records.columns Columns parts) c.new-natural.ensures)
 
 pub returns-in_err-dimension-2-clause-fault : goal.returns-in_err-dimension-2-clause-fault
 returns-in_err-dimension-2-clause-fault g c = λ fault h.
@@ -81,7 +92,7 @@ returns-in_err-dimension-2-clause-fault g c = λ fault h.
     let config : Config = self.config.now in
     let texts = g.R.Records.texts self.records in
     let columns : ℕ = g.R.Records.columns self.records in
-    absurd (not-there config texts columns c.requires.kept (Ok c.in_ok-dimension.dimension) refl c.in_ok-dimension.ensures.fault fault h)
+    absurd (not-there config texts columns c.requires.kept (Ok c.in_ok-dimension.dimension) refl (told-fault g.R.Records.texts g.R.Records.columns c.new-natural.ensures c.in_ok-dimension.ensures.fault) fault h)
 
 pub fit_rows-requires-clause-fit : goal.fit_rows-requires-clause-fit
 fit_rows-requires-clause-fit g c =
@@ -89,7 +100,7 @@ fit_rows-requires-clause-fit g c =
     let config : Config = self.config.now in
     let texts = g.R.Records.texts self.records in
     let columns : ℕ = g.R.Records.columns self.records in
-    rw (c.sizes-sizes.ensures.records, c.sizes-sizes.ensures.config) (fits config texts columns c.requires.kept (Ok c.in_ok-dimension.dimension) refl c.in_ok-dimension.ensures.fault).0
+    rw (c.sizes-sizes.ensures.records, c.sizes-sizes.ensures.config) (fits config texts columns c.requires.kept (Ok c.in_ok-dimension.dimension) refl (told-fault g.R.Records.texts g.R.Records.columns c.new-natural.ensures c.in_ok-dimension.ensures.fault)).0
 
 pub fit_rows-requires-clause-sized : goal.fit_rows-requires-clause-sized
 fit_rows-requires-clause-sized g c =
@@ -97,7 +108,7 @@ fit_rows-requires-clause-sized g c =
     let config : Config = self.config.now in
     let texts = g.R.Records.texts self.records in
     let columns : ℕ = g.R.Records.columns self.records in
-    rw (c.sizes-sizes.ensures.records, c.sizes-sizes.ensures.config) (fits config texts columns c.requires.kept (Ok c.in_ok-dimension.dimension) refl c.in_ok-dimension.ensures.fault).1
+    rw (c.sizes-sizes.ensures.records, c.sizes-sizes.ensures.config) (fits config texts columns c.requires.kept (Ok c.in_ok-dimension.dimension) refl (told-fault g.R.Records.texts g.R.Records.columns c.new-natural.ensures c.in_ok-dimension.ensures.fault)).1
 
 pub returns-in_err-fit_rows-clause-fault : goal.returns-in_err-fit_rows-clause-fault
 returns-in_err-fit_rows-clause-fault g c = λ fault h.
@@ -105,7 +116,7 @@ returns-in_err-fit_rows-clause-fault g c = λ fault h.
     let config : Config = self.config.now in
     let texts = g.R.Records.texts self.records in
     let columns : ℕ = g.R.Records.columns self.records in
-    absurd (not-there config texts columns c.requires.kept (Ok c.in_ok-dimension.dimension) refl c.in_ok-dimension.ensures.fault fault h)
+    absurd (not-there config texts columns c.requires.kept (Ok c.in_ok-dimension.dimension) refl (told-fault g.R.Records.texts g.R.Records.columns c.new-natural.ensures c.in_ok-dimension.ensures.fault) fault h)
 
 pub returns-clause-fault : goal.returns-clause-fault
 returns-clause-fault g c = λ fault h.
@@ -113,7 +124,7 @@ returns-clause-fault g c = λ fault h.
     let config : Config = self.config.now in
     let texts = g.R.Records.texts self.records in
     let columns : ℕ = g.R.Records.columns self.records in
-    absurd (not-there config texts columns c.requires.kept (Ok c.in_ok-dimension.dimension) refl c.in_ok-dimension.ensures.fault fault h)
+    absurd (not-there config texts columns c.requires.kept (Ok c.in_ok-dimension.dimension) refl (told-fault g.R.Records.texts g.R.Records.columns c.new-natural.ensures c.in_ok-dimension.ensures.fault) fault h)
 
 pub returns-clause-fits : goal.returns-clause-fits
 returns-clause-fits g c =
@@ -124,7 +135,7 @@ returns-clause-fits g c =
     let taken = ap (λ v. v.items) c.replace.ensures.value in
     record {
       ascending = c.spans-spans.ensures.ascending;
-      spans = (fits config texts columns c.requires.kept (Ok c.in_ok-dimension.dimension) refl c.in_ok-dimension.ensures.fault).0;
+      spans = (fits config texts columns c.requires.kept (Ok c.in_ok-dimension.dimension) refl (told-fault g.R.Records.texts g.R.Records.columns c.new-natural.ensures c.in_ok-dimension.ensures.fault)).0;
       widths_are = taken ∙ (rw (c.sizes-sizes.ensures.records, c.sizes-sizes.ensures.config) at c.in_ok-dimension-2.ensures);
       all = subst (λ (ws : List ℕ). AreFittedTo c.args.within.now.how ws config texts columns (length texts) 0 (other_text c.fit_rows.new.fitted.others texts)) (sym taken) (rw (c.sizes-sizes.ensures.records, c.sizes-sizes.ensures.config) at c.in_ok-fit_rows.ensures.fits);
     }

@@ -3,7 +3,7 @@ use Rattle.pg_picture.specs.Table.{Table}
 use Rattle.pg_table.specs.Printing.{printed_table_of, natural_parts}
 use Rattle.pg_table.specs.declared.fault.TableFault.TheVariants.{Spans, Totals}
 use Rattle.pg_table.proofs.Faults.{fault-spans, fault-totals, fault-fits, can-fail}
-use Rattle.pg_table.proofs.NaturalRoom.{cells-past}
+use Rattle.pg_table.proofs.ToldTables.{cells-past}
 use Rattle.pg_table.proofs.natural.NaturalTable.sized.Goals as goal
 
 pub returns-then-not-spans_fit-clause-fault : goal.returns-then-not-spans_fit-clause-fault
@@ -28,4 +28,4 @@ returns-in-Ok-None-clause-fault g c = λ fault e.
     let fit = sym c.spans_fit.ensures.fit ∙ c.if-not-spans_fit.false in
     let past = rw (c.in-Ok-None.is, c.in-Ok-None.field-0-is, c.sizes.ensures.records, c.sizes.ensures.config) at c.measured.ensures.sized in
     can-fail t _ Totals fault refl e (fault-totals t c.requires fit
-    (cells-past self.config.now (g.R.Records.texts self.records) (g.R.Records.columns self.records) (g.C.Colors.color self.colors.now) fit (sym past)))
+    (cells-past self.widths.now self.config.now (g.R.Records.texts self.records) (g.R.Records.columns self.records) (g.C.Colors.color self.colors.now) fit (sym past)))
