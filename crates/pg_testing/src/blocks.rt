@@ -118,7 +118,10 @@ fn push_line(
     value: &str,
 ) -> Result<(), AllocError> {
     let mut text = String::from_str(alloc, line)?;
-    for (mark, part) in MARKS.into_iter().zip(value.split(", ")) {
+    for (i, part) in value.split(", ").enumerate() {
+        let Some(mark) = MARKS.get(i) else {
+            break;
+        };
         text = text.replace(alloc, mark, part)?;
     }
     lines.push((number, text))?;

@@ -35,10 +35,7 @@ fn push_bracket(text: &mut String, inner: &str) -> Result<(), AllocError> {
         }
         return Ok(());
     }
-    match u32::from_str_radix(inner, 16)
-        .ok()
-        .and_then(|number| char::from_u32(number))
-    {
+    match u32::from_str_radix(inner, 16).ok().and_then(char::from_u32) {
         Some(c) => text.push(c),
         None => text.push_str(inner),
     }

@@ -63,24 +63,26 @@ impl NamedPlaces<char> for HorizontalLine<char> {
     }
 }
 
-/// Gives the places that the words name their glyphs.
-pub(crate) fn set_glyphs<P: NamedPlaces<char>>(
-    places: &mut P,
-    words: Words<'_>,
-) -> Result<(), LineFault> {
-    let Some(parts) = words.rest()? else {
-        return Ok(());
-    };
-    for part in parts.split(' ') {
-        let (name, word) = named(part)?;
-        let place = places.place(name)?;
-        *place = glyph_of(word)?;
-    }
-    Ok(())
+/// What a place may hold: a glyph, which takes no memory, or a colour in memory of the type `A`.
+trait PlaceValue<A>: Sized {
+    /// The value that a word means, or `None` for none.
+    fn of_word(alloc: A, word: &str) -> Result<Option<Self>, LineFault>;
 }
 
-// Gives the places that the words name their colours.
-fn set_colors<A: Allocator + Copy, P: NamedPlaces<ANSIBuf<A>>>(
+impl PlaceValue<()> for char {
+    fn of_word(_alloc: (), word: &str) -> Result<Option<char>, LineFault> {
+        glyph_of(word)
+    }
+}
+
+impl<A: Allocator + Copy> PlaceValue<A> for ANSIBuf<A> {
+    fn of_word(alloc: A, word: &str) -> Result<Option<ANSIBuf<A>>, LineFault> {
+        color_of(alloc, word)
+    }
+}
+
+// Gives the places that the words name what the words say.
+fn set_places<A: Copy, T: PlaceValue<A> + Drop, P: NamedPlaces<T>>(
     places: &mut P,
     alloc: A,
     words: Words<'_>,
@@ -91,9 +93,17 @@ fn set_colors<A: Allocator + Copy, P: NamedPlaces<ANSIBuf<A>>>(
     for part in parts.split(' ') {
         let (name, word) = named(part)?;
         let place = places.place(name)?;
-        *place = color_of(alloc, word)?;
+        *place = T::of_word(alloc, word)?;
     }
     Ok(())
+}
+
+/// Gives the places that the words name their glyphs.
+pub(crate) fn set_glyphs<P: NamedPlaces<char>>(
+    places: &mut P,
+    words: Words<'_>,
+) -> Result<(), LineFault> {
+    set_places(places, (), words)
 }
 
 /// These places, of which those that the words name have their colours.
@@ -102,6 +112,6 @@ pub(crate) fn with_colors<A: Allocator + Copy, P: NamedPlaces<ANSIBuf<A>> + Drop
     alloc: A,
     words: Words<'_>,
 ) -> Result<P, LineFault> {
-    set_colors(&mut places, alloc, words)?;
+    set_places(&mut places, alloc, words)?;
     Ok(places)
 }
