@@ -55,14 +55,52 @@ fn side_of(word: &str) -> Option<Option<AlignmentHorizontal>> {
     }
 }
 
-// Sets how rows are shown, where there is an option of this name with this value.
-fn set_view(
+// The source that an option sets, if it sets one.
+fn source_set(
     alloc: Global,
-    view: &mut Options,
+    log: Log,
     name: &str,
     value: &str,
-) -> Result<Option<()>, AllocError> {
+) -> Result<Option<Source>, AllocError> {
+    let selection = match name {
+        "format" => return Ok(source_of(value)),
+        "delimiter" => {
+            let format = Format::separated(delimiter_of(value), false);
+            return Ok(Some(Source::Rows(format)));
+        }
+        "query" => Selection::Query(value.to_string(alloc)?),
+        "table" => Selection::Table(meant(alloc, value)?),
+        _ => return Ok(None),
+    };
+    Ok(Some(Source::Database { selection, log }))
+}
+
+// Adds to a list of how rows are shown, and answers whether an option of this name with this value does so.
+fn add(alloc: Global, view: &mut Options, name: &str, value: &str) -> Result<bool, AllocError> {
     match name {
+        "limit" => view.bounds.limits.push(value.parse().ok())?,
+        "column" => view.columns.push(meant(alloc, value)?)?,
+        "align" => {
+            let Some(side) = side_of(value) else {
+                return Ok(false);
+            };
+            view.sides.push(side)?;
+        }
+        _ => return Ok(false),
+    }
+    Ok(true)
+}
+
+// Sets one value, where there is an option of this name with this value.
+fn set_value(request: &mut Request, name: &str, value: &str) -> Option<()> {
+    let view = &mut request.view;
+    match name {
+        "stream" => request.rows = Rows::FromFirst(value.parse().ok()?),
+        "log" => request.source.set_log(log_of(value)?),
+        "ragged" => {
+            request.source.set_ragged(true);
+            view.is_padded = value == "pad";
+        }
         "no-header" => view.has_header = false,
         "raw" => view.is_raw = true,
         "vertical" => view.is_vertical = true,
@@ -70,62 +108,14 @@ fn set_view(
             view.look = Look::Markdown;
             view.is_markdown = true;
         }
+        "look" => view.look = Look::by_name(value)?,
         "head" => view.head = value.parse().ok(),
         "tail" => view.tail = value.parse().ok(),
         "width" => view.bounds.width = value.parse().ok(),
-        "limit" => view.bounds.limits.push(value.parse().ok())?,
         "cut" => view.bounds.overflow = Overflow::Cut("…"),
-        "look" => match Look::by_name(value) {
-            Some(look) => view.look = look,
-            None => return Ok(None),
-        },
-        "align" => match side_of(value) {
-            Some(side) => view.sides.push(side)?,
-            None => return Ok(None),
-        },
-        "column" => view.columns.push(meant(alloc, value)?)?,
-        _ => return Ok(None),
+        _ => return None,
     }
-    Ok(Some(()))
-}
-
-// Sets what the input is, where there is an option of this name with this value.
-fn set_input(
-    alloc: Global,
-    request: &mut Request,
-    name: &str,
-    value: &str,
-) -> Result<Option<()>, AllocError> {
-    let source = match name {
-        "format" => source_of(value),
-        "delimiter" => Some(Source::Rows(Format::separated(delimiter_of(value), false))),
-        "query" => Some(Source::Database {
-            selection: Selection::Query(String::from_str(alloc, value)?),
-            log: request.source.log(),
-        }),
-        "table" => Some(Source::Database {
-            selection: Selection::Table(meant(alloc, value)?),
-            log: request.source.log(),
-        }),
-        "ragged" => {
-            request.source.set_ragged(true);
-            request.view.is_padded = value == "pad";
-            return Ok(Some(()));
-        }
-        "log" => {
-            let Some(log) = log_of(value) else {
-                return Ok(None);
-            };
-            request.source.set_log(log);
-            return Ok(Some(()));
-        }
-        _ => None,
-    };
-    let Some(source) = source else {
-        return Ok(None);
-    };
-    request.source = source;
-    Ok(Some(()))
+    Some(())
 }
 
 /// Sets an option, and answers whether there is one of this name with this value.
@@ -135,17 +125,14 @@ pub(crate) fn set_option(
     text: &str,
 ) -> Result<bool, AllocError> {
     let (name, value) = text.split_once(' ').unwrap_or((text, ""));
-    if name == "stream" {
-        let Ok(count) = value.parse() else {
-            return Ok(false);
-        };
-        request.rows = Rows::FromFirst(count);
+    if let Some(source) = source_set(alloc, request.source.log(), name, value)? {
+        request.source = source;
         return Ok(true);
     }
-    if set_input(alloc, request, name, value)?.is_some() {
+    if add(alloc, &mut request.view, name, value)? {
         return Ok(true);
     }
-    Ok(set_view(alloc, &mut request.view, name, value)?.is_some())
+    Ok(set_value(request, name, value).is_some())
 }
 
 /// The number and the text of a line that has both.
@@ -169,7 +156,7 @@ fn meaning(c: char) -> char {
 
 // A text with its pictures as what they stand for.
 fn meant(alloc: Global, text: &str) -> Result<String, AllocError> {
-    text.chars().map(|c| meaning(c)).collect(alloc)
+    text.chars().map(meaning).collect(alloc)
 }
 
 /// Appends a line of an input: its pictures as what they stand for, and a line feed unless it says that
@@ -191,11 +178,15 @@ pub(crate) fn push_input(input: &mut Vec<u8>, line: &str) -> Result<(), AllocErr
     input.extend_from_slice(end.as_bytes())
 }
 
+// The byte that a pair of hexadecimal digits stands for, if this is such a pair.
+fn byte_of(pair: &[u8]) -> Option<u8> {
+    u8::from_str_radix(str::from_utf8(pair).ok()?, 16).ok()
+}
+
 // The bytes that pairs of hexadecimal digits stand for, if these are such pairs.
 fn push_digits(bytes: &mut Vec<u8>, digits: &str) -> Result<bool, AllocError> {
     for pair in digits.as_bytes().chunks(2) {
-        let byte = str::from_utf8(pair).ok();
-        let Some(byte) = byte.and_then(|pair| u8::from_str_radix(pair, 16).ok()) else {
+        let Some(byte) = byte_of(pair) else {
             return Ok(false);
         };
         bytes.push(byte)?;
