@@ -47,7 +47,7 @@ where
     ghost use Rattle.pg_picture.specs.Table.{full_width, is_empty};
     ghost use Rattle.pg_table.specs.Fitted.{HasPlainTail, limit_of, printed_fitted_table, fitted_of, fit_fault_of, least_at, least_width_of, least_fault_of, IsNarrowOf};
     ghost use Rattle.pg_table.specs.Spanning.{keeps_spans};
-    ghost use Rattle.pg_table.specs.Inside.Fitting.{HasPlainWidths, AreFittedBelow, IsFitted, plain_full_width};
+    ghost use Rattle.pg_table.specs.Inside.Fitting.{IsFitted, plain_full_width};
     ghost use Rattle.pg_table.specs.Printing.{printed_table_of, natural_parts};
 
     /// The width of a line, in terminal columns, if each column is as narrow as wrapping or cutting
@@ -180,33 +180,13 @@ where
         if self.keeps_spans() {
             return self.fit_spanned(alloc, within, records);
         }
-        self.fit_plain(alloc, within, records)?;
-        Ok(Vec::new(alloc))
-    }
-
-    // Sets other texts for the cells of a table without spans, if they are too wide for their
-    // columns.
-    fn fit_plain<A: Allocator + Copy>(
-        &self,
-        alloc: A,
-        within: &Within<'_>,
-        records: &mut OverlaidRecords<R, A>,
-    ) -> Result<(), TableFault>
-        requires own { records.old.others ≡ [] }
-        requires plain { keeps_spans self.now.config.now (R.texts self.now.records) (R.columns self.now.records) ≡ false }
-        ensures fault { (fault : TableFault) → fit_fault_of R.texts R.columns (natural_parts self.now) ≡ Some fault → result ≡ Err fault }
-        ensures memory { (fault : TableFault) → fit_fault_of R.texts R.columns (natural_parts self.now) ≡ None → result ≡ Err fault → fault ≡ TableFault.Memory }
-        ensures empty { is_empty (printed_table_of R.texts R.columns C.color (natural_parts self.now)) ≡ true → IsOk result }
-        ensures narrow { fit_fault_of R.texts R.columns (natural_parts self.now) ≡ None → IsNarrowOf within.now.total within.now.limits.now R.texts R.columns (natural_parts self.now) → IsOk result }
-        ensures records { records.new.records ≡ records.old.records }
-        ensures plain { OnOk result (HasPlainWidths self.now.config.now (length (R.texts self.now.records)) (R.columns self.now.records)) }
-        ensures fits { OnOk result
-            (AreFittedBelow within.now.how within.now.total within.now.limits.now self.now.config.now (R.texts self.now.records) (R.columns self.now.records) (R.columns self.now.records) (other_text records.new.others (R.texts self.now.records))) }
-    {
         if self.is_empty() {
-            return Ok(());
+            return Ok(Vec::new(alloc));
         }
-        self.sizes().fit_texts(alloc, within, records)
+        match self.sizes().fit_texts(alloc, within, records) {
+            Ok(()) => Ok(Vec::new(alloc)),
+            Err(fault) => Err(fault),
+        }
     }
 }
 

@@ -48,16 +48,6 @@ fn raise(sizes: &mut [usize], least: &[usize])
 }
 
 impl<'a, R: PeekableRecords + ExactRecords, B: Allocator> NaturalSizes<'a, R, B> {
-    // The width of a cell whose text takes so many columns, or its height, or `None` if it exceeds
-    // `usize::MAX`.
-    #[inline(always)]
-    fn with_text(&self, axis: Axis, pos: Position, text: usize) -> Option<usize>
-        requires { text ≡ text_size axis self.now.config.now (text_at (R.texts self.now.records)) pos }
-        ensures { result ≡ if_fits (cell_size axis self.now.config.now (text_at (R.texts self.now.records)) pos) }
-    {
-        self.paddings(axis, pos)?.checked_add(text)
-    }
-
     // The width and the height of a cell, each `None` if it exceeds `usize::MAX`. Its text is read
     // once.
     #[inline(always)]
@@ -96,9 +86,9 @@ impl<'a, R: PeekableRecords + ExactRecords, B: Allocator> NaturalSizes<'a, R, B>
         if span.is_some() {
             return Some(height);
         }
-        let (wide, high) = self.measure(pos);
-        let wide = wide?;
-        let high = high?;
+        let (Some(wide), Some(high)) = self.measure(pos) else {
+            return None;
+        };
         widths[pos.col] = widths[pos.col].max(wide);
         Some(height.max(high))
     }
@@ -186,9 +176,9 @@ impl<'a, R: PeekableRecords + ExactRecords, B: Allocator> NaturalSizes<'a, R, B>
     {
         let (place, size) = span;
         let (rows, columns) = (self.records.count_rows(), self.records.count_columns());
-        let (wide, high) = self.measure(Position::new(place.row, place.col));
-        let wide = wide?;
-        let high = high?;
+        let (Some(wide), Some(high)) = self.measure(Position::new(place.row, place.col)) else {
+            return None;
+        };
         let verticals = self
             .config
             .count_verticals(place.col + 1, size.columns - 1, columns);

@@ -15,7 +15,7 @@ ghost use Rattle.pg_table.specs.declared.sizes.Axis.TheVariants.{Columns};
 
 use crate::fault::TableFault;
 use crate::overflow::{Overflow, Within};
-use crate::sizes::{Axis, NaturalSizes};
+use crate::sizes::{Axis, NaturalSizes, greater, plus, together};
 use pg_config::SpannedConfig;
 use pg_fit::{ColumnRange, OverlaidRecords, narrow};
 use pg_layout::{ExactRecords, PeekableRecords, Position};
@@ -53,7 +53,7 @@ impl<'a, R: PeekableRecords + ExactRecords, B: Allocator> NaturalSizes<'a, R, B>
     {
         let natural = self.text_size(Axis::Columns, pos);
         let least = natural.min(how.least_width(self.records.get_text(pos)));
-        self.paddings(Axis::Columns, pos)?.checked_add(least)
+        plus(self.paddings(Axis::Columns, pos), least)
     }
 
     // How wide a column is at least, or `None` if it exceeds `usize::MAX`.
@@ -61,22 +61,23 @@ impl<'a, R: PeekableRecords + ExactRecords, B: Allocator> NaturalSizes<'a, R, B>
         requires { column < R.columns self.now.records }
         ensures { result ≡ if_fits (least_of R.texts R.columns self.now how.entry column) }
     {
-        let mut width = self.paddings(Axis::Columns, Position::new(0, column))?;
+        let mut width = self.paddings(Axis::Columns, Position::new(0, column));
         for row in 0..self.count_cells(Axis::Columns) {
-            width = width.max(self.least_cell(how, Position::new(row, column))?);
+            let cell = self.least_cell(how, Position::new(row, column));
+            width = greater(width, cell);
         }
-        Some(width)
+        width
     }
 
     /// How wide the columns are at least together, or `None` if it exceeds `usize::MAX`.
     pub(crate) fn least_total(&self, how: Overflow) -> Option<usize>
         ensures { result ≡ if_fits (sum_by (least_of R.texts R.columns self.now how.entry) (range_with_len 0 (R.columns self.now.records))) }
     {
-        let mut sum: usize = 0;
+        let mut sum = Some(0);
         for column in 0..self.count(Axis::Columns) {
-            sum = sum.checked_add(self.least_width(how, column)?)?;
+            sum = together(sum, self.least_width(how, column));
         }
-        Some(sum)
+        sum
     }
 
     /// Whether the columns of a table without spans are within limits at their natural widths, or

@@ -129,7 +129,9 @@ where
         if !sizes.fit() {
             return Err(TableFault::Totals);
         }
-        Ok(sizes.listed(alloc)?)
+        let widths = sizes.list(alloc, Axis::Columns)?;
+        let heights = sizes.list(alloc, Axis::Rows)?;
+        Ok(ConstantDimension(widths, heights))
     }
 
     /// Whether the table can be printed at its natural sizes: its spans fit, and the natural sizes
@@ -204,7 +206,8 @@ where
         }
         match self.sizes().measured(alloc, self.widths) {
             Ok(Some(dimension)) => {
-                if self.totals_fit_at(&dimension) {
+                let (rows, columns) = (self.records.count_rows(), self.records.count_columns());
+                if totals_fit(self.config, &dimension, rows, columns) {
                     Ok(dimension)
                 } else {
                     Err(TableFault::Totals)
@@ -226,16 +229,6 @@ where
         } else {
             TableFault::Memory
         }
-    }
-
-    // Whether the totals fit at these sizes, the natural ones.
-    fn totals_fit_at<A: Allocator>(&self, dimension: &ConstantDimension<A>) -> bool
-        requires widths { dimension.now.0.items ≡ sizes_of R.texts R.columns Columns (natural_parts self.now) }
-        requires heights { dimension.now.1.items ≡ sizes_of R.texts R.columns Rows (natural_parts self.now) }
-        ensures { result ≡ totals_fit (printed_table_of R.texts R.columns C.color (natural_parts self.now)) }
-    {
-        let (rows, columns) = (self.records.count_rows(), self.records.count_columns());
-        totals_fit(self.config, dimension, rows, columns)
     }
 
     /// Whether its spans fit, which are in order.

@@ -1,6 +1,6 @@
 //! The natural sizes of columns and rows.
 
-ghost use Rattle.std.specs.Prelude.{◌≡◌, ℕ, ◌+◌, ◌<◌, IfOk, length, ◌&&◌, sum_by, true};
+ghost use Rattle.std.specs.Prelude.{◌≡◌, ℕ, ◌+◌, ◌<◌, IfOk, length, max, ◌&&◌, sum_by, true};
 ghost use Rattle.std.specs.List.{range_with_len};
 ghost use Rattle.std.specs.Option.{ForSome};
 ghost use Rattle.pg_layout.specs.Records.{text_at};
@@ -12,17 +12,38 @@ ghost use Rattle.pg_table.specs.Natural.{paddings, text_size, cell_size, cell_at
 ghost use Rattle.pg_table.specs.declared.sizes.Axis.TheVariants.{Columns, Rows};
 
 use pg_config::{CellStyle, SpannedConfig};
-use pg_layout::{
-    ConstantDimension, ExactRecords, Formatting, Indent, PeekableRecords, Position, Sides,
-};
+use pg_layout::{ExactRecords, Formatting, Indent, PeekableRecords, Position, Sides};
 use pg_picture::{TextFacts, text_width};
 use std::alloc::{AllocError, Allocator};
 
 /// A sum with a number more, or `None` if it exceeds `usize::MAX`.
+#[inline(always)]
 pub(crate) fn plus(sum: Option<usize>, more: usize) -> Option<usize>
     ensures { (n : ℕ) → sum ≡ if_fits n → result ≡ if_fits (n + more) }
 {
     sum?.checked_add(more)
+}
+
+/// A sum with a size more, or `None` if one of them is or it exceeds `usize::MAX`.
+#[inline(always)]
+pub(crate) fn together(sum: Option<usize>, size: Option<usize>) -> Option<usize>
+    ensures { (n m : ℕ) → sum ≡ if_fits n → size ≡ if_fits m → result ≡ if_fits (n + m) }
+{
+    match size {
+        Some(size) => plus(sum, size),
+        None => None,
+    }
+}
+
+/// The greater of two sizes, or `None` if one of them is.
+#[inline(always)]
+pub(crate) fn greater(size: Option<usize>, other: Option<usize>) -> Option<usize>
+    ensures { (n m : ℕ) → size ≡ if_fits n → other ≡ if_fits m → result ≡ if_fits (max n m) }
+{
+    match (size, other) {
+        (Some(size), Some(other)) => Some(size.max(other)),
+        _ => None,
+    }
 }
 
 /// What has a natural size: columns have widths, and rows have heights. Contracts name it.
@@ -146,15 +167,14 @@ impl<'a, R: PeekableRecords + ExactRecords, B: Allocator> NaturalSizes<'a, R, B>
         }
     }
 
-    // The width of a cell, or its height, or `None` if it exceeds `usize::MAX`.
+    // The width of a cell whose text takes so many columns, or its height, or `None` if it exceeds
+    // `usize::MAX`.
     #[inline(always)]
-    fn cell_size(&self, axis: Axis, pos: Position) -> Option<usize>
-        requires row { pos.row < length (R.texts self.now.records) }
-        requires column { pos.col < R.columns self.now.records }
+    pub(crate) fn with_text(&self, axis: Axis, pos: Position, text: usize) -> Option<usize>
+        requires { text ≡ text_size axis self.now.config.now (text_at (R.texts self.now.records)) pos }
         ensures { result ≡ if_fits (cell_size axis self.now.config.now (text_at (R.texts self.now.records)) pos) }
     {
-        self.paddings(axis, pos)?
-            .checked_add(self.text_size(axis, pos))
+        plus(self.paddings(axis, pos), text)
     }
 
     // The natural size of a column or a row, or `None` if it exceeds `usize::MAX`.
@@ -163,11 +183,13 @@ impl<'a, R: PeekableRecords + ExactRecords, B: Allocator> NaturalSizes<'a, R, B>
         requires { k < count_of R.texts R.columns self.now axis }
         ensures { result ≡ if_fits (size_of R.texts R.columns self.now axis k) }
     {
-        let mut size = self.paddings(axis, axis.cell(k, 0))?;
+        let mut size = self.paddings(axis, axis.cell(k, 0));
         for j in 0..self.count_cells(axis) {
-            size = size.max(self.cell_size(axis, axis.cell(k, j))?);
+            let pos = axis.cell(k, j);
+            let cell = self.with_text(axis, pos, self.text_size(axis, pos));
+            size = greater(size, cell);
         }
-        Some(size)
+        size
     }
 
     /// Whether all widths and all heights are at most `usize::MAX`. Allocates nothing.
@@ -193,28 +215,14 @@ impl<'a, R: PeekableRecords + ExactRecords, B: Allocator> NaturalSizes<'a, R, B>
     pub(crate) fn total(&self, axis: Axis) -> Option<usize>
         ensures { result ≡ if_fits (sum_by (size_of R.texts R.columns self.now axis) (range_with_len 0 (count_of R.texts R.columns self.now axis))) }
     {
-        let mut sum: usize = 0;
+        let mut sum = Some(0);
         for k in 0..self.count(axis) {
-            sum = sum.checked_add(self.size(axis, k)?)?;
+            sum = together(sum, self.size(axis, k));
         }
-        Some(sum)
+        sum
     }
 
-    /// Lists of them, to be looked up at once.
-    pub(crate) fn listed<A: Allocator + Copy>(
-        &self,
-        alloc: A,
-    ) -> Result<ConstantDimension<A>, AllocError>
-        requires { (all_fit (sizes_of R.texts R.columns self.now Columns) && all_fit (sizes_of R.texts R.columns self.now Rows)) ≡ true }
-        ensures widths { IfOk result (λ d. d.0.items ≡ sizes_of R.texts R.columns self.now Columns) }
-        ensures heights { IfOk result (λ d. d.1.items ≡ sizes_of R.texts R.columns self.now Rows) }
-    {
-        let widths = self.list(alloc, Axis::Columns)?;
-        let heights = self.list(alloc, Axis::Rows)?;
-        Ok(ConstantDimension(widths, heights))
-    }
-
-    // All sizes of columns, or of rows.
+    /// All sizes of columns, or of rows, to be looked up at once.
     pub(crate) fn list<A: Allocator>(
         &self,
         alloc: A,

@@ -73,18 +73,6 @@ fn ranges_of<A: Allocator>(
 }
 
 impl<'a, R: PeekableRecords + ExactRecords, B: Allocator> NaturalSizes<'a, R, B> {
-    fn is_single(&self, pos: Position) -> bool
-        requires { spans_fit self.now.config.now.spans (length (R.texts self.now.records)) (R.columns self.now.records) ≡ true }
-        ensures { result ≡ is_single self.now.config.now.spans pos }
-    {
-        // Shows that the spans are in order.
-        let _spans = self.config.spans();
-        if !self.config.is_cell_visible(pos) {
-            return false;
-        }
-        self.config.left_span(pos).is_none()
-    }
-
     // What a cell without a span takes at least, and nothing for any other place; `None` if it
     // exceeds `usize::MAX`.
     fn least_single(&self, how: Overflow, pos: Position) -> Option<usize>
@@ -95,7 +83,12 @@ impl<'a, R: PeekableRecords + ExactRecords, B: Allocator> NaturalSizes<'a, R, B>
             ≡ (if is_single self.now.config.now.spans pos then least_cell_width how.entry self.now.config.now (text_at (R.texts self.now.records)) pos else 0)) }
         ensures huge { result ≡ None → IsHugeLeast how.entry self.now.config.now (R.texts self.now.records) (R.columns self.now.records) pos }
     {
-        if !self.is_single(pos) {
+        // Shows that the spans are in order.
+        let _spans = self.config.spans();
+        if !self.config.is_cell_visible(pos) {
+            return Some(0);
+        }
+        if self.config.left_span(pos).is_some() {
             return Some(0);
         }
         self.least_cell(how, pos)
@@ -234,17 +227,6 @@ impl<'a, R: PeekableRecords + ExactRecords, B: Allocator> NaturalSizes<'a, R, B>
         }
     }
 
-    // The terminal columns that a cell has, where columns have these widths, as far as a number goes.
-    fn cell_room<A: Allocator>(&self, widths: &ConstantDimension<A>, pos: Position) -> usize
-        requires fit { spans_fit self.now.config.now.spans (length (R.texts self.now.records)) (R.columns self.now.records) ≡ true }
-        requires row { pos.row < length (R.texts self.now.records) }
-        requires column { pos.col < R.columns self.now.records }
-        ensures { result ≡ min (cell_room widths.now.0.items self.now.config.now (length (R.texts self.now.records)) (R.columns self.now.records) pos) (2 ^ 64 - 1) }
-    {
-        let columns = self.records.count_columns();
-        rect_width(self.config, widths, pos, columns).unwrap_or(usize::MAX)
-    }
-
     // Sets another text for a shown cell whose text is too wide for its columns.
     fn fit_shown<A: Allocator + Copy>(
         &self,
@@ -269,7 +251,8 @@ impl<'a, R: PeekableRecords + ExactRecords, B: Allocator> NaturalSizes<'a, R, B>
         if !self.config.is_cell_visible(pos) {
             return Ok(());
         }
-        let room = self.cell_room(widths, pos);
+        let columns = self.records.count_columns();
+        let room = rect_width(self.config, widths, pos, columns).unwrap_or(usize::MAX);
         self.fit_cell(alloc, how, room, pos, fitted)
     }
 

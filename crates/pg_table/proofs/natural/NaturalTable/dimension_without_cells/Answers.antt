@@ -34,8 +34,19 @@ returns-then-not-fit-clause-memory g c = λ fault none e.
     let past = and_left (all_fit (natural_sizes Columns config texts columns) && all_fit (natural_sizes Rows config texts columns)) (cells_fit config (text_at texts) (length texts) columns) (sym lists ∙ sym told ∙ c.if-not-fit.true) in
     absurd (no_fault (sizes_fault config texts columns) Totals none (sizes-past config texts columns (empty-passes _ _ c.requires) past))
 
-pub returns-in_err-listed-clause-fault : goal.returns-in_err-listed-clause-fault
-returns-in_err-listed-clause-fault g c = λ fault e.
+pub returns-in_err-widths-clause-fault : goal.returns-in_err-widths-clause-fault
+returns-in_err-widths-clause-fault g c = λ fault e.
+    let self = c.args.self.now in
+    let config : Config = self.config.now in
+    let texts = g.R.Records.texts self.records in
+    let columns : ℕ = g.R.Records.columns self.records in
+    let told = rw (c.sizes-sizes.ensures.records, c.sizes-sizes.ensures.config) at c.fit.ensures in
+    let lists = ap₂ (λ xs ys. all_fit xs && all_fit ys) (empty-sizes config texts columns c.requires Columns) (empty-sizes config texts columns c.requires Rows) in
+    let all = and_from (all_fit (natural_sizes Columns config texts columns) && all_fit (natural_sizes Rows config texts columns)) (cells_fit config (text_at texts) (length texts) columns) (sym lists ∙ sym told ∙ c.if-not-fit.false) (empty-fits config texts columns c.requires) in
+    absurd (no_fault (sizes_fault config texts columns) fault (sizes-numbers config texts columns (empty-passes _ _ c.requires) all) e)
+
+pub returns-in_err-heights-clause-fault : goal.returns-in_err-heights-clause-fault
+returns-in_err-heights-clause-fault g c = λ fault e.
     let self = c.args.self.now in
     let config : Config = self.config.now in
     let texts = g.R.Records.texts self.records in
@@ -62,7 +73,7 @@ returns-clause-widths g c =
     let config : Config = self.config.now in
     let texts = g.R.Records.texts self.records in
     let columns : ℕ = g.R.Records.columns self.records in
-    (rw (c.sizes-sizes.ensures.records, c.sizes-sizes.ensures.config) at c.in_ok-listed.ensures.widths)
+    (rw (c.sizes-sizes.ensures.records, c.sizes-sizes.ensures.config) at c.in_ok-widths.ensures)
     ∙ empty-sizes config texts columns c.requires Columns
     ∙ sym (plain-widths self.widths.now config texts columns (no-cells _ _ c.requires))
 
@@ -72,4 +83,4 @@ returns-clause-heights g c =
     let config : Config = self.config.now in
     let texts = g.R.Records.texts self.records in
     let columns : ℕ = g.R.Records.columns self.records in
-    (rw (c.sizes-sizes.ensures.records, c.sizes-sizes.ensures.config) at c.in_ok-listed.ensures.heights) ∙ empty-sizes config texts columns c.requires Rows
+    (rw (c.sizes-sizes.ensures.records, c.sizes-sizes.ensures.config) at c.in_ok-heights.ensures) ∙ empty-sizes config texts columns c.requires Rows

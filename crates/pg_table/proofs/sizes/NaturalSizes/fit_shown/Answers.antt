@@ -1,4 +1,4 @@
-use Rattle.std.proofs.Common.{◌≡◌, ℕ, ◌-◌, ◌^◌, ◌<◌, true, false, min, List, length, Ok, Err, OnOk, refl, sym, ap, ◌∙◌, subst, arith, inl, inr}
+use Rattle.std.proofs.Common.{◌≡◌, ℕ, ◌-◌, ◌^◌, ◌<◌, true, false, min, List, length, slice_index, Option, unwrap_or, Ok, Err, OnOk, refl, sym, ap, ◌∙◌, subst, arith, inl, inr}
 use Rattle.std.proofs.lemmas.Bool.{cases_lt, false≢true}
 use Rattle.pg_layout.specs.declared.position.Position.{Position}
 use Rattle.pg_layout.specs.Records.{text_at}
@@ -7,6 +7,10 @@ use Rattle.pg_config.specs.Config.{Config, get_formatting}
 use Rattle.pg_config.specs.Spans.{is_visible}
 use Rattle.pg_fit.specs.Overlaid.{other_text}
 use Rattle.pg_picture.specs.Pieces.{widest}
+use Rattle.pg_picture.specs.Sizes.{if_fits, sized}
+use Rattle.pg_picture.specs.Table.{rect_width}
+use Rattle.pg_picture.proofs.FittingTables.{rect_inside}
+use Rattle.pg_picture.proofs.Ranges.{if_fits-below, if_fits-past}
 use Rattle.pg_table.specs.Inside.Fitting.{fitted_to, HasRoomAt, HasRoomTogether}
 use Rattle.pg_table.specs.Natural.{paddings, cell_size}
 use Rattle.pg_table.specs.Spanning.{cell_room, spanned_text}
@@ -15,6 +19,19 @@ use Rattle.pg_table.specs.declared.sizes.Axis.TheVariants.{Columns}
 use Rattle.pg_table.proofs.FittedColumns.{fitted_text-stays}
 use Rattle.pg_table.proofs.ShownCells.{cell-fits, sized-size}
 use Rattle.pg_table.proofs.sizes.NaturalSizes.fit_shown.Goals as goal
+
+-- a width that may be no number, as far as a number goes
+as_number : (o : Option ℕ) (n : ℕ) → o ≡ if_fits n → unwrap_or o (2 ^ 64 - 1) ≡ min n (2 ^ 64 - 1)
+as_number o n is =
+    elim (cases_lt n (2 ^ 64)) [
+      | inl below ↦ omega (arith, ap (λ (q : Option ℕ). unwrap_or q (2 ^ 64 - 1)) (is ∙ if_fits-below n below), below)
+      | inr past ↦ omega (arith, ap (λ (q : Option ℕ). unwrap_or q (2 ^ 64 - 1)) (is ∙ if_fits-past n past), past)
+    ]
+
+-- heights do nothing to it
+same_room : (config : Config) (ws hs : List ℕ) (rows columns : ℕ) (p : Position) → rect_width (sized config (slice_index ws) (slice_index hs) rows columns) p ≡ cell_room ws config rows columns p
+unfolding cell_room rect_width
+same_room config ws hs rows columns p = refl
 
 module _ (how : Overflow) (ws : List ℕ) (config : Config) (texts : List (List Text)) (columns : ℕ) (p : Position) where
   abbrev room : ℕ
@@ -47,6 +64,16 @@ module _ (how : Overflow) (ws : List ℕ) (config : Config) (texts : List (List 
   hidden-room : is_visible config.spans p ≡ false → HasRoomTogether how ws config texts columns p
   hidden-room hidden = λ plain shown least. absurd (false≢true (sym hidden ∙ shown))
 
+pub rect_width-requires-clause-some : goal.rect_width-requires-clause-some
+rect_width-requires-clause-some g c =
+    let self = c.args.self.now in
+    (rect_inside self.config.now.spans (length (g.R.Records.texts self.records)) (g.R.Records.columns self.records) c.args.pos c.requires.fit c.requires.row c.requires.column).some_columns
+
+pub rect_width-requires-clause-inside : goal.rect_width-requires-clause-inside
+rect_width-requires-clause-inside g c =
+    let self = c.args.self.now in
+    omega (arith, c.count_columns-columns.ensures.value, (rect_inside self.config.now.spans (length (g.R.Records.texts self.records)) (g.R.Records.columns self.records) c.args.pos c.requires.fit c.requires.row c.requires.column).columns_end)
+
 pub returns-then-not-is_cell_visible-clause-here : goal.returns-then-not-is_cell_visible-clause-here
 returns-then-not-is_cell_visible-clause-here g c =
     let self = c.args.self.now in
@@ -64,7 +91,11 @@ returns-clause-here g c =
     let columns : ℕ = g.R.Records.columns self.records in
     let shown = sym c.is_cell_visible.ensures ∙ c.if-not-is_cell_visible.false in
     let small = sized-size self.config.now (text_at texts) (length texts) columns Columns c.args.pos (cell-fits self.config.now (text_at texts) (length texts) columns c.requires.sized c.args.pos.row c.args.pos.col c.requires.row c.requires.column shown) in
-    let ends = ap (λ n. fitted_to c.args.how self.config.now (text_at texts) n c.args.pos) c.cell_room-room.ensures
+    let ws : List ℕ = c.args.widths.now.0.items in
+    let wide : c.rect_width.result ≡ if_fits (cell_room ws self.config.now (length texts) columns c.args.pos) =
+    (rw c.count_columns-columns.ensures.value at c.rect_width.ensures (length texts)) ∙ ap (λ n. if_fits n) (same_room self.config.now ws c.args.widths.now.1.items (length texts) columns c.args.pos) in
+    let room : c.unwrap_or-room.result ≡ min (cell_room ws self.config.now (length texts) columns c.args.pos) (2 ^ 64 - 1) = c.unwrap_or-room.ensures ∙ as_number c.rect_width.result (cell_room ws self.config.now (length texts) columns c.args.pos) wide in
+    let ends = ap (λ n. fitted_to c.args.how self.config.now (text_at texts) n c.args.pos) room
     ∙ as-number c.args.how c.args.widths.now.0.items self.config.now texts columns c.args.pos small
     ∙ sym (shown-is c.args.how c.args.widths.now.0.items self.config.now texts columns c.args.pos shown) in
     subst (λ (t : Text). OnOk c.fit_cell.result (other_text c.fit_cell.new.fitted.others texts c.args.pos ≡ t)) ends c.fit_cell.ensures.here
@@ -76,7 +107,11 @@ returns-clause-room g c =
     let columns : ℕ = g.R.Records.columns self.records in
     let shown = sym c.is_cell_visible.ensures ∙ c.if-not-is_cell_visible.false in
     let small = sized-size self.config.now (text_at texts) (length texts) columns Columns c.args.pos (cell-fits self.config.now (text_at texts) (length texts) columns c.requires.sized c.args.pos.row c.args.pos.col c.requires.row c.requires.column shown) in
-    let told = rw c.cell_room-room.ensures at c.fit_cell.ensures.room in
+    let ws : List ℕ = c.args.widths.now.0.items in
+    let wide : c.rect_width.result ≡ if_fits (cell_room ws self.config.now (length texts) columns c.args.pos) =
+    (rw c.count_columns-columns.ensures.value at c.rect_width.ensures (length texts)) ∙ ap (λ n. if_fits n) (same_room self.config.now ws c.args.widths.now.1.items (length texts) columns c.args.pos) in
+    let room : c.unwrap_or-room.result ≡ min (cell_room ws self.config.now (length texts) columns c.args.pos) (2 ^ 64 - 1) = c.unwrap_or-room.ensures ∙ as_number c.rect_width.result (cell_room ws self.config.now (length texts) columns c.args.pos) wide in
+    let told = rw room at c.fit_cell.ensures.room in
     elim c.fit_cell.result as (λ r. OnOk r (HasRoomAt c.args.how self.config.now (text_at texts) (min (cell_room c.args.widths.now.0.items self.config.now (length texts) columns c.args.pos) (2 ^ 64 - 1)) c.args.pos) → OnOk r (HasRoomTogether c.args.how c.args.widths.now.0.items self.config.now texts columns c.args.pos)) [
       | Ok u ↦ λ has. room-together c.args.how c.args.widths.now.0.items self.config.now texts columns c.args.pos small has
       | Err e ↦ λ _. tt
