@@ -43,5 +43,5 @@ pub fn texts_of_row(alloc: Global, row: &str) -> Result<Vec<&str>, LineFault> {
         return Ok(Vec::new(alloc));
     }
     let row = row.strip_suffix('|').ok_or(LineFault::Unknown)?;
-    Ok(row.split('|').collect(alloc)?)
+    row.split('|').collect(alloc).map_err(LineFault::from)
 }

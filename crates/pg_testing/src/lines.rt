@@ -64,7 +64,7 @@ fn meaning(alloc: Global, line: &str) -> Result<String, AllocError> {
 /// The lines of an input to be followed: those of a block once for each value.
 pub fn read_lines<R: Read + Drop>(alloc: Global, input: R) -> io::Result<Vec<NumberedLine>> {
     let text = io::read_to_string(alloc, input)?;
-    Ok(lines_of(alloc, &text)?)
+    lines_of(alloc, &text).map_err(io::Error::from)
 }
 
 // The lines of a text to be followed.
