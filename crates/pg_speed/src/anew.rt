@@ -15,7 +15,7 @@ use std::alloc::{AllocError, Global};
 /// The text of a table whose rows are made anew, built so many times; empty where it isn't printed.
 pub(crate) fn text_of_rows(
     alloc: Global,
-    grid: Grid,
+    grid: &Grid,
     table: &Table,
     config: &SpannedConfig,
     times: usize,
@@ -23,14 +23,15 @@ pub(crate) fn text_of_rows(
     let mut text = String::new(alloc);
     for _ in 0..times {
         text.clear();
-        match grid {
-            Grid::Rows => push_rows(alloc, table, config, &mut text)?,
-            Grid::Results => print_rows(alloc, table, config, &mut text)?,
-            Grid::Live => push_live(alloc, table, config, &mut text)?,
-            Grid::Lent => push_lent(alloc, table, config, &mut text)?,
-            Grid::Sized => push_sized(alloc, table, config, &mut text)?,
-            _ => print_vectors(alloc, grid, table, config, &mut text)?,
-        }
+        let pushed = match grid {
+            Grid::Rows => push_rows(alloc, table, config, &mut text),
+            Grid::Results => print_rows(alloc, table, config, &mut text),
+            Grid::Live => push_live(alloc, table, config, &mut text),
+            Grid::Lent => push_lent(alloc, table, config, &mut text),
+            Grid::Sized => push_sized(alloc, table, config, &mut text),
+            _ => print_vectors(alloc, grid, table, config, &mut text),
+        };
+        pushed?;
     }
     Ok(text)
 }
@@ -118,7 +119,7 @@ fn row_of(alloc: Global, table: &Table) -> Result<Vec<&'static str>, AllocError>
 // Makes all rows of a table, and does with them what the grid says.
 fn print_vectors(
     alloc: Global,
-    grid: Grid,
+    grid: &Grid,
     table: &Table,
     config: &SpannedConfig,
     text: &mut String,

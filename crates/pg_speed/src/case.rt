@@ -6,7 +6,6 @@ use crate::table::{Spans, Table, Telling, Words};
 pub(crate) struct Case(pub(crate) &'static str, pub(crate) Grid, pub(crate) Table);
 
 /// Which grid prints a table, and from what.
-#[derive(Clone, Copy)]
 pub(crate) enum Grid {
     /// The looked-up grid, from texts in memory.
     Peekable,

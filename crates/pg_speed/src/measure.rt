@@ -21,12 +21,12 @@ pub(crate) fn text_of(alloc: Global, case: &Case, times: usize) -> Result<String
         Grid::Compact => compact_text(alloc, false, table, times),
         Grid::CompactColored => compact_text(alloc, true, table, times),
         Grid::Told => told(alloc, table, times),
-        _ => spanned_text(alloc, *grid, table, times),
+        _ => spanned_text(alloc, grid, table, times),
     }
 }
 
 // The text of a table whose cells may span rows and columns, built so many times.
-fn spanned_text(alloc: Global, grid: Grid, table: &Table, times: usize) -> Result<String> {
+fn spanned_text(alloc: Global, grid: &Grid, table: &Table, times: usize) -> Result<String> {
     let mut config = SpannedConfig::new(alloc);
     set(alloc, table, &mut config)?;
     match grid {
@@ -44,7 +44,7 @@ fn spanned_text(alloc: Global, grid: Grid, table: &Table, times: usize) -> Resul
 // The text of a table whose texts are in memory, printed so many times.
 fn text_of_records(
     alloc: Global,
-    grid: Grid,
+    grid: &Grid,
     table: &Table,
     config: &SpannedConfig,
     times: usize,
@@ -55,25 +55,26 @@ fn text_of_records(
         Grid::Natural => natural(alloc, &records, config, times),
         Grid::Checked => checked(alloc, &records, &dimension, config, times),
         Grid::Tested => tested(alloc, &records, &dimension, config, times),
-        Grid::Iter => streamed(alloc, &records, &dimension, config, times),
+        Grid::Iter => {
+            let grid = IterGrid::new(&records, config, &dimension, NoColors);
+            built(alloc, grid.with_memory(alloc), times)
+        }
         Grid::Colored => {
             let colors = colors(alloc, table)?;
-            looked_up(alloc, &records, &dimension, config, &colors, times)
+            let grid = PeekableGrid::new(&records, config, &dimension, &colors);
+            built(alloc, &grid, times)
         }
-        _ => looked_up(alloc, &records, &dimension, config, &NoColors, times),
+        _ => {
+            let grid = PeekableGrid::new(&records, config, &dimension, NoColors);
+            built(alloc, &grid, times)
+        }
     }
 }
 
-// The text of a table as the looked-up grid prints it, built so many times.
-fn looked_up<C: Colors>(
-    alloc: Global,
-    records: &VecRecords<String>,
-    dimension: &ConstantDimension,
-    config: &SpannedConfig,
-    colors: &C,
-    times: usize,
-) -> Result<String> {
-    let grid = PeekableGrid::new(records, config, dimension, colors);
+// The text of a table as a grid prints it, built so many times after one test.
+fn built<P: TablePrinter + Copy>(alloc: Global, grid: P, times: usize) -> Result<String>
+    requires readable { P.is_readable grid }
+{
     grid.fits()?;
     let mut text = String::new(alloc);
     for _ in 0..times {
@@ -115,24 +116,6 @@ fn tested(
     Ok(String::new(alloc))
 }
 
-// The text of a table as the streaming grid prints it, built so many times.
-fn streamed(
-    alloc: Global,
-    records: &VecRecords<String>,
-    dimension: &ConstantDimension,
-    config: &SpannedConfig,
-    times: usize,
-) -> Result<String> {
-    let grid = IterGrid::new(records, config, dimension, NoColors);
-    grid.fits()?;
-    let mut text = String::new(alloc);
-    for _ in 0..times {
-        text.clear();
-        grid.build(alloc, &mut text)?;
-    }
-    Ok(text)
-}
-
 // The text of the streaming grid from texts that are made as it asks for them.
 fn streamed_as_made(
     alloc: Global,
@@ -146,13 +129,7 @@ fn streamed_as_made(
         columns: table.columns,
     };
     let grid = IterGrid::new(records, config, table, NoColors);
-    grid.fits()?;
-    let mut text = String::new(alloc);
-    for _ in 0..times {
-        text.clear();
-        grid.build(alloc, &mut text)?;
-    }
-    Ok(text)
+    built(alloc, grid.with_memory(alloc), times)
 }
 
 // The text of a table at its natural sizes, built so many times.

@@ -1,6 +1,7 @@
 //! The settings of the tables.
 
 use crate::table::Table;
+use crate::telling::position;
 use anyhow::{Result, bail};
 use pg_config::{CompactConfig, SpannedConfig};
 use pg_layout::{
@@ -70,14 +71,13 @@ fn layer_row(config: &mut SpannedConfig, columns: usize, row: usize) -> Result<(
 /// The configuration of a table that the compact grid prints. Its colours are those of the other
 /// grids, and it has no margin above or below.
 pub(crate) fn compact_settings(is_colored: bool) -> CompactConfig {
-    let (space, none) = (Indent::spaced(1), Indent::zero());
     let config = CompactConfig::new()
         .set_borders(Borders::ascii())
-        .set_padding(Sides::new(space, space, none, none));
+        .set_padding(Sides::horizontal(1));
     if !is_colored {
         return config;
     }
-    let dots = Indent::new(2, '.');
+    let (dots, none) = (Indent::new(2, '.'), Indent::zero());
     config
         .set_borders_color(everywhere(ANSIStr::new("\u{1b}[34m", PLAIN)))
         .set_margin(Sides::new(dots, dots, none, none))
@@ -108,25 +108,13 @@ fn everywhere(color: ANSIStr<'static>) -> Borders<ANSIStr<'static>> {
 /// The colours of the cells: each third cell has one of seven.
 pub(crate) fn colors(alloc: Global, table: &Table) -> Result<ColorsMap, AllocError> {
     let mut colors = ColorsMap::new(alloc);
-    for row in 0..table.rows {
-        color_row(alloc, &mut colors, row, table.columns)?;
-    }
-    Ok(colors)
-}
-
-// Those of a row.
-fn color_row(
-    alloc: Global,
-    colors: &mut ColorsMap,
-    row: usize,
-    columns: usize,
-) -> Result<(), AllocError> {
-    for column in 0..columns {
-        if (row % 3 + column % 3) % 3 == 0 {
-            color_cell(alloc, colors, Position::new(row, column))?;
+    for number in 0..table.rows.saturating_mul(table.columns) {
+        let pos = position(number, table.columns);
+        if (pos.row % 3 + pos.col % 3) % 3 == 0 {
+            color_cell(alloc, &mut colors, pos)?;
         }
     }
-    Ok(())
+    Ok(colors)
 }
 
 /// Gives a cell one of seven colours.

@@ -5,7 +5,6 @@ use pg_layout::Dimension;
 /// What a table consists of.
 ///
 /// As a dimension it has columns of one width and rows of one height, which take no memory.
-#[derive(Clone, Copy)]
 pub(crate) struct Table {
     pub(crate) rows: usize,
     pub(crate) columns: usize,
@@ -21,7 +20,6 @@ pub(crate) struct Table {
 }
 
 /// What the cells of a table say.
-#[derive(Clone, Copy)]
 pub(crate) enum Words {
     /// A few letters.
     Letters,
@@ -36,7 +34,6 @@ pub(crate) enum Words {
 }
 
 /// Which cells span others.
-#[derive(Clone, Copy)]
 pub(crate) struct Spans {
     /// How many rows and columns each has.
     pub(crate) size: (usize, usize),
@@ -50,7 +47,6 @@ pub(crate) struct Spans {
 }
 
 /// What a table that is told anew is told of single cells and rows.
-#[derive(Clone, Copy)]
 pub(crate) enum Telling {
     /// Nothing.
     Nothing,

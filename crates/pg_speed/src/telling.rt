@@ -32,8 +32,8 @@ pub(crate) fn tell(
     }
 }
 
-// The place of the cell of this number, row by row.
-fn position(number: usize, columns: usize) -> Position {
+/// The place of the cell of this number, row by row.
+pub(crate) fn position(number: usize, columns: usize) -> Position {
     if columns == 0 {
         return Position::new(0, 0);
     }
@@ -41,7 +41,7 @@ fn position(number: usize, columns: usize) -> Position {
 }
 
 // The number of the cell that is told of after so many others, of so many cells.
-fn number(telling: Telling, told: usize, cells: usize) -> usize {
+fn number(telling: &Telling, told: usize, cells: usize) -> usize {
     if cells == 0 {
         return 0;
     }
@@ -61,7 +61,7 @@ fn tell_cells(
 ) -> Result<(), AllocError> {
     let cells = table.rows.saturating_mul(table.columns);
     for told in 0..cells {
-        let pos = position(number(table.telling, told, cells), table.columns);
+        let pos = position(number(&table.telling, told, cells), table.columns);
         color_cell(alloc, colors, pos)?;
         style_cell(config, pos)?;
     }
@@ -86,26 +86,12 @@ const ALIGNMENTS: [AlignmentHorizontal; 3] = [
     AlignmentHorizontal::Right,
 ];
 
-// A border of each cell.
+// A border of each cell: one glyph all round it.
 fn tell_borders(config: &mut SpannedConfig, table: &Table) -> Result<(), AllocError> {
-    for row in 0..table.rows {
-        tell_borders_of_row(config, row, table.columns)?;
-    }
-    Ok(())
-}
-
-// One glyph all round each cell of a row.
-fn tell_borders_of_row(
-    config: &mut SpannedConfig,
-    row: usize,
-    columns: usize,
-) -> Result<(), AllocError> {
-    for column in 0..columns {
-        let c = ['#', '*', '%'][(row % 3 + column % 3) % 3];
-        config.set_border(
-            Position::new(row, column),
-            Border::full(c, c, c, c, c, c, c, c),
-        )?;
+    for number in 0..table.rows.saturating_mul(table.columns) {
+        let pos = position(number, table.columns);
+        let c = ['#', '*', '%'][(pos.row % 3 + pos.col % 3) % 3];
+        config.set_border(pos, Border::full(c, c, c, c, c, c, c, c))?;
     }
     Ok(())
 }
