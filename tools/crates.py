@@ -1,4 +1,4 @@
-"""The crates of the repository, as crates.txt lists them.
+"""The crates of the repository, as crates.txt lists them, its version, and the logic that it is proved with.
 
 `python3 tools/crates.py NAME` prints those below a crate, lowest first, and then that one.
 """
@@ -7,6 +7,7 @@ import sys
 from pathlib import Path
 
 TOP = Path(__file__).resolve().parent.parent
+VERSION, LOGIC = (line.split()[1] for line in (TOP / "VERSION").read_text().splitlines())
 
 
 def crate_lines(text):

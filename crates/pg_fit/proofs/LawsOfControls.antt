@@ -27,11 +27,10 @@ use Rattle.pg_fit.specs.Inside.{adds_up}
 use Rattle.std.proofs.lemmas.Grind.{common_steps}
 use Rattle.std.proofs.Math.Utf8.{scalars, scalar}
 use Rattle.pg_fit.specs.Escapes.{after, is_shown, is_outside, shown_from, without_escapes}
-use Rattle.pg_fit.specs.EscapesLaws.{NoEscapesAreLeft, TextsWithoutEscapesStay, LineFeedsStay}
+use Rattle.pg_fit.specs.Laws.{NoEscapesAreLeft, TextsWithoutEscapesStay, LineFeedsStay, NoControlsAreLeft, VisibleTextsStay, SignsTakeOneColumn}
 use Rattle.pg_fit.specs.declared.escapes.Reading.{Reading}
 use Rattle.pg_fit.specs.declared.escapes.Reading.TheVariants.{Shown, Escaped}
 use Rattle.pg_fit.specs.Controls.{is_hidden, is_control, sign_of, visible_text}
-use Rattle.pg_fit.specs.Laws.{NoControlsAreLeft, VisibleTextsStay, SignsTakeOneColumn}
 
 -- ---- printable bytes, and characters that add their own widths to that of the text before them
 

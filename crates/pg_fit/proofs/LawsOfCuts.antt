@@ -13,7 +13,7 @@ use Rattle.unicode_width.specs.Kind.{kind}
 use Rattle.unicode_width.proofs.Rules.{is_simple_kind, is_simple}
 use Rattle.unicode_width.proofs.Computing.{unicode_width}
 use Rattle.unicode_segmentation.specs.Grapheme.{graphemes, is_grapheme_break}
-use Rattle.pg_fit.specs.Laws.{is_tail_character, CutLinesFit, CutTextsStay, CutLinesStand, CutTextsFit}
+use Rattle.pg_fit.specs.Laws.{is_tail_character, CutLinesFit, CutTextsStay, CutLinesStand, CutTextsFit, FrontCutsFit, CutAwayLinesFit, CutAwayTextsStay, CutAwayLinesStand, CutAwayTextsFit}
 use Rattle.pg_fit.proofs.LawsOfControls.{nothing_wide, simple-behind, simple-characters}
 use Rattle.pg_fit.proofs.FilledLines.{StandFrom, characters-stand, slice_range-all, slice_range-none}
 use Rattle.std.proofs.lemmas.List.{length-map, reverse-append, take-append-drop}
@@ -26,7 +26,6 @@ use Rattle.unicode_segmentation.proofs.TextLemmas.{slice_range_split, length-sli
 use Rattle.pg_fit.specs.CuttingAway.{held_before, kept_front, cut_behind, cut_away_line, ending, cut_away_text}
 use Rattle.pg_fit.specs.Inside.{adds_up}
 use Rattle.pg_fit.specs.declared.cutting_away.Kept.{Kept}
-use Rattle.pg_fit.specs.CuttingAwayLaws.{FrontCutsFit, CutAwayLinesFit, CutAwayTextsStay, CutAwayLinesStand, CutAwayTextsFit}
 use Rattle.pg_fit.specs.declared.cutting_away.Kept.TheVariants.{End, BothEnds}
 use Rattle.pg_fit.specs.Rows.{is_fitting, cut_cell}
 

@@ -1,5 +1,5 @@
 -- What wrapped, cut and visible texts are like.
-use Rattle.std.specs.Prelude.{◌≡◌, ℕ, ◌≤◌, ◌==◌, ◌||◌, Bool, false, true, not, filter, List, [], ◌∷◌, map, chars}
+use Rattle.std.specs.Prelude.{◌≡◌, ℕ, ◌≤◌, ◌==◌, ◌||◌, Bool, false, true, not, filter, List, [], ◌∷◌, map, chars, count_by}
 use Rattle.std.specs.Int.{is_in_range}
 use Rattle.std.specs.List.{concat, flat_map, list_all}
 use Rattle.std.specs.Str.{IsUtf8}
@@ -10,6 +10,10 @@ use Rattle.pg_fit.specs.declared.wrapping.Breaking.TheVariants.{Anywhere, Betwee
 use Rattle.pg_fit.specs.Wrapping.{least_line_width, least_width, wrapped_line, wrapped}
 use Rattle.pg_fit.specs.Cutting.{cut_line, cut_text}
 use Rattle.pg_fit.specs.Controls.{is_control, sign_of, visible_text}
+use Rattle.pg_fit.specs.CuttingAway.{cut_away_line, cut_away_text}
+use Rattle.pg_fit.specs.declared.cutting_away.Kept.{Kept}
+use Rattle.pg_fit.specs.declared.cutting_away.Kept.TheVariants.{End}
+use Rattle.pg_fit.specs.Escapes.{without_escapes}
 
 -- ---- wrapped texts
 
@@ -86,3 +90,45 @@ VisibleTextsStay = (text : Text) → IsUtf8 text → has_no_controls text ≡ tr
 -- What stands for a control character takes one column.
 abbrev pub SignsTakeOneColumn : Type 0
 SignsTakeOneColumn = (c : ℕ) → is_control c ≡ true → str_width false (sign_of c ∷ []) ≡ 1
+
+-- ---- texts that are cut in front or in the middle
+
+-- A line that is cut in front is at most so wide, whatever the tail.
+abbrev pub FrontCutsFit : Type 0
+FrontCutsFit = (width : ℕ) (tail line : Text) → width_of (cut_away_line End width tail line) ≤ width
+
+-- Any line that is cut is at most so wide, where the tail is of printable ASCII and ellipses.
+abbrev pub CutAwayLinesFit : Type 0
+CutAwayLinesFit =
+    (kept : Kept) (width : ℕ) (tail line : Text) → IsUtf8 line → list_all is_tail_character (chars tail) ≡ true
+    → width_of (cut_away_line kept width tail line) ≤ width
+
+-- A text that fits stays as it is.
+abbrev pub CutAwayTextsStay : Type 0
+CutAwayTextsStay = (kept : Kept) (width : ℕ) (tail text : Text) → text_width_of text ≤ width → cut_away_text kept width tail text ≡ text
+
+-- The lines of a text that is cut are its lines, each cut, where the tail is one line.
+abbrev pub CutAwayLinesStand : Type 0
+CutAwayLinesStand =
+    (kept : Kept) (width : ℕ) (tail text : Text) → IsUtf8 text → IsUtf8 tail → lines_of tail ≡ tail ∷ []
+    → lines_of (cut_away_text kept width tail text) ≡ map (cut_away_line kept width tail) (lines_of text)
+
+-- So a text that is cut is at most so wide, where the tail is of printable ASCII and ellipses.
+abbrev pub CutAwayTextsFit : Type 0
+CutAwayTextsFit =
+    (kept : Kept) (width : ℕ) (tail text : Text) → IsUtf8 text → IsUtf8 tail → list_all is_tail_character (chars tail) ≡ true
+    → text_width_of (cut_away_text kept width tail text) ≤ width
+
+-- ---- texts without escape sequences
+
+-- No escape is left.
+abbrev pub NoEscapesAreLeft : Type 0
+NoEscapesAreLeft = (text : Text) → IsUtf8 text → list_all (λ c. not (c == 27)) (chars (without_escapes text)) ≡ true
+
+-- A text without an escape stays as it is.
+abbrev pub TextsWithoutEscapesStay : Type 0
+TextsWithoutEscapesStay = (text : Text) → IsUtf8 text → list_all (λ c. not (c == 27)) (chars text) ≡ true → without_escapes text ≡ text
+
+-- Each line feed stays.
+abbrev pub LineFeedsStay : Type 0
+LineFeedsStay = (text : Text) → IsUtf8 text → count_by (λ c. c == 10) (chars (without_escapes text)) ≡ count_by (λ c. c == 10) (chars text)

@@ -1,10 +1,8 @@
 pub mod Wrapping
 pub mod Cutting
 pub mod CuttingAway
-pub mod CuttingAwayLaws
 pub mod Controls
 pub mod Escapes
-pub mod EscapesLaws
 pub mod Printable
 pub mod Rows
 pub mod Narrowing

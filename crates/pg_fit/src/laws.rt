@@ -1,13 +1,10 @@
 //! Laws of texts within widths: the contracts of functions that do nothing are the laws.
 
-ghost use Rattle.pg_fit.specs.Laws.{LinesFit, NothingIsLost, OnlySpacesAreLost, FittingTextsStay, LinesStand, WrappedTextsFit, CutLinesFit};
-ghost use Rattle.pg_fit.specs.Laws.{CutTextsStay, CutLinesStand, CutTextsFit, VisibleTextsStay, NoControlsAreLeft, SignsTakeOneColumn};
+ghost use Rattle.pg_fit.specs.Laws.{LinesFit, NothingIsLost, OnlySpacesAreLost, FittingTextsStay, LinesStand, WrappedTextsFit, CutLinesFit, CutTextsStay, CutLinesStand, CutTextsFit, VisibleTextsStay, NoControlsAreLeft, SignsTakeOneColumn, FrontCutsFit, CutAwayLinesFit, CutAwayTextsStay, CutAwayLinesStand, CutAwayTextsFit, NoEscapesAreLeft, TextsWithoutEscapesStay, LineFeedsStay};
 ghost use Rattle.std.specs.Prelude.{◌≡◌, ◌∷◌, ◌++◌, codes};
 ghost use Rattle.pg_fit.specs.CuttingAway.{cut_away_text};
 ghost use Rattle.pg_fit.specs.declared.cutting_away.Kept.TheVariants.{End, BothEnds};
-ghost use Rattle.pg_fit.specs.CuttingAwayLaws.{FrontCutsFit, CutAwayLinesFit, CutAwayTextsStay, CutAwayLinesStand, CutAwayTextsFit};
 ghost use Rattle.pg_fit.specs.Escapes.{without_escapes};
-ghost use Rattle.pg_fit.specs.EscapesLaws.{NoEscapesAreLeft, TextsWithoutEscapesStay, LineFeedsStay};
 ghost use Rattle.pg_fit.specs.Narrowing.{FillsTheRoom, WithinRanges, IsEvenHanded, LimitsHold, StayNatural, EndAtLeast};
 
 /// Each line of a wrapped text is at most as wide as allowed, unless a character is wider. Broken

@@ -1,3 +1,2 @@
-pub mod Mode
 pub mod Program
 pub mod Show

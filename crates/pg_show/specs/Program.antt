@@ -1,11 +1,10 @@
 -- What the program answers.
-use Rattle.std.specs.Prelude.{◌≡◌, ◌≢◌, ℕ, ◌==◌, Bool, true, false, ◌||◌, List, [], ◌∷◌, ◌++◌, Option, Some, None, Result, Ok, Err, String, string_bytes, codes, decimal}
+use Rattle.std.specs.Prelude.{◌≡◌, ◌≢◌, ℕ, ◌==◌, Bool, true, false, ◌||◌, List, [], ◌∷◌, ◌++◌, Option, Some, None, Result, Ok, Err, String, string_bytes, codes, decimal, if◌then◌else◌}
 use Rattle.pg_layout.specs.Text.{Text}
 use Rattle.pg_picture.specs.declared.fault.PrintFault.{PrintFault}
 use Rattle.pg_picture.specs.declared.fault.PrintFault.TheVariants as print
 use Rattle.pg_picture.specs.declared.fits.Misfit.{Misfit as WhatMisfits}
 use Rattle.pg_picture.specs.Fits.{misfit_text}
-use Rattle.pg_show.specs.Mode.{mode_of}
 use Rattle.pg_script.specs.Script.{told_by}
 use Rattle.pg_show.specs.Show.{misfit_in, text_in}
 use Rattle.pg_script.specs.Told.{Told}
@@ -14,6 +13,27 @@ use Rattle.pg_show.specs.declared.fault.Fault.TheVariants.{Usage, Bad, Misfit, M
 use Rattle.pg_show.specs.declared.mode.Mode.{Mode}
 use Rattle.pg_script.specs.declared.script.ScriptFault.{ScriptFault}
 use Rattle.pg_script.specs.declared.script.ScriptFault.TheVariants as script
+use Rattle.std.specs.Str.{bytes_eq}
+use Rattle.pg_show.specs.declared.mode.Mode.TheVariants.{Compact, Iter, Peek, Table}
+
+-- ---- which printer prints a script
+
+-- the mode of this name
+abbrev pub mode_named : List ℕ → Option Mode
+mode_named name =
+    if bytes_eq name (codes "compact") then Some Compact
+    else if bytes_eq name (codes "iter") then Some Iter
+    else if bytes_eq name (codes "peek") then Some Peek
+    else if bytes_eq name (codes "table") then Some Table
+    else None
+
+-- the mode that the program's arguments name: there is exactly one of them
+abbrev pub mode_of : List (List ℕ) → Option Mode
+mode_of [] = None
+mode_of (name ∷ []) = mode_named name
+mode_of (name ∷ other ∷ others) = None
+
+-- ---- what the program answers
 
 -- the exit status that tells of a fault
 abbrev pub status_of : Fault → ℕ

@@ -1,7 +1,7 @@
 //! Which printer prints a script's table.
 
 ghost use Rattle.std.specs.Prelude.{◌≡◌, map, string_bytes};
-ghost use Rattle.pg_show.specs.Mode.{mode_named, mode_of};
+ghost use Rattle.pg_show.specs.Program.{mode_named, mode_of};
 
 /// Which printer prints a script's table.
 #[derive(Debug, Clone, Copy, PartialEq, Eq)]

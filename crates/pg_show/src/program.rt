@@ -3,9 +3,8 @@
 ghost use Rattle.std.specs.Prelude.{◌≡◌, ◌≢◌, ◌^◌, ◌<◌, ◌≤◌, ◌⊎◌, ℕ, List, length, map, string_bytes, true, false, Some, None, Ok, Err, IfOk, IfSome, IsOk, OnOk};
 ghost use Rattle.std.specs.Io.KnownBytes.{Appends, Consumes, Keeps};
 ghost use Rattle.pg_layout.specs.Text.{Text};
-ghost use Rattle.pg_show.specs.Mode.{mode_of};
+ghost use Rattle.pg_show.specs.Program.{mode_of, Answers, answer_of_told, answer_of_script, answer_to, is_failure, line_of, status_after, status_of_answer, tells_failure};
 ghost use Rattle.pg_script.specs.Script.{told_of_script};
-ghost use Rattle.pg_show.specs.Program.{Answers, answer_of_told, answer_of_script, answer_to, is_failure, line_of, status_after, status_of_answer, tells_failure};
 
 use crate::fault::Fault;
 use crate::mode::Mode;

@@ -4,7 +4,7 @@ use Rattle.std.specs.Prelude.{IfErr}
 use Rattle.std.specs.Result.{IsErrAnd}
 use Rattle.sqlite_format.specs.declared.kind.Tree.TheVariants as tree
 use Rattle.ruled_database.specs.Definitions.{definition_of}
-use Rattle.ruled_database.specs.Faults.{LacksTexts}
+use Rattle.ruled_database.specs.Values.{LacksTexts}
 use Rattle.ruled_database.specs.Listings.{Entry, HasWrongEntry, IsListed, IsWrongEntry, LacksDefinition, LacksEntries, LacksEntry, LacksListing, LacksRows, LacksSchema, LacksTable, entry_in, fields_of_entry}
 use Rattle.ruled_database.specs.Tables.{AddsRows, names_in}
 use Rattle.ruled_database.specs.declared.definition.Definition.{Definition}

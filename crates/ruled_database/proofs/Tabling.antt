@@ -9,7 +9,7 @@ use Rattle.sqlite_format.specs.declared.kind.Tree.{Tree}
 use Rattle.sqlite_record.specs.Affinity.{widen}
 use Rattle.sqlite_record.specs.Record.{decode}
 use Rattle.sqlite_value.specs.Order.{Row}
-use Rattle.ruled_database.specs.Faults.{LacksTexts}
+use Rattle.ruled_database.specs.Values.{LacksTexts}
 use Rattle.ruled_database.specs.Files.{page_count}
 use Rattle.ruled_database.specs.Reading.{Gives}
 use Rattle.ruled_database.specs.Tables.{AddsRows, GivesRow, IsUnsound, Walks, most_levels, row_in, shown_row, shown_rows_of, texts_in}

@@ -2,10 +2,8 @@ pub mod Files
 pub mod Reads
 pub mod Trees
 pub mod Reading
-pub mod Rows
 pub mod Tokens
 pub mod Definitions
 pub mod Values
 pub mod Tables
 pub mod Listings
-pub mod Faults

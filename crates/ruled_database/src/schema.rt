@@ -2,7 +2,7 @@
 
 ghost use Rattle.std.specs.Prelude.{◌≡◌, ◌∷◌, map, option_map, IfErr, IfOk};
 ghost use Rattle.csv.specs.Records.{fields_of};
-ghost use Rattle.ruled_database.specs.Faults.{LacksTexts};
+ghost use Rattle.ruled_database.specs.Values.{LacksTexts};
 ghost use Rattle.ruled_database.specs.Listings as spec;
 ghost use Rattle.ruled_database.specs.Listings.{AreEntryRows, AreListed, AreTable, IsListing, LacksEntries, LacksEntry, LacksListing, LacksSchema, LacksTable, entry_of};
 

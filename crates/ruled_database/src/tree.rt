@@ -5,8 +5,7 @@ ghost use Rattle.sqlite_format.specs.Cell.{IsBody, body_key, cell_body, cell_siz
 ghost use Rattle.sqlite_format.specs.Kinds.{holds_rows};
 ghost use Rattle.ruled_database.specs.Files.{page_of};
 ghost use Rattle.ruled_database.specs.Reads.{given};
-ghost use Rattle.ruled_database.specs.Reading.{Gives, GivesPage};
-ghost use Rattle.ruled_database.specs.Rows.{stored_of};
+ghost use Rattle.ruled_database.specs.Reading.{Gives, GivesPage, stored_of};
 ghost use Rattle.ruled_database.specs.Tables.{Walks};
 ghost use Rattle.ruled_database.specs.Trees.{own_row, page_at, rows_at, rows_below, rows_of_child, stored_in};
 

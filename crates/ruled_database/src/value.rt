@@ -4,8 +4,7 @@ ghost use Rattle.std.specs.Prelude.{◌≡◌, ◌++◌, ◌∷◌, [], codes, s
 ghost use Rattle.hex.specs.Hex.{encode_lower};
 ghost use Rattle.csv.specs.Records.{fields_of, partial_of};
 ghost use Rattle.sqlite_value.specs.Value.{owned};
-ghost use Rattle.ruled_database.specs.Faults.{LacksTexts};
-ghost use Rattle.ruled_database.specs.Values.{shown_text};
+ghost use Rattle.ruled_database.specs.Values.{LacksTexts, shown_text};
 ghost use Rattle.ruled_database.specs.declared.fault.TableFault.{TableFault};
 
 use crate::fault::TableFault;

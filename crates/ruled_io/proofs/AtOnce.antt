@@ -23,7 +23,7 @@ use Rattle.ruled_table.specs.declared.options.Options.{Options}
 use Rattle.ruled_table.specs.declared.table_rows.TableRows.{TableRows}
 use Rattle.ruled_io.specs.Faults.{is_early, is_memory, is_of_write, is_read, of_view}
 use Rattle.ruled_io.specs.Steps.{Draws, DrawsInMemory, EndsBelow, FailsIn, Grows, Nears, WritesRows}
-use Rattle.ruled_io.specs.Writing.{Begins}
+use Rattle.ruled_io.specs.Output.{Begins}
 use Rattle.ruled_io.specs.declared.fault.RunFault.{RunFault}
 use Rattle.ruled_io.specs.declared.fault.RunFault.TheVariants.{Input, Read, Closed, Write}
 use Rattle.ruled_table.proofs.Tables.{chosen-named as tables-named}

@@ -17,11 +17,10 @@ use Rattle.ruled_table.specs.declared.fault.ViewFault.{ViewFault}
 use Rattle.ruled_io.specs.Databases.{LacksAnswer, LacksSelected, LacksStored}
 use Rattle.ruled_io.specs.Faults.{IsOfRead, Tells, fault_of_database, fault_of_sql, is_early, is_memory, is_of_write}
 use Rattle.ruled_io.specs.Input.{input_fault, rows_in}
-use Rattle.ruled_io.specs.Output.{failure_in, fault_written, write_part}
+use Rattle.ruled_io.specs.Output.{failure_in, fault_written, write_part, Begins}
 use Rattle.ruled_io.specs.Requests.{format_told, hides_rows, holds_database, log_of, rows_needed, selection_of}
 use Rattle.ruled_io.specs.Runs.{AreAsked, AreRows, AreRowsAs, CausedAtOnce, LacksInput, LacksRows, LacksRowsAs, ShowsAll}
 use Rattle.ruled_io.specs.Steps.{Draws}
-use Rattle.ruled_io.specs.Writing.{Begins}
 use Rattle.ruled_io.specs.declared.fault.InputFault.{InputFault}
 use Rattle.ruled_io.specs.declared.fault.InputFault.TheVariants as input
 use Rattle.ruled_io.specs.declared.fault.InputFault.TheVariants.{Memory}

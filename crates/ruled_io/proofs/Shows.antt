@@ -18,7 +18,7 @@ use Rattle.ruled_io.specs.Faults.{but_line, but_line_in, is_failure, of_view}
 use Rattle.ruled_io.specs.Reading.{Stands, sound_rows, wrong_in}
 use Rattle.ruled_io.specs.Steps.{EndsBelow, Grows, IsEnough, Nears, wrong_within}
 use Rattle.ruled_io.specs.Stream.{Ends, first_wrong, lines_in, first_plan, shown_text}
-use Rattle.ruled_io.specs.Writing.{Begins}
+use Rattle.ruled_io.specs.Output.{Begins}
 use Rattle.ruled_io.specs.declared.fault.InputFault.{InputFault}
 use Rattle.ruled_io.specs.declared.fault.RunFault.{RunFault}
 use Rattle.ruled_io.specs.declared.fault.RunFault.TheVariants.{Input}

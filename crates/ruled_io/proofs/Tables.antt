@@ -19,7 +19,7 @@ use Rattle.ruled_io.specs.Faults.{IsOfRead, but_line, but_line_in, is_failure, i
 use Rattle.ruled_io.specs.Reading.{GoesOn, Stands, sound_rows, wrong_in}
 use Rattle.ruled_io.specs.Steps.{EndsBelow, FailsIn, Grows, WritesRows}
 use Rattle.ruled_io.specs.Stream.{lines_in}
-use Rattle.ruled_io.specs.Writing.{Begins}
+use Rattle.ruled_io.specs.Output.{Begins}
 use Rattle.ruled_io.specs.declared.fault.InputFault.{InputFault}
 use Rattle.ruled_io.specs.declared.fault.RunFault.{RunFault}
 use Rattle.ruled_io.specs.declared.fault.RunFault.TheVariants.{Input, Read, Closed, Write}

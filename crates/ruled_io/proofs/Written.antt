@@ -4,7 +4,7 @@ use Rattle.std.specs.Io.KnownBytes.{Appends, Keeps}
 use Rattle.std.proofs.KnownBytes.{Appends-kept, Appends-nil, Appends-trans}
 use Rattle.pg_layout.specs.Text.{Text}
 use Rattle.ruled_io.specs.Steps.{Grows, Nears}
-use Rattle.ruled_io.specs.Writing.{Begins}
+use Rattle.ruled_io.specs.Output.{Begins}
 use Rattle.ruled_table.specs.Appended.{HasAppended}
 use Rattle.ruled_table.specs.Layouts.{whole_text}
 use Rattle.ruled_table.specs.Plans.{Plan}

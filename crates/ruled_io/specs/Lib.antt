@@ -10,4 +10,3 @@ pub mod Requests
 pub mod Runs
 pub mod Steps
 pub mod Stream
-pub mod Writing

@@ -8,7 +8,7 @@ use Rattle.ruled_io.specs.Faults.{but_line_in, fault_of_view, is_memory}
 use Rattle.ruled_io.specs.Input.{input_fault, rows_in}
 use Rattle.ruled_io.specs.Requests.{format_told, hides_rows, holds_database, log_of, rows_needed, selection_of}
 use Rattle.ruled_io.specs.Stream.{StopsStream, streamed_fault, streamed_text, streamed_wrong}
-use Rattle.ruled_io.specs.Writing.{Begins}
+use Rattle.ruled_io.specs.Output.{Begins}
 use Rattle.ruled_io.specs.declared.fault.InputFault.{InputFault}
 use Rattle.ruled_io.specs.declared.fault.InputFault.TheVariants as input
 use Rattle.ruled_io.specs.declared.fault.RunFault.{RunFault}

@@ -7,7 +7,7 @@ use Rattle.ruled_table.specs.RowLines.{HasNoRoom, begun_text}
 use Rattle.ruled_io.specs.Faults.{but_line, but_line_in, fault_of_view, is_early, is_failure, is_memory, is_read}
 use Rattle.ruled_io.specs.Reading.{sound_rows, wrong_in}
 use Rattle.ruled_io.specs.Stream.{lines_in}
-use Rattle.ruled_io.specs.Writing.{Begins}
+use Rattle.ruled_io.specs.Output.{Begins}
 use Rattle.ruled_io.specs.declared.fault.InputFault.{InputFault}
 use Rattle.ruled_io.specs.declared.fault.InputFault.TheVariants.{Totals}
 use Rattle.ruled_io.specs.declared.fault.RunFault.{RunFault}

@@ -10,7 +10,7 @@ use Rattle.ruled_io.specs.Faults.{but_line, is_failure, of_view}
 use Rattle.ruled_io.specs.Formats.{content_of, format_streamed}
 use Rattle.ruled_io.specs.Reading.{sound_rows, wrong_in}
 use Rattle.ruled_io.specs.Requests.{format_told, holds_database}
-use Rattle.ruled_io.specs.Writing.{Begins}
+use Rattle.ruled_io.specs.Output.{Begins}
 use Rattle.ruled_io.specs.declared.fault.InputFault.{InputFault}
 use Rattle.ruled_io.specs.declared.fault.InputFault.TheVariants.{Stream, Totals}
 use Rattle.ruled_io.specs.declared.fault.RunFault.{RunFault}

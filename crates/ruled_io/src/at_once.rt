@@ -13,11 +13,10 @@ ghost use Rattle.ruled_table.specs.Named.{HasNames};
 ghost use Rattle.ruled_table.specs.Plans.{Plan};
 ghost use Rattle.ruled_table.specs.View.{table_fault, table_text, whole_fault, whole_table};
 ghost use Rattle.ruled_io.specs.Faults.{is_early, is_read};
-ghost use Rattle.ruled_io.specs.Output.{TellsWrite, failure_of, write_part};
+ghost use Rattle.ruled_io.specs.Output.{TellsWrite, failure_of, write_part, Begins};
 ghost use Rattle.ruled_io.specs.Requests.{rows_needed};
 ghost use Rattle.ruled_io.specs.Runs.{AreRows, CausedAtOnce, LacksInput, ShowsAll};
 ghost use Rattle.ruled_io.specs.Steps.{Draws, DrawsInMemory};
-ghost use Rattle.ruled_io.specs.Writing.{Begins};
 ghost use Rattle.ruled_table.specs.declared.options.Options.{Options};
 
 use crate::fault::{InputFault, RunFault};

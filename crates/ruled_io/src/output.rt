@@ -5,7 +5,7 @@ ghost use Rattle.std.specs.IoError.{error_kind};
 ghost use Rattle.std.specs.Io.KnownBytes.{Appends, Keeps};
 ghost use Rattle.ruled_io.specs.Faults.{fault_of_write, is_of_write};
 ghost use Rattle.ruled_io.specs.Output as spec;
-ghost use Rattle.ruled_io.specs.Writing.{Begins};
+ghost use Rattle.ruled_io.specs.Output.{Begins};
 ghost use Rattle.ruled_io.specs.declared.fault.RunFault.{RunFault};
 ghost use Rattle.ruled_io.specs.declared.output.WriteFault.{WriteFault};
 

@@ -1,5 +1,5 @@
 -- The rows that a query answers of the database that bytes hold.
-use Rattle.std.specs.Prelude.{◌≡◌, ◌≤◌, ℕ, false, List, [], ◌∷◌, length, map, Option, Some, None, unwrap_or, Ok}
+use Rattle.std.specs.Prelude.{◌≡◌, ◌≤◌, ℕ, false, List, [], ◌∷◌, length, map, Option, Some, None, unwrap_or, Ok, ◌+◌, ◌*◌, ◌/◌, ◌==◌, max, min, slice_index_or, if◌then◌else◌}
 use Rattle.sqlite_value.specs.Order.{Row}
 use Rattle.sqlite_trees.specs.Tree.{Trees}
 use Rattle.sqlite_wal.specs.Recovery.{Image}
@@ -71,3 +71,17 @@ pub record AreAnswered (bytes query : List ℕ) (rows : List (List (List ℕ))) 
   pub answer : List Row
   pub is : IsAnswer query database names answer
   pub shown : rows ≡ shown_rows names answer
+
+-- ---- the pages of a database
+
+-- what the header of a database has as its page size
+abbrev pub page_number : List ℕ → ℕ
+page_number bytes = 256 * slice_index_or bytes 16 0 + slice_index_or bytes 17 0
+
+-- the page size: 1 stands for 65,536, and each page has 512 bytes at least
+abbrev pub page_size : List ℕ → ℕ
+page_size bytes = if page_number bytes == 1 then 65536 else max (page_number bytes) 512
+
+-- how many pages are kept: the whole ones that the bytes have and one more, 2,000 at most
+abbrev pub kept_pages : List ℕ → ℕ
+kept_pages bytes = min (length bytes / page_size bytes) 1999 + 1

@@ -8,8 +8,7 @@ ghost use Rattle.sqlite.specs.State.{HasCleanDisk, Opens};
 ghost use Rattle.sqlite.specs.declared.error.Error.TheVariants.{SqliteFailure};
 ghost use Rattle.sqlite.specs.declared.error.ErrorCode.TheVariants.{NotADatabase};
 ghost use Rattle.sqlite_disk.specs.Memory.{memory_bytes, memory_is_usable};
-ghost use Rattle.ruled_sql.specs.Answers.{HoldsNone, IsAnswer, image_of};
-ghost use Rattle.ruled_sql.specs.Pages.{kept_pages};
+ghost use Rattle.ruled_sql.specs.Answers.{HoldsNone, IsAnswer, image_of, kept_pages};
 ghost use Rattle.ruled_sql.specs.declared.fault.SqlFault.{SqlFault};
 
 use crate::fault::{QueryFault, SqlFault};

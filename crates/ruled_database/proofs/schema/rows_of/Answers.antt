@@ -1,6 +1,6 @@
 use Rattle.std.proofs.Common.{List, map, subst}
 use Rattle.csv.specs.Records.{fields_of}
-use Rattle.ruled_database.specs.Faults.{LacksTexts}
+use Rattle.ruled_database.specs.Values.{LacksTexts}
 use Rattle.ruled_database.specs.Tables.{names_in}
 use Rattle.ruled_database.specs.declared.definition.Column.{Column}
 use Rattle.ruled_database.proofs.Listing.{lacks_added, lacks_names}

@@ -4,8 +4,7 @@ use Rattle.std.proofs.lemmas.Simd.{map-map}
 use Rattle.csv.specs.Records.{fields_of}
 use Rattle.ruled_database.specs.Files.{page_count}
 use Rattle.ruled_database.specs.Reads.{Read, all}
-use Rattle.ruled_database.specs.Reading.{Gives}
-use Rattle.ruled_database.specs.Rows.{stored_of}
+use Rattle.ruled_database.specs.Reading.{Gives, stored_of}
 use Rattle.ruled_database.specs.Tables.{GivesRow, shown_row, shown_rows_of}
 use Rattle.ruled_database.specs.declared.definition.Definition.{Definition}
 use Rattle.ruled_database.specs.declared.fault.TableFault.TheVariants.{Damage}

@@ -3,8 +3,7 @@ use Rattle.std.proofs.lemmas.List.{map-append}
 use Rattle.csv.specs.Records.{fields_of}
 use Rattle.sqlite_record.specs.Record.{decode}
 use Rattle.sqlite_value.specs.Order.{Row}
-use Rattle.ruled_database.specs.Reading.{Gives}
-use Rattle.ruled_database.specs.Rows.{stored_of}
+use Rattle.ruled_database.specs.Reading.{Gives, stored_of}
 use Rattle.ruled_database.specs.Tables.{texts_in}
 use Rattle.ruled_database.specs.Trees.{record_of}
 use Rattle.ruled_database.proofs.Tabling.{gives_old, gives_shown, gives_unread, gives_wrong, widened}

@@ -3,8 +3,7 @@ use Rattle.sqlite_format.specs.declared.kind.Tree.{Tree}
 use Rattle.ruled_database.specs.Files.{cell_at, page_of}
 use Rattle.ruled_database.specs.Reads.{Read, all}
 use Rattle.std.specs.List.{range_with_len}
-use Rattle.ruled_database.specs.Reading.{Gives}
-use Rattle.ruled_database.specs.Rows.{stored_of}
+use Rattle.ruled_database.specs.Reading.{Gives, stored_of}
 use Rattle.ruled_database.specs.Trees.{Stored, rows_at, rows_below, rows_of_child}
 use Rattle.ruled_database.specs.declared.fault.TableFault.{TableFault}
 use Rattle.ruled_database.specs.declared.file.File.{File}
