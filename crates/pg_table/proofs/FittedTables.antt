@@ -1,5 +1,5 @@
 -- Tables whose texts are fitted: what they draw, how wide their lines are and their columns.
-use Rattle.std.proofs.Common.{◌≡◌, ℕ, ◌+◌, ◌-◌, ◌<◌, ◌≤◌, ◌==◌, ◌&&◌, ◌||◌, true, false, not, max, List, map, length, slice_index, slice_index_or, sum_by, refl, sym, ap, ◌∙◌, arith, inl, inr, Option}
+use Rattle.std.proofs.Common.{◌≡◌, ℕ, ◌+◌, ◌-◌, ◌<◌, ◌≤◌, ◌==◌, ◌&&◌, ◌||◌, true, false, not, max, List, map, length, slice_index, sum_by, refl, sym, ap, ◌∙◌, arith, inl, inr, Option}
 use Rattle.std.specs.List.{range_with_len}
 use Rattle.std.proofs.lemmas.Bool.{cases_Bool}
 use Rattle.pg_layout.specs.declared.position.Position.{Position}
@@ -12,12 +12,11 @@ use Rattle.pg_fit.specs.Overlaid.{Overlay, other_text, row_from, overlaid}
 use Rattle.pg_picture.specs.Table.{Table, full_width}
 use Rattle.pg_picture.proofs.OwnersOfPlaces.{InOrder}
 use Rattle.pg_table.specs.declared.overflow.Overflow.{Overflow}
-use Rattle.pg_table.specs.declared.sizes.Axis.TheVariants.{Columns}
 use Rattle.pg_table.specs.Fitted.{least_column_width, least_width_at, least_full_width, column_texts, fitted_texts, fitted_table}
 use Rattle.pg_table.specs.Inside.Fitting.{AreFittedAlone, AreFittedTogether, IsFitted, plain_full_width}
-use Rattle.pg_table.specs.Natural.{natural_sizes, natural_table}
+use Rattle.pg_table.specs.Natural.{natural_table}
 use Rattle.pg_table.specs.Overflowing.{beside_columns, limit_of, HasPlainTail}
-use Rattle.pg_table.specs.Spanning.{keeps_spans, least_cell_width, widths_from, table_from, spanned_text, spanned_texts, spanned_widths}
+use Rattle.pg_table.specs.Spanning.{keeps_spans, least_cell_width, table_from, spanned_text, spanned_texts, spanned_widths}
 use Rattle.pg_table.proofs.FittedColumns.{same-listed, length-fitted}
 use Rattle.pg_table.proofs.FittedPlaces.{texts-are, table-is, table-narrow, columns-limited}
 use Rattle.pg_table.proofs.SpannedWidths.{width-is, full-is, rooms, sum-widths, width-limited, least-kept, full-kept}

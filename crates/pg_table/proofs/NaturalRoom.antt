@@ -1,5 +1,5 @@
 -- A table at its natural sizes has room for its cells, shows each line, and has these totals.
-use Rattle.std.proofs.Common.{◌≡◌, ℕ, ◌+◌, ◌-◌, ◌<◌, ◌≤◌, ◌&&◌, ◌==◌, true, false, not, nat_le, cond, List, [], map, length, find, sum_by, count_by, All, refl, sym, ap, ◌∙◌, subst, arith, Option, Some, None, inl, inr, slice_index, ◌⊎◌, slice_index_or}
+use Rattle.std.proofs.Common.{◌≡◌, ℕ, ◌+◌, ◌-◌, ◌<◌, ◌≤◌, ◌&&◌, ◌==◌, true, false, not, nat_le, cond, List, [], map, length, find, sum_by, count_by, All, refl, sym, ap, ◌∙◌, subst, arith, Option, Some, None, inl, inr, slice_index, ◌⊎◌}
 use Rattle.std.specs.List.{range_with_len, list_all}
 use Rattle.std.proofs.lemmas.Bool.{cases_Bool, and_from, and_parts, or_right, false≢true}
 use Rattle.std.proofs.lemmas.Bool.Decides.{nat_tests}
@@ -17,7 +17,7 @@ use Rattle.pg_picture.specs.Fits.{span_fits, all_apart, spans_fit, totals_fit, c
 use Rattle.pg_picture.specs.Pieces.{Style, style_at, widest, shown}
 use Rattle.pg_picture.specs.Table.{Table, is_empty, rect_width, rect_height, full_width, total_width, rect_marks}
 use Rattle.pg_picture.specs.declared.fits.Misfit.TheVariants.{Spans}
-use Rattle.pg_picture.proofs.FittingTables.{widths_fit, heights_fit, misfit-empty, rect_height-one_row, unshown-empty, cell_shows_all-by_count, rect_inside, rect_width_fits, rect_height_fits, totals_fit-sized}
+use Rattle.pg_picture.proofs.FittingTables.{widths_fit, heights_fit, misfit-empty, rect_height-one_row, unshown-empty, cell_shows_all-by_count, rect_inside, rect_width_fits, rect_height_fits}
 use Rattle.pg_picture.proofs.MarksOfRectangles.{height_of_rect-sum, rect_height-of_rect}
 use Rattle.pg_picture.proofs.OwnersOfPlaces.{Among, find_cases}
 use Rattle.pg_picture.proofs.Owners.{is_at-same}
@@ -36,7 +36,6 @@ use Rattle.pg_table.specs.Inside.Measuring.{with_room}
 use Rattle.pg_picture.specs.Shown.{cell_shows_all, owner_shows_all, misfit_or_cell}
 use Rattle.pg_picture.specs.declared.fits.Misfit.{Misfit}
 use Rattle.pg_table.specs.ShownLaws.{NaturalHeightsShowAll, table_of_widths}
-use Rattle.pg_picture.specs.Sizes.{sized}
 
 -- ---- a table at its natural sizes has room for its cells
 

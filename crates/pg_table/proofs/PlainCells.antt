@@ -1,5 +1,5 @@
 -- The size of a column or a row without spans.
-use Rattle.std.proofs.Common.{◌≡◌, ℕ, ◌==◌, ◌||◌, ◌<◌, ◌≤◌, true, List, [], map, length, sym, ap, ◌∙◌, None, arith, ◌∷◌, refl, inl, inr}
+use Rattle.std.proofs.Common.{◌≡◌, ℕ, ◌==◌, ◌||◌, ◌<◌, ◌≤◌, true, List, [], map, length, sym, ap, ◌∙◌, arith, ◌∷◌, refl, inl, inr}
 use Rattle.std.specs.List.{range_with_len}
 use Rattle.std.proofs.lemmas.Bool.Decides.{nat_tests}
 use Rattle.pg_layout.specs.declared.position.Position.{Position}
@@ -7,33 +7,23 @@ use Rattle.pg_layout.specs.Records.{text_at}
 use Rattle.pg_layout.specs.Text.{Text}
 use Rattle.pg_layout.proofs.TextLines.{greatest-reaches}
 use Rattle.pg_config.specs.Config.{Config}
-use Rattle.pg_picture.specs.Sizes.{if_fits}
-use Rattle.pg_picture.proofs.Ranges.{if_fits-past}
 use Rattle.pg_table.specs.Natural.{paddings, cell_size, cell_at, count, count_cells, natural_size, natural_sizes, cells_fit}
 use Rattle.pg_table.specs.Inside.Sizes.{plain_size}
 use Rattle.pg_table.specs.declared.sizes.Axis.{Axis}
 use Rattle.pg_table.specs.declared.sizes.Axis.TheVariants.{Columns, Rows}
-use Rattle.pg_table.proofs.ListedSizes.{natural-without_cells, none-past}
+use Rattle.pg_table.proofs.ListedSizes.{natural-without_cells}
 use Rattle.pg_table.proofs.NaturalRoom.{plain_tables_are_as_they_were, map-below}
 use Rattle.pg_table.proofs.ShownCells.{cells-from}
 use Rattle.std.proofs.lemmas.Bool.{cases_lt}
 use Rattle.pg_config.specs.Spans.{Span}
 use Rattle.pg_table.specs.Inside.Fitting.{HasPlainWidths}
 
--- ---- the size of a column or a row without spans is no less than its paddings and each of its cells
+-- ---- the size of a column or a row without spans is no less than each of its cells
 
 module _ (axis : Axis) (config : Config) (text : Position → Text) (cells k : ℕ) where
   pub cell-below : (j : ℕ) → j < cells → cell_size axis config text (cell_at axis k j) ≤ plain_size axis config text cells k
   unfolding plain_size
   cell-below j h = omega (arith, greatest-reaches (λ i. cell_size axis config text (cell_at axis k i)) 0 cells j (omega arith) (omega (arith, h)))
-
-  -- paddings or a cell that pass make the size pass
-  pub past-paddings : None ≡ if_fits (paddings axis config (cell_at axis k 0)) → if_fits (plain_size axis config text cells k) ≡ None
-  unfolding plain_size
-  past-paddings none = if_fits-past _ (omega (arith, none-past _ none))
-
-  pub past-cell : (j : ℕ) → j < cells → None ≡ if_fits (cell_size axis config text (cell_at axis k j)) → if_fits (plain_size axis config text cells k) ≡ None
-  past-cell j h none = if_fits-past _ (omega (arith, none-past _ none, cell-below j h))
 
 -- without spans it is the natural size, and so it is where there are no cells
 module _ (axis : Axis) (config : Config) (text : Position → Text) (rows columns k : ℕ) where

@@ -273,8 +273,6 @@ where
         ensures fault { (fault : TableFault) → result ≡ Err fault → CanFail (printed_fitted_table R.texts R.columns C.color self.now) fault }
         ensures empty { is_empty (printed_fitted_table R.texts R.columns C.color self.now) ≡ true → IsOk result }
     {
-        let mut text = String::new(alloc);
-        self.print(alloc, &mut text)?;
-        Ok(text)
+        self.natural().to_string(alloc)
     }
 }

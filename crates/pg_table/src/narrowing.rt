@@ -140,8 +140,7 @@ impl<'a, R: PeekableRecords + ExactRecords, B: Allocator> NaturalSizes<'a, R, B>
     {
         let ranges = self.ranges(alloc, within, naturals)?;
         let room = room_of(self.config, within.total, self.count(Axis::Columns));
-        let widths = narrow(alloc, room, &ranges)?;
-        Ok(widths)
+        narrow(alloc, room, &ranges)
     }
 
     /// Sets another text for a cell whose text is too wide for so many columns.

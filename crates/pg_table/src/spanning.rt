@@ -219,8 +219,7 @@ impl<'a, R: PeekableRecords + ExactRecords, B: Allocator> NaturalSizes<'a, R, B>
             Some(least) => {
                 let ranges = ranges_of(alloc, &least, naturals, within.limits)?;
                 let room = room_of(self.config, within.total, naturals.len());
-                let widths = narrow(alloc, room, &ranges)?;
-                Ok(widths)
+                narrow(alloc, room, &ranges)
             }
             // The least width of no cell is greater than its natural one, which is a number.
             None => Vec::from_slice(alloc, naturals),

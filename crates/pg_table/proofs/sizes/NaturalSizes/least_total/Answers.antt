@@ -1,5 +1,4 @@
-use Rattle.std.proofs.Common.{ℕ, sum_by, sym, ap, ◌∙◌}
-use Rattle.std.specs.List.{range_with_len}
+use Rattle.std.proofs.Common.{ℕ, sym, ap, ◌∙◌}
 use Rattle.pg_picture.specs.Sizes.{if_fits}
 use Rattle.pg_table.specs.Inside.Fitting.{least_of}
 use Rattle.pg_table.proofs.ListedSizes.{sum-more}

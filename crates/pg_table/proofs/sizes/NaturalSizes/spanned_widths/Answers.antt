@@ -34,8 +34,8 @@ ranges_of-requires g c =
     ∙ length-map-range_with_len (spanned_least_width c.args.within.now.how self.config.now texts columns) 0 columns
     ∙ sym (ap length c.requires.naturals ∙ length-naturals c.args.within.now.how c.args.within.now.total c.args.within.now.limits.now self.config.now texts columns)
 
-pub returns-in_ok-widths-in-Some : goal.returns-in_ok-widths-in-Some
-returns-in_ok-widths-in-Some g c =
+pub returns-in_ok-ranges-in-Some : goal.returns-in_ok-ranges-in-Some
+returns-in_ok-ranges-in-Some g c =
     let self = c.args.self.now in
     let texts = g.R.Records.texts self.records in
     let columns : ℕ = g.R.Records.columns self.records in
@@ -44,7 +44,7 @@ returns-in_ok-widths-in-Some g c =
     let room : c.room_of-room.result ≡ c.args.within.now.total - beside_columns self.config.now columns = c.room_of-room.ensures ∙ ap (λ n. c.args.within.now.total - beside_columns self.config.now n) long in
     let ranges = c.deref-in-Some.ensures.value ∙ c.in_ok-ranges-in-Some.ensures
     ∙ listed-ranges c.args.within.now.how c.args.within.now.total c.args.within.now.limits.now self.config.now texts columns _ c.args.naturals.now (c.deref.ensures.value ∙ (rw c.in-Some.is at c.in_ok-least.ensures.widths)) c.requires.naturals in
-    c.in_ok-widths-in-Some.ensures ∙ (λ i. narrowed (room i) (ranges i)) ∙ sym (widths-narrowed c.args.within.now.how c.args.within.now.total c.args.within.now.limits.now self.config.now texts columns past)
+    subst (λ (ws : List ℕ). IfOk c.narrow.result (λ v. v.items ≡ ws)) ((λ i. narrowed (room i) (ranges i)) ∙ sym (widths-narrowed c.args.within.now.how c.args.within.now.total c.args.within.now.limits.now self.config.now texts columns past)) c.narrow.ensures
 
 pub returns-in-None : goal.returns-in-None
 returns-in-None g c =
