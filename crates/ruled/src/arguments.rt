@@ -31,7 +31,6 @@ pub(crate) enum Asked {
 }
 
 /// What an argument takes.
-#[derive(Clone, Copy)]
 enum Takes {
     /// No value: a flag.
     Nothing,
@@ -54,7 +53,6 @@ enum Takes {
 }
 
 /// An argument of the command.
-#[derive(Clone, Copy)]
 struct Choice {
     name: &'static str,
     /// Its letter, if it has one.
@@ -302,7 +300,10 @@ fn delimiter_of(word: &str) -> Option<u8> {
 
 // The file that is named, where it isn't standard input.
 fn name_in<'m>(found: &'m ArgMatches) -> Option<&'m str> {
-    found.get_str("file").filter(|name| *name != "-")
+    match found.get_str("file") {
+        Some("-") => None,
+        name => name,
+    }
 }
 
 // What the format is that is asked for, where one is.
@@ -516,15 +517,16 @@ fn rows_of(found: &ArgMatches) -> Rows {
     }
 }
 
-// The source, with what is asked of a database.
-fn selected(alloc: Global, found: &ArgMatches, source: Source) -> Result<Source, AllocError> {
-    if let Some(query) = found.get_str("query") {
-        return Ok(database(Selection::Query(String::from_str(alloc, query)?)));
+// What is asked of a database, with its words, if anything is.
+fn selection_of(alloc: Global, found: &ArgMatches) -> Result<Option<Selection>, AllocError> {
+    let query = copy_of(alloc, found.get_str("query"))?;
+    if let Some(query) = query {
+        return Ok(Some(Selection::Query(query)));
     }
-    if let Some(name) = found.get_str("table") {
-        return Ok(database(Selection::Table(String::from_str(alloc, name)?)));
+    match copy_of(alloc, found.get_str("table"))? {
+        Some(name) => Ok(Some(Selection::Table(name))),
+        None => Ok(None),
     }
-    Ok(source)
 }
 
 // What was asked for, of this source and in this look.
@@ -535,13 +537,18 @@ fn table_of(
     look: Look,
     columns: Option<u32>,
 ) -> Result<Wanted, AllocError> {
-    let source = selected(alloc, found, source)?;
+    let file = copy_of(alloc, name_in(found))?;
+    let view = view_of(alloc, found, look, columns)?;
+    let source = match selection_of(alloc, found)? {
+        Some(selection) => database(selection),
+        None => source,
+    };
     Ok(Wanted {
-        file: copy_of(alloc, name_in(found))?,
+        file,
         request: Request {
             source,
             rows: rows_of(found),
-            view: view_of(alloc, found, look, columns)?,
+            view,
         },
     })
 }
@@ -612,6 +619,21 @@ fn input_and_look(found: &ArgMatches) -> Result<(Source, Look), &'static str> {
     Ok((source, look_asked(found)?))
 }
 
+// What the arguments ask for that clap has read.
+fn asked_of(rt: &HostRuntime, found: &ArgMatches) -> io::Result<Asked> {
+    let columns = columns_told(rt)?;
+    match input_and_look(found) {
+        Ok((source, look)) => {
+            let wanted = table_of(rt.alloc(), found, source, look, columns)?;
+            Ok(Asked::Table(wanted))
+        }
+        Err(told) => {
+            eprintln!(rt; "ruled: {told}")?;
+            Ok(Asked::Told(2))
+        }
+    }
+}
+
 /// Reads the arguments, and tells what clap has to say of them.
 pub(crate) fn read_arguments(rt: &HostRuntime) -> io::Result<Asked> {
     let words: Vec<String> = env::args(rt)?.collect(rt.alloc())?;
@@ -624,14 +646,5 @@ pub(crate) fn read_arguments(rt: &HostRuntime) -> io::Result<Asked> {
         }
         Err(_error) => return Ok(Asked::Told(tell_of(rt, &words)?)),
     };
-    match input_and_look(&found) {
-        Ok((source, look)) => {
-            let columns = columns_told(rt)?;
-            Ok(Asked::Table(table_of(rt.alloc(), &found, source, look, columns)?))
-        }
-        Err(told) => {
-            eprintln!(rt; "ruled: {told}")?;
-            Ok(Asked::Told(2))
-        }
-    }
+    asked_of(rt, &found)
 }
