@@ -79,7 +79,7 @@ impl Display for TableFault {
     fn fmt<W: fmt::Write>(&self, f: &mut fmt::Formatter<W>) -> fmt::Result {
         let words = match self {
             TableFault::Damage => "a page is damaged",
-            TableFault::Default => "a default isn't understood",
+            TableFault::Default => "a default isn't supported",
             TableFault::Encoding(row) => return write!(f, "row {row}: not UTF-8"),
             TableFault::Memory => "out of memory",
         };
@@ -91,7 +91,9 @@ impl Display for TableFault {
 impl Display for DatabaseFault {
     fn fmt<W: fmt::Write>(&self, f: &mut fmt::Formatter<W>) -> fmt::Result {
         let words = match self {
-            DatabaseFault::Database => "no database of SQLite",
+            DatabaseFault::Database => {
+                "not an SQLite database, or it is encrypted or of an unsupported kind"
+            }
             DatabaseFault::Encoding => "a database in UTF-16 isn't supported",
             DatabaseFault::Schema(fault) => return write!(f, "the list of the tables: {fault}"),
             DatabaseFault::Absent => "no such table",
