@@ -1,4 +1,4 @@
-//! Tables of which more than the text is made anew in each build: their rows, or all that they are told.
+//! Tables of which more than the text is made anew in each build: their rows, or all their settings.
 
 use crate::case::Grid;
 use crate::settings::set;
@@ -147,7 +147,7 @@ fn print_vectors(
 }
 
 /// The text of a table as the looked-up grid prints it by its checked call, built so many times, and
-/// each time by settings and colours that are told anew.
+/// each time by settings and colours that are set anew.
 pub(crate) fn told(alloc: Global, table: &Table, times: usize) -> Result<String> {
     let records = records(alloc, table)?;
     let dimension = sizes(alloc, table)?;
@@ -159,7 +159,7 @@ pub(crate) fn told(alloc: Global, table: &Table, times: usize) -> Result<String>
     Ok(text)
 }
 
-// Appends a table by settings and colours that are told and dropped again.
+// Appends a table by settings and colours that are set and dropped again.
 fn push_told(
     alloc: Global,
     table: &Table,

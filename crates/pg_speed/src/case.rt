@@ -11,9 +11,9 @@ pub(crate) enum Grid {
     Peekable,
     /// The looked-up grid, from texts in memory, with colours of cells.
     Colored,
-    /// The streaming grid, from texts in memory; it is told how many rows there are.
+    /// The streaming grid, from texts in memory; it knows how many rows there are.
     Iter,
-    /// The streaming grid, from texts that are made as it asks for them; it isn't told how many rows
+    /// The streaming grid, from texts that are made as it asks for them; it doesn't know how many rows
     /// there are.
     IterMade,
     /// The compact grid, from texts in memory.
@@ -47,7 +47,7 @@ pub(crate) enum Grid {
     /// texts in memory.
     Natural,
     /// The looked-up grid by its checked call, from texts in memory; in each build all settings and
-    /// colours are told anew.
+    /// colours are set anew.
     Told,
 }
 
@@ -73,7 +73,7 @@ const FRAMED: &[&str] = &[
     "margin_color \u{1b}[90m|\u{1b}[39m \u{1b}[90m|\u{1b}[39m \u{1b}[90m|\u{1b}[39m \u{1b}[90m|\u{1b}[39m",
 ];
 
-/// `PLAIN` with texts that are trimmed and stand in the middle of their cells.
+/// `PLAIN` with texts that are trimmed and centred in their cells.
 const TRIMMED: &[&str] = &[
     "borders ascii",
     "padding all 1 1 0 0",
@@ -334,7 +334,7 @@ const BOX209: Table = Table {
 /// How many cases `--all` builds, from the first one on.
 pub(crate) const COMMON: usize = 29;
 
-/// All cases, as they are listed. Behind the common ones stand tables of other sizes, some of which take
+/// All cases, as they are listed. After the common ones come tables of other sizes, some of which take
 /// long, and tables that are printed by other calls.
 pub(crate) static CASES: [Case; 67] = [
     Case("peek_basic", Grid::Peekable, BASIC),

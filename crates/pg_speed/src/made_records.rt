@@ -9,7 +9,7 @@ use pg_layout::{
 };
 use std::iter::{RepeatN, repeat_n};
 
-/// Records of so many rows and columns whose cells all say the same, and which don't tell how many
+/// Records of so many rows and columns whose cells all say the same, and which don't say how many
 /// rows there are. They take no memory.
 #[derive(Clone, Copy)]
 pub(crate) struct MadeRecords {

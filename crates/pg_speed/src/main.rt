@@ -1,7 +1,7 @@
 //! The program `pg_speed`: it builds tables of known sizes over and over, so that the printers can
-//! be measured, and tells how many bytes the last text has and its checksum.
+//! be measured, and prints how many bytes the last text has and its checksum.
 //!
-//! Whatever goes wrong, wrong arguments among it, is told on the error stream, and the exit status is
+//! Whatever goes wrong, wrong arguments among it, is printed on the error stream, and the exit status is
 //! then 1.
 #![tactic(auto)]
 

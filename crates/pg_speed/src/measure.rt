@@ -101,7 +101,7 @@ fn checked(
     Ok(text)
 }
 
-// Tests a table so many times, and answers the empty text.
+// Tests a table so many times, and returns the empty text.
 fn tested(
     alloc: Global,
     records: &VecRecords<String>,

@@ -13,7 +13,7 @@ pub(crate) struct Table {
     /// How many lines each row has.
     pub(crate) height: usize,
     pub(crate) words: Words,
-    /// What is drawn round texts, and how they stand in their cells: lines for `pg_testing::settings::apply`.
+    /// What is drawn round texts, and how they are placed in their cells: lines for `pg_testing::settings::apply`.
     pub(crate) look: &'static [&'static str],
     pub(crate) spans: Spans,
     pub(crate) telling: Telling,
@@ -37,16 +37,16 @@ pub(crate) enum Words {
 pub(crate) struct Spans {
     /// How many rows and columns each has.
     pub(crate) size: (usize, usize),
-    /// How many rows and columns below and right of one the next one stands; no row: none spans others.
+    /// How many rows and columns below and right of one the next one is; no row: none spans others.
     pub(crate) apart: (usize, usize),
-    /// Whether the first one of a row stands in column 0, 3 and 6 by turns, and the texts of all in the
+    /// Whether the first one of a row is in column 0, 3 and 6 by turns, and the texts of all in the
     /// middle.
     pub(crate) is_shifted: bool,
     /// Whether cells take all columns of a row instead, each one more than those of the row above.
     pub(crate) is_layered: bool,
 }
 
-/// What a table that is told anew is told of single cells and rows.
+/// What is set for single cells and rows of a table that is set anew.
 pub(crate) enum Telling {
     /// Nothing.
     Nothing,

@@ -1,4 +1,4 @@
-//! What a table is told of single cells and rows.
+//! What is set for single cells and rows of a table.
 
 use crate::settings::color_cell;
 use crate::table::{Table, Telling};
@@ -6,8 +6,8 @@ use pg_config::SpannedConfig;
 use pg_layout::{AlignmentHorizontal, Border, Borders, ColorsMap, Entity, Indent, Position, Sides};
 use std::alloc::{AllocError, Global};
 
-/// How many cells on the next one is that is told of, where they are scattered. It has no divisor in
-/// common with the numbers of cells, so that each is told of once.
+/// How many cells on the next one is that is set, where they are scattered. It has no divisor in
+/// common with the numbers of cells, so that each is set once.
 const STRIDE: usize = 61_803;
 
 /// Tells a configuration and colours what a table says of single cells and rows.
@@ -40,7 +40,7 @@ pub(crate) fn position(number: usize, columns: usize) -> Position {
     Position::new(number / columns, number % columns)
 }
 
-// The number of the cell that is told of after so many others, of so many cells.
+// The number of the cell that is set after so many others, of so many cells.
 fn number(telling: &Telling, told: usize, cells: usize) -> usize {
     if cells == 0 {
         return 0;

@@ -26,7 +26,7 @@ pub(crate) struct Wanted {
 pub(crate) enum Asked {
     /// A table.
     Table(Wanted),
-    /// Nothing more than was told, and this exit status.
+    /// Nothing more than was printed, and this exit status.
     Told(u8),
 }
 
@@ -340,7 +340,7 @@ fn rows_with(delimiter: &str, asked: Option<Kind>) -> Result<Source, &'static st
     }
 }
 
-// A database, of which it isn't known what stands in its logs.
+// A database, of which it isn't known what is in its logs.
 fn database(selection: Selection) -> Source {
     Source::Database {
         selection,
@@ -449,7 +449,7 @@ fn sides_of(
     Ok(sides)
 }
 
-// The limit that a number tells: 0 is none.
+// The limit that a number means: 0 is none.
 fn limit_of(number: u32) -> Option<u32> {
     if number == 0 { None } else { Some(number) }
 }
@@ -571,7 +571,7 @@ fn looks(alloc: Global) -> Result<Vec<&'static str>, AllocError> {
     Ok(names)
 }
 
-// Prints what clap says of the arguments, its help among it, and answers the exit status.
+// Prints what clap says of the arguments, its help among it, and returns the exit status.
 fn tell(rt: &HostRuntime, said: &clap::Error) -> io::Result<u8> {
     let status = said.exit_code() as u8;
     match said.print(rt) {
@@ -634,7 +634,7 @@ fn asked_of(rt: &HostRuntime, found: &ArgMatches) -> io::Result<Asked> {
     }
 }
 
-/// Reads the arguments, and tells what clap has to say of them.
+/// Reads the arguments, and prints what clap has to say of them.
 pub(crate) fn read_arguments(rt: &HostRuntime) -> io::Result<Asked> {
     let words: Vec<String> = env::args(rt)?.collect(rt.alloc())?;
     let looks = looks(rt.alloc())?;

@@ -27,7 +27,7 @@ fn has_rows(rt: &HostRuntime, name: &str) -> io::Result<bool> {
 }
 
 /// What is known of the logs beside the file of this name. Of one that can't be read it isn't known that
-/// it has no rows; an error is want of memory.
+/// it has no rows. The only error is out of memory.
 pub(crate) fn log_beside(rt: &HostRuntime, name: &str) -> io::Result<Log> {
     match fs::metadata(rt, name) {
         Ok(metadata) if metadata.is_file() => match has_rows(rt, name) {

@@ -37,7 +37,7 @@ fn open(rt: &HostRuntime, name: &str, request: &mut Request) -> io::Result<File>
     fs::open(rt, name)
 }
 
-// Shows the table of an input, and answers the exit status.
+// Shows the table of an input, and returns the exit status.
 fn show_input<R: Read + Drop>(rt: &HostRuntime, request: &Request, input: R) -> io::Result<u8> {
     let mut out = Output::new(BufWriter::new(rt.alloc(), rt.stdout())?);
     let input = Waiting::new(*rt, input);
@@ -47,7 +47,7 @@ fn show_input<R: Read + Drop>(rt: &HostRuntime, request: &Request, input: R) -> 
     Ok(status)
 }
 
-// Shows the table that is wanted, and answers the exit status. An error is want of memory.
+// Shows the requested table, and returns the exit status. The only error is out of memory.
 fn show(rt: &HostRuntime, wanted: Wanted) -> io::Result<u8> {
     let mut request = wanted.request;
     let Some(name) = &wanted.file else {
@@ -64,7 +64,7 @@ fn show(rt: &HostRuntime, wanted: Wanted) -> io::Result<u8> {
     }
 }
 
-// Does what the arguments ask for, and answers the exit status.
+// Does what the arguments ask for, and returns the exit status.
 fn answer(rt: &HostRuntime) -> io::Result<u8> {
     match read_arguments(rt)? {
         Asked::Table(wanted) => show(rt, wanted),

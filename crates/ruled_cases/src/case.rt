@@ -6,7 +6,7 @@ use ruled_table::{Bounds, Breaking, Look, Options, Overflow};
 use std::alloc::{AllocError, Global};
 use std::io;
 
-/// An input, and what is answered to it.
+/// An input, and how its run ends.
 pub(crate) struct Case {
     name: String,
     request: Request,
@@ -16,7 +16,7 @@ pub(crate) struct Case {
     // What is shown of a table.
     shown: String,
     status: u8,
-    // What is told of a fault.
+    // The line of its fault.
     told: String,
 }
 
@@ -85,7 +85,7 @@ impl Case {
         input
     }
 
-    /// Reads a line of the file, and answers whether it is understood.
+    /// Reads a line of the file, and returns whether it is understood.
     pub(crate) fn read(&mut self, alloc: Global, line: &str) -> Result<bool, AllocError> {
         let (mark, text) = line.split_once(' ').unwrap_or((line, ""));
         match mark {
@@ -138,7 +138,7 @@ impl Case {
         }
     }
 
-    // Takes the exit status and the line that is told.
+    // Takes the exit status and the error line.
     fn set_told(&mut self, text: &str) -> Result<bool, AllocError> {
         let (status, told) = text.split_once(' ').unwrap_or((text, ""));
         let Ok(status) = status.parse() else {
@@ -150,7 +150,7 @@ impl Case {
         Ok(true)
     }
 
-    /// Runs the case, and answers whether it answers as told. Another answer is printed.
+    /// Runs the case, and returns whether it ends as the file says. Other output is printed.
     pub(crate) fn is_as_told(&self, rt: &HostRuntime) -> io::Result<bool> {
         let (mut out, mut err) = (Output::new(Vec::new(rt.alloc())), Vec::new(rt.alloc()));
         let input = self.input.as_slice();

@@ -1,5 +1,5 @@
-//! The program `ruled_cases`: it runs the cases of a file on standard input by [`ruled_io::run`], and tells which of them
-//! answer otherwise than the file says.
+//! The program `ruled_cases`: it runs the cases of a file on standard input by [`ruled_io::run`], and prints those
+//! whose output differs from what the file says.
 //!
 //! ```text
 //! # The text is all that follows one space.
@@ -15,14 +15,14 @@
 //!   `␉` a tab, `␊` a line feed, `␛` an escape, `␀` a zero byte, `␂` a byte order mark and `⌧` a byte that is
 //!   no UTF-8; so is it in the name of a column or a table. Behind a line with `␃` at its end there is no line feed.
 //! - `=` has a line that is shown, with `␣` for a space at its end. `!` has the exit status and the line
-//!   that is told; without it the status is 0, and nothing is told.
+//!   that is printed; without it the status is 0, and there is no such line.
 //! - `>x` has bytes of the input, each as two hexadecimal digits, with spaces between some, and `*` and a number behind
-//!   those that stand so many times. `>^` has the input of the case above, and `>@` a place and bytes that stand there.
-//! - `>*` and `=*` have a number and a text that stands so many times, with no line feed behind it.
+//!   those that are repeated so many times. `>^` has the input of the case above, and `>@` a place and its new bytes.
+//! - `>*` and `=*` have a number and a text that is repeated so many times, with no line feed after it.
 //! - Empty lines and those with `#` are comments.
 //!
-//! A case that answers otherwise is told with its answer. The exit status is 0 where all answer as
-//! told, and 1 where one doesn't, or a line of the file isn't understood.
+//! A case that ends otherwise is printed with its output. The exit status is 0 if all end as the file
+//! says, and 1 if one doesn't, or a line of the file isn't understood.
 #![tactic(auto)]
 
 mod case;
@@ -32,7 +32,7 @@ use crate::case::Case;
 use std::io;
 use std::process::ExitCode;
 
-// Runs the cases of a text, and answers how many there are, or `None` where one was told.
+// Runs the cases of a text, and returns how many there are, or `None` if one was printed.
 fn check(rt: &HostRuntime, text: &str) -> io::Result<Option<usize>> {
     let (mut count, mut is_right) = (0usize, true);
     let mut case = Case::new(rt.alloc(), "", Vec::new(rt.alloc()))?;
@@ -50,7 +50,7 @@ fn check(rt: &HostRuntime, text: &str) -> io::Result<Option<usize>> {
     Ok(if is_right { Some(count) } else { None })
 }
 
-// Runs the cases of the input, and tells whether all answer as told.
+// Runs the cases of the input, and returns whether all end as it says.
 fn check_input(rt: &HostRuntime) -> io::Result<bool> {
     let text = io::read_to_string(rt.alloc(), rt.stdin())?;
     let count = check(rt, &text)?;

@@ -75,7 +75,7 @@ fn source_set(
     Ok(Some(Source::Database { selection, log }))
 }
 
-// Adds to a list of how rows are shown, and answers whether an option of this name with this value does so.
+// Adds to a list of how rows are shown, and returns whether an option of this name with this value does so.
 fn add(alloc: Global, view: &mut Options, name: &str, value: &str) -> Result<bool, AllocError> {
     match name {
         "limit" => view.bounds.limits.push(value.parse().ok())?,
@@ -118,7 +118,7 @@ fn set_value(request: &mut Request, name: &str, value: &str) -> Option<()> {
     Some(())
 }
 
-/// Sets an option, and answers whether there is one of this name with this value.
+/// Sets an option, and returns whether there is one of this name with this value.
 pub(crate) fn set_option(
     alloc: Global,
     request: &mut Request,
@@ -141,7 +141,7 @@ pub(crate) fn split_times(line: &str) -> Option<(usize, &str)> {
     Some((times.parse().ok()?, text))
 }
 
-// What a picture stands for.
+// What a picture means.
 fn meaning(c: char) -> char {
     match c {
         '␍' => '\r',
@@ -154,12 +154,12 @@ fn meaning(c: char) -> char {
     }
 }
 
-// A text with its pictures as what they stand for.
+// A text with its pictures as what they mean.
 fn meant(alloc: Global, text: &str) -> Result<String, AllocError> {
     text.chars().map(meaning).collect(alloc)
 }
 
-/// Appends a line of an input: its pictures as what they stand for, and a line feed unless it says that
+/// Appends a line of an input: its pictures as what they mean, and a line feed unless it says that
 /// there is none.
 pub(crate) fn push_input(input: &mut Vec<u8>, line: &str) -> Result<(), AllocError> {
     let (line, end) = match line.strip_suffix('␃') {
@@ -178,12 +178,12 @@ pub(crate) fn push_input(input: &mut Vec<u8>, line: &str) -> Result<(), AllocErr
     input.extend_from_slice(end.as_bytes())
 }
 
-// The byte that a pair of hexadecimal digits stands for, if this is such a pair.
+// The byte that a pair of hexadecimal digits means, if this is such a pair.
 fn byte_of(pair: &[u8]) -> Option<u8> {
     u8::from_str_radix(str::from_utf8(pair).ok()?, 16).ok()
 }
 
-// The bytes that pairs of hexadecimal digits stand for, if these are such pairs.
+// The bytes that pairs of hexadecimal digits mean, if these are such pairs.
 fn push_digits(bytes: &mut Vec<u8>, digits: &str) -> Result<bool, AllocError> {
     for pair in digits.as_bytes().chunks(2) {
         let Some(byte) = byte_of(pair) else {
@@ -194,8 +194,8 @@ fn push_digits(bytes: &mut Vec<u8>, digits: &str) -> Result<bool, AllocError> {
     Ok(true)
 }
 
-/// Appends bytes, and answers whether the words of the line stand for some: each has two hexadecimal digits for each
-/// byte, and may have a star and a number behind them, which says how many times they stand.
+/// Appends bytes, and returns whether the words of the line mean some: each has two hexadecimal digits for each
+/// byte, and may be followed by a star and a number, which says how often they are repeated.
 pub(crate) fn push_bytes(input: &mut Vec<u8>, line: &str) -> Result<bool, AllocError> {
     for word in line.split(' ') {
         let (digits, times) = word.split_once('*').unwrap_or((word, "1"));
@@ -211,7 +211,7 @@ pub(crate) fn push_bytes(input: &mut Vec<u8>, line: &str) -> Result<bool, AllocE
     Ok(true)
 }
 
-/// Sets the bytes from a place on, and answers whether the line has a number, pairs of digits, and room for them.
+/// Sets the bytes from a place on, and returns whether the line has a number, pairs of digits, and room for them.
 pub(crate) fn set_bytes(alloc: Global, input: &mut [u8], line: &str) -> Result<bool, AllocError> {
     let Some((place, digits)) = split_times(line) else {
         return Ok(false);

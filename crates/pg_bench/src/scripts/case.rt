@@ -1,4 +1,4 @@
-//! A script, and what its runs answer.
+//! A script, and how its runs end.
 
 use crate::case::Case;
 use crate::fault::CaseFault;
@@ -9,7 +9,7 @@ use pg_testing::ledger::Rule;
 use pg_testing::report::Report;
 use std::alloc::{AllocError, Global};
 
-/// What a run answers: its exit status, and the text that it shows, or the line of its error.
+/// How a run ends: its exit status, and the text that it shows, or the line of its error.
 #[derive(Drop)]
 struct Answer {
     status: u8,
@@ -51,7 +51,7 @@ impl<'a> Script<'a> {
         }
     }
 
-    // Takes what stands behind a mark.
+    // Takes what follows a mark.
     fn take(&mut self, alloc: Global, mark: &str, text: &'a str) -> Result<(), CaseFault> {
         match mark {
             ">" => Ok(push_line(&mut self.text, text)?),
@@ -220,7 +220,7 @@ impl<'a> Case<'a> for ScriptCase<'a> {
     }
 }
 
-// Appends a line of a script or of an answer: its pictures as what they stand for, and a line feed
+// Appends a line of a script or of an answer: its pictures as what they mean, and a line feed
 // unless it says that there is none.
 fn push_line(text: &mut String, line: &str) -> Result<(), AllocError> {
     let (line, end) = match line.strip_suffix('␃') {
@@ -233,7 +233,7 @@ fn push_line(text: &mut String, line: &str) -> Result<(), AllocError> {
     text.push_str(end)
 }
 
-// What a character stands for.
+// What a character means.
 fn meaning(c: char) -> char {
     match c {
         '␉' => '\t',

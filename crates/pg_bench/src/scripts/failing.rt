@@ -62,7 +62,7 @@ impl FailingRun<'_> {
     }
 
     // How the run ends where calls fail, of which the first is that of this number. What writes
-    // before it took stands, and no read or write of its kind follows it.
+    // before it took is there, and no read or write of its kind follows it.
     fn ended(&self, rule: Rule, number: u64) -> Outcome {
         let run = Run::new(self.given, (self.kind, rule));
         let (status, shown, told) = self.given.answer;

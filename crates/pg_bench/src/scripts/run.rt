@@ -18,7 +18,7 @@ pub(crate) enum Kind {
     Tell,
 }
 
-/// A script, and what its run answers where no call fails.
+/// A script, and how its run ends where no call fails.
 #[derive(Clone, Copy)]
 pub(crate) struct Given<'c> {
     pub(crate) alloc: Global,

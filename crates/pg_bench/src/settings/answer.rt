@@ -8,7 +8,7 @@ use pg_layout::{
 };
 use std::alloc::Global;
 
-/// What getters answer, as words that are parted by spaces.
+/// What getters return, as words that are parted by spaces.
 ///
 /// The first thing that goes wrong is kept to the end, so that a question is written without looking for it.
 #[derive(Drop)]
@@ -142,7 +142,7 @@ impl Answer {
         });
     }
 
-    // Writes what stands at a side.
+    // Writes what is at a side.
     fn push_indent(&mut self, indent: Indent) {
         self.push_number(indent.size);
         if indent.fill != ' ' {
@@ -151,7 +151,7 @@ impl Answer {
         }
     }
 
-    /// Writes what stands at each side.
+    /// Writes what is at each side.
     pub(crate) fn push_indents(&mut self, sides: Sides<Indent>) {
         self.push_indent(sides.left);
         self.push_indent(sides.right);
@@ -185,7 +185,7 @@ impl Answer {
         self.push_color(sides.bottom);
     }
 
-    /// Writes where a text stands between left and right.
+    /// Writes where a text is between left and right.
     pub(crate) fn push_horizontal(&mut self, alignment: AlignmentHorizontal) {
         self.push_word(match alignment {
             AlignmentHorizontal::Left => "left",
@@ -194,7 +194,7 @@ impl Answer {
         });
     }
 
-    /// Writes where a text stands between top and bottom.
+    /// Writes where a text is between top and bottom.
     pub(crate) fn push_vertical(&mut self, alignment: AlignmentVertical) {
         self.push_word(match alignment {
             AlignmentVertical::Top => "top",

@@ -30,7 +30,7 @@ pub(crate) fn write_borders(borders: &Borders<char>, answer: &mut Answer) {
     }
 }
 
-/// Writes what is answered of a crossing in a table of so many rows and columns.
+/// Writes what is returned of a crossing in a table of so many rows and columns.
 pub(crate) fn write_of_crossing(
     config: &Config<'_>,
     getter: &str,
@@ -46,7 +46,7 @@ pub(crate) fn write_of_crossing(
     }
 }
 
-/// Writes what is answered of a horizontal or a vertical, in a table of so many rows or columns, or of
+/// Writes what is returned of a horizontal or a vertical, in a table of so many rows or columns, or of
 /// so many glyphs.
 pub(crate) fn write_of_side(
     config: &Config<'_>,
@@ -146,7 +146,7 @@ fn write_lookups(config: &Config<'_>, pos: Position, length: usize, answer: &mut
     }
 }
 
-// Writes what a getter answers of each of so many glyphs of a horizontal or a vertical, of which there is
+// Writes what a getter returns of each of so many glyphs of a horizontal or a vertical, of which there is
 // one at least.
 fn write_lookup(
     config: &Config<'_>,
@@ -163,7 +163,7 @@ fn write_lookup(
     }
 }
 
-// Writes what it answers of glyph i.
+// Writes what it returns of glyph i.
 fn write_single(
     config: &Config<'_>,
     getter: &str,

@@ -129,7 +129,7 @@ impl<'a> SettingsCase<'a> {
         Ok(())
     }
 
-    // What is answered to the questions that are watched.
+    // What the questions that are watched return.
     fn watched_answers(&self) -> Answer {
         let mut answer = Answer::new(self.alloc);
         for question in &self.watched {
@@ -147,7 +147,7 @@ impl<'a> SettingsCase<'a> {
         }
     }
 
-    // Writes what is answered to a question.
+    // Writes what a question returns.
     fn write_answers(&self, question: &str, answer: &mut Answer) {
         match question.strip_prefix("get_color ") {
             Some(place) => {
@@ -162,7 +162,7 @@ impl<'a> SettingsCase<'a> {
         }
     }
 
-    // Compares the answer to a question with the one that stands behind it.
+    // Compares the answer to a question with the one that follows it.
     fn ask(&self, number: usize, text: &str, report: &mut Report) -> Result<(), CaseFault> {
         let Some((question, expected)) = text.split_once(" = ") else {
             return Err(CaseFault::Unknown);

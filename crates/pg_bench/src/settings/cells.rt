@@ -6,7 +6,7 @@ use crate::settings::memory::{Config, Memory};
 use pg_config::Spans;
 use pg_layout::{Position, Sides};
 
-/// Writes what is answered of a place. Two getters that are asked of a line take its number and that of
+/// Writes what is returned of a place. Two getters that are asked of a line take its number and that of
 /// the rows or columns.
 pub(crate) fn write_of_place(
     config: &Config<'_>,
@@ -41,7 +41,7 @@ fn write_padding_color(config: &Config<'_>, pos: Position, answer: &mut Answer) 
     ))
 }
 
-// Writes how a cell looks: what seven getters answer, one after the other.
+// Writes how a cell looks: what seven getters return, one after the other.
 fn write_cell(config: &Config<'_>, pos: Position, answer: &mut Answer) {
     answer.push_indents(config.get_padding(pos));
     write_padding_color(config, pos, answer);
@@ -52,7 +52,7 @@ fn write_cell(config: &Config<'_>, pos: Position, answer: &mut Answer) {
     answer.push_color(config.get_justification_color(pos))
 }
 
-// Writes what is answered of the rectangle of a place, or of the spans from or before it.
+// Writes what is returned of the rectangle of a place, or of the spans from or before it.
 fn write_of_span(config: &Config<'_>, getter: &str, pos: Position, answer: &mut Answer) {
     match getter {
         "get_column_span" => answer.push_size(config.get_column_span(pos)),

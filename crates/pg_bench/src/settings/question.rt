@@ -8,7 +8,7 @@ use crate::settings::cells::{write_of_place, write_spans};
 use crate::settings::memory::Config;
 use std::alloc::Global;
 
-/// Writes what a getter answers, once for each list of numbers that the question has.
+/// Writes what a getter returns, once for each list of numbers that the question has.
 pub(crate) fn write_answers(
     config: &Config<'_>,
     alloc: Global,
@@ -27,7 +27,7 @@ pub(crate) fn write_answers(
     }
 }
 
-// Writes what a getter answers that is asked with these numbers.
+// Writes what a getter returns for these numbers.
 fn write_answer(config: &Config<'_>, getter: &str, numbers: &[usize], answer: &mut Answer) {
     match numbers {
         [size] => write_count(config, getter, *size, answer),
@@ -40,7 +40,7 @@ fn write_answer(config: &Config<'_>, getter: &str, numbers: &[usize], answer: &m
     }
 }
 
-// Writes what is answered of the whole table.
+// Writes what is returned of the whole table.
 fn write_of_table(config: &Config<'_>, getter: &str, answer: &mut Answer) {
     match getter {
         "get_borders" => write_borders(config.get_borders(), answer),

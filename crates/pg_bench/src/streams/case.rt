@@ -19,7 +19,7 @@ pub(crate) enum StepKind {
     Make,
     /// A row.
     Row,
-    /// What stands in place of a row that can't be had.
+    /// What is in place of a row that can't be had.
     Error,
     /// The end of the table.
     Finish,
@@ -27,7 +27,7 @@ pub(crate) enum StepKind {
     Close,
 }
 
-/// A call, and what is told of it.
+/// A call, and what is said of it.
 #[derive(Drop)]
 pub(crate) struct Step<'a> {
     pub(crate) kind: StepKind,
@@ -35,15 +35,15 @@ pub(crate) struct Step<'a> {
     pub(crate) cells: Vec<&'a str>,
     /// The height that a row brings.
     pub(crate) height: usize,
-    /// Whether a row is told to be the last.
+    /// Whether a row is said to be the last.
     pub(crate) is_last: bool,
     /// Whether a row is pushed where others are lent.
     pub(crate) is_pushed: bool,
-    /// The words of the fault that is answered.
+    /// The words of the fault that is returned.
     pub(crate) fault: Option<&'a str>,
-    /// What a printer tells behind it.
+    /// What a printer says after it.
     pub(crate) note: Option<&'a str>,
-    /// What a printer answers before it, when it is asked whether all lines of the row are shown.
+    /// What a printer returns before it, when it is asked whether all lines of the row are shown.
     pub(crate) shown: Option<&'a str>,
     /// Whether it appends a line, be it an empty one.
     has_line: bool,
@@ -51,7 +51,7 @@ pub(crate) struct Step<'a> {
     pub(crate) bytes: usize,
 }
 
-/// A table as it is told, and how its rows are handed over.
+/// A table as its lines describe it, and how its rows are passed.
 #[derive(Drop)]
 pub(crate) struct StreamCase<'a> {
     pub(crate) alloc: Global,
@@ -63,7 +63,7 @@ pub(crate) struct StreamCase<'a> {
     /// The sizes of columns and rows.
     pub(crate) dimension: ConstantDimension,
     pub(crate) ways: Vec<Way>,
-    /// The numbers of rows that are told, if there are any.
+    /// The numbers of rows that are given, if there are any.
     pub(crate) hints: Vec<Option<usize>>,
     /// Whether memory is refused, too.
     pub(crate) is_refused: bool,
@@ -129,7 +129,7 @@ impl<'a> StreamCase<'a> {
         }
     }
 
-    // Takes what is told of the latest step.
+    // Takes what is said of the latest step.
     fn push_told(&mut self, word: &str, rest: &'a str) -> Result<(), CaseFault> {
         let Some(step) = self.steps.last_mut() else {
             return Err(CaseFault::Unknown);
@@ -160,7 +160,7 @@ impl StreamCase<'_> {
         Ok(())
     }
 
-    // Takes the numbers of rows that are told.
+    // Takes the numbers of rows that are given.
     fn push_hints(&mut self, words: &str) -> Result<(), CaseFault> {
         for word in words.split(' ') {
             let hint = match word {

@@ -18,7 +18,7 @@ type Stream<'a> = RowStream<
     Memory<'a>,
 >;
 
-/// A row, or the number that stands in its place.
+/// A row, or the number in its place.
 type Item<'a> = Result<Vec<&'a str, Memory<'a>>, u8>;
 
 /// The error in place of a row.
@@ -83,7 +83,7 @@ impl<'a> StreamCase<'a> {
         )
     }
 
-    // What a call that prints all rows answers.
+    // What a call that prints all rows returns.
     fn printed<'m>(
         &'m self,
         way: Way,
@@ -98,7 +98,7 @@ impl<'a> StreamCase<'a> {
         Ok(self.printed_rows(way, hint, memory, buf)?)
     }
 
-    // What a call answers that prints all rows, of which each is there.
+    // What a call returns that prints all rows, of which each is there.
     fn printed_rows<'m>(
         &'m self,
         way: Way,
@@ -128,7 +128,7 @@ impl<'a> StreamCase<'a> {
         Ok(rows)
     }
 
-    // All rows, and what stands in the place of any of them.
+    // All rows, and what is in the place of any of them.
     fn items<'m>(&'m self, memory: Memory<'m>) -> Result<Vec<Item<'m>, Memory<'m>>, StreamFault> {
         let mut items = Vec::new(memory);
         for step in &self.steps {
@@ -141,7 +141,7 @@ impl<'a> StreamCase<'a> {
         Ok(items)
     }
 
-    /// The step at which a table stops that is printed as a whole: the first that answers a fault, or the last.
+    /// The step at which a table stops that is printed as a whole: the first that returns a fault, or the last.
     pub(crate) fn stop(&self) -> usize {
         for (number, step) in self.steps.iter().enumerate() {
             if step.fault.is_some() {

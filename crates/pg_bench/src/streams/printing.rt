@@ -70,7 +70,7 @@ impl StreamCase<'_> {
         Ok(())
     }
 
-    // Prints the table in this way, with memory, and where it is told so without it.
+    // Prints the table in this way, with memory, and where a line says so without it.
     fn print_by(
         &self,
         way: Way,

@@ -11,7 +11,7 @@ use std::alloc::{AllocError, Global};
 /// The line and the section of a mismatch.
 const PLACE: (usize, &str) = (0, "single values");
 
-/// Where a text stands, the height of its cell, its lines, and the lines above it.
+/// Where a text is, the height of its cell, its lines, and the lines above it.
 const INDENTS: [(AlignmentVertical, usize, usize, usize); 7] = [
     (AlignmentVertical::Bottom, 1, 1, 0),
     (AlignmentVertical::Top, 1, 1, 0),
@@ -74,7 +74,7 @@ fn check_totals(alloc: Global, report: &mut Report) -> Result<(), AllocError> {
     Ok(())
 }
 
-/// Lines stand by the vertical alignment, blank ones are counted before and behind the others, and some
+/// Lines are placed by the vertical alignment, blank ones are counted before and behind the others, and some
 /// tables don't fit in a file of sections.
 pub(crate) fn check_values(alloc: Global, report: &mut Report) -> Result<(), CaseFault> {
     report.count_case();

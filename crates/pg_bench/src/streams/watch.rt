@@ -17,7 +17,7 @@ pub(crate) type Buffer<'m> = String<Memory<'m>>;
 /// The first thing that is wrong, and at which step.
 #[derive(Debug, Clone, Copy, PartialEq, Eq)]
 pub(crate) enum StreamMismatch {
-    /// What the call answers.
+    /// What the call returns.
     Answer(usize),
     /// What the buffer holds.
     Text(usize),
@@ -70,7 +70,7 @@ impl<'w> Watch<'w> {
         }
     }
 
-    /// The call of this step answered no fault.
+    /// The call of this step returned no fault.
     pub(crate) fn goes(&mut self, step: usize, buf: &str) {
         let is_expected = match self.steps.get(step) {
             Some(step) => step.fault.is_none(),
@@ -82,7 +82,7 @@ impl<'w> Watch<'w> {
         self.look(step, buf);
     }
 
-    /// The call of this step answered a fault.
+    /// The call of this step returned a fault.
     pub(crate) fn stops<F: Display>(&mut self, step: usize, fault: &F, buf: &str) {
         let Ok(words) = format!(in self.alloc; "{fault}") else {
             return self.take(StreamMismatch::Answer(step));

@@ -12,7 +12,7 @@ use std::convert::AsStr;
 pub(crate) struct Title<'t> {
     /// The number of the row line.
     pub(crate) row: usize,
-    /// Where it stands between the outer column lines.
+    /// Where it is between the outer column lines.
     pub(crate) side: AlignmentHorizontal,
     /// Its characters.
     pub(crate) text: &'t str,
@@ -27,7 +27,7 @@ pub(crate) enum BuilderCall<'t> {
     Borders(Borders<char>),
     /// Its paddings.
     Padding(Sides<Indent>),
-    /// Where its texts stand.
+    /// Where its texts are.
     Alignment(AlignmentHorizontal),
     /// The line below its header.
     HeaderLine(HorizontalLine<char>),
@@ -42,7 +42,7 @@ pub(crate) enum BuilderCall<'t> {
 }
 
 impl<'t> BuilderCall<'t> {
-    /// What the call of this name sets, by what stands behind the name.
+    /// What the call of this name sets, by what follows the name.
     pub(crate) fn of(name: &str, rest: &'t str) -> Result<BuilderCall<'t>, LineFault> {
         let words = Words::new(rest);
         match name {

@@ -88,7 +88,7 @@ pub(crate) struct TableCase<'a> {
     pub(crate) picture: Option<String>,
     /// The text with which it goes on, over and over.
     pub(crate) again: Option<&'a str>,
-    /// The refusal that stands in place of a picture.
+    /// The refusal in place of a picture.
     pub(crate) refusal: Option<Refusal>,
     /// Whether it is that of a table that has all memory.
     pub(crate) has_memory: bool,
@@ -123,7 +123,7 @@ impl<'a> TableCase<'a> {
         }
     }
 
-    // Repeats the last row until it stands there so many times.
+    // Repeats the last row until it is there so many times.
     fn repeat_row(&mut self, count: &str) -> Result<(), CaseFault> {
         for _ in 1..number_of(count)? {
             let Some(row) = self.rows.last() else {

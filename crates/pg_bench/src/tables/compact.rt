@@ -20,7 +20,7 @@ pub(crate) fn with_setting(config: CompactConfig, line: &str) -> Result<CompactC
     })
 }
 
-// The colour of this name: the texts of a compact table's colours stand in the program.
+// The colour of this name: the texts of a compact table's colours are in the program.
 fn color_named(name: &str) -> Option<ANSIStr<'static>> {
     match name {
         "red" => Some(ANSIStr::new("<r>", "</r>")),

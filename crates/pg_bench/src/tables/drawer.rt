@@ -35,7 +35,7 @@ impl Drawer<'_> {
 }
 
 impl TableCase<'_> {
-    /// What the test of the table answers. A builder with rows of its own has none, but within a width.
+    /// What the test of the table returns. A builder with rows of its own has none, but within a width.
     pub(crate) fn fits(&self, drawer: Drawer<'_>) -> Option<Result<(), Refusal>> {
         match (drawer, self.way.within) {
             (Drawer::Grid(grid, records), _) => {
@@ -46,7 +46,7 @@ impl TableCase<'_> {
         }
     }
 
-    // What the test of a grid answers.
+    // What the test of a grid returns.
     fn fits_grid(&self, grid: Grid, records: &VecRecords<String>) -> Result<(), Misfit> {
         let (config, dimension, colors) = (&self.way.config, &self.dimension, &self.way.colors);
         match grid {

@@ -80,7 +80,7 @@ impl From<TableFault> for Refusal {
 }
 
 impl TableCase<'_> {
-    /// The table is refused so: each call answers it and leaves the buffer as it was. Where memory is
+    /// The table is refused so: each call returns it and leaves the buffer as it was. Where memory is
     /// refused, one request is granted, that for the buffer's old text.
     pub(crate) fn draw_refusal(
         &self,

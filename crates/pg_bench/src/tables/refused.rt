@@ -27,9 +27,9 @@ enum PrintCall {
 /// The first thing that is wrong.
 #[derive(Debug, Clone, Copy, PartialEq, Eq)]
 pub(crate) enum TableMismatch {
-    /// What the call answers or leaves, where its request of this number is refused.
+    /// What the call returns or leaves, where its request of this number is refused.
     Request(u64),
-    /// What it answers or leaves, where there is room for so many bytes.
+    /// What it returns or leaves, where there is room for so many bytes.
     Room(usize),
     /// How many requests came.
     Count(u64),
@@ -117,7 +117,7 @@ impl RefusedTable<'_, '_> {
         }
     }
 
-    // How a call ends that answers this, and leaves this text. Of an empty picture any beginning is all.
+    // How a call ends that returns this, and leaves this text. Of an empty picture any beginning is all.
     fn judged(&self, memory: &Refusing<Global>, refusal: Option<Refusal>, text: &str) -> Outcome {
         let is_whole = text == self.picture;
         let is_begun = self.picture.starts_with(text) && (!is_whole || text.is_empty());

@@ -12,7 +12,7 @@ use pg_testing::refusing::Refusing;
 use pg_testing::report::Report;
 use std::alloc::{Allocator, Global};
 
-/// What stands for no limit.
+/// What means no limit.
 const ANY: &str = "any";
 
 /// What a line `within` says.
@@ -85,7 +85,7 @@ impl<'a> TableCase<'a> {
         }
     }
 
-    /// What the test of the table at its natural sizes answers, or of that within a width.
+    /// What the test of the table at its natural sizes returns, or of that within a width.
     pub(crate) fn fits_naturally(&self, drawer: Drawer<'_>) -> Result<(), TableFault> {
         match (drawer, self.way.within) {
             (_, Some(within)) => self.fitted(self.alloc, drawer, within)?.fits(self.alloc),

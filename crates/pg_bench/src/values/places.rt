@@ -1,4 +1,4 @@
-//! Values by key, which stand in the order of their keys.
+//! Values by key, in the order of their keys.
 
 use crate::fault::CaseFault;
 use crate::values::Fact;

@@ -117,7 +117,7 @@ impl Trial for RefusedPrinting<'_> {
 }
 
 impl RefusedPrinting<'_> {
-    // The table is printed whole, or memory was refused and its beginning stands.
+    // The table is printed whole, or memory was refused and its beginning is there.
     fn printed(&self, memory: &Refusing<Global>) -> Outcome {
         let mut buf = String::new(memory);
         let fault = print_script(memory, self.script, self.mode, &mut buf).err();
