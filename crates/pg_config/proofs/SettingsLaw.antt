@@ -5,7 +5,8 @@ use Rattle.std.proofs.lemmas.Bool.Decides.{nat_tests}
 use Rattle.pg_layout.specs.declared.position.Position.{Position}
 use Rattle.pg_layout.specs.Keys.{Order, by_number, by_place}
 use Rattle.pg_layout.specs.Places.{value_at, same, before, with_place}
-use Rattle.pg_config.specs.Settings.{Settings, has_some, is_for_all, is_set, setting_of, number_above, next_number, latest, with_setting}
+use Rattle.pg_config.specs.Inside.NamedSettings.{first_of, with_base}
+use Rattle.pg_config.specs.Settings.{Settings, no_settings, has_some, is_for_all, is_set, setting_of, number_above, next_number, latest, with_setting}
 use Rattle.pg_layout.proofs.KeyedPlaces.{number-laws, place-laws, value_at-with_place}
 use Rattle.pg_layout.specs.declared.position.Entity.{Entity}
 use Rattle.pg_layout.specs.declared.position.Entity.TheVariants.{Global, Row, Column, Cell}
@@ -113,3 +114,9 @@ module _ {V : Type 0} where
             rw (there, y, first_wins (next_number s) v (latest (value_at by_number p.row s.rows) (value_at by_number p.col s.columns)) (latest_below (next_number s) (value_at by_number p.row s.rows) (value_at by_number p.col s.columns) (row p s) (column p s))) refl
         | inr n ↦ let away : same by_place (at r c) p ≡ false = grind (arith, nat_tests, n) in rw (away, n) refl
       ])
+
+-- ---- settings of rows, columns and cells that are kept apart from that of all places
+
+pub none-first : {V : Type 0} (base : Option V) (items : List (Settings V)) (p : Position) → length items < 1 → base ≡ setting_of (with_base base (first_of items)) p
+none-first base [] p none = for_all-base (with_base base no_settings) p refl
+none-first base (s ∷ items) p none = absurd (omega (arith, none))

@@ -4,3 +4,4 @@ pub mod Lines
 pub mod Extents
 pub mod Covered
 pub mod CrossingMarks
+pub mod NamedSettings

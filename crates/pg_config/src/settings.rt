@@ -1,9 +1,10 @@
 //! Settings by entity: a look-up takes at most three searches, and a setter one.
 
-ghost use Rattle.std.specs.Prelude.{◌≡◌, ℕ, suc, ◌<◌, ◌-◌, ◌^◌, Option, Some, None, option_map, OnOk, OnErr, IsOk, IsSome};
+ghost use Rattle.std.specs.Prelude.{◌≡◌, ◌≢◌, ◌||◌, [], ℕ, suc, ◌<◌, ◌-◌, ◌^◌, Option, Some, None, option_map, OnOk, OnErr, IfOk, IsOk, IsSome};
 ghost use Rattle.pg_layout.specs.Keys.{by_place};
 ghost use Rattle.pg_layout.specs.Places.{value_at, with_place};
-ghost use Rattle.pg_config.specs.Settings.{no_settings, latest, value_or, setting_of, with_setting, HasRoom, is_set, is_for_all};
+ghost use Rattle.pg_config.specs.Inside.NamedSettings.{first_of, with_base};
+ghost use Rattle.pg_config.specs.Settings.{no_settings, has_some, latest, value_or, setting_of, with_setting, HasRoom, is_set, is_for_all};
 
 use crate::extent::Extent;
 use pg_layout::{Entity, Key, Places, Position};
@@ -17,26 +18,18 @@ use std::marker::Model;
 #[derive(Debug, Drop)]
 pub struct Settings<V, A: Allocator = Global> {
     base: Option<V>,
-    rows: Places<usize, (usize, V), A>,
-    columns: Places<usize, (usize, V), A>,
-    cells: Places<Position, (usize, V), A>,
-    // It includes all cells.
-    extent: Extent,
-    // The number of the next setting for a row, a column or a cell.
-    next: usize,
+    // One, once a row, a column or a cell has a setting. It lies behind a pointer, since each function that
+    // names a configuration is proved with all types that lie in it.
+    named: Vec<NamedSettings<V, A>, A>,
 }
 
 impl<V, A: Allocator> Model for Settings<V, A> {
-    ghost use Rattle.std.specs.Prelude.{◌≡◌};
-    ghost use Rattle.pg_layout.specs.Places.{Each};
-    ghost use Rattle.pg_config.specs.Settings.{Settings as Parts, next_number};
-    ghost use Rattle.pg_config.specs.Inside.Extents.{HasCell};
+    ghost use Rattle.pg_config.specs.Inside.NamedSettings.{first_of, with_base};
+    ghost use Rattle.pg_config.specs.Settings.{Settings as Parts};
 
     ghost Value = { Parts V };
 
-    ghost view = { λ s. record { base = s.base; rows = s.rows; columns = s.columns; cells = s.cells } };
-
-    ghost invariant = { λ s. (s.next ≡ next_number (record { base = s.base; rows = s.rows; columns = s.columns; cells = s.cells })) × Each (HasCell s.extent) s.cells };
+    ghost view = { λ s. with_base s.base (first_of s.named.items) };
 }
 
 impl<V, A: Allocator + Copy> Settings<V, A> {
@@ -46,11 +39,7 @@ impl<V, A: Allocator + Copy> Settings<V, A> {
     {
         Settings {
             base: None,
-            rows: Places::new(alloc),
-            columns: Places::new(alloc),
-            cells: Places::new(alloc),
-            extent: Extent::none(),
-            next: 0,
+            named: Vec::new(alloc),
         }
     }
 }
@@ -61,10 +50,10 @@ impl<V, A: Allocator> Settings<V, A> {
     pub fn get(&self, pos: Position) -> Option<&V>
         ensures { option_map (λ x. x.now) result ≡ setting_of self.now pos }
     {
-        if self.is_for_all() {
-            return self.base.as_ref();
+        match self.named.as_slice() {
+            [named, ..] => named.find(&self.base, pos),
+            [] => self.base.as_ref(),
         }
-        self.find(pos)
     }
 
     // What was set for all places, last of all or before some of them.
@@ -80,28 +69,10 @@ impl<V, A: Allocator> Settings<V, A> {
     pub(crate) fn is_for_all(&self) -> bool
         ensures { result ≡ is_for_all self.now }
     {
-        self.cells.is_empty() && self.rows.is_empty() && self.columns.is_empty()
-    }
-
-    // The setting of a place, found by searches: the latest of those of its cell, its row and its column, or
-    // that of all places.
-    #[tactic(auto, unfolding(crate::specs::Settings::setting_of))]
-    fn find(&self, pos: Position) -> Option<&V>
-        ensures { option_map (λ x. x.now) result ≡ setting_of self.now pos }
-    {
-        let line = latest(self.rows.get(pos.row), self.columns.get(pos.col));
-        value_or(&self.base, latest(self.of_cell(pos), line))
-    }
-
-    // That of the cell alone. Most places lie outside of the rows and columns where cells have one.
-    #[inline(always)]
-    fn of_cell(&self, pos: Position) -> Option<&(usize, V)>
-        ensures { option_map (λ x. x.now) result ≡ value_at by_place pos self.now.cells }
-    {
-        if self.extent.holds(pos) {
-            return self.cells.get(pos);
+        match self.named.as_slice() {
+            [named, ..] => named.is_empty(),
+            [] => true,
         }
-        None
     }
 
     /// Whether something was set.
@@ -109,10 +80,10 @@ impl<V, A: Allocator> Settings<V, A> {
     pub fn is_set(&self) -> bool
         ensures { result ≡ is_set self.now }
     {
-        self.base.is_some()
-            || !self.cells.is_empty()
-            || !self.rows.is_empty()
-            || !self.columns.is_empty()
+        match self.named.as_slice() {
+            [named, ..] => named.is_set(self.base.is_some()),
+            [] => self.base.is_some(),
+        }
     }
 }
 
@@ -132,9 +103,126 @@ impl<V: Drop, A: Allocator> Settings<V, A> {
         ensures global { entity ≡ Entity.Global → IsOk result }
         ensures again { HasRoom entity self.old → IsOk result }
     {
+        if let Entity::Global = entity {
+            self.base = Some(value);
+            self.named.clear();
+            return Ok(());
+        }
+        if self.named.is_empty() {
+            return push_first(&mut self.named, entity, value);
+        }
+        self.named[0].set(entity, value)
+    }
+}
+
+// Sets a value for the places of an entity, which are the first ones with a value.
+fn push_first<V: Drop, A: Allocator + Clone>(
+    named: &mut Vec<NamedSettings<V, A>, A>,
+    entity: Entity,
+    value: V,
+) -> Result<(), AllocError>
+    requires { named.old.items ≡ [] }
+    ensures ok { OnOk result (first_of named.new.items ≡ with_base None (with_setting entity value no_settings)) }
+    ensures err { OnErr result (named.new.items ≡ []) }
+{
+    let mut first = NamedSettings::new(named.allocator())?;
+    first.set(entity, value)?;
+    named.push(first)?;
+    Ok(())
+}
+
+/// The settings of rows, columns and cells.
+#[derive(Debug, Drop)]
+pub(crate) struct NamedSettings<V, A: Allocator = Global> {
+    rows: Places<usize, (usize, V), A>,
+    columns: Places<usize, (usize, V), A>,
+    cells: Places<Position, (usize, V), A>,
+    // It includes all cells.
+    extent: Extent,
+    // The number of the next setting for a row, a column or a cell.
+    next: usize,
+}
+
+impl<V, A: Allocator> Model for NamedSettings<V, A> {
+    ghost use Rattle.std.specs.Prelude.{◌≡◌, None};
+    ghost use Rattle.pg_layout.specs.Places.{Each};
+    ghost use Rattle.pg_config.specs.Settings.{Settings as Parts, next_number};
+    ghost use Rattle.pg_config.specs.Inside.Extents.{HasCell};
+
+    ghost Value = { Parts V };
+
+    ghost view = { λ s. record { base = None; rows = s.rows; columns = s.columns; cells = s.cells } };
+
+    ghost invariant = { λ s. (s.next ≡ next_number (record { base = None; rows = s.rows; columns = s.columns; cells = s.cells })) × Each (HasCell s.extent) s.cells };
+}
+
+impl<V, A: Allocator> NamedSettings<V, A> {
+    #[inline(always)]
+    fn is_empty(&self) -> bool
+        ensures { result ≡ is_for_all self.now }
+    {
+        self.cells.is_empty() && self.rows.is_empty() && self.columns.is_empty()
+    }
+
+    // Whether something was set, for all places or not.
+    fn is_set(&self, is_based: bool) -> bool
+        ensures { result ≡ ((is_based || has_some self.now.cells) || (has_some self.now.rows || has_some self.now.columns)) }
+    {
+        is_based || !self.cells.is_empty() || !self.rows.is_empty() || !self.columns.is_empty()
+    }
+
+    // The setting of a place, found by searches: the latest of those of its cell, its row and its column, or
+    // that of all places.
+    #[tactic(auto, unfolding(crate::specs::Settings::setting_of))]
+    fn find<'a>(&'a self, base: &'a Option<V>, pos: Position) -> Option<&'a V>
+        ensures { option_map (λ x. x.now) result ≡ setting_of (with_base base.now self.now) pos }
+    {
+        let line = latest(self.rows.get(pos.row), self.columns.get(pos.col));
+        value_or(base, latest(self.of_cell(pos), line))
+    }
+
+    // That of the cell alone. Most places lie outside of the rows and columns where cells have one.
+    #[inline(always)]
+    fn of_cell(&self, pos: Position) -> Option<&(usize, V)>
+        ensures { option_map (λ x. x.now) result ≡ value_at by_place pos self.now.cells }
+    {
+        if self.extent.holds(pos) {
+            return self.cells.get(pos);
+        }
+        None
+    }
+}
+
+impl<V: Drop, A: Allocator> NamedSettings<V, A> {
+    // No setting, whose memory comes from there.
+    fn new(alloc: &A) -> Result<NamedSettings<V, A>, AllocError>
+    where
+        A: Clone,
+        ensures { IfOk result (λ s. s ≡ no_settings) }
+    {
+        let rows = alloc.clone()?;
+        let columns = alloc.clone()?;
+        let cells = alloc.clone()?;
+        Ok(NamedSettings {
+            rows: Places::new(rows),
+            columns: Places::new(columns),
+            cells: Places::new(cells),
+            extent: Extent::none(),
+            next: 0,
+        })
+    }
+
+    // Sets a value for the places of an entity. One for all places only deletes all others.
+    #[tactic(auto, unfolding(crate::specs::Settings::with_setting))]
+    fn set(&mut self, entity: Entity, value: V) -> Result<(), AllocError>
+    where
+        A: Clone,
+        ensures ok { OnOk result (self.new ≡ with_base None (with_setting entity value self.old)) }
+        ensures err { OnErr result (self.new ≡ self.old) }
+        ensures again { entity ≢ Entity.Global → HasRoom entity self.old → IsOk result }
+    {
         match entity {
             Entity::Global => {
-                self.base = Some(value);
                 self.rows.clear();
                 self.columns.clear();
                 self.cells.clear();

@@ -4,7 +4,7 @@ use Rattle.pg_layout.specs.Position.{at}
 use Rattle.pg_config.specs.Settings.{number_above}
 use Rattle.pg_config.proofs.CoveredPlaces.{cells-with_place}
 use Rattle.pg_config.proofs.SettingsLaw.{number_kept}
-use Rattle.pg_config.proofs.settings.Settings.set.Goals as goal
+use Rattle.pg_config.proofs.settings.NamedSettings.set.Goals as goal
 
 pub invariant_of-self-in-Row : goal.invariant_of-self-in-Row
 invariant_of-self-in-Row g c =

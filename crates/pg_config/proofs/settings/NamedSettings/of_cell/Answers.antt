@@ -3,7 +3,7 @@ use Rattle.pg_layout.specs.Places.{Each}
 use Rattle.pg_config.specs.Inside.Extents.{HasCell}
 use Rattle.pg_config.specs.Settings.{Settings}
 use Rattle.pg_config.proofs.CoveredPlaces.{no-cell-outside}
-use Rattle.pg_config.proofs.settings.Settings.of_cell.Goals as goal
+use Rattle.pg_config.proofs.settings.NamedSettings.of_cell.Goals as goal
 
 pub returns : goal.returns
 returns g c =
