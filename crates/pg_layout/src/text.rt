@@ -93,7 +93,8 @@ pub fn is_plain(bytes: &[u8]) -> bool
     ensures { result ≡ list_all is_plain_byte bytes.now }
 {
     match bytes.len() {
-        0..4 => bytes.iter().all(|b| is_plain_byte(*b)),
+        0 => true,
+        1..4 => are_plain_bytes(bytes),
         4..=8 => has_plain_ends::<4>(bytes),
         9..=16 => has_plain_ends::<8>(bytes),
         _ => has_plain_blocks(bytes),
@@ -127,6 +128,17 @@ fn is_plain_byte(b: u8) -> bool
     ensures { result ≡ is_plain_byte b }
 {
     PLAIN[usize::from(b)]
+}
+
+// The first, the middle and the last of at most three bytes are all of them.
+#[inline(always)]
+fn are_plain_bytes(bytes: &[u8]) -> bool
+    requires some { 0 < length bytes.now }
+    requires few { length bytes.now < 4 }
+    ensures { result ≡ list_all is_plain_byte bytes.now }
+{
+    let ends = is_plain_byte(bytes[0]) & is_plain_byte(bytes[bytes.len() - 1]);
+    ends & is_plain_byte(bytes[bytes.len() / 2])
 }
 
 // Two blocks, which may overlap, hold a text of at most twice their length.
