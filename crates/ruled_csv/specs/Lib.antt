@@ -4,3 +4,4 @@ pub mod Quotes
 pub mod Faults
 pub mod Reading
 pub mod Inside
+pub mod Words

@@ -1,6 +1,7 @@
 //! Why rows can't be read.
 
-ghost use Rattle.std.specs.Prelude.{◌≡◌};
+ghost use Rattle.std.specs.Prelude.{◌≡◌, Some};
+ghost use Rattle.ruled_csv.specs.Words as spec;
 ghost use Rattle.ruled_csv.specs.declared.fault.RowsFault.TheVariants.{Memory};
 
 use std::alloc::{AllocError, AllocFailed};
@@ -49,8 +50,17 @@ impl<T: Drop> From<AllocFailed<T>> for RowsFault {
     }
 }
 
+// How so many fields are named.
+fn fields_word(fields: usize) -> &'static str
+    ensures { result.now ≡ spec.fields_word fields }
+{
+    if fields == 1 { "field" } else { "fields" }
+}
+
 /// Writes what is wrong.
 impl fmt::Display for RowsFault {
+    ghost output = { λ fault. Some (spec.rows_fault_text fault) };
+
     fn fmt<W: fmt::Write>(&self, f: &mut fmt::Formatter<W>) -> fmt::Result {
         match self {
             RowsFault::OpenQuote { line } => write!(f, "line {line}: a quote isn't closed"),
@@ -61,7 +71,7 @@ impl fmt::Display for RowsFault {
                 columns,
                 ..
             } => {
-                let fields_word = if *fields == 1 { "field" } else { "fields" };
+                let fields_word = fields_word(*fields);
                 write!(
                     f,
                     "line {line}: {fields} {fields_word}, but row 0 has {columns}; see --ragged"

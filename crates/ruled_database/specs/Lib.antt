@@ -7,3 +7,4 @@ pub mod Definitions
 pub mod Values
 pub mod Tables
 pub mod Listings
+pub mod Words

@@ -1,6 +1,7 @@
 //! Why a database has no rows to show.
 
-ghost use Rattle.std.specs.Prelude.{◌≡◌};
+ghost use Rattle.std.specs.Prelude.{◌≡◌, Some};
+ghost use Rattle.ruled_database.specs.Words.{database_fault_text, table_fault_text};
 ghost use Rattle.ruled_database.specs.declared.fault.DatabaseFault.TheVariants.{Table};
 ghost use Rattle.ruled_database.specs.declared.fault.TableFault.{TableFault};
 
@@ -76,6 +77,8 @@ impl From<AllocError> for DatabaseFault {
 
 /// Writes what is wrong with a table.
 impl Display for TableFault {
+    ghost output = { λ fault. Some (table_fault_text fault) };
+
     fn fmt<W: fmt::Write>(&self, f: &mut fmt::Formatter<W>) -> fmt::Result {
         let words = match self {
             TableFault::Damage => "a page is damaged",
@@ -89,6 +92,8 @@ impl Display for TableFault {
 
 /// Writes what is wrong.
 impl Display for DatabaseFault {
+    ghost output = { λ fault. Some (database_fault_text fault) };
+
     fn fmt<W: fmt::Write>(&self, f: &mut fmt::Formatter<W>) -> fmt::Result {
         let words = match self {
             DatabaseFault::Database => {

@@ -10,3 +10,4 @@ pub mod Requests
 pub mod Runs
 pub mod Steps
 pub mod Stream
+pub mod Words

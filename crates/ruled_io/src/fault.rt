@@ -1,7 +1,8 @@
 //! Why a run shows no table, or not all of it.
 
-ghost use Rattle.std.specs.Prelude.{◌≡◌};
+ghost use Rattle.std.specs.Prelude.{◌≡◌, Some};
 ghost use Rattle.ruled_io.specs.Faults as spec;
+ghost use Rattle.ruled_io.specs.Words.{streamed_fault_text};
 ghost use Rattle.ruled_io.specs.declared.fault.InputFault.TheVariants.{Memory};
 ghost use Rattle.ruled_io.specs.declared.fault.RunFault.TheVariants.{Input};
 
@@ -168,6 +169,8 @@ impl From<ViewFault> for RunFault {
 
 /// Writes what is wrong.
 impl fmt::Display for StreamedFault {
+    ghost output = { λ fault. Some (streamed_fault_text fault) };
+
     fn fmt<W: fmt::Write>(&self, f: &mut fmt::Formatter<W>) -> fmt::Result {
         match self {
             StreamedFault::Value => write!(f, "a single JSON value can't be streamed"),

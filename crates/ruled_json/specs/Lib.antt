@@ -2,3 +2,4 @@ pub mod Rows
 pub mod Faults
 pub mod Streamed
 pub mod Reading
+pub mod Words

@@ -1,6 +1,7 @@
 //! Why JSON holds no rows.
 
-ghost use Rattle.std.specs.Prelude.{◌≡◌};
+ghost use Rattle.std.specs.Prelude.{◌≡◌, Some};
+ghost use Rattle.ruled_json.specs.Words.{json_fault_text};
 ghost use Rattle.ruled_json.specs.declared.fault.JsonFault.TheVariants.{Memory};
 
 use crate::place::Place;
@@ -42,6 +43,8 @@ impl<T: Drop> From<AllocFailed<T>> for JsonFault {
 
 /// Writes what is wrong.
 impl fmt::Display for JsonFault {
+    ghost output = { λ fault. Some (json_fault_text fault) };
+
     fn fmt<W: fmt::Write>(&self, f: &mut fmt::Formatter<W>) -> fmt::Result {
         match self {
             JsonFault::Encoding(place) => write!(f, "{place}not UTF-8"),

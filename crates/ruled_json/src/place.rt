@@ -1,6 +1,7 @@
 //! Where something is wrong.
 
-ghost use Rattle.std.specs.Prelude.{◌≡◌};
+ghost use Rattle.std.specs.Prelude.{◌≡◌, Some};
+ghost use Rattle.ruled_json.specs.Words.{place_text};
 ghost use Rattle.ruled_json.specs.Faults.{but_near};
 
 use std::fmt;
@@ -44,6 +45,8 @@ fn line_of(bytes: &[u8], offset: usize) -> usize {
 
 /// Writes what comes before the words of a fault.
 impl fmt::Display for Place {
+    ghost output = { λ place. Some (place_text place) };
+
     fn fmt<W: fmt::Write>(&self, f: &mut fmt::Formatter<W>) -> fmt::Result {
         match self {
             Place::Record(number) => write!(f, "record {number}: "),
