@@ -75,6 +75,18 @@ impl<W: Write + Drop> Output<W> {
         self.writer
     }
 
+    // Notes that a write failed with this error, and returns the fault of the run.
+    fn failed(&mut self, error: io::Error) -> RunFault
+        ensures kept { W.contents self.new.writer ≡ W.contents self.old.writer }
+        ensures told { spec.failure_of self.new ≡ Some result }
+        ensures part { spec.write_part result ≡ Some result }
+        ensures failed { is_of_write result ≡ true }
+    {
+        let failure = WriteFault::of_error(error);
+        self.failure = Some(failure);
+        failure.in_run()
+    }
+
     // Writes some bytes, and returns how many; none if the write is to be tried again.
     fn write_some(&mut self, bytes: &[u8]) -> Result<usize, RunFault>
         ensures within { IfOk result (λ count. count ≤ length bytes.now) }
@@ -88,17 +100,10 @@ impl<W: Write + Drop> Output<W> {
             return Err(failure.in_run());
         }
         match self.writer.write(bytes) {
-            Ok(0) => {
-                self.failure = Some(WriteFault::Failed);
-                Err(RunFault::Write)
-            }
+            Ok(0) => Err(self.failed(ErrorKind::WriteZero.into())),
             Ok(count) => Ok(count),
             Err(error) if error.kind() == ErrorKind::Interrupted => Ok(0),
-            Err(error) => {
-                let failure = WriteFault::of_error(error);
-                self.failure = Some(failure);
-                Err(failure.in_run())
-            }
+            Err(error) => Err(self.failed(error)),
         }
     }
 
@@ -117,8 +122,7 @@ impl<W: Write + Drop> Output<W> {
             let count = self.write_some(rest)?;
             rest = &rest[count..];
         }
-        self.failure = Some(WriteFault::Failed);
-        Err(RunFault::Write)
+        Err(self.failed(ErrorKind::WriteZero.into()))
     }
 
     /// Shows what was written.
@@ -133,11 +137,7 @@ impl<W: Write + Drop> Output<W> {
         }
         match self.writer.flush() {
             Ok(()) => Ok(()),
-            Err(error) => {
-                let failure = WriteFault::of_error(error);
-                self.failure = Some(failure);
-                Err(failure.in_run())
-            }
+            Err(error) => Err(self.failed(error)),
         }
     }
 }

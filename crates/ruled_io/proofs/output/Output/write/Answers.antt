@@ -1,5 +1,6 @@
-use Rattle.std.proofs.Common.{◌≡◌, ◌-◌, ℕ, List, [], length, take, drop, ◌++◌, ◌∙◌, sym, ap, rules, take-append-drop, drop_of_length-le}
+use Rattle.std.proofs.Common.{◌≡◌, ◌-◌, ℕ, List, [], Option, length, take, drop, ◌++◌, ◌∙◌, sym, ap, subst, rules, take-append-drop, drop_of_length-le}
 use Rattle.std.proofs.lemmas.List.{take_rest}
+use Rattle.ruled_io.specs.Output.{Begins}
 use Rattle.ruled_io.proofs.Written.{goes-begin, goes-on, goes-end, goes-stops, goes-stays, on-err}
 use Rattle.ruled_io.proofs.output.Output.write.Goals as goal
 
@@ -28,4 +29,6 @@ returns-in_err-count-clause-begun g c =
     on-err c.from_residual.result (goes-stops (g.W.Write.contents c.args.self.now.writer) (g.W.Write.contents c.loop.self.writer) (g.W.Write.contents c.write_some.new.self.writer) c.args.bytes.now c.loop.rest.now c.loop.invariant.0 c.in_err-count.ensures.none)
 
 pub returns-clause-begun : goal.returns-clause-begun
-returns-clause-begun g c = goes-stays (g.W.Write.contents c.args.self.now.writer) (g.W.Write.contents c.loop.self.writer) c.args.bytes.now c.loop.rest.now c.loop.invariant.0
+returns-clause-begun g c =
+    let P : Option (List ℕ) → Type 0 = λ contents. Begins (g.W.Write.contents c.args.self.now.writer) contents c.args.bytes.now in
+    subst P (sym c.failed.ensures.kept) (goes-stays (g.W.Write.contents c.args.self.now.writer) (g.W.Write.contents c.loop.self.writer) c.args.bytes.now c.loop.rest.now c.loop.invariant.0)
