@@ -3,7 +3,7 @@
 use clap::error::ErrorKind;
 use clap::{Arg, ArgAction, ArgMatches, Command};
 use pg_layout::AlignmentHorizontal;
-use ruled_io::{Format, Kind, Log, OneLine, Request, Rows, Selection, Source};
+use ruled_io::{Format, Kind, Log, OneLine, Request, RowRules, Rows, Selection, Source};
 use ruled_table::{Bounds, Breaking, Look, Options, Overflow};
 use std::alloc::{AllocError, Global};
 use std::env::VarError;
@@ -79,7 +79,7 @@ const FLAG: Choice = Choice {
 };
 
 /// All arguments, in the order of the help.
-const CHOICES: [Choice; 20] = [
+const CHOICES: [Choice; 22] = [
     Choice {
         name: "file",
         value: "FILE",
@@ -116,6 +116,20 @@ const CHOICES: [Choice; 20] = [
         value: "C",
         takes: Takes::Text,
         help: "Separate fields by this character, or by tabs if it is the word tab; without it the first line sets or shows it",
+        ..FLAG
+    },
+    Choice {
+        name: "skip",
+        value: "N",
+        takes: Takes::Number,
+        help: "Leave out the first N lines of the input",
+        ..FLAG
+    },
+    Choice {
+        name: "comment",
+        value: "C",
+        takes: Takes::Text,
+        help: "Leave out lines that begin with this character, unless they begin within a quoted field",
         ..FLAG
     },
     Choice {
@@ -286,16 +300,21 @@ fn command<'a>(alloc: Global, looks: &'a [&'a str]) -> Result<Command<'a>, Alloc
         .args(arguments(alloc, looks)?)
 }
 
-// The delimiter that a word names: one byte of ASCII that is no quote and ends no line, or a tab.
-fn delimiter_of(word: &str) -> Option<u8> {
-    if word == "tab" || word == "\\t" {
-        return Some(b'\t');
-    }
+// The sign that a word is: one byte of ASCII that is no quote and ends no line.
+fn sign_of(word: &str) -> Option<u8> {
     match word.as_bytes() {
         [b'"' | b'\r' | b'\n'] => None,
         [byte] if byte.is_ascii() => Some(*byte),
         _ => None,
     }
+}
+
+// The delimiter that a word names: a sign, or a tab.
+fn delimiter_of(word: &str) -> Option<u8> {
+    if word == "tab" || word == "\\t" {
+        return Some(b'\t');
+    }
+    sign_of(word)
 }
 
 // The file that is named, where it isn't standard input.
@@ -318,7 +337,9 @@ fn kind_asked(found: &ArgMatches) -> Result<Option<Kind>, &'static str> {
 fn source_in_name(found: &ArgMatches) -> Option<Source> {
     let (_, extension) = name_in(found)?.rsplit_once('.')?;
     match Kind::by_name(extension)? {
-        Kind::Rows(_) if extension == "csv" => Some(Source::Values { is_ragged: false }),
+        Kind::Rows(_) if extension == "csv" => Some(Source::Values {
+            rules: RowRules::PLAIN,
+        }),
         Kind::Rows(format) => Some(Source::Rows(format)),
         Kind::Database => Some(database(Selection::Tables)),
     }
@@ -335,7 +356,7 @@ fn rows_with(delimiter: &str, asked: Option<Kind>) -> Result<Source, &'static st
         }
         Some(Kind::Database) => Err("a database has no delimiter"),
         Some(Kind::Rows(Format::Separated(_))) | None => {
-            Ok(Source::Rows(Format::separated(delimiter, false)))
+            Ok(Source::Rows(Format::separated(delimiter, RowRules::PLAIN)))
         }
     }
 }
@@ -362,7 +383,7 @@ fn source_without_selection(
         Some(Kind::Database) => database(Selection::Tables),
         None => source_in_name(found).unwrap_or(Source::Seen {
             log: Log::Unknown,
-            is_ragged: false,
+            rules: RowRules::PLAIN,
         }),
     })
 }
@@ -387,6 +408,37 @@ fn is_selected(found: &ArgMatches, asked: Option<Kind>) -> Result<bool, &'static
     Ok(true)
 }
 
+// The byte that begins comments, if there are any.
+fn comment_asked(found: &ArgMatches) -> Result<Option<u8>, &'static str> {
+    let Some(word) = found.get_str("comment") else {
+        return Ok(None);
+    };
+    match sign_of(word) {
+        Some(sign) => Ok(Some(sign)),
+        None => Err("a comment begins with one ASCII character other than a quote"),
+    }
+}
+
+// Which lines are rows, and how long these may be.
+fn rules_asked(found: &ArgMatches) -> Result<RowRules, &'static str> {
+    Ok(RowRules {
+        is_ragged: found.get_str("ragged").is_some(),
+        skipped: found.get_one::<u32>("skip").unwrap_or(0) as usize,
+        comment: comment_asked(found)?,
+    })
+}
+
+// An input of which some lines may be left out.
+fn with_lines_left_out(source: Source) -> Result<Source, &'static str> {
+    match source {
+        Source::Seen { rules, .. } => Ok(Source::Values { rules }),
+        Source::Values { .. } | Source::Rows(Format::Separated(_)) => Ok(source),
+        Source::Rows(_) | Source::Database { .. } => {
+            Err("--skip and --comment need separated values")
+        }
+    }
+}
+
 // What the input is, but for the words of a query or a table, or why it can't be.
 fn source_asked(found: &ArgMatches) -> Result<Source, &'static str> {
     let asked = kind_asked(found)?;
@@ -394,7 +446,10 @@ fn source_asked(found: &ArgMatches) -> Result<Source, &'static str> {
     if is_selected(found, asked)? {
         source = database(Selection::Tables);
     }
-    source.set_ragged(found.get_str("ragged").is_some());
+    if found.get_one::<u32>("skip").is_some() || found.get_str("comment").is_some() {
+        source = with_lines_left_out(source)?;
+    }
+    source.set_rules(rules_asked(found)?);
     Ok(source)
 }
 

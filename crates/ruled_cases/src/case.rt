@@ -1,7 +1,7 @@
 //! Cases of a file.
 
 use crate::words::{push_bytes, push_input, set_bytes, set_option, split_times};
-use ruled_io::{Format, Log, Output, Request, Rows, Source, run};
+use ruled_io::{Format, Log, Output, Request, RowRules, Rows, Source, run};
 use ruled_table::{Bounds, Breaking, Look, Options, Overflow};
 use std::alloc::{AllocError, Global};
 use std::io;
@@ -10,6 +10,7 @@ use std::io;
 pub(crate) struct Case {
     name: String,
     request: Request,
+    rules: RowRules,
     // The input of the case above.
     above: Vec<u8>,
     input: Vec<u8>,
@@ -26,6 +27,7 @@ impl Drop for Case {
         let Case {
             name: _,
             request: _,
+            rules: _,
             above: _,
             input: _,
             shown: _,
@@ -59,10 +61,11 @@ impl Case {
         Ok(Case {
             name,
             request: Request {
-                source: Source::Rows(Format::separated(b',', false)),
+                source: Source::Rows(Format::separated(b',', RowRules::PLAIN)),
                 rows: Rows::AtOnce,
                 view,
             },
+            rules: RowRules::PLAIN,
             above,
             input: Vec::new(alloc),
             shown: String::new(alloc),
@@ -76,6 +79,7 @@ impl Case {
         let Case {
             name: _,
             request: _,
+            rules: _,
             above: _,
             input,
             shown: _,
@@ -90,7 +94,7 @@ impl Case {
         let (mark, text) = line.split_once(' ').unwrap_or((line, ""));
         match mark {
             "" | "#" => Ok(true),
-            "@" => set_option(alloc, &mut self.request, text),
+            "@" => set_option(alloc, &mut self.request, &mut self.rules, text),
             ">" => {
                 push_input(&mut self.input, text)?;
                 Ok(true)

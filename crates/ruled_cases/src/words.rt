@@ -1,7 +1,7 @@
 //! What the lines of a case say.
 
 use pg_layout::AlignmentHorizontal;
-use ruled_io::{Format, Kind, Log, Request, Rows, Selection, Source};
+use ruled_io::{Format, Kind, Log, Request, RowRules, Rows, Selection, Source};
 use ruled_table::{Look, Options, Overflow};
 use std::alloc::{AllocError, Global};
 
@@ -11,10 +11,14 @@ fn source_of(word: &str) -> Option<Source> {
         "seen" => {
             return Some(Source::Seen {
                 log: Log::Empty,
-                is_ragged: false,
+                rules: RowRules::PLAIN,
             });
         }
-        "values" => return Some(Source::Values { is_ragged: false }),
+        "values" => {
+            return Some(Source::Values {
+                rules: RowRules::PLAIN,
+            });
+        }
         _ => {}
     }
     match Kind::by_name(word)? {
@@ -65,7 +69,7 @@ fn source_set(
     let selection = match name {
         "format" => return Ok(source_of(value)),
         "delimiter" => {
-            let format = Format::separated(delimiter_of(value), false);
+            let format = Format::separated(delimiter_of(value), RowRules::PLAIN);
             return Ok(Some(Source::Rows(format)));
         }
         "query" => Selection::Query(value.to_string(alloc)?),
@@ -91,16 +95,23 @@ fn add(alloc: Global, view: &mut Options, name: &str, value: &str) -> Result<boo
     Ok(true)
 }
 
+// Sets which lines are rows, where an option of this name with this value does so.
+fn set_rule(rules: &mut RowRules, name: &str, value: &str) -> Option<()> {
+    match name {
+        "ragged" => rules.is_ragged = true,
+        "skip" => rules.skipped = value.parse().ok()?,
+        "comment" => rules.comment = value.as_bytes().first().copied(),
+        _ => return None,
+    }
+    Some(())
+}
+
 // Sets one value, where there is an option of this name with this value.
 fn set_value(request: &mut Request, name: &str, value: &str) -> Option<()> {
     let view = &mut request.view;
     match name {
         "stream" => request.rows = Rows::FromFirst(value.parse().ok()?),
         "log" => request.source.set_log(log_of(value)?),
-        "ragged" => {
-            request.source.set_ragged(true);
-            view.is_padded = value == "pad";
-        }
         "no-header" => view.has_header = false,
         "raw" => view.is_raw = true,
         "vertical" => view.is_vertical = true,
@@ -122,9 +133,15 @@ fn set_value(request: &mut Request, name: &str, value: &str) -> Option<()> {
 pub(crate) fn set_option(
     alloc: Global,
     request: &mut Request,
+    rules: &mut RowRules,
     text: &str,
 ) -> Result<bool, AllocError> {
     let (name, value) = text.split_once(' ').unwrap_or((text, ""));
+    if set_rule(rules, name, value).is_some() {
+        request.source.set_rules(*rules);
+        request.view.is_padded |= name == "ragged" && value == "pad";
+        return Ok(true);
+    }
     if let Some(source) = source_set(alloc, request.source.log(), name, value)? {
         request.source = source;
         return Ok(true);

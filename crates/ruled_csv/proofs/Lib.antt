@@ -1,5 +1,7 @@
+pub mod KeptTexts
+pub mod FirstRows
 mod Scans
 pub mod Readers
 mod Runs
 pub mod SoundRows
-mod TextFaults
+pub mod TextFaults

@@ -57,7 +57,7 @@ or-none None = refl
 or-none (Some x) = refl
 
 -- a scan with another row at hand, and nothing new besides
-same-scan : (s : Scan) (hand : Hand) → record { rows = s.rows ++ []; hand = hand; fault = option_or s.fault None } ≡ record s { hand = hand }
+pub same-scan : (s : Scan) (hand : Hand) → record { rows = s.rows ++ []; hand = hand; fault = option_or s.fault None } ≡ record s { hand = hand }
 same-scan s hand = rw (append-nil s.rows, or-none s.fault) refl
 
 -- ---- a run in quotes

@@ -8,13 +8,15 @@ use Rattle.std.proofs.lemmas.Bool.{cases_Bool, and_parts}
 use Rattle.std.proofs.lemmas.List.{take-append-drop}
 use Rattle.std.proofs.lemmas.List.Sums.{take_while-cons}
 use Rattle.std.proofs.Math.Seq.{take-append-add, take-append_seam}
-use Rattle.csv.specs.Reading.{records, strip_bom}
+use Rattle.csv.specs.Reading.{records}
 use Rattle.ruled_csv.specs.Faults.{first_fault, has_length, is_sound, quoted_rows, row_fault, rows_fault, sound_rows, sound_rows_in, text_fault, number_of}
 use Rattle.ruled_csv.specs.Inside as scan
 use Rattle.ruled_csv.specs.Inside.{Scan, fault_below, is_behind, last_row, row_ended, scan_after, scan_from, scan_of, scan_start, with_row}
+use Rattle.ruled_csv.specs.Kept.{kept_text}
 use Rattle.ruled_csv.specs.Lines.{line_behind}
 use Rattle.ruled_csv.specs.Quotes.{first_behind_quote, quote_fault}
-use Rattle.ruled_csv.specs.Rows.{columns_of, config_of, rows_of}
+use Rattle.ruled_csv.specs.Config.{config_of}
+use Rattle.ruled_csv.specs.Rows.{columns_of, rows_of}
 use Rattle.ruled_csv.specs.declared.fault.RowsFault.{RowsFault}
 use Rattle.ruled_csv.specs.declared.fault.RowsFault.TheVariants.{BehindQuote, Encoding}
 use Rattle.ruled_csv.proofs.Scans.{ended-scanned, records-scanned, scan-append}
@@ -216,7 +218,7 @@ module _ (dialect : Dialect) (text : List ℕ) (right : (scan_of dialect text).f
 pub all-sound : (dialect : Dialect) (bytes : List ℕ) → rows_fault dialect bytes ≡ None → sound_rows dialect bytes ≡ rows_of dialect bytes
 unfolding rows_fault sound_rows
 all-sound dialect bytes right =
-    let text = strip_bom bytes in
+    let text = kept_text dialect bytes in
     let (none, quote) = or-parts (fault-of dialect (quoted_rows dialect text)) (quote_fault dialect text) right in
     clean-all dialect (quoted_rows dialect text) none ∙ quoted-by dialect text (first_behind_quote dialect text) None refl quote
 
@@ -248,7 +250,7 @@ quoted-among dialect text = go (first_behind_quote dialect text) (quote_fault di
 pub sound-first : (dialect : Dialect) (bytes : List ℕ) → (more : List Row) × (rows_of dialect bytes ≡ sound_rows dialect bytes ++ more)
 unfolding sound_rows
 sound-first dialect bytes =
-    let text = strip_bom bytes in
+    let text = kept_text dialect bytes in
     let (behind, all) = quoted-among dialect text in
     let (more, quoted) = take_while-first (is_sound dialect (columns_of (quoted_rows dialect text))) (quoted_rows dialect text) in
     (more ++ behind, all ∙ ap (λ (rs : List Row). rs ++ behind) quoted ∙ append_assoc (sound_rows_in dialect text) more behind)

@@ -15,7 +15,8 @@ use Rattle.ruled_csv.specs.Inside as scan
 use Rattle.ruled_csv.specs.Inside.{Hand, Scan, behind_fault, fault_below, is_bare, is_behind, last_row, lines_after, lines_start, row_ended, scan_after, scan_from, scan_of, scan_start, with_row}
 use Rattle.ruled_csv.specs.Lines.{ends_line, line_behind}
 use Rattle.ruled_csv.specs.Quotes.{first_behind_quote, is_behind_quote, is_closing, is_quoted, open_fault, quote_at, quote_fault, state_behind}
-use Rattle.ruled_csv.specs.Rows.{columns_of, config_of, ended_in}
+use Rattle.ruled_csv.specs.Config.{config_of}
+use Rattle.ruled_csv.specs.Rows.{columns_of, ended_in}
 use Rattle.ruled_csv.specs.declared.fault.RowsFault.{RowsFault}
 use Rattle.ruled_csv.specs.declared.fault.RowsFault.TheVariants.{OpenQuote, BehindQuote}
 use Rattle.ruled_csv.specs.declared.lines.Lines.{Lines}
@@ -34,7 +35,7 @@ by-bytes P none more text = go [] text none where
 scan-more : (dialect : Dialect) (text : List ℕ) (byte : ℕ) → scan_of dialect (text ++ byte ∷ []) ≡ scan_after dialect (scan_of dialect text) byte
 scan-more dialect text byte = scan-append dialect scan_start text (byte ∷ [])
 
-state-is : (dialect : Dialect) (text : List ℕ) → (scan_of dialect text).hand.state ≡ state_behind dialect text
+pub state-is : (dialect : Dialect) (text : List ℕ) → (scan_of dialect text).hand.state ≡ state_behind dialect text
 state-is dialect text = state-scanned dialect scan_start text
 
 -- the front of a text with a byte more
@@ -75,12 +76,15 @@ lines-counted count before (byte ∷ text) =
     lines-step (ends_line (before, byte)) count byte (count_by ends_line tail) text (λ n. lines-counted n byte text)
     ∙ ap (λ (n : ℕ). min (1 + (count + n)) (2 ^ 64 - 1)) (sym (sum_by-append (λ pair. if ends_line pair then 1 else 0) ((before, byte) ∷ []) tail))
 
--- the line at which a scan has come
-line-is : (dialect : Dialect) (text : List ℕ) → (scan_of dialect text).hand.lines.line ≡ line_behind text
-line-is dialect text =
+pub line-counted : (text : List ℕ) → (fold lines_after lines_start text).line ≡ line_behind text
+line-counted text =
     let all = count_by ends_line (zip (0 ∷ text) text) in
     let sum : 0 + all ≡ all = omega arith in
-    ap (λ (lines : Lines). lines.line) (lines-scanned dialect scan_start text) ∙ lines-counted 0 0 text ∙ ap (λ (n : ℕ). min (1 + n) (2 ^ 64 - 1)) sum
+    lines-counted 0 0 text ∙ ap (λ (n : ℕ). min (1 + n) (2 ^ 64 - 1)) sum
+
+-- the line at which a scan has come
+pub line-is : (dialect : Dialect) (text : List ℕ) → (scan_of dialect text).hand.lines.line ≡ line_behind text
+line-is dialect text = ap (λ (lines : Lines). lines.line) (lines-scanned dialect scan_start text) ∙ line-counted text
 
 -- ---- text behind a quote
 

@@ -3,9 +3,11 @@ use Rattle.std.specs.Prelude.{◌≡◌, ◌≢◌, ℕ, ◌+◌, ◌-◌, ◌^�
 use Rattle.std.specs.List.{list_all, take_while}
 use Rattle.std.specs.Option.{option_or}
 use Rattle.std.specs.Str.{is_utf8}
-use Rattle.csv.specs.Reading.{records, strip_bom}
+use Rattle.csv.specs.Reading.{records}
+use Rattle.ruled_csv.specs.Kept.{kept_text}
 use Rattle.ruled_csv.specs.Quotes.{first_behind_quote, quote_fault}
-use Rattle.ruled_csv.specs.Rows.{columns_of, config_of, ended_in}
+use Rattle.ruled_csv.specs.Config.{config_of}
+use Rattle.ruled_csv.specs.Rows.{columns_of, ended_in}
 use Rattle.ruled_csv.specs.declared.fault.RowsFault.{RowsFault}
 use Rattle.ruled_csv.specs.declared.fault.RowsFault.TheVariants.{OpenQuote, BehindQuote, Length, Encoding, Memory}
 use Rattle.ruled_csv.specs.declared.dialect.Dialect.{Dialect}
@@ -29,7 +31,7 @@ number_of row = min row (2 ^ 64 - 1)
 
 -- a row may have so many fields: as many as row 0, or any number
 abbrev pub has_length : Dialect → ℕ → ℕ → Bool
-has_length dialect columns fields = dialect.is_ragged || (fields == columns)
+has_length dialect columns fields = dialect.rows.is_ragged || (fields == columns)
 
 -- what is wrong with a row: another number of fields than row 0 has, where that counts, or a field that is no UTF-8
 abbrev pub row_fault : Dialect → ℕ → ℕ → List (List ℕ) → Option RowsFault
@@ -67,10 +69,10 @@ module _ (dialect : Dialect) (text : List ℕ) where
   abbrev pub sound_rows_in : List (List (List ℕ))
   sound_rows_in = take_while (is_sound dialect (columns_of quoted_rows)) quoted_rows
 
--- what is wrong with bytes, without a byte order mark at their front
+-- what is wrong with bytes
 unfoldable pub rows_fault : Dialect → List ℕ → Option RowsFault
-rows_fault dialect bytes = text_fault dialect (strip_bom bytes)
+rows_fault dialect bytes = text_fault dialect (kept_text dialect bytes)
 
 -- the rows of bytes above the first bad one: all, where nothing is wrong
 unfoldable pub sound_rows : Dialect → List ℕ → List (List (List ℕ))
-sound_rows dialect bytes = sound_rows_in dialect (strip_bom bytes)
+sound_rows dialect bytes = sound_rows_in dialect (kept_text dialect bytes)

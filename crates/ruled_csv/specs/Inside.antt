@@ -1,5 +1,5 @@
 -- What only bodies and their proofs need. Of it contracts of calls from outside have only what a reader holds (`HasRead`).
-use Rattle.std.specs.Prelude.{◌≡◌, ℕ, ◌+◌, ◌-◌, ◌^◌, min, ◌==◌, ◌&&◌, ◌||◌, not, Bool, true, false, List, [], ◌∷◌, ◌++◌, fold, length, Option, Some, None, if◌then◌else◌}
+use Rattle.std.specs.Prelude.{◌≡◌, ℕ, ◌+◌, ◌-◌, ◌^◌, min, nat_le, ◌==◌, ◌&&◌, ◌||◌, not, Bool, true, false, List, [], ◌∷◌, ◌++◌, fold, length, Option, Some, None, if◌then◌else◌}
 use Rattle.std.specs.List.{cons_option}
 use Rattle.std.specs.Option.{option_or}
 use Rattle.csv.specs.Machine.{ends_at_end, field_after, fields_after, is_end, step}
@@ -9,14 +9,15 @@ use Rattle.csv.specs.declared.parser.Action.TheVariants as act
 use Rattle.csv.specs.declared.parser.State.{State}
 use Rattle.csv.specs.declared.parser.State.TheVariants as st
 use Rattle.memchr.specs.Find.{is_byte3}
+use Rattle.ruled_csv.specs.Comments.{is_comment}
 use Rattle.ruled_csv.specs.Faults.{number_of, row_fault}
+use Rattle.ruled_csv.specs.Kept.{end_of, is_left_out, is_line_end}
 use Rattle.ruled_csv.specs.Quotes.{is_closing, is_plain, is_quoted}
-use Rattle.ruled_csv.specs.Rows.{columns_of, config_of}
+use Rattle.ruled_csv.specs.Config.{config_of}
+use Rattle.ruled_csv.specs.Rows.{columns_of}
 use Rattle.ruled_csv.specs.declared.fault.RowsFault.{RowsFault}
 use Rattle.ruled_csv.specs.declared.fault.RowsFault.TheVariants.{OpenQuote, BehindQuote}
 use Rattle.ruled_csv.specs.declared.lines.Lines.{Lines}
-use Rattle.ruled_csv.specs.declared.reader.Front.{Front}
-use Rattle.ruled_csv.specs.declared.reader.Front.TheVariants as front
 use Rattle.ruled_csv.specs.declared.reader.RowReader.{RowReader}
 use Rattle.ruled_csv.specs.declared.scanner.Act.{Act}
 use Rattle.ruled_csv.specs.declared.scanner.Act.TheVariants as does
@@ -94,6 +95,10 @@ lines_after lines byte = record {
 abbrev pub calm_lines : Lines → Lines
 calm_lines lines = record { line = lines.line; is_behind_return = false }
 
+-- behind a line that isn't read, and that ends with this byte
+abbrev pub lines_below : Lines → ℕ → Lines
+lines_below lines byte = if byte == 10 then lines_after (lines_after lines 13) 10 else lines_after lines 13
+
 -- ---- the row at hand
 
 pub record Hand : Type 0 where
@@ -132,6 +137,10 @@ module _ (dialect : Dialect) (hand : Hand) (byte : ℕ) where
   -- the byte is text behind a closing quote
   abbrev pub behind_fault : Option RowsFault
   behind_fault = if is_behind hand.state done.0 then Some (BehindQuote hand.lines.line) else None
+
+-- behind a line that isn't read, and that ends with this byte
+abbrev pub hand_below : Hand → ℕ → Hand
+hand_below hand byte = record hand { state = st.StartRecord; lines = lines_below hand.lines byte }
 
 -- the row that ends where no byte is left
 abbrev pub last_row : Hand → Option (List (List ℕ))
@@ -202,19 +211,35 @@ Joins dialect text old new = (scan : Scan) → scan.hand ≡ old → scan_from d
 
 -- ---- bytes
 
--- what stands in front of the next byte
-abbrev pub front_after : Front → ℕ → Front
-front_after front.Start byte = if byte == 0xEF then front.First else front.Text
-front_after front.First byte = if byte == 0xBB then front.Second else front.Text
-front_after front.Second byte = front.Text
-front_after front.Text byte = front.Text
+-- what is read of a text, and whether the next byte is in a line that is left out, if it doesn't end it
+pub record Left : Type 0 where
+  pub kept : List ℕ
+  pub is_out : Bool
 
--- a byte is the last one of a byte order mark
-abbrev pub ends_mark : Front → ℕ → Bool
-ends_mark front.Start byte = false
-ends_mark front.First byte = false
-ends_mark front.Second byte = byte == 0xBF
-ends_mark front.Text byte = false
+module _ (dialect : Dialect) (left : Left) (byte : ℕ) where
+  -- a byte isn't read: it ends no line, and is in one that is left out, or begins one
+  abbrev pub leaves_out : Bool
+  leaves_out = not (is_line_end byte) && (left.is_out || is_left_out dialect left.kept (byte ∷ []))
+
+  -- what is read of it, or for it
+  abbrev pub read_of : List ℕ
+  read_of = if leaves_out then [] else if left.is_out then end_of byte else byte ∷ []
+
+  abbrev pub left_after : Left
+  left_after = record { kept = left.kept ++ read_of; is_out = leaves_out }
+
+abbrev pub left_from : Dialect → Left → List ℕ → Left
+left_from dialect left text = fold (left_after dialect) left text
+
+abbrev pub left_start : Left
+left_start = record { kept = []; is_out = false }
+
+abbrev pub left_of : Dialect → List ℕ → Left
+left_of dialect text = left_from dialect left_start text
+
+-- the same of a byte, by the row at hand
+abbrev pub begins_out : Dialect → Hand → ℕ → Bool
+begins_out dialect hand byte = not (ends_at_end hand.state) && (nat_le hand.lines.line dialect.rows.skipped || is_comment dialect.rows.comment (byte ∷ []))
 
 -- how many columns these rows have, if there is one
 abbrev pub columns_known : List (List (List ℕ)) → Option ℕ

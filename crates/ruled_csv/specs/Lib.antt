@@ -1,3 +1,7 @@
+pub mod Comments
+pub mod Config
+pub mod FirstRow
+pub mod Kept
 pub mod Rows
 pub mod Lines
 pub mod Quotes

@@ -7,7 +7,7 @@ use Rattle.csv.specs.Machine.{step}
 use Rattle.csv.specs.declared.parser.State.{State}
 use Rattle.csv.specs.declared.parser.State.TheVariants as st
 use Rattle.ruled_csv.specs.Lines.{line_behind}
-use Rattle.ruled_csv.specs.Rows.{config_of}
+use Rattle.ruled_csv.specs.Config.{config_of}
 use Rattle.ruled_csv.specs.declared.fault.RowsFault.{RowsFault}
 use Rattle.ruled_csv.specs.declared.fault.RowsFault.TheVariants.{OpenQuote, BehindQuote}
 use Rattle.ruled_csv.specs.declared.dialect.Dialect.{Dialect}

@@ -1,19 +1,18 @@
 -- A reader to which the bytes of rows come one piece after another.
-use Rattle.std.specs.Prelude.{◌≡◌, ◌≢◌, ℕ, List, fold, ◌++◌, ⊤, Option, Some, Result, Ok, Err}
-use Rattle.csv.specs.Reading.{strip_bom}
+use Rattle.std.specs.Prelude.{◌≡◌, ◌≢◌, ℕ, List, ◌++◌, ⊤, Option, Some, Result, Ok, Err}
 use Rattle.ruled_csv.specs.Faults.{but_line}
-use Rattle.ruled_csv.specs.Inside.{Holds, front_after, scan_of}
+use Rattle.ruled_csv.specs.Inside.{Holds, left_of, scan_of}
+use Rattle.ruled_csv.specs.Kept.{kept_text}
 use Rattle.ruled_csv.specs.declared.fault.RowsFault.{RowsFault}
 use Rattle.ruled_csv.specs.declared.fault.RowsFault.TheVariants.{Memory}
-use Rattle.ruled_csv.specs.declared.reader.Front.TheVariants as front
 use Rattle.ruled_csv.specs.declared.reader.RowReader.{RowReader}
 use Rattle.ruled_csv.specs.declared.dialect.Dialect.{Dialect}
 
 -- A reader has read these bytes, and found nothing wrong. What it holds of them is no matter of a caller, who has this from
 -- `new` of no bytes, and from `read` of more and more.
 pub record HasRead (dialect : Dialect) (bytes : List ℕ) (reader : RowReader) : Type 0 where
-  pub front : reader.front ≡ fold front_after front.Start bytes
-  pub scan : Holds dialect (scan_of dialect (strip_bom bytes)) reader
+  pub left : reader.is_left_out ≡ (left_of dialect bytes).is_out
+  pub scan : Holds dialect (scan_of dialect (kept_text dialect bytes)) reader
 
 -- behind the old rows stand those which with the rows above are all of these
 abbrev pub AppendsRest : {R : Type 0} → List R → List R → List R → List R → Type 0

@@ -1,16 +1,13 @@
 -- The rows that bytes of separated values hold.
 use Rattle.std.specs.Prelude.{ℕ, ◌-◌, List, [], ◌∷◌, ◌++◌, length, take}
-use Rattle.csv.specs.declared.parser.Config.{Config}
-use Rattle.csv.specs.Reading.{default_config, records, strip_bom}
+use Rattle.csv.specs.Reading.{records}
+use Rattle.ruled_csv.specs.Config.{config_of}
+use Rattle.ruled_csv.specs.Kept.{kept_text}
 use Rattle.ruled_csv.specs.declared.dialect.Dialect.{Dialect}
 
--- the fields are parted by this byte, and quoted as in CSV
-abbrev pub config_of : Dialect → Config
-config_of dialect = record default_config { delimiter = dialect.delimiter }
-
--- the rows of these bytes, without a byte order mark at their front: each is the list of its fields
+-- the rows of these bytes: each is the list of its fields
 abbrev pub rows_of : Dialect → List ℕ → List (List (List ℕ))
-rows_of dialect bytes = records (config_of dialect) (strip_bom bytes)
+rows_of dialect bytes = records (config_of dialect) (kept_text dialect bytes)
 
 -- the rows that end in a text, whatever follows it: with a letter behind the text, all but the one that has the letter
 abbrev pub ended_in : Dialect → List ℕ → List (List (List ℕ))
@@ -20,7 +17,7 @@ ended_in dialect text =
 
 -- and those of these bytes
 abbrev pub ended_rows : Dialect → List ℕ → List (List (List ℕ))
-ended_rows dialect bytes = ended_in dialect (strip_bom bytes)
+ended_rows dialect bytes = ended_in dialect (kept_text dialect bytes)
 
 -- how many columns rows have: as many as row 0 has fields
 abbrev pub columns_of : List (List (List ℕ)) → ℕ

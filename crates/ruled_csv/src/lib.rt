@@ -3,14 +3,16 @@
 
 mod dialect;
 mod fault;
+mod first_row;
 mod lines;
 mod quotes;
 mod reader;
 mod records;
 mod scanner;
 
-pub use crate::dialect::Dialect;
+pub use crate::dialect::{Dialect, RowRules};
 pub use crate::fault::RowsFault;
+pub use crate::first_row::from_first_row;
 pub use crate::quotes::without_mark;
 pub use crate::reader::RowReader;
 pub use crate::records::read_rows;

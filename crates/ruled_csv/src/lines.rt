@@ -1,7 +1,15 @@
 //! The lines of bytes.
 
 ghost use Rattle.std.specs.Prelude.{◌≡◌};
-ghost use Rattle.ruled_csv.specs.Inside.{calm_lines, lines_after, lines_start};
+ghost use Rattle.ruled_csv.specs.Inside.{calm_lines, lines_after, lines_below, lines_start};
+ghost use Rattle.ruled_csv.specs.Kept.{is_line_end};
+
+/// Whether a byte ends a line, with or without the next one.
+pub(crate) fn ends_line(byte: u8) -> bool
+    ensures { result ≡ is_line_end byte }
+{
+    matches!(byte, b'\n' | b'\r')
+}
 
 /// A count of lines: LF, CRLF and a lone CR each end one.
 #[derive(Clone, Copy)]
@@ -53,6 +61,18 @@ impl Lines {
         Lines {
             line,
             is_behind_return: is_return,
+        }
+    }
+
+    /// The count after a line that isn't read and that ends with this byte.
+    pub(crate) fn below(self, byte: u8) -> Lines
+        ensures { result ≡ lines_below self byte }
+    {
+        let lines = self.after(b'\r');
+        if byte == b'\n' {
+            lines.after(b'\n')
+        } else {
+            lines
         }
     }
 }

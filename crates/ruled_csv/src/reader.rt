@@ -4,54 +4,22 @@ ghost use Rattle.std.specs.Prelude.{◌≡◌, ◌≤◌, ◌++◌, ◌∷◌, [
 ghost use Rattle.csv.specs.Records.{fields_of};
 ghost use Rattle.ruled_csv.specs.declared.dialect.Dialect.{Dialect};
 ghost use Rattle.ruled_csv.specs.Faults.{Tells, has_length, number_of, row_fault, rows_fault, sound_rows};
-ghost use Rattle.ruled_csv.specs.Inside.{Counts, Holds, Scan, ends_mark, fault_below, front_after, row_ended, scan_after, with_row};
+ghost use Rattle.ruled_csv.specs.Inside.{Counts, Holds, Scan, fault_below, leaves_out, left_of, row_ended, scan_after, with_row};
 ghost use Rattle.ruled_csv.specs.Reading.{AppendsRest, AppendsSome, Foretells, HasRead, OnFault};
 ghost use Rattle.ruled_csv.specs.Rows.{ended_rows, rows_of};
 
 use crate::dialect::Dialect;
 use crate::fault::RowsFault;
+use crate::lines::ends_line;
 use crate::scanner::Scanner;
 use csv::{ByteRecord, StringRecord};
 use std::alloc::{AllocError, Global};
-
-/// What comes before a byte.
-#[derive(Clone, Copy)]
-pub(crate) enum Front {
-    /// No byte.
-    Start,
-    /// The first byte of a byte order mark.
-    First,
-    /// The first two.
-    Second,
-    /// Bytes that don't begin one, or that follow one.
-    Text,
-}
-
-impl Front {
-    // What comes before the byte after this one.
-    fn after(self, byte: u8) -> Front
-        ensures { result ≡ front_after self byte }
-    {
-        match self {
-            Front::Start if byte == 0xef => Front::First,
-            Front::First if byte == 0xbb => Front::Second,
-            _ => Front::Text,
-        }
-    }
-
-    // Whether this byte is the last one of a byte order mark.
-    fn ends_mark(self, byte: u8) -> bool
-        ensures { result ≡ ends_mark self byte }
-    {
-        matches!(self, Front::Second) && byte == 0xbf
-    }
-}
 
 // Whether a row may have so many fields.
 fn has_length(dialect: Dialect, columns: usize, fields: usize) -> bool
     ensures { result ≡ has_length dialect columns fields }
 {
-    dialect.is_ragged || fields == columns
+    dialect.rows.is_ragged || fields == columns
 }
 
 // The text of a row that begins on this line, or what is wrong with it.
@@ -83,16 +51,17 @@ fn text_of(
 /// A reader of rows whose bytes come in pieces of any length.
 ///
 /// Each row comes with the bytes that end it. The byte `dialect.delimiter` separates fields, which
-/// are quoted as in CSV. LF, CRLF and a lone CR end a row, an empty line is no row, and a byte order
-/// mark at the very front is skipped.
+/// are quoted as in CSV. LF, CRLF and a lone CR end a row, and an empty line is no row, nor is one
+/// that `dialect.rows` leaves out.
 ///
 /// A fault ends the reading. It is that of the first bad row, whatever follows: a row with another
 /// number of fields than row 0, unless rows may be ragged, with a field that isn't UTF-8, with text
 /// after a closing quote, or with a quote that isn't closed.
 #[derive(Drop)]
 pub struct RowReader {
-    front: Front,
     scanner: Scanner,
+    // Whether the next byte is in a line that is left out, if it doesn't end the line.
+    is_left_out: bool,
     // How many rows were read.
     rows: usize,
     // How many columns they have.
@@ -105,8 +74,8 @@ impl RowReader {
         ensures { HasRead dialect [] result }
     {
         RowReader {
-            front: Front::Start,
             scanner: Scanner::new(alloc, dialect),
+            is_left_out: false,
             rows: 0,
             columns: None,
         }
@@ -114,7 +83,7 @@ impl RowReader {
 
     // Appends a row that ended.
     fn give(&mut self, fields: ByteRecord, rows: &mut Vec<StringRecord>) -> Result<(), RowsFault>
-        ensures front { self.new.front ≡ self.old.front }
+        ensures left { self.new.is_left_out ≡ self.old.is_left_out }
         ensures scanner { self.new.scanner ≡ self.old.scanner }
         ensures rows { OnOk result (map fields_of rows.new.items ≡ map fields_of rows.old.items ++ fields_of fields ∷ []) }
         ensures kept { OnErr result (rows.new.items ≡ rows.old.items) }
@@ -130,9 +99,9 @@ impl RowReader {
         Ok(())
     }
 
-    // Reads a byte of the text after any byte order mark.
+    // Reads a byte of a line that isn't left out, or of its end.
     fn scan(&mut self, byte: u8, rows: &mut Vec<StringRecord>) -> Result<(), RowsFault>
-        ensures front { self.new.front ≡ self.old.front }
+        ensures left { self.new.is_left_out ≡ self.old.is_left_out }
         ensures read { (dialect : Dialect) (scan : Scan) → Holds dialect scan self.old → OnOk result (Holds dialect (scan_after dialect scan byte) self.new) }
         ensures rows { (dialect : Dialect) (scan : Scan) → Holds dialect scan self.old
             → OnOk result (map fields_of rows.new.items ≡ with_row (map fields_of rows.old.items) (row_ended dialect scan.hand byte)) }
@@ -145,6 +114,13 @@ impl RowReader {
         }
     }
 
+    // Whether a byte isn't read: it is in a line that is left out, and doesn't end it.
+    fn leaves_out(&self, byte: u8) -> bool
+        ensures { (dialect : Dialect) (before : List ℕ) → HasRead dialect before self.now → result ≡ leaves_out dialect (left_of dialect before) byte }
+    {
+        !ends_line(byte) && (self.is_left_out || self.scanner.leaves_out(byte))
+    }
+
     // Reads a byte.
     fn read_byte(&mut self, byte: u8, rows: &mut Vec<StringRecord>) -> Result<(), RowsFault>
         ensures read { (dialect : Dialect) (before : List ℕ) → HasRead dialect before self.old → OnOk result (HasRead dialect (before ++ byte ∷ []) self.new) }
@@ -155,10 +131,13 @@ impl RowReader {
             (sound_rows dialect ((before ++ byte ∷ []) ++ behind) ≡ ended_rows dialect before) }
         ensures kept { OnErr result (rows.new.items ≡ rows.old.items) }
     {
-        let ends_mark = self.front.ends_mark(byte);
-        self.front = self.front.after(byte);
-        if ends_mark {
-            self.scanner.restart();
+        if self.leaves_out(byte) {
+            self.is_left_out = true;
+            return Ok(());
+        }
+        if self.is_left_out {
+            self.is_left_out = false;
+            self.scanner.end_line(byte);
             return Ok(());
         }
         self.scan(byte, rows)
@@ -172,8 +151,10 @@ impl RowReader {
         ensures rows { (dialect : Dialect) (before : List ℕ) → HasRead dialect before self.old
             → IfOk result (λ count. ended_rows dialect (before ++ take count bytes.now) ≡ ended_rows dialect before) }
     {
-        match self.front {
-            Front::Text => self.scanner.read_run(bytes),
+        match bytes.first() {
+            Some(byte) if !self.is_left_out && !self.leaves_out(*byte) => {
+                self.scanner.read_run(bytes)
+            }
             _ => Ok(0),
         }
     }

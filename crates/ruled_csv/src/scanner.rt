@@ -2,15 +2,15 @@
 
 ghost use Rattle.std.specs.Prelude.{◌≡◌, ◌<◌, ◌≤◌, ◌++◌, ◌∷◌, ℕ, [], false, true, not, None, Ok, IfOk, IsTrue, OnOk, length, option_map, take};
 ghost use Rattle.std.specs.List.{list_all};
-ghost use Rattle.csv.specs.Machine.{in_field, start_field, step};
+ghost use Rattle.csv.specs.Machine.{ends_at_end, in_field, start_field, step};
 ghost use Rattle.csv.specs.Records.{fields_of};
 ghost use Rattle.csv.specs.declared.parser.State.TheVariants as st;
 ghost use Rattle.ruled_csv.specs.declared.dialect.Dialect.{Dialect};
 ghost use Rattle.ruled_csv.specs.Faults.{Tells};
-ghost use Rattle.ruled_csv.specs.Inside.{Joins, behind_fault, empty_hand, hand_after, hand_cut, hand_of, is_act_behind, is_bare, is_behind, is_calm, is_open, last_row, open_fault};
+ghost use Rattle.ruled_csv.specs.Inside.{Joins, begins_out, behind_fault, empty_hand, hand_after, hand_below, hand_cut, hand_of, is_act_behind, is_bare, is_behind, is_calm, is_open, last_row, open_fault};
 ghost use Rattle.ruled_csv.specs.Inside.{opens, row_ended, state_of, step_of};
 ghost use Rattle.ruled_csv.specs.Quotes.{is_closing, is_plain, is_quoted};
-ghost use Rattle.ruled_csv.specs.Rows.{config_of};
+ghost use Rattle.ruled_csv.specs.Config.{config_of};
 
 use crate::dialect::Dialect;
 use crate::fault::RowsFault;
@@ -173,7 +173,9 @@ impl Standing {
     }
 
     // Whether no row has begun.
-    fn is_between(self) -> bool {
+    fn is_between(self) -> bool
+        ensures { result ≡ not (ends_at_end (state_of self)) }
+    {
         matches!(self, Standing::Row | Standing::Return)
     }
 }
@@ -209,21 +211,26 @@ impl Scanner {
         }
     }
 
-    /// Begins anew.
-    pub(crate) fn restart(&mut self)
-        ensures dialect { self.new.dialect ≡ self.old.dialect }
-        ensures hand { hand_of self.new ≡ empty_hand }
-    {
-        self.standing = Standing::Row;
-        self.row.clear();
-        self.field.clear();
-        self.lines = Lines::new();
-        self.opened = 1;
-    }
-
     /// The line on which the last complete row begins.
     pub(crate) fn begun(&self) -> usize {
         self.begun
+    }
+
+    /// Whether this byte begins a line that is left out, if it ends none.
+    pub(crate) fn leaves_out(&self, byte: u8) -> bool
+        ensures { result ≡ begins_out self.now.dialect (hand_of self.now) byte }
+    {
+        let rules = self.dialect.rows;
+        self.standing.is_between() && rules.leave_out(self.lines.line(), byte)
+    }
+
+    /// Reads the end of a line that is left out.
+    pub(crate) fn end_line(&mut self, byte: u8)
+        ensures hand { hand_of self.new ≡ hand_below (hand_of self.old) byte }
+        ensures dialect { self.new.dialect ≡ self.old.dialect }
+    {
+        self.standing = Standing::Row;
+        self.lines = self.lines.below(byte);
     }
 
     // Ends the current field.
@@ -306,6 +313,7 @@ impl Scanner {
     /// quote that may close its field it reads none.
     pub(crate) fn read_run(&mut self, bytes: &[u8]) -> Result<usize, AllocError>
         ensures within { IfOk result (λ count. count ≤ length bytes.now) }
+        ensures calm { IfOk result (λ count. IsTrue (list_all is_calm (take count bytes.now))) }
         ensures hand { IfOk result (λ count. Joins self.old.dialect (take count bytes.now) (hand_of self.old) (hand_of self.new)) }
         ensures dialect { self.new.dialect ≡ self.old.dialect }
     {

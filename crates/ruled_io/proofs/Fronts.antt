@@ -1,6 +1,6 @@
 -- What the first bytes of an input show of all of it.
 use Rattle.std.proofs.Common.{◌≡◌, ◌∙◌, ◌≢◌, ◌⊎◌, inl, inr, ℕ, ◌≤◌, ◌<◌, ◌&&◌, not, Bool, true, false, List, [], ◌∷◌, ◌++◌, Option, Some, None, drop, get_or, length, min, take, add-one, suc, ◌+◌, nat_eq, nat_lt, eq-eqb, refl, sym, ap, subst, arith, rules}
-use Rattle.std.specs.Prelude.{◌==◌, codes, is_some, if◌then◌else◌}
+use Rattle.std.specs.Prelude.{◌==◌, ◌||◌, ⊤, nat_le, codes, is_some, if◌then◌else◌}
 use Rattle.std.specs.List.{count_by, before_first, list_any, position_or_len, starts_with}
 use Rattle.std.proofs.Math.Seq.{drop-cons}
 use Rattle.std.proofs.lemmas.List.Sums.{sum_by-cons}
@@ -9,7 +9,11 @@ use Rattle.std.proofs.lemmas.Bool.Decides.{nat_tests}
 use Rattle.std.proofs.lemmas.Bool.{and_parts, cases_Bool, eqb-true, false≢true, ne_eqb}
 use Rattle.std.proofs.lemmas.List.Folds.{find-append}
 use Rattle.csv.specs.Reading.{is_bom, strip_bom}
-use Rattle.ruled_io.specs.Formats.{count_of, delimiter_seen, ends_line, filled_text, fills_line, first_line, first_sign, format_from, format_shown, is_database, outside, separated, setting_in, setting_of, values_seen}
+use Rattle.ruled_csv.specs.Comments.{is_comment}
+use Rattle.ruled_csv.specs.FirstRow.{first_row_behind, from_first_row}
+use Rattle.ruled_csv.specs.Lines.{line_behind}
+use Rattle.ruled_csv.specs.declared.dialect.RowRules.{RowRules}
+use Rattle.ruled_io.specs.Formats.{count_of, delimiter_seen, ends_line, first_line, first_sign, format_from, format_shown, is_database, outside, separated, setting_in, setting_of, values_seen}
 use Rattle.ruled_io.specs.Reading.{HoldsOn, SetsAlike, ShowsInput, ShowsText}
 use Rattle.ruled_io.specs.declared.formats.Format.{Format}
 use Rattle.ruled_io.specs.declared.formats.Format.TheVariants.{Separated, Json, JsonLines}
@@ -94,66 +98,44 @@ line-before bytes = elim (cases_Bool (nat_lt (position_or_len ends_line bytes) (
 line-shown : (text behind : List ℕ) → list_any ends_line text ≡ true → first_line (text ++ behind) ≡ first_line text
 line-shown text behind ends = line-before (text ++ behind) ∙ before-shown ends_line text behind ends ∙ sym (line-before text)
 
--- ---- the first line that isn't empty
+-- ---- the line of the first row
 
--- a text behind the empty lines at its front
-abbrev filled : List ℕ → List ℕ
-filled [] = []
-filled (byte ∷ text) = if ends_line byte then filled text else byte ∷ text
+module _ (rules : RowRules) where
+  row-on : (above : List ℕ) (is_out : Bool) (text behind : List ℕ) → list_any ends_line (first_row_behind rules above is_out text) ≡ true
+      → first_row_behind rules above is_out (text ++ behind) ≡ first_row_behind rules above is_out text ++ behind
+  row-on above is_out [] behind some = absurd (false≢true some)
+  row-on above is_out (byte ∷ text) behind some = elim (cases_Bool (ends_line byte)) [
+    | inl ends ↦ rw ends (row-on (above ++ byte ∷ []) false text behind (rw ends at some))
+    | inr goes ↦ elim (cases_Bool (is_out || (nat_le (line_behind above) rules.skipped || is_comment rules.comment (byte ∷ [])))) [
+      | inl out ↦ rw (goes, out) (row-on (above ++ byte ∷ []) true text behind (rw (goes, out) at some))
+      | inr kept ↦ rw (goes, kept) refl
+    ]
+  ]
 
-place-of : (text : List ℕ) → filled_text text ≡ drop (position_or_len fills_line text) text
-place-of text = elim (cases_Bool (nat_lt (position_or_len fills_line text) (length text))) [
-  | inl within ↦ rw within refl
-  | inr past ↦ rw past (sym (drop_all (position_or_len fills_line text) text (search (rules, nat_tests, past))))
-]
-
-one-less : {X : Type 0} (n : ℕ) (x : X) (xs : List X) → drop (1 + n) (x ∷ xs) ≡ drop n xs
-one-less n x xs = let next : 1 + n ≡ suc n = omega arith in rw next refl
-
-dropped : (text : List ℕ) → drop (position_or_len fills_line text) text ≡ filled text
-dropped [] = refl
-dropped (byte ∷ text) = elim (cases_Bool (ends_line byte)) [
-  | inl ends ↦ rw ends (one-less _ byte text ∙ dropped text)
-  | inr goes ↦ rw goes refl
-]
-
-filled-is : (text : List ℕ) → filled_text text ≡ filled text
-filled-is text = place-of text ∙ dropped text
-
-filled-on : (text behind : List ℕ) → list_any ends_line (filled text) ≡ true → filled (text ++ behind) ≡ filled text ++ behind
-filled-on [] behind some = absurd (false≢true some)
-filled-on (byte ∷ text) behind some = elim (cases_Bool (ends_line byte)) [
-  | inl ends ↦ rw ends (filled-on text behind (rw ends at some))
-  | inr goes ↦ rw goes refl
-]
-
-filled-within : (text : List ℕ) → list_any ends_line (filled text) ≡ true → list_any ends_line text ≡ true
-filled-within [] some = some
-filled-within (byte ∷ text) some = elim (cases_Bool (ends_line byte)) [
-  | inl ends ↦ rw ends refl
-  | inr goes ↦ let here : list_any ends_line (byte ∷ text) ≡ true = rw goes at some in here
-]
+  row-within : (above : List ℕ) (is_out : Bool) (text : List ℕ) → list_any ends_line (first_row_behind rules above is_out text) ≡ true → list_any ends_line text ≡ true
+  row-within above is_out [] some = some
+  row-within above is_out (byte ∷ text) some = elim (cases_Bool (ends_line byte)) [
+    | inl ends ↦ rw ends refl
+    | inr goes ↦ elim (cases_Bool (is_out || (nat_le (line_behind above) rules.skipped || is_comment rules.comment (byte ∷ [])))) [
+      | inl out ↦ rw goes (row-within (above ++ byte ∷ []) true text (rw (goes, out) at some))
+      | inr kept ↦ let here : list_any ends_line (byte ∷ text) ≡ true = rw (goes, kept) at some in here
+    ]
+  ]
 
 -- ---- the delimiter
 
-abbrev HasFilled : List ℕ → Type 0
-HasFilled text = list_any ends_line (filled_text text) ≡ true
+abbrev HasRow : RowRules → List ℕ → Type 0
+HasRow rules text = list_any ends_line (from_first_row rules text) ≡ true
 
-module _ (text behind : List ℕ) (has : HasFilled text) where
-  some : list_any ends_line (filled text) ≡ true
-  some = ap (list_any ends_line) (sym (filled-is text)) ∙ has
+module _ (rules : RowRules) (text behind : List ℕ) (has : HasRow rules text) where
+  setting-shown : setting_of rules (text ++ behind) ≡ setting_of rules text
+  setting-shown = ap (λ (line : List ℕ). if rules.skipped == 0 then setting_in line else None) (line-shown text behind (row-within rules [] false text has))
 
-  setting-shown : setting_of (text ++ behind) ≡ setting_of text
-  setting-shown = ap setting_in (line-shown text behind (filled-within text some))
+  row-shown : first_line (from_first_row rules (text ++ behind)) ≡ first_line (from_first_row rules text)
+  row-shown = ap first_line (row-on rules [] false text behind has) ∙ line-shown (from_first_row rules text) behind has
 
-  filled-shown : first_line (filled_text (text ++ behind)) ≡ first_line (filled_text text)
-  filled-shown =
-      ap first_line (filled-is (text ++ behind) ∙ filled-on text behind some)
-      ∙ line-shown (filled text) behind some
-      ∙ ap first_line (sym (filled-is text))
-
-  delimiter-shown : delimiter_seen (text ++ behind) ≡ delimiter_seen text
-  delimiter-shown = rw (setting-shown, filled-shown) refl
+  delimiter-shown : delimiter_seen rules (text ++ behind) ≡ delimiter_seen rules text
+  delimiter-shown = rw (setting-shown, row-shown) refl
 
 -- a line that sets the delimiter has five bytes
 line-short : (text : List ℕ) → length (first_line text) ≤ length text
@@ -208,42 +190,60 @@ set-long line sign is = elim (cases_Bool (starts_with nat_eq line (codes "sep=")
   | inr none ↦ let e = rw none at is in cc
 ]
 
-long-text : (text : List ℕ) (sign : ℕ) → setting_of text ≡ Some sign → 5 ≤ length text
-long-text text sign is = omega (arith, set-long (first_line text) sign is, line-short text)
+long-text : (rules : RowRules) (text : List ℕ) (sign : ℕ) → setting_of rules text ≡ Some sign → 5 ≤ length text
+long-text rules text sign is = elim (cases_Bool (rules.skipped == 0)) [
+  | inl none ↦ omega (arith, set-long (first_line text) sign (rw none at is), line-short text)
+  | inr some ↦ let e = rw some at is in cc
+]
 
 -- ---- the format
 
 sign-shown : (text behind : List ℕ) (sign : ℕ) → first_sign text ≡ Some sign → first_sign (text ++ behind) ≡ Some sign
 sign-shown text behind sign is = find-append _ text behind ∙ rw is refl
 
-same-delimiter : (is_ragged : Bool) (sign : Option ℕ) (text other : List ℕ) → delimiter_seen other ≡ delimiter_seen text → format_from is_ragged sign other ≡ format_from is_ragged sign text
-same-delimiter is_ragged None text other same = ap (λ (delimiter : ℕ). separated delimiter is_ragged) same
-same-delimiter is_ragged (Some sign) text other same = rw same refl
+same-delimiter : (rules : RowRules) (sign : Option ℕ) (text other : List ℕ) → delimiter_seen rules other ≡ delimiter_seen rules text → format_from rules sign other ≡ format_from rules sign text
+same-delimiter rules None text other same = ap (λ (delimiter : ℕ). separated delimiter rules) same
+same-delimiter rules (Some sign) text other same = rw same refl
 
 -- what a complete line shows
-sets : (format : Format) (text behind : List ℕ) → HasFilled text → SetsAlike format text behind
-sets (Separated dialect) text behind has = (setting-shown text behind has, λ some. is-set (setting_of text) refl some) where
-  is-set : (set : Option ℕ) → setting_of text ≡ set → is_some set ≡ true → 5 ≤ length text
+abbrev pub HasRowIn : Format → List ℕ → Type 0
+HasRowIn (Separated dialect) text = HasRow dialect.rows text
+HasRowIn Json text = ⊤
+HasRowIn JsonLines text = ⊤
+
+sets : (format : Format) (text behind : List ℕ) → HasRowIn format text → SetsAlike format text behind
+sets (Separated dialect) text behind has = (setting-shown dialect.rows text behind has, λ some. is-set (setting_of dialect.rows text) refl some) where
+  is-set : (set : Option ℕ) → setting_of dialect.rows text ≡ set → is_some set ≡ true → 5 ≤ length text
   is-set None is some = absurd (false≢true some)
-  is-set (Some sign) is some = long-text text sign is
+  is-set (Some sign) is some = long-text dialect.rows text sign is
 sets Json text behind has = tt
 sets JsonLines text behind has = tt
 
-pub values-shown : (is_ragged : Bool) (text behind : List ℕ) → HasFilled text → ShowsText (known.Values is_ragged) text behind
-values-shown is_ragged text behind has = record {
-  format = ap (λ (delimiter : ℕ). separated delimiter is_ragged) (delimiter-shown text behind has);
-  setting = sets (values_seen is_ragged text) text behind has;
+pub values-shown : (rules : RowRules) (text behind : List ℕ) → HasRow rules text → ShowsText (known.Values rules) text behind
+values-shown rules text behind has = record {
+  format = ap (λ (delimiter : ℕ). separated delimiter rules) (delimiter-shown rules text behind has);
+  setting = sets (values_seen rules text) text behind has;
 }
 
 -- with a format that is known, too
-pub told-shown : (format : Format) (text behind : List ℕ) → HasFilled text → ShowsText (known.Format format) text behind
+pub told-shown : (format : Format) (text behind : List ℕ) → HasRowIn format text → ShowsText (known.Format format) text behind
 told-shown format text behind has = record { format = refl; setting = sets format text behind has }
 
 -- and by the first sign
-pub line-shows : (is_ragged : Bool) (text behind : List ℕ) (sign : ℕ) → first_sign text ≡ Some sign → HasFilled text → ShowsText (known.Nothing is_ragged) text behind
-line-shows is_ragged text behind sign is has = record {
-  format = rw (sign-shown text behind sign is, is) (same-delimiter is_ragged (Some sign) text (text ++ behind) (delimiter-shown text behind has));
-  setting = sets (format_from is_ragged (first_sign text) text) text behind has;
+has-row : (rules : RowRules) (sign : Option ℕ) (text : List ℕ) → HasRow rules text → HasRowIn (format_from rules sign text) text
+has-row rules None text has = has
+has-row rules (Some sign) text has = elim (cases_Bool (sign == 91)) [
+  | inl bracket ↦ rw bracket tt
+  | inr other ↦ elim (cases_Bool (sign == 123)) [
+    | inl brace ↦ rw (other, brace) tt
+    | inr neither ↦ rw (other, neither) has
+  ]
+]
+
+pub line-shows : (rules : RowRules) (text behind : List ℕ) (sign : ℕ) → first_sign text ≡ Some sign → HasRow rules text → ShowsText (known.Nothing rules) text behind
+line-shows rules text behind sign is has = record {
+  format = rw (sign-shown text behind sign is, is) (same-delimiter rules (Some sign) text (text ++ behind) (delimiter-shown rules text behind has));
+  setting = sets (format_from rules (first_sign text) text) text behind (has-row rules (first_sign text) text has);
 }
 
 -- JSON sets no delimiter
@@ -251,9 +251,9 @@ pub json-shown : (format : Format) (text behind : List ℕ) → (format ≡ Json
 json-shown format text behind (inl is) = record { format = refl; setting = rw is tt }
 json-shown format text behind (inr is) = record { format = refl; setting = rw is tt }
 
-pub bracket-shows : (is_ragged : Bool) (text behind : List ℕ) (sign : ℕ) → first_sign text ≡ Some sign → (sign ≡ 91) ⊎ (sign ≡ 123) → ShowsText (known.Nothing is_ragged) text behind
-bracket-shows is_ragged text behind sign is (inl bracket) = record { format = rw (sign-shown text behind sign is, is, bracket) refl; setting = rw (is, bracket) tt }
-bracket-shows is_ragged text behind sign is (inr brace) = record { format = rw (sign-shown text behind sign is, is, brace) refl; setting = rw (is, brace) tt }
+pub bracket-shows : (rules : RowRules) (text behind : List ℕ) (sign : ℕ) → first_sign text ≡ Some sign → (sign ≡ 91) ⊎ (sign ≡ 123) → ShowsText (known.Nothing rules) text behind
+bracket-shows rules text behind sign is (inl bracket) = record { format = rw (sign-shown text behind sign is, is, bracket) refl; setting = rw (is, bracket) tt }
+bracket-shows rules text behind sign is (inr brace) = record { format = rw (sign-shown text behind sign is, is, brace) refl; setting = rw (is, brace) tt }
 
 -- ---- an input
 
@@ -261,7 +261,7 @@ drop-on : (n : ℕ) (xs more : List ℕ) → n ≤ length xs → drop n (xs ++ m
 drop-on n xs more within = drop-append-le n xs more within
 
 content-by : (format : Format) (bytes text behind : List ℕ) → text ≡ strip_bom bytes → strip_bom (bytes ++ behind) ≡ text ++ behind → SetsAlike format text behind → HoldsOn format bytes behind
-content-by (Separated dialect) bytes text behind is on (same, long) = elim (cases_Bool (is_some (setting_of text))) [
+content-by (Separated dialect) bytes text behind is on (same, long) = elim (cases_Bool (is_some (setting_of dialect.rows text))) [
   | inl set ↦ rw (on, same, ← is, set) (drop-on 5 text behind (long set))
   | inr none ↦ rw (on, same, ← is, none) refl
 ]

@@ -67,8 +67,8 @@ shown-all given_format (Some all) (Some rest) front took end = ([], took ∙ ap 
 
 source-shows : (s : Source) (front behind : List ℕ) → ShowsInput (format_told s) front behind → ShowsSource s front behind
 source-shows (source.Rows format) front behind shows = (refl, λ none. shows.rows)
-source-shows (source.Values is_ragged) front behind shows = (refl, λ none. shows.rows)
-source-shows (source.Seen log is_ragged) front behind shows = (shows.database, λ none. shows.rows)
+source-shows (source.Values rules) front behind shows = (refl, λ none. shows.rows)
+source-shows (source.Seen log rules) front behind shows = (shows.database, λ none. shows.rows)
 source-shows (source.Database selection log) front behind shows = (refl, λ none. absurd (true≢false none))
 
 -- its first bytes are read
@@ -178,8 +178,8 @@ read-first format limit all found (inr read) = subst (LacksFirst format limit al
 
 shown-in : (k : Known) (text : List ℕ) (dialect : Dialect) → format_shown k text ≡ Separated dialect → format_of_all k text ≡ Separated dialect
 shown-in (known.Format format) text dialect is = is
-shown-in (known.Values is_ragged) text dialect is = is
-shown-in (known.Nothing is_ragged) text dialect is = rw is refl
+shown-in (known.Values rules) text dialect is = is
+shown-in (known.Nothing rules) text dialect is = rw is refl
 
 other-in : (k : Known) (text : List ℕ) → is_separated (format_shown k text) ≡ false → is_separated (format_of_all k text) ≡ false
 other-in k text other = elim (cases_Bool (is_one_value k (format_shown k text) text)) [

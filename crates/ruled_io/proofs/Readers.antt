@@ -13,6 +13,7 @@ use Rattle.ruled_io.specs.declared.reader.Reading.TheVariants.{More, Done}
 use Rattle.std.specs.Prelude.{IfOk, option_map}
 use Rattle.csv.specs.Machine.{next_record}
 use Rattle.csv.specs.Reading.{records_from, strip_bom}
+use Rattle.ruled_csv.specs.Kept.{kept_text}
 use Rattle.ruled_json.specs.Rows as json_rows
 use Rattle.ruled_csv.specs.Faults as csv_faults
 use Rattle.ruled_csv.specs.Reading as csv_reading
@@ -150,7 +151,7 @@ nil-front [] ys none = refl
 nil-front (x ∷ xs) ys none = cc
 
 no-rows : (dialect : Dialect) → csv_faults.sound_rows dialect [] ≡ []
-unfolding csv_faults.sound_rows strip_bom records_from next_record
+unfolding csv_faults.sound_rows kept_text records_from next_record
 no-rows dialect = refl
 
 no-lines : (records : ℕ) → json_streamed.sound_line_rows records [] ≡ []

@@ -5,6 +5,8 @@ use Rattle.std.specs.List.{count_by, starts_with}
 use Rattle.std.specs.Option.{option_map_or}
 use Rattle.csv.specs.Reading.{strip_bom}
 use Rattle.json.specs.Word.{is_space}
+use Rattle.ruled_csv.specs.FirstRow.{from_first_row}
+use Rattle.ruled_csv.specs.declared.dialect.RowRules.{RowRules}
 use Rattle.ruled_json.specs.Faults.{is_value}
 use Rattle.ruled_io.specs.declared.formats.Format.{Format}
 use Rattle.ruled_io.specs.declared.formats.Format.TheVariants.{Separated, Json, JsonLines}
@@ -15,14 +17,18 @@ use Rattle.ruled_io.specs.declared.formats.Kind.TheVariants.{Rows, Database}
 
 -- ---- names
 
--- fields with this byte between two of them, in rows of one length or not
-abbrev pub separated : ℕ → Bool → Format
-separated delimiter is_ragged = Separated (record { delimiter = delimiter; is_ragged = is_ragged })
+-- fields with this byte between two of them, in rows as these rules say
+abbrev pub separated : ℕ → RowRules → Format
+separated delimiter rules = Separated (record { delimiter = delimiter; rows = rules })
+
+-- each line that isn't empty is in a row, and rows have one length
+abbrev pub plain : RowRules
+plain = record { is_ragged = false; skipped = 0; comment = None }
 
 abbrev pub kind_named : List ℕ → Option Kind
 kind_named name =
-    if bytes_eq name (codes "csv") then Some (Rows (separated 44 false))
-    else if bytes_eq name (codes "tsv") || bytes_eq name (codes "tab") then Some (Rows (separated 9 false))
+    if bytes_eq name (codes "csv") then Some (Rows (separated 44 plain))
+    else if bytes_eq name (codes "tsv") || bytes_eq name (codes "tab") then Some (Rows (separated 9 plain))
     else if bytes_eq name (codes "json") then Some (Rows Json)
     else if bytes_eq name (codes "jsonl") || bytes_eq name (codes "ndjson") then Some (Rows JsonLines)
     else if bytes_eq name (codes "sqlite") || bytes_eq name (codes "sqlite3") || bytes_eq name (codes "db") then Some Database
@@ -41,14 +47,6 @@ ends_line byte = (byte == 10) || (byte == 13)
 -- what comes before the first such byte
 abbrev pub first_line : List ℕ → List ℕ
 first_line bytes = option_map_or (λ end. take end bytes) (position ends_line bytes) bytes
-
--- a byte is in a line that isn't empty
-abbrev pub fills_line : ℕ → Bool
-fills_line byte = not (ends_line byte)
-
--- a text from its first line on that isn't empty
-abbrev pub filled_text : List ℕ → List ℕ
-filled_text text = option_map_or (λ start. drop start text) (position fills_line text) []
 
 -- ---- the delimiter
 
@@ -78,41 +76,42 @@ setting_in line =
     if starts_with nat_eq line (codes "sep=") && (length line == 5) && nat_lt (get_or line 4 0) 128 && not (get_or line 4 0 == 34) then Some (get_or line 4 0)
     else None
 
-abbrev pub setting_of : List ℕ → Option ℕ
-setting_of text = setting_in (first_line text)
+-- that of a text, unless its first line is left out
+abbrev pub setting_of : RowRules → List ℕ → Option ℕ
+setting_of rules text = if rules.skipped == 0 then setting_in (first_line text) else None
 
--- the delimiter that a text sets, or else the most frequent one of its first line that isn't empty
-abbrev pub delimiter_seen : List ℕ → ℕ
-delimiter_seen text = unwrap_or (setting_of text) (most_frequent (first_line (filled_text text)))
+-- the delimiter that a text sets, or else the most frequent one of the line on which its first row begins
+abbrev pub delimiter_seen : RowRules → List ℕ → ℕ
+delimiter_seen rules text = unwrap_or (setting_of rules text) (most_frequent (first_line (from_first_row rules text)))
 
 -- ---- the format
 
 -- separated values that a text shows
-abbrev pub values_seen : Bool → List ℕ → Format
-values_seen is_ragged text = separated (delimiter_seen text) is_ragged
+abbrev pub values_seen : RowRules → List ℕ → Format
+values_seen rules text = separated (delimiter_seen rules text) rules
 
 -- what begins with an opening bracket is JSON, what begins with an opening brace has a value of JSON on each line, and anything
 -- else is separated values
-abbrev pub format_from : Bool → Option ℕ → List ℕ → Format
-format_from is_ragged None text = values_seen is_ragged text
-format_from is_ragged (Some sign) text =
+abbrev pub format_from : RowRules → Option ℕ → List ℕ → Format
+format_from rules None text = values_seen rules text
+format_from rules (Some sign) text =
     if sign == 91 then Json
     else if sign == 123 then JsonLines
-    else values_seen is_ragged text
+    else values_seen rules text
 
 -- the format of a text that is known, or that its first bytes show
 abbrev pub format_shown : Known → List ℕ → Format
 format_shown (known.Format format) text = format
-format_shown (known.Values is_ragged) text = values_seen is_ragged text
-format_shown (known.Nothing is_ragged) text = format_from is_ragged (first_sign text) text
+format_shown (known.Values rules) text = values_seen rules text
+format_shown (known.Nothing rules) text = format_from rules (first_sign text) text
 
 -- where all bytes are there, what would have a value on each line is one value, where it is one
 abbrev pub is_one_value : Known → Format → List ℕ → Bool
 is_one_value (known.Format format) shown text = false
-is_one_value (known.Values is_ragged) shown text = false
-is_one_value (known.Nothing is_ragged) (Separated dialect) text = false
-is_one_value (known.Nothing is_ragged) Json text = false
-is_one_value (known.Nothing is_ragged) JsonLines text = is_value text
+is_one_value (known.Values rules) shown text = false
+is_one_value (known.Nothing rules) (Separated dialect) text = false
+is_one_value (known.Nothing rules) Json text = false
+is_one_value (known.Nothing rules) JsonLines text = is_value text
 
 abbrev pub format_of_all : Known → List ℕ → Format
 format_of_all known text = if is_one_value known (format_shown known text) text then Json else format_shown known text
@@ -131,9 +130,9 @@ is_separated JsonLines = false
 
 -- ---- the bytes of the rows
 
--- a line that sets the delimiter is no row: it is an empty line
+-- those of separated values are without a byte order mark; a line that sets the delimiter is no row: it is an empty line
 abbrev pub content_of : Format → List ℕ → List ℕ
-content_of (Separated dialect) bytes = if is_some (setting_of (strip_bom bytes)) then drop 5 (strip_bom bytes) else bytes
+content_of (Separated dialect) bytes = if is_some (setting_of dialect.rows (strip_bom bytes)) then drop 5 (strip_bom bytes) else strip_bom bytes
 content_of Json bytes = bytes
 content_of JsonLines bytes = bytes
 

@@ -102,7 +102,7 @@ BeginsSo known front all = (behind : List ℕ) × (all ≡ front ++ behind) × S
 
 -- a text behind a byte order mark shows both by its front
 abbrev pub SetsAlike : Format → List ℕ → List ℕ → Type 0
-SetsAlike (Separated dialect) text behind = (setting_of (text ++ behind) ≡ setting_of text) × (is_some (setting_of text) ≡ true → 5 ≤ length text)
+SetsAlike (Separated dialect) text behind = (setting_of dialect.rows (text ++ behind) ≡ setting_of dialect.rows text) × (is_some (setting_of dialect.rows text) ≡ true → 5 ≤ length text)
 SetsAlike Json text behind = ⊤
 SetsAlike JsonLines text behind = ⊤
 

@@ -1,5 +1,6 @@
 -- What is asked of a run.
 use Rattle.std.specs.Prelude.{ℕ, max, Bool, true, false, List, Option, Some, None, option_map, if◌then◌else◌}
+use Rattle.ruled_csv.specs.declared.dialect.RowRules.{RowRules}
 use Rattle.ruled_database.specs.Files.{keeps_log}
 use Rattle.ruled_io.specs.Formats as formats
 use Rattle.ruled_table.specs.Shown.{limit_of}
@@ -17,48 +18,48 @@ use Rattle.ruled_io.specs.declared.request.Source.TheVariants.{Rows, Values, See
 -- what is told of the format of its rows
 abbrev pub format_told : Source → Known
 format_told (Rows format) = known.Format format
-format_told (Values is_ragged) = known.Values is_ragged
-format_told (Seen log is_ragged) = known.Nothing is_ragged
-format_told (Database selection log) = known.Nothing false
+format_told (Values rules) = known.Values rules
+format_told (Seen log rules) = known.Nothing rules
+format_told (Database selection log) = known.Nothing formats.plain
 
 -- it is a database: that is told, or the first bytes show it
 abbrev pub holds_database : Source → List ℕ → Bool
 holds_database (Rows format) bytes = false
-holds_database (Values is_ragged) bytes = false
-holds_database (Seen log is_ragged) bytes = formats.is_database bytes
+holds_database (Values rules) bytes = false
+holds_database (Seen log rules) bytes = formats.is_database bytes
 holds_database (Database selection log) bytes = true
 
 -- what is asked of a database
 abbrev pub selection_of : Source → Option Selection
 selection_of (Rows format) = None
-selection_of (Values is_ragged) = None
-selection_of (Seen log is_ragged) = None
+selection_of (Values rules) = None
+selection_of (Seen log rules) = None
 selection_of (Database selection log) = Some selection
 
 -- what is known of its logs
 abbrev pub log_of : Source → Log
 log_of (Rows format) = Empty
-log_of (Values is_ragged) = Empty
-log_of (Seen log is_ragged) = log
+log_of (Values rules) = Empty
+log_of (Seen log rules) = log
 log_of (Database selection log) = log
 
 abbrev pub with_log : Log → Source → Source
 with_log log (Rows format) = Rows format
-with_log log (Values is_ragged) = Values is_ragged
-with_log log (Seen old is_ragged) = Seen log is_ragged
+with_log log (Values rules) = Values rules
+with_log log (Seen old rules) = Seen log rules
 with_log log (Database selection old) = Database selection log
 
--- rows of separated values may be ragged, or not
-abbrev pub ragged_format : Bool → Format → Format
-ragged_format is_ragged (format.Separated dialect) = format.Separated (record dialect { is_ragged = is_ragged })
-ragged_format is_ragged format.Json = format.Json
-ragged_format is_ragged format.JsonLines = format.JsonLines
+-- which lines of separated values are rows, and how long these may be
+abbrev pub ruled_format : RowRules → Format → Format
+ruled_format rules (format.Separated dialect) = format.Separated (record dialect { rows = rules })
+ruled_format rules format.Json = format.Json
+ruled_format rules format.JsonLines = format.JsonLines
 
-abbrev pub with_ragged : Bool → Source → Source
-with_ragged is_ragged (Rows format) = Rows (ragged_format is_ragged format)
-with_ragged is_ragged (Values old) = Values is_ragged
-with_ragged is_ragged (Seen log old) = Seen log is_ragged
-with_ragged is_ragged (Database selection log) = Database selection log
+abbrev pub with_rules : RowRules → Source → Source
+with_rules rules (Rows format) = Rows (ruled_format rules format)
+with_rules rules (Values old) = Values rules
+with_rules rules (Seen log old) = Seen log rules
+with_rules rules (Database selection log) = Database selection log
 
 -- rows of a database may stand in a log beside its file
 abbrev pub hides_rows : Log → List ℕ → Bool

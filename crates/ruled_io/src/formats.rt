@@ -1,14 +1,14 @@
 //! The formats of rows.
 
 ghost use Rattle.std.specs.Prelude.{◌≡◌, ◌≤◌, ◌<◌, ◌++◌, ℕ, Bool, List, length, nat_eq, position, true, IfOk, IfSome};
-ghost use Rattle.ruled_csv.specs.declared.dialect.Dialect.{Dialect};
+ghost use Rattle.ruled_csv.specs.FirstRow.{from_first_row};
 ghost use Rattle.ruled_io.specs.Reading.{ShowsInput, ShowsText};
 ghost use Rattle.ruled_io.specs.declared.formats.Format.TheVariants.{Separated};
 ghost use Rattle.std.specs.List.{list_any, starts_with};
 ghost use Rattle.ruled_io.specs.Formats as spec;
 ghost use Rattle.ruled_io.specs.declared.formats.Known.TheVariants as known;
 
-use ruled_csv::{Dialect, without_mark};
+use ruled_csv::{Dialect, RowRules, from_first_row, without_mark};
 use ruled_json::is_value;
 use std::alloc::{AllocError, Global};
 
@@ -28,20 +28,20 @@ pub enum Format {
 pub(crate) enum Known {
     /// All of it.
     Format(Format),
-    /// That it is separated values, and whether their rows may be ragged. The first line shows the delimiter.
-    Values { is_ragged: bool },
-    /// Nothing, except whether rows of separated values may be ragged.
-    Nothing { is_ragged: bool },
+    /// That it is separated values, and which of their lines are rows. The first row shows the delimiter.
+    Values { rules: RowRules },
+    /// Nothing, except which lines of separated values are rows.
+    Nothing { rules: RowRules },
 }
 
 impl Format {
-    /// Separated values with this byte between two fields, whose rows may be ragged or not.
-    pub fn separated(delimiter: u8, is_ragged: bool) -> Format
-        ensures { result ≡ spec.separated delimiter is_ragged }
+    /// Separated values with this byte between two fields, whose rows are as these rules say.
+    pub fn separated(delimiter: u8, rules: RowRules) -> Format
+        ensures { result ≡ spec.separated delimiter rules }
     {
         Format::Separated(Dialect {
             delimiter,
-            is_ragged,
+            rows: rules,
         })
     }
 }
@@ -73,8 +73,8 @@ impl Kind {
         ensures { result ≡ spec.kind_named name.now }
     {
         match name {
-            "csv" => Some(Kind::Rows(Format::separated(b',', false))),
-            "tsv" | "tab" => Some(Kind::Rows(Format::separated(b'\t', false))),
+            "csv" => Some(Kind::Rows(Format::separated(b',', RowRules::PLAIN))),
+            "tsv" | "tab" => Some(Kind::Rows(Format::separated(b'\t', RowRules::PLAIN))),
             "json" => Some(Kind::Rows(Format::Json)),
             "jsonl" | "ndjson" => Some(Kind::Rows(Format::JsonLines)),
             "sqlite" | "sqlite3" | "db" => Some(Kind::Database),
@@ -115,31 +115,6 @@ fn first_line(bytes: &[u8]) -> &[u8]
     match line_end(bytes) {
         Some(end) => &bytes[..end],
         None => bytes,
-    }
-}
-
-// Whether a byte is in a line that isn't empty.
-fn fills_line(byte: u8) -> bool
-    ensures { result ≡ spec.fills_line byte }
-{
-    !ends_line(byte)
-}
-
-// Where the first line begins that isn't empty.
-fn filled_start(text: &[u8]) -> Option<usize>
-    ensures place { result ≡ position spec.fills_line text.now }
-    ensures within { IfSome result (λ start. start < length text.now) }
-{
-    text.iter().position(|byte| fills_line(*byte))
-}
-
-// A text from its first line on that isn't empty.
-fn filled_text(text: &[u8]) -> &[u8]
-    ensures { result.now ≡ spec.filled_text text.now }
-{
-    match filled_start(text) {
-        Some(start) => &text[start..],
-        None => &[],
     }
 }
 
@@ -194,29 +169,33 @@ fn setting_in(line: &[u8]) -> Option<u8>
     }
 }
 
-// The delimiter that a text sets.
-fn setting_of(text: &[u8]) -> Option<u8>
-    ensures setting { result ≡ spec.setting_of text.now }
+// The delimiter that a text sets, unless its first line is left out.
+fn setting_of(rules: RowRules, text: &[u8]) -> Option<u8>
+    ensures setting { result ≡ spec.setting_of rules text.now }
     ensures within { IfSome result (λ sign. 5 ≤ length text.now) }
 {
-    setting_in(first_line(text))
+    if rules.skipped == 0 {
+        setting_in(first_line(text))
+    } else {
+        None
+    }
 }
 
-// The delimiter that a text sets, or else the most frequent one of its first line that isn't empty.
-fn delimiter_seen(text: &[u8]) -> u8
-    ensures { result ≡ spec.delimiter_seen text.now }
+// The delimiter that a text sets, or else the most frequent one of its first row.
+fn delimiter_seen(rules: RowRules, text: &[u8]) -> u8
+    ensures { result ≡ spec.delimiter_seen rules text.now }
 {
-    match setting_of(text) {
+    match setting_of(rules, text) {
         Some(delimiter) => delimiter,
-        None => most_frequent(first_line(filled_text(text))),
+        None => most_frequent(first_line(from_first_row(rules, text))),
     }
 }
 
 // Separated values that a text shows.
-fn values_seen(is_ragged: bool, text: &[u8]) -> Format
-    ensures { result ≡ spec.values_seen is_ragged text.now }
+fn values_seen(rules: RowRules, text: &[u8]) -> Format
+    ensures { result ≡ spec.values_seen rules text.now }
 {
-    Format::separated(delimiter_seen(text), is_ragged)
+    Format::separated(delimiter_seen(rules, text), rules)
 }
 
 /// Whether bytes begin as the file of a database of SQLite does.
@@ -227,13 +206,13 @@ pub(crate) fn is_database(bytes: &[u8]) -> bool
 }
 
 // The format that a text shows, where what begins with an opening brace has a value of JSON on each line.
-fn format_seen(is_ragged: bool, text: &[u8]) -> Format
-    ensures { result ≡ spec.format_from is_ragged (spec.first_sign text.now) text.now }
+fn format_seen(rules: RowRules, text: &[u8]) -> Format
+    ensures { result ≡ spec.format_from rules (spec.first_sign text.now) text.now }
 {
     match first_sign(text) {
         Some(b'[') => Format::Json,
         Some(b'{') => Format::JsonLines,
-        _ => values_seen(is_ragged, text),
+        _ => values_seen(rules, text),
     }
 }
 
@@ -243,8 +222,8 @@ fn format_shown(known: Known, text: &[u8]) -> Format
 {
     match known {
         Known::Format(format) => format,
-        Known::Values { is_ragged } => values_seen(is_ragged, text),
-        Known::Nothing { is_ragged } => format_seen(is_ragged, text),
+        Known::Values { rules } => values_seen(rules, text),
+        Known::Nothing { rules } => format_seen(rules, text),
     }
 }
 
@@ -277,14 +256,14 @@ pub(crate) fn format_streamed(known: Known, bytes: &[u8]) -> Format
     format_shown(known, without_mark(bytes))
 }
 
-// The bytes of separated values without a line that sets the delimiter, except for its end.
-fn without_setting(bytes: &[u8]) -> &[u8]
-    ensures { (dialect : Dialect) → result.now ≡ spec.content_of (Separated dialect) bytes.now }
+// The bytes of separated values without a byte order mark, and without a line that sets the delimiter, except for its end.
+fn without_setting(dialect: Dialect, bytes: &[u8]) -> &[u8]
+    ensures { result.now ≡ spec.content_of (Separated dialect) bytes.now }
 {
     let text = without_mark(bytes);
-    match setting_of(text) {
+    match setting_of(dialect.rows, text) {
         Some(_) => &text[5..],
-        None => bytes,
+        None => text,
     }
 }
 
@@ -293,7 +272,7 @@ pub(crate) fn content_of(format: Format, bytes: &[u8]) -> &[u8]
     ensures { result.now ≡ spec.content_of format bytes.now }
 {
     match format {
-        Format::Separated(_) => without_setting(bytes),
+        Format::Separated(dialect) => without_setting(dialect, bytes),
         Format::Json | Format::JsonLines => bytes,
     }
 }
@@ -305,11 +284,12 @@ fn shows_mark(bytes: &[u8], mark: &[u8]) -> bool
     bytes.len() >= mark.len() || !mark.starts_with(bytes)
 }
 
-// Whether the first line of a text that isn't empty is complete.
-fn has_filled_line(text: &[u8]) -> bool
-    ensures { result ≡ list_any spec.ends_line (spec.filled_text text.now) }
+// Whether the line of a text on which its first row begins is complete.
+fn has_row_line(rules: RowRules, text: &[u8]) -> bool
+    ensures { result ≡ list_any spec.ends_line (from_first_row rules text.now) }
 {
-    filled_text(text).iter().any(|byte| ends_line(*byte))
+    let row = from_first_row(rules, text);
+    row.iter().any(|byte| ends_line(*byte))
 }
 
 // Whether the first bytes of a text in this format show which bytes of it hold its rows.
@@ -317,19 +297,19 @@ fn shows_rows(format: Format, text: &[u8]) -> bool
     ensures { result ≡ true → (behind : List ℕ) → ShowsText (known.Format format) text.now behind }
 {
     match format {
-        Format::Separated(_) => has_filled_line(text),
+        Format::Separated(dialect) => has_row_line(dialect.rows, text),
         Format::Json => true,
         Format::JsonLines => true,
     }
 }
 
-// Whether the first bytes of a text show its format, of which nothing is told.
-fn shows_sign(text: &[u8]) -> bool
-    ensures { result ≡ true → (is_ragged : Bool) (behind : List ℕ) → ShowsText (known.Nothing is_ragged) text.now behind }
+// Whether the first bytes of a text show its format, of which nothing is known.
+fn shows_sign(rules: RowRules, text: &[u8]) -> bool
+    ensures { result ≡ true → (behind : List ℕ) → ShowsText (known.Nothing rules) text.now behind }
 {
     match first_sign(text) {
         Some(b'[' | b'{') => true,
-        Some(_) => has_filled_line(text),
+        Some(_) => has_row_line(rules, text),
         None => false,
     }
 }
@@ -340,8 +320,8 @@ fn shows_text(known: Known, text: &[u8]) -> bool
 {
     match known {
         Known::Format(format) => shows_rows(format, text),
-        Known::Values { .. } => has_filled_line(text),
-        Known::Nothing { .. } => shows_sign(text),
+        Known::Values { rules } => has_row_line(rules, text),
+        Known::Nothing { rules } => shows_sign(rules, text),
     }
 }
 

@@ -25,4 +25,4 @@ pub use crate::name::{OneLine, Quoted};
 pub use crate::output::Output;
 pub use crate::program::{Ending, run};
 pub use crate::request::{Log, Request, Rows, Selection, Source};
-pub use ruled_csv::Dialect;
+pub use ruled_csv::{Dialect, RowRules};

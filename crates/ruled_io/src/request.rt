@@ -4,6 +4,7 @@ ghost use Rattle.std.specs.Prelude.{◌≡◌, option_map};
 ghost use Rattle.ruled_io.specs.Requests as spec;
 
 use crate::formats::{Format, Known, is_database};
+use ruled_csv::RowRules;
 use ruled_database::keeps_log;
 use ruled_table::Options;
 
@@ -48,14 +49,13 @@ pub enum Selection {
 pub enum Source {
     /// Rows in this format.
     Rows(Format),
-    /// Rows of separated values, with the delimiter that the first line sets or has most often. They may be
-    /// ragged or not.
-    Values { is_ragged: bool },
+    /// Rows of separated values, as these rules say, with the delimiter that the first line sets or the line of
+    /// the first row has most often.
+    Values { rules: RowRules },
     /// Rows in the format that the first bytes show: `[` begins JSON; `{` begins JSON if all is one
-    /// value, else lines of JSON; anything else is separated values, with the delimiter that the first
-    /// line sets or has most often. Of a database, which the first bytes show, too, the tables are
-    /// listed. Rows of separated values may be ragged or not.
-    Seen { log: Log, is_ragged: bool },
+    /// value, else lines of JSON; anything else is separated values like `Values`. Of a database, which the
+    /// first bytes show, too, the tables are listed.
+    Seen { log: Log, rules: RowRules },
     /// A database of SQLite, and which of its rows are shown.
     Database { selection: Selection, log: Log },
 }
@@ -67,13 +67,11 @@ impl Source {
     {
         match self {
             Source::Rows(format) => Known::Format(*format),
-            Source::Values { is_ragged } => Known::Values {
-                is_ragged: *is_ragged,
+            Source::Values { rules } => Known::Values { rules: *rules },
+            Source::Seen { rules, .. } => Known::Nothing { rules: *rules },
+            Source::Database { .. } => Known::Nothing {
+                rules: RowRules::PLAIN,
             },
-            Source::Seen { is_ragged, .. } => Known::Nothing {
-                is_ragged: *is_ragged,
-            },
-            Source::Database { .. } => Known::Nothing { is_ragged: false },
         }
     }
 
@@ -120,14 +118,14 @@ impl Source {
         }
     }
 
-    /// Sets whether rows of separated values may have more or fewer fields than row 0.
-    pub fn set_ragged(&mut self, ragged: bool)
-        ensures { self.new ≡ spec.with_ragged ragged self.old }
+    /// Sets which lines of separated values are rows, and how long these may be.
+    pub fn set_rules(&mut self, wanted: RowRules)
+        ensures { self.new ≡ spec.with_rules wanted self.old }
     {
         match self {
-            Source::Rows(Format::Separated(dialect)) => dialect.is_ragged = ragged,
-            Source::Values { is_ragged } => *is_ragged = ragged,
-            Source::Seen { is_ragged, .. } => *is_ragged = ragged,
+            Source::Rows(Format::Separated(dialect)) => dialect.rows = wanted,
+            Source::Values { rules } => *rules = wanted,
+            Source::Seen { rules, .. } => *rules = wanted,
             Source::Rows(_) | Source::Database { .. } => {}
         }
     }

@@ -8,7 +8,7 @@ pub returns-in-Format : goal.returns-in-Format
 returns-in-Format c = λ shows behind. subst (λ (k : Known). ShowsText k c.args.text.now behind) (sym c.in-Format.is) (c.shows_rows.ensures shows behind)
 
 pub returns-in-Values : goal.returns-in-Values
-returns-in-Values c = λ shows behind. subst (λ (k : Known). ShowsText k c.args.text.now behind) (sym c.in-Values.is) (values-shown c.in-Values.is_ragged c.args.text.now behind (sym c.has_filled_line.ensures ∙ shows))
+returns-in-Values c = λ shows behind. subst (λ (k : Known). ShowsText k c.args.text.now behind) (sym c.in-Values.is) (values-shown c.in-Values.rules c.args.text.now behind (sym c.has_row_line.ensures ∙ shows))
 
 pub returns-in-Nothing : goal.returns-in-Nothing
-returns-in-Nothing c = λ shows behind. subst (λ (k : Known). ShowsText k c.args.text.now behind) (sym c.in-Nothing.is) (c.shows_sign.ensures shows c.in-Nothing.is_ragged behind)
+returns-in-Nothing c = λ shows behind. subst (λ (k : Known). ShowsText k c.args.text.now behind) (sym c.in-Nothing.is) (c.shows_sign.ensures shows behind)

@@ -1,13 +1,13 @@
 use Rattle.std.proofs.Common.{◌∙◌, ◌≡◌, Option, Some, None, map, append-nil, refl, sym, ap, subst, true≢false}
 use Rattle.std.specs.Prelude.{is_err, is_some, option_map}
 use Rattle.std.proofs.lemmas.Result.{on_ok_weaker}
-use Rattle.csv.specs.Reading.{strip_bom}
 use Rattle.csv.specs.Records.{fields_of}
 use Rattle.ruled_csv.specs.Faults.{Tells, rows_fault}
+use Rattle.ruled_csv.specs.Kept.{kept_text}
 use Rattle.ruled_csv.specs.Inside.{fault_below, hand_of, last_row, open_fault, scan_of}
 use Rattle.ruled_csv.specs.declared.dialect.Dialect.{Dialect}
 use Rattle.ruled_csv.specs.declared.fault.RowsFault.{RowsFault}
-use Rattle.ruled_csv.proofs.Readers.{fault-end, fault-open, on-error, rows-end, sound-told, told-on}
+use Rattle.ruled_csv.proofs.Readers.{fault-end, fault-open, none-hand, on-error, rows-end, sound-told, told-on}
 use Rattle.ruled_csv.proofs.reader.RowReader.finish.Goals as goal
 
 pub returns-in_err-fields-clause-fault : goal.returns-in_err-fields-clause-fault
@@ -23,7 +23,7 @@ pub returns-in-Some-clause-fault : goal.returns-in-Some-clause-fault
 returns-in-Some-clause-fault c = λ dialect bytes read.
     let row = ap (option_map fields_of) (sym c.in-Some.is) ∙ c.in_ok-fields.ensures.row in
     let right = sym (fault-end dialect bytes c.args.self read (Some (fields_of c.in-Some.fields)) c.in_ok-fields.ensures.fault row) in
-    let rows = (scan_of dialect (strip_bom bytes)).rows in
+    let rows = (scan_of dialect (kept_text dialect bytes)).rows in
     let same : c.end.new.self.dialect ≡ dialect = c.in_ok-fields.ensures.dialect ∙ read.scan.dialect_is in
     let told = subst (λ (d : Dialect). Tells (fault_below d rows (Some (fields_of c.in-Some.fields))) c.give.result) same (c.give.ensures.fault rows read.scan.counts) in
     subst (λ (fault : Option RowsFault). Tells fault c.give.result) right told
@@ -49,11 +49,9 @@ returns-in-Some-clause-sound c = λ dialect bytes read.
     sound-told dialect bytes c.args.self read c.give.result fields_of c.args.rows.now.items c.give.new.rows.items (returns-in-Some-clause-fault c dialect bytes read) c.give.ensures.kept
 
 pub returns-in_err-fields-clause-nothing : goal.returns-in_err-fields-clause-nothing
-unfolding strip_bom
-returns-in_err-fields-clause-nothing c = λ dialect read. absurd (true≢false (ap is_err (c.in_err-fields.ensures.nothing read.scan.hand)))
+returns-in_err-fields-clause-nothing c = λ dialect read. absurd (true≢false (ap is_err (c.in_err-fields.ensures.nothing (none-hand dialect c.args.self read))))
 
 pub returns-in-Some-clause-nothing : goal.returns-in-Some-clause-nothing
-unfolding strip_bom
 returns-in-Some-clause-nothing c = λ dialect read.
     let row = ap (option_map fields_of) (sym c.in-Some.is) ∙ c.in_ok-fields.ensures.row in
-    absurd (true≢false (ap is_some (row ∙ ap last_row read.scan.hand)))
+    absurd (true≢false (ap is_some (row ∙ ap last_row (none-hand dialect c.args.self read))))
