@@ -1,5 +1,5 @@
 -- What is read of a text. A line that is left out is read as an empty one, so that lines count as in an editor.
-use Rattle.std.specs.Prelude.{ℕ, ◌==◌, ◌&&◌, ◌||◌, not, nat_le, Bool, true, List, [], ◌∷◌, ◌++◌, fold, if◌then◌else◌}
+use Rattle.std.specs.Prelude.{◌≡◌, ℕ, ◌==◌, ◌&&◌, ◌||◌, not, nat_le, Bool, true, List, [], ◌∷◌, ◌++◌, fold, if◌then◌else◌}
 use Rattle.std.specs.List.{flat_map}
 use Rattle.csv.specs.Machine.{ends_at_end}
 use Rattle.ruled_csv.specs.Comments.{is_comment}
@@ -44,3 +44,7 @@ module _ (dialect : Dialect) (above line : List ℕ) where
 -- what is read of the lines of a text
 unfoldable pub kept_text : Dialect → List ℕ → List ℕ
 kept_text dialect text = fold (λ above line. above ++ kept_line dialect above line) [] (lines_of text)
+
+-- the lines of a text count in what is read of it
+abbrev pub LinesCount : Type 0
+LinesCount = (dialect : Dialect) (text : List ℕ) → line_behind (kept_text dialect text) ≡ line_behind text
