@@ -182,12 +182,6 @@ fold-more : {B : Type 0} (f : B → ℕ → B) (b : B) (run : List ℕ) (i : ℕ
 fold-more f b run i within = ap (fold f b) (take_more run i 0 within) ∙ fold-append f b (take i run) (get_or run i 0 ∷ [])
 
 module _ (dialect : Dialect) (run : List ℕ) (i : ℕ) (within : i < length run) where
-  pub state-ends : (state : State) → get_or run i 0 ≡ dialect.delimiter → st.StartField ≡ fold (state_behind dialect) state (take (i + 1) run)
-  state-ends state ends = sym (fold-more (state_behind dialect) state run i within ∙ rw (eq-eqb (get_or run i 0) dialect.delimiter ends) refl)
-
-  pub state-joins : (state : State) → get_or run i 0 ≢ dialect.delimiter → st.InField ≡ fold (state_behind dialect) state (take (i + 1) run)
-  state-joins state joins = sym (fold-more (state_behind dialect) state run i within ∙ rw (ne_eqb (get_or run i 0) dialect.delimiter joins) refl)
-
   module _ (first : List (List ℕ) × List ℕ) (start : ℕ) (fields : List (List ℕ)) (field : List ℕ) (low : start ≤ i)
       (cut : fold (fields_behind dialect) first (take i run) ≡ (fields, field ++ slice_range run start i)) where
     next : fold (fields_behind dialect) first (take (i + 1) run) ≡ fields_behind dialect (fields, field ++ slice_range run start i) (get_or run i 0)
@@ -202,19 +196,3 @@ module _ (dialect : Dialect) (run : List ℕ) (i : ℕ) (within : i < length run
     field-joins joins =
         next ∙ rw (ne_eqb (get_or run i 0) dialect.delimiter joins)
         (ap (λ (xs : List ℕ). (fields, xs)) (append_assoc field (slice_range run start i) (get_or run i 0 ∷ []) ∙ ap (λ (xs : List ℕ). field ++ xs) (sym (part-more run start i low within))))
-
--- behind the last byte the rest of the run joins the field at hand
-pub cut-done : (dialect : Dialect) (old now : Hand) (run rest : List ℕ) (state : State) (i : ℕ) → length run ≤ i → now ≡ record old { fields = now.fields; field = now.field }
-    → fold (fields_behind dialect) (old.fields, old.field) (take i run) ≡ (now.fields, now.field ++ rest) → state ≡ fold (state_behind dialect) old.state (take i run)
-    → record now { state = state; field = now.field ++ rest } ≡ hand_cut dialect old run
-cut-done dialect old now run rest state i past same cut is =
-    let whole = take_all i run past in
-    let parts = ap (fold (fields_behind dialect) (old.fields, old.field)) (sym whole) ∙ cut in
-    let states = is ∙ ap (fold (state_behind dialect) old.state) whole in
-    ap (λ (hand : Hand). record hand { state = state; fields = now.fields; field = now.field ++ rest }) same
-    ∙ ap (λ (end : List (List ℕ) × List ℕ). record old { state = state; fields = end.0; field = end.1 }) (sym parts)
-    ∙ ap (λ (s : State). record old { state = s; fields = (cut_fields dialect old run).0; field = (cut_fields dialect old run).1 }) states
-
--- the part behind a place is all that is left
-pub part-rest : (run : List ℕ) (start i : ℕ) → length run ≤ i → slice_range run start i ≡ drop start run
-part-rest run start i past = take_all (i - start) (drop start run) (omega (arith, length-drop start run, past))

@@ -1,6 +1,6 @@
 //! Rows, read byte by byte.
 
-ghost use Rattle.std.specs.Prelude.{◌≡◌, ◌<◌, ◌≤◌, ◌++◌, ◌∷◌, ℕ, [], false, true, not, None, Ok, IfOk, IsTrue, OnOk, length, option_map, take};
+ghost use Rattle.std.specs.Prelude.{◌≡◌, ◌<◌, ◌≤◌, ◌++◌, ◌∷◌, ℕ, [], false, true, not, None, Ok, IfOk, IsTrue, OnOk, length, fold, option_map, take};
 ghost use Rattle.std.specs.List.{list_all};
 ghost use Rattle.csv.specs.Machine.{ends_at_end, in_field, start_field, step};
 ghost use Rattle.csv.specs.Records.{fields_of};
@@ -8,7 +8,7 @@ ghost use Rattle.csv.specs.declared.parser.State.TheVariants as st;
 ghost use Rattle.ruled_csv.specs.declared.dialect.Dialect.{Dialect};
 ghost use Rattle.ruled_csv.specs.Faults.{Tells};
 ghost use Rattle.ruled_csv.specs.Inside.{Joins, begins_out, behind_fault, empty_hand, hand_after, hand_below, hand_cut, hand_of, is_act_behind, is_bare, is_behind, is_calm, is_open, last_row, open_fault};
-ghost use Rattle.ruled_csv.specs.Inside.{opens, row_ended, state_of, step_of};
+ghost use Rattle.ruled_csv.specs.Inside.{opens, row_ended, state_behind, state_of, step_of};
 ghost use Rattle.ruled_csv.specs.Quotes.{is_closing, is_plain, is_quoted};
 ghost use Rattle.ruled_csv.specs.Config.{config_of};
 
@@ -158,6 +158,17 @@ impl Standing {
         }
     }
 
+    // What comes before the byte after a run outside quotes.
+    fn behind_run(self, delimiter: u8, run: &[u8]) -> Standing
+        ensures { (dialect : Dialect) → dialect.delimiter ≡ delimiter → state_of result ≡ fold (state_behind dialect) (state_of self) run.now }
+    {
+        match run {
+            [] => self,
+            [.., last] if *last == delimiter => Standing::Field,
+            _ => Standing::Plain,
+        }
+    }
+
     /// Whether a quote is open.
     pub(crate) fn is_quoted(self) -> bool
         ensures { result ≡ is_quoted (state_of self) }
@@ -273,18 +284,15 @@ impl Scanner {
         ensures dialect { self.new.dialect ≡ self.old.dialect }
     {
         let delimiter = self.dialect.delimiter;
-        let mut standing = self.standing;
+        self.standing = self.standing.behind_run(delimiter, run);
         let mut start = 0;
         for at in 0..run.len() {
             if run[at] != delimiter {
-                standing = Standing::Plain;
                 continue;
             }
             self.end_field_with(&run[start..at])?;
-            standing = Standing::Field;
             start = at + 1;
         }
-        self.standing = standing;
         self.field.extend_from_slice(&run[start..])
     }
 

@@ -1,7 +1,7 @@
 use Rattle.std.proofs.Common.{◌≡◌, ◌≤◌, ◌++◌, take}
 use Rattle.std.specs.Prelude.{fold}
 use Rattle.std.specs.List.{slice_range}
-use Rattle.ruled_csv.specs.Inside.{fields_behind, hand_of, state_behind, state_of}
+use Rattle.ruled_csv.specs.Inside.{fields_behind, hand_of, state_behind}
 use Rattle.ruled_csv.proofs.scanner.Scanner.cut_run.Given as goal
 
 abbrev pub invariant-loop-at : goal.invariant-loop-at
@@ -10,6 +10,5 @@ invariant-loop-at l =
     let now = hand_of l.self in
     (l.start ≤ l.at)
     × (l.self.dialect ≡ l.fn.self.dialect)
-    × (now ≡ record old { fields = now.fields; field = now.field })
+    × (now ≡ record old { state = fold (state_behind l.fn.self.dialect) old.state l.run; fields = now.fields; field = now.field })
     × (fold (fields_behind l.fn.self.dialect) (old.fields, old.field) (take l.at l.run) ≡ (now.fields, now.field ++ slice_range l.run l.start l.at))
-    × (state_of l.standing ≡ fold (state_behind l.fn.self.dialect) (state_of l.fn.self.standing) (take l.at l.run))
