@@ -2,7 +2,6 @@
 use Rattle.std.proofs.Common.{◌≡◌, ℕ, List, Option, Some, Result, Ok, Err, inl, inr, refl, sym, subst, ◌∷◌}
 use Rattle.std.specs.Prelude.{IfErr}
 use Rattle.std.specs.Result.{IsErrAnd}
-use Rattle.sqlite_format.specs.declared.kind.Tree.TheVariants as tree
 use Rattle.ruled_database.specs.Definitions.{definition_of}
 use Rattle.ruled_database.specs.Values.{LacksTexts}
 use Rattle.ruled_database.specs.Listings.{Entry, HasWrongEntry, IsListed, IsWrongEntry, LacksDefinition, LacksEntries, LacksEntry, LacksListing, LacksRows, LacksSchema, LacksTable, entry_in, fields_of_entry}
@@ -15,18 +14,18 @@ use Rattle.ruled_database.specs.declared.fault.TableFault.TheVariants as row
 
 -- rows that couldn't be added
 pub lacks_rows : (U : Type 0) (file : List ℕ) (root : ℕ) (known definition : Definition) (old new : List (List (List ℕ))) (fault : TableFault) → known ≡ definition
-    → AddsRows {U = U} file tree.Table root known old new (Err fault) → LacksRows file root definition fault
-lacks_rows U file root known definition old new row.Damage is adds = subst (λ (it : Definition). AddsRows {U = U} file tree.Table root it old new (Err row.Damage)) is adds
-lacks_rows U file root known definition old new row.Default is adds = subst (λ (it : Definition). AddsRows {U = U} file tree.Table root it old new (Err row.Default)) is adds
-lacks_rows U file root known definition old new (row.Encoding at) is adds = inr (subst (λ (it : Definition). AddsRows {U = U} file tree.Table root it old new (Err (row.Encoding at))) is adds)
+    → AddsRows {U = U} file root known old new (Err fault) → LacksRows file root definition fault
+lacks_rows U file root known definition old new row.Damage is adds = subst (λ (it : Definition). AddsRows {U = U} file root it old new (Err row.Damage)) is adds
+lacks_rows U file root known definition old new row.Default is adds = subst (λ (it : Definition). AddsRows {U = U} file root it old new (Err row.Default)) is adds
+lacks_rows U file root known definition old new (row.Encoding at) is adds = inr (subst (λ (it : Definition). AddsRows {U = U} file root it old new (Err (row.Encoding at))) is adds)
 lacks_rows U file root known definition old new row.Memory is adds = tt
 
 -- the same, of which the fault is handed on
 pub lacks_added : {V : Type 0} (U : Type 0) (file : List ℕ) (root : ℕ) (definition : Definition) (old new : List (List (List ℕ))) (result : Result V TableFault) (found : TableFault) → IsErrAnd result (λ fault. fault ≡ found)
-    → AddsRows {U = U} file tree.Table root definition old new (Err found) → IfErr result (LacksRows file root definition)
+    → AddsRows {U = U} file root definition old new (Err found) → IfErr result (LacksRows file root definition)
 lacks_added U file root definition old new (Ok x) found told adds = absurd told
 lacks_added U file root definition old new (Err fault) found told adds =
-    lacks_rows U file root definition definition old new fault refl (subst (λ (f : TableFault). AddsRows {U = U} file tree.Table root definition old new (Err f)) (sym told) adds)
+    lacks_rows U file root definition definition old new fault refl (subst (λ (f : TableFault). AddsRows {U = U} file root definition old new (Err f)) (sym told) adds)
 
 -- names of columns that aren't shown
 lacks_named : (file : List ℕ) (root : ℕ) (definition : Definition) (fault : TableFault) → LacksTexts (names_in definition.columns) fault → LacksRows file root definition fault

@@ -5,7 +5,6 @@ use Rattle.std.specs.Prelude.{slice_index_or}
 use Rattle.std.specs.Result.{IsErrAnd}
 use Rattle.std.proofs.lemmas.Bool.Decides.{nat_tests}
 use Rattle.std.proofs.lemmas.List.{get_or-map, length-map, map_more}
-use Rattle.sqlite_format.specs.declared.kind.Tree.{Tree}
 use Rattle.sqlite_record.specs.Affinity.{widen}
 use Rattle.sqlite_record.specs.Record.{decode}
 use Rattle.sqlite_value.specs.Order.{Row}
@@ -82,25 +81,25 @@ module _ (file : List ℕ) (definition : Definition) (row : Stored) (n m : ℕ) 
       let is : found ≡ Encoding at = sym told in absurd (subst (λ (f : TableFault). Gives {U = U} (record_of file row) n m before after (Err f)) is fails)
   gives_unread U before after old new (Err Memory) found told fails = tt
 
-module _ (file : List ℕ) (tree : Tree) (root : ℕ) (definition : Definition) (old new : List (List (List ℕ))) where
+module _ (file : List ℕ) (root : ℕ) (definition : Definition) (old new : List (List (List ℕ))) where
   -- a walk that fails, of which the fault is handed on
   pub adds_unwalked : (V P : Type 0) (shown : P → List Stored) (result : Result V TableFault) (found : TableFault) → IsErrAnd result (λ fault. fault ≡ found)
-      → Walks {P = P} shown file tree root (Err found) → AddsRows {U = V} file tree root definition old new result
+      → Walks {P = P} shown file definition.tree root (Err found) → AddsRows {U = V} file root definition old new result
   adds_unwalked V P shown (Ok x) found told fails = absurd told
-  adds_unwalked V P shown (Err Damage) found told fails = let is : found ≡ Damage = sym told in inl (subst (λ (f : TableFault). Walks {P = P} shown file tree root (Err f)) is fails)
-  adds_unwalked V P shown (Err Default) found told fails = let is : found ≡ Default = sym told in absurd (subst (λ (f : TableFault). Walks {P = P} shown file tree root (Err f)) is fails)
-  adds_unwalked V P shown (Err (Encoding at)) found told fails = let is : found ≡ Encoding at = sym told in absurd (subst (λ (f : TableFault). Walks {P = P} shown file tree root (Err f)) is fails)
+  adds_unwalked V P shown (Err Damage) found told fails = let is : found ≡ Damage = sym told in inl (subst (λ (f : TableFault). Walks {P = P} shown file definition.tree root (Err f)) is fails)
+  adds_unwalked V P shown (Err Default) found told fails = let is : found ≡ Default = sym told in absurd (subst (λ (f : TableFault). Walks {P = P} shown file definition.tree root (Err f)) is fails)
+  adds_unwalked V P shown (Err (Encoding at)) found told fails = let is : found ≡ Encoding at = sym told in absurd (subst (λ (f : TableFault). Walks {P = P} shown file definition.tree root (Err f)) is fails)
   adds_unwalked V P shown (Err Memory) found told fails = tt
 
-  module _ (stored : List Stored) (walked : (rows_below file tree most_levels root).1 ≡ Some stored) where
-    pub adds_all : {U V : Type 0} (x : U) (y : V) (n m : ℕ) → Gives (shown_rows_of file definition stored) n m old new (Ok x) → AddsRows file tree root definition old new (Ok y)
+  module _ (stored : List Stored) (walked : (rows_below file definition.tree most_levels root).1 ≡ Some stored) where
+    pub adds_all : {U V : Type 0} (x : U) (y : V) (n m : ℕ) → Gives (shown_rows_of file definition stored) n m old new (Ok x) → AddsRows file root definition old new (Ok y)
     adds_all x y n m read = (read.0, record { stored = stored; walked = walked; shown = read.1 }, read.2)
 
     -- one of the rows fails, which makes all of them fail if a page does
     pub adds_unread : (U V : Type 0) (n m k place : ℕ) (mid : List (List (List ℕ))) (row : Stored) (result : Result V TableFault) (found : TableFault) → IsErrAnd result (λ fault. fault ≡ found) → n ≡ page_count file
         → (place < length stored) × (slice_index_or stored place row ≡ row)
         → (Gives {U = U} (shown_row file definition row) m k mid new (Err Damage) → Gives {U = U} (shown_rows_of file definition stored) n k old new (Err Damage))
-        → GivesRow {U = U} file definition row m k mid new (Err found) → AddsRows {U = V} file tree root definition old new result
+        → GivesRow {U = U} file definition row m k mid new (Err found) → AddsRows {U = V} file root definition old new result
     adds_unread U V n m k place mid row (Ok x) found told all_pages is_row whole fails = absurd told
     adds_unread U V n m k place mid row (Err Damage) found told all_pages is_row whole fails =
         let is : found ≡ Damage = sym told in

@@ -1,11 +1,13 @@
 -- The columns that a statement CREATE TABLE declares.
-use Rattle.std.specs.Prelude.{ℕ, ◌==◌, ◌&&◌, ◌||◌, not, nat_le, Bool, true, false, List, [], ◌∷◌, ◌++◌, codes, length, map, take, pos, Option, Some, None, if◌then◌else◌}
-use Rattle.std.specs.Option.{option_and_then, option_map_or, option_or}
+use Rattle.std.specs.Prelude.{ℕ, ◌+◌, ◌==◌, ◌&&◌, ◌||◌, not, nat_le, Bool, true, false, List, [], ◌∷◌, ◌++◌, codes, length, map, take, pos, Option, Some, None, if◌then◌else◌}
+use Rattle.std.specs.Option.{option_map_or}
 use Rattle.std.specs.Str.{str_eq_ignore_ascii_case}
+use Rattle.sqlite_format.specs.declared.kind.Tree.{Tree}
+use Rattle.sqlite_format.specs.declared.kind.Tree.TheVariants.{Table, Index}
 use Rattle.sqlite_sql.specs.Numeral.{is_numeral, number_at_front}
 use Rattle.sqlite_value.specs.declared.value.Value.{Value}
 use Rattle.sqlite_value.specs.declared.value.Value.TheVariants.{Null, Int, Real, Text, Blob}
-use Rattle.ruled_database.specs.Tokens.{has_word, is_sign, read, says}
+use Rattle.ruled_database.specs.Tokens.{has_sign, has_word, is_sign, read, says}
 use Rattle.ruled_database.specs.declared.definition.Definition.{Definition}
 use Rattle.ruled_database.specs.declared.definition.Kind.{Kind}
 use Rattle.ruled_database.specs.declared.definition.Shown.{Shown}
@@ -129,46 +131,62 @@ default_of kind rules = default_by kind (after (codes "default") rules)
 
 -- ---- keys
 
-abbrev pub has_comma : List Token → Bool
-has_comma [] = false
-has_comma (it ∷ rest) = if it.depth == 2 && is_sign 44 it then true else has_comma rest
+-- the names in a list: one at the beginning, and one behind each comma, up to the parenthesis that closes
+abbrev pub names_from : Bool → List Token → List (List ℕ)
+names_from first [] = []
+names_from first (it ∷ rest) =
+    if it.depth == 1 then []
+    else if first && not (has_sign it.form) then it.text ∷ names_from false rest
+    else names_from (first || it.depth == 2 && is_sign 44 it) rest
 
--- of KEY, a parenthesis, a name and no other one
-abbrev pub only_name : List Token → Option (List ℕ)
-only_name [] = None
-only_name (key ∷ []) = None
-only_name (key ∷ (bracket ∷ [])) = None
-only_name (key ∷ (bracket ∷ (name ∷ rest))) = if has_comma rest then None else Some name.text
+-- those behind KEY and the parenthesis that opens
+abbrev pub listed_names : List Token → List (List ℕ)
+listed_names [] = []
+listed_names (key ∷ []) = []
+listed_names (key ∷ (bracket ∷ names)) = names_from true names
 
--- the only column of the key that a rule of the table makes
-unfoldable pub key_in : List Token → Option (List ℕ)
-key_in part = if is_rule part then option_and_then only_name (after (codes "primary") part) else None
+-- that of a column
+abbrev pub first_name : List Token → List (List ℕ)
+first_name [] = []
+first_name (name ∷ rules) = name.text ∷ []
 
-abbrev pub key_of : List (List Token) → Option (List ℕ)
-key_of [] = None
-key_of (part ∷ parts) = option_or (key_in part) (key_of parts)
+-- the columns that a part makes the key: those that a rule of the table lists, or the one that it declares
+unfoldable pub key_in : List Token → List (List ℕ)
+key_in part = option_map_or (λ rest. if is_rule part then listed_names rest else first_name part) (after (codes "primary") part) []
 
-abbrev pub is_ascending : List Token → Bool
-is_ascending [] = true
-is_ascending (key ∷ []) = true
-is_ascending (key ∷ (order ∷ rest)) = not (is (codes "desc") order)
+abbrev pub key_of : List (List Token) → List (List ℕ)
+key_of [] = []
+key_of (part ∷ parts) = key_in part ++ key_of parts
 
--- PRIMARY KEY, but not in descending order
-unfoldable pub is_own_key : List Token → Bool
-is_own_key rules = option_map_or is_ascending (after (codes "primary") rules) false
+-- the place of a name among others, in any case, where that of the first one is given
+abbrev pub place_from : ℕ → List (List ℕ) → List ℕ → Option ℕ
+place_from place [] name = None
+place_from place (first ∷ rest) name = if str_eq_ignore_ascii_case first name then Some place else place_from (place + 1) rest name
 
-abbrev pub is_named : Option (List ℕ) → List ℕ → Bool
-is_named None name = false
-is_named (Some key) name = str_eq_ignore_ascii_case key name
+abbrev pub has_name : List (List ℕ) → List ℕ → Bool
+has_name names name = option_map_or (λ place. true) (place_from 0 names name) false
 
-unfoldable pub is_key : Option (List ℕ) → List ℕ → List Token → Bool
-is_key key name rules = is_named key name || is_own_key rules
+abbrev pub with_name : List (List ℕ) → List ℕ → List (List ℕ)
+with_name names name = if has_name names name then names else names ++ name ∷ []
+
+-- names, and behind them others that they lack
+abbrev pub distinct : List (List ℕ) → List (List ℕ) → List (List ℕ)
+distinct before [] = before
+distinct before (name ∷ names) = distinct (with_name before name) names
+
+abbrev pub is_descending : List Token → Bool
+is_descending [] = false
+is_descending (key ∷ []) = false
+is_descending (key ∷ (order ∷ rest)) = is (codes "desc") order
+
+-- PRIMARY KEY DESC
+unfoldable pub is_descending_key : List Token → Bool
+is_descending_key rules = option_map_or is_descending (after (codes "primary") rules) false
 
 -- ---- columns
 
--- an INTEGER that is the key is the rowid
 abbrev pub shown_of : Kind → Bool → Shown
-shown_of kind key = if kind.integer && key then Rowids else if kind.real then Reals else Values
+shown_of kind is_rowid = if is_rowid then Rowids else if kind.real then Reals else Values
 
 abbrev pub has : List ℕ → List Token → Bool
 has word tokens = option_map_or (λ rest. true) (after word tokens) false
@@ -177,36 +195,71 @@ has word tokens = option_map_or (λ rest. true) (after word tokens) false
 unfoldable pub is_computed : List Token → Bool
 is_computed rules = has (codes "as") rules && not (has (codes "stored") rules)
 
-abbrev pub with_column : List ℕ → Shown → Definition → Definition
-with_column name shown it = record it { columns = it.columns ++ record { name = name; shown = shown; place = length it.columns } ∷ [] }
+abbrev pub with_column : List ℕ → Shown → ℕ → Definition → Definition
+with_column name shown place it = record it { columns = it.columns ++ record { name = name; shown = shown; place = place } ∷ [] }
 
 abbrev pub with_default : Option Value → Definition → Definition
-with_default None it = record it { defaults = it.defaults ++ Null ∷ []; least = length it.columns }
+with_default None it = record it { defaults = it.defaults ++ Null ∷ []; least = length it.defaults + 1 }
 with_default (Some value) it = record it { defaults = it.defaults ++ value ∷ [] }
+
+-- a record begins with the columns of a key, in its order, and the others follow in that of the statement
+abbrev pub placed : Option ℕ → List ℕ → Shown → Option Value → Definition → Definition
+placed (Some place) name shown value it = with_column name shown place it
+placed None name shown value it = with_default value (with_column name shown (length it.defaults) it)
 
 abbrev pub with_computed : Bool → Definition → Definition
 with_computed computed it = record it { computed = it.computed || computed }
 
--- a column more
-unfoldable pub declared : Option (List ℕ) → Token → List Token → Definition → Definition
-declared key name rules it =
+-- an INTEGER that is the only column of the key, and not by its own rule in descending order
+abbrev pub is_rowid : Kind → List (List ℕ) → List ℕ → List Token → Bool
+is_rowid kind key name rules = kind.integer && length key == 1 && has_name key name && not (is_descending_key rules)
+
+-- a column more: `rowid` is the key of a table with rowids, and `first` that of a table without them
+unfoldable pub declared : List (List ℕ) → List (List ℕ) → Token → List Token → Definition → Definition
+declared rowid first name rules it =
     let kind = kind_of (type_of rules) in
-    with_default (default_of kind rules) (with_column name.text (shown_of kind (is_key key name.text rules)) (with_computed (is_computed rules) it))
+    placed (place_from 0 first name.text) name.text (shown_of kind (is_rowid kind rowid name.text rules)) (default_of kind rules) (with_computed (is_computed rules) it)
 
-abbrev pub with_part : Option (List ℕ) → Definition → List Token → Definition
-with_part key it [] = it
-with_part key it (name ∷ rules) = if is_rule (name ∷ rules) then it else declared key name rules it
+abbrev pub with_part : List (List ℕ) → List (List ℕ) → Definition → List Token → Definition
+with_part rowid first it [] = it
+with_part rowid first it (name ∷ rules) = if is_rule (name ∷ rules) then it else declared rowid first name rules it
 
-abbrev pub with_parts : Option (List ℕ) → Definition → List (List Token) → Definition
-with_parts key it [] = it
-with_parts key it (part ∷ parts) = with_parts key (with_part key it part) parts
+abbrev pub with_parts : List (List ℕ) → List (List ℕ) → Definition → List (List Token) → Definition
+with_parts rowid first it [] = it
+with_parts rowid first it (part ∷ parts) = with_parts rowid first (with_part rowid first it part) parts
 
+-- ---- tables
+
+abbrev pub says_any : List ℕ → List Token → Bool
+says_any word [] = false
+says_any word (it ∷ rest) = if says word it then true else says_any word rest
+
+-- WITHOUT ROWID, behind CREATE TABLE and a name
 abbrev pub is_keyed : List Token → Bool
 is_keyed [] = false
-is_keyed (it ∷ rest) = if says (codes "without") it then true else is_keyed rest
+is_keyed (create ∷ []) = false
+is_keyed (create ∷ (table ∷ [])) = false
+is_keyed (create ∷ (table ∷ (name ∷ rest))) = says_any (codes "without") rest
+
+-- a table without columns as yet, whose records begin with these
+abbrev pub begun : Tree → List (List ℕ) → Definition
+begun tree first = record { columns = []; defaults = map (λ name. Null) first; least = length first; computed = false; tree = tree; known = true }
+
+-- there is a key, and a record has a value for each column and no other one
+abbrev pub with_known : List (List ℕ) → Definition → Definition
+with_known first it = record it { known = not (length first == 0) && length it.columns == length it.defaults }
+
+-- the columns of a key, each once, unless it may name one in two collations, which a record has twice
+abbrev pub first_of : List ℕ → List (List ℕ) → List (List ℕ)
+first_of statement key = if has_part (codes "collate") statement then key else distinct [] key
+
+-- a table without rowids
+abbrev pub keyed_definition : List (List ℕ) → List (List Token) → Definition
+keyed_definition first parts = with_known first (with_parts [] first (begun Index first) parts)
 
 -- the columns of a statement, in its order
 unfoldable pub definition_of : List ℕ → Definition
 definition_of statement =
     let parts = (read statement).parts in
-    with_parts (key_of parts) (record { columns = []; defaults = []; least = 0; computed = false; keyed = is_keyed (read statement).outside }) parts
+    let key = key_of parts in
+    if is_keyed (read statement).outside then keyed_definition (first_of statement key) parts else with_parts key [] (begun Table []) parts

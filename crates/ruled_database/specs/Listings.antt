@@ -3,7 +3,6 @@ use Rattle.std.specs.Prelude.{◌≡◌, ◌≢◌, ◌⊎◌, ⊤, ℕ, ◌^◌
 use Rattle.std.specs.Option.{option_and_then, option_or, unwrap_or}
 use Rattle.std.specs.Str.{str_eq_ignore_ascii_case}
 use Rattle.csv.specs.Records.{AllText, field_at}
-use Rattle.sqlite_format.specs.declared.kind.Tree.TheVariants as tree
 use Rattle.sqlite_sql.specs.Numeral.{int_at_front}
 use Rattle.ruled_database.specs.Definitions.{definition_of}
 use Rattle.ruled_database.specs.Files.{has_header, has_utf8}
@@ -77,7 +76,7 @@ schema_definition = definition_of (codes "create table sqlite_schema(type text, 
 
 -- the schema is the table that begins at page 1
 abbrev pub AreListed : List ℕ → List (List Text) → Type 0
-AreListed file rows = AreRows file tree.Table 1 schema_definition rows
+AreListed file rows = AreRows file 1 schema_definition rows
 
 -- the entry of a name
 pub record IsListed (file name : List ℕ) (entry : Entry) : Type 0 where
@@ -87,16 +86,16 @@ pub record IsListed (file name : List ℕ) (entry : Entry) : Type 0 where
 
 -- ---- a table
 
--- a table whose rows are stored in full, in the order of rowids
+-- a table whose rows are stored in full, in a known order of their values
 pub record IsStored (entry : Entry) (definition : Definition) : Type 0 where
   pub kind : entry.kind ≡ kind.Table
   pub declared : definition ≡ definition_of entry.statement
-  pub by_rowid : definition.keyed ≡ false
+  pub known : definition.known ≡ true
   pub whole : definition.computed ≡ false
 
 -- row 0 is the names of the columns
 abbrev pub AreNamedRows : List ℕ → ℕ → Definition → List (List Text) → Type 0
-AreNamedRows file root definition rows = (shown : List (List Text)) × AreRows file tree.Table root definition shown × (rows ≡ names_in definition.columns ∷ shown)
+AreNamedRows file root definition rows = (shown : List (List Text)) × AreRows file root definition shown × (rows ≡ names_in definition.columns ∷ shown)
 
 -- the rows of an entry
 pub record AreEntryRows (file : List ℕ) (entry : Entry) (rows : List (List Text)) : Type 0 where
@@ -188,9 +187,9 @@ LacksFile file (Table fault) = ⊥
 
 -- why a table's rows can't be read
 abbrev pub LacksRows : List ℕ → ℕ → Definition → TableFault → Type 0
-LacksRows file root definition row.Damage = IsDamaged file tree.Table root definition
-LacksRows file root definition row.Default = HasRow file tree.Table root (IsOld file definition)
-LacksRows file root definition (row.Encoding at) = (¬ AllText (names_in definition.columns)) ⊎ HasRow file tree.Table root (HasWrongText file definition)
+LacksRows file root definition row.Damage = IsDamaged file root definition
+LacksRows file root definition row.Default = HasRow file definition.tree root (IsOld file definition)
+LacksRows file root definition (row.Encoding at) = (¬ AllText (names_in definition.columns)) ⊎ HasRow file definition.tree root (HasWrongText file definition)
 LacksRows file root definition row.Memory = ⊤
 
 abbrev pub LacksSchema : List ℕ → DatabaseFault → Type 0
@@ -209,7 +208,7 @@ LacksDefinition entry Encoding = ⊥
 LacksDefinition entry (Schema fault) = ⊥
 LacksDefinition entry Absent = ⊥
 LacksDefinition entry Elsewhere = entry.kind ≢ kind.Table
-LacksDefinition entry Keyed = (definition_of entry.statement).keyed ≡ true
+LacksDefinition entry Keyed = (definition_of entry.statement).known ≡ false
 LacksDefinition entry Computed = (definition_of entry.statement).computed ≡ true
 LacksDefinition entry (Table fault) = fault ≡ row.Memory
 
@@ -220,7 +219,7 @@ LacksEntry file entry Encoding = ⊥
 LacksEntry file entry (Schema fault) = ⊥
 LacksEntry file entry Absent = ⊥
 LacksEntry file entry Elsewhere = entry.kind ≢ kind.Table
-LacksEntry file entry Keyed = (definition_of entry.statement).keyed ≡ true
+LacksEntry file entry Keyed = (definition_of entry.statement).known ≡ false
 LacksEntry file entry Computed = (definition_of entry.statement).computed ≡ true
 LacksEntry file entry (Table fault) = LacksRows file entry.root (definition_of entry.statement) fault
 

@@ -88,16 +88,16 @@ abbrev pub IsUnsound : {X : Type 0} → List ℕ → Read (List X) → Type 0
 IsUnsound file read = (read.1 ≡ None) ⊎ (page_count file < read.0)
 
 -- the rows of the tree that begins at this page
-pub record AreRows (file : List ℕ) (tree : Tree) (root : ℕ) (definition : Definition) (rows : List (List (List ℕ))) : Type 0 where
+pub record AreRows (file : List ℕ) (root : ℕ) (definition : Definition) (rows : List (List (List ℕ))) : Type 0 where
   pub stored : List Stored
-  pub walked : (rows_below file tree most_levels root).1 ≡ Some stored
+  pub walked : (rows_below file definition.tree most_levels root).1 ≡ Some stored
   pub shown : (shown_rows_of file definition stored).1 ≡ Some rows
 
 -- its pages, or those of its rows
-abbrev pub IsDamaged : List ℕ → Tree → ℕ → Definition → Type 0
-IsDamaged file tree root definition =
-    IsUnsound file (rows_below file tree most_levels root)
-    ⊎ ((stored : List Stored) × ((rows_below file tree most_levels root).1 ≡ Some stored) × IsUnsound file (shown_rows_of file definition stored))
+abbrev pub IsDamaged : List ℕ → ℕ → Definition → Type 0
+IsDamaged file root definition =
+    IsUnsound file (rows_below file definition.tree most_levels root)
+    ⊎ ((stored : List Stored) × ((rows_below file definition.tree most_levels root).1 ≡ Some stored) × IsUnsound file (shown_rows_of file definition stored))
 
 -- one of the rows of the tree
 abbrev pub HasRow : List ℕ → Tree → ℕ → (Stored → Type 0) → Type 0
@@ -112,9 +112,9 @@ Walks shown file tree root (Err (Encoding row)) = ⊥
 Walks shown file tree root (Err Memory) = Unit {0}
 
 -- the rows of a table stand behind others
-abbrev pub AddsRows : {U : Type 0} → List ℕ → Tree → ℕ → Definition → List (List (List ℕ)) → List (List (List ℕ)) → Result U TableFault → Type 0
-AddsRows file tree root definition old new (Ok x) = (rows : List (List (List ℕ))) × AreRows file tree root definition rows × (new ≡ old ++ rows)
-AddsRows file tree root definition old new (Err Damage) = IsDamaged file tree root definition
-AddsRows file tree root definition old new (Err Default) = HasRow file tree root (IsOld file definition)
-AddsRows file tree root definition old new (Err (Encoding row)) = HasRow file tree root (HasWrongText file definition)
-AddsRows file tree root definition old new (Err Memory) = Unit {0}
+abbrev pub AddsRows : {U : Type 0} → List ℕ → ℕ → Definition → List (List (List ℕ)) → List (List (List ℕ)) → Result U TableFault → Type 0
+AddsRows file root definition old new (Ok x) = (rows : List (List (List ℕ))) × AreRows file root definition rows × (new ≡ old ++ rows)
+AddsRows file root definition old new (Err Damage) = IsDamaged file root definition
+AddsRows file root definition old new (Err Default) = HasRow file definition.tree root (IsOld file definition)
+AddsRows file root definition old new (Err (Encoding row)) = HasRow file definition.tree root (HasWrongText file definition)
+AddsRows file root definition old new (Err Memory) = Unit {0}

@@ -17,6 +17,6 @@ database_fault_text Encoding = codes "a database in UTF-16 isn't supported"
 database_fault_text (Schema fault) = codes "the list of the tables: " ++ table_fault_text fault
 database_fault_text Absent = codes "no such table"
 database_fault_text Elsewhere = codes "a view or a virtual table, which stores no rows"
-database_fault_text Keyed = codes "a table WITHOUT ROWID isn't supported"
+database_fault_text Keyed = codes "its primary key isn't supported"
 database_fault_text Computed = codes "a column that is computed isn't supported"
 database_fault_text (Table fault) = table_fault_text fault

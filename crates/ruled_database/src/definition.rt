@@ -1,10 +1,11 @@
 //! The columns that a statement `create table` declares.
 
-ghost use Rattle.std.specs.Prelude.{◌≡◌, ℕ, List, map, option_map, IfOk, OnOk};
+ghost use Rattle.std.specs.Prelude.{◌≡◌, true, [], ◌++◌, ℕ, List, map, option_map, IfOk, OnOk};
 ghost use Rattle.sqlite_value.specs.Value.{owned};
 ghost use Rattle.ruled_database.specs.Definitions as spec;
 
 use crate::token::{Form, Token, read};
+use sqlite_format::Tree;
 use sqlite_items::Items;
 use sqlite_sql::numeral::{is_numeral, number_at_front};
 use sqlite_value::row::Row;
@@ -35,14 +36,17 @@ pub(crate) struct Column {
 #[derive(Drop)]
 pub(crate) struct Definition {
     pub(crate) columns: Items<Column>,
-    /// The values of the columns in records that are older than they.
+    /// The values of a record that lacks them, since it is older than their columns.
     pub(crate) defaults: Row,
-    /// How many values a record has at least: the columns up to the last one whose default isn't understood.
+    /// How many values a record has at least: those of a key in whose order the rows are, and those up to the last one whose
+    /// default isn't understood.
     pub(crate) least: usize,
     /// Whether a column has values that are computed when it is read.
     pub(crate) computed: bool,
-    /// Whether its rows are in the order of its key, and have no rowids.
-    pub(crate) keyed: bool,
+    /// Whether its rows are in the order of rowids, or in that of a key without them.
+    pub(crate) tree: Tree,
+    /// Whether the columns of that key are known.
+    pub(crate) known: bool,
 }
 
 /// What the type of a column says of its values.
@@ -303,82 +307,104 @@ fn is_rule(part: &[Token]) -> bool
     }
 }
 
-// Whether more names follow in a list of them.
-fn has_comma(mut tokens: &[Token]) -> bool
-    ensures { result ≡ spec.has_comma tokens.entry.now }
+// Appends the names in the parentheses that these tokens are in: one at the beginning, and one behind each comma.
+fn push_names<'t>(mut tokens: &'t [Token], names: &mut Vec<&'t [u8]>) -> Result<(), AllocError>
+    ensures { OnOk result (map (λ name. name.now) names.new.items ≡ map (λ name. name.now) names.old.items ++ spec.names_from true tokens.entry.now) }
 {
-    while let [first, rest @ ..] = tokens {
-        if first.depth == 2 && first.is_sign(b',') {
-            return true;
+    let mut is_first = true;
+    while let [token, rest @ ..] = tokens {
+        if token.depth == 1 {
+            return Ok(());
+        }
+        if is_first && !matches!(token.form, Form::Sign) {
+            names.push(token.text.as_slice())?;
+            is_first = false;
+        } else {
+            is_first = is_first || (token.depth == 2 && token.is_sign(b','));
         }
         tokens = rest;
     }
-    false
+    Ok(())
 }
 
-// The only name in the parentheses behind PRIMARY KEY.
-fn only_name(tokens: &[Token]) -> Option<&[u8]>
-    ensures { option_map (λ name. name.now) result ≡ spec.only_name tokens.now }
-{
-    match tokens {
-        [_, _, name, rest @ ..] if !has_comma(rest) => Some(name.text.as_slice()),
-        _ => None,
-    }
-}
-
+// Appends the columns that a part makes the key: those that a rule of the table lists, or the one that it declares.
 #[tactic(auto, unfolding(crate::specs::Definitions::key_in))]
-// The only column of the key that a rule of the table makes.
-fn key_in(part: &[Token]) -> Option<&[u8]>
-    ensures { option_map (λ name. name.now) result ≡ spec.key_in part.now }
+fn push_key<'t>(part: &'t [Token], names: &mut Vec<&'t [u8]>) -> Result<(), AllocError>
+    ensures { OnOk result (map (λ name. name.now) names.new.items ≡ map (λ name. name.now) names.old.items ++ spec.key_in part.now) }
 {
-    if !is_rule(part) {
-        return None;
-    }
-    match after(part, b"primary") {
-        Some(tokens) => only_name(tokens),
-        None => None,
+    match (after(part, b"primary"), part) {
+        (Some([_, _, listed @ ..]), _) if is_rule(part) => push_names(listed, names),
+        (Some(_), [column, ..]) if !is_rule(part) => {
+            names.push(column.text.as_slice())?;
+            Ok(())
+        }
+        _ => Ok(()),
     }
 }
 
-fn key_of(mut parts: &[Items<Token>]) -> Option<&[u8]>
-    ensures { option_map (λ name. name.now) result ≡ spec.key_of parts.entry.now }
+// The columns of the key.
+fn key_of(alloc: Global, mut parts: &[Items<Token>]) -> Result<Vec<&[u8]>, AllocError>
+    ensures { IfOk result (λ names. map (λ name. name.now) names.items ≡ spec.key_of parts.entry.now) }
 {
+    let mut names = Vec::new(alloc);
     while let [part, rest @ ..] = parts {
-        if let Some(name) = key_in(part.as_slice()) {
-            return Some(name);
-        }
+        push_key(part.as_slice(), &mut names)?;
         parts = rest;
+    }
+    Ok(names)
+}
+
+// The place of a name among others, in any case.
+fn place_in(mut names: &[&[u8]], name: &[u8]) -> Option<usize>
+    ensures { result ≡ spec.place_from 0 (map (λ it. it.now) names.entry.now) name.now }
+{
+    let mut place = 0;
+    while let [first, rest @ ..] = names {
+        if first.eq_ignore_ascii_case(name) {
+            return Some(place);
+        }
+        place += 1;
+        names = rest;
     }
     None
 }
 
-#[tactic(auto, unfolding(crate::specs::Definitions::is_own_key))]
-// Whether a column's own rule makes it the key, in an order that a rowid can have.
-fn is_own_key(rules: &[Token]) -> bool
-    ensures { result ≡ spec.is_own_key rules.now }
+// Each of these names once.
+fn distinct<'t>(alloc: Global, mut names: &[&'t [u8]]) -> Result<Vec<&'t [u8]>, AllocError>
+    ensures { IfOk result (λ it. map (λ name. name.now) it.items ≡ spec.distinct [] (map (λ name. name.now) names.entry.now)) }
+{
+    let mut found = Vec::new(alloc);
+    while let [name, rest @ ..] = names {
+        if place_in(&found, name).is_none() {
+            found.push(*name)?;
+        }
+        names = rest;
+    }
+    Ok(found)
+}
+
+#[tactic(auto, unfolding(crate::specs::Definitions::is_descending_key))]
+// Whether a column's own rule makes it a key in descending order.
+fn is_descending_key(rules: &[Token]) -> bool
+    ensures { result ≡ spec.is_descending_key rules.now }
 {
     match after(rules, b"primary") {
-        Some([_, order, ..]) => !is(order, b"desc"),
-        Some(_) => true,
-        None => false,
+        Some([_, order, ..]) => is(order, b"desc"),
+        _ => false,
     }
 }
 
-#[tactic(auto, unfolding(crate::specs::Definitions::is_key))]
-// Whether the column of this name is the key.
-fn is_key(key: Option<&[u8]>, name: &[u8], rules: &[Token]) -> bool
-    ensures { result ≡ spec.is_key (option_map (λ key. key.now) key.entry) name.now rules.now }
+// Whether a column is the rowid, if these are the columns of the key.
+fn is_rowid(kind: Kind, key: &[&[u8]], name: &[u8], rules: &[Token]) -> bool
+    ensures { result ≡ spec.is_rowid kind (map (λ it. it.now) key.now) name.now rules.now }
 {
-    match key {
-        Some(key) if key.eq_ignore_ascii_case(name) => true,
-        _ => is_own_key(rules),
-    }
+    kind.integer && key.len() == 1 && place_in(key, name).is_some() && !is_descending_key(rules)
 }
 
-fn shown_of(kind: Kind, is_key: bool) -> Shown
-    ensures { result ≡ spec.shown_of kind is_key }
+fn shown_of(kind: Kind, is_rowid: bool) -> Shown
+    ensures { result ≡ spec.shown_of kind is_rowid }
 {
-    if kind.integer && is_key {
+    if is_rowid {
         Shown::Rowids
     } else if kind.real {
         Shown::Reals
@@ -396,32 +422,64 @@ fn is_computed(rules: &[Token]) -> bool
 }
 
 impl Definition {
-    // Adds a column and its default.
-    fn push(
+    // A table without columns as yet, whose records begin with these.
+    fn begun(alloc: Global, tree: Tree, mut first: &[&[u8]]) -> Result<Definition, AllocError>
+        ensures { IfOk result (λ it. it ≡ spec.begun tree (map (λ name. name.now) first.entry.now)) }
+    {
+        let least = first.len();
+        let mut defaults = Row::new(alloc);
+        while let [_, rest @ ..] = first {
+            defaults.push(ValueRef::Null)?;
+            first = rest;
+        }
+        Ok(Definition {
+            columns: Items::new(alloc),
+            defaults,
+            least,
+            computed: false,
+            tree,
+            known: true,
+        })
+    }
+
+    // Adds a column at this place of records.
+    fn push_column(
         &mut self,
         alloc: Global,
         name: &[u8],
         shown: Shown,
-        value: Option<ValueRef<'_>>,
+        place: usize,
     ) -> Result<(), AllocError>
-        ensures { OnOk result (self.new ≡ spec.with_default (option_map owned value.entry) (spec.with_column name.now shown self.old)) }
+        ensures { OnOk result (self.new ≡ spec.with_column name.now shown place self.old) }
     {
-        let place = self.columns.len();
         let name = Items::from_slice(alloc, name)?;
-        self.columns.push(Column { name, shown, place })?;
+        self.columns.push(Column { name, shown, place })
+    }
+
+    // Adds the default of a column.
+    fn push_default(&mut self, value: Option<ValueRef<'_>>) -> Result<(), AllocError>
+        ensures { OnOk result (self.new ≡ spec.with_default (option_map owned value.entry) self.old) }
+    {
         match value {
             Some(value) => self.defaults.push(value),
             None => {
-                self.least = self.columns.len();
-                self.defaults.push(ValueRef::Null)
+                self.defaults.push(ValueRef::Null)?;
+                self.least = self.defaults.len();
+                Ok(())
             }
         }
     }
 
     #[tactic(auto, unfolding(crate::specs::Definitions::declared))]
     // Takes a part: a column, or a rule of the table.
-    fn take(&mut self, alloc: Global, key: Option<&[u8]>, part: &[Token]) -> Result<(), AllocError>
-        ensures { OnOk result (self.new ≡ spec.with_part (option_map (λ key. key.now) key.entry) self.old part.now) }
+    fn take(
+        &mut self,
+        alloc: Global,
+        rowid: &[&[u8]],
+        first: &[&[u8]],
+        part: &[Token],
+    ) -> Result<(), AllocError>
+        ensures { OnOk result (self.new ≡ spec.with_part (map (λ it. it.now) rowid.now) (map (λ it. it.now) first.now) self.old part.now) }
     {
         let [name, rules @ ..] = part else {
             return Ok(());
@@ -432,41 +490,71 @@ impl Definition {
         let name = name.text.as_slice();
         let text = type_of(alloc, rules)?;
         let kind = kind_of(&text);
-        let shown = shown_of(kind, is_key(key, name, rules));
-        let value = default_of(alloc, kind, rules)?;
+        let shown = shown_of(kind, is_rowid(kind, rowid, name, rules));
         self.computed = self.computed || is_computed(rules);
-        self.push(alloc, name, shown, value)
+        if let Some(place) = place_in(first, name) {
+            return self.push_column(alloc, name, shown, place);
+        }
+        let value = default_of(alloc, kind, rules)?;
+        let place = self.defaults.len();
+        self.push_column(alloc, name, shown, place)?;
+        self.push_default(value)
     }
 
     // The same with these parts.
     fn with_parts(
         self,
         alloc: Global,
-        key: Option<&[u8]>,
+        rowid: &[&[u8]],
+        first: &[&[u8]],
         mut parts: &[Items<Token>],
     ) -> Result<Definition, AllocError>
-        ensures { IfOk result (λ it. it ≡ spec.with_parts (option_map (λ key. key.now) key.entry) self parts.entry.now) }
+        ensures { IfOk result (λ it. it ≡ spec.with_parts (map (λ it. it.now) rowid.now) (map (λ it. it.now) first.now) self parts.entry.now) }
     {
         let mut definition = self;
         while let [part, rest @ ..] = parts {
-            definition.take(alloc, key, part.as_slice())?;
+            definition.take(alloc, rowid, first, part.as_slice())?;
             parts = rest;
         }
         Ok(definition)
     }
 }
 
-// Whether words outside of parentheses say that a table has no rowids.
-fn is_keyed(mut words: &[Token]) -> bool
-    ensures { result ≡ spec.is_keyed words.entry.now }
+// Whether one of the tokens is this word.
+fn says_any(mut tokens: &[Token], word: &[u8]) -> bool
+    ensures { result ≡ spec.says_any word.now tokens.entry.now }
 {
-    while let [word, rest @ ..] = words {
-        if word.says(b"without") {
+    while let [token, rest @ ..] = tokens {
+        if token.says(word) {
             return true;
         }
-        words = rest;
+        tokens = rest;
     }
     false
+}
+
+// Whether a table has no rowids, by the tokens outside of parentheses.
+fn is_keyed(tokens: &[Token]) -> bool
+    ensures { result ≡ spec.is_keyed tokens.now }
+{
+    match tokens {
+        [_, _, _, options @ ..] => says_any(options, b"without"),
+        _ => false,
+    }
+}
+
+// What a table without rowids has, in whose records the columns of this key come first.
+fn keyed_definition(
+    alloc: Global,
+    first: &[&[u8]],
+    parts: &[Items<Token>],
+) -> Result<Definition, AllocError>
+    ensures { IfOk result (λ it. it ≡ spec.keyed_definition (map (λ name. name.now) first.now) parts.now) }
+{
+    let begun = Definition::begun(alloc, Tree::Index, first)?;
+    let mut definition = begun.with_parts(alloc, &[], first, parts)?;
+    definition.known = !first.is_empty() && definition.columns.len() == definition.defaults.len();
+    Ok(definition)
 }
 
 #[tactic(auto, unfolding(crate::specs::Definitions::definition_of))]
@@ -474,14 +562,16 @@ fn is_keyed(mut words: &[Token]) -> bool
 pub(crate) fn definition_of(alloc: Global, statement: &[u8]) -> Result<Definition, AllocError>
     ensures { IfOk result (λ it. it ≡ spec.definition_of statement.now) }
 {
-    let statement = read(alloc, statement)?;
-    let parts = statement.parts.as_slice();
-    let definition = Definition {
-        columns: Items::new(alloc),
-        defaults: Row::new(alloc),
-        least: 0,
-        computed: false,
-        keyed: is_keyed(statement.outside.as_slice()),
-    };
-    definition.with_parts(alloc, key_of(parts), parts)
+    let tokens = read(alloc, statement)?;
+    let parts = tokens.parts.as_slice();
+    let key = key_of(alloc, parts)?;
+    if !is_keyed(tokens.outside.as_slice()) {
+        let begun = Definition::begun(alloc, Tree::Table, &[])?;
+        return begun.with_parts(alloc, &key, &[], parts);
+    }
+    if has_part(statement, b"collate") {
+        return keyed_definition(alloc, &key, parts);
+    }
+    let first = distinct(alloc, &key)?;
+    keyed_definition(alloc, &first, parts)
 }

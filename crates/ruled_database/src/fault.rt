@@ -35,7 +35,7 @@ pub enum DatabaseFault {
     Absent,
     /// The rows aren't stored: it is a view, or a virtual table.
     Elsewhere,
-    /// The rows are in the order of a key, and have no rowids.
+    /// The rows are in the order of a primary key that isn't understood.
     Keyed,
     /// A column has values that aren't stored, but computed.
     Computed,
@@ -103,7 +103,7 @@ impl Display for DatabaseFault {
             DatabaseFault::Schema(fault) => return write!(f, "the list of the tables: {fault}"),
             DatabaseFault::Absent => "no such table",
             DatabaseFault::Elsewhere => "a view or a virtual table, which stores no rows",
-            DatabaseFault::Keyed => "a table WITHOUT ROWID isn't supported",
+            DatabaseFault::Keyed => "its primary key isn't supported",
             DatabaseFault::Computed => "a column that is computed isn't supported",
             DatabaseFault::Table(fault) => return fault.fmt(f),
         };

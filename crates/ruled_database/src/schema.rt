@@ -12,7 +12,6 @@ use crate::file::File;
 use crate::table::{names_of, push_rows};
 use crate::value::row_of;
 use csv::{ByteRecord, StringRecord};
-use sqlite_format::Tree;
 use sqlite_sql::numeral::int_at_front;
 use std::alloc::{AllocError, Global};
 
@@ -117,7 +116,7 @@ fn schema_rows(alloc: Global, file: File<'_>) -> Result<Vec<StringRecord>, Datab
 {
     let definition = definition_of(alloc, SCHEMA)?;
     let mut rows = Vec::new(alloc);
-    match push_rows(alloc, file, Tree::Table, 1, &definition, &mut rows) {
+    match push_rows(alloc, file, 1, &definition, &mut rows) {
         Ok(()) => Ok(rows),
         Err(fault) => Err(DatabaseFault::Schema(fault)),
     }
@@ -132,7 +131,7 @@ fn stored_definition(alloc: Global, listed: Listed<'_>) -> Result<Definition, Da
         return Err(DatabaseFault::Elsewhere);
     }
     let definition = definition_of(alloc, listed.statement.as_bytes())?;
-    if definition.keyed {
+    if !definition.known {
         return Err(DatabaseFault::Keyed);
     }
     if definition.computed {
@@ -154,7 +153,7 @@ fn rows_of(
     let mut rows = Vec::new(alloc);
     let names = names_of(alloc, definition.columns.as_slice())?;
     rows.push(names)?;
-    push_rows(alloc, file, Tree::Table, root, definition, &mut rows)?;
+    push_rows(alloc, file, root, definition, &mut rows)?;
     Ok(rows)
 }
 

@@ -15,7 +15,6 @@ use crate::overflow::Overflow;
 use crate::tree::{StoredRow, stored_rows};
 use crate::value::{push_value, row_of};
 use csv::{ByteRecord, StringRecord};
-use sqlite_format::Tree;
 use sqlite_format::cell::toggle_sign;
 use sqlite_record::fields::decode_into;
 use sqlite_value::row::Row;
@@ -126,14 +125,13 @@ impl<'a> RowReader<'a> {
 pub(crate) fn push_rows(
     alloc: Global,
     file: File<'_>,
-    tree: Tree,
     root: u32,
     definition: &Definition,
     rows: &mut Vec<StringRecord>,
 ) -> Result<(), TableFault>
-    ensures { AddsRows file.entry.bytes.now tree root definition.now (map fields_of rows.old.items) (map fields_of rows.new.items) result }
+    ensures { AddsRows file.entry.bytes.now root definition.now (map fields_of rows.old.items) (map fields_of rows.new.items) result }
 {
-    let stored = stored_rows(alloc, file, tree, root)?;
+    let stored = stored_rows(alloc, file, definition.tree, root)?;
     let mut reader = RowReader {
         overflow: Overflow::of(file),
         record: Vec::new(alloc),

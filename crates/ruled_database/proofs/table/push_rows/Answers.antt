@@ -60,7 +60,7 @@ returns-in_err-push_row c =
     let whole = λ (damage : Gives {U = Unit {0}} (shown file definition item) l.reader.overflow.left left mid new (Err Damage)).
     subst (λ (read : Read (List (List (List ℕ)))). Gives {U = Unit {0}} read (page_count file) left old new (Err Damage)) (same_rows file definition xs items c.deref-row-items.ensures.value)
     (gives_last (Unit {0}) (shown file definition) xs l.row-index item none (page_count file) l.reader.overflow.left left old mid new nought Damage (omega arith) refl l.invariant.rows damage) in
-    adds_unread file c.args.tree c.args.root definition old new (map stored_of items) c.in_ok-stored.ensures (Unit {0}) (Unit {0}) (page_count file) l.reader.overflow.left left l.row-index mid row
+    adds_unread file c.args.root definition old new (map stored_of items) c.in_ok-stored.ensures (Unit {0}) (Unit {0}) (page_count file) l.reader.overflow.left left l.row-index mid row
     c.from_residual-in_err-push_row.result fault c.from_residual-in_err-push_row.ensures.1 refl (among stored_of xs items l.row-index none c.deref-row-items.ensures.value (omega arith)) whole fails
 
 pub returns : goal.returns
@@ -76,4 +76,4 @@ returns c =
     let all_of : take l.row-index xs ≡ xs = take_all l.row-index xs (omega (arith, c.loop-row-test.false)) in
     let read = subst (λ (read : Read (List (List (List ℕ)))). Gives {U = ℕ} read (page_count file) l.reader.overflow.left old new (Ok 0))
     (ap (λ (ys : List StoredRow). all (map (shown file definition) ys)) all_of ∙ same_rows file definition xs items c.deref-row-items.ensures.value) l.invariant.rows in
-    adds_all file c.args.tree c.args.root definition old new (map stored_of items) c.in_ok-stored.ensures nought nought (page_count file) l.reader.overflow.left read
+    adds_all file c.args.root definition old new (map stored_of items) c.in_ok-stored.ensures nought nought (page_count file) l.reader.overflow.left read
