@@ -1,5 +1,5 @@
 -- What reading the record of a row gives, its texts give.
-use Rattle.std.proofs.Common.{◌≡◌, ◌∙◌, ◌++◌, ◌∷◌, ◌+◌, ◌<◌, ◌≤◌, ℕ, List, [], length, map, take, get_or, Some, None, Option, Result, Ok, Err, inl, inr, refl, sym, ap, ap₂, subst, subst₂, arith}
+use Rattle.std.proofs.Common.{◌≡◌, ◌∙◌, ◌++◌, ◌∷◌, ◌+◌, ◌<◌, ◌≤◌, ℕ, List, [], length, map, take, get_or, Some, Option, Result, Ok, Err, inl, inr, refl, sym, ap, ap₂, subst, subst₂, arith}
 use Rattle.std.specs.Option.{option_and_then}
 use Rattle.std.specs.Prelude.{slice_index_or}
 use Rattle.std.specs.Result.{IsErrAnd}

@@ -1,12 +1,9 @@
-use Rattle.std.proofs.Common.{◌≡◌, ℕ, ◌+◌, ◌-◌, ◌≤◌, List, [], ◌∷◌, Option, length, map, take, drop, rules, arith, ap, sym, ◌∙◌, refl, get_or, Bor, Bool, false}
+use Rattle.std.proofs.Common.{◌≡◌, ℕ, ◌+◌, ◌-◌, ◌≤◌, List, [], ◌∷◌, length, map, take, drop, rules, arith, ap, ◌∙◌, get_or, Bor, false}
 use Rattle.std.proofs.lemmas.Grind.{common_steps}
 use Rattle.std.proofs.lemmas.List.{take_all}
 use Rattle.std.specs.Str.{str_eq_ignore_ascii_case}
 use Rattle.ruled_database.specs.Definitions.{place_from}
 use Rattle.ruled_database.proofs.definition.place_in.Goals as goal
-
-now_of : Bor (List ℕ) → List ℕ
-now_of it = it.now
 
 -- behind a first name that is another one
 behind : (name : List ℕ) (place : ℕ) (names : List (Bor (List ℕ))) (none : Bor (List ℕ)) → 1 ≤ length names → str_eq_ignore_ascii_case (get_or names 0 none).now name ≡ false
