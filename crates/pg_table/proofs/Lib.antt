@@ -1,4 +1,5 @@
 -- Lemmas of this crate.
+pub mod Merging
 pub mod ListedSizes
 pub mod NaturalRoom
 pub mod Faults

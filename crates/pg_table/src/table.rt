@@ -18,6 +18,7 @@ use std::marker::Model;
 
 mod crossings;
 mod lines;
+mod merging;
 mod rows;
 mod settings;
 mod spans;
