@@ -1,8 +1,7 @@
 -- The rows of a table, of the rows that an input holds.
-use Rattle.std.specs.Prelude.{ℕ, ◌-◌, max, List, [], ◌∷◌, ◌++◌, drop, length, take, Option, Some, None, if◌then◌else◌}
+use Rattle.std.specs.Prelude.{ℕ, ◌-◌, max, List, [], ◌∷◌, ◌++◌, drop, length, map, slice_index_or, take, Option, Some, None, if◌then◌else◌}
 use Rattle.std.specs.List.{range_with_len}
 use Rattle.pg_layout.specs.Text.{Text}
-use Rattle.ruled_table.specs.LentRows.{fields_at}
 use Rattle.ruled_table.specs.Shown.{heads}
 use Rattle.ruled_table.specs.declared.options.Options.{Options}
 
@@ -15,7 +14,7 @@ longest (row ∷ rows) = max (length row) (longest rows)
 
 -- so many fields of a row, of which those behind its last one are empty
 abbrev pub padded_to : ℕ → List Text → List Text
-padded_to columns row = fields_at (range_with_len 0 columns) row
+padded_to columns row = map (λ place. slice_index_or row place []) (range_with_len 0 columns)
 
 -- rows of which row 0 has as many fields as the longest row
 abbrev pub padded : List (List Text) → List (List Text)
