@@ -79,7 +79,7 @@ const FLAG: Choice = Choice {
 };
 
 /// All arguments, in the order of the help.
-const CHOICES: [Choice; 22] = [
+const CHOICES: [Choice; 24] = [
     Choice {
         name: "file",
         value: "FILE",
@@ -130,6 +130,21 @@ const CHOICES: [Choice; 22] = [
         value: "C",
         takes: Takes::Text,
         help: "Leave out lines that begin with this character, unless they begin within a quoted field",
+        ..FLAG
+    },
+    Choice {
+        name: "names",
+        value: "NAMES",
+        takes: Takes::Text,
+        is_list: true,
+        conflicts: &["no-header", "stream"],
+        help: "Put a header with these names above the first row",
+        ..FLAG
+    },
+    Choice {
+        name: "number",
+        conflicts: &["stream"],
+        help: "Print the number of each row in a first column",
         ..FLAG
     },
     Choice {
@@ -428,13 +443,20 @@ fn rules_asked(found: &ArgMatches) -> Result<RowRules, &'static str> {
     })
 }
 
-// An input of which some lines may be left out.
-fn with_lines_left_out(source: Source) -> Result<Source, &'static str> {
+// Whether an option is used that separated values alone have, as they have lines.
+fn asks_for_lines(found: &ArgMatches) -> bool {
+    found.get_one::<u32>("skip").is_some()
+        || found.get_str("comment").is_some()
+        || found.get_strs("names").is_some()
+}
+
+// An input of separated values.
+fn separated(source: Source) -> Result<Source, &'static str> {
     match source {
         Source::Seen { rules, .. } => Ok(Source::Values { rules }),
         Source::Values { .. } | Source::Rows(Format::Separated(_)) => Ok(source),
         Source::Rows(_) | Source::Database { .. } => {
-            Err("--skip and --comment need separated values")
+            Err("--skip, --comment and --names need separated values")
         }
     }
 }
@@ -446,8 +468,8 @@ fn source_asked(found: &ArgMatches) -> Result<Source, &'static str> {
     if is_selected(found, asked)? {
         source = database(Selection::Tables);
     }
-    if found.get_one::<u32>("skip").is_some() || found.get_str("comment").is_some() {
-        source = with_lines_left_out(source)?;
+    if asks_for_lines(found) {
+        source = separated(source)?;
     }
     source.set_rules(rules_asked(found)?);
     Ok(source)
@@ -478,6 +500,15 @@ fn names_of(alloc: Global, words: Option<&[&str]>) -> Result<Vec<String>, AllocE
     let mut names = Vec::new(alloc);
     for word in words.unwrap_or(&[]) {
         names.push(String::from_str(alloc, word)?)?;
+    }
+    Ok(names)
+}
+
+// The names of the columns that are shown, that of the numbers among them.
+fn columns_of(alloc: Global, found: &ArgMatches) -> Result<Vec<String>, AllocError> {
+    let mut names = names_of(alloc, found.get_strs("columns"))?;
+    if found.get_flag("number") && !names.is_empty() {
+        names.insert(0, String::from_str(alloc, "#")?)?;
     }
     Ok(names)
 }
@@ -552,14 +583,15 @@ fn view_of(
     Ok(Options {
         look,
         has_header: !found.get_flag("no-header"),
-        columns: names_of(alloc, found.get_strs("columns"))?,
+        columns: columns_of(alloc, found)?,
         sides: sides_of(alloc, found.get_strs("align"))?,
+        names: names_of(alloc, found.get_strs("names"))?,
+        is_numbered: found.get_flag("number"),
         is_padded: is_padded(found),
         head: found.get_one::<u32>("head"),
         tail: found.get_one::<u32>("tail"),
         is_vertical: found.get_flag("vertical"),
         bounds: bounds_of(alloc, found, columns)?,
-        is_omitting: false,
         is_raw: found.get_flag("raw"),
         is_markdown: found.get_flag("markdown"),
     })

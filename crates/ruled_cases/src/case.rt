@@ -46,6 +46,8 @@ impl Case {
             has_header: true,
             columns: Vec::new(alloc),
             sides: Vec::new(alloc),
+            names: Vec::new(alloc),
+            is_numbered: false,
             is_padded: false,
             head: None,
             tail: None,
@@ -55,7 +57,6 @@ impl Case {
                 limits: Vec::new(alloc),
                 overflow: Overflow::Wrap(Breaking::BetweenWords),
             },
-            is_omitting: false,
             is_raw: false,
             is_markdown: false,
         };

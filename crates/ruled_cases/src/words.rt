@@ -84,6 +84,7 @@ fn add(alloc: Global, view: &mut Options, name: &str, value: &str) -> Result<boo
     match name {
         "limit" => view.bounds.limits.push(value.parse().ok())?,
         "column" => view.columns.push(meant(alloc, value)?)?,
+        "name" => view.names.push(meant(alloc, value)?)?,
         "align" => {
             let Some(side) = side_of(value) else {
                 return Ok(false);
@@ -113,6 +114,7 @@ fn set_value(request: &mut Request, name: &str, value: &str) -> Option<()> {
         "stream" => request.rows = Rows::FromFirst(value.parse().ok()?),
         "log" => request.source.set_log(log_of(value)?),
         "no-header" => view.has_header = false,
+        "number" => view.is_numbered = true,
         "raw" => view.is_raw = true,
         "vertical" => view.is_vertical = true,
         "markdown" => {

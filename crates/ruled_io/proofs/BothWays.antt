@@ -1,6 +1,6 @@
 -- A run at once, and a stream whose first rows are all rows.
 use Rattle.std.proofs.Common.{◌≡◌, ◌∙◌, ◌∷◌, ◌≤◌, ℕ, suc, List, [], Bool, true, false, Option, None, Some, length, take, arith, refl, sym, ap, subst}
-use Rattle.std.specs.Prelude.{◌≢◌, ◌==◌, is_some, option_map, if◌then◌else◌}
+use Rattle.std.specs.Prelude.{◌≢◌, ◌==◌, is_some, map, option_map, string_bytes, if◌then◌else◌}
 use Rattle.std.specs.Option.{option_or}
 use Rattle.std.proofs.lemmas.Bool.Decides.{nat_tests}
 use Rattle.std.proofs.lemmas.List.{take_all}
@@ -8,9 +8,11 @@ use Rattle.pg_layout.specs.Text.{Text}
 use Rattle.ruled_csv.specs.Faults.{rows_fault}
 use Rattle.ruled_csv.proofs.SoundRows.{all-sound}
 use Rattle.ruled_json.specs.Streamed.{streamed_line_fault}
+use Rattle.ruled_table.specs.Arranged.{arranged, even, named, numbered, tails}
 use Rattle.ruled_table.specs.Columns.{column_fault}
 use Rattle.ruled_table.specs.Layouts.{first_fault, layout_of, start_fault, whole_text}
-use Rattle.ruled_table.specs.View.{table_fault, table_text, whole_fault, whole_table}
+use Rattle.ruled_table.specs.Shown.{heads}
+use Rattle.ruled_table.specs.View.{all_fault, all_text, table_fault, table_text, whole_fault, whole_table}
 use Rattle.ruled_table.specs.declared.options.Options.{Options}
 use Rattle.ruled_io.specs.Faults.{fault_of_json, fault_of_rows, of_view}
 use Rattle.ruled_io.specs.Formats.{content_of}
@@ -67,7 +69,16 @@ whole-wrong options (row ∷ rows) =
     ap (λ (none : Bool). if none then None else option_map of_view (first_fault options (row ∷ rows))) (not-none (length rows))
     ∙ ap (option_map of_view) (once (column_fault options.columns.items (row ∷ rows)) _ (start_fault (layout_of options (row ∷ rows))))
 
+none-named : (names : List Text) (rows : List (List Text)) → names ≡ [] → named names rows ≡ rows
+none-named [] rows none = refl
+none-named (name ∷ names) rows none = absurd (cc)
+
 module _ (options : Options) (each : ShowsEachRow options) where
+  same-arranged : (rows : List (List Text)) → arranged options rows ≡ rows
+  same-arranged rows =
+      ap (λ (rs : List (List Text)). numbered options (even options rs)) (none-named (map string_bytes options.names.items) rows (ap (map string_bytes) each.names))
+      ∙ rw (each.padded, each.numbered) refl
+
   all-needed : rows_needed options ≡ None
   all-needed = rw (each.padded, each.head) refl
 
@@ -77,7 +88,10 @@ module _ (options : Options) (each : ShowsEachRow options) where
 
     one-wrong : first_wrong options count rows None ≡ option_map of_view (table_fault options rows)
     one-wrong =
-        let whole : table_fault options rows ≡ option_or (column_fault options.columns.items rows) (whole_fault options rows) = rw (each.padded, each.head, each.tail, each.vertical) refl in
+        let whole : table_fault options rows ≡ option_or (column_fault options.columns.items rows) (whole_fault options rows) =
+        ap (λ (rs : List (List Text)). option_or (column_fault options.columns.items rs) (all_fault options (tails options (heads options rs)))) (same-arranged rows)
+        ∙ rw (each.head, each.tail, each.vertical) refl
+        in
         ap (λ (first : List (List Text)). if length rows == 0 then None else option_map of_view (first_fault options first)) all-first
         ∙ whole-wrong options rows ∙ sym (ap (option_map of_view) whole)
 
@@ -86,7 +100,10 @@ module _ (options : Options) (each : ShowsEachRow options) where
 
     one-text : first_wrong options count rows None ≡ None → shown_text options count rows None ≡ table_text options rows
     one-text none =
-        let whole : table_text options rows ≡ whole_table options rows = rw (each.padded, each.head, each.tail, each.vertical) refl in
+        let whole : table_text options rows ≡ whole_table options rows =
+        ap (λ (rs : List (List Text)). all_text options (tails options (heads options rs))) (same-arranged rows)
+        ∙ rw (each.head, each.tail, each.vertical) refl
+        in
         ap (λ (wrong : Option RunFault). if is_some wrong then [] else whole_text options (first_plan options count rows None) rows) none
         ∙ ap (λ (first : List (List Text)). whole_text options (layout_of options first) rows) all-first ∙ sym whole
 

@@ -1,5 +1,5 @@
 -- A law of runs: where all rows are among the first ones, a stream shows what is shown at once.
-use Rattle.std.specs.Prelude.{◌≡◌, ◌≢◌, ◌≤◌, ℕ, false, List, length, None, option_map}
+use Rattle.std.specs.Prelude.{◌≡◌, ◌≢◌, ◌≤◌, ℕ, false, List, [], length, None, option_map}
 use Rattle.pg_layout.specs.Text.{Text}
 use Rattle.ruled_table.specs.View.{table_fault}
 use Rattle.ruled_table.specs.declared.options.Options.{Options}
@@ -17,6 +17,8 @@ use Rattle.ruled_io.specs.declared.request.Rows.TheVariants.{AtOnce, FromFirst}
 
 -- the options that a stream doesn't have are off
 pub record ShowsEachRow (options : Options) : Type 0 where
+  pub names : options.names.items ≡ []
+  pub numbered : options.is_numbered ≡ false
   pub padded : options.is_padded ≡ false
   pub head : options.head ≡ None
   pub tail : options.tail ≡ None

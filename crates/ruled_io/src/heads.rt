@@ -26,7 +26,12 @@ pub(crate) fn rows_needed(options: &Options) -> Option<usize>
     if options.is_padded {
         return None;
     }
-    Some(limit_of(options)?.max(1))
+    let limit = limit_of(options)?;
+    Some(if options.names.is_empty() {
+        limit.max(1)
+    } else {
+        limit.saturating_sub(1)
+    })
 }
 
 // The first rows of separated values, of which these are the first bytes.

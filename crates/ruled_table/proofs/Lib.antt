@@ -1,5 +1,4 @@
 pub mod LentTexts
-pub mod FittingColumns
 pub mod Tables
 pub mod RowsInParts
 pub mod RowPictures

@@ -1,9 +1,26 @@
 -- The rows of a table, of the rows that an input holds.
-use Rattle.std.specs.Prelude.{ℕ, ◌-◌, max, List, [], ◌∷◌, ◌++◌, drop, length, map, slice_index_or, take, Option, Some, None, if◌then◌else◌}
+use Rattle.std.specs.Prelude.{ℕ, ◌+◌, ◌-◌, ◌==◌, max, List, [], ◌∷◌, ◌++◌, drop, length, map, slice_index_or, string_bytes, take, Option, Some, None, if◌then◌else◌}
+use Rattle.std.specs.Fmt.{decimal}
 use Rattle.std.specs.List.{range_with_len}
 use Rattle.pg_layout.specs.Text.{Text}
+use Rattle.ruled_table.specs.LentRows.{fields_at}
 use Rattle.ruled_table.specs.Shown.{heads}
 use Rattle.ruled_table.specs.declared.options.Options.{Options}
+
+-- ---- names
+
+-- so many fields of a row, of which those behind its last one are empty
+abbrev pub padded_to : ℕ → List Text → List Text
+padded_to columns row = fields_at (range_with_len 0 columns) row
+
+-- how many columns names have in front of rows: no fewer than the first of these
+abbrev pub columns_named : List Text → List (List Text) → ℕ
+columns_named names rows = max (length names) (length (slice_index_or rows 0 []))
+
+-- rows with these names in front of them, if there are names
+abbrev pub named : List Text → List (List Text) → List (List Text)
+named [] rows = rows
+named (name ∷ names) rows = padded_to (columns_named (name ∷ names) rows) (name ∷ names) ∷ rows
 
 -- ---- ragged rows
 
@@ -12,17 +29,31 @@ abbrev pub longest : List (List Text) → ℕ
 longest [] = 0
 longest (row ∷ rows) = max (length row) (longest rows)
 
--- so many fields of a row, of which those behind its last one are empty
-abbrev pub padded_to : ℕ → List Text → List Text
-padded_to columns row = map (λ place. slice_index_or row place []) (range_with_len 0 columns)
-
 -- rows of which row 0 has as many fields as the longest row
 abbrev pub padded : List (List Text) → List (List Text)
 padded [] = []
 padded (header ∷ rows) = padded_to (longest (header ∷ rows)) header ∷ rows
 
+abbrev pub even : Options → List (List Text) → List (List Text)
+even options rows = if options.is_padded then padded rows else rows
+
+-- ---- numbers
+
+-- the number of a row; row 0 is a header, and has a sign instead
+abbrev pub label_of : ℕ → Text
+label_of number = if number == 0 then 35 ∷ [] else decimal number
+
+-- rows with their numbers in front, of which the first row has this one
+abbrev pub numbered_from : ℕ → List (List Text) → List (List Text)
+numbered_from first rows = map (λ row. label_of (first + row) ∷ slice_index_or rows row []) (range_with_len 0 (length rows))
+
+abbrev pub numbered : Options → List (List Text) → List (List Text)
+numbered options rows = if options.is_numbered then numbered_from (if options.has_header then 0 else 1) rows else rows
+
+-- ---- the rows of a table
+
 abbrev pub arranged : Options → List (List Text) → List (List Text)
-arranged options rows = if options.is_padded then padded rows else rows
+arranged options rows = numbered options (even options (named (map string_bytes options.names.items) rows))
 
 -- ---- the last rows
 

@@ -1,6 +1,6 @@
 //! The rows of a table, of the rows that an input holds.
 
-ghost use Rattle.std.specs.Prelude.{◌≡◌, length, map, max, IfOk};
+ghost use Rattle.std.specs.Prelude.{◌≡◌, ◌≤◌, ◌∷◌, [], length, map, max, slice_index_or, string_bytes, IfOk};
 ghost use Rattle.csv.specs.Records.{fields_of};
 ghost use Rattle.ruled_table.specs.Arranged as spec;
 
@@ -56,6 +56,124 @@ fn padded(alloc: Global, rows: Vec<StringRecord>) -> Result<Vec<StringRecord>, A
     Ok(padded)
 }
 
+// The text of this name, or none.
+fn name_at(names: &[String], place: usize) -> &str
+    ensures { result.now ≡ slice_index_or (map string_bytes names.now) place [] }
+{
+    match names.get(place) {
+        Some(name) => name.as_str(),
+        None => "",
+    }
+}
+
+// A row of these names, and of empty ones up to so many columns.
+fn row_of_names(alloc: Global, columns: usize, names: &[String]) -> Result<StringRecord, AllocError>
+    ensures { IfOk result (λ row. fields_of row ≡ spec.padded_to columns (map string_bytes names.now)) }
+{
+    let mut row = StringRecord::new(alloc);
+    for place in 0..columns {
+        row.push_field(name_at(names, place))?;
+    }
+    Ok(row)
+}
+
+// How many columns names have in front of rows.
+fn columns_named(names: &[String], rows: &[StringRecord]) -> usize
+    ensures { result ≡ spec.columns_named (map string_bytes names.now) (map fields_of rows.now) }
+{
+    match rows {
+        [first, ..] => longer(names.len(), first),
+        [] => names.len(),
+    }
+}
+
+// Rows with these names in front of them, if there are names.
+fn named(
+    alloc: Global,
+    names: &[String],
+    rows: Vec<StringRecord>,
+) -> Result<Vec<StringRecord>, AllocError>
+    ensures { IfOk result (λ named. map fields_of named.items ≡ spec.named (map string_bytes names.now) (map fields_of rows.items)) }
+{
+    if names.is_empty() {
+        return Ok(rows);
+    }
+    let header = row_of_names(alloc, columns_named(names, &rows), names)?;
+    let mut named = rows;
+    named.insert(0, header)?;
+    Ok(named)
+}
+
+// Rows of one length, as far as row 0 has it.
+fn even(
+    alloc: Global,
+    options: &Options,
+    rows: Vec<StringRecord>,
+) -> Result<Vec<StringRecord>, AllocError>
+    ensures { IfOk result (λ even. map fields_of even.items ≡ spec.even options.now (map fields_of rows.items)) }
+{
+    if options.is_padded {
+        return padded(alloc, rows);
+    }
+    Ok(rows)
+}
+
+// The number of a row, or the sign of a header.
+fn label_of(alloc: Global, number: usize) -> Result<String, AllocError>
+    ensures { IfOk result (λ label. string_bytes label ≡ spec.label_of number) }
+{
+    if number == 0 {
+        return String::from_str(alloc, "#");
+    }
+    format!(in alloc; "{number}")
+}
+
+// A row with its number in front.
+fn with_number(
+    alloc: Global,
+    number: usize,
+    fields: &StringRecord,
+) -> Result<StringRecord, AllocError>
+    ensures { IfOk result (λ row. fields_of row ≡ spec.label_of number ∷ fields_of fields.now) }
+{
+    let mut row = StringRecord::new(alloc);
+    row.push_field(label_of(alloc, number)?.as_str())?;
+    for place in 0..fields.len() {
+        row.push_field(field_at(fields, place))?;
+    }
+    Ok(row)
+}
+
+// Rows with their numbers in front, of which the first row has this one.
+fn numbered_from(
+    alloc: Global,
+    first: usize,
+    rows: &[StringRecord],
+) -> Result<Vec<StringRecord>, AllocError>
+    requires { first ≤ 1 }
+    ensures { IfOk result (λ numbered. map fields_of numbered.items ≡ spec.numbered_from first (map fields_of rows.now)) }
+{
+    let mut numbered = Vec::with_capacity(alloc, rows.len())?;
+    for row in 0..rows.len() {
+        numbered.push(with_number(alloc, first + row, &rows[row])?)?;
+    }
+    Ok(numbered)
+}
+
+// Rows with their numbers in front, if they have any.
+fn numbered(
+    alloc: Global,
+    options: &Options,
+    rows: Vec<StringRecord>,
+) -> Result<Vec<StringRecord>, AllocError>
+    ensures { IfOk result (λ numbered. map fields_of numbered.items ≡ spec.numbered options.now (map fields_of rows.items)) }
+{
+    if options.is_numbered {
+        return numbered_from(alloc, if options.has_header { 0 } else { 1 }, &rows);
+    }
+    Ok(rows)
+}
+
 /// The rows of a table, of the rows that an input holds.
 pub(crate) fn arranged(
     alloc: Global,
@@ -64,8 +182,7 @@ pub(crate) fn arranged(
 ) -> Result<Vec<StringRecord>, AllocError>
     ensures { IfOk result (λ arranged. map fields_of arranged.items ≡ spec.arranged options.now (map fields_of rows.items)) }
 {
-    if options.is_padded {
-        return padded(alloc, rows);
-    }
-    Ok(rows)
+    let rows = named(alloc, &options.names, rows)?;
+    let rows = even(alloc, options, rows)?;
+    numbered(alloc, options, rows)
 }

@@ -11,7 +11,6 @@ mod layout;
 mod lent_rows;
 mod look;
 mod numbers;
-mod omission;
 mod options;
 mod row_lines;
 mod rows;

@@ -18,6 +18,11 @@ pub struct Options {
     /// `None`, is right-aligned if each text below the header is a number or blank, else
     /// left-aligned.
     pub sides: Vec<Option<AlignmentHorizontal>>,
+    /// Row 0, which is in front of all rows of the input, with an empty name for each further column of their first one.
+    /// If no name is listed, row 0 is the first row of the input.
+    pub names: Vec<String>,
+    /// Whether each row has its number in a column in front, in which a header has `#`.
+    pub is_numbered: bool,
     /// Whether row 0 gets an empty name for each further column of the longest row. Else the fields of a row
     /// beyond those of row 0 are left out. Missing fields are empty.
     pub is_padded: bool,
@@ -30,11 +35,6 @@ pub struct Options {
     pub is_vertical: bool,
     /// The greatest widths of the table, or of each block, and of columns.
     pub bounds: Bounds,
-    /// Whether columns in the middle of a table are left out if its width has no room for all, each
-    /// with at most 12 columns of its texts. One column of `…` is in their place, and a line below
-    /// the table says how many columns there are and how many are shown. If `sides` or the limits of
-    /// `bounds` have several words, each for a column of its own, none is left out.
-    pub is_omitting: bool,
     /// Whether control characters are sent as they are.
     pub is_raw: bool,
     /// Whether texts are escaped, so that Markdown reads each as one cell: a bar is `\|`, a backslash
