@@ -592,6 +592,7 @@ fn view_of(
         tail: found.get_one::<u32>("tail"),
         is_vertical: found.get_flag("vertical"),
         bounds: bounds_of(alloc, found, columns)?,
+        is_omitting: false,
         is_raw: found.get_flag("raw"),
         is_markdown: found.get_flag("markdown"),
     })

@@ -57,6 +57,7 @@ impl Case {
                 limits: Vec::new(alloc),
                 overflow: Overflow::Wrap(Breaking::BetweenWords),
             },
+            is_omitting: false,
             is_raw: false,
             is_markdown: false,
         };

@@ -1,9 +1,10 @@
 -- Rows whose texts are fields of records, with names, sizes and escapes, and those that are shown.
-use Rattle.std.proofs.Common.{◌≡◌, ◌<◌, ◌∙◌, ◌∷◌, ℕ, zero, suc, Bool, true, false, List, [], map, length, slice_index_or, All, encode_utf8_all, flat_map, refl, sym, ap, arith, ap₂, Some, None, ◌==◌, ◌||◌, ◌++◌, not, chars, encode_utf8, IsUtf8, ◌+◌, ◌-◌, max, take, drop, get_or, append_assoc}
+use Rattle.std.proofs.Common.{◌≡◌, ◌<◌, ◌∙◌, ◌∷◌, ℕ, zero, suc, Bool, true, false, List, Option, [], map, length, slice_index_or, All, encode_utf8_all, flat_map, refl, sym, ap, arith, ap₂, Some, None, ◌==◌, ◌||◌, ◌++◌, not, chars, encode_utf8, IsUtf8, ◌+◌, ◌-◌, ◌/◌, max, take, drop, get_or, append_assoc}
 use Rattle.std.proofs.lemmas.List.{length-map, drop-map, drop_more, map-append, take-map, take_more}
 use Rattle.std.proofs.lemmas.List.Elements.{All-map}
+use Rattle.std.proofs.Math.Utf8.{encode}
 use Rattle.std.proofs.lemmas.Simd.{map-map}
-use Rattle.std.proofs.lemmas.Str.{chars-nil, encodes-chars}
+use Rattle.std.proofs.lemmas.Str.{chars-encodes, chars-nil, encodes-chars}
 use Rattle.std.specs.Prelude.{if◌then◌else◌}
 use Rattle.csv.specs.Records.{Row, fields_of, field_at}
 use Rattle.pg_layout.specs.Records.{columns_of}
@@ -11,8 +12,10 @@ use Rattle.pg_layout.specs.Text.{Text}
 use Rattle.pg_config.specs.Config.{Config}
 use Rattle.pg_fit.specs.Controls.{sign_of, visible_text}
 use Rattle.ruled_table.specs.Blocks.{pair_at, block_fault, block_of, names_in, places_in, record_block, record_fault}
+use Rattle.ruled_table.specs.Columns.{drawn_at, ellipsis}
+use Rattle.ruled_table.specs.Omitted.{abridged}
 use Rattle.ruled_table.specs.Escapes.{escape_of, escaped_text, is_plain}
-use Rattle.ruled_table.specs.LentRows.{fields_at}
+use Rattle.ruled_table.specs.LentRows.{fields_at, texts_at}
 use Rattle.ruled_table.specs.Shown.{seen_text, shown_row, shown_text, look_config}
 use Rattle.ruled_table.specs.declared.options.Options.{Options}
 use Rattle.ruled_table.specs.Named.{HasNames}
@@ -34,11 +37,11 @@ use Rattle.ruled_table.specs.Sides.{with_side, with_sides}
 -- ---- rows of one length
 
 -- where there is a row, there are as many columns as places
-pub columns-some : (places : List ℕ) (records : List Row) → 0 < length records → columns_of (map (λ fields. fields_at places (fields_of fields)) records) ≡ length places
+pub columns-some : (places : List (Option ℕ)) (records : List Row) → 0 < length records → columns_of (map (λ fields. fields_at places (fields_of fields)) records) ≡ length places
 columns-some places [] some = absurd (omega (arith, some))
 columns-some places (row ∷ rows) some = length-map places _
 
-pub even-lent : (places : List ℕ) (records : List Row) → All (λ row. length row ≡ columns_of (map (λ fields. fields_at places (fields_of fields)) records)) (map (λ fields. fields_at places (fields_of fields)) records)
+pub even-lent : (places : List (Option ℕ)) (records : List Row) → All (λ row. length row ≡ columns_of (map (λ fields. fields_at places (fields_of fields)) records)) (map (λ fields. fields_at places (fields_of fields)) records)
 even-lent places [] = λ k d h. absurd (omega (arith, h))
 even-lent places (row ∷ rows) =
     let n : ℕ = length (fields_at places (fields_of row)) in
@@ -46,10 +49,10 @@ even-lent places (row ∷ rows) =
 
 -- rows of two texts are their own first two
 pub pairs-lent : (names texts : List Text) (columns : List ℕ) (records : List Row) → map fields_of records ≡ map (pair_at names texts) columns
-    → map (λ fields. fields_at (0 ∷ 1 ∷ []) (fields_of fields)) records ≡ map (pair_at names texts) columns
-pairs-lent names texts columns records are = sym (map-map (fields_at (0 ∷ 1 ∷ [])) fields_of records) ∙ ap (map (fields_at (0 ∷ 1 ∷ []))) are ∙ firsts columns
+    → map (λ fields. fields_at (Some 0 ∷ Some 1 ∷ []) (fields_of fields)) records ≡ map (pair_at names texts) columns
+pairs-lent names texts columns records are = sym (map-map (fields_at (Some 0 ∷ Some 1 ∷ [])) fields_of records) ∙ ap (map (fields_at (Some 0 ∷ Some 1 ∷ []))) are ∙ firsts columns
   where
-    firsts : (ks : List ℕ) → map (fields_at (0 ∷ 1 ∷ [])) (map (pair_at names texts) ks) ≡ map (pair_at names texts) ks
+    firsts : (ks : List ℕ) → map (fields_at (Some 0 ∷ Some 1 ∷ [])) (map (pair_at names texts) ks) ≡ map (pair_at names texts) ks
     firsts [] = refl
     firsts (k ∷ ks) = ap (λ (rows : List (List Text)). pair_at names texts k ∷ rows) (firsts ks)
 
@@ -69,6 +72,25 @@ none-shown true false = ap escaped_text visible-none ∙ escaped-none
 none-shown false true = refl
 none-shown false false = visible-none
 
+-- a `…` is shown as it is
+ellipsis-chars : chars ellipsis ≡ 8230 ∷ []
+unfolding encode
+ellipsis-chars = chars-encodes (8230 ∷ []) refl
+
+visible-ellipsis : visible_text ellipsis ≡ ellipsis
+unfolding visible_text encode
+visible-ellipsis = ap (λ (cs : List ℕ). encode_utf8_all (map sign_of cs)) ellipsis-chars
+
+escaped-ellipsis : escaped_text ellipsis ≡ ellipsis
+unfolding escaped_text encode
+escaped-ellipsis = ap (flat_map escape_of) ellipsis-chars
+
+ellipsis-shown : (is_markdown is_raw : Bool) → (if is_markdown then escaped_text (seen_text is_raw ellipsis) else seen_text is_raw ellipsis) ≡ ellipsis
+ellipsis-shown true true = escaped-ellipsis
+ellipsis-shown true false = ap escaped_text visible-ellipsis ∙ escaped-ellipsis
+ellipsis-shown false true = refl
+ellipsis-shown false false = visible-ellipsis
+
 -- a field that isn't there is shown as an empty one
 field-shown : (options : Options) (row : List Text) (place : ℕ) → slice_index_or (map (shown_text options) row) place [] ≡ shown_text options (slice_index_or row place [])
 field-shown options [] zero = sym (none-shown options.is_markdown options.is_raw)
@@ -76,13 +98,17 @@ field-shown options [] (suc place) = sym (none-shown options.is_markdown options
 field-shown options (x ∷ xs) zero = refl
 field-shown options (x ∷ xs) (suc place) = field-shown options xs place
 
-pub row-shown : (options : Options) (row : List Text) (places : List ℕ) → fields_at places (map (shown_text options) row) ≡ shown_row options places row
+drawn-shown : (options : Options) (row : List Text) (place : Option ℕ) → drawn_at (map (shown_text options) row) place ≡ shown_text options (drawn_at row place)
+drawn-shown options row (Some place) = field-shown options row place
+drawn-shown options row None = sym (ellipsis-shown options.is_markdown options.is_raw)
+
+pub row-shown : (options : Options) (row : List Text) (places : List (Option ℕ)) → fields_at places (map (shown_text options) row) ≡ shown_row options places row
 row-shown options row [] = refl
 row-shown options row (place ∷ places) =
-    ap (λ (t : Text). t ∷ fields_at places (map (shown_text options) row)) (field-shown options row place)
-    ∙ ap (λ (ts : List Text). shown_text options (slice_index_or row place []) ∷ ts) (row-shown options row places)
+    ap (λ (t : Text). t ∷ fields_at places (map (shown_text options) row)) (drawn-shown options row place)
+    ∙ ap (λ (ts : List Text). shown_text options (drawn_at row place) ∷ ts) (row-shown options row places)
 
-pub rows-shown : (options : Options) (places : List ℕ) (rows : List (List Text)) → map (fields_at places) (map (map (shown_text options)) rows) ≡ map (shown_row options places) rows
+pub rows-shown : (options : Options) (places : List (Option ℕ)) (rows : List (List Text)) → map (fields_at places) (map (map (shown_text options)) rows) ≡ map (shown_row options places) rows
 rows-shown options places [] = refl
 rows-shown options places (row ∷ rows) =
     ap (λ (ts : List Text). ts ∷ map (fields_at places) (map (map (shown_text options)) rows)) (row-shown options row places)
@@ -90,15 +116,15 @@ rows-shown options places (row ∷ rows) =
 
 -- ---- the blocks of records whose fields have names
 
-module _ (options : Options) (rows : List (List Text)) (blocks : Blocks) (has : HasNames options rows blocks) (places : List ℕ) (at : places ≡ blocks.places.items) (fields row : List Text) (shown : fields ≡ map (shown_text options) row) where
+module _ (options : Options) (rows : List (List Text)) (blocks : Blocks) (has : HasNames options rows blocks) (places : List (Option ℕ)) (at : places ≡ blocks.places.items) (fields row : List Text) (shown : fields ≡ map (shown_text options) row) where
   names-same : fields_at places (fields_of blocks.names) ≡ names_in options rows
   names-same =
       ap (fields_at places) has.named
       ∙ row-shown options (slice_index_or rows 0 []) places
-      ∙ ap (λ (ps : List ℕ). shown_row options ps (slice_index_or rows 0 [])) (at ∙ has.at)
+      ∙ ap (λ (ps : List (Option ℕ)). shown_row options ps (slice_index_or rows 0 [])) (at ∙ has.at)
 
   texts-same : fields_at places fields ≡ shown_row options (places_in options rows) row
-  texts-same = ap (fields_at places) shown ∙ row-shown options row places ∙ ap (λ (ps : List ℕ). shown_row options ps row) (at ∙ has.at)
+  texts-same = ap (fields_at places) shown ∙ row-shown options row places ∙ ap (λ (ps : List (Option ℕ)). shown_row options ps row) (at ∙ has.at)
 
   pub block-same : block_of blocks.options.now.bounds blocks.config (fields_at places (fields_of blocks.names)) (fields_at places fields) ≡ record_block options rows row
   block-same =
@@ -111,6 +137,24 @@ module _ (options : Options) (rows : List (List Text)) (blocks : Blocks) (has : 
       ap (λ (o : Options). block_fault o.bounds blocks.config (fields_at places (fields_of blocks.names)) (fields_at places fields)) has.asked
       ∙ ap (λ (c : Config). block_fault options.bounds c (fields_at places (fields_of blocks.names)) (fields_at places fields)) has.looks
       ∙ ap₂ (block_fault options.bounds (look_config options.look)) names-same texts-same
+
+-- ---- texts of which some are left out
+
+-- those of the places that stay
+row-abridged : (shown : ℕ) (places : List (Option ℕ)) (row : List Text) → fields_at (abridged shown None places) row ≡ abridged shown ellipsis (fields_at places row)
+row-abridged shown places row =
+    let front : ℕ = shown - shown / 2 in
+    let back : ℕ = shown / 2 in
+    map-append (drawn_at row) (take front places) (None ∷ drop (length places - back) places)
+    ∙ ap (λ (ts : List Text). ts ++ ellipsis ∷ map (drawn_at row) (drop (length places - back) places)) (sym (take-map (drawn_at row) front places))
+    ∙ ap (λ (ts : List Text). take front (fields_at places row) ++ ellipsis ∷ ts) (sym (drop-map (drawn_at row) (length places - back) places))
+    ∙ ap (λ (n : ℕ). take front (fields_at places row) ++ ellipsis ∷ drop (n - back) (fields_at places row)) (sym (length-map places (drawn_at row)))
+
+pub rows-abridged : (shown : ℕ) (places : List (Option ℕ)) (records : List Row) → texts_at (abridged shown None places) records ≡ map (abridged shown ellipsis) (texts_at places records)
+rows-abridged shown places [] = refl
+rows-abridged shown places (row ∷ rows) =
+    ap (λ (ts : List Text). ts ∷ texts_at (abridged shown None places) rows) (row-abridged shown places (fields_of row))
+    ∙ ap (λ (xs : List (List Text)). abridged shown ellipsis (fields_at places (fields_of row)) ∷ xs) (rows-abridged shown places rows)
 
 -- ---- a field by its place
 
@@ -211,7 +255,7 @@ last-kept {X} {Y} f xs count end is some =
 
 -- ---- the sides of one column more
 
-range_more : (n : ℕ) → range_with_len 0 (n + 1) ≡ range_with_len 0 n ++ n ∷ []
+pub range_more : (n : ℕ) → range_with_len 0 (n + 1) ≡ range_with_len 0 n ++ n ∷ []
 range_more n =
     let same : ℕ → ℕ = λ n. n in
     sym (same_numbers (range_with_len 0 (n + 1)))

@@ -1,4 +1,5 @@
 pub mod LentTexts
+pub mod FittingColumns
 pub mod Tables
 pub mod RowsInParts
 pub mod RowPictures

@@ -26,7 +26,7 @@ use Rattle.pg_table.specs.declared.overflow.Overflow.{Overflow}
 use Rattle.ruled_table.specs.LentRows.{fields_at, texts_at}
 use Rattle.ruled_table.specs.Layouts.{cells_of, cells_within, heights_of, start_of, table_of, whole_of, whole_text}
 use Rattle.ruled_table.specs.Plans.{Plan}
-use Rattle.ruled_table.specs.RowLines.{HasPrinted, after_rows, begun_of, begun_text, ended, ended_by, lines_of, next_lines}
+use Rattle.ruled_table.specs.RowLines.{HasPrinted, after_rows, begun_of, begun_text, ended, lines_of, next_lines, note_below}
 use Rattle.ruled_table.specs.Shown.{shown_row}
 use Rattle.ruled_table.specs.Widths.{texts_within}
 use Rattle.ruled_table.specs.declared.options.Options.{Options}
@@ -162,16 +162,33 @@ nothing-ended : (plan : Plan) (heights : ℕ → ℕ) → finish_text (start_of 
 unfolding finish_text finish_lines lines_printed printer continued joined
 nothing-ended plan heights = refl
 
-whole-some : (plan : Plan) (cells : List Text) (rows : List (List Text)) → picture Unknown (table_of plan (cells ∷ rows)) ++ 10 ∷ [] ≡ whole_of plan (cells ∷ rows)
+whole-some : (plan : Plan) (cells : List Text) (rows : List (List Text)) → picture Unknown (table_of plan (cells ∷ rows)) ++ 10 ∷ plan.note ≡ whole_of plan (cells ∷ rows)
 whole-some plan cells rows =
     let some : (length (cells ∷ rows) == 0) ≡ false = grind (arith, nat_tests) in
     rw some refl
 
+-- the line below a table, where there are rows
+abbrev pub below : Plan → List (List Text) → Text
+below plan cells = note_below (nat_lt 0 (length cells)) plan.note
+
+below-some : (plan : Plan) (cells : List Text) (rows : List (List Text)) → below plan (cells ∷ rows) ≡ plan.note
+below-some plan cells rows =
+    let some : nat_lt 0 (length (cells ∷ rows)) ≡ true = grind (arith, nat_tests) in
+    rw some refl
+
 whole-rows : (plan : Plan) (cells : List (List Text)) → plan.config.spans ≡ [] → 0 < length plan.places → All (λ row. length row ≡ length plan.places) cells
-    → begun_of plan cells ++ ended (finish_text (after_rows (start_of plan (heights_of cells)) cells)) ≡ whole_of plan cells
+    → begun_of plan cells ++ (ended (finish_text (after_rows (start_of plan (heights_of cells)) cells)) ++ below plan cells) ≡ whole_of plan cells
 unfolding lines_of after_rows
-whole-rows plan [] none wide even = ap ended (nothing-ended plan (heights_of []))
-whole-rows plan (cells ∷ rows) none wide even = first-rows plan cells rows none wide even ∙ whole-some plan cells rows
+whole-rows plan [] none wide even = ap (λ (t : Text). ended t ++ []) (nothing-ended plan (heights_of []))
+whole-rows plan (cells ∷ rows) none wide even =
+    let all : List (List Text) = cells ∷ rows in
+    let end : Text = ended (finish_text (after_rows (start_of plan (heights_of all)) all)) in
+    let drawn : Text = picture Unknown (table_of plan all) in
+    ap (λ (t : Text). begun_of plan all ++ (end ++ t)) (below-some plan cells rows)
+    ∙ sym (append_assoc (begun_of plan all) end plan.note)
+    ∙ ap (λ (t : Text). t ++ plan.note) (first-rows plan cells rows none wide even)
+    ∙ append_assoc drawn (10 ∷ []) plan.note
+    ∙ whole-some plan cells rows
 
 -- ---- a table without spans may end behind each row
 
@@ -209,9 +226,9 @@ module _ (plan : Plan) (cells : List (List Text)) (state : (ℕ → ℕ) → Liv
   ends-here = subst (λ (t : Living). MayEnd t.printed) (sym here) (may-end (start_of plan own) cells (start-spans plan own ∙ plain) (start-hint plan own))
 
   -- the end makes the whole of the rows
-  pub ends-whole : (end : Text) → 0 < length plan.places → All (λ row. length row ≡ length plan.places) cells → end ≡ finish_text (state (heights_of cells)).printed → begun_of plan cells ++ ended_by true end ≡ whole_of plan cells
+  pub ends-whole : (end : Text) → 0 < length plan.places → All (λ row. length row ≡ length plan.places) cells → end ≡ finish_text (state (heights_of cells)).printed → begun_of plan cells ++ (ended end ++ below plan cells) ≡ whole_of plan cells
   ends-whole end wide even is =
-      ap (λ (t : Text). begun_of plan cells ++ ended t) (is ∙ ap (λ (t : Living). finish_text t.printed) here)
+      ap (λ (t : Text). begun_of plan cells ++ (ended t ++ below plan cells)) (is ∙ ap (λ (t : Living). finish_text t.printed) here)
       ∙ whole-rows plan cells plain wide even
 
 -- ---- rows as they are shown
@@ -235,6 +252,6 @@ even-lent overflow plan (fields ∷ records) (suc i) d less = even-lent overflow
 -- their lines are a beginning of the whole
 pub begun-whole : (options : Options) (plan : Plan) (rows : List (List Text)) → plan.config.spans ≡ [] → 0 < length plan.places → (more : Text) × (begun_text options plan rows ++ more ≡ whole_text options plan rows)
 begun-whole options plan rows plain wide = (
-  ended (finish_text (after_rows (start_of plan (heights_of (cells_of options plan rows))) (cells_of options plan rows))),
+  ended (finish_text (after_rows (start_of plan (heights_of (cells_of options plan rows))) (cells_of options plan rows))) ++ below plan (cells_of options plan rows),
   whole-rows plan (cells_of options plan rows) plain wide (even-cells options plan rows),
 )

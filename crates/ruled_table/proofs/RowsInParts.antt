@@ -1,5 +1,5 @@
 -- Rows that are drawn one after another, in parts, and why one isn't.
-use Rattle.std.proofs.Common.{◌≡◌, ◌+◌, ℕ, true, false, List, [], ◌∷◌, ◌++◌, length, map, slice_index_or, None, refl, sym, ap, ap₂, ◌∙◌, subst, append-nil, append_assoc, length-append, add-zero, zero-add, arith, ◌<◌, get_or, take, ◌≤◌, drop, length-drop, Result, Ok, Err, ◌-◌, suc}
+use Rattle.std.proofs.Common.{◌≡◌, ◌+◌, ℕ, true, false, List, [], ◌∷◌, ◌++◌, length, map, slice_index_or, None, refl, sym, ap, ap₂, ◌∙◌, subst, append-nil, append_assoc, length-append, add-zero, zero-add, arith, ◌<◌, get_or, take, ◌≤◌, drop, length-drop, Result, Ok, Err, Option, ◌-◌}
 use Rattle.std.specs.Prelude.{nat_lt}
 use Rattle.std.proofs.lemmas.Bool.Decides.{nat_tests}
 use Rattle.std.proofs.Math.Seq.{get_or-append_seam}
@@ -14,11 +14,13 @@ use Rattle.pg_stream.specs.LiveStreams.{Living}
 use Rattle.pg_stream.specs.Printing.{Printing, after_row, printer, row_text}
 use Rattle.pg_stream.specs.SizedStreams.{CountsLines, IsNextHeight}
 use Rattle.pg_stream.proofs.SizedRows.{after_row-by, count-lines, row_text-by}
-use Rattle.ruled_table.specs.Layouts.{cells_of, heights_of, start_of, cells_within, but_last, config_in, layout_by, layout_of, measured_in, places_in, ruler_of, sizes_fault_by, texts_in}
+use Rattle.ruled_table.specs.Layouts.{cells_of, heights_of, start_of, cells_within, but_last, layout_by, layout_of, measured_in, places_in, plan_by, plan_fault, ruler_of, sizes_fault_by}
+use Rattle.ruled_table.specs.Columns.{ellipsis}
+use Rattle.ruled_table.specs.Omitted.{abridged, note_of, shown_columns}
 use Rattle.ruled_table.specs.Plans.{Plan, plan_of}
 use Rattle.ruled_table.specs.RowLines.{AreHeights, HasPrinted, after_rows, begun_of, begun_text, ended_by, lines_of, next_lines, GrowsTo, TellsRoom}
 use Rattle.ruled_table.specs.Shown.{shown_row, shown_text}
-use Rattle.ruled_table.specs.Widths.{row_within, room_of, text_within, texts_within, first_config, widths_fault, widths_of}
+use Rattle.ruled_table.specs.Widths.{row_within, room_of, text_within, texts_within, first_config, widths_of}
 use Rattle.ruled_table.specs.declared.options.Options.{Options}
 use Rattle.csv.specs.Records.{Row, fields_of}
 use Rattle.pg_table.specs.declared.overflow.Overflow.{Overflow}
@@ -28,7 +30,7 @@ use Rattle.std.proofs.lemmas.Bool.{true≢false}
 use Rattle.pg_stream.specs.Streams.{OnlyMemory, TellsRow}
 use Rattle.pg_stream.specs.declared.fault.StreamFault.{StreamFault}
 use Rattle.pg_stream.specs.declared.fault.StreamFault.TheVariants as stream
-use Rattle.ruled_table.specs.Faults.{fault_of_stream, is_memory, totals_of}
+use Rattle.ruled_table.specs.Faults.{fault_of_stream, is_memory}
 use Rattle.ruled_table.specs.declared.fault.ViewFault.{ViewFault}
 use Rattle.ruled_table.specs.declared.fault.ViewFault.TheVariants.{Memory, Totals}
 use Rattle.std.proofs.lemmas.Simd.{map-map}
@@ -292,18 +294,18 @@ grown begun whole old new grows is = grows.bytes ∙ ap (λ (t : Text). t ++ gro
 -- ---- the texts of a row within their columns, one after another
 
 -- one text more is made of the fields at these places
-module _ {X : Type 0} (view : X → Text) (overflow : Overflow) (width : ℕ → ℕ) (f : ℕ → Text) (places : List ℕ) where
+module _ {X : Type 0} (view : X → Text) (overflow : Overflow) (width : ℕ → ℕ) (f : Option ℕ → Text) (places : List (Option ℕ)) where
   pub within-next : (made next : List X) (i : ℕ) → i < length places
-      → map view next ≡ map view made ++ text_within overflow (room_of width (length made)) (f (slice_index_or places i 0)) ∷ []
+      → map view next ≡ map view made ++ text_within overflow (room_of width (length made)) (f (slice_index_or places i None)) ∷ []
       → map view made ++ texts_within (length made) overflow width (map f (drop i places)) ≡ row_within overflow width (map f places)
       → map view next ++ texts_within (length next) overflow width (map f (drop (i + 1) places)) ≡ row_within overflow width (map f places)
   within-next made next i within is before =
       let cells : List Text = map view made in
-      let cell : Text = text_within overflow (room_of width (length made)) (f (slice_index_or places i 0)) in
+      let cell : Text = text_within overflow (room_of width (length made)) (f (slice_index_or places i None)) in
       let many : length next ≡ length made + 1 =
       sym (length-map next view) ∙ ap (λ (ts : List Text). length ts) is ∙ length_push cells cell ∙ ap (λ (n : ℕ). n + 1) (length-map made view)
       in
-      let steps = at_drop_more (λ (ps : List ℕ). texts_within (length made) overflow width (map f ps)) places i 0 within in
+      let steps = at_drop_more (λ (ps : List (Option ℕ)). texts_within (length made) overflow width (map f ps)) places i None within in
       ap (λ (n : ℕ). map view next ++ texts_within n overflow width (map f (drop (i + 1) places))) many
       ∙ ap (λ (ts : List Text). ts ++ texts_within (length made + 1) overflow width (map f (drop (i + 1) places))) is
       ∙ append_assoc cells (cell ∷ []) (texts_within (length made + 1) overflow width (map f (drop (i + 1) places)))
@@ -357,24 +359,13 @@ handed-on found (Err told) is memory fault same = let e : told ≡ fault = cc in
 
 -- ---- rows with a ruler below them
 
--- the others of a list and its last
-pub all-but-last : {X : Type 0} (xs : List X) (x : X) → but_last (xs ++ x ∷ []) ≡ xs
-all-but-last [] x = refl
-all-but-last {X} (y ∷ ys) x =
-    let e : length ((y ∷ ys) ++ x ∷ []) - 1 ≡ suc (length ys) = omega (arith, length-append ys (x ∷ [])) in
-    ap (λ (n : ℕ). take n ((y ∷ ys) ++ x ∷ [])) e ∙ ap (λ (zs : List X). y ∷ zs) (firsts ys x)
-  where
-    firsts : {X : Type 0} (zs : List X) (x : X) → take (length zs) (zs ++ x ∷ []) ≡ zs
-    firsts [] x = refl
-    firsts {X} (z ∷ zs) x = ap (λ (ws : List X). z ∷ ws) (firsts zs x)
-
 -- the ruler of a row is as long as the row, whatever is shown of it
 ruler-shown : (f : Text → Text) (rows : List (List Text)) → ruler_of (slice_index_or (map (map f) rows) 0 []) ≡ ruler_of (slice_index_or rows 0 [])
 ruler-shown f [] = refl
 ruler-shown f (row ∷ rows) = map-map (λ (field : Text). 48 ∷ []) f row
 
 -- the texts of rows that are shown, and of the ruler below them
-pub measured-texts : (options : Options) (places : List ℕ) (rows : List (List Text)) (measured : List Row)
+pub measured-texts : (options : Options) (places : List (Option ℕ)) (rows : List (List Text)) (measured : List Row)
     → map fields_of measured ≡ map (map (shown_text options)) rows ++ ruler_of (slice_index_or (map (map (shown_text options)) rows) 0 []) ∷ []
     → texts_at places measured ≡ map (shown_row options places) rows ++ fields_at places (ruler_of (slice_index_or rows 0 [])) ∷ []
 measured-texts options places rows measured are =
@@ -383,19 +374,6 @@ measured-texts options places rows measured are =
     ∙ ap (map (fields_at places)) are
     ∙ map-append (fields_at places) shown (ruler_of (slice_index_or shown 0 []) ∷ [])
     ∙ ap₂ (λ (xs : List (List Text)) (row : List Text). xs ++ fields_at places row ∷ []) (rows-shown options places rows) (ruler-shown (shown_text options) rows)
-
-module _ (options : Options) (first : List (List Text)) where
-  -- their layout
-  pub layout-measured : layout_by options (places_in options first) (measured_in options first) ≡ layout_of options first
-  layout-measured =
-      let plan : List (List Text) → Plan = λ texts. record { places = places_in options first; config = first_config options texts; width = widths_of options.bounds (first_config options texts) (measured_in options first) } in
-      ap plan (all-but-last (texts_in options first) (fields_at (places_in options first) (ruler_of (slice_index_or first 0 []))))
-
-  -- and what is wrong with their sizes
-  pub sizes-measured : sizes_fault_by options (measured_in options first) ≡ totals_of (widths_fault options.bounds (config_in options first) (measured_in options first))
-  sizes-measured =
-      ap (λ (texts : List (List Text)). totals_of (widths_fault options.bounds (first_config options texts) (measured_in options first)))
-      (all-but-last (texts_in options first) (fields_at (places_in options first) (ruler_of (slice_index_or first 0 []))))
 
 -- ---- rows and the ruler below them, as they are lent
 
@@ -411,34 +389,53 @@ ruled options rows ruler measured stand is are =
 pub but-last-map : {X Y : Type 0} (f : X → Y) (xs : List X) → map f (but_last xs) ≡ but_last (map f xs)
 but-last-map f xs = sym (take-map f (length xs - 1) xs) ∙ ap (λ (n : ℕ). take (n - 1) (map f xs)) (sym (length-map xs f))
 
--- the layout that is made of its parts
-pub layout-made : (options : Options) (places : List ℕ) (measured rows : List (List Text)) (config : Config) (width : ℕ → ℕ) → rows ≡ but_last measured → config ≡ first_config options rows → width ≡ widths_of options.bounds config measured
-    → plan_of places config width ≡ layout_by options places measured
-layout-made options places measured rows config width above looks wide =
+-- the plan that is made of its parts
+pub plan-made : (options : Options) (places : List (Option ℕ)) (note below : Text) (measured rows : List (List Text)) (config : Config) (width : ℕ → ℕ) → rows ≡ but_last measured → config ≡ first_config options rows
+    → width ≡ widths_of options.bounds config measured → below ≡ note → plan_of places config width below ≡ plan_by options places note measured
+plan-made options places note below measured rows config width above looks wide same =
     let config-is : config ≡ first_config options (but_last measured) = looks ∙ ap (first_config options) above in
-    ap₂ (plan_of places) config-is (wide ∙ ap (λ (c : Config). widths_of options.bounds c measured) config-is)
+    ap (plan_of places config width) same
+    ∙ ap₂ (λ (c : Config) (w : ℕ → ℕ). plan_of places c w note) config-is (wide ∙ ap (λ (c : Config). widths_of options.bounds c measured) config-is)
 
-module _ (options : Options) (rows : List (List Text)) (places : List ℕ) (measured : List Row) (at : places ≡ places_in options rows)
+module _ (options : Options) (rows : List (List Text)) (places : List (Option ℕ)) (measured : List Row) (at : places ≡ places_in options rows)
     (are : map fields_of measured ≡ map (map (shown_text options)) rows ++ ruler_of (slice_index_or (map (map (shown_text options)) rows) 0 []) ∷ []) where
   -- the texts of both
-  pub lent-measured : texts_at places measured ≡ measured_in options rows
+  lent-measured : texts_at places measured ≡ measured_in options rows
   lent-measured =
       measured-texts options places rows measured are
-      ∙ ap (λ (ps : List ℕ). map (shown_row options ps) rows ++ fields_at ps (ruler_of (slice_index_or rows 0 [])) ∷ []) at
+      ∙ ap (λ (ps : List (Option ℕ)). map (shown_row options ps) rows ++ fields_at ps (ruler_of (slice_index_or rows 0 [])) ∷ []) at
 
-  -- of the rows alone
-  pub lent-above : texts_at places (but_last measured) ≡ texts_in options rows
-  lent-above =
-      but-last-map (λ fields. fields_at places (fields_of fields)) measured
-      ∙ ap but_last lent-measured
-      ∙ all-but-last (texts_in options rows) (fields_at (places_in options rows) (ruler_of (slice_index_or rows 0 [])))
-
+  -- their layout, and what is wrong with their sizes
   pub layout-lent : layout_by options places (texts_at places measured) ≡ layout_of options rows
-  layout-lent =
-      ap (layout_by options places) lent-measured
-      ∙ ap (λ (ps : List ℕ). layout_by options ps (measured_in options rows)) at
-      ∙ layout-measured options rows
+  layout-lent = ap₂ (layout_by options) at lent-measured
 
-  pub sizes-lent : sizes_fault_by options (texts_at places measured) ≡ totals_of (widths_fault options.bounds (config_in options rows) (measured_in options rows))
-  sizes-lent = ap (sizes_fault_by options) lent-measured ∙ sizes-measured options rows
-  -- the text of the table of this layout
+  pub sizes-lent : sizes_fault_by options places (texts_at places measured) ≡ sizes_fault_by options (places_in options rows) (measured_in options rows)
+  sizes-lent = ap₂ (sizes_fault_by options) at lent-measured
+
+-- ---- columns that are left out, or none
+
+module _ (options : Options) (places : List (Option ℕ)) (measured : List (List Text)) (shown columns : ℕ) (is : shown ≡ shown_columns options measured columns) (many : columns ≡ length places) where
+  stays : shown_columns options measured (length places) ≡ shown
+  stays = sym (is ∙ ap (shown_columns options measured) many)
+
+  module _ (all : columns ≤ shown) where
+    none : nat_lt (shown_columns options measured (length places)) (length places) ≡ false
+    none = rw stays (grind (arith, nat_tests, all, many))
+
+    pub all-laid : plan_by options places [] measured ≡ layout_by options places measured
+    all-laid = rw none refl
+
+    pub all-fault : plan_fault options measured ≡ sizes_fault_by options places measured
+    all-fault = rw none refl
+
+  module _ (few : shown < columns) where
+    some : nat_lt (shown_columns options measured (length places)) (length places) ≡ true
+    some = rw stays (grind (arith, nat_tests, few, many))
+
+    pub some-laid : plan_by options (abridged shown None places) (note_of columns shown) (map (abridged shown ellipsis) measured) ≡ layout_by options places measured
+    some-laid =
+        ap₂ (λ (s c : ℕ). plan_by options (abridged s None places) (note_of c s) (map (abridged s ellipsis) measured)) (sym stays) many
+        ∙ rw some refl
+
+    pub some-fault : plan_fault options (map (abridged shown ellipsis) measured) ≡ sizes_fault_by options places measured
+    some-fault = ap (λ (s : ℕ). plan_fault options (map (abridged s ellipsis) measured)) (sym stays) ∙ rw some refl

@@ -3,7 +3,6 @@ use Rattle.std.specs.Prelude.{ℕ, ◌+◌, ◌-◌, ◌==◌, max, List, [], �
 use Rattle.std.specs.Fmt.{decimal}
 use Rattle.std.specs.List.{range_with_len}
 use Rattle.pg_layout.specs.Text.{Text}
-use Rattle.ruled_table.specs.LentRows.{fields_at}
 use Rattle.ruled_table.specs.Shown.{heads}
 use Rattle.ruled_table.specs.declared.options.Options.{Options}
 
@@ -11,7 +10,7 @@ use Rattle.ruled_table.specs.declared.options.Options.{Options}
 
 -- so many fields of a row, of which those behind its last one are empty
 abbrev pub padded_to : ℕ → List Text → List Text
-padded_to columns row = fields_at (range_with_len 0 columns) row
+padded_to columns row = map (λ place. slice_index_or row place []) (range_with_len 0 columns)
 
 -- how many columns names have in front of rows: no fewer than the first of these
 abbrev pub columns_named : List Text → List (List Text) → ℕ

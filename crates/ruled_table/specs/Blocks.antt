@@ -29,7 +29,7 @@ block_fault bounds config names texts = fault_with bounds config (pairs_of names
 
 -- of rows, of which the first has the names
 module _ (options : Options) (rows : List (List Text)) where
-  abbrev pub places_in : List ℕ
+  abbrev pub places_in : List (Option ℕ)
   places_in = places_of options.columns.items rows
 
   abbrev pub names_in : List Text

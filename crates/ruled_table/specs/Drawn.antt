@@ -9,6 +9,7 @@ use Rattle.ruled_table.specs.declared.row_lines.RowLines.{RowLines}
 pub record HasDrawn (plan : Plan) (cells : List (List Text)) (rows : RowLines) : Type 0 where
   pub some : 0 < length plan.places
   pub plain : plan.config.spans ≡ []
+  pub noted : rows.note.now ≡ plan.note
   pub begun : rows.is_begun ≡ nat_lt 0 (length cells)
   pub prints : HasPrinted plan cells (λ heights. state_of heights rows.sheet)
 

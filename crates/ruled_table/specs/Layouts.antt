@@ -1,5 +1,5 @@
 -- What the first rows of a table say of all its rows, and the table of rows within it.
-use Rattle.std.specs.Prelude.{ℕ, ◌-◌, ◌==◌, List, [], ◌∷◌, ◌++◌, map, length, slice_index_or, take, Option, Some, None, is_none, if◌then◌else◌}
+use Rattle.std.specs.Prelude.{ℕ, ◌-◌, ◌==◌, nat_lt, List, [], ◌∷◌, ◌++◌, map, length, slice_index_or, take, Option, Some, None, is_none, if◌then◌else◌}
 use Rattle.std.specs.Option.{option_or}
 use Rattle.pg_layout.specs.Records.{text_at}
 use Rattle.pg_layout.specs.Text.{Text}
@@ -10,10 +10,11 @@ use Rattle.pg_picture.specs.Table.{Table, Unknown}
 use Rattle.pg_stream.specs.Printing.{Printing, printer}
 use Rattle.pg_stream.specs.SizedStreams.{sized_misfit}
 use Rattle.pg_table.specs.declared.overflow.Overflow.{Overflow}
-use Rattle.ruled_table.specs.Columns.{column_fault, places_of}
+use Rattle.ruled_table.specs.Columns.{column_fault, ellipsis, places_of}
 use Rattle.ruled_table.specs.Faults.{totals_of}
 use Rattle.ruled_table.specs.LentRows.{fields_at}
-use Rattle.ruled_table.specs.Plans.{Plan}
+use Rattle.ruled_table.specs.Omitted.{abridged, note_of, shown_columns}
+use Rattle.ruled_table.specs.Plans.{Plan, plan_of}
 use Rattle.ruled_table.specs.Shown.{shown_row}
 use Rattle.ruled_table.specs.Widths.{first_config, row_within, widths_fault, widths_of}
 use Rattle.ruled_table.specs.declared.fault.ViewFault.{ViewFault}
@@ -26,11 +27,41 @@ use Rattle.ruled_table.specs.declared.options.Options.{Options}
 abbrev pub ruler_of : List Text → List Text
 ruler_of row = map (λ field. 48 ∷ []) row
 
+-- the others of a list
+abbrev pub but_last : {X : Type 0} → List X → List X
+but_last xs = take (length xs - 1) xs
+
+-- Texts of columns with these places, of which the last row isn't drawn, and the line below their table. All columns are drawn.
+module _ (options : Options) (places : List (Option ℕ)) (note : Text) (measured : List (List Text)) where
+  abbrev pub config_by : Config
+  config_by = first_config options (but_last measured)
+
+  abbrev pub plan_by : Plan
+  plan_by = plan_of places config_by (widths_of options.bounds config_by measured) note
+
+-- their sizes are too large
+abbrev pub plan_fault : Options → List (List Text) → Option ViewFault
+plan_fault options measured = totals_of (widths_fault options.bounds (first_config options (but_last measured)) measured)
+
+-- Of such texts those in the middle are left out where they have no room, and a `…` is in their place.
+module _ (options : Options) (places : List (Option ℕ)) (measured : List (List Text)) where
+  abbrev pub shown_in : ℕ
+  shown_in = shown_columns options measured (length places)
+
+  abbrev pub layout_by : Plan
+  layout_by =
+      if nat_lt shown_in (length places)
+      then plan_by options (abridged shown_in None places) (note_of (length places) shown_in) (map (abridged shown_in ellipsis) measured)
+      else plan_by options places [] measured
+
+  abbrev pub sizes_fault_by : Option ViewFault
+  sizes_fault_by = if nat_lt shown_in (length places) then plan_fault options (map (abridged shown_in ellipsis) measured) else plan_fault options measured
+
 module _ (options : Options) (first : List (List Text)) where
-  abbrev pub places_in : List ℕ
+  abbrev pub places_in : List (Option ℕ)
   places_in = places_of options.columns.items first
 
-  -- the texts that are shown of them
+  -- the texts that are shown of the first rows
   abbrev pub texts_in : List (List Text)
   texts_in = map (shown_row options places_in) first
 
@@ -38,28 +69,12 @@ module _ (options : Options) (first : List (List Text)) where
   abbrev pub measured_in : List (List Text)
   measured_in = texts_in ++ fields_at places_in (ruler_of (slice_index_or first 0 [])) ∷ []
 
-  abbrev pub config_in : Config
-  config_in = first_config options texts_in
-
   abbrev pub layout_of : Plan
-  layout_of = record { places = places_in; config = config_in; width = widths_of options.bounds config_in measured_in }
+  layout_of = layout_by options places_in measured_in
 
   -- no column has one of the names, or their sizes are too large
   abbrev pub layout_fault : Option ViewFault
-  layout_fault = option_or (column_fault options.columns.items first) (totals_of (widths_fault options.bounds config_in measured_in))
-
--- ---- by rows of which the last one is a ruler
-
-abbrev pub but_last : {X : Type 0} → List X → List X
-but_last xs = take (length xs - 1) xs
-
-abbrev pub layout_by : Options → List ℕ → List (List Text) → Plan
-layout_by options places measured =
-    let config : Config = first_config options (but_last measured) in
-    record { places = places; config = config; width = widths_of options.bounds config measured }
-
-abbrev pub sizes_fault_by : Options → List (List Text) → Option ViewFault
-sizes_fault_by options measured = totals_of (widths_fault options.bounds (first_config options (but_last measured)) measured)
+  layout_fault = option_or (column_fault options.columns.items first) (sizes_fault_by options places_in measured_in)
 
 -- ---- the table of rows
 
@@ -83,9 +98,9 @@ table_of plan cells = record {
   color = λ place. None;
 }
 
--- its picture, and a line feed; of no rows nothing
+-- its picture, a line feed, and the line below it; of no rows nothing
 abbrev pub whole_of : Plan → List (List Text) → Text
-whole_of plan cells = if length cells == 0 then [] else picture Unknown (table_of plan cells) ++ 10 ∷ []
+whole_of plan cells = if length cells == 0 then [] else picture Unknown (table_of plan cells) ++ 10 ∷ plan.note
 
 module _ (options : Options) (plan : Plan) (rows : List (List Text)) where
   -- the texts that are shown of rows, and their cells

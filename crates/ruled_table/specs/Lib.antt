@@ -11,6 +11,7 @@ pub mod LentRows
 pub mod Look
 pub mod Named
 pub mod Numbers
+pub mod Omitted
 pub mod Plans
 pub mod RowLines
 pub mod Shown

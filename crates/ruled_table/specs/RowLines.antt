@@ -34,6 +34,10 @@ but_feed is_begun lines = if is_begun then unfed lines else lines
 abbrev pub ended_by : Bool → Text → Text
 ended_by is_begun text = if is_begun then ended text else text ++ 10 ∷ []
 
+-- the line below a table: without rows nothing
+abbrev pub note_below : Bool → Text → Text
+note_below is_begun note = if is_begun then note else []
+
 -- the lines of the next row
 abbrev pub next_lines : Printing → List Text → Text
 next_lines s cells = ended_by (nat_lt 0 s.rows) (row_text s cells false)

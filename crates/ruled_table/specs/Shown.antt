@@ -1,5 +1,5 @@
 -- What is shown of rows, and what their table looks like.
-use Rattle.std.specs.Prelude.{ℕ, ◌+◌, Bool, List, [], map, take, slice_index_or, Option, Some, None, option_map, if◌then◌else◌}
+use Rattle.std.specs.Prelude.{ℕ, ◌+◌, Bool, List, map, take, Option, Some, None, option_map, if◌then◌else◌}
 use Rattle.pg_layout.specs.Text.{Text}
 use Rattle.pg_layout.specs.declared.borders.HorizontalLine.{HorizontalLine}
 use Rattle.pg_layout.specs.declared.position.Entity.TheVariants.{Global}
@@ -7,6 +7,7 @@ use Rattle.pg_layout.specs.declared.sides.Indent.{Indent}
 use Rattle.pg_config.specs.Config.{Config, default_config}
 use Rattle.pg_config.specs.Settings.{with_setting}
 use Rattle.pg_fit.specs.Controls.{visible_text}
+use Rattle.ruled_table.specs.Columns.{drawn_at}
 use Rattle.ruled_table.specs.Escapes.{escaped_text}
 use Rattle.ruled_table.specs.Look.{borders_of, header_line_of}
 use Rattle.ruled_table.specs.Sides.{sided}
@@ -23,9 +24,9 @@ seen_text is_raw text = if is_raw then text else visible_text text
 abbrev pub shown_text : Options → Text → Text
 shown_text options text = if options.is_markdown then escaped_text (seen_text options.is_raw text) else seen_text options.is_raw text
 
--- a row as it is shown: its fields at these places
-abbrev pub shown_row : Options → List ℕ → List Text → List Text
-shown_row options places row = map (λ place. shown_text options (slice_index_or row place [])) places
+-- a row as it is shown: its texts in columns with these places
+abbrev pub shown_row : Options → List (Option ℕ) → List Text → List Text
+shown_row options places row = map (λ place. shown_text options (drawn_at row place)) places
 
 -- how many rows are shown at most, a header among them
 abbrev pub limit_of : Options → Option ℕ

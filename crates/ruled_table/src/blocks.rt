@@ -31,8 +31,8 @@ pub struct Blocks<'a> {
     config: SpannedConfig,
     /// The names of the fields, as they are shown.
     names: StringRecord,
-    /// Where the fields that are shown stand in a record.
-    places: Vec<usize>,
+    /// The places of the shown fields in a record.
+    places: Vec<Option<usize>>,
 }
 
 // The names in the first of these rows, as they are shown.
@@ -54,7 +54,7 @@ fn pair_at(
     alloc: Global,
     names: &StringRecord,
     fields: &StringRecord,
-    places: &[usize],
+    places: &[Option<usize>],
     column: usize,
 ) -> Result<StringRecord, AllocError>
     ensures { IfOk result (λ pair. fields_of pair ≡ spec.pair_at (fields_at places.now (fields_of names.now)) (fields_at places.now (fields_of fields.now)) column) }
@@ -72,7 +72,7 @@ fn pairs_of(
     alloc: Global,
     names: &StringRecord,
     fields: &StringRecord,
-    places: &[usize],
+    places: &[Option<usize>],
 ) -> Result<Vec<StringRecord>, AllocError>
     ensures { IfOk result (λ pairs. map fields_of pairs.items ≡ spec.pairs_of (fields_at places.now (fields_of names.now)) (fields_at places.now (fields_of fields.now))) }
 {
@@ -91,7 +91,7 @@ fn block_of(
     config: &SpannedConfig,
     names: &StringRecord,
     fields: &StringRecord,
-    places: &[usize],
+    places: &[Option<usize>],
 ) -> Result<String, ViewFault>
     ensures text { IfOk result (λ text. string_bytes text ≡ spec.block_of bounds.now config.now (fields_at places.now (fields_of names.now)) (fields_at places.now (fields_of fields.now))) }
     ensures fault { Tells (spec.block_fault bounds.now config.now (fields_at places.now (fields_of names.now)) (fields_at places.now (fields_of fields.now))) result }
@@ -99,7 +99,7 @@ fn block_of(
     let pairs = pairs_of(alloc, names, fields, places)?;
     let rows = LentRows {
         records: &pairs,
-        places: &[0, 1],
+        places: &[Some(0), Some(1)],
     };
     let mut text = text_with(alloc, bounds, config, rows)?;
     text.push('\n')?;

@@ -1,9 +1,9 @@
 //! The shown columns.
 
-ghost use Rattle.std.specs.Prelude.{◌≡◌, [], map, option_map, slice_index_or, IfOk};
+ghost use Rattle.std.specs.Prelude.{◌≡◌, [], Some, map, option_map, slice_index_or, IfOk};
 ghost use Rattle.std.specs.List.{range_with_len};
 ghost use Rattle.csv.specs.Records.{fields_of};
-ghost use Rattle.ruled_table.specs.Columns.{column_of, column_fault, columns_in, missing_name, named_columns, places_of, told_of};
+ghost use Rattle.ruled_table.specs.Columns.{column_of, column_fault, columns_in, drawn_at, missing_name, named_columns, places_of, told_of};
 ghost use Rattle.ruled_table.specs.Faults.{Tells};
 ghost use Rattle.ruled_table.specs.declared.fault.ViewFault.TheVariants.{Column};
 
@@ -31,6 +31,17 @@ pub fn field_at(fields: &StringRecord, place: usize) -> &str
     }
 }
 
+/// The text of a row in a column: its field at the column's place, or an empty text if there is
+/// none. The column that stands for columns left out has no place, and the text `…`.
+pub(crate) fn drawn_at(fields: &StringRecord, place: Option<usize>) -> &str
+    ensures { result.now ≡ drawn_at (fields_of fields.now) place }
+{
+    match place {
+        Some(place) => field_at(fields, place),
+        None => "…",
+    }
+}
+
 /// The first column of this name.
 pub fn column_of(header: &StringRecord, name: &str) -> Option<usize>
     ensures { result ≡ column_of (fields_of header.now) name.now }
@@ -48,12 +59,12 @@ fn missing_name(header: &StringRecord, names: &[String]) -> Option<usize>
 }
 
 // So many columns, from the first one on.
-fn first_columns(alloc: Global, count: usize) -> Result<Vec<usize>, AllocError>
-    ensures { IfOk result (λ places. places.items ≡ range_with_len 0 count) }
+fn first_columns(alloc: Global, count: usize) -> Result<Vec<Option<usize>>, AllocError>
+    ensures { IfOk result (λ places. places.items ≡ map Some (range_with_len 0 count)) }
 {
     let mut places = Vec::with_capacity(alloc, count)?;
     for place in 0..count {
-        places.push(place)?;
+        places.push(Some(place))?;
     }
     Ok(places)
 }
@@ -63,12 +74,13 @@ fn named_columns(
     alloc: Global,
     names: &[String],
     header: &StringRecord,
-) -> Result<Vec<usize>, AllocError>
-    ensures { IfOk result (λ places. places.items ≡ named_columns names.now (fields_of header.now)) }
+) -> Result<Vec<Option<usize>>, AllocError>
+    ensures { IfOk result (λ places. places.items ≡ map Some (named_columns names.now (fields_of header.now))) }
 {
     names
         .iter()
         .filter_map(|name| column_of(header, name))
+        .map(Some)
         .collect(alloc)
 }
 
@@ -77,8 +89,8 @@ fn columns_in(
     alloc: Global,
     names: &[String],
     header: &StringRecord,
-) -> Result<Vec<usize>, ViewFault>
-    ensures places { IfOk result (λ places. places.items ≡ columns_in names.now (fields_of header.now)) }
+) -> Result<Vec<Option<usize>>, ViewFault>
+    ensures places { IfOk result (λ places. places.items ≡ map Some (columns_in names.now (fields_of header.now))) }
     ensures fault { Tells (option_map Column (missing_name (fields_of header.now) names.now)) result }
 {
     if let Some(name) = missing_name(header, names) {
@@ -95,7 +107,7 @@ pub fn places_of(
     alloc: Global,
     names: &[String],
     rows: &[StringRecord],
-) -> Result<Vec<usize>, ViewFault>
+) -> Result<Vec<Option<usize>>, ViewFault>
     ensures places { IfOk result (λ places. places.items ≡ places_of names.now (map fields_of rows.now)) }
     ensures fault { Tells (column_fault names.now (map fields_of rows.now)) result }
 {

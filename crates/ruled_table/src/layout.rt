@@ -1,6 +1,6 @@
 //! What the first rows of a table determine for all its rows.
 
-ghost use Rattle.std.specs.Prelude.{◌≡◌, ◌++◌, ◌∷◌, [], map, slice_index_or, take, true, IfOk, OnOk};
+ghost use Rattle.std.specs.Prelude.{◌≡◌, ◌++◌, ◌∷◌, [], map, slice_index_or, string_bytes, take, true, IfOk, OnOk};
 ghost use Rattle.csv.specs.Records.{fields_of};
 ghost use Rattle.ruled_table.specs.Faults.{Tells};
 ghost use Rattle.ruled_table.specs.Layouts as spec;
@@ -11,6 +11,7 @@ ghost use Rattle.ruled_table.specs.Shown.{shown_text};
 use crate::columns::places_of;
 use crate::fault::ViewFault;
 use crate::lent_rows::LentRows;
+use crate::omission::{abridge, note_of, shown_columns};
 use crate::options::Options;
 use crate::rows::{all_stand, shown_records};
 use crate::widths::{first_config, sizes_of_rows};
@@ -21,21 +22,24 @@ use std::alloc::{AllocError, Global};
 use std::marker::Model;
 
 /// What the first rows of a table determine for all its rows: the shown columns, their look and
-/// their widths. Each column has room for at least one character.
+/// their widths, and which columns are left out. Each column has room for at least one character.
 #[derive(Drop)]
 pub struct Layout {
-    pub(crate) places: Vec<usize>,
+    pub(crate) places: Vec<Option<usize>>,
     pub(crate) config: SpannedConfig,
     pub(crate) widths: ConstantDimension,
+    /// The line below the table, with its line feed: how many columns there are, and how many are
+    /// shown. It is empty if all are.
+    pub(crate) note: String,
 }
 
 impl Model for Layout {
-    ghost use Rattle.std.specs.Prelude.{◌≡◌, []};
+    ghost use Rattle.std.specs.Prelude.{◌≡◌, [], string_bytes};
     ghost use Rattle.ruled_table.specs.Plans.{Measures};
 
     ghost Value = { Measures };
 
-    ghost view = { λ l. record { places = l.places.items; config = l.config; widths = l.widths.0.items } };
+    ghost view = { λ l. record { places = l.places.items; config = l.config; widths = l.widths.0.items; note = string_bytes l.note } };
 
     ghost invariant = { λ l. l.config.spans ≡ [] };
 }
@@ -158,15 +162,42 @@ impl Layout {
         Layout::of_measured(alloc, options, places, &measured)
     }
 
-    // The layout of rows of which the last one is a ruler, by the places of their columns.
+    // The layout of rows of which the last one is a ruler, by the places of their columns, some of
+    // which may be left out.
     fn of_measured(
         alloc: Global,
         options: &Options,
-        places: Vec<usize>,
+        mut places: Vec<Option<usize>>,
         measured: &[StringRecord],
     ) -> Result<Layout, ViewFault>
         ensures layout { IfOk result (λ layout. plan_in layout ≡ spec.layout_by options.now places.items (texts_at places.items measured.now)) }
-        ensures fault { Tells (spec.sizes_fault_by options.now (texts_at places.items measured.now)) result }
+        ensures fault { Tells (spec.sizes_fault_by options.now places.items (texts_at places.items measured.now)) result }
+    {
+        let columns = places.len();
+        let rows = LentRows {
+            records: measured,
+            places: &places,
+        };
+        let shown = shown_columns(alloc, options, rows)?;
+        if shown >= columns {
+            return Layout::of_columns(alloc, options, places, String::new(alloc), measured);
+        }
+        let note = note_of(alloc, columns, shown)?;
+        abridge(&mut places, shown);
+        Layout::of_columns(alloc, options, places, note, measured)
+    }
+
+    // The layout of rows of which the last one is a ruler, by the places of the columns that are
+    // drawn, with this line below them.
+    fn of_columns(
+        alloc: Global,
+        options: &Options,
+        places: Vec<Option<usize>>,
+        note: String,
+        measured: &[StringRecord],
+    ) -> Result<Layout, ViewFault>
+        ensures layout { IfOk result (λ layout. plan_in layout ≡ spec.plan_by options.now places.items (string_bytes note) (texts_at places.items measured.now)) }
+        ensures fault { Tells (spec.plan_fault options.now (texts_at places.items measured.now)) result }
     {
         let rows = LentRows {
             records: above_ruler(measured),
@@ -182,6 +213,7 @@ impl Layout {
             places,
             config,
             widths,
+            note,
         })
     }
 }

@@ -6,19 +6,23 @@ ghost use Rattle.csv.specs.Records.{fields_of};
 ghost use Rattle.pg_layout.specs.Records.{columns_of, text_at};
 ghost use Rattle.ruled_table.specs.LentRows.{fields_at, texts_of};
 
-use crate::columns::field_at;
+use crate::columns::drawn_at;
 use csv::StringRecord;
 use pg_layout::{
     ExactRecords, PeekableRecords, Position, Records, count_lines, get_line, get_line_width,
     get_text_width,
 };
 
-/// A field of a row by its column, if each has a place, or an empty text if there is none.
-pub(crate) fn text_in<'a>(fields: &'a StringRecord, places: &[usize], column: usize) -> &'a str
+/// The text of a row in a column, if each has a place, or an empty text if there is none.
+pub(crate) fn text_in<'a>(
+    fields: &'a StringRecord,
+    places: &[Option<usize>],
+    column: usize,
+) -> &'a str
     ensures { result.now ≡ slice_index_or (fields_at places.now (fields_of fields.now)) column [] }
 {
     match places.get(column) {
-        Some(place) => field_at(fields, *place),
+        Some(place) => drawn_at(fields, *place),
         None => "",
     }
 }
@@ -27,7 +31,7 @@ pub(crate) fn text_in<'a>(fields: &'a StringRecord, places: &[usize], column: us
 #[derive(Drop)]
 pub struct LentColumns<'a> {
     fields: &'a StringRecord,
-    places: &'a [usize],
+    places: &'a [Option<usize>],
 }
 
 impl<'a> Iterator for LentColumns<'a> {
@@ -40,7 +44,7 @@ impl<'a> Iterator for LentColumns<'a> {
     fn next(&mut self) -> Option<&'a str> {
         let (place, places) = self.places.split_first()?;
         self.places = places;
-        Some(field_at(self.fields, *place))
+        Some(drawn_at(self.fields, *place))
     }
 }
 
@@ -49,8 +53,8 @@ impl<'a> Iterator for LentColumns<'a> {
 pub struct LentRows<'a> {
     /// The records.
     pub records: &'a [StringRecord],
-    /// The place of each column's field in its record.
-    pub places: &'a [usize],
+    /// The place of each column's field in its record; `None` in the column of `…`.
+    pub places: &'a [Option<usize>],
 }
 
 /// The remaining rows.

@@ -11,6 +11,7 @@ mod layout;
 mod lent_rows;
 mod look;
 mod numbers;
+mod omission;
 mod options;
 mod row_lines;
 mod rows;

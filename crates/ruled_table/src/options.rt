@@ -35,6 +35,11 @@ pub struct Options {
     pub is_vertical: bool,
     /// The greatest widths of the table, or of each block, and of columns.
     pub bounds: Bounds,
+    /// Whether columns in the middle of a table are left out if its width has no room for all, each
+    /// with at most 12 columns of its texts. One column of `…` is in their place, and a line below
+    /// the table says how many columns there are and how many are shown. If `sides` or the limits of
+    /// `bounds` have several words, each for a column of its own, none is left out.
+    pub is_omitting: bool,
     /// Whether control characters are sent as they are.
     pub is_raw: bool,
     /// Whether texts are escaped, so that Markdown reads each as one cell: a bar is `\|`, a backslash

@@ -12,7 +12,7 @@ ghost use Rattle.ruled_table.specs.Drawn.{AreEven, HasDrawn};
 ghost use Rattle.ruled_table.specs.Faults.{Tells};
 ghost use Rattle.ruled_table.specs.Layouts.{start_fault, whole_of};
 ghost use Rattle.ruled_table.specs.Plans.{Plan, plan_in};
-ghost use Rattle.ruled_table.specs.RowLines.{GrowsTo, HasNoRoomBelow, TellsRoom, begun_of, but_feed, ended_by, state_of};
+ghost use Rattle.ruled_table.specs.RowLines.{GrowsTo, HasNoRoomBelow, TellsRoom, begun_of, but_feed, ended, ended_by, note_below, state_of};
 ghost use Rattle.ruled_table.specs.declared.fault.ViewFault.{ViewFault};
 ghost use Rattle.ruled_table.specs.declared.fault.ViewFault.TheVariants.{Memory};
 
@@ -34,6 +34,8 @@ pub(crate) type Sheet<'a> = SizedStream<'a, String, ConstantDimension, NoColors>
 pub(crate) struct RowLines<'a> {
     alloc: Global,
     sheet: Sheet<'a>,
+    /// The line below the table, or nothing.
+    note: &'a str,
     /// The lines of the latest row.
     lines: String,
     /// Whether there was a row.
@@ -151,6 +153,26 @@ fn append_lines(is_begun: bool, lines: &mut String, buf: &mut String) -> Result<
     buf.push_str(but_feed(is_begun, lines.as_str()))
 }
 
+// The line below a table: without rows nothing.
+fn note_below(is_begun: bool, note: &str) -> &str
+    ensures { result.now ≡ note_below is_begun note.now }
+{
+    if is_begun { note } else { "" }
+}
+
+// Appends the last lines of a table, without the line feed before them, and a text below them.
+fn append_end(lines: &mut String, below: &str, buf: &mut String) -> Result<(), AllocError>
+    ensures appended { OnOk result (string_bytes buf.new ≡ string_bytes buf.old ++ (ended (string_bytes lines.old) ++ below.now)) }
+    ensures failed { OnErr result (string_bytes buf.new ≡ string_bytes buf.old) }
+{
+    if lines.is_empty() {
+        return buf.push_str(below);
+    }
+    lines.push('\n')?;
+    lines.push_str(below)?;
+    buf.push_str(but_feed(true, lines.as_str()))
+}
+
 impl<'a> RowLines<'a> {
     /// A table of this layout before its first row.
     pub(crate) fn new(alloc: Global, layout: &'a Layout) -> Result<RowLines<'a>, ViewFault>
@@ -161,11 +183,13 @@ impl<'a> RowLines<'a> {
             places,
             config,
             widths,
+            note,
         } = layout;
         let sheet = SizedStream::new(alloc, config, widths, &NoColors, places.len())?;
         Ok(RowLines {
             alloc,
             sheet,
+            note: note.as_str(),
             lines: String::new(alloc),
             is_begun: false,
         })
@@ -185,7 +209,7 @@ impl<'a> RowLines<'a> {
         Ok(())
     }
 
-    /// Appends the end of the table; without rows nothing.
+    /// Appends the end of the table, and the line below it; without rows nothing.
     pub(crate) fn finish(self, buf: &mut String) -> Result<(), ViewFault>
         ensures end { (plan : Plan) (cells : List (List Text)) → HasDrawn plan cells self.entry → AreEven plan cells
             → OnOk result (GrowsTo (begun_of plan cells) (whole_of plan cells) (string_bytes buf.old) (string_bytes buf.new)) }
@@ -194,10 +218,12 @@ impl<'a> RowLines<'a> {
     {
         let RowLines {
             sheet,
+            note,
             mut lines,
+            is_begun,
             ..
         } = self;
         print_end(sheet, &mut lines)?;
-        Ok(append_lines(true, &mut lines, buf)?)
+        Ok(append_end(&mut lines, note_below(is_begun, note), buf)?)
     }
 }

@@ -16,7 +16,7 @@ use pg_layout::{AlignmentHorizontal, Entity, Records};
 use std::alloc::AllocError;
 
 // Whether the text of a row in this column is a number or blank.
-fn has_number(fields: &StringRecord, places: &[usize], column: usize) -> bool
+fn has_number(fields: &StringRecord, places: &[Option<usize>], column: usize) -> bool
     ensures { result ≡ spec.is_numeric_text (slice_index_or (fields_at places.now (fields_of fields.now)) column []) }
 {
     let text = text_in(fields, places, column);
@@ -24,7 +24,7 @@ fn has_number(fields: &StringRecord, places: &[usize], column: usize) -> bool
 }
 
 // Whether each row has a number or a blank text in the column.
-fn have_numbers(records: &[StringRecord], places: &[usize], column: usize) -> bool
+fn have_numbers(records: &[StringRecord], places: &[Option<usize>], column: usize) -> bool
     ensures { result ≡ list_all (λ fields. spec.is_numeric_text (slice_index_or (fields_at places.now (fields_of fields)) column [])) records.now }
 {
     records

@@ -15,7 +15,7 @@ ghost use Rattle.ruled_table.specs.declared.fault.ViewFault.{ViewFault};
 ghost use Rattle.ruled_table.specs.declared.fault.ViewFault.TheVariants.{Memory};
 ghost use Rattle.ruled_table.specs.declared.options.Options.{Options};
 
-use crate::columns::field_at;
+use crate::columns::drawn_at;
 use crate::fault::ViewFault;
 use crate::layout::Layout;
 use crate::options::Options;
@@ -76,7 +76,7 @@ fn push_shown<'a>(
 fn cells_shown<'a>(
     alloc: Global,
     options: &Options,
-    places: &[usize],
+    places: &[Option<usize>],
     widths: &ConstantDimension,
     fields: &'a StringRecord,
 ) -> Result<Vec<CowStr<'a>>, AllocError>
@@ -84,7 +84,7 @@ fn cells_shown<'a>(
 {
     let mut cells = Vec::with_capacity(alloc, places.len())?;
     for place in places {
-        push_shown(alloc, options, widths, field_at(fields, *place), &mut cells)?;
+        push_shown(alloc, options, widths, drawn_at(fields, *place), &mut cells)?;
     }
     Ok(cells)
 }

@@ -1,4 +1,4 @@
-use Rattle.std.proofs.Common.{◌≡◌, ◌∙◌, ◌-◌, ◌<◌, ℕ, Option, List, length, map, Some, sym, ap, arith, rules}
+use Rattle.std.proofs.Common.{◌≡◌, ◌∙◌, ◌-◌, ℕ, Option, length, map, sym, ap, arith, rules}
 use Rattle.csv.specs.Records.{fields_of}
 use Rattle.ruled_table.specs.Arranged.{last_of}
 use Rattle.ruled_table.proofs.LentTexts.{last-kept}

@@ -3,11 +3,10 @@ use Rattle.std.specs.Prelude.{IfOk}
 use Rattle.csv.specs.Records.{Row, fields_of}
 use Rattle.pg_layout.specs.Text.{Text}
 use Rattle.ruled_table.specs.Columns.{column_fault}
-use Rattle.ruled_table.specs.Faults.{Tells, totals_of}
-use Rattle.ruled_table.specs.Layouts.{config_in, measured_in, places_in, ruler_of}
+use Rattle.ruled_table.specs.Faults.{Tells}
+use Rattle.ruled_table.specs.Layouts.{measured_in, places_in, ruler_of, sizes_fault_by}
 use Rattle.ruled_table.specs.Plans.{Plan, plan_in}
 use Rattle.ruled_table.specs.Shown.{shown_text}
-use Rattle.ruled_table.specs.Widths.{widths_fault}
 use Rattle.ruled_table.specs.declared.fault.ViewFault.{ViewFault}
 use Rattle.ruled_table.proofs.RowsInParts.{layout-lent, sizes-lent}
 use Rattle.ruled_table.proofs.Tables.{then_told}
@@ -40,5 +39,5 @@ returns-clause-fault c =
     let lent : c.deref-2.result.now ≡ c.in_ok-measured.measured.items = search rules in
     let below : List (List Text) → List (List Text) = λ rows. rows ++ ruler_of (slice_index_or rows 0 []) ∷ [] in
     let are : map fields_of c.deref-2.result.now ≡ below (map (map (shown_text options)) first) = ap (map fields_of) lent ∙ c.in_ok-measured.ensures ∙ ap below shown in
-    then_told (column_fault options.columns.items first) (totals_of (widths_fault options.bounds (config_in options first) (measured_in options first))) c.of_measured.result none
+    then_told (column_fault options.columns.items first) (sizes_fault_by options (places_in options first) (measured_in options first)) c.of_measured.result none
     (subst (λ (fault : Option ViewFault). Tells fault c.of_measured.result) (sizes-lent options first c.in_ok-places.places.items c.deref-2.result.now at are) c.of_measured.ensures.fault)

@@ -1,61 +1,70 @@
-use Rattle.std.proofs.Common.{◌≡◌, ◌∙◌, ℕ, List, Option, sym, ap, ap₂, rules}
-use Rattle.csv.specs.Records.{Row, fields_of}
-use Rattle.pg_config.specs.Config.{Config}
-use Rattle.ruled_table.specs.Faults.{totals_of}
-use Rattle.ruled_table.specs.Layouts.{but_last, sizes_fault_by}
-use Rattle.ruled_table.specs.LentRows.{fields_at, texts_at}
-use Rattle.ruled_table.specs.Widths.{first_config, widths_fault, widths_in, widths_of}
+use Rattle.std.proofs.Common.{◌≡◌, ◌∙◌, [], ℕ, List, None, Option, length, map, string_bytes, sym, ap, ap₂, refl, subst, arith, rules}
+use Rattle.std.specs.Prelude.{IfOk}
+use Rattle.csv.specs.Records.{Row}
+use Rattle.pg_layout.specs.Text.{Text}
+use Rattle.ruled_table.specs.Columns.{ellipsis}
+use Rattle.ruled_table.specs.Faults.{Tells}
+use Rattle.ruled_table.specs.LentRows.{texts_at}
+use Rattle.ruled_table.specs.Layouts.{plan_by, plan_fault}
+use Rattle.ruled_table.specs.Omitted.{abridged, note_of, shown_columns}
+use Rattle.ruled_table.specs.Plans.{Plan, plan_in}
 use Rattle.ruled_table.specs.declared.fault.ViewFault.{ViewFault}
-use Rattle.ruled_table.proofs.RowsInParts.{but-last-map, layout-made}
-use Rattle.ruled_table.proofs.Tables.{plain-config, told_on}
+use Rattle.ruled_table.proofs.LentTexts.{rows-abridged}
+use Rattle.ruled_table.proofs.RowsInParts.{all-fault, all-laid, some-fault, some-laid}
 use Rattle.ruled_table.proofs.layout.Layout.of_measured.Goals as goal
+
+pub returns-then-shown-columns-clause-layout : goal.returns-then-shown-columns-clause-layout
+returns-then-shown-columns-clause-layout c =
+    let options = c.args.options.now in
+    let places : List (Option ℕ) = c.args.places.items in
+    let texts : List (List Text) = texts_at places c.args.measured.now in
+    let lent : c.deref.result.now ≡ places = search rules in
+    let is : c.in_ok-shown.shown ≡ shown_columns options texts (length places) = rw lent at c.in_ok-shown.ensures in
+    let none : string_bytes c.new.result ≡ [] = search rules in
+    let laid : IfOk c.of_columns.result (λ layout. plan_in layout ≡ plan_by options places [] texts) = rw none at c.of_columns.ensures.layout in
+    subst (λ (plan : Plan). IfOk c.of_columns.result (λ layout. plan_in layout ≡ plan)) (all-laid options places texts c.in_ok-shown.shown (length places) is refl (omega arith)) laid
+
+pub returns-then-shown-columns-clause-fault : goal.returns-then-shown-columns-clause-fault
+returns-then-shown-columns-clause-fault c =
+    let options = c.args.options.now in
+    let places : List (Option ℕ) = c.args.places.items in
+    let texts : List (List Text) = texts_at places c.args.measured.now in
+    let lent : c.deref.result.now ≡ places = search rules in
+    let is : c.in_ok-shown.shown ≡ shown_columns options texts (length places) = rw lent at c.in_ok-shown.ensures in
+    subst (λ (fault : Option ViewFault). Tells fault c.of_columns.result) (all-fault options places texts c.in_ok-shown.shown (length places) is refl (omega arith)) c.of_columns.ensures.fault
 
 pub returns-clause-layout : goal.returns-clause-layout
 returns-clause-layout c =
     let options = c.args.options.now in
-    let places : List ℕ = c.args.places.items in
-    let measured : List Row = c.args.measured.now in
-    let config : Config = c.in_ok-config.config in
-    let rows : List Row = c.above_ruler.result.now in
-    let at : c.deref.result.now ≡ places = search rules in
-    let also : c.deref-2.result.now ≡ places = search rules in
-    let above : texts_at c.deref.result.now rows ≡ but_last (texts_at places measured) =
-    ap (λ (ps : List ℕ). texts_at ps rows) at ∙ ap (texts_at places) c.above_ruler.ensures ∙ but-last-map (λ fields. fields_at places (fields_of fields)) measured
+    let places : List (Option ℕ) = c.args.places.items in
+    let records : List Row = c.args.measured.now in
+    let texts : List (List Text) = texts_at places records in
+    let shown : ℕ = c.in_ok-shown.shown in
+    let columns : ℕ = c.len-columns.result in
+    let lent : c.deref.result.now ≡ places = search rules in
+    let is : shown ≡ shown_columns options texts (length places) = rw lent at c.in_ok-shown.ensures in
+    let many : columns ≡ length places = omega (arith, c.len-columns.ensures, c.args.places.ok) in
+    let asked : shown ≡ shown_columns options texts columns = is ∙ ap (shown_columns options texts) (sym many) in
+    let drawn : List (Option ℕ) → Text → List (List Text) → Plan = λ places note texts. plan_by options places note texts in
+    let same : drawn c.abridge.new.places.items (string_bytes c.in_ok-note.note) (texts_at c.abridge.new.places.items records) ≡ drawn (abridged shown None places) (note_of columns shown) (map (abridged shown ellipsis) texts) =
+    ap₂ (λ (ps : List (Option ℕ)) (note : Text). drawn ps note (texts_at ps records)) c.abridge.ensures c.in_ok-note.ensures
+    ∙ ap (drawn (abridged shown None places) (note_of columns shown)) (rows-abridged shown places records)
     in
-    let wide : widths_in c.in_ok-widths.widths ≡ widths_of options.bounds config (texts_at places measured) =
-    c.in_ok-widths.ensures.widths ∙ ap (λ (ps : List ℕ). widths_of options.bounds config (texts_at ps measured)) also
-    in
-    layout-made options places (texts_at places measured) (texts_at c.deref.result.now rows) config (widths_in c.in_ok-widths.widths) above c.in_ok-config.ensures wide
+    subst (λ (plan : Plan). IfOk c.of_columns-2.result (λ layout. plan_in layout ≡ plan)) (same ∙ some-laid options places texts shown columns asked many (omega arith)) c.of_columns-2.ensures.layout
 
 pub returns-clause-fault : goal.returns-clause-fault
 returns-clause-fault c =
     let options = c.args.options.now in
-    let places : List ℕ = c.args.places.items in
-    let measured : List Row = c.args.measured.now in
-    let rows : List Row = c.above_ruler.result.now in
-    let at : c.deref.result.now ≡ places = search rules in
-    let also : c.deref-2.result.now ≡ places = search rules in
-    let above : texts_at c.deref.result.now rows ≡ but_last (texts_at places measured) =
-    ap (λ (ps : List ℕ). texts_at ps rows) at ∙ ap (texts_at places) c.above_ruler.ensures ∙ but-last-map (λ fields. fields_at places (fields_of fields)) measured
+    let places : List (Option ℕ) = c.args.places.items in
+    let records : List Row = c.args.measured.now in
+    let texts : List (List Text) = texts_at places records in
+    let shown : ℕ = c.in_ok-shown.shown in
+    let columns : ℕ = c.len-columns.result in
+    let lent : c.deref.result.now ≡ places = search rules in
+    let is : shown ≡ shown_columns options texts (length places) = rw lent at c.in_ok-shown.ensures in
+    let many : columns ≡ length places = omega (arith, c.len-columns.ensures, c.args.places.ok) in
+    let asked : shown ≡ shown_columns options texts columns = is ∙ ap (shown_columns options texts) (sym many) in
+    let same : plan_fault options (texts_at c.abridge.new.places.items records) ≡ plan_fault options (map (abridged shown ellipsis) texts) =
+    ap (plan_fault options) (ap (λ (ps : List (Option ℕ)). texts_at ps records) c.abridge.ensures ∙ rows-abridged shown places records)
     in
-    let looks : c.in_ok-config.config ≡ first_config options (but_last (texts_at places measured)) = c.in_ok-config.ensures ∙ ap (first_config options) above in
-    let told : Config → List ℕ → Option ViewFault = λ config ps. totals_of (widths_fault options.bounds config (texts_at ps measured)) in
-    sym (ap₂ told looks also) ∙ c.in_ok-widths.ensures.fault
-
-pub returns-in_err-widths-clause-fault : goal.returns-in_err-widths-clause-fault
-returns-in_err-widths-clause-fault c =
-    let options = c.args.options.now in
-    let places : List ℕ = c.args.places.items in
-    let measured : List Row = c.args.measured.now in
-    let rows : List Row = c.above_ruler.result.now in
-    let at : c.deref.result.now ≡ places = search rules in
-    let also : c.deref-2.result.now ≡ places = search rules in
-    let above : texts_at c.deref.result.now rows ≡ but_last (texts_at places measured) =
-    ap (λ (ps : List ℕ). texts_at ps rows) at ∙ ap (texts_at places) c.above_ruler.ensures ∙ but-last-map (λ fields. fields_at places (fields_of fields)) measured
-    in
-    let looks : c.in_ok-config.config ≡ first_config options (but_last (texts_at places measured)) = c.in_ok-config.ensures ∙ ap (first_config options) above in
-    let told : Config → List ℕ → Option ViewFault = λ config ps. totals_of (widths_fault options.bounds config (texts_at ps measured)) in
-    told_on c.in_err-widths.field-0.0 (sizes_fault_by options (texts_at places measured)) c.from_residual-in_err-widths.result (λ soft. sym (ap₂ told looks also) ∙ c.in_err-widths.ensures.fault soft) c.from_residual-in_err-widths.ensures.1
-
-pub invariant_of-result : goal.invariant_of-result
-invariant_of-result c = ap (λ (config : Config). config.spans) c.in_ok-config.ensures ∙ plain-config c.args.options.now _
+    subst (λ (fault : Option ViewFault). Tells fault c.of_columns-2.result) (same ∙ some-fault options places texts shown columns asked many (omega arith)) c.of_columns-2.ensures.fault

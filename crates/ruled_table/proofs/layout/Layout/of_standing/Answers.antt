@@ -3,9 +3,7 @@ use Rattle.std.specs.Option.{option_or}
 use Rattle.csv.specs.Records.{Row, fields_of}
 use Rattle.pg_layout.specs.Text.{Text}
 use Rattle.ruled_table.specs.Columns.{column_fault}
-use Rattle.ruled_table.specs.Faults.{totals_of}
-use Rattle.ruled_table.specs.Layouts.{config_in, layout_fault, measured_in, places_in, ruler_of}
-use Rattle.ruled_table.specs.Widths.{widths_fault}
+use Rattle.ruled_table.specs.Layouts.{layout_fault, measured_in, places_in, ruler_of, sizes_fault_by}
 use Rattle.ruled_table.specs.declared.fault.ViewFault.{ViewFault}
 use Rattle.ruled_table.proofs.RowsInParts.{layout-lent, ruled, sizes-lent}
 use Rattle.ruled_table.proofs.Tables.{told_on}
@@ -34,7 +32,7 @@ returns-clause-fault c =
     let none : column_fault options.columns.items first ≡ None = rw (names, lent) at c.in_ok-places.ensures.fault in
     let measured : c.deref-4.result.now ≡ rows ++ c.in_ok-ruler.ruler ∷ [] = c.deref-4.ensures.value ∙ c.in_ok-push.ensures.items in
     let are = ruled options rows c.in_ok-ruler.ruler c.deref-4.result.now c.requires (c.in_ok-ruler.ensures ∙ ap (λ (xs : List Row). ruler_of (slice_index_or (map fields_of xs) 0 [])) c.deref-3.ensures.value) measured in
-    let sizes : Option ViewFault = totals_of (widths_fault options.bounds (config_in options first) (measured_in options first)) in
+    let sizes : Option ViewFault = sizes_fault_by options (places_in options first) (measured_in options first) in
     ap (λ (o : Option ViewFault). option_or o sizes) none ∙ sym (sizes-lent options first c.in_ok-places.places.items c.deref-4.result.now at are) ∙ c.in_ok-layout.ensures.fault
 
 pub returns-in_err-layout-clause-fault : goal.returns-in_err-layout-clause-fault
@@ -48,7 +46,7 @@ returns-in_err-layout-clause-fault c =
     let none : column_fault options.columns.items first ≡ None = rw (names, lent) at c.in_ok-places.ensures.fault in
     let measured : c.deref-4.result.now ≡ rows ++ c.in_ok-ruler.ruler ∷ [] = c.deref-4.ensures.value ∙ c.in_ok-push.ensures.items in
     let are = ruled options rows c.in_ok-ruler.ruler c.deref-4.result.now c.requires (c.in_ok-ruler.ensures ∙ ap (λ (xs : List Row). ruler_of (slice_index_or (map fields_of xs) 0 [])) c.deref-3.ensures.value) measured in
-    let sizes : Option ViewFault = totals_of (widths_fault options.bounds (config_in options first) (measured_in options first)) in
+    let sizes : Option ViewFault = sizes_fault_by options (places_in options first) (measured_in options first) in
     told_on c.in_err-layout.field-0.0 (layout_fault options first) c.from_residual-in_err-layout.result
     (λ soft. ap (λ (o : Option ViewFault). option_or o sizes) none ∙ sym (sizes-lent options first c.in_ok-places.places.items c.deref-4.result.now at are) ∙ c.in_err-layout.ensures.fault soft)
     c.from_residual-in_err-layout.ensures.1

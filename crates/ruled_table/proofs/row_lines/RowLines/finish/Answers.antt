@@ -1,10 +1,10 @@
-use Rattle.std.proofs.Common.{ℕ, refl, string_bytes, true}
+use Rattle.std.proofs.Common.{◌∙◌, ◌++◌, ℕ, refl, string_bytes, ap, ap₂}
 use Rattle.pg_layout.specs.Text.{Text}
 use Rattle.pg_stream.specs.LiveStreams.{Living}
 use Rattle.ruled_table.specs.Layouts.{heights_of}
-use Rattle.ruled_table.specs.RowLines.{ended_by, state_of}
+use Rattle.ruled_table.specs.RowLines.{ended, note_below, state_of}
 use Rattle.ruled_table.proofs.RowsInParts.{handed-on}
-use Rattle.ruled_table.proofs.RowPictures.{ends-alive, ends-counted, ends-here, ends-whole}
+use Rattle.ruled_table.proofs.RowPictures.{below, ends-alive, ends-counted, ends-here, ends-whole}
 use Rattle.ruled_table.proofs.row_lines.RowLines.finish.Goals as goal
 
 pub returns-clause-end : goal.returns-clause-end
@@ -13,9 +13,11 @@ returns-clause-end c = λ plan cells drawn even.
     let lines : Text = string_bytes c.print_end.new.lines in
     let is = c.in_ok-print_end.ensures.lines (heights_of cells) (ends-counted plan cells state drawn.plain drawn.prints) (ends-alive plan cells state drawn.plain drawn.prints) (ends-here plan cells state drawn.plain drawn.prints) in
     record {
-      more = ended_by true lines;
+      more = ended lines ++ below plan cells;
       makes = ends-whole plan cells state drawn.plain drawn.prints lines drawn.some even is;
-      bytes = c.in_ok-append_lines.ensures.appended;
+      bytes =
+          c.in_ok-append_end.ensures.appended
+          ∙ ap (λ (t : Text). string_bytes c.args.buf.now ++ (ended lines ++ t)) (c.note_below.ensures ∙ ap₂ note_below drawn.begun drawn.noted);
     }
 
 pub returns-in_err-print_end-clause-fault : goal.returns-in_err-print_end-clause-fault

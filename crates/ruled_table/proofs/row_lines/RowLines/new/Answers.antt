@@ -1,4 +1,4 @@
-use Rattle.std.proofs.Common.{◌≡◌, ◌∙◌, ◌<◌, ℕ, length, None, false, refl, subst, sym, ap, arith, slice_index_or}
+use Rattle.std.proofs.Common.{◌≡◌, ◌∙◌, ◌<◌, ℕ, length, None, false, refl, subst, sym, ap, arith, slice_index_or, string_bytes}
 use Rattle.pg_stream.specs.SizedStreams.{sized_misfit}
 use Rattle.ruled_table.specs.Faults.{Tells}
 use Rattle.ruled_table.specs.Layouts.{start_fault, start_of}
@@ -9,7 +9,7 @@ use Rattle.ruled_table.proofs.row_lines.RowLines.new.Goals as goal
 
 pub returns-in_err-sheet-clause-fault : goal.returns-in_err-sheet-clause-fault
 returns-in_err-sheet-clause-fault c =
-    let inside : Measures = record { places = c.layout.inside.places.items; config = c.layout.inside.config; widths = c.layout.inside.widths.0.items } in
+    let inside : Measures = record { places = c.layout.inside.places.items; config = c.layout.inside.config; widths = c.layout.inside.widths.0.items; note = string_bytes c.layout.inside.note } in
     let plan : Plan = plan_in inside in
     let tall : ℕ → ℕ = λ row. slice_index_or c.layout.inside.widths.1.items row 0 in
     let count : c.len.result ≡ length inside.places = omega (arith, c.len.ensures, c.layout.inside.places.ok) in
@@ -19,7 +19,7 @@ returns-in_err-sheet-clause-fault c =
 
 pub returns-clause-begun : goal.returns-clause-begun
 returns-clause-begun c =
-    let inside : Measures = record { places = c.layout.inside.places.items; config = c.layout.inside.config; widths = c.layout.inside.widths.0.items } in
+    let inside : Measures = record { places = c.layout.inside.places.items; config = c.layout.inside.config; widths = c.layout.inside.widths.0.items; note = string_bytes c.layout.inside.note } in
     let plan : Plan = plan_in inside in
     let tall : ℕ → ℕ = λ row. slice_index_or c.layout.inside.widths.1.items row 0 in
     let count : c.len.result ≡ length inside.places = omega (arith, c.len.ensures, c.layout.inside.places.ok) in
@@ -27,6 +27,7 @@ returns-clause-begun c =
     record {
       some = subst (λ (m : Measures). 0 < length m.places) c.layout.view_is (some-columns plan tall fits);
       plain = ap (λ (m : Measures). m.config.spans) (sym c.layout.view_is) ∙ c.layout.invariant;
+      noted = c.as_str.ensures.value ∙ ap (λ (m : Measures). m.note) c.layout.view_is;
       begun = refl;
       prints = started (plan_in c.args.layout.now) (λ heights. state_of heights c.in_ok-sheet.sheet)
           (subst (λ (m : Measures). (heights : ℕ → ℕ) → state_of heights c.in_ok-sheet.sheet ≡ record { printed = start_of (plan_in m) heights; is_lost = false }) c.layout.view_is (rw count at c.in_ok-sheet.ensures.made));
@@ -34,7 +35,7 @@ returns-clause-begun c =
 
 pub returns-clause-fault : goal.returns-clause-fault
 returns-clause-fault c =
-    let inside : Measures = record { places = c.layout.inside.places.items; config = c.layout.inside.config; widths = c.layout.inside.widths.0.items } in
+    let inside : Measures = record { places = c.layout.inside.places.items; config = c.layout.inside.config; widths = c.layout.inside.widths.0.items; note = string_bytes c.layout.inside.note } in
     let plan : Plan = plan_in inside in
     let tall : ℕ → ℕ = λ row. slice_index_or c.layout.inside.widths.1.items row 0 in
     let count : c.len.result ≡ length inside.places = omega (arith, c.len.ensures, c.layout.inside.places.ok) in

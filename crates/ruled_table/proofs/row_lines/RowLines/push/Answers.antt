@@ -24,6 +24,7 @@ returns-clause-after c = λ plan above drawn.
     record {
       some = drawn.some;
       plain = drawn.plain;
+      noted = drawn.noted;
       begun = some-rows above cells;
       prints = printed-next plan above cells (λ heights. state_of heights c.args.self.now.sheet) (λ heights. state_of heights c.print_row.new.sheet) drawn.prints c.in_ok-print_row.ensures.after;
     }

@@ -15,7 +15,7 @@ use Rattle.ruled_table.proofs.table_rows.TableRows.push.Goals as goal
 pub returns-clause-lines : goal.returns-clause-lines
 returns-clause-lines c = λ options plan rows appended.
     let asked : Options = c.args.self.now.options.now in
-    let inside : Measures = record { places = c.layout.inside.places.items; config = c.layout.inside.config; widths = c.layout.inside.widths.0.items } in
+    let inside : Measures = record { places = c.layout.inside.places.items; config = c.layout.inside.config; widths = c.layout.inside.widths.0.items; note = string_bytes c.layout.inside.note } in
     let row : List Text = fields_of c.args.fields.now in
     let cells : List Text = map cow_str_bytes c.in_ok-cells.cells.items in
     let lent : c.deref.result.now ≡ inside.places = search rules in
@@ -27,7 +27,7 @@ returns-clause-lines c = λ options plan rows appended.
 pub returns-clause-after : goal.returns-clause-after
 returns-clause-after c = λ options plan rows appended.
     let asked : Options = c.args.self.now.options.now in
-    let inside : Measures = record { places = c.layout.inside.places.items; config = c.layout.inside.config; widths = c.layout.inside.widths.0.items } in
+    let inside : Measures = record { places = c.layout.inside.places.items; config = c.layout.inside.config; widths = c.layout.inside.widths.0.items; note = string_bytes c.layout.inside.note } in
     let row : List Text = fields_of c.args.fields.now in
     let cells : List Text = map cow_str_bytes c.in_ok-cells.cells.items in
     let lent : c.deref.result.now ≡ inside.places = search rules in
@@ -42,7 +42,7 @@ returns-clause-after c = λ options plan rows appended.
 pub returns-in_err-push-clause-room : goal.returns-in_err-push-clause-room
 returns-in_err-push-clause-room c = λ options plan rows appended.
     let asked : Options = c.args.self.now.options.now in
-    let inside : Measures = record { places = c.layout.inside.places.items; config = c.layout.inside.config; widths = c.layout.inside.widths.0.items } in
+    let inside : Measures = record { places = c.layout.inside.places.items; config = c.layout.inside.config; widths = c.layout.inside.widths.0.items; note = string_bytes c.layout.inside.note } in
     let row : List Text = fields_of c.args.fields.now in
     let cells : List Text = map cow_str_bytes c.in_ok-cells.cells.items in
     let lent : c.deref.result.now ≡ inside.places = search rules in
