@@ -6,12 +6,11 @@ use Rattle.std.specs.Result.{IsErrAnd}
 use Rattle.std.proofs.lemmas.Bool.Decides.{nat_tests}
 use Rattle.std.proofs.lemmas.List.{get_or-map, length-map, map_more}
 use Rattle.sqlite_record.specs.Affinity.{widen}
-use Rattle.sqlite_record.specs.Record.{decode}
 use Rattle.sqlite_value.specs.Order.{Row}
 use Rattle.ruled_database.specs.Values.{LacksTexts}
 use Rattle.ruled_database.specs.Files.{page_count}
 use Rattle.ruled_database.specs.Reading.{Gives}
-use Rattle.ruled_database.specs.Tables.{AddsRows, GivesRow, IsUnsound, Walks, most_levels, row_in, shown_row, shown_rows_of, texts_in}
+use Rattle.ruled_database.specs.Tables.{AddsRows, GivesRow, IsUnsound, Walks, most_levels, row_in, shown_row, shown_rows_of, texts_in, values_of}
 use Rattle.ruled_database.specs.Trees.{Stored, record_of, rows_below}
 use Rattle.ruled_database.specs.declared.definition.Definition.{Definition}
 use Rattle.ruled_database.specs.declared.fault.TableFault.{TableFault}
@@ -40,25 +39,25 @@ among {X} f xs items i none is less =
 
 module _ (file : List ℕ) (definition : Definition) (row : Stored) (n m : ℕ) where
   texts_of : List ℕ → Option (List (List (List ℕ)))
-  texts_of bytes = row_in definition row.key (decode bytes)
+  texts_of bytes = row_in definition row.key (values_of file bytes)
 
   pub gives_shown : {U V : Type 0} (x : U) (y : V) (record_bytes : List ℕ) (old new : List (List (List ℕ))) → Gives (record_of file row) n m [] record_bytes (Ok x)
-      → definition.least ≤ length (decode record_bytes) → new ≡ old ++ texts_in definition row.key (decode record_bytes) ∷ [] → GivesRow file definition row n m old new (Ok y)
+      → definition.least ≤ length (values_of file record_bytes) → new ≡ old ++ texts_in definition row.key (values_of file record_bytes) ∷ [] → GivesRow file definition row n m old new (Ok y)
   unfolding texts_of
   gives_shown x y record_bytes old new read long added =
       let same : record_bytes ≡ read.0 = read.2 in
-      let texts = texts_in definition row.key (decode record_bytes) in
+      let texts = texts_in definition row.key (values_of file record_bytes) in
       let whole : texts_of record_bytes ≡ Some (texts ∷ []) = grind (arith, nat_tests, long) in
       (texts ∷ [], ap (option_and_then texts_of) (read.1 ∙ ap Some (sym same)) ∙ whole, added, read.3)
 
   -- a record that lacks the value of a column
   pub gives_old : {U : Type 0} (V : Type 0) (x : U) (record_bytes : List ℕ) (old new : List (List (List ℕ))) → Gives (record_of file row) n m [] record_bytes (Ok x)
-      → length (decode record_bytes) < definition.least → GivesRow {U = V} file definition row n m old new (Err Default)
+      → length (values_of file record_bytes) < definition.least → GivesRow {U = V} file definition row n m old new (Err Default)
   gives_old V x record_bytes old new read short = let same : record_bytes ≡ read.0 = read.2 in (record_bytes, read.1 ∙ ap Some (sym same), short)
 
   -- a text that isn't UTF-8
   pub gives_wrong : {U V : Type 0} (x : U) (record_bytes : List ℕ) (texts : List (List ℕ)) (old new : List (List (List ℕ))) (result : Result V TableFault) (found : TableFault) (at : ℕ)
-      → IsErrAnd result (λ fault. fault ≡ found) → found ≡ Encoding at → Gives (record_of file row) n m [] record_bytes (Ok x) → texts ≡ texts_in definition row.key (decode record_bytes)
+      → IsErrAnd result (λ fault. fault ≡ found) → found ≡ Encoding at → Gives (record_of file row) n m [] record_bytes (Ok x) → texts ≡ texts_in definition row.key (values_of file record_bytes)
       → LacksTexts texts found → GivesRow file definition row n m old new result
   gives_wrong x record_bytes texts old new (Ok y) found at told place read is lacks = absurd told
   gives_wrong {U} {V} x record_bytes texts old new (Err fault) found at told place read is lacks =

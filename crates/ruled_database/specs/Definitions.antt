@@ -257,9 +257,13 @@ first_of statement key = if has_part (codes "collate") statement then key else d
 abbrev pub keyed_definition : List (List ℕ) → List (List Token) → Definition
 keyed_definition first parts = with_known first (with_parts [] first (begun Index first) parts)
 
+-- a table with rowids, which may be this key
+abbrev pub rowid_definition : List (List ℕ) → List (List Token) → Definition
+rowid_definition key parts = with_parts key [] (begun Table []) parts
+
 -- the columns of a statement, in its order
 unfoldable pub definition_of : List ℕ → Definition
 definition_of statement =
     let parts = (read statement).parts in
     let key = key_of parts in
-    if is_keyed (read statement).outside then keyed_definition (first_of statement key) parts else with_parts key [] (begun Table []) parts
+    if is_keyed (read statement).outside then keyed_definition (first_of statement key) parts else rowid_definition key parts

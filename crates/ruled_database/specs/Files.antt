@@ -32,9 +32,9 @@ has_header file = starts_with nat_eq file mark && nat_le 100 (length file) && na
 abbrev pub keeps_log : List ℕ → Bool
 keeps_log file = slice_index_or file 18 0 == 2
 
--- its texts are in UTF-8
-abbrev pub has_utf8 : List ℕ → Bool
-has_utf8 file = nat_le (u32_at file 56) 1
+-- its texts are in an encoding that the format has
+abbrev pub has_encoding : List ℕ → Bool
+has_encoding file = nat_le (u32_at file 56) 3
 
 -- how many whole pages a file has
 abbrev pub page_count : List ℕ → ℕ

@@ -5,6 +5,7 @@ pub mod Reading
 pub mod Tokens
 pub mod Definitions
 pub mod Values
+pub mod Encodings
 pub mod Tables
 pub mod Listings
 pub mod Words

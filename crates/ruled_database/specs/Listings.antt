@@ -5,7 +5,7 @@ use Rattle.std.specs.Str.{str_eq_ignore_ascii_case}
 use Rattle.csv.specs.Records.{AllText, field_at}
 use Rattle.sqlite_sql.specs.Numeral.{int_at_front}
 use Rattle.ruled_database.specs.Definitions.{definition_of}
-use Rattle.ruled_database.specs.Files.{has_header, has_utf8}
+use Rattle.ruled_database.specs.Files.{has_header, has_encoding}
 use Rattle.ruled_database.specs.Tables.{AreRows, HasRow, HasWrongText, IsDamaged, IsOld, names_in}
 use Rattle.ruled_database.specs.declared.definition.Column.{Column}
 use Rattle.ruled_database.specs.declared.definition.Definition.{Definition}
@@ -69,7 +69,7 @@ find name (row ∷ rows) = option_or (named_in name row) (find name rows)
 
 -- a database that is read
 abbrev pub IsRead : List ℕ → Type 0
-IsRead file = (has_header file ≡ true) × (has_utf8 file ≡ true)
+IsRead file = (has_header file ≡ true) × (has_encoding file ≡ true)
 
 unfoldable pub schema_definition : Definition
 schema_definition = definition_of (codes "create table sqlite_schema(type text, name text, tbl_name text, rootpage integer, sql text)")
@@ -177,7 +177,7 @@ pub record IsListing (file : List ℕ) (rows : List (List Text)) : Type 0 where
 
 abbrev pub LacksFile : List ℕ → DatabaseFault → Type 0
 LacksFile file Database = has_header file ≡ false
-LacksFile file Encoding = has_utf8 file ≡ false
+LacksFile file Encoding = has_encoding file ≡ false
 LacksFile file (Schema fault) = ⊥
 LacksFile file Absent = ⊥
 LacksFile file Elsewhere = ⊥
@@ -229,7 +229,7 @@ LacksListed file name fault = (entry : Entry) × IsListed file name entry × Lac
 -- why the rows of a table aren't shown
 abbrev pub LacksTable : List ℕ → List ℕ → DatabaseFault → Type 0
 LacksTable file name Database = has_header file ≡ false
-LacksTable file name Encoding = has_utf8 file ≡ false
+LacksTable file name Encoding = has_encoding file ≡ false
 LacksTable file name (Schema fault) = LacksRows file 1 schema_definition fault
 LacksTable file name Absent = (rows : List (List Text)) × AreListed file rows × (find name rows ≡ None)
 LacksTable file name Elsewhere = LacksListed file name Elsewhere
@@ -242,7 +242,7 @@ LacksTable file name (Table row.Memory) = ⊤
 
 abbrev pub LacksListing : List ℕ → DatabaseFault → Type 0
 LacksListing file Database = has_header file ≡ false
-LacksListing file Encoding = has_utf8 file ≡ false
+LacksListing file Encoding = has_encoding file ≡ false
 LacksListing file (Schema fault) = LacksRows file 1 schema_definition fault ⊎ ((schema : List (List Text)) × AreListed file schema × LacksEntries schema fault)
 LacksListing file Absent = ⊥
 LacksListing file Elsewhere = ⊥

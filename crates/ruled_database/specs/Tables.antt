@@ -11,6 +11,7 @@ use Rattle.sqlite_value.specs.Order.{Row, column}
 use Rattle.sqlite_value.specs.declared.value.Value.{Value}
 use Rattle.sqlite_value.specs.declared.value.Value.TheVariants.{Int}
 use Rattle.ruled_database.specs.Values.{shown_text}
+use Rattle.ruled_database.specs.Encodings.{encoding_of, in_utf8}
 use Rattle.ruled_database.specs.Files.{page_count}
 use Rattle.ruled_database.specs.Reading.{Gives}
 use Rattle.ruled_database.specs.Reads.{Read, all}
@@ -55,21 +56,25 @@ names_in columns = map (λ it. it.name) columns
 
 -- ---- the rows of a tree
 
+-- the values of a record, with texts in UTF-8
+abbrev pub values_of : List ℕ → List ℕ → Row
+values_of file bytes = in_utf8 (encoding_of file) (decode bytes)
+
 module _ (file : List ℕ) (definition : Definition) where
   -- the texts of a row, with the overflow pages that it takes
   abbrev pub shown_row : Stored → Read (List (List (List ℕ)))
-  shown_row row = ((record_of file row).0, option_and_then (λ bytes. row_in definition row.key (decode bytes)) (record_of file row).1)
+  shown_row row = ((record_of file row).0, option_and_then (λ bytes. row_in definition row.key (values_of file bytes)) (record_of file row).1)
 
   abbrev pub shown_rows_of : List Stored → Read (List (List (List ℕ)))
   shown_rows_of rows = all (map shown_row rows)
 
   -- the record of a row lacks the value of a column
   abbrev pub IsOld : Stored → Type 0
-  IsOld row = (bytes : List ℕ) × ((record_of file row).1 ≡ Some bytes) × (length (decode bytes) < definition.least)
+  IsOld row = (bytes : List ℕ) × ((record_of file row).1 ≡ Some bytes) × (length (values_of file bytes) < definition.least)
 
-  -- a text of a row isn't UTF-8
+  -- a text of a row isn't in the encoding of the file
   abbrev pub HasWrongText : Stored → Type 0
-  HasWrongText row = (bytes : List ℕ) × ((record_of file row).1 ≡ Some bytes) × ¬ AllText (texts_in definition row.key (decode bytes))
+  HasWrongText row = (bytes : List ℕ) × ((record_of file row).1 ≡ Some bytes) × ¬ AllText (texts_in definition row.key (values_of file bytes))
 
 -- what reading a row gives
 abbrev pub GivesRow : {U : Type 0} → List ℕ → Definition → Stored → ℕ → ℕ → List (List (List ℕ)) → List (List (List ℕ)) → Result U TableFault → Type 0

@@ -8,12 +8,12 @@ use Rattle.ruled_database.specs.declared.fault.TableFault.TheVariants as row
 abbrev pub table_fault_text : TableFault → List ℕ
 table_fault_text row.Damage = codes "a page is damaged"
 table_fault_text row.Default = codes "a default isn't supported"
-table_fault_text (row.Encoding at) = codes "row " ++ (decimal at ++ codes ": not UTF-8")
+table_fault_text (row.Encoding at) = codes "row " ++ (decimal at ++ codes ": not Unicode")
 table_fault_text row.Memory = codes "out of memory"
 
 abbrev pub database_fault_text : DatabaseFault → List ℕ
 database_fault_text Database = codes "not an SQLite database, or it is encrypted or of an unsupported kind"
-database_fault_text Encoding = codes "a database in UTF-16 isn't supported"
+database_fault_text Encoding = codes "its encoding isn't supported"
 database_fault_text (Schema fault) = codes "the list of the tables: " ++ table_fault_text fault
 database_fault_text Absent = codes "no such table"
 database_fault_text Elsewhere = codes "a view or a virtual table, which stores no rows"

@@ -543,7 +543,22 @@ fn is_keyed(tokens: &[Token]) -> bool
     }
 }
 
-// What a table without rowids has, in whose records the columns of this key come first.
+// The columns with which records begin, by the key of a statement.
+fn first_of<'k>(
+    alloc: Global,
+    statement: &[u8],
+    key: Vec<&'k [u8]>,
+) -> Result<Vec<&'k [u8]>, AllocError>
+    ensures { IfOk result (λ first. map (λ name. name.now) first.items ≡ spec.first_of statement.now (map (λ name. name.now) key.entry.items)) }
+{
+    if has_part(statement, b"collate") {
+        Ok(key)
+    } else {
+        distinct(alloc, &key)
+    }
+}
+
+// What a table without rowids has, in whose records these columns come first.
 fn keyed_definition(
     alloc: Global,
     first: &[&[u8]],
@@ -557,6 +572,18 @@ fn keyed_definition(
     Ok(definition)
 }
 
+// What a table with rowids has, which may be this key.
+fn rowid_definition(
+    alloc: Global,
+    key: &[&[u8]],
+    parts: &[Items<Token>],
+) -> Result<Definition, AllocError>
+    ensures { IfOk result (λ it. it ≡ spec.rowid_definition (map (λ name. name.now) key.now) parts.now) }
+{
+    let begun = Definition::begun(alloc, Tree::Table, &[])?;
+    begun.with_parts(alloc, key, &[], parts)
+}
+
 #[tactic(auto, unfolding(crate::specs::Definitions::definition_of))]
 /// What a statement declares.
 pub(crate) fn definition_of(alloc: Global, statement: &[u8]) -> Result<Definition, AllocError>
@@ -565,13 +592,10 @@ pub(crate) fn definition_of(alloc: Global, statement: &[u8]) -> Result<Definitio
     let tokens = read(alloc, statement)?;
     let parts = tokens.parts.as_slice();
     let key = key_of(alloc, parts)?;
-    if !is_keyed(tokens.outside.as_slice()) {
-        let begun = Definition::begun(alloc, Tree::Table, &[])?;
-        return begun.with_parts(alloc, &key, &[], parts);
+    if is_keyed(tokens.outside.as_slice()) {
+        let first = first_of(alloc, statement, key)?;
+        keyed_definition(alloc, &first, parts)
+    } else {
+        rowid_definition(alloc, &key, parts)
     }
-    if has_part(statement, b"collate") {
-        return keyed_definition(alloc, &key, parts);
-    }
-    let first = distinct(alloc, &key)?;
-    keyed_definition(alloc, &first, parts)
 }

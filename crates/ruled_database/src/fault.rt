@@ -16,7 +16,7 @@ pub enum TableFault {
     Damage,
     /// A row is older than a column whose default isn't understood.
     Default,
-    /// A text of this row isn't UTF-8. The names of the columns are row 0.
+    /// A text of this row isn't in the database's encoding. The names of the columns are row 0.
     Encoding(usize),
     /// Out of memory.
     Memory,
@@ -27,7 +27,7 @@ pub enum TableFault {
 pub enum DatabaseFault {
     /// The bytes hold no database.
     Database,
-    /// Its texts are in UTF-16.
+    /// Its texts are in an encoding that the format lacks.
     Encoding,
     /// The list of the tables can't be read.
     Schema(TableFault),
@@ -83,7 +83,7 @@ impl Display for TableFault {
         let words = match self {
             TableFault::Damage => "a page is damaged",
             TableFault::Default => "a default isn't supported",
-            TableFault::Encoding(row) => return write!(f, "row {row}: not UTF-8"),
+            TableFault::Encoding(row) => return write!(f, "row {row}: not Unicode"),
             TableFault::Memory => "out of memory",
         };
         f.write_str(words)
@@ -99,7 +99,7 @@ impl Display for DatabaseFault {
             DatabaseFault::Database => {
                 "not an SQLite database, or it is encrypted or of an unsupported kind"
             }
-            DatabaseFault::Encoding => "a database in UTF-16 isn't supported",
+            DatabaseFault::Encoding => "its encoding isn't supported",
             DatabaseFault::Schema(fault) => return write!(f, "the list of the tables: {fault}"),
             DatabaseFault::Absent => "no such table",
             DatabaseFault::Elsewhere => "a view or a virtual table, which stores no rows",

@@ -3,8 +3,10 @@
 ghost use Rattle.std.specs.Prelude.{◌≡◌, ◌≤◌, length, slice_index, false, true, MatchOption, option_map, ⊤};
 ghost use Rattle.sqlite_pages.specs.PageMap.{IsUsableSize};
 ghost use Rattle.ruled_database.specs.Files as spec;
-ghost use Rattle.ruled_database.specs.Files.{has_utf8};
+ghost use Rattle.ruled_database.specs.Encodings.{encoding_of};
+ghost use Rattle.ruled_database.specs.Files.{has_encoding};
 
+use crate::encoding::Encoding;
 use sqlite_format::bytes::{get_u16, get_u32};
 
 /// How many bytes the header of a file has.
@@ -73,11 +75,22 @@ impl<'a> File<'a> {
         self.usable
     }
 
-    /// Whether its texts are in UTF-8.
-    pub(crate) fn has_utf8(&self) -> bool
-        ensures { result ≡ has_utf8 self.now.bytes.now }
+    /// Whether its texts are in an encoding that the format has.
+    pub(crate) fn has_encoding(&self) -> bool
+        ensures { result ≡ has_encoding self.now.bytes.now }
     {
-        get_u32(self.bytes, 56) <= 1
+        get_u32(self.bytes, 56) <= 3
+    }
+
+    /// How its texts are written.
+    pub(crate) fn encoding(&self) -> Encoding
+        ensures { result ≡ encoding_of self.now.bytes.now }
+    {
+        match get_u32(self.bytes, 56) {
+            2 => Encoding::Utf16Low,
+            3 => Encoding::Utf16High,
+            _ => Encoding::Utf8,
+        }
     }
 
     /// How many pages it has.

@@ -3,6 +3,7 @@
 #![tactic(auto)]
 
 mod definition;
+mod encoding;
 mod fault;
 mod file;
 mod overflow;

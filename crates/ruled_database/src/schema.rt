@@ -157,14 +157,14 @@ fn rows_of(
     Ok(rows)
 }
 
-// The file of a database with texts in UTF-8.
+// The file of a database, whose texts are in a known encoding.
 fn file_of(bytes: &[u8]) -> Result<File<'_>, DatabaseFault>
     ensures bytes { IfOk result (λ file. file.bytes.now ≡ bytes.now) }
     ensures known { IfOk result (λ file. spec.IsRead bytes.now) }
     ensures fault { IfErr result (spec.LacksFile bytes.now) }
 {
     let file = File::of(bytes).ok_or(DatabaseFault::Database)?;
-    if file.has_utf8() {
+    if file.has_encoding() {
         Ok(file)
     } else {
         Err(DatabaseFault::Encoding)

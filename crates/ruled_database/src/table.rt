@@ -111,6 +111,8 @@ impl<'a> RowReader<'a> {
         self.values.clear();
         self.overflow.read_record(row, &mut self.record)?;
         decode_into(&self.record, 0, &mut self.values)?;
+        let encoding = self.overflow.file.encoding();
+        encoding.to_utf8(alloc, &mut self.values)?;
         if self.values.len() < definition.least {
             return Err(TableFault::Default);
         }
