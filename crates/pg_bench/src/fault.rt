@@ -2,7 +2,9 @@
 
 use crate::tables::refusal::Refusal;
 use pg_layout::RecordsFault;
+use pg_picture::PrintFault;
 use pg_picture::fits::Misfit;
+use pg_stream::{RowsFault, StreamFault};
 use pg_table::TableFault;
 use pg_testing::LineFault;
 use std::alloc::{AllocError, AllocFailed};
@@ -61,6 +63,24 @@ impl From<RecordsFault> for CaseFault {
 
 impl From<Misfit> for CaseFault {
     fn from(_misfit: Misfit) -> CaseFault {
+        CaseFault::Unfit
+    }
+}
+
+impl From<PrintFault> for CaseFault {
+    fn from(fault: PrintFault) -> CaseFault {
+        CaseFault::Table(Refusal::from(fault))
+    }
+}
+
+impl From<StreamFault> for CaseFault {
+    fn from(_fault: StreamFault) -> CaseFault {
+        CaseFault::Unfit
+    }
+}
+
+impl From<RowsFault<AllocError>> for CaseFault {
+    fn from(_fault: RowsFault<AllocError>) -> CaseFault {
         CaseFault::Unfit
     }
 }

@@ -3,6 +3,7 @@
 use crate::case::follow_all;
 use crate::scripts::case::ScriptCase;
 use crate::settings::case::SettingsCase;
+use crate::speed::SpeedCase;
 use crate::streams::case::StreamCase;
 use crate::tables::case::TableCase;
 use crate::texts::case::TextCase;
@@ -28,6 +29,8 @@ enum Subject {
     Streams,
     /// Scripts of `pgshow`.
     Scripts,
+    /// Tables that are built over and over where they are measured.
+    Speed,
 }
 
 impl Subject {
@@ -40,6 +43,7 @@ impl Subject {
             "tables" => Some(Subject::Tables),
             "streams" => Some(Subject::Streams),
             "scripts" => Some(Subject::Scripts),
+            "speed" => Some(Subject::Speed),
             _ => None,
         }
     }
@@ -53,6 +57,7 @@ impl Subject {
             Subject::Tables => ("tables", "drawn"),
             Subject::Streams => ("tables", "printed"),
             Subject::Scripts => ("scripts", "answered"),
+            Subject::Speed => ("tables", "built"),
         }
     }
 
@@ -68,6 +73,7 @@ impl Subject {
             Subject::Tables => follow_tables(alloc, lines, report),
             Subject::Streams => follow_all(&mut StreamCase::new(alloc), lines, report),
             Subject::Scripts => follow_all(&mut ScriptCase::new(alloc), lines, report),
+            Subject::Speed => follow_all(&mut SpeedCase::new(alloc), lines, report),
         }
     }
 }

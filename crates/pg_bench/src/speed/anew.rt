@@ -1,11 +1,11 @@
 //! Tables of which more than the text is made anew in each build: their rows, or all their settings.
 
-use crate::case::Grid;
-use crate::settings::set;
-use crate::table::Table;
-use crate::telling::tell;
-use crate::texts::{SAME, records, sizes};
-use anyhow::Result;
+use crate::fault::CaseFault;
+use crate::speed::case::Grid;
+use crate::speed::settings::set;
+use crate::speed::table::Table;
+use crate::speed::telling::tell;
+use crate::speed::texts::{SAME, records, sizes};
 use pg_config::SpannedConfig;
 use pg_grid::{IterGrid, PeekableGrid, TablePrinter};
 use pg_layout::{ColorsMap, ConstantDimension, NoColors, VecRecords};
@@ -19,7 +19,7 @@ pub(crate) fn text_of_rows(
     table: &Table,
     config: &SpannedConfig,
     times: usize,
-) -> Result<String> {
+) -> Result<String, CaseFault> {
     let mut text = String::new(alloc);
     for _ in 0..times {
         text.clear();
@@ -42,7 +42,7 @@ fn push_rows(
     table: &Table,
     config: &SpannedConfig,
     text: &mut String,
-) -> Result<()> {
+) -> Result<(), CaseFault> {
     let mut stream = RowStream::new(alloc, config, table, &NoColors, table.columns, None)?;
     for _ in 0..table.rows {
         stream = stream.push(row_of(alloc, table)?, text)?;
@@ -56,7 +56,7 @@ fn print_rows(
     table: &Table,
     config: &SpannedConfig,
     text: &mut String,
-) -> Result<()> {
+) -> Result<(), CaseFault> {
     let stream = RowStream::new(alloc, config, table, &NoColors, table.columns, None)?;
     let mut rows = (0..table.rows).map(|_| row_of(alloc, table));
     Ok(stream.print_results(&mut rows, text)?)
@@ -68,7 +68,7 @@ fn push_live(
     table: &Table,
     config: &SpannedConfig,
     text: &mut String,
-) -> Result<()> {
+) -> Result<(), CaseFault> {
     let mut stream = LiveStream::new(alloc, config, table, &NoColors, table.columns)?;
     for _ in 0..table.rows {
         stream.push(row_of(alloc, table)?, text)?;
@@ -82,7 +82,7 @@ fn push_lent(
     table: &Table,
     config: &SpannedConfig,
     text: &mut String,
-) -> Result<()> {
+) -> Result<(), CaseFault> {
     let row = row_of(alloc, table)?;
     let mut stream: LiveStream<'_, &str, Table, NoColors> = LiveStream::new(
         alloc,
@@ -103,7 +103,7 @@ fn push_sized(
     table: &Table,
     config: &SpannedConfig,
     text: &mut String,
-) -> Result<()> {
+) -> Result<(), CaseFault> {
     let mut stream = SizedStream::new(alloc, config, table, &NoColors, table.columns)?;
     for _ in 0..table.rows {
         stream.push(table.height, row_of(alloc, table)?, text)?;
@@ -123,7 +123,7 @@ fn print_vectors(
     table: &Table,
     config: &SpannedConfig,
     text: &mut String,
-) -> Result<()> {
+) -> Result<(), CaseFault> {
     let mut rows = Vec::new(alloc);
     for _ in 0..table.rows {
         rows.push(row_of(alloc, table)?)?;
@@ -148,7 +148,7 @@ fn print_vectors(
 
 /// The text of a table as the looked-up grid prints it by its checked call, built so many times, and
 /// each time by settings and colours that are set anew.
-pub(crate) fn told(alloc: Global, table: &Table, times: usize) -> Result<String> {
+pub(crate) fn told(alloc: Global, table: &Table, times: usize) -> Result<String, CaseFault> {
     let records = records(alloc, table)?;
     let dimension = sizes(alloc, table)?;
     let mut text = String::new(alloc);
@@ -166,7 +166,7 @@ fn push_told(
     records: &VecRecords<String>,
     dimension: &ConstantDimension,
     text: &mut String,
-) -> Result<()> {
+) -> Result<(), CaseFault> {
     let mut config = SpannedConfig::new(alloc);
     let mut colors = ColorsMap::new(alloc);
     set(alloc, table, &mut config)?;

@@ -1,12 +1,12 @@
 //! Tables, built over and over into one buffer.
 
-use crate::anew::{text_of_rows, told};
-use crate::case::{Case, Grid};
-use crate::made_records::MadeRecords;
-use crate::settings::{colors, compact_settings, set};
-use crate::table::Table;
-use crate::texts::{SAME, records, sizes};
-use anyhow::Result;
+use crate::fault::CaseFault;
+use crate::speed::anew::{text_of_rows, told};
+use crate::speed::case::{Case, Grid};
+use crate::speed::made_records::MadeRecords;
+use crate::speed::settings::{colors, compact_settings, set};
+use crate::speed::table::Table;
+use crate::speed::texts::{SAME, records, sizes};
 use pg_config::{CompactConfig, SpannedConfig};
 use pg_grid::{CompactGrid, IterGrid, PeekableGrid, TablePrinter};
 use pg_layout::{Colors, ConstantDimension, ExactRecords, NoColors, Records, VecRecords};
@@ -15,7 +15,7 @@ use pg_table::NaturalTable;
 use std::alloc::Global;
 
 /// The text of the table of a case, built so many times.
-pub(crate) fn text_of(alloc: Global, case: &Case, times: usize) -> Result<String> {
+pub(crate) fn text_of(alloc: Global, case: &Case, times: usize) -> Result<String, CaseFault> {
     let Case(_, grid, table) = case;
     match grid {
         Grid::Compact => compact_text(alloc, false, table, times),
@@ -26,7 +26,12 @@ pub(crate) fn text_of(alloc: Global, case: &Case, times: usize) -> Result<String
 }
 
 // The text of a table whose cells may span rows and columns, built so many times.
-fn spanned_text(alloc: Global, grid: &Grid, table: &Table, times: usize) -> Result<String> {
+fn spanned_text(
+    alloc: Global,
+    grid: &Grid,
+    table: &Table,
+    times: usize,
+) -> Result<String, CaseFault> {
     let mut config = SpannedConfig::new(alloc);
     set(alloc, table, &mut config)?;
     match grid {
@@ -48,7 +53,7 @@ fn text_of_records(
     table: &Table,
     config: &SpannedConfig,
     times: usize,
-) -> Result<String> {
+) -> Result<String, CaseFault> {
     let records = records(alloc, table)?;
     let dimension = sizes(alloc, table)?;
     match grid {
@@ -72,7 +77,7 @@ fn text_of_records(
 }
 
 // The text of a table as a grid prints it, built so many times after one test.
-fn built<P: TablePrinter + Copy>(alloc: Global, grid: P, times: usize) -> Result<String>
+fn built<P: TablePrinter + Copy>(alloc: Global, grid: P, times: usize) -> Result<String, CaseFault>
     requires readable { P.is_readable grid }
 {
     grid.fits()?;
@@ -91,7 +96,7 @@ fn checked(
     dimension: &ConstantDimension,
     config: &SpannedConfig,
     times: usize,
-) -> Result<String> {
+) -> Result<String, CaseFault> {
     let grid = PeekableGrid::new(records, config, dimension, NoColors);
     let mut text = String::new(alloc);
     for _ in 0..times {
@@ -108,7 +113,7 @@ fn tested(
     dimension: &ConstantDimension,
     config: &SpannedConfig,
     times: usize,
-) -> Result<String> {
+) -> Result<String, CaseFault> {
     let grid = PeekableGrid::new(records, config, dimension, NoColors);
     for _ in 0..times {
         grid.fits()?;
@@ -122,7 +127,7 @@ fn streamed_as_made(
     table: &Table,
     config: &SpannedConfig,
     times: usize,
-) -> Result<String> {
+) -> Result<String, CaseFault> {
     let records = MadeRecords {
         text: SAME,
         rows: table.rows,
@@ -138,7 +143,7 @@ fn natural(
     records: &VecRecords<String>,
     config: &SpannedConfig,
     times: usize,
-) -> Result<String> {
+) -> Result<String, CaseFault> {
     let table = NaturalTable::new(records, config, &NoColors);
     let mut text = String::new(alloc);
     for _ in 0..times {
@@ -149,7 +154,12 @@ fn natural(
 }
 
 // The text of a table of the compact grid, built so many times.
-fn compact_text(alloc: Global, is_colored: bool, table: &Table, times: usize) -> Result<String> {
+fn compact_text(
+    alloc: Global,
+    is_colored: bool,
+    table: &Table,
+    times: usize,
+) -> Result<String, CaseFault> {
     let records = records(alloc, table)?;
     let dimension = sizes(alloc, table)?;
     let config = compact_settings(is_colored);
@@ -168,7 +178,7 @@ fn compact<C: Colors>(
     config: &CompactConfig,
     colors: &C,
     times: usize,
-) -> Result<String> {
+) -> Result<String, CaseFault> {
     compact_fits(config, dimension, records.count_columns())?;
     // Shows that there are no more rows than can be counted.
     let _rows = records.count_rows();

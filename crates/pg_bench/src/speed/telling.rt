@@ -1,7 +1,7 @@
 //! What is set for single cells and rows of a table.
 
-use crate::settings::color_cell;
-use crate::table::{Table, Telling};
+use crate::speed::settings::color_cell;
+use crate::speed::table::{Table, Telling};
 use pg_config::SpannedConfig;
 use pg_layout::{AlignmentHorizontal, Border, Borders, ColorsMap, Entity, Indent, Position, Sides};
 use std::alloc::{AllocError, Global};

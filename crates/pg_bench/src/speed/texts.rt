@@ -1,7 +1,7 @@
 //! What the cells of the tables say, and their sizes in memory.
 
-use crate::table::{Table, Words};
-use anyhow::Result;
+use crate::fault::CaseFault;
+use crate::speed::table::{Table, Words};
 use pg_layout::{ConstantDimension, VecRecords};
 use std::alloc::{AllocError, Global};
 
@@ -17,7 +17,7 @@ pub(crate) fn sizes(alloc: Global, table: &Table) -> Result<ConstantDimension, A
 }
 
 /// The texts of a table.
-pub(crate) fn records(alloc: Global, table: &Table) -> Result<VecRecords<String>> {
+pub(crate) fn records(alloc: Global, table: &Table) -> Result<VecRecords<String>, CaseFault> {
     let mut rows = Vec::new(alloc);
     for row in 0..table.rows {
         rows.push(texts_of_row(alloc, row, table)?)?;

@@ -1,6 +1,6 @@
 //! The tables that are built, by name.
 
-use crate::table::{Spans, Table, Telling, Words};
+use crate::speed::table::{Spans, Table, Telling, Words};
 
 /// A name, what prints, and the table.
 pub(crate) struct Case(pub(crate) &'static str, pub(crate) Grid, pub(crate) Table);
@@ -331,11 +331,7 @@ const BOX209: Table = Table {
     ..BOX
 };
 
-/// How many cases `--all` builds, from the first one on.
-pub(crate) const COMMON: usize = 29;
-
-/// All cases, as they are listed. After the common ones come tables of other sizes, some of which take
-/// long, and tables that are printed by other calls.
+/// All tables, as they are listed. Some of them take long.
 pub(crate) static CASES: [Case; 67] = [
     Case("peek_basic", Grid::Peekable, BASIC),
     Case("peek_spans", Grid::Peekable, SPANS),

@@ -1,8 +1,8 @@
 //! The settings of the tables.
 
-use crate::table::Table;
-use crate::telling::position;
-use anyhow::{Result, bail};
+use crate::fault::CaseFault;
+use crate::speed::table::Table;
+use crate::speed::telling::position;
 use pg_config::{CompactConfig, SpannedConfig};
 use pg_layout::{
     ANSIBuf, ANSIStr, AlignmentHorizontal, AlignmentVertical, Borders, ColorsMap, Entity, Indent,
@@ -15,10 +15,12 @@ use std::alloc::{AllocError, Global};
 const PLAIN: &str = "\u{1b}[39m";
 
 /// Tells a configuration all that a table sets.
-pub(crate) fn set(alloc: Global, table: &Table, config: &mut SpannedConfig) -> Result<()> {
-    if apply_all(config, alloc, table.look).is_err() {
-        bail!("a look isn't told");
-    }
+pub(crate) fn set(
+    alloc: Global,
+    table: &Table,
+    config: &mut SpannedConfig,
+) -> Result<(), CaseFault> {
+    apply_all(config, alloc, table.look)?;
     Ok(span(config, table)?)
 }
 
