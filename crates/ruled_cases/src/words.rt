@@ -115,6 +115,7 @@ fn set_value(request: &mut Request, name: &str, value: &str) -> Option<()> {
         "log" => request.source.set_log(log_of(value)?),
         "no-header" => view.has_header = false,
         "number" => view.is_numbered = true,
+        "omit" => view.is_omitting = true,
         "raw" => view.is_raw = true,
         "vertical" => view.is_vertical = true,
         "markdown" => {
