@@ -1,6 +1,7 @@
 //! Why a query has no rows.
 
 ghost use Rattle.std.specs.Prelude.{◌≡◌};
+ghost use Rattle.ruled_sql.specs.Words.{query_fault_text, sql_fault_text};
 ghost use Rattle.ruled_sql.specs.declared.fault.QueryFault.{QueryFault};
 ghost use Rattle.ruled_sql.specs.declared.fault.SqlFault.TheVariants.{Query};
 
@@ -70,6 +71,8 @@ impl From<QueryFault> for SqlFault {
 
 /// Writes what is wrong.
 impl Display for QueryFault {
+    ghost output = { query_fault_text };
+
     fn fmt<W: fmt::Write>(&self, f: &mut fmt::Formatter<W>) -> fmt::Result {
         match self {
             QueryFault::Refused(Error::SqlInputError(error)) => {
@@ -88,6 +91,8 @@ impl Display for QueryFault {
 
 /// Writes what is wrong.
 impl Display for SqlFault {
+    ghost output = { sql_fault_text };
+
     fn fmt<W: fmt::Write>(&self, f: &mut fmt::Formatter<W>) -> fmt::Result {
         let words = match self {
             SqlFault::Database => {
