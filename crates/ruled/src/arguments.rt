@@ -7,6 +7,7 @@ use ruled_io::{Format, Kind, Log, OneLine, Request, RowRules, Rows, Selection, S
 use ruled_table::{Bounds, Breaking, Look, Options, Overflow};
 use std::alloc::{AllocError, Global};
 use std::env::VarError;
+use std::io::IsTerminal;
 use std::{env, io};
 
 static RAGGED: [&str; 2] = ["pad", "cut"];
@@ -28,6 +29,15 @@ pub(crate) enum Asked {
     Table(Wanted),
     /// Nothing more than was printed, and this exit status.
     Told(u8),
+}
+
+/// What is known of the terminal.
+#[derive(Clone, Copy)]
+struct Screen {
+    /// How many columns it has, if a variable says that.
+    columns: Option<u32>,
+    /// Whether the output goes to it.
+    is_output: bool,
 }
 
 /// What an argument takes.
@@ -79,7 +89,7 @@ const FLAG: Choice = Choice {
 };
 
 /// All arguments, in the order of the help.
-const CHOICES: [Choice; 24] = [
+const CHOICES: [Choice; 26] = [
     Choice {
         name: "file",
         value: "FILE",
@@ -238,6 +248,18 @@ const CHOICES: [Choice; 24] = [
         name: "cut",
         conflicts: &["wrap"],
         help: "Cut texts that are too wide, and end them with …",
+        ..FLAG
+    },
+    Choice {
+        name: "omit",
+        conflicts: &["markdown", "vertical"],
+        help: "Leave out columns in the middle that have no room, which is the default if the output is a terminal",
+        ..FLAG
+    },
+    Choice {
+        name: "no-omit",
+        conflicts: &["omit"],
+        help: "Print all columns, even if the table gets too wide",
         ..FLAG
     },
     Choice {
@@ -573,12 +595,17 @@ fn copy_of(alloc: Global, text: Option<&str>) -> Result<Option<String>, AllocErr
     }
 }
 
+// Whether columns that have no room are left out: where that is asked for, or the output is a terminal.
+fn is_omitting(found: &ArgMatches, screen: Screen) -> bool {
+    found.get_flag("omit") || (screen.is_output && !found.get_flag("no-omit"))
+}
+
 // How rows are shown.
 fn view_of(
     alloc: Global,
     found: &ArgMatches,
     look: Look,
-    columns: Option<u32>,
+    screen: Screen,
 ) -> Result<Options, AllocError> {
     Ok(Options {
         look,
@@ -591,8 +618,8 @@ fn view_of(
         head: found.get_one::<u32>("head"),
         tail: found.get_one::<u32>("tail"),
         is_vertical: found.get_flag("vertical"),
-        bounds: bounds_of(alloc, found, columns)?,
-        is_omitting: false,
+        bounds: bounds_of(alloc, found, screen.columns)?,
+        is_omitting: is_omitting(found, screen),
         is_raw: found.get_flag("raw"),
         is_markdown: found.get_flag("markdown"),
     })
@@ -624,10 +651,10 @@ fn table_of(
     found: &ArgMatches,
     source: Source,
     look: Look,
-    columns: Option<u32>,
+    screen: Screen,
 ) -> Result<Wanted, AllocError> {
     let file = copy_of(alloc, name_in(found))?;
-    let view = view_of(alloc, found, look, columns)?;
+    let view = view_of(alloc, found, look, screen)?;
     let source = match selection_of(alloc, found)? {
         Some(selection) => database(selection),
         None => source,
@@ -710,10 +737,13 @@ fn input_and_look(found: &ArgMatches) -> Result<(Source, Look), &'static str> {
 
 // What the arguments ask for that clap has read.
 fn asked_of(rt: &HostRuntime, found: &ArgMatches) -> io::Result<Asked> {
-    let columns = columns_told(rt)?;
+    let screen = Screen {
+        columns: columns_told(rt)?,
+        is_output: rt.stdout().is_terminal(),
+    };
     match input_and_look(found) {
         Ok((source, look)) => {
-            let wanted = table_of(rt.alloc(), found, source, look, columns)?;
+            let wanted = table_of(rt.alloc(), found, source, look, screen)?;
             Ok(Asked::Table(wanted))
         }
         Err(told) => {
