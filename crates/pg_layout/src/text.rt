@@ -93,8 +93,7 @@ pub fn is_plain(bytes: &[u8]) -> bool
     ensures { result ≡ list_all is_plain_byte bytes.now }
 {
     match bytes.len() {
-        0 => true,
-        1..4 => are_plain_bytes(bytes),
+        0..4 => bytes.is_empty() || are_plain_bytes(bytes),
         4..=8 => has_plain_ends::<4>(bytes),
         9..=16 => has_plain_ends::<8>(bytes),
         _ => has_plain_blocks(bytes),
