@@ -229,6 +229,7 @@ impl TextFacts {
 
     /// The facts of the text at a place of records. The row is below `count_rows` of the records, and
     /// the column below `count_columns`.
+    #[inline(always)]
     pub fn of_records<R: PeekableRecords>(
         records: &R,
         pos: Position,
