@@ -6,7 +6,7 @@ use Rattle.pg_layout.specs.declared.position.Position.{Position}
 use Rattle.pg_layout.specs.declared.borders.Borders.{Borders}
 use Rattle.pg_layout.specs.Borders.{ends, has_side, horizontal_glyph, crossing_glyph, vertical_glyph, any_of, has_left, has_right, has_inner_vertical}
 use Rattle.pg_layout.specs.Position.{at}
-use Rattle.pg_config.specs.Settings.{has_some, Settings, is_for_all, setting_of}
+use Rattle.pg_config.specs.Settings.{has_some, Settings, is_for_all, is_by_column, setting_of}
 use Rattle.pg_config.specs.Overrides.{Overrides, sets_rows, horizontal_override, crossing_override, overrides_row, overrides_column, with_row, line_crossing, has_glyph, with_row_line, on_lines, with_round, sets_columns, vertical_override}
 use Rattle.pg_config.specs.Offsets.{Offsets, has_offsets, lookup_offset}
 use Rattle.pg_config.specs.Config.{Config, has_equal_row_lines, has_horizontal, get_horizontal, get_intersection, get_horizontal_color, get_intersection_color, has_vertical, get_vertical, get_vertical_color, has_column_lines, get_padding, get_padding_color, get_alignment_horizontal, get_alignment_vertical, get_formatting, get_justification, get_justification_color}
@@ -24,7 +24,7 @@ use Rattle.pg_layout.specs.declared.borders.Border.{Border}
 use Rattle.std.proofs.lemmas.Option.{none-some}
 use Rattle.pg_config.specs.Cells.{style_at}
 use Rattle.pg_config.specs.Common.{has_one_style_but_across, inner_vertical}
-use Rattle.pg_config.proofs.SettingsLaw.{for_all-base}
+use Rattle.pg_config.proofs.SettingsLaw.{for_all-base, by_column-same}
 
 -- ---- row lines and column lines: which are equal, which have no glyph, and the places along a row line
 
@@ -430,10 +430,10 @@ one_style_but_across config h p q =
     let fills = and_parts _ _ second.1 in
     rw (same config.padding paddings.0 p q, same config.padding_color paddings.1 p q, same config.alignment_vertical first.1 p q, same config.trim_horizontal lines.0 p q, same config.trim_vertical trims.0 p q, same config.line_alignment trims.1 p q, same config.justification fills.0 p q, same config.justification_color fills.1 p q) refl
 
--- They have one horizontal alignment where none is for a row, a column or a cell alone
-pub one_side : (config : Config) → is_for_all config.alignment_horizontal ≡ true → (p q : Position) → get_alignment_horizontal config p ≡ get_alignment_horizontal config q
+-- Each cell has the horizontal alignment of the first cell of its column where none is for a row or a cell alone
+pub sided-by_column : (config : Config) → is_by_column config.alignment_horizontal ≡ true → (p : Position) → get_alignment_horizontal config (at 0 p.col) ≡ get_alignment_horizontal config p
 unfolding get_alignment_horizontal
-one_side config h p q = rw (same config.alignment_horizontal h p q) refl
+sided-by_column config h p = rw (by_column-same config.alignment_horizontal p h) refl
 
 is_not_first : (i n : ℕ) → IsInner i n → (i == 0) ≡ false
 is_not_first i n inner = grind (arith, nat_tests, inner.some)

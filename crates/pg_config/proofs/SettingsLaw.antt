@@ -6,7 +6,7 @@ use Rattle.pg_layout.specs.declared.position.Position.{Position}
 use Rattle.pg_layout.specs.Keys.{Order, by_number, by_place}
 use Rattle.pg_layout.specs.Places.{value_at, same, before, with_place}
 use Rattle.pg_config.specs.Inside.NamedSettings.{first_of, with_base}
-use Rattle.pg_config.specs.Settings.{Settings, no_settings, has_some, is_for_all, is_set, setting_of, number_above, next_number, latest, with_setting}
+use Rattle.pg_config.specs.Settings.{Settings, no_settings, has_some, is_for_all, is_by_column, is_set, setting_of, number_above, next_number, latest, with_setting}
 use Rattle.pg_layout.proofs.KeyedPlaces.{number-laws, place-laws, value_at-with_place}
 use Rattle.pg_layout.specs.declared.position.Entity.{Entity}
 use Rattle.pg_layout.specs.declared.position.Entity.TheVariants.{Global, Row, Column, Cell}
@@ -24,6 +24,13 @@ for_all-base s p h =
     let all = and_parts ((length s.cells == 0) && (length s.rows == 0)) (length s.columns == 0) h in
     let two = and_parts (length s.cells == 0) (length s.rows == 0) all.0 in
     rw (none_at by_place p s.cells two.0, none_at by_number p.row s.rows two.1, none_at by_number p.col s.columns all.1) refl
+
+-- Where nothing was set for a row or a cell, a place has the setting of the first one of its column.
+pub by_column-same : {V : Type 0} (s : Settings V) (p : Position) → is_by_column s ≡ true → setting_of s (at 0 p.col) ≡ setting_of s p
+unfolding setting_of
+by_column-same s p h =
+    let two = and_parts (length s.cells == 0) (length s.rows == 0) h in
+    rw (none_at by_place p s.cells two.0, none_at by_number p.row s.rows two.1, none_at by_place (at 0 p.col) s.cells two.0, none_at by_number 0 s.rows two.1) refl
 
 -- Where nothing was set, no place has a setting.
 unset-parts : {V : Type 0} (base : Option V) (rows columns : List (ℕ × (ℕ × V))) (cells : List (Position × (ℕ × V))) (p : Position) → ((is_some base || has_some cells) || (has_some rows || has_some columns)) ≡ false → setting_of (record { base = base; rows = rows; columns = columns; cells = cells }) p ≡ None

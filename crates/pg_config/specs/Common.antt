@@ -1,7 +1,7 @@
 -- What all cells have in common, and all verticals between two columns.
 use Rattle.std.specs.Prelude.{◌≡◌, ℕ, Bool, ◌&&◌, ◌||◌, Option, None, is_some, if◌then◌else◌}
 use Rattle.pg_layout.specs.declared.position.Position.{Position}
-use Rattle.pg_layout.specs.declared.alignment.AlignmentHorizontal.{AlignmentHorizontal}
+use Rattle.pg_layout.specs.Position.{at}
 use Rattle.pg_config.specs.Settings.{is_for_all, has_some}
 use Rattle.pg_config.specs.Config.{Config, get_alignment_horizontal}
 use Rattle.pg_config.specs.Cells.{Style, style_at}
@@ -23,6 +23,6 @@ inner_vertical config =
 abbrev pub IsStyleButAcross : Config → Style → Type 0
 IsStyleButAcross config style = (p : Position) → record style { across = get_alignment_horizontal config p } ≡ style_at config p
 
--- each cell has this horizontal alignment
-abbrev pub IsSideOfAll : Config → AlignmentHorizontal → Type 0
-IsSideOfAll config side = (p : Position) → side ≡ get_alignment_horizontal config p
+-- each cell has the horizontal alignment of the first cell of its column
+abbrev pub IsSidedByColumn : Config → Type 0
+IsSidedByColumn config = (p : Position) → get_alignment_horizontal config (at 0 p.col) ≡ get_alignment_horizontal config p

@@ -36,6 +36,10 @@ module _ {V : Type 0} where
   abbrev pub is_for_all : Settings V → Bool
   is_for_all s = ((length s.cells == 0) && (length s.rows == 0)) && (length s.columns == 0)
 
+  -- nothing was set for a row or a cell
+  abbrev pub is_by_column : Settings V → Bool
+  is_by_column s = (length s.cells == 0) && (length s.rows == 0)
+
   -- the later of two settings
   abbrev pub latest : Option (ℕ × V) → Option (ℕ × V) → Option (ℕ × V)
   latest None b = b

@@ -4,7 +4,7 @@ ghost use Rattle.std.specs.Prelude.{◌≡◌, ◌≢◌, ◌||◌, [], ℕ, suc
 ghost use Rattle.pg_layout.specs.Keys.{by_place};
 ghost use Rattle.pg_layout.specs.Places.{value_at, with_place};
 ghost use Rattle.pg_config.specs.Inside.NamedSettings.{first_of, with_base};
-ghost use Rattle.pg_config.specs.Settings.{no_settings, has_some, latest, value_or, setting_of, with_setting, HasRoom, is_set, is_for_all};
+ghost use Rattle.pg_config.specs.Settings.{no_settings, has_some, latest, value_or, setting_of, with_setting, HasRoom, is_set, is_for_all, is_by_column};
 
 use crate::extent::Extent;
 use pg_layout::{Entity, Key, Places, Position};
@@ -71,6 +71,16 @@ impl<V, A: Allocator> Settings<V, A> {
     {
         match self.named.as_slice() {
             [named, ..] => named.is_empty(),
+            [] => true,
+        }
+    }
+
+    // Whether nothing was set for a row or a cell: then each place has the setting of its column.
+    pub(crate) fn is_by_column(&self) -> bool
+        ensures { result ≡ is_by_column self.now }
+    {
+        match self.named.as_slice() {
+            [named, ..] => named.cells.is_empty() && named.rows.is_empty(),
             [] => true,
         }
     }

@@ -1,5 +1,6 @@
 -- What only the bodies of printers and their proofs need: no contract of a grid's call or of a condition stands on it.
 pub mod Cells
+pub mod ColumnSides
 pub mod Styles
 pub mod KeptSeparators
 pub mod Margins

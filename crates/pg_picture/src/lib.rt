@@ -3,6 +3,7 @@
 
 mod border;
 mod cell;
+mod column_sides;
 mod compact_cell;
 mod compact_margin;
 mod compact_run;

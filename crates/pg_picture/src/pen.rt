@@ -107,12 +107,12 @@ where
         self.sheet.colors.get_color(pos)
     }
 
-    /// The horizontal alignment of a cell, which isn't looked up if all cells have one.
+    /// The horizontal alignment of a cell, which isn't looked up if the sheet has that of its column.
     #[inline(always)]
     pub fn side_of(self, pos: Position) -> AlignmentHorizontal
         ensures { result ≡ get_alignment_horizontal T.table.config pos }
     {
-        match self.sheet.side {
+        match self.sheet.sides.get(pos.col) {
             Some(side) => side,
             None => self.sheet.config.get_alignment_horizontal(pos),
         }

@@ -2,15 +2,16 @@
 
 ghost use Rattle.std.specs.Prelude.{◌≡◌, ◌&&◌, ◌||◌, ◌==◌, nat_lt};
 ghost use Rattle.std.specs.Option.{ForSome};
+ghost use Rattle.pg_picture.specs.Inside.ColumnSides.{AreSidesOf};
 ghost use Rattle.pg_picture.specs.Inside.Cells.{are_simple, has_plain_sides};
 ghost use Rattle.pg_picture.specs.Inside.RowLines.{may_have_row_lines};
 ghost use Rattle.pg_picture.specs.Inside.Verticals.{verticals_of};
 ghost use Rattle.pg_config.specs.Cells.{style_of};
-ghost use Rattle.pg_config.specs.Common.{IsStyleButAcross, IsSideOfAll, inner_vertical};
+ghost use Rattle.pg_config.specs.Common.{IsStyleButAcross, inner_vertical};
 
 use crate::cell::shows_texts_whole;
+use crate::column_sides::ColumnSides;
 use pg_config::{CellStyle, SpannedConfig};
-use pg_layout::AlignmentHorizontal;
 use std::alloc::{Allocator, Global};
 
 /// What verticals a table has.
@@ -41,9 +42,9 @@ pub struct Sheet<'a, D, C, B: Allocator = Global> {
     /// The style of all cells, if no setting is for only some of them.
     pub all: Option<CellStyle<'a, B>>,
     ghost is_of_all: { ForSome all (λ style. IsStyleButAcross config.now (style_of style)) },
-    /// The horizontal alignment of all cells, if none is for only some of them.
-    pub side: Option<AlignmentHorizontal>,
-    ghost is_side: { ForSome side (IsSideOfAll config.now) },
+    /// The horizontal alignments of the first columns.
+    pub(crate) sides: ColumnSides,
+    ghost are_sides: { AreSidesOf config.now sides },
     /// Whether all cells have a style that is simple to draw: a text of one line between columns of
     /// one character without colours.
     pub is_simple: bool,
@@ -93,7 +94,7 @@ impl<'a, D, C, B: Allocator> Sheet<'a, D, C, B> {
             width,
             height,
             all,
-            side: config.side_of_all(),
+            sides: ColumnSides::of(config, columns),
             is_simple: are_simple(&all),
             verticals: verticals_of(config),
             inner: config.inner_vertical(),
@@ -120,7 +121,7 @@ impl<'a, D, C, B: Allocator> Sheet<'a, D, C, B> {
             width: self.width,
             height: self.height,
             all: self.all,
-            side: self.side,
+            sides: self.sides,
             is_simple: self.is_simple,
             verticals: self.verticals,
             inner: self.inner,

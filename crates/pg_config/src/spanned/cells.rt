@@ -1,12 +1,12 @@
 //! The settings of cells, and the style of a cell.
 
-ghost use Rattle.std.specs.Prelude.{◌≡◌, ⊤, option_map, OnOk, OnErr, IsOk, is_some};
+ghost use Rattle.std.specs.Prelude.{◌≡◌, ⊤, option_map, OnOk, OnErr, IsOk, IsTrue, is_some};
 ghost use Rattle.std.specs.Option.{ForSome};
-ghost use Rattle.pg_config.specs.Settings.{no_settings, with_setting, HasRoom, is_for_all};
+ghost use Rattle.pg_config.specs.Settings.{no_settings, with_setting, HasRoom, is_by_column};
 ghost use Rattle.pg_config.specs.Config.{get_padding, get_padding_color, get_alignment_horizontal, get_alignment_vertical, get_formatting};
 ghost use Rattle.pg_config.specs.Config.{get_justification, get_justification_color, has_padding_color, has_justification, has_one_style};
 ghost use Rattle.pg_config.specs.Cells.{style_at, style_of, IsStyleOfAll};
-ghost use Rattle.pg_config.specs.Common.{has_one_style_but_across, IsStyleButAcross, IsSideOfAll};
+ghost use Rattle.pg_config.specs.Common.{has_one_style_but_across, IsStyleButAcross, IsSidedByColumn};
 
 use crate::settings::Settings;
 use crate::spanned::SpannedConfig;
@@ -253,16 +253,13 @@ impl<A: Allocator> SpannedConfig<A> {
             && (cells.justification.is_for_all() && cells.justification_color.is_for_all())
     }
 
-    /// The horizontal alignment that all cells have, if none was set for a row, a column or a cell
+    /// Whether each cell has the horizontal alignment of its column: none was set for a row or a cell
     /// alone.
-    pub fn side_of_all(&self) -> Option<AlignmentHorizontal>
-        ensures of { ForSome result (IsSideOfAll self.now) }
-        ensures there { is_some result ≡ is_for_all self.now.alignment_horizontal }
+    pub fn has_sides_by_column(&self) -> bool
+        ensures set { result ≡ is_by_column self.now.alignment_horizontal }
+        ensures sided { IsTrue result → IsSidedByColumn self.now }
     {
-        if !self.cells.alignment_horizontal.is_for_all() {
-            return None;
-        }
-        Some(self.get_alignment_horizontal(Position::new(0, 0)))
+        self.cells.alignment_horizontal.is_by_column()
     }
 
     /// Sets the character that fills the room beside a text's lines.
