@@ -53,30 +53,44 @@ impl<A: Allocator + Copy> Draft<A> {
         ensures told { OnOk result (told_of_draft self.new ≡ change_of statement (told_of_draft self.old)) }
     {
         match statement {
-            Statement::Widths(widths) => self.dimension.0 = widths,
-            Statement::Heights(heights) => self.dimension.1 = heights,
-            Statement::Cell(place, text) => self.texts.set(place, text),
-            Statement::Borders(borders) => self.config.set_borders(borders),
+            Statement::Widths(widths) => {
+                self.dimension.0 = widths;
+                Ok(())
+            }
+            Statement::Heights(heights) => {
+                self.dimension.1 = heights;
+                Ok(())
+            }
+            Statement::Cell(place, text) => {
+                self.texts.set(place, text);
+                Ok(())
+            }
+            Statement::Borders(borders) => {
+                self.config.set_borders(borders);
+                Ok(())
+            }
             Statement::HorizontalAlignment(entity, alignment) => {
-                self.config.set_alignment_horizontal(entity, alignment)?;
+                self.config.set_alignment_horizontal(entity, alignment)
             }
             Statement::VerticalAlignment(entity, alignment) => {
-                self.config.set_alignment_vertical(entity, alignment)?;
+                self.config.set_alignment_vertical(entity, alignment)
             }
-            Statement::Padding(entity, padding) => self.config.set_padding(entity, padding)?,
+            Statement::Padding(entity, padding) => self.config.set_padding(entity, padding),
             Statement::Trim(entity, horizontal, vertical) => {
                 self.config.set_trim_horizontal(entity, horizontal)?;
-                self.config.set_trim_vertical(entity, vertical)?;
+                self.config.set_trim_vertical(entity, vertical)
             }
-            Statement::Lines(entity, aligns) => self.config.set_line_alignment(entity, aligns)?,
-            Statement::Margin(margin) => self.config.set_margin(margin),
-            Statement::Color(place, color) => self.colors.set(place, color)?,
+            Statement::Lines(entity, aligns) => self.config.set_line_alignment(entity, aligns),
+            Statement::Margin(margin) => {
+                self.config.set_margin(margin);
+                Ok(())
+            }
+            Statement::Color(place, color) => self.colors.set(place, color),
             Statement::Span(place, rows, columns) => {
                 self.config.set_row_span(place, rows)?;
-                self.config.set_column_span(place, columns)?;
+                self.config.set_column_span(place, columns)
             }
         }
-        Ok(())
     }
 
     /// The script of this table.

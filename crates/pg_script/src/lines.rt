@@ -8,7 +8,7 @@ ghost use Rattle.std.specs.Str.Lines.{lines, strip_carriage_return};
 ///
 /// A line feed ends a line; one at the very end begins no further line. A carriage return directly
 /// before a line feed isn't part of the line.
-#[derive(Debug, Clone, Drop)]
+#[derive(Drop)]
 pub(crate) struct Lines<'a> {
     rest: &'a [u8],
 }

@@ -187,7 +187,7 @@ fn borders<A: Allocator>(mut words: Words<'_>) -> Option<Statement<A>>
     ensures fits { (size : Size) → IfSome result (FitsSize size) }
     ensures said { option_map change_of result ≡ borders_said (words_of words.entry.rest.now) }
 {
-    let borders = borders_named(words.next_word()?)?;
+    let borders = words.next_word().and_then(borders_named)?;
     words.end()?;
     Some(Statement::Borders(borders))
 }
@@ -197,7 +197,7 @@ fn horizontal_alignment<A: Allocator>(mut words: Words<'_>) -> Option<Statement<
     ensures said { option_map change_of result ≡ halign_said (words_of words.entry.rest.now) }
 {
     let entity = words.entity()?;
-    let alignment = horizontal_named(words.next_word()?)?;
+    let alignment = words.next_word().and_then(horizontal_named)?;
     words.end()?;
     Some(Statement::HorizontalAlignment(entity, alignment))
 }
@@ -207,7 +207,7 @@ fn vertical_alignment<A: Allocator>(mut words: Words<'_>) -> Option<Statement<A>
     ensures said { option_map change_of result ≡ valign_said (words_of words.entry.rest.now) }
 {
     let entity = words.entity()?;
-    let alignment = vertical_named(words.next_word()?)?;
+    let alignment = words.next_word().and_then(vertical_named)?;
     words.end()?;
     Some(Statement::VerticalAlignment(entity, alignment))
 }
@@ -227,7 +227,7 @@ fn trim<A: Allocator>(mut words: Words<'_>) -> Option<Statement<A>>
     ensures said { option_map change_of result ≡ trim_said (words_of words.entry.rest.now) }
 {
     let entity = words.entity()?;
-    let (horizontal, vertical) = trims_named(words.next_word()?)?;
+    let (horizontal, vertical) = words.next_word().and_then(trims_named)?;
     words.end()?;
     Some(Statement::Trim(entity, horizontal, vertical))
 }
@@ -237,7 +237,7 @@ fn line_alignment<A: Allocator>(mut words: Words<'_>) -> Option<Statement<A>>
     ensures said { option_map change_of result ≡ lines_said (words_of words.entry.rest.now) }
 {
     let entity = words.entity()?;
-    let aligns = switch_named(words.next_word()?)?;
+    let aligns = words.next_word().and_then(switch_named)?;
     words.end()?;
     Some(Statement::Lines(entity, aligns))
 }
@@ -247,7 +247,7 @@ fn margin<A: Allocator>(mut words: Words<'_>) -> Option<Statement<A>>
     ensures said { option_map change_of result ≡ margin_said (words_of words.entry.rest.now) }
 {
     let sizes = words.sizes()?;
-    let fill = char_of(words.next_word()?)?;
+    let fill = words.next_word().and_then(char_of)?;
     words.end()?;
     Some(Statement::Margin(indents(sizes, fill)))
 }

@@ -13,7 +13,7 @@ const MOST_DIGITS: usize = 20;
 ///
 /// One or more spaces separate words. After a word, the rest of the line begins after the one space
 /// that ends the word.
-#[derive(Debug, Clone, Copy)]
+#[derive(Clone, Copy)]
 pub(crate) struct Words<'a> {
     rest: &'a str,
 }
@@ -47,7 +47,7 @@ impl<'a> Words<'a> {
         ensures words { first_number (words_of self.old.rest.now) ≡ option_map (λ number. (number, words_of self.new.rest.now)) result }
         ensures behind { IfSome result (λ _. self.new.rest.now ≡ behind_word self.old.rest.now) }
     {
-        number_of(self.next_word()?)
+        self.next_word().and_then(number_of)
     }
 
     /// The next two words as a place, or `None` if they aren't one.
