@@ -391,11 +391,11 @@ but-last-map f xs = sym (take-map f (length xs - 1) xs) ∙ ap (λ (n : ℕ). ta
 
 -- the plan that is made of its parts
 pub plan-made : (options : Options) (places : List (Option ℕ)) (note below : Text) (measured rows : List (List Text)) (config : Config) (width : ℕ → ℕ) → rows ≡ but_last measured → config ≡ first_config options rows
-    → width ≡ widths_of options.bounds config measured → below ≡ note → plan_of places config width below ≡ plan_by options places note measured
+    → width ≡ widths_of options config measured → below ≡ note → plan_of places config width below ≡ plan_by options places note measured
 plan-made options places note below measured rows config width above looks wide same =
     let config-is : config ≡ first_config options (but_last measured) = looks ∙ ap (first_config options) above in
     ap (plan_of places config width) same
-    ∙ ap₂ (λ (c : Config) (w : ℕ → ℕ). plan_of places c w note) config-is (wide ∙ ap (λ (c : Config). widths_of options.bounds c measured) config-is)
+    ∙ ap₂ (λ (c : Config) (w : ℕ → ℕ). plan_of places c w note) config-is (wide ∙ ap (λ (c : Config). widths_of options c measured) config-is)
 
 module _ (options : Options) (rows : List (List Text)) (places : List (Option ℕ)) (measured : List Row) (at : places ≡ places_in options rows)
     (are : map fields_of measured ≡ map (map (shown_text options)) rows ++ ruler_of (slice_index_or (map (map (shown_text options)) rows) 0 []) ∷ []) where

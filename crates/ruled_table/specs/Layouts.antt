@@ -37,11 +37,11 @@ module _ (options : Options) (places : List (Option ℕ)) (note : Text) (measure
   config_by = first_config options (but_last measured)
 
   abbrev pub plan_by : Plan
-  plan_by = plan_of places config_by (widths_of options.bounds config_by measured) note
+  plan_by = plan_of places config_by (widths_of options config_by measured) note
 
 -- their sizes are too large
 abbrev pub plan_fault : Options → List (List Text) → Option ViewFault
-plan_fault options measured = totals_of (widths_fault options.bounds (first_config options (but_last measured)) measured)
+plan_fault options measured = totals_of (widths_fault options (first_config options (but_last measured)) measured)
 
 -- Of such texts those in the middle are left out where they have no room, and a `…` is in their place.
 module _ (options : Options) (places : List (Option ℕ)) (measured : List (List Text)) where

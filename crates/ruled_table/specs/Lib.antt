@@ -13,6 +13,7 @@ pub mod Named
 pub mod Numbers
 pub mod Omitted
 pub mod Plans
+pub mod Ranges
 pub mod RowLines
 pub mod Shown
 pub mod Sides

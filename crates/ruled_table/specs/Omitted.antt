@@ -1,9 +1,10 @@
 -- Columns in the middle of a table that are left out because a line has no room for them, and the column of `…` in their place.
-use Rattle.std.specs.Prelude.{ℕ, ◌+◌, ◌-◌, ◌*◌, ◌/◌, ◌%◌, ◌==◌, ◌&&◌, nat_le, nat_lt, max, min, List, [], ◌∷◌, ◌++◌, codes, decimal, drop, length, map, slice_index, slice_index_or, sum_by, take, Option, Some, None, unwrap_or, if◌then◌else◌}
+use Rattle.std.specs.Prelude.{ℕ, ◌+◌, ◌-◌, ◌*◌, ◌/◌, ◌%◌, ◌==◌, ◌&&◌, nat_le, nat_lt, max, min, List, [], ◌∷◌, ◌++◌, codes, decimal, drop, length, map, slice_index, sum_by, take, Option, Some, None, unwrap_or, if◌then◌else◌}
 use Rattle.std.specs.List.{position_or_len, range_with_len}
-use Rattle.pg_layout.specs.Text.{Text, greatest, text_width_of}
+use Rattle.pg_layout.specs.Text.{Text}
 use Rattle.pg_config.specs.Config.{Config, count_vertical}
 use Rattle.ruled_table.specs.Columns.{told_of}
+use Rattle.ruled_table.specs.Ranges.{widest_text}
 use Rattle.ruled_table.specs.Shown.{look_config}
 use Rattle.ruled_table.specs.declared.bounds.Bounds.{Bounds}
 use Rattle.ruled_table.specs.declared.options.Options.{Options}
@@ -30,7 +31,7 @@ most_needed bounds = min 12 (unwrap_or (told_of bounds.limits.items 0) 12)
 
 -- or in as many as its widest text takes
 abbrev pub needed_width : ℕ → List (List Text) → ℕ → ℕ
-needed_width most rows column = greatest (map (λ row. min (text_width_of (slice_index_or row column [])) most) rows)
+needed_width most rows column = min (widest_text rows column) most
 
 abbrev pub needed_widths : ℕ → List (List Text) → ℕ → List ℕ
 needed_widths most rows columns = map (needed_width most rows) (range_with_len 0 columns)

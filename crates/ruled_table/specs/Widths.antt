@@ -7,7 +7,8 @@ use Rattle.pg_layout.specs.declared.dimension.ConstantDimension.{ConstantDimensi
 use Rattle.pg_config.specs.Config.{Config}
 use Rattle.pg_fit.specs.Cutting.{cut_text}
 use Rattle.pg_fit.specs.Wrapping.{wrapped}
-use Rattle.pg_table.specs.Fitted.{fit_fault, fitted_texts}
+use Rattle.pg_table.specs.Fitted.{fit_fault, fitted_table, fitted_texts}
+use Rattle.pg_table.specs.Natural.{natural_table}
 use Rattle.pg_table.specs.Natural as natural
 use Rattle.pg_table.specs.Printing.{sizes_fault}
 use Rattle.pg_table.specs.declared.fault.TableFault.{TableFault}
@@ -15,10 +16,11 @@ use Rattle.pg_table.specs.declared.fault.TableFault.TheVariants as table
 use Rattle.pg_table.specs.declared.overflow.Overflow.{Overflow}
 use Rattle.pg_table.specs.declared.overflow.Overflow.TheVariants.{Wrap, Cut}
 use Rattle.pg_table.specs.declared.sizes.Axis.TheVariants.{Columns}
-use Rattle.ruled_table.specs.Bounds.{are_told, bounded_table, fitted_within, limits_of, width_of}
+use Rattle.ruled_table.specs.Bounds.{are_told, width_of}
+use Rattle.ruled_table.specs.Columns.{ellipsis}
+use Rattle.ruled_table.specs.Ranges.{kept_limits}
 use Rattle.ruled_table.specs.Tables.{with_line}
 use Rattle.ruled_table.specs.Shown.{line_in, sided_config}
-use Rattle.ruled_table.specs.declared.bounds.Bounds.{Bounds}
 use Rattle.ruled_table.specs.declared.options.Options.{Options}
 
 -- ---- its look
@@ -37,29 +39,30 @@ widths_in sizes = λ column. slice_index_or sizes.0.items column 0
 abbrev pub natural_widths : Config → List (List Text) → List ℕ
 natural_widths config rows = natural.natural_sizes Columns config rows (columns_of rows)
 
-abbrev pub fitted_widths : Bounds → Config → List (List Text) → ℕ → ℕ
-fitted_widths bounds config rows = (fitted_within bounds config rows).width
+abbrev pub fitted_widths : Options → Config → List (List Text) → ℕ → ℕ
+fitted_widths options config rows =
+    (fitted_table options.bounds.overflow (width_of options.bounds.width) (kept_limits options rows config) config rows (columns_of rows) (λ place. None)).width
 
-abbrev pub widths_of : Bounds → Config → List (List Text) → ℕ → ℕ
-widths_of bounds config rows = (bounded_table bounds config rows).width
+abbrev pub widths_of : Options → Config → List (List Text) → ℕ → ℕ
+widths_of options config rows = if are_told options.bounds then fitted_widths options config rows else (natural_table config rows (columns_of rows) (λ place. None)).width
 
 -- why they aren't told: within bounds that of the texts that are fitted to them
 abbrev pub natural_fault : Config → List (List Text) → Option TableFault
 natural_fault config rows = sizes_fault config rows (columns_of rows)
 
-abbrev pub fitted_fault : Bounds → Config → List (List Text) → Option TableFault
-fitted_fault bounds config rows =
-    let texts = fitted_texts bounds.overflow (width_of bounds.width) (limits_of bounds.limits.items (columns_of rows)) config rows (columns_of rows) in
+abbrev pub fitted_fault : Options → Config → List (List Text) → Option TableFault
+fitted_fault options config rows =
+    let texts = fitted_texts options.bounds.overflow (width_of options.bounds.width) (kept_limits options rows config) config rows (columns_of rows) in
     option_or (fit_fault config rows (columns_of rows)) (sizes_fault config texts (columns_of rows))
 
-abbrev pub widths_fault : Bounds → Config → List (List Text) → Option TableFault
-widths_fault bounds config rows = if are_told bounds then fitted_fault bounds config rows else natural_fault config rows
+abbrev pub widths_fault : Options → Config → List (List Text) → Option TableFault
+widths_fault options config rows = if are_told options.bounds then fitted_fault options config rows else natural_fault config rows
 
 -- ---- texts within their columns
 
 -- a text of which a line is wider than its column, cut to it
 abbrev pub narrowed : ℕ → Text → Text
-narrowed width text = if nat_le (text_width_of text) width then text else cut_text width (226 ∷ 128 ∷ 166 ∷ []) text
+narrowed width text = if nat_le (text_width_of text) width then text else cut_text width ellipsis text
 
 abbrev pub overflowed : Overflow → ℕ → Text → Text
 overflowed (Wrap breaking) width text = narrowed width (wrapped breaking width text)

@@ -18,7 +18,7 @@ use std::alloc::{AllocError, Global};
 /// The greatest widths of a table and its columns, and what happens to texts that are wider than
 /// their columns.
 ///
-/// If a table is too wide, its columns are narrowed, the widest first. A column stays at least as
+/// If a table is too wide, its columns are narrowed, the widest first, and those of numbers last. A column stays at least as
 /// wide as its widest character if texts are wrapped, and as the `…` if they are cut; so a table of
 /// many columns may still be too wide.
 #[derive(Drop)]
@@ -32,8 +32,8 @@ pub struct Bounds {
     pub overflow: Overflow<'static>,
 }
 
-// The greatest width of a column whose texts may take so many columns: a space is at each side.
-fn limit_of(columns: Option<u32>) -> usize
+/// The greatest width of a column whose texts may take so many columns: a space is at each side.
+pub(crate) fn limit_of(columns: Option<u32>) -> usize
     ensures { result ≡ spec.limit_of columns }
 {
     match columns {

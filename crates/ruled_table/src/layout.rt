@@ -208,7 +208,7 @@ impl Layout {
             records: measured,
             places: &places,
         };
-        let widths = sizes_of_rows(alloc, &options.bounds, &config, ruled)?;
+        let widths = sizes_of_rows(alloc, options, &config, ruled)?;
         Ok(Layout {
             places,
             config,

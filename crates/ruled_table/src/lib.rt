@@ -13,6 +13,7 @@ mod look;
 mod numbers;
 mod omission;
 mod options;
+mod ranges;
 mod row_lines;
 mod rows;
 mod sides;

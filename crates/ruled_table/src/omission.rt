@@ -6,11 +6,11 @@ ghost use Rattle.ruled_table.specs.Omitted as spec;
 
 use crate::bounds::Bounds;
 use crate::columns::told_of;
-use crate::lent_rows::{LentRows, text_in};
+use crate::lent_rows::LentRows;
 use crate::options::Options;
+use crate::ranges::widest_text;
 use crate::table::look_config;
 use pg_config::SpannedConfig;
-use pg_layout::get_text_width;
 use std::alloc::{AllocError, Global};
 
 // The width within which columns are left out, if they are.
@@ -39,12 +39,7 @@ fn most_needed(bounds: &Bounds) -> u8
 fn needed_width(rows: LentRows<'_>, most: u8, column: usize) -> u8
     ensures { result ≡ spec.needed_width most (texts_of rows.entry) column }
 {
-    let mut width = 0usize;
-    for fields in rows.records {
-        let text = text_in(fields, rows.places, column);
-        width = get_text_width(text).min(most as usize).max(width);
-    }
-    width as u8
+    widest_text(rows, column).min(most as usize) as u8
 }
 
 // The terminal columns that the texts of each column need.

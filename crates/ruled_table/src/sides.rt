@@ -32,15 +32,15 @@ fn have_numbers(records: &[StringRecord], places: &[Option<usize>], column: usiz
         .all(|fields| has_number(fields, places, column))
 }
 
-// Whether each text of the column is a number or blank.
-fn is_numeric(rows: LentRows<'_>, column: usize) -> bool
+/// Whether each text of the column is a number or blank.
+pub(crate) fn is_numeric(rows: LentRows<'_>, column: usize) -> bool
     ensures { result ≡ spec.is_numeric (texts_of rows.entry) column }
 {
     have_numbers(rows.records, rows.places, column)
 }
 
-// The records below a header.
-fn body_of(has_header: bool, records: &[StringRecord]) -> &[StringRecord]
+/// The records below a header.
+pub(crate) fn body_of(has_header: bool, records: &[StringRecord]) -> &[StringRecord]
     ensures { result.now ≡ spec.body_of has_header records.now }
 {
     match records {

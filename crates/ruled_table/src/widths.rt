@@ -6,10 +6,10 @@ ghost use Rattle.ruled_table.specs.Faults.{Tells, totals_of};
 ghost use Rattle.ruled_table.specs.LentRows.{texts_of};
 ghost use Rattle.ruled_table.specs.Widths as spec;
 
-use crate::bounds::Bounds;
 use crate::fault::{ViewFault, fault_in};
 use crate::lent_rows::LentRows;
 use crate::options::Options;
+use crate::ranges::kept_limits;
 use crate::table::{line_in, set_line_below, sided_config};
 use pg_config::SpannedConfig;
 use pg_fit::{cut, wrap};
@@ -47,14 +47,15 @@ fn natural_sizes(
 // The sizes of a table of these records within the bounds that are set.
 fn fitted_sizes(
     alloc: Global,
-    bounds: &Bounds,
+    options: &Options,
     config: &SpannedConfig,
     records: LentRows<'_>,
 ) -> Result<ConstantDimension, TableFault>
-    ensures fault { spec.TellsTable (spec.fitted_fault bounds.now config.now (texts_of records.entry)) result }
-    ensures widths { IfOk result (λ sizes. spec.widths_in sizes ≡ spec.fitted_widths bounds.now config.now (texts_of records.entry)) }
+    ensures fault { spec.TellsTable (spec.fitted_fault options.now config.now (texts_of records.entry)) result }
+    ensures widths { IfOk result (λ sizes. spec.widths_in sizes ≡ spec.fitted_widths options.now config.now (texts_of records.entry)) }
 {
-    let limits = bounds.limits(alloc, records.count_columns())?;
+    let bounds = &options.bounds;
+    let limits = kept_limits(alloc, options, config, records)?;
     let table = NaturalTable::new(records, config, &NoColors);
     let fitted = table.within_limits(alloc, bounds.width(), &limits, bounds.overflow)?;
     fitted.natural_dimension(alloc)
@@ -63,15 +64,15 @@ fn fitted_sizes(
 // The sizes of a table of these records within its bounds.
 fn sizes_of(
     alloc: Global,
-    bounds: &Bounds,
+    options: &Options,
     config: &SpannedConfig,
     records: LentRows<'_>,
 ) -> Result<ConstantDimension, TableFault>
-    ensures widths { IfOk result (λ sizes. spec.widths_in sizes ≡ spec.widths_of bounds.now config.now (texts_of records.entry)) }
-    ensures fault { spec.TellsTable (spec.widths_fault bounds.now config.now (texts_of records.entry)) result }
+    ensures widths { IfOk result (λ sizes. spec.widths_in sizes ≡ spec.widths_of options.now config.now (texts_of records.entry)) }
+    ensures fault { spec.TellsTable (spec.widths_fault options.now config.now (texts_of records.entry)) result }
 {
-    if bounds.are_told() {
-        return fitted_sizes(alloc, bounds, config, records);
+    if options.bounds.are_told() {
+        return fitted_sizes(alloc, options, config, records);
     }
     natural_sizes(alloc, config, records)
 }
@@ -79,14 +80,14 @@ fn sizes_of(
 /// The sizes that a table of these rows has within the bounds.
 pub fn sizes_of_rows(
     alloc: Global,
-    bounds: &Bounds,
+    options: &Options,
     config: &SpannedConfig,
     rows: LentRows<'_>,
 ) -> Result<ConstantDimension, ViewFault>
-    ensures widths { IfOk result (λ sizes. spec.widths_in sizes ≡ spec.widths_of bounds.now config.now (texts_of rows.entry)) }
-    ensures fault { Tells (totals_of (spec.widths_fault bounds.now config.now (texts_of rows.entry))) result }
+    ensures widths { IfOk result (λ sizes. spec.widths_in sizes ≡ spec.widths_of options.now config.now (texts_of rows.entry)) }
+    ensures fault { Tells (totals_of (spec.widths_fault options.now config.now (texts_of rows.entry))) result }
 {
-    sizes_of(alloc, bounds, config, rows).map_err(fault_in)
+    sizes_of(alloc, options, config, rows).map_err(fault_in)
 }
 
 // A text, unchanged if it takes at most so many columns, else cut to them.

@@ -7,8 +7,9 @@ use Rattle.pg_table.specs.Fitted.{fit_fault, fit_fault_of, fitted_of, fitted_tab
 use Rattle.pg_table.specs.Printing.{sizes_fault}
 use Rattle.pg_table.specs.Spanning.{spanned_widths}
 use Rattle.pg_table.specs.declared.fault.TableFault.{TableFault}
-use Rattle.ruled_table.specs.Bounds.{limits_of, width_of}
+use Rattle.ruled_table.specs.Bounds.{width_of}
 use Rattle.ruled_table.specs.LentRows.{texts_of}
+use Rattle.ruled_table.specs.Ranges.{kept_limits}
 use Rattle.ruled_table.specs.declared.lent_rows.LentRows.{LentRows}
 use Rattle.ruled_table.proofs.Tables.{drawn-sizes-fault, later-table-told, table-told, widths-are}
 use Rattle.ruled_table.proofs.widths.fitted_sizes.Goals as goal
@@ -18,20 +19,21 @@ columns_in records = columns_of (texts_of records)
 
 pub returns-clause-fault : goal.returns-clause-fault
 returns-clause-fault c =
-    let bounds = c.args.bounds.now in
+    let options = c.args.options.now in
+    let bounds = options.bounds in
     let config = c.args.config.now in
     let texts : List (List Text) = texts_of c.args.records in
     let columns : ℕ = columns_of texts in
     let fitted = c.in_ok-fitted.fitted in
     let table : ℕ → List ℕ → Table = λ width limits. fitted_table bounds.overflow width limits config texts columns (λ place. None) in
-    let limits : c.deref.result.now ≡ limits_of bounds.limits.items columns = c.deref.ensures.value ∙ c.in_ok-limits.ensures ∙ ap (limits_of bounds.limits.items) c.count_columns.ensures.value in
+    let limits : c.deref.result.now ≡ kept_limits options texts config = c.deref.ensures.value ∙ c.in_ok-limits.ensures in
     let drawn =
     c.in_ok-fitted.ensures.table
     ∙ ap (λ parts. fitted_of bounds.overflow c.width.result c.deref.result.now texts_of columns_in (λ colors place. None) parts) c.new-table.ensures
     ∙ ap (λ (n : ℕ). table n c.deref.result.now) c.width.ensures
     ∙ ap (table (width_of bounds.width)) limits
     in
-    let all : List ℕ = limits_of bounds.limits.items columns in
+    let all : List ℕ = kept_limits options texts config in
     let later : Option TableFault = sizes_fault config (fitted_texts bounds.overflow (width_of bounds.width) all config texts columns) columns in
     let same = drawn-sizes-fault fitted.widths.items (spanned_widths bounds.overflow (width_of bounds.width) all config texts columns) fitted.config.now config (overlaid texts_of columns_in fitted.records) (fitted_texts bounds.overflow (width_of bounds.width) all config texts columns) (columns_in fitted.records.records) columns (λ place. None) (λ place. None) drawn in
     let none = table-told (fit_fault config texts columns) _ (Ok fitted) (ap (λ parts. fit_fault_of texts_of columns_in parts) c.new-table.ensures) c.in_ok-fitted.ensures.fault c.in_ok-fitted.ensures.memory in
@@ -39,14 +41,15 @@ returns-clause-fault c =
 
 pub returns-clause-widths : goal.returns-clause-widths
 returns-clause-widths c =
-    let bounds = c.args.bounds.now in
+    let options = c.args.options.now in
+    let bounds = options.bounds in
     let config = c.args.config.now in
     let texts : List (List Text) = texts_of c.args.records in
     let table : ℕ → List ℕ → Table = λ width limits. fitted_table bounds.overflow width limits config texts (columns_of texts) (λ place. None) in
-    let limits : c.deref.result.now ≡ limits_of bounds.limits.items (columns_of texts) = c.deref.ensures.value ∙ c.in_ok-limits.ensures ∙ ap (limits_of bounds.limits.items) c.count_columns.ensures.value in
+    let limits : c.deref.result.now ≡ kept_limits options texts config = c.deref.ensures.value ∙ c.in_ok-limits.ensures in
     let drawn =
     c.in_ok-fitted.ensures.table
     ∙ ap (λ parts. fitted_of bounds.overflow c.width.result c.deref.result.now texts_of columns_in (λ colors place. None) parts) c.new-table.ensures
     in
-    widths-are c.natural_dimension.result _ (table (width_of bounds.width) (limits_of bounds.limits.items (columns_of texts))).width c.natural_dimension.ensures.widths
+    widths-are c.natural_dimension.result _ (table (width_of bounds.width) (kept_limits options texts config)).width c.natural_dimension.ensures.widths
     (ap (λ (t : Table). t.width) (drawn ∙ ap (λ (n : ℕ). table n c.deref.result.now) c.width.ensures ∙ ap (table (width_of bounds.width)) limits))

@@ -24,8 +24,8 @@ returns-clause-layout c =
     let above : texts_at c.deref.result.now rows ≡ but_last (texts_at places measured) =
     ap (λ (ps : List (Option ℕ)). texts_at ps rows) at ∙ ap (texts_at places) c.above_ruler.ensures ∙ but-last-map (λ fields. fields_at places (fields_of fields)) measured
     in
-    let wide : widths_in c.in_ok-widths.widths ≡ widths_of options.bounds config (texts_at places measured) =
-    c.in_ok-widths.ensures.widths ∙ ap (λ (ps : List (Option ℕ)). widths_of options.bounds config (texts_at ps measured)) also
+    let wide : widths_in c.in_ok-widths.widths ≡ widths_of options config (texts_at places measured) =
+    c.in_ok-widths.ensures.widths ∙ ap (λ (ps : List (Option ℕ)). widths_of options config (texts_at ps measured)) also
     in
     plan-made options places note note (texts_at places measured) (texts_at c.deref.result.now rows) config (widths_in c.in_ok-widths.widths) above c.in_ok-config.ensures wide refl
 
@@ -41,7 +41,7 @@ returns-clause-fault c =
     ap (λ (ps : List (Option ℕ)). texts_at ps rows) at ∙ ap (texts_at places) c.above_ruler.ensures ∙ but-last-map (λ fields. fields_at places (fields_of fields)) measured
     in
     let looks : c.in_ok-config.config ≡ first_config options (but_last (texts_at places measured)) = c.in_ok-config.ensures ∙ ap (first_config options) above in
-    let told : Config → List (Option ℕ) → Option ViewFault = λ config ps. totals_of (widths_fault options.bounds config (texts_at ps measured)) in
+    let told : Config → List (Option ℕ) → Option ViewFault = λ config ps. totals_of (widths_fault options config (texts_at ps measured)) in
     sym (ap₂ told looks also) ∙ c.in_ok-widths.ensures.fault
 
 pub returns-in_err-widths-clause-fault : goal.returns-in_err-widths-clause-fault
@@ -56,7 +56,7 @@ returns-in_err-widths-clause-fault c =
     ap (λ (ps : List (Option ℕ)). texts_at ps rows) at ∙ ap (texts_at places) c.above_ruler.ensures ∙ but-last-map (λ fields. fields_at places (fields_of fields)) measured
     in
     let looks : c.in_ok-config.config ≡ first_config options (but_last (texts_at places measured)) = c.in_ok-config.ensures ∙ ap (first_config options) above in
-    let told : Config → List (Option ℕ) → Option ViewFault = λ config ps. totals_of (widths_fault options.bounds config (texts_at ps measured)) in
+    let told : Config → List (Option ℕ) → Option ViewFault = λ config ps. totals_of (widths_fault options config (texts_at ps measured)) in
     told_on c.in_err-widths.field-0.0 (plan_fault options (texts_at places measured)) c.from_residual-in_err-widths.result (λ soft. sym (ap₂ told looks also) ∙ c.in_err-widths.ensures.fault soft) c.from_residual-in_err-widths.ensures.1
 
 pub invariant_of-result : goal.invariant_of-result
