@@ -89,7 +89,7 @@ const FLAG: Choice = Choice {
 };
 
 /// All arguments, in the order of the help.
-const CHOICES: [Choice; 26] = [
+const CHOICES: [Choice; 27] = [
     Choice {
         name: "file",
         value: "FILE",
@@ -195,6 +195,14 @@ const CHOICES: [Choice; 26] = [
         ..FLAG
     },
     Choice {
+        name: "ends",
+        value: "N",
+        takes: Takes::Number,
+        conflicts: &["no-header", "vertical"],
+        help: "Print the first N and the last N rows below the header, with a row of ⋮ in place of the others",
+        ..FLAG
+    },
+    Choice {
         name: "look",
         short: Some('l'),
         value: "LOOK",
@@ -272,7 +280,7 @@ const CHOICES: [Choice; 26] = [
         name: "stream",
         value: "ROWS",
         takes: Takes::Rows,
-        conflicts: &["head", "tail", "vertical", "markdown"],
+        conflicts: &["head", "tail", "ends", "vertical", "markdown"],
         help: "Print each row when it arrives, at the widths of the header and the first ROWS rows below it, or the first 1000",
         ..FLAG
     },
@@ -617,6 +625,7 @@ fn view_of(
         is_padded: is_padded(found),
         head: found.get_one::<u32>("head"),
         tail: found.get_one::<u32>("tail"),
+        ends: found.get_one::<u32>("ends"),
         is_vertical: found.get_flag("vertical"),
         bounds: bounds_of(alloc, found, screen.columns)?,
         is_omitting: is_omitting(found, screen),

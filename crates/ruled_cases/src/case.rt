@@ -51,6 +51,7 @@ impl Case {
             is_padded: false,
             head: None,
             tail: None,
+            ends: None,
             is_vertical: false,
             bounds: Bounds {
                 width: None,

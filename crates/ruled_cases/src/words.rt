@@ -125,6 +125,7 @@ fn set_value(request: &mut Request, name: &str, value: &str) -> Option<()> {
         "look" => view.look = Look::by_name(value)?,
         "head" => view.head = value.parse().ok(),
         "tail" => view.tail = value.parse().ok(),
+        "ends" => view.ends = value.parse().ok(),
         "width" => view.bounds.width = value.parse().ok(),
         "cut" => view.bounds.overflow = Overflow::Cut("…"),
         _ => return None,

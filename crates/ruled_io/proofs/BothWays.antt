@@ -8,7 +8,7 @@ use Rattle.pg_layout.specs.Text.{Text}
 use Rattle.ruled_csv.specs.Faults.{rows_fault}
 use Rattle.ruled_csv.proofs.SoundRows.{all-sound}
 use Rattle.ruled_json.specs.Streamed.{streamed_line_fault}
-use Rattle.ruled_table.specs.Arranged.{arranged, even, named, numbered, tails}
+use Rattle.ruled_table.specs.Arranged.{arranged, ends_of, even, named, numbered, tails}
 use Rattle.ruled_table.specs.Columns.{column_fault}
 use Rattle.ruled_table.specs.Layouts.{first_fault, layout_of, start_fault, whole_text}
 use Rattle.ruled_table.specs.Shown.{heads}
@@ -89,8 +89,8 @@ module _ (options : Options) (each : ShowsEachRow options) where
     one-wrong : first_wrong options count rows None ≡ option_map of_view (table_fault options rows)
     one-wrong =
         let whole : table_fault options rows ≡ option_or (column_fault options.columns.items rows) (whole_fault options rows) =
-        ap (λ (rs : List (List Text)). option_or (column_fault options.columns.items rs) (all_fault options (tails options (heads options rs)))) (same-arranged rows)
-        ∙ rw (each.head, each.tail, each.vertical) refl
+        ap (λ (rs : List (List Text)). option_or (column_fault options.columns.items rs) (all_fault options (ends_of options.ends (tails options (heads options rs))))) (same-arranged rows)
+        ∙ rw (each.head, each.tail, each.ends, each.vertical) refl
         in
         ap (λ (first : List (List Text)). if length rows == 0 then None else option_map of_view (first_fault options first)) all-first
         ∙ whole-wrong options rows ∙ sym (ap (option_map of_view) whole)
@@ -101,8 +101,8 @@ module _ (options : Options) (each : ShowsEachRow options) where
     one-text : first_wrong options count rows None ≡ None → shown_text options count rows None ≡ table_text options rows
     one-text none =
         let whole : table_text options rows ≡ whole_table options rows =
-        ap (λ (rs : List (List Text)). all_text options (tails options (heads options rs))) (same-arranged rows)
-        ∙ rw (each.head, each.tail, each.vertical) refl
+        ap (λ (rs : List (List Text)). all_text options (ends_of options.ends (tails options (heads options rs)))) (same-arranged rows)
+        ∙ rw (each.head, each.tail, each.ends, each.vertical) refl
         in
         ap (λ (wrong : Option RunFault). if is_some wrong then [] else whole_text options (first_plan options count rows None) rows) none
         ∙ ap (λ (first : List (List Text)). whole_text options (layout_of options first) rows) all-first ∙ sym whole

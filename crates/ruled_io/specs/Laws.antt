@@ -22,6 +22,7 @@ pub record ShowsEachRow (options : Options) : Type 0 where
   pub padded : options.is_padded ≡ false
   pub head : options.head ≡ None
   pub tail : options.tail ≡ None
+  pub ends : options.ends ≡ None
   pub vertical : options.is_vertical ≡ false
 
 module _ (request : Request) (count : ℕ) (bytes : List ℕ) where

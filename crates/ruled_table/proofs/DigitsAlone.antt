@@ -1,10 +1,10 @@
 -- Texts of digits are numbers.
-use Rattle.std.proofs.Common.{◌≡◌, ℕ, ◌+◌, ◌-◌, ◌<◌, ◌≤◌, ◌==◌, ◌&&◌, ◌||◌, not, Bool, true, false, nat_eq, nat_le, nat_lt, List, [], ◌∷◌, length, take, Option, None, cond, get_or, refl, ap, arith}
+use Rattle.std.proofs.Common.{◌≡◌, ℕ, ◌-◌, ◌==◌, ◌&&◌, ◌||◌, not, Bool, true, false, nat_eq, nat_lt, List, [], ◌∷◌, length, None, get_or, refl, arith}
 use Rattle.std.specs.List.{list_all, position, prefix_len}
 use Rattle.std.specs.Io.BufRead.{strip_last}
 use Rattle.std.proofs.lemmas.Bool.{and_parts, and_from}
 use Rattle.std.proofs.lemmas.Bool.Decides.{nat_tests}
-use Rattle.ruled_table.specs.Numbers.{is_digit, is_figure, are_digits, is_whole, is_number, unsigned}
+use Rattle.ruled_table.specs.Numbers.{is_digit, is_figure, are_digits, is_number, unsigned}
 
 -- no byte passes the test
 none_passes : (p : ℕ → Bool) (bytes : List ℕ) → list_all (λ b. not (p b)) bytes ≡ true → position p bytes ≡ None

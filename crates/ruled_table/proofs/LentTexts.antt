@@ -1,6 +1,6 @@
 -- Rows whose texts are fields of records, with names, sizes and escapes, and those that are shown.
-use Rattle.std.proofs.Common.{◌≡◌, ◌<◌, ◌∙◌, ◌∷◌, ℕ, zero, suc, Bool, true, false, List, Option, [], map, length, slice_index_or, All, encode_utf8_all, flat_map, refl, sym, ap, arith, ap₂, Some, None, ◌==◌, ◌||◌, ◌++◌, not, chars, encode_utf8, IsUtf8, ◌+◌, ◌-◌, ◌/◌, max, take, drop, get_or, append_assoc}
-use Rattle.std.proofs.lemmas.List.{length-map, drop-map, drop_more, map-append, take-map, take_more}
+use Rattle.std.proofs.Common.{◌≡◌, ◌<◌, ◌≤◌, ◌∙◌, ◌∷◌, ℕ, zero, suc, Bool, true, false, List, Option, [], map, length, slice_index_or, All, encode_utf8_all, flat_map, refl, sym, ap, arith, ap₂, Some, None, ◌==◌, ◌||◌, ◌++◌, not, chars, encode_utf8, IsUtf8, ◌+◌, ◌-◌, ◌/◌, max, take, drop, get_or, append_assoc}
+use Rattle.std.proofs.lemmas.List.{length-map, drop-map, drop_more, map-append, take-map, take-take, take_more}
 use Rattle.std.proofs.lemmas.List.Elements.{All-map}
 use Rattle.std.proofs.Math.Utf8.{encode}
 use Rattle.std.proofs.lemmas.Simd.{map-map}
@@ -24,7 +24,7 @@ use Rattle.std.proofs.lemmas.Option.{same_Some, none-some}
 use Rattle.std.specs.List.{list_all, range_with_len, fold}
 use Rattle.std.proofs.lemmas.Bool.{and_parts, true≢false}
 use Rattle.std.proofs.lemmas.List.FromFn.{map-range_with_len_more}
-use Rattle.ruled_table.specs.Arranged.{last_of}
+use Rattle.ruled_table.specs.Arranged.{both_ends, gap_of, last_of}
 use Rattle.std.proofs.lemmas.List.Sums.{fold-append}
 use Rattle.pg_layout.specs.declared.alignment.AlignmentHorizontal.{AlignmentHorizontal}
 use Rattle.pg_config.specs.Settings.{Settings}
@@ -252,6 +252,21 @@ last-kept {X} {Y} f xs count end is some =
     ∙ ap (λ (ys : List Y). ys ++ map f (drop end xs)) (sym (take-map f 1 xs))
     ∙ ap (λ (ys : List Y). take 1 (map f xs) ++ ys) (sym (drop-map f end xs))
     ∙ ap (λ (n : ℕ). take 1 (map f xs) ++ drop n (map f xs)) same
+
+-- the elements up to a place, another one, and the elements from a later place on
+pub joined-ends : {X Y : Type 0} (f : X → Y) (xs : List X) (x : X) (n end : ℕ) → n ≤ end
+    → map f ((take n (take end xs) ++ x ∷ []) ++ drop end xs) ≡ take n (map f xs) ++ f x ∷ drop end (map f xs)
+joined-ends f xs x n end within =
+    map-append f (take n (take end xs) ++ x ∷ []) (drop end xs)
+    ∙ ap₂ (λ ys zs. ys ++ zs) (map-append f (take n (take end xs)) (x ∷ [])) (sym (drop-map f end xs))
+    ∙ append_assoc (map f (take n (take end xs))) (f x ∷ []) (drop end (map f xs))
+    ∙ ap (λ ys. ys ++ f x ∷ drop end (map f xs)) (ap (map f) (take-take n end xs within) ∙ sym (take-map f n xs))
+
+-- they are the rows at both ends, where the row between them is that of row 0
+pub are-ends : {X : Type 0} (f : X → List Text) (xs : List X) (x y : X) (count : ℕ) → f x ≡ gap_of (f y) → f y ≡ slice_index_or (map f xs) 0 []
+    → take (count + 1) (map f xs) ++ f x ∷ drop (length xs - count) (map f xs) ≡ both_ends count (map f xs)
+are-ends f xs x y count is first =
+    ap₂ (λ gap end. take (count + 1) (map f xs) ++ gap ∷ drop end (map f xs)) (is ∙ ap gap_of first) (ap (λ n. n - count) (sym (length-map xs f)))
 
 -- ---- the sides of one column more
 

@@ -1,5 +1,5 @@
 -- Tables of rows: their looks and sizes, before the first row and after the last.
-use Rattle.std.proofs.Common.{◌≡◌, ◌∷◌, ◌++◌, ℕ, List, [], length, true, false, refl, None, Some, Option, Result, Ok, Err, sym, ap, ◌∙◌, ◌-◌, zero, suc, max, String, ◌≢◌, ◌⊎◌, slice_index_or, IfOk, inl, inr, subst, ◌<◌, arith}
+use Rattle.std.proofs.Common.{◌≡◌, ◌∷◌, ◌++◌, ℕ, List, [], length, true, false, refl, None, Some, Option, Result, Ok, Err, sym, ap, ◌∙◌, ◌-◌, zero, suc, max, String, ◌≢◌, ◌⊎◌, slice_index_or, IfOk, inl, inr, subst, ◌<◌, arith, add-one, take, rules, ◌+◌, ◌*◌, Bool}
 use Rattle.std.specs.Prelude.{◌==◌, is_none, if◌then◌else◌, ⊤, ◌↔◌, nat_lt}
 use Rattle.pg_layout.specs.Text.{Text}
 use Rattle.pg_layout.specs.Records.{columns_of, text_at}
@@ -16,7 +16,7 @@ use Rattle.std.specs.Result.{IsErrAnd, MatchResult}
 use Rattle.ruled_table.specs.Faults.{Tells, is_memory, fault_of_stream}
 use Rattle.ruled_table.specs.declared.fault.ViewFault.{ViewFault}
 use Rattle.std.proofs.Math.Seq.{drop-nil}
-use Rattle.ruled_table.specs.Arranged.{arranged, chosen_rows, last_of}
+use Rattle.ruled_table.specs.Arranged.{arranged, chosen_rows, ends_of, last_of, tails}
 use Rattle.ruled_table.specs.Columns.{column_fault}
 use Rattle.ruled_table.specs.Shown.{heads, limit_of, up_to, line_in, sided_config}
 use Rattle.ruled_table.specs.declared.options.Options.{Options}
@@ -94,10 +94,22 @@ tails-named None names rows none = none
 tails-named (Some count) names [] none = ap (column_fault names) (drop-nil (max 1 (0 - count)))
 tails-named (Some count) names (row ∷ rows) none = none
 
+-- row 0 stays where rows behind it are left out
+front-named : {A : Type 0} (more : Bool) (count : ℕ) (names : List (String A)) (row : List Text) (rows others : List (List Text)) → column_fault names (row ∷ rows) ≡ None
+    → column_fault names (if more then take (count + 1) (row ∷ rows) ++ others else (row ∷ rows)) ≡ None
+front-named true count names row rows others none = rw (add-one count) none
+front-named false count names row rows others none = none
+
+ends-named : {A : Type 0} (ends : Option ℕ) (names : List (String A)) (rows : List (List Text)) → column_fault names rows ≡ None → column_fault names (ends_of ends rows) ≡ None
+ends-named None names rows none = none
+ends-named (Some count) names [] none = let few : nat_lt (2 * count + 1) 0 ≡ false = search (rules) in rw few none
+ends-named (Some count) names (row ∷ rows) none = front-named (nat_lt (2 * count + 1) (length (row ∷ rows))) count names row rows _ none
+
 pub chosen-named : (options : Options) (all : List (List Text)) → column_fault options.columns.items (arranged options all) ≡ None → column_fault options.columns.items (chosen_rows options all) ≡ None
 chosen-named options all none =
     let names = options.columns.items in
-    tails-named options.tail names (heads options (arranged options all)) (heads-named (limit_of options) names (arranged options all) none)
+    ends-named options.ends names (tails options (heads options (arranged options all)))
+    (tails-named options.tail names (heads options (arranged options all)) (heads-named (limit_of options) names (arranged options all) none))
 
 -- ---- the widths of a table's columns, as they are answered
 

@@ -1,8 +1,9 @@
 -- The rows of a table, of the rows that an input holds.
-use Rattle.std.specs.Prelude.{ℕ, ◌+◌, ◌-◌, ◌==◌, max, List, [], ◌∷◌, ◌++◌, drop, length, map, slice_index_or, string_bytes, take, Option, Some, None, if◌then◌else◌}
+use Rattle.std.specs.Prelude.{ℕ, ◌+◌, ◌-◌, ◌*◌, ◌==◌, nat_lt, max, List, [], ◌∷◌, ◌++◌, drop, length, map, replicate, slice_index_or, string_bytes, take, Option, Some, None, if◌then◌else◌}
 use Rattle.std.specs.Fmt.{decimal}
 use Rattle.std.specs.List.{range_with_len}
 use Rattle.pg_layout.specs.Text.{Text}
+use Rattle.ruled_table.specs.Numbers.{gap}
 use Rattle.ruled_table.specs.Shown.{heads}
 use Rattle.ruled_table.specs.declared.options.Options.{Options}
 
@@ -64,7 +65,22 @@ last_of (Some count) rows = take 1 rows ++ drop (max 1 (length rows - count)) ro
 abbrev pub tails : {X : Type 0} → Options → List X → List X
 tails options rows = last_of options.tail rows
 
+-- ---- the rows at both ends
+
+-- a row of `⋮`, as long as this one
+abbrev pub gap_of : List Text → List Text
+gap_of row = replicate (length row) gap
+
+-- row 0 and so many rows at both ends of those below it, with a row of `⋮` in place of the others
+abbrev pub both_ends : ℕ → List (List Text) → List (List Text)
+both_ends count rows = take (count + 1) rows ++ gap_of (slice_index_or rows 0 []) ∷ drop (length rows - count) rows
+
+-- those rows, if there are more
+abbrev pub ends_of : Option ℕ → List (List Text) → List (List Text)
+ends_of None rows = rows
+ends_of (Some count) rows = if nat_lt (2 * count + 1) (length rows) then both_ends count rows else rows
+
 -- ---- all of it
 
 abbrev pub chosen_rows : Options → List (List Text) → List (List Text)
-chosen_rows options rows = tails options (heads options (arranged options rows))
+chosen_rows options rows = ends_of options.ends (tails options (heads options (arranged options rows)))

@@ -48,6 +48,10 @@ is_scaled text = is_scaled_by (position (λ byte. (byte == 101) || (byte == 69))
 unfoldable pub is_number : List ℕ → Bool
 is_number text = is_scaled (strip_last 37 (unsigned text))
 
+-- `⋮`, in place of the texts of rows that are left out
+abbrev pub gap : List ℕ
+gap = 226 ∷ 139 ∷ 174 ∷ []
+
 -- spaces, or nothing
 abbrev pub is_blank : List ℕ → Bool
 is_blank text = list_all (λ byte. byte == 32) text

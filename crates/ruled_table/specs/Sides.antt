@@ -1,6 +1,7 @@
 -- At which side of its cells the texts of a column stand.
 use Rattle.std.specs.Prelude.{ℕ, ◌||◌, Bool, List, [], drop, slice_index_or, fold, Option, unwrap_or, if◌then◌else◌}
 use Rattle.std.specs.List.{list_all, range_with_len}
+use Rattle.std.specs.Str.{bytes_eq}
 use Rattle.pg_layout.specs.Records.{columns_of}
 use Rattle.pg_layout.specs.Text.{Text}
 use Rattle.pg_layout.specs.declared.alignment.AlignmentHorizontal.{AlignmentHorizontal}
@@ -9,7 +10,7 @@ use Rattle.pg_layout.specs.declared.position.Entity.TheVariants.{Column}
 use Rattle.pg_config.specs.Config.{Config}
 use Rattle.pg_config.specs.Settings.{Settings, with_setting}
 use Rattle.ruled_table.specs.Columns.{told_of}
-use Rattle.ruled_table.specs.Numbers.{is_blank, is_number}
+use Rattle.ruled_table.specs.Numbers.{gap, is_blank, is_number}
 
 -- ---- columns of numbers
 
@@ -18,9 +19,9 @@ abbrev pub body_of : {X : Type 0} → Bool → List X → List X
 body_of has_header rows = if has_header then drop 1 rows else rows
 
 abbrev pub is_numeric_text : Text → Bool
-is_numeric_text text = is_blank text || is_number text
+is_numeric_text text = (is_blank text || is_number text) || bytes_eq text gap
 
--- each text of the column is a number or blank
+-- each text of the column is a number or blank, or `⋮`
 abbrev pub is_numeric : List (List Text) → ℕ → Bool
 is_numeric rows column = list_all (λ row. is_numeric_text (slice_index_or row column [])) rows
 

@@ -106,6 +106,9 @@ pub(crate) fn is_number(text: &str) -> bool
     are_digits(text.as_bytes()) || is_scaled(without_percent(unsigned(text.as_bytes())))
 }
 
+/// The text `⋮`, in place of those of rows that are left out.
+pub(crate) const GAP: &str = "⋮";
+
 /// Whether a text is blank: it holds nothing but spaces.
 pub(crate) fn is_blank(text: &str) -> bool
     ensures { result ≡ spec.is_blank text.now }

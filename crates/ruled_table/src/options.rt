@@ -30,6 +30,9 @@ pub struct Options {
     pub head: Option<u32>,
     /// The most rows below row 0 that are shown, the last ones of those that `head` allows.
     pub tail: Option<u32>,
+    /// How many rows are shown at both ends of those below row 0, if there are more. A row of `⋮` is in
+    /// place of the others.
+    pub ends: Option<u32>,
     /// Whether each row below row 0 is shown as a block of its own: a table with a row for each
     /// field, with its name in row 0 and its text, both left-aligned, and an empty line below it.
     pub is_vertical: bool,

@@ -2,13 +2,14 @@
 //! made anew.
 
 ghost use Rattle.std.specs.Cow.{cow_str_bytes};
-ghost use Rattle.std.specs.Prelude.{◌≡◌, map, true, IfOk};
+ghost use Rattle.std.specs.Prelude.{◌≡◌, ◌+◌, ◌*◌, ◌<◌, length, map, true, IfOk};
 ghost use Rattle.csv.specs.Records.{fields_of};
-ghost use Rattle.ruled_table.specs.Arranged.{tails};
+ghost use Rattle.ruled_table.specs.Arranged.{both_ends, ends_of, gap_of, tails};
 ghost use Rattle.ruled_table.specs.Shown.{heads, seen_text, shown_text, limit_of};
 
 use crate::columns::field_at;
 use crate::escapes::{escaped, is_plain_text};
+use crate::numbers::GAP;
 use crate::options::Options;
 use csv::StringRecord;
 use pg_fit::{is_visible, visible};
@@ -158,4 +159,49 @@ pub(crate) fn tails(options: &Options, rows: Vec<StringRecord>) -> Vec<StringRec
         }
     }
     tails
+}
+
+// A row of `⋮`, as long as this one.
+fn gap_of(alloc: Global, row: &StringRecord) -> Result<StringRecord, AllocError>
+    ensures { IfOk result (λ gap. fields_of gap ≡ gap_of (fields_of row.now)) }
+{
+    let mut gap = StringRecord::new(alloc);
+    for place in 0..row.len() {
+        gap.push_field(GAP)?;
+    }
+    Ok(gap)
+}
+
+// Row 0 and so many rows at both ends of those below it, with a row of `⋮` in place of the others.
+fn both_ends(
+    alloc: Global,
+    count: usize,
+    rows: Vec<StringRecord>,
+) -> Result<Vec<StringRecord>, AllocError>
+    requires more { 2 * count + 1 < length rows.items }
+    ensures { IfOk result (λ ends. map fields_of ends.items ≡ both_ends count (map fields_of rows.items)) }
+{
+    let gap = gap_of(alloc, &rows[0])?;
+    let mut ends = rows;
+    let mut last = ends.split_off(ends.len() - count)?;
+    ends.truncate(count + 1);
+    ends.push(gap)?;
+    ends.append(&mut last)?;
+    Ok(ends)
+}
+
+/// Row 0, and the rows at both ends of those below it that are shown.
+pub(crate) fn ends(
+    alloc: Global,
+    options: &Options,
+    shown: Vec<StringRecord>,
+) -> Result<Vec<StringRecord>, AllocError>
+    ensures { IfOk result (λ ends. map fields_of ends.items ≡ ends_of options.now.ends (map fields_of shown.items)) }
+{
+    match options.ends {
+        Some(count) if shown.len() > 2 * count as usize + 1 => {
+            both_ends(alloc, count as usize, shown)
+        }
+        _ => Ok(shown),
+    }
 }

@@ -9,21 +9,21 @@ ghost use Rattle.ruled_table.specs.Sides as spec;
 
 use crate::columns::told_of;
 use crate::lent_rows::{LentRows, text_in};
-use crate::numbers::{is_blank, is_number};
+use crate::numbers::{GAP, is_blank, is_number};
 use csv::StringRecord;
 use pg_config::SpannedConfig;
 use pg_layout::{AlignmentHorizontal, Entity, Records};
 use std::alloc::AllocError;
 
-// Whether the text of a row in this column is a number or blank.
+// Whether the text of a row in this column is a number or blank, or `⋮`.
 fn has_number(fields: &StringRecord, places: &[Option<usize>], column: usize) -> bool
     ensures { result ≡ spec.is_numeric_text (slice_index_or (fields_at places.now (fields_of fields.now)) column []) }
 {
     let text = text_in(fields, places, column);
-    is_blank(text) || is_number(text)
+    is_blank(text) || is_number(text) || text == GAP
 }
 
-// Whether each row has a number or a blank text in the column.
+// Whether each row has a number, a blank text or `⋮` in the column.
 fn have_numbers(records: &[StringRecord], places: &[Option<usize>], column: usize) -> bool
     ensures { result ≡ list_all (λ fields. spec.is_numeric_text (slice_index_or (fields_at places.now (fields_of fields)) column [])) records.now }
 {
@@ -32,7 +32,7 @@ fn have_numbers(records: &[StringRecord], places: &[Option<usize>], column: usiz
         .all(|fields| has_number(fields, places, column))
 }
 
-/// Whether each text of the column is a number or blank.
+/// Whether each text of the column is a number or blank, or `⋮`.
 pub(crate) fn is_numeric(rows: LentRows<'_>, column: usize) -> bool
     ensures { result ≡ spec.is_numeric (texts_of rows.entry) column }
 {

@@ -10,7 +10,7 @@ use crate::arrangement::arranged;
 use crate::columns::places_of;
 use crate::fault::ViewFault;
 use crate::options::Options;
-use crate::rows::{heads, tails};
+use crate::rows::{ends, heads, tails};
 use csv::StringRecord;
 use std::alloc::Global;
 
@@ -28,5 +28,6 @@ pub fn chosen_rows(
 {
     let rows = arranged(alloc, options, rows)?;
     let _places = places_of(alloc, &options.columns, &rows)?;
-    Ok(tails(options, heads(options, rows)))
+    let shown = tails(options, heads(options, rows));
+    ends(alloc, options, shown).map_err(ViewFault::from)
 }

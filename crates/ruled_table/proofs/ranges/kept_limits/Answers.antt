@@ -1,8 +1,5 @@
-use Rattle.std.proofs.Common.{◌≡◌, ◌∙◌, ◌∷◌, ◌++◌, [], ℕ, List, length, map, sym, ap, arith}
-use Rattle.std.specs.List.{range_with_len}
+use Rattle.std.proofs.Common.{◌∙◌, ◌∷◌, ◌++◌, [], ℕ, List, sym, ap, arith}
 use Rattle.std.proofs.lemmas.List.FromFn.{map-range_with_len_more}
-use Rattle.pg_layout.specs.Records.{columns_of}
-use Rattle.pg_layout.specs.Text.{Text}
 use Rattle.pg_fit.specs.declared.narrowing.ColumnRange.{ColumnRange}
 use Rattle.ruled_table.specs.LentRows.{texts_of}
 use Rattle.ruled_table.specs.Ranges.{range_of}
