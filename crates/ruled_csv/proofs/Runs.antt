@@ -4,13 +4,13 @@ use Rattle.std.specs.Prelude.{◌==◌, ◌||◌, not, fold, is_ok, if◌then◌
 use Rattle.std.specs.List.{list_all}
 use Rattle.std.specs.Option.{option_or, unwrap_or}
 use Rattle.std.specs.List.{slice_range}
-use Rattle.std.proofs.lemmas.Bool.{and_parts, cases_Bool, false≢true, false_from_ne_true, ne_eqb}
-use Rattle.std.proofs.lemmas.List.{get_or-drop, length-drop, take_all, take_more}
+use Rattle.std.proofs.lemmas.Bool.{and_parts, cases_Bool, cases_lt, false≢true, false_from_ne_true, ne_eqb}
+use Rattle.std.proofs.lemmas.List.{get_or-drop, length-drop, take_more}
 use Rattle.std.proofs.lemmas.List.Sums.{fold-append}
 use Rattle.csv.specs.declared.parser.State.{State}
 use Rattle.csv.specs.declared.parser.State.TheVariants as st
-use Rattle.memchr.specs.Find.{IsFirstByte, is_byte3}
-use Rattle.ruled_csv.specs.Inside.{Hand, Joins, Scan, calm_lines, cut_fields, fields_behind, hand_cut, is_bare, is_calm, scan_after, scan_from, state_behind, state_of}
+use Rattle.memchr.specs.Find.{IsFirstByte, is_byte, is_byte3, places_from}
+use Rattle.ruled_csv.specs.Inside.{Hand, Joins, Scan, calm_lines, fields_behind, hand_cut, is_bare, is_calm, scan_after, scan_from, state_of}
 use Rattle.ruled_csv.specs.Quotes.{is_closing, is_quoted}
 use Rattle.ruled_csv.specs.declared.scanner.Standing.{Standing}
 use Rattle.ruled_csv.specs.declared.scanner.Standing.TheVariants as at
@@ -196,3 +196,74 @@ module _ (dialect : Dialect) (run : List ℕ) (i : ℕ) (within : i < length run
     field-joins joins =
         next ∙ rw (ne_eqb (get_or run i 0) dialect.delimiter joins)
         (ap (λ (xs : List ℕ). (fields, xs)) (append_assoc field (slice_range run start i) (get_or run i 0 ∷ []) ∙ ap (λ (xs : List ℕ). field ++ xs) (sym (part-more run start i low within))))
+
+-- ---- a run that is cut at its delimiters
+
+-- the first of the places that are left: no byte in front of it passes the test
+pub record NextPlace (test : ℕ → Bool) (run : List ℕ) (from end at : ℕ) (left : List ℕ) : Type 0 where
+  pub low : from ≤ at
+  pub high : at < end
+  pub none : (k : ℕ) → from ≤ k → k < at → test (get_or run k 0) ≡ false
+  pub hit : test (get_or run at 0) ≡ true
+  pub rest : left ≡ places_from test run (at + 1) (end - (at + 1))
+
+module _ (test : ℕ → Bool) (run : List ℕ) where
+  pub next-place : (from n at : ℕ) (left : List ℕ) → places_from test run from n ≡ at ∷ left → NextPlace test run from (from + n) at left
+  unfolding places_from
+  next-place from zero at left e = absurd (omega (arith, ap (λ (xs : List ℕ). length xs) e))
+  next-place from (suc n) at left e = elim (cases_Bool (test (get_or run from 0))) [
+    | inl passes ↦
+        let here : from ∷ places_from test run (from + 1) n ≡ at ∷ left = rw passes at e in
+        let same : from ≡ at = ap (λ (xs : List ℕ). get_or xs 0 0) here in
+        let count : n ≡ from + suc n - (at + 1) = omega (arith, same) in
+        record {
+          low = omega (arith, same);
+          high = omega (arith, same);
+          none = λ k low high. absurd (omega (arith, same, low, high));
+          hit = ap (λ (k : ℕ). test (get_or run k 0)) (sym same) ∙ passes;
+          rest = sym (ap (drop 1) here) ∙ ap (λ (k : ℕ). places_from test run (k + 1) n) same ∙ ap (places_from test run (at + 1)) count;
+        }
+    | inr fails ↦
+        let next = next-place (from + 1) n at left (rw fails at e) in
+        let end : from + 1 + n ≡ from + suc n = omega arith in
+        record {
+          low = omega (arith, next.low);
+          high = omega (arith, next.high);
+          none = λ k low high. elim (cases_lt from k) [
+            | inl above ↦ next.none k (omega (arith, above)) high
+            | inr below ↦ let same : k ≡ from = omega (arith, below, low) in ap (λ (j : ℕ). test (get_or run j 0)) same ∙ fails
+          ];
+          hit = next.hit;
+          rest = next.rest ∙ ap (λ (m : ℕ). places_from test run (at + 1) (m - (at + 1))) end;
+        }
+  ]
+
+  -- where none is left, no byte passes
+  pub none-left : (from n : ℕ) → [] ≡ places_from test run from n → (k : ℕ) → from ≤ k → k < from + n → test (get_or run k 0) ≡ false
+  unfolding places_from
+  none-left from zero e k low high = absurd (omega (arith, low, high))
+  none-left from (suc n) e k low high = elim (cases_Bool (test (get_or run from 0))) [
+    | inl passes ↦ let here : [] ≡ from ∷ places_from test run (from + 1) n = rw passes at e in absurd (omega (arith, ap (λ (xs : List ℕ). length xs) here))
+    | inr fails ↦ elim (cases_lt from k) [
+      | inl above ↦ none-left (from + 1) n (rw fails at e) k (omega (arith, above)) (omega (arith, high))
+      | inr below ↦ let same : k ≡ from = omega (arith, below, low) in ap (λ (j : ℕ). test (get_or run j 0)) same ∙ fails
+    ]
+  ]
+
+-- bytes of which none is a delimiter join the field
+pub run-joins : (dialect : Dialect) (run : List ℕ) (first : List (List ℕ) × List ℕ) (start n : ℕ) (fields : List (List ℕ)) (field : List ℕ) → start + n ≤ length run
+    → ((k : ℕ) → start ≤ k → k < start + n → is_byte dialect.delimiter (get_or run k 0) ≡ false) → fold (fields_behind dialect) first (take start run) ≡ (fields, field)
+    → fold (fields_behind dialect) first (take (start + n) run) ≡ (fields, field ++ slice_range run start (start + n))
+run-joins dialect run first start zero fields field within none cut =
+    let at : start + 0 ≡ start = omega arith in
+    let empty : 0 ≡ start + 0 - start = omega arith in
+    ap (λ (k : ℕ). fold (fields_behind dialect) first (take k run)) at ∙ cut
+    ∙ ap (λ (xs : List ℕ). (fields, xs)) (sym (append-nil field) ∙ ap (λ (k : ℕ). field ++ take k (drop start run)) empty)
+run-joins dialect run first start (suc n) fields field within none cut =
+    let i : ℕ = start + n in
+    let before = run-joins dialect run first start n fields field (omega (arith, within)) (λ k low high. none k low (omega (arith, high))) cut in
+    let next : start + suc n ≡ i + 1 = omega arith in
+    let other : get_or run i 0 ≢ dialect.delimiter = λ is. absurd (false≢true (sym (none i (omega arith) (omega arith)) ∙ eq-eqb (get_or run i 0) dialect.delimiter is)) in
+    ap (λ (k : ℕ). fold (fields_behind dialect) first (take k run)) next
+    ∙ field-joins dialect run i (omega (arith, within)) first start fields field (omega arith) before other
+    ∙ ap (λ (k : ℕ). (fields, field ++ slice_range run start k)) (sym next)

@@ -16,7 +16,7 @@ use crate::dialect::Dialect;
 use crate::fault::RowsFault;
 use crate::lines::Lines;
 use csv::ByteRecord;
-use memchr::memchr3;
+use memchr::{memchr_iter, memchr3};
 use std::alloc::{AllocError, Global};
 
 /// What comes before a byte.
@@ -286,10 +286,7 @@ impl Scanner {
         let delimiter = self.dialect.delimiter;
         self.standing = self.standing.behind_run(delimiter, run);
         let mut start = 0;
-        for at in 0..run.len() {
-            if run[at] != delimiter {
-                continue;
-            }
+        for at in memchr_iter(delimiter, run) {
             self.end_field_with(&run[start..at])?;
             start = at + 1;
         }

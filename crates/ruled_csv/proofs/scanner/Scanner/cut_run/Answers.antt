@@ -1,40 +1,83 @@
-use Rattle.std.proofs.Common.{◌≡◌, ◌≢◌, ◌<◌, ◌+◌, ◌∙◌, ◌++◌, ◌∷◌, [], length, get_or, sym, ap, arith}
+use Rattle.std.proofs.Common.{◌≡◌, ◌<◌, ◌+◌, ◌-◌, ◌∙◌, ◌++◌, ◌∷◌, [], ℕ, List, append_assoc, drop, eqb-true, length, get_or, sym, ap, subst, take, arith}
 use Rattle.std.specs.Prelude.{fold}
 use Rattle.std.specs.List.{slice_range}
-use Rattle.ruled_csv.specs.Inside.{Hand, hand_of, state_behind}
-use Rattle.ruled_csv.proofs.Runs.{field-ends, field-joins}
+use Rattle.std.proofs.lemmas.List.{take_all}
+use Rattle.std.proofs.lemmas.Result.{on_ok_weaker}
+use Rattle.memchr.specs.Find.{is_byte, places_from}
+use Rattle.csv.specs.Records.{partial_of}
+use Rattle.ruled_csv.specs.Inside.{Hand, fields_behind, hand_of, state_behind}
+use Rattle.ruled_csv.proofs.Runs.{field-ends, next-place, none-left, on-grown, run-joins}
 use Rattle.ruled_csv.proofs.scanner.Scanner.cut_run.Goals as goal
 
-pub loop-at-preserved-then-run-at : goal.loop-at-preserved-then-run-at
-loop-at-preserved-then-run-at c =
+pub slice_bounds-end_field_with-count : goal.slice_bounds-end_field_with-count
+slice_bounds-end_field_with-count c =
     let run = c.args.run.now in
-    let i = c.loop-at.at in
-    let dialect = c.args.self.now.dialect in
-    let old = hand_of c.args.self.now in
-    let now = hand_of c.loop-at.self in
-    let (low, same, parts, cut) = c.loop-at.invariant in
-    let within : i < length run = c.loop-at-test.true in
-    let joins : get_or run i 0 ≢ dialect.delimiter = c.if-run-at.true in (
-      omega (arith, low),
-      same,
-      parts,
-      field-joins dialect run i within (old.fields, old.field) c.loop-at.start now.fields now.field low cut joins,
-    )
+    let start = c.loop-at.start in
+    let next = next-place (is_byte c.args.self.now.dialect.delimiter) run start (length run - start) c.in-Some.at c.next.new.self (sym (c.loop-at.invariant.4) ∙ c.in-Some.ensures.steps) in
+    next.low
+
+pub slice_bounds-end_field_with-start : goal.slice_bounds-end_field_with-start
+slice_bounds-end_field_with-start c =
+    let run = c.args.run.now in
+    let start = c.loop-at.start in
+    let next = next-place (is_byte c.args.self.now.dialect.delimiter) run start (length run - start) c.in-Some.at c.next.new.self (sym (c.loop-at.invariant.4) ∙ c.in-Some.ensures.steps) in
+    next.low
+
+pub slice_bounds-end_field_with-end : goal.slice_bounds-end_field_with-end
+slice_bounds-end_field_with-end c =
+    let run = c.args.run.now in
+    let start = c.loop-at.start in
+    let next = next-place (is_byte c.args.self.now.dialect.delimiter) run start (length run - start) c.in-Some.at c.next.new.self (sym (c.loop-at.invariant.4) ∙ c.in-Some.ensures.steps) in
+    omega (arith, next.low, next.high, c.loop-at.invariant.0)
 
 pub loop-at-preserved : goal.loop-at-preserved
 loop-at-preserved c =
     let run = c.args.run.now in
-    let i = c.loop-at.at in
+    let start = c.loop-at.start in
+    let i = c.in-Some.at in
     let dialect = c.args.self.now.dialect in
     let old = hand_of c.args.self.now in
     let now = hand_of c.loop-at.self in
-    let (low, same, parts, cut) = c.loop-at.invariant in
-    let within : i < length run = c.loop-at-test.true in
-    let ends : get_or run i 0 ≡ dialect.delimiter = c.if-run-at.false in
+    let (within, same, parts, cut, left) = c.loop-at.invariant in
+    let next = next-place (is_byte dialect.delimiter) run start (length run - start) i c.next.new.self (sym left ∙ c.in-Some.ensures.steps) in
+    let high : i < length run = omega (arith, next.high, within) in
+    let here : start + (i - start) ≡ i = omega (arith, next.low) in
+    let joined = run-joins dialect run (old.fields, old.field) start (i - start) now.fields now.field (omega (arith, next.low, high)) (λ k low below. next.none k low (omega (arith, below, next.low))) cut in
+    let before = subst (λ (k : ℕ). fold (fields_behind dialect) (old.fields, old.field) (take k run) ≡ (now.fields, now.field ++ slice_range run start k)) here joined in
+    let ends : get_or run i 0 ≡ dialect.delimiter = eqb-true (get_or run i 0) dialect.delimiter next.hit in
     let ended = c.in_ok-end_field_with.ensures in
-    let fields = now.fields ++ (now.field ++ slice_range run c.loop-at.start i) ∷ [] in (
-      omega arith,
+    let fields = now.fields ++ (now.field ++ slice_range run start i) ∷ [] in
+    let empty : i + 1 - (i + 1) ≡ 0 = omega arith in
+    let end : start + (length run - start) ≡ length run = omega (arith, within) in (
+      omega (arith, high),
       ended.dialect ∙ same,
       ended.hand ∙ ap (λ (hand : Hand). record hand { fields = fields; field = [] }) parts ∙ ap (λ (hand : Hand). record old { state = fold (state_behind dialect) old.state run; fields = hand.fields; field = hand.field }) (sym ended.hand),
-      field-ends dialect run i within (old.fields, old.field) c.loop-at.start now.fields now.field low cut ends ∙ ap (λ (hand : Hand). (hand.fields, hand.field ++ slice_range run (i + 1) (i + 1))) (sym ended.hand),
+      field-ends dialect run i high (old.fields, old.field) start now.fields now.field next.low before ends
+          ∙ ap (λ (n : ℕ). (fields, [] ++ take n (drop (i + 1) run))) empty
+          ∙ ap (λ (hand : Hand). (hand.fields, hand.field)) (sym ended.hand),
+      next.rest ∙ ap (λ (n : ℕ). places_from (is_byte dialect.delimiter) run (i + 1) (n - (i + 1))) end,
     )
+
+pub returns-clause-hand : goal.returns-clause-hand
+returns-clause-hand c =
+    let run = c.args.run.now in
+    let start = c.loop-at.start in
+    let dialect = c.args.self.now.dialect in
+    let old = hand_of c.args.self.now in
+    let now = hand_of c.loop-at.self in
+    let (within, same, parts, cut, left) = c.loop-at.invariant in
+    let end : start + (length run - start) ≡ length run = omega (arith, within) in
+    let none = none-left (is_byte dialect.delimiter) run start (length run - start) (sym c.in-None.ensures.steps.0 ∙ left) in
+    let joined = run-joins dialect run (old.fields, old.field) start (length run - start) now.fields now.field (omega (arith, within)) none cut in
+    let all : fold (fields_behind dialect) (old.fields, old.field) run ≡ (now.fields, now.field ++ slice_range run start (length run)) =
+    ap (fold (fields_behind dialect) (old.fields, old.field)) (sym (take_all (length run) run (omega arith)))
+    ∙ subst (λ (k : ℕ). fold (fields_behind dialect) (old.fields, old.field) (take k run) ≡ (now.fields, now.field ++ slice_range run start k)) end joined
+    in
+    on_ok_weaker c.extend_from_slice.result
+    (λ items.
+    let after = partial_of c.loop-at.self.row ++ c.extend_from_slice.new.self.items in
+    let field : after ≡ now.field ++ slice_range run start (length run) = ap (λ (xs : List ℕ). partial_of c.loop-at.self.row ++ xs) items ∙ sym (append_assoc (partial_of c.loop-at.self.row) c.loop-at.self.field.items (slice_range run start (length run))) in
+    ap (λ (hand : Hand). record hand { field = after }) parts
+    ∙ ap (λ (xs : List ℕ). record old { state = fold (state_behind dialect) old.state run; fields = now.fields; field = xs }) field
+    ∙ ap (λ (cut : List (List ℕ) × List ℕ). record old { state = fold (state_behind dialect) old.state run; fields = cut.0; field = cut.1 }) (sym all))
+    (on-grown c.extend_from_slice.result _ _ _ c.extend_from_slice.ensures.items)
